@@ -1,0 +1,7 @@
+pub mod Common
+pub mod Covers
+pub mod Gaps
+pub mod Grids
+pub mod KeyOrder
+pub mod Runs
+pub mod Sides
