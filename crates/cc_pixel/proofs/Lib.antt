@@ -1,0 +1,4 @@
+pub mod Steps
+pub mod Fills
+pub mod Parts
+pub mod LaneWise

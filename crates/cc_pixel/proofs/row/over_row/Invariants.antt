@@ -1,0 +1,23 @@
+use Rattle.std.specs.Prelude.{◌%◌, ◌≤◌, ◌-◌, ◌≡◌, length}
+use Rattle.cc_pixel.specs.Rows.{IsLaid}
+use Rattle.cc_pixel.proofs.row.over_row.Given as given
+
+abbrev pub invariant-sixteens : given.invariant-sixteens
+invariant-sixteens l = record {
+  whole : l.at % 4 ≡ 0;
+  within : l.at ≤ length l.dst;
+  laid : IsLaid 0 l.at l.src l.fn.dst l.dst;
+}
+
+abbrev pub decreases-sixteens : given.decreases-sixteens
+decreases-sixteens l = length l.initial.dst - l.at
+
+abbrev pub invariant-fours : given.invariant-fours
+invariant-fours l = record {
+  whole : l.at % 4 ≡ 0;
+  within : l.at ≤ length l.dst;
+  laid : IsLaid 0 l.at l.src l.fn.dst l.dst;
+}
+
+abbrev pub decreases-fours : given.decreases-fours
+decreases-fours l = length l.initial.dst - l.at

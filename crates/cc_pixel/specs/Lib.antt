@@ -1,0 +1,4 @@
+pub mod Colours
+pub mod Rows
+pub mod Surfaces
+pub mod LaneBytes

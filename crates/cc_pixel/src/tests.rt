@@ -1,0 +1,81 @@
+//! Rows worked by hand, and the kernels beside the plain loops.
+
+ghost use Rattle.std.specs.Prelude.{◌*◌, ◌≤◌, length};
+
+use super::*;
+use std::alloc::{AllocError, Global};
+use std::test::Fail;
+
+/// Half-transparent red over white, at lengths on both sides of the kernels' sixteen bytes.
+#[test]
+fn half_red_over_white(rt: HostRuntime) -> Result<(), Fail> {
+    let red = Colour::new(0x80, 0, 0, 0x80).ok_or("red")?;
+    let white = Colour::new(0xff, 0xff, 0xff, 0xff).ok_or("white")?;
+    for count in [1usize, 4, 7, 33] {
+        let mut src = vec![in rt.alloc(); 0u8; 4 * count]?;
+        let mut dst = vec![in rt.alloc(); 0u8; 4 * count]?;
+        fill_row(src.as_mut_slice(), red);
+        fill_row(dst.as_mut_slice(), white);
+        over_row(dst.as_mut_slice(), src.as_slice());
+        for (i, byte) in dst.iter().enumerate() {
+            let want = if i % 4 == 1 || i % 4 == 2 { 0x7f } else { 0xff };
+            assert_eq!(rt; *byte, want, "byte {i} of {count} pixels");
+        }
+    }
+    assert_eq!(rt;
+        white.over(red),
+        Colour::new(0xff, 0x7f, 0x7f, 0xff).ok_or("pink")?
+    );
+    assert_eq!(rt; Colour::new(1, 0, 2, 1), None);
+    Ok(())
+}
+
+/// Writes premultiplied pixels of many alphas, beginning with this one.
+fn write_pixels(row: &mut [u8], alpha: u8) {
+    let mut a = alpha;
+    for byte in row.iter_mut().enumerate() {
+        let (i, byte) = byte;
+        *byte = match i % 4 {
+            0 => a,
+            1 => a / 2,
+            2 => a / 3,
+            _ => a,
+        };
+        if i % 4 == 3 {
+            a = a.wrapping_add(7);
+        }
+    }
+}
+
+/// Whether the kernels and the plain loops lay and fade so many pixels to the same bytes.
+fn is_same(alloc: Global, src: &mut [u8], count: usize, alpha: u8) -> Result<bool, AllocError>
+    requires { 4 * count ≤ length src.old }
+{
+    write_pixels(src, alpha);
+    let over = &src[..4 * count];
+    if let Some(_wrong) = first_wrong(over) {
+        return Ok(false);
+    }
+    let mut first = vec![in alloc; alpha; 4 * count]?;
+    let mut second = vec![in alloc; alpha; 4 * count]?;
+    over_row(first.as_mut_slice(), over);
+    over_row_plain(second.as_mut_slice(), over);
+    let laid = first.as_slice() == second.as_slice();
+    scale_row(first.as_mut_slice(), alpha);
+    scale_row_plain(second.as_mut_slice(), alpha);
+    Ok(laid && first.as_slice() == second.as_slice())
+}
+
+/// The kernels and the plain loops write the same bytes, at all lengths up to 70 pixels and all alphas.
+#[test]
+fn kernels_as_plain_loops(rt: HostRuntime) -> Result<(), Fail> {
+    let mut bytes = vec![in rt.alloc(); 0u8; 280]?;
+    let src = bytes.as_mut_slice();
+    for count in 0usize..71 {
+        for alpha in 0u8..=255 {
+            let same = is_same(rt.alloc(), src, count, alpha)?;
+            assert!(rt; same, "{count} pixels of alphas from {alpha} on");
+        }
+    }
+    Ok(())
+}
