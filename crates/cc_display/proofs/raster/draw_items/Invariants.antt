@@ -1,0 +1,13 @@
+use Rattle.std.specs.Prelude.{pos, ◌+ℤ◌, fold, take}
+use Rattle.cc_pixel.specs.Rows.{ArePremultiplied}
+use Rattle.cc_pixel.specs.Surfaces.{EachPixel}
+use Rattle.cc_display.specs.Pictures.{near}
+use Rattle.cc_display.specs.Content.{painted}
+use Rattle.cc_display.proofs.raster.draw_items.Given as given
+
+abbrev pub invariant-loop-item : given.invariant-loop-item
+invariant-loop-item l = record {
+  pixels : EachPixel (near l.area.w) (near l.area.h)
+      (λ x y below. fold (painted (l.area.x +ℤ pos x) (l.area.y +ℤ pos y)) below (take l.item-index l.items)) l.initial.surface l.surface;
+  premultiplied : ArePremultiplied l.initial.surface → ArePremultiplied l.surface;
+}

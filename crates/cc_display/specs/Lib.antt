@@ -1,0 +1,4 @@
+pub mod Pictures
+pub mod Causes
+pub mod Content
+pub mod Shared

@@ -1,0 +1,18 @@
+//! Display lists: what a layer shows, as rects of one colour and bitmaps in painting order.
+//!
+//! A display list shows a colour at each point: its items are laid over one another in order,
+//! from the transparent colour on. `DisplayList::raster` gives the pixels of an area.
+#![tactic(auto)]
+
+mod bitmap;
+mod item;
+mod list;
+mod part;
+mod raster;
+
+pub use bitmap::{BadBitmap, Bitmap, BitmapCause};
+pub use item::Item;
+pub use list::DisplayList;
+
+#[cfg(test)]
+mod tests;
