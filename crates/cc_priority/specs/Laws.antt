@@ -1,0 +1,59 @@
+-- What holds of the order of ranks and of the choice.
+use Rattle.std.specs.Prelude.{◌≡◌, true, Some, None, List}
+use Rattle.std.specs.declared.cmp.Ordering.{Ordering}
+use Rattle.std.specs.declared.cmp.Ordering.TheVariants.{Equal}
+use Rattle.std.specs.Cmp.{IsTotalOrder}
+use Rattle.cc_priority.specs.declared.rank.Bin.TheVariants as bin
+use Rattle.cc_priority.specs.declared.rank.Rank.{Rank}
+use Rattle.cc_priority.specs.Ordered.{In, SameMembers, IsInOrder, IsLeast}
+use Rattle.cc_priority.specs.Tiles.{Tile, IsRankOfKey}
+use Rattle.cc_priority.specs.Choice.{Choice, Victim, victim_of, victim_key, gives_way, IsWorstFirst, worst_first, may_start, IsFirst, NoneStarts, first, IsEvicted, evicted, SameChoice, NoKeyTwice}
+
+-- a total order in which only equal values tie
+pub record IsOrder {X : Type 0} (R : X → X → Ordering) : Type 0 where
+  pub total : IsTotalOrder R
+  pub ties_are_equal : (x y : X) → R x y ≡ Equal → x ≡ y
+
+-- in such an order a list has one least element at most, and two lists in order with the same members are one
+pub record OrdersFix {X : Type 0} (R : X → X → Ordering) : Type 0 where
+  pub least : (x y : X) (xs : List X) → IsLeast R x xs → IsLeast R y xs → x ≡ y
+  pub list : (xs ys : List X) → IsInOrder R xs → IsInOrder R ys → SameMembers xs ys → xs ≡ ys
+
+-- the worst-first list is there, and no other list is one
+pub record WorstFirstIsOne : Type 0 where
+  pub there : (c : Choice) (q : Rank) → IsWorstFirst c q (worst_first c q)
+  pub only : (c : Choice) (q : Rank) (vs : List Victim) → IsWorstFirst c q vs → vs ≡ worst_first c q
+
+-- the first rank is what its definition says, and it is the only one
+pub record FirstIsOne : Type 0 where
+  pub there : (c : Choice) (q : Rank) → first c ≡ Some q → IsFirst c q
+  pub only : (c : Choice) (q : Rank) → IsFirst c q → first c ≡ Some q
+  pub none : (c : Choice) → first c ≡ None → NoneStarts c
+  pub none_only : (c : Choice) → NoneStarts c → first c ≡ None
+
+-- the evicted are what their definition says, and no other list is
+pub record EvictedAreOne : Type 0 where
+  pub there : (c : Choice) (q : Rank) → IsEvicted c q (evicted c q)
+  pub only : (c : Choice) (q : Rank) (es : List Victim) → IsEvicted c q es → es ≡ evicted c q
+
+-- the evicted come from ready tiles that are not pinned and whose bin is worse, or that have none
+pub record EvictedGiveWay : Type 0 where
+  pub ready : (c : Choice) (q : Rank) (e : Victim) → In e (evicted c q)
+      → (t : Tile) × In t c.ready × (victim_of t ≡ e) × (gives_way q.bin t ≡ true)
+  -- so no pinned tile's key is among them, where each key stands once
+  pub pinned : (c : Choice) (q : Rank) (e : Victim) (t : Tile)
+      → ((u : Tile) → In u c.ready → IsRankOfKey u.key u.rank) → NoKeyTwice c.ready
+      → In e (evicted c q) → In t c.ready → t.pinned ≡ true → victim_key e ≡ t.key → ⊥
+
+-- a visible tile may always start, so where one is wanted a visible one is the first
+pub record VisibleStart : Type 0 where
+  pub may : (c : Choice) (q : Rank) → q.bin ≡ bin.Now → may_start c q ≡ true
+  pub goes_first : (c : Choice) (q : Rank) → In q c.wanted → q.bin ≡ bin.Now
+      → (r : Rank) × (first c ≡ Some r) × (r.bin ≡ bin.Now)
+
+-- the order of the lists does not count
+pub record OrderIsFree : Type 0 where
+  pub worst_first : (c d : Choice) (q : Rank) → SameChoice c d → worst_first c q ≡ worst_first d q
+  pub may_start : (c d : Choice) (q : Rank) → SameChoice c d → may_start c q ≡ may_start d q
+  pub first : (c d : Choice) → SameChoice c d → first c ≡ first d
+  pub evicted : (c d : Choice) (q : Rank) → SameChoice c d → evicted c q ≡ evicted d q

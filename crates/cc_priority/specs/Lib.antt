@@ -1,0 +1,6 @@
+pub mod Ranks
+pub mod Bins
+pub mod Tiles
+pub mod Ordered
+pub mod Choice
+pub mod Laws
