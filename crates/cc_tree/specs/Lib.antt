@@ -1,0 +1,9 @@
+pub mod Entries
+pub mod Families
+pub mod Laws
+pub mod Marks
+pub mod Nesting
+pub mod OffsetMap
+pub mod Placement
+pub mod Spots
+pub mod Trees
