@@ -1,0 +1,19 @@
+//! The tiles of one layer, each with the commit that last changed what it shows.
+//!
+//! A layer is cut into places. Each place has a stamp: the number of the last commit that added or resized
+//! the layer, that changed the tile size of the tree, or in which an item changed whose old or new rect has
+//! a pixel in the place. A tile's key names the layer, the place and the stamp, so a picture that was made
+//! under a key is right for as long as the key is the key of its place.
+//!
+//! The stamps of a whole layer of 16384 by 16384 pixels at tiles of 16 take 4 MiB. To carry a change costs
+//! the places that it touches, not the places of the layer.
+#![tactic(auto)]
+
+mod laws;
+mod stamps;
+#[cfg(test)]
+mod tests;
+mod tiling;
+
+pub use laws::carry_steps_the_stamps;
+pub use tiling::Tiling;
