@@ -1,0 +1,32 @@
+//! Does one drawing job so many times and prints the sum of the bytes that it made.
+//!
+//! The words after the program's name are one of
+//!
+//! - `over PIXELS TIMES`, `scale PIXELS TIMES`, `fill PIXELS TIMES`: a row of so many pixels,
+//! - `raster KIND ITEMS TIMES`: a tile of 256 by 256 pixels under so many items that cover it, of the kind
+//!   `opaque`, `translucent` or `bitmap`.
+//!
+//! The script `bench/run` times it.
+#![tactic(auto)]
+
+mod job;
+mod rows;
+mod tiles;
+
+use crate::job::Job;
+use std::{env, io};
+
+fn main(rt: HostRuntime) -> io::Result<()> {
+    let words: Vec<String> = env::args(&rt)?.skip(1).collect(rt.alloc())?;
+    let Some(job) = Job::of_words(words.as_slice()) else {
+        return Err(io::Error::from(io::ErrorKind::InvalidInput));
+    };
+    let sum = match job {
+        Job::Over { pixels, times } => rows::over(rt.alloc(), pixels, times)?,
+        Job::Scale { pixels, times } => rows::scale(rt.alloc(), pixels, times)?,
+        Job::Fill { pixels, times } => rows::fill(rt.alloc(), pixels, times)?,
+        Job::Raster { kind, items, times } => tiles::raster(rt.alloc(), kind, items, times)?,
+    };
+    println!(rt; "{sum}")?;
+    Ok(())
+}
