@@ -1,0 +1,2 @@
+pub mod PaintSteps
+pub mod SpotSteps
