@@ -1,0 +1,5 @@
+pub mod Entries
+pub mod Ranges
+pub mod Recordings
+pub mod Scripts
+pub mod Texts
