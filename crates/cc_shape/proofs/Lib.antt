@@ -1,0 +1,4 @@
+pub mod Again
+pub mod Counts
+pub mod Fits
+mod Fronts

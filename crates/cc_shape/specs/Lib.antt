@@ -1,0 +1,5 @@
+pub mod Faults
+pub mod Hex
+pub mod Forms
+pub mod Fields
+pub mod Values
