@@ -1,0 +1,9 @@
+mod Behind
+mod CommandLaws
+mod InputLaws
+mod ItemLaws
+mod LayerLaws
+mod NodeLaws
+pub mod Pixels
+pub mod Plain
+pub mod ScriptLaws

@@ -1,0 +1,15 @@
+pub mod Faults
+pub mod Ops
+pub mod NodeReading
+pub mod LayerReading
+pub mod ItemReading
+pub mod CommandReading
+pub mod InputReading
+pub mod Reading
+pub mod Causes
+pub mod NodeValues
+pub mod LayerValues
+pub mod ItemValues
+pub mod CommandValues
+pub mod InputValues
+pub mod ScriptValue

@@ -1,0 +1,25 @@
+//! Laws of reading and printing.
+
+ghost use Rattle.std.specs.Prelude.{◌≡◌, ℕ, List, true, Ok};
+ghost use Rattle.serde_json.specs.Data.{Data};
+ghost use Rattle.cc_event.specs.Ranges.{is_in_ranges};
+ghost use Rattle.cc_event.specs.Scripts.{ScriptModel};
+ghost use Rattle.cc_script.specs.Causes.{IsScriptText};
+ghost use Rattle.cc_script.specs.Reading.{parts_at};
+ghost use Rattle.cc_script.specs.ScriptValue.{parts_data};
+
+/// The value of each script that the format can say reads back as that script. So a script has one
+/// canonical text, and two scripts with the same canonical text are one.
+pub fn canonical_values_read_back()
+    ensures { (s : ScriptModel) → is_in_ranges s ≡ true → parts_at (parts_data s) ≡ Ok s }
+{}
+
+/// What is read is a script that the format can say.
+pub fn parts_are_in_ranges()
+    ensures { (d : Data) (s : ScriptModel) → parts_at d ≡ Ok s → is_in_ranges s ≡ true }
+{}
+
+/// Bytes are the text of one script at most.
+pub fn a_text_has_one_script()
+    ensures { (bytes : List ℕ) (s t : ScriptModel) → IsScriptText bytes s → IsScriptText bytes t → s ≡ t }
+{}

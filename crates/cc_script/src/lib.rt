@@ -1,0 +1,16 @@
+//! Scripts as JSON texts: reading one, with the place of its first fault, and its canonical text.
+#![tactic(auto)]
+
+mod fault;
+mod head;
+pub mod laws;
+mod op;
+mod print;
+mod read;
+
+pub use fault::PartsFault;
+pub use print::parts::print_parts;
+pub use read::parts::read_parts;
+
+#[cfg(test)]
+mod tests;

@@ -1,0 +1,8 @@
+//! Reading, part by part: each function is named as the definition that says what it reads.
+
+pub(crate) mod commands;
+pub(crate) mod inputs;
+mod items;
+mod layers;
+mod nodes;
+pub(crate) mod parts;
