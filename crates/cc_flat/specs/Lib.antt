@@ -1,0 +1,4 @@
+pub mod Pages
+pub mod Tiles
+pub mod Histories
+pub mod Forms
