@@ -1,0 +1,5 @@
+pub mod Gains
+pub mod Rows
+pub mod Told
+pub mod Completeness
+pub mod Prepared

@@ -1,0 +1,8 @@
+-- The head and the rows so far were added.
+use Rattle.std.proofs.Common.{◌≡◌, ◌++◌}
+use Rattle.cc_event.specs.Recordings.{first, image_head, image_row}
+use Rattle.cc_flat.specs.Pages.{painting}
+use Rattle.cc_play.proofs.picture.image_of.Given as goal
+
+abbrev pub invariant-loop-y : goal.invariant-loop-y
+invariant-loop-y l = l.text.items ≡ image_head l.w l.h ++ first l.y (image_row (painting l.layers l.fn.background) l.w)

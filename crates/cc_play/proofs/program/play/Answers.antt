@@ -1,0 +1,12 @@
+-- What was written is the recording, or a front of it.
+use Rattle.std.proofs.Common.{inr}
+use Rattle.cc_play.proofs.Prepared.{prepared_is}
+use Rattle.cc_play.proofs.program.play.Goals as goal
+
+pub returns-in-Err-Fault-clause-plays : goal.returns-in-Err-Fault-clause-plays
+returns-in-Err-Fault-clause-plays g c =
+    (_, prepared_is c.args.page.now c.in-Ok.show c.in-Ok.ensures _ _ _ c.as_slice.ensures.value c.as_slice-2.ensures.value c.as_slice-3.ensures.value, c.in-Err-Fault.ensures.bytes)
+
+pub returns-clause-plays : goal.returns-clause-plays
+returns-clause-plays g c =
+    inr (_, prepared_is c.args.page.now c.in-Ok.show c.in-Ok.ensures _ _ _ c.as_slice.ensures.value c.as_slice-2.ensures.value c.as_slice-3.ensures.value, c.in-Err-Memory.ensures.bytes)

@@ -1,0 +1,61 @@
+-- The status and the line of each outcome.
+use Rattle.std.specs.Prelude.{◌≡◌, ℕ, ◌⊎◌, List, [], ◌∷◌, ◌++◌, flat_map, codes, decimal, Option}
+use Rattle.std.specs.Fmt.{signed_decimal}
+use Rattle.std.specs.Io.KnownBytes.{Appends}
+use Rattle.cc_io.specs.Counts.{Rose}
+use Rattle.cc_io.specs.Pieces.{GainsPrefix}
+use Rattle.cc_edit.specs.declared.fault.EditFault.{EditFault}
+use Rattle.cc_edit.specs.declared.fault.EditFault.TheVariants as fault
+use Rattle.cc_play.specs.declared.outcome.ScriptFault.{ScriptFault}
+use Rattle.cc_play.specs.declared.outcome.ScriptFault.TheVariants.{Edit, NotBuilt}
+use Rattle.cc_play.specs.declared.outcome.Outcome.{Outcome}
+use Rattle.cc_play.specs.declared.outcome.Outcome.TheVariants.{Done, Usage, Json, Script, ReadFault, WriteFault, TooLong, Memory}
+
+-- the status with which the program exits
+abbrev pub status_of : Outcome → ℕ
+status_of Done = 0
+status_of (Usage word) = 2
+status_of Json = 3
+status_of (Script frame command why) = 5
+status_of ReadFault = 6
+status_of WriteFault = 7
+status_of (TooLong limit) = 8
+status_of Memory = 11
+
+-- texts, one after another
+abbrev pub joined : List (List ℕ) → List ℕ
+joined texts = flat_map (λ text. text) texts
+
+-- why a command was refused
+abbrev pub fault_text : EditFault → List (List ℕ)
+fault_text fault.UnknownId = codes "unknown id" ∷ []
+fault_text fault.IdUsed = codes "id used" ∷ []
+fault_text fault.BadPlace = codes "bad place" ∷ []
+fault_text (fault.TooMany limit) = codes "too many, limit " ∷ decimal limit ∷ []
+fault_text (fault.OutOfRange value limit) = signed_decimal value ∷ codes " out of range, limit " ∷ signed_decimal limit ∷ []
+fault_text fault.NotNested = codes "not nested" ∷ []
+
+-- why a script is not played
+abbrev pub why_text : ScriptFault → List (List ℕ)
+why_text (Edit f) = fault_text f
+why_text NotBuilt = codes "not built" ∷ []
+
+-- the place of a refused command
+abbrev pub place_text : ℕ → ℕ → List (List ℕ)
+place_text frame command = codes "cc: script: frame " ∷ decimal frame ∷ codes " command " ∷ decimal command ∷ codes ": " ∷ []
+
+-- the line that tells of an outcome; none where all was done
+abbrev pub line_of : Outcome → List ℕ
+line_of Done = []
+line_of (Usage word) = joined (codes "cc: usage: word " ∷ decimal word ∷ codes "\n" ∷ [])
+line_of Json = codes "cc: not JSON\n"
+line_of (Script frame command why) = (joined (place_text frame command) ++ joined (why_text why)) ++ codes "\n"
+line_of ReadFault = codes "cc: read fault\n"
+line_of WriteFault = codes "cc: write fault\n"
+line_of (TooLong limit) = joined (codes "cc: too long, limit " ∷ decimal limit ∷ codes "\n" ∷ [])
+line_of Memory = codes "cc: out of memory\n"
+
+-- the notes gained the line; or a front of it, and one of their two counts rose
+abbrev pub Told : Option (List ℕ) → Option (List ℕ) → ℕ → ℕ → ℕ → ℕ → List ℕ → Type 0
+Told old new faults_old faults_new refusals_old refusals_new line =
+    Appends old new line ⊎ (GainsPrefix old new line × (Rose faults_old faults_new ⊎ Rose refusals_old refusals_new))

@@ -1,0 +1,18 @@
+-- What a sink gains while a recording is written piece by piece.
+use Rattle.std.specs.Prelude.{◌≡◌, ℕ, List, ◌++◌, ⊤, Option, Result, Ok, Err}
+use Rattle.std.specs.Io.KnownBytes.{Appends}
+use Rattle.cc_io.specs.Counts.{Rose}
+use Rattle.cc_io.specs.Pieces.{GainsPrefix}
+use Rattle.cc_play.specs.declared.recorder.WriteStop.{WriteStop}
+use Rattle.cc_play.specs.declared.recorder.WriteStop.TheVariants.{Fault, Memory}
+
+-- the sink gained the whole but for what is still held back, or where writing stopped, a front of it
+abbrev pub WritesPart : {X : Type 0} → Option (List ℕ) → Option (List ℕ) → List ℕ → List ℕ → Result X WriteStop → Type 0
+WritesPart old new whole held (Ok _) = (gained : List ℕ) × (gained ++ held ≡ whole) × Appends old new gained
+WritesPart old new whole held (Err _) = GainsPrefix old new whole
+
+-- writing stops by a fault only where the count of faults rose
+abbrev pub WriteCause : {X : Type 0} → ℕ → ℕ → Result X WriteStop → Type 0
+WriteCause old new (Ok _) = ⊤
+WriteCause old new (Err Fault) = Rose old new
+WriteCause old new (Err Memory) = ⊤

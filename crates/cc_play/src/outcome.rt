@@ -1,0 +1,69 @@
+//! How a run ended.
+
+ghost use Rattle.std.specs.Prelude.{◌≡◌, ℕ};
+ghost use Rattle.cc_play.specs.Outcomes.{status_of};
+
+use cc_edit::EditFault;
+
+/// Why a script is not played.
+#[derive(Clone, Copy, Debug, Drop, PartialEq)]
+pub enum ScriptFault {
+    /// A command is refused.
+    Edit(EditFault),
+    /// The script is of a form that the program does not play.
+    NotBuilt,
+}
+
+/// How a run of the program ended. Each answer but `Done` has a line for the notes and a status of
+/// its own.
+#[derive(Clone, Copy, Debug, Drop, PartialEq)]
+pub enum Outcome {
+    /// All was done; the words say what was written.
+    Done,
+    /// The words fit none of the program's uses.
+    Usage {
+        /// The index of the first word that, with those before it, begins no use; where there is no
+        /// such word, more words are needed, and this is their count.
+        word: u32,
+    },
+    /// The bytes are no JSON text, by `serde_json`'s definition.
+    Json,
+    /// The script was refused at a command.
+    Script {
+        /// The main frame, from 0.
+        frame: u32,
+        /// The command's place in that frame, from 0.
+        command: u32,
+        /// Why.
+        fault: ScriptFault,
+    },
+    /// The source failed.
+    ReadFault,
+    /// The sink failed. What it gained is a front of what was to be written.
+    WriteFault,
+    /// The source gave more than `limit` bytes.
+    TooLong {
+        /// The greatest number of bytes that are read.
+        limit: u64,
+    },
+    /// There was no memory.
+    Memory,
+}
+
+impl Outcome {
+    /// The status with which the program exits.
+    pub fn status(self) -> u8
+        ensures { result ≡ status_of self }
+    {
+        match self {
+            Outcome::Done => 0,
+            Outcome::Usage { .. } => 2,
+            Outcome::Json => 3,
+            Outcome::Script { .. } => 5,
+            Outcome::ReadFault => 6,
+            Outcome::WriteFault => 7,
+            Outcome::TooLong { .. } => 8,
+            Outcome::Memory => 11,
+        }
+    }
+}
