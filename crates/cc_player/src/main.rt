@@ -1,0 +1,96 @@
+//! The program: a script on standard input, its recording on standard output.
+#![tactic(auto)]
+
+use cc_io::{Sink, StdSink, StdSource};
+use cc_play::run;
+use std::alloc::{AllocError, Global};
+use std::env::{Env, FillError};
+use std::process::ExitCode;
+
+/// What `--help` prints.
+const HELP: &str = "\
+cc_player: plays scripts of page changes and inputs
+
+usage: cc_player step 1 < SCRIPT > RECORDING
+
+  step 1      reads a script (JSON) from standard input and writes its recording to standard
+              output: every event, and after each draw the picture as a raw portable pixmap (P6)
+  --help      prints this text
+  --version   prints the version
+
+status:
+   0  done
+   2  the words fit no use
+   3  the input is no JSON
+   5  the script is of a form that is not played
+   6  standard input could not be read
+   7  standard output could not be written
+   8  the script is longer than 16777216 bytes
+  11  out of memory
+
+example: cc_player step 1 < examples/first.json > first.rec
+";
+
+/// What `--version` prints.
+const VERSION: &str = "cc_player 0.1.0\n";
+
+/// How long a word may be in bytes. All words that the program knows are shorter.
+const LONGEST: usize = 256;
+
+/// A word as text; the empty text where it is none.
+fn word_of(alloc: Global, bytes: &[u8]) -> Result<String, AllocError> {
+    match str::from_utf8(bytes) {
+        Ok(text) => text.to_string(alloc),
+        Err(_) => Ok(String::new(alloc)),
+    }
+}
+
+/// The words behind the program's name. One that is no text, or longer than any word that the program
+/// knows, is the empty text, which fits no use.
+fn words_of<E: Env>(env: &E, alloc: Global) -> Result<Vec<String>, AllocError> {
+    let mut words = Vec::new(alloc);
+    let mut buffer = [0u8; LONGEST];
+    for i in 1..usize::MAX {
+        let word = match env.arg(i, &mut buffer) {
+            Ok(length) => word_of(alloc, &buffer[..length])?,
+            Err(FillError::TooLong) => String::new(alloc),
+            Err(FillError::NotPresent) => break,
+        };
+        words.push(word)?;
+    }
+    Ok(words)
+}
+
+/// The text that the only word asks for, if it asks for one.
+fn told(words: &[String]) -> Option<&'static str> {
+    match words {
+        [word] if word.as_str() == "--help" => Some(HELP),
+        [word] if word.as_str() == "--version" => Some(VERSION),
+        _ => None,
+    }
+}
+
+fn main(rt: HostRuntime) -> ExitCode {
+    let mut out = StdSink::new(rt.stdout());
+    let mut notes = StdSink::new(rt.stderr());
+    let Ok(words) = words_of(&rt, rt.alloc()) else {
+        let _ = notes.put(b"cc: out of memory\n");
+        return ExitCode::from(11);
+    };
+    if let Some(text) = told(words.as_slice()) {
+        return match out.put(text.as_bytes()) {
+            Ok(()) => ExitCode::from(0),
+            Err(_) => ExitCode::from(7),
+        };
+    }
+    let mut source = StdSource::new(rt.stdin());
+    let outcome = run(
+        &rt,
+        rt.alloc(),
+        words.as_slice(),
+        &mut source,
+        &mut out,
+        &mut notes,
+    );
+    ExitCode::from(outcome.status())
+}
