@@ -1,0 +1,14 @@
+pub mod KeyOrders
+pub mod HeldLists
+pub mod Searches
+pub mod PinLists
+pub mod SlabRows
+pub mod ShelfSteps
+pub mod Dropped
+pub mod Marks
+pub mod KeptRows
+pub mod KeptShelf
+pub mod Parts
+pub mod MadeKeys
+pub mod StoreSteps
+pub mod StoreWords

@@ -1,0 +1,3 @@
+pub mod Stores
+pub mod Rows
+pub mod Shelves

@@ -1,0 +1,19 @@
+//! The tiles that the compositor has: those whose images are ready, those whose images are being made, and
+//! the keys that are not to be given up.
+//!
+//! Keys stand in their order in one list, each with the place of its tile in a slab, so a look-up is a
+//! binary search. `reserve` takes the memory of one later start; neither that start nor the tile's end
+//! takes any.
+#![tactic(auto)]
+
+mod held;
+mod pins;
+mod search;
+mod shelf;
+mod store;
+#[cfg(test)]
+mod tests;
+mod tiles;
+mod walks;
+
+pub use store::TileStore;

@@ -1,0 +1,170 @@
+//! The held keys with their tiles.
+
+ghost use Rattle.std.specs.Prelude.{◌≡◌, ◌≤◌, ◌+◌, Some, None, IsSome, IfOk, OnOk, option_map};
+ghost use Rattle.cc_geom.specs.declared.tile.TileKey.{TileKey};
+ghost use Rattle.std.specs.FinMap as fin;
+ghost use Rattle.cc_store.specs.Stores.{names};
+ghost use Rattle.cc_store.specs.Rows.{ready_of, if_live, if_not_named};
+ghost use Rattle.cc_store.specs.Shelves.{shown};
+
+use crate::held::{Held, Tile};
+use crate::search::search;
+use crate::tiles::{give, is_made};
+use crate::walks::{drop_unmarked, mark};
+use cc_geom::{Keys, TileKey};
+use cc_raster::TileImage;
+use slab::Slab;
+use std::alloc::{AllocError, Global};
+use std::marker::Model;
+use std::sync::Arc;
+
+/// The most keys.
+const MOST: usize = 4294967295;
+
+/// Keys with their tiles, which contracts see as a map from each key to its image, or to none while that is
+/// being made.
+#[derive(Drop)]
+pub(crate) struct Shelf {
+    // in the order of the keys
+    held: Vec<Held>,
+    tiles: Slab<Tile>,
+}
+
+impl Model for Shelf {
+    ghost use Rattle.std.specs.Prelude.{vec_len, vec_capacity};
+    ghost use Rattle.std.specs.FinMap as fin;
+    ghost use Rattle.slab.specs.Slab.{get, slab_len};
+    ghost use Rattle.cc_geom.specs.contracts.tile.TileKey as the_key;
+    ghost use Rattle.cc_raster.specs.contracts.image.TileImage as the_image;
+    ghost use Rattle.cc_store.specs.Shelves.{Shelf as Shelved, shelf_code, rows, room, IsShelf};
+
+    ghost Value = { Shelved };
+
+    ghost coded = { shelf_code the_key.the_row.coded the_image.the_row.coded };
+
+    ghost view = { λ s. record {
+      held = fin.from_sorted (rows (get s.tiles) s.held.items);
+      spare = room (vec_capacity s.held) (vec_len s.held) s.tiles.capacity (slab_len s.tiles);
+    } };
+
+    ghost invariant = { λ s. IsShelf s.tiles s.held.items };
+}
+
+impl Shelf {
+    /// No key, and memory from `alloc` later.
+    pub(crate) fn new(alloc: Global) -> Shelf
+        ensures { result.held ≡ fin.empty }
+    {
+        Shelf {
+            held: Vec::new(alloc),
+            tiles: Slab::new(alloc),
+        }
+    }
+
+    /// How many keys there are.
+    pub(crate) fn len(&self) -> u32
+        ensures { result ≡ fin.len self.now.held }
+    {
+        self.held.len() as u32
+    }
+
+    /// Makes room for one more key. An error is want of memory, or 2^32 - 1 keys.
+    pub(crate) fn reserve(&mut self) -> Result<(), AllocError>
+        ensures room { OnOk result (1 ≤ self.new.spare) }
+        ensures held { self.new.held ≡ self.old.held }
+        ensures spare { self.old.spare ≤ self.new.spare }
+    {
+        if self.held.len() >= MOST {
+            return Err(AllocError);
+        }
+        self.held.reserve(1)?;
+        self.tiles.reserve(1)
+    }
+
+    /// The tile of a key.
+    pub(crate) fn get(&self, key: TileKey) -> Option<&Tile>
+        ensures { option_map (λ t. shown t.now) result ≡ fin.get self.now.held key }
+    {
+        match search(&self.held, key) {
+            Ok(at) => self.tiles.get(self.held[at].place),
+            Err(_) => None,
+        }
+    }
+
+    /// Adds a key, whose image is being made.
+    pub(crate) fn put(&mut self, key: TileKey)
+        requires room { 1 ≤ self.old.spare }
+        requires absent { fin.get self.old.held key ≡ None }
+        ensures held { self.new.held ≡ fin.insert self.old.held key None }
+        ensures spare { self.old.spare ≤ self.new.spare + 1 }
+    {
+        if let Err(at) = search(&self.held, key) {
+            let place = self.tiles.insert_reserved(Tile { key, image: None });
+            let one = Held {
+                key,
+                place,
+                live: false,
+            };
+            drop(self.held.insert(at, one));
+        }
+    }
+
+    /// Gives a key its image.
+    pub(crate) fn set(&mut self, image: Arc<TileImage>)
+        requires { IsSome (fin.get self.old.held image.value.key) }
+        ensures held { self.new.held ≡ fin.insert self.old.held image.value.key (Some image.value) }
+        ensures spare { self.new.spare ≡ self.old.spare }
+    {
+        let key = image.key();
+        if let Ok(at) = search(&self.held, key) {
+            give(&mut self.tiles, self.held[at].place, key, image);
+        }
+    }
+
+    /// Drops a key with its tile, where it is held.
+    pub(crate) fn remove(&mut self, key: TileKey)
+        ensures held { self.new.held ≡ fin.remove self.old.held key }
+        ensures spare { self.old.spare ≤ self.new.spare }
+    {
+        if let Ok(at) = search(&self.held, key) {
+            let one = self.held.remove(at);
+            drop(self.tiles.try_remove(one.place));
+        }
+    }
+
+    /// Drops these keys with their tiles, where they are held.
+    pub(crate) fn remove_all(&mut self, keys: &[TileKey])
+        ensures held { (q : TileKey) → fin.get self.new.held q ≡ if_not_named (names keys.now q) (fin.get self.old.held q) }
+        ensures spare { self.old.spare ≤ self.new.spare }
+    {
+        for key in keys {
+            self.remove(*key);
+        }
+    }
+
+    /// Drops the images of the keys that are not in `live`, whatever its order, with these keys. Keys whose
+    /// images are being made stay.
+    pub(crate) fn keep(&mut self, live: &[TileKey])
+        ensures held { (q : TileKey) → fin.get self.new.held q ≡ if_live (names live.now q) (fin.get self.old.held q) }
+        ensures spare { self.old.spare ≤ self.new.spare }
+    {
+        mark(&mut self.held, live);
+        let kept = drop_unmarked(&mut self.held, &mut self.tiles);
+        self.held.truncate(kept);
+    }
+
+    /// The keys that have an image, in their order. An error is want of memory.
+    pub(crate) fn ready_keys(&self, alloc: Global) -> Result<Keys, AllocError>
+        ensures { IfOk result (λ keys. keys ≡ fin.keys (ready_of self.now.held)) }
+    {
+        let mut keys = Keys::new(alloc);
+        for one in &self.held {
+            if is_made(&self.tiles, one.place) {
+                if let Err((full, _)) = keys.push(one.key) {
+                    return Err(full);
+                }
+            }
+        }
+        Ok(keys)
+    }
+}

@@ -1,0 +1,73 @@
+//! Walks over the held keys that keep the live ones.
+
+ghost use Rattle.std.specs.Prelude.{◌≡◌, ◌≤◌, [], map, filter, take, length};
+ghost use Rattle.slab.specs.Slab.{get, slab_len};
+ghost use Rattle.cc_store.specs.Shelves.{Rises, AreKept, AreSame, marked, also_marked, stays};
+
+use crate::held::{Held, Tile};
+use crate::search::search;
+use crate::tiles::is_made;
+use cc_geom::TileKey;
+use slab::Slab;
+
+/// Takes all marks away.
+fn clear(held: &mut [Held])
+    ensures { held.new ≡ map (marked []) held.old }
+{
+    for one in held.iter_mut() {
+        one.live = false;
+    }
+}
+
+/// Marks this key, where it is there.
+fn mark_one(held: &mut [Held], key: TileKey)
+    requires { Rises held.old }
+    ensures { held.new ≡ map (also_marked key) held.old }
+{
+    if let Ok(at) = search(held, key) {
+        held[at].live = true;
+    }
+}
+
+/// Marks the keys of the list and no others.
+pub(crate) fn mark(held: &mut [Held], live: &[TileKey])
+    requires { Rises held.old }
+    ensures { held.new ≡ map (marked live.now) held.old }
+{
+    clear(held);
+    for key in live {
+        mark_one(held, *key);
+    }
+}
+
+/// Whether the key is marked, or its image is being made.
+fn stays(tiles: &Slab<Tile>, one: Held) -> bool
+    ensures { result ≡ stays (get tiles.now) one }
+{
+    one.live || !is_made(tiles, one.place)
+}
+
+/// Drops the tiles that have an image and whose keys are not marked; the other keys move to the front, and
+/// the answer is how many they are.
+pub(crate) fn drop_unmarked(held: &mut [Held], tiles: &mut Slab<Tile>) -> usize
+    requires rises { Rises held.old }
+    requires kept { AreKept (get tiles.old) held.old }
+    ensures bound { result ≤ length held.new }
+    ensures len { length held.new ≡ length held.old }
+    ensures held { take result held.new ≡ filter (stays (get tiles.old)) held.old }
+    ensures same { AreSame (get tiles.old) (get tiles.new) (take result held.new) }
+    ensures fewer { slab_len tiles.new ≤ slab_len tiles.old }
+    ensures capacity { tiles.new.capacity ≡ tiles.old.capacity }
+{
+    let mut front = 0;
+    for at in 0..held.len() {
+        let one = held[at];
+        if stays(tiles, one) {
+            held[front] = one;
+            front += 1;
+        } else {
+            drop(tiles.try_remove(one.place));
+        }
+    }
+    front
+}
