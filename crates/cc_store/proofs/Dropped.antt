@@ -7,7 +7,7 @@ use Rattle.cc_geom.specs.declared.tile.TileKey.{TileKey}
 use Rattle.cc_geom.specs.KeyOrder.{key_cmp}
 use Rattle.cc_store.specs.Stores.{names}
 use Rattle.cc_store.specs.Rows.{if_not_named}
-use Rattle.cc_store.proofs.KeyOrders.{key_total}
+use Rattle.cc_geom.proofs.KeyOrders.{key_total}
 
 pub names_more : (keys : List TileKey) (i : ℕ) (d q : TileKey) → i < length keys → names (take (i + 1) keys) q ≡ (names (take i keys) q || eq_by_cmp key_cmp q (get_or keys i d))
 names_more keys i d q lt = list_any_more (eq_by_cmp key_cmp q) keys i d lt

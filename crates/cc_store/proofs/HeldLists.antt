@@ -8,7 +8,8 @@ use Rattle.cc_geom.specs.declared.tile.TileKey.{TileKey}
 use Rattle.cc_geom.specs.KeyOrder.{key_cmp}
 use Rattle.cc_store.specs.declared.held.Held.{Held}
 use Rattle.cc_store.specs.Shelves.{Before, After, Rises}
-use Rattle.cc_store.proofs.KeyOrders.{key_total, ties_itself, flips}
+use Rattle.cc_geom.proofs.KeyOrders.{key_total}
+use Rattle.cc_store.proofs.KeyOrders.{ties_itself, flips}
 
 -- what is above a key is above each key below that
 pub after_more : (k l : TileKey) (hs : List Held) → key_cmp k l ≡ Less → After l hs → After k hs

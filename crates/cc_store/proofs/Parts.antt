@@ -12,7 +12,8 @@ use Rattle.std.specs.FinSet as set
 use Rattle.cc_geom.specs.declared.tile.TileKey.{TileKey}
 use Rattle.cc_geom.specs.KeyOrder.{key_cmp}
 use Rattle.cc_store.specs.Rows.{ready_rows, flying_keys, ready_of, flying_of, is_flying}
-use Rattle.cc_store.proofs.KeyOrders.{key_total, tied}
+use Rattle.cc_geom.proofs.KeyOrders.{key_total}
+use Rattle.cc_store.proofs.KeyOrders.{tied}
 
 both : (a b : Bool) → T a → T b → T (a && b)
 both true b p q = q

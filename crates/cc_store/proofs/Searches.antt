@@ -10,7 +10,8 @@ use Rattle.cc_geom.specs.declared.tile.TileKey.{TileKey}
 use Rattle.cc_geom.specs.KeyOrder.{key_cmp}
 use Rattle.cc_store.specs.declared.held.Held.{Held}
 use Rattle.cc_store.specs.Shelves.{Before, After, Rises, StandsAt, IsGapFor}
-use Rattle.cc_store.proofs.KeyOrders.{key_total, key_ties, flips, flips_back}
+use Rattle.cc_geom.proofs.KeyOrders.{key_total, key_ties}
+use Rattle.cc_store.proofs.KeyOrders.{flips, flips_back}
 use Rattle.cc_store.proofs.HeldLists.{split_before, split_after}
 
 -- no key is below the one before it

@@ -14,7 +14,8 @@ use Rattle.cc_raster.specs.Images.{Image}
 use Rattle.cc_store.specs.declared.held.Held.{Held}
 use Rattle.cc_store.specs.declared.held.Tile.{Tile}
 use Rattle.cc_store.specs.Shelves.{shown, rows, Before, After, Rises, AreKept, HasTileOf, StandsAt, IsGapFor, IsShelf}
-use Rattle.cc_store.proofs.KeyOrders.{key_total, key_ties, tied}
+use Rattle.cc_geom.proofs.KeyOrders.{key_total, key_ties}
+use Rattle.cc_store.proofs.KeyOrders.{tied}
 use Rattle.cc_store.proofs.HeldLists.{sorted_rows, rises_with, rises_without}
 use Rattle.cc_store.proofs.SlabRows.{from_sorted_put, from_sorted_drop, image_at, rows_put, kept_put, rows_set, kept_set, rows_drop, kept_drop, found_gap, found_here, kept_parts}
 

@@ -10,7 +10,8 @@ use Rattle.cc_geom.specs.declared.tile.TileKey.{TileKey}
 use Rattle.cc_geom.specs.KeyOrder.{key_cmp}
 use Rattle.cc_store.specs.Stores.{names}
 use Rattle.cc_store.specs.Rows.{ready_of, flying_of, is_flying, if_live, if_not_named}
-use Rattle.cc_store.proofs.KeyOrders.{key_total, key_ties, tied}
+use Rattle.cc_geom.proofs.KeyOrders.{key_total, key_ties}
+use Rattle.cc_store.proofs.KeyOrders.{tied}
 use Rattle.cc_store.proofs.Parts.{get_ready, contains_flying}
 
 pub ready_empty : (X : Type 0) → ready_of (fin.empty {X = Option X} {R = key_cmp}) ≡ fin.empty

@@ -10,7 +10,7 @@ use Rattle.cc_geom.specs.declared.tile.TileKey.{TileKey}
 use Rattle.cc_geom.specs.KeyOrder.{key_cmp}
 use Rattle.cc_raster.specs.Images.{Image}
 use Rattle.cc_store.specs.Stores.{Store, image_of, is_in_flight, is_pinned, names, started, done_with, kept, pinned_to}
-use Rattle.cc_store.proofs.KeyOrders.{key_total, key_ties}
+use Rattle.cc_geom.proofs.KeyOrders.{key_total, key_ties}
 use Rattle.cc_store.proofs.Parts.{second, first, find_below}
 
 module _ (s : Store) (spare : ℕ) (q : TileKey) where

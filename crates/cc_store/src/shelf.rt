@@ -19,7 +19,7 @@ use std::marker::Model;
 use std::sync::Arc;
 
 /// The most keys.
-const MOST: usize = 4294967295;
+const MOST: usize = u32::MAX as usize;
 
 /// Keys with their tiles, which contracts see as a map from each key to its image, or to none while that is
 /// being made.

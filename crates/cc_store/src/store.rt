@@ -113,8 +113,8 @@ impl TileStore {
         self.shelf.keep(live.as_slice());
     }
 
-    /// The image of a key; None exactly where it is not ready. To have the image for longer, clone the
-    /// `Arc`.
+    /// The image of a key; None exactly where it is not ready. To have the image for longer, take a second
+    /// owner by `Arc::try_clone`.
     pub fn ready(&self, key: TileKey) -> Option<&Arc<TileImage>>
         ensures { option_map (λ image. image.now.value) result ≡ image_of self.now key }
     {
