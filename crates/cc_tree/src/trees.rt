@@ -7,7 +7,7 @@ ghost use Rattle.cc_geom.specs.Covers.{IsSound};
 ghost use Rattle.cc_tree.specs.Nesting.{AreNested};
 ghost use Rattle.cc_tree.specs.OffsetMap.{offset_at, AreOffsets};
 ghost use Rattle.cc_tree.specs.Placement.{clip_of, draws, translation, IsWithin};
-ghost use Rattle.cc_tree.specs.Trees.{MayJoinTransforms, MayJoinClips, MayJoinEffects, MayJoinScrollers, IsNear, IsClipRect};
+ghost use Rattle.cc_tree.specs.Trees.{IsTrees, MayJoinTransforms, MayJoinClips, MayJoinEffects, MayJoinScrollers, IsNear, IsClipRect};
 
 use crate::family::Family;
 use crate::nesting::nested_in;
@@ -235,6 +235,14 @@ impl PropertyTrees {
         ensures { IsTrue result ↔ AreNested self.now.effects effects.now }
     {
         nested_in(&self.effects, effects)
+    }
+
+    /// Each node's parent was there before it, and its values are in their ranges. A law that does
+    /// nothing when it runs.
+    pub fn are_trees(&self)
+        ensures { IsTrees self.now }
+    {
+        let _ = &self.transforms;
     }
 
     /// The same trees. An error is want of memory.
