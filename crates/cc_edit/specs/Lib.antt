@@ -1,3 +1,15 @@
 pub mod Painting
 pub mod Spots
 pub mod Tests
+pub mod Lists
+pub mod Layers
+pub mod Scrolls
+pub mod Pages
+pub mod Refusals
+pub mod Effects
+pub mod Sound
+pub mod Outcomes
+pub mod TreePainting
+pub mod Hits
+pub mod Contents
+pub mod Paintings

@@ -3,14 +3,31 @@
 #![tactic(auto)]
 
 mod command;
+mod display;
 mod fault;
+mod groups;
+mod laws;
 mod layer;
+mod layers;
 mod limits;
+mod listing;
 mod paint;
+mod placed;
+mod scroll;
+mod tree;
+mod tree_paint;
+mod value_offsets;
 mod view;
 
 pub use command::Command;
 pub use fault::{EditError, EditFault};
+pub use laws::{commands_keep_the_rest, targets_are_topmost};
 pub use layer::Layer;
 pub use paint::{Group, Spot, paint_from};
+pub use tree::LayerTree;
+pub use tree_paint::{Painting, paint_at};
+pub use value_offsets::main_offsets;
 pub use view::View;
+
+#[cfg(test)]
+mod tests;

@@ -2,8 +2,10 @@
 
 ghost use Rattle.std.specs.Prelude.{◌≡◌};
 ghost use Rattle.cc_edit.specs.Tests as spec;
+ghost use Rattle.cc_edit.specs.Refusals as refusals;
 
 use crate::fault::EditFault;
+use cc_geom::Rect;
 
 /// Passes where the condition holds, else answers the fault.
 pub(crate) fn require(condition: bool, fault: EditFault) -> Result<(), EditFault>
@@ -39,4 +41,48 @@ pub(crate) fn is_size(w: u32, h: u32) -> Result<(), EditFault>
 {
     in_range(w as i64, 1, 16384)?;
     in_range(h as i64, 1, 16384)
+}
+
+#[tactic(auto, unfolding(crate::specs::Refusals::is_offset))]
+pub(crate) fn is_offset(x: i32, y: i32) -> Result<(), EditFault>
+    ensures { result ≡ refusals.is_offset x y }
+{
+    in_range(x as i64, -65536, 65536)?;
+    in_range(y as i64, -65536, 65536)
+}
+
+#[tactic(auto, unfolding(crate::specs::Refusals::is_clip_rect))]
+pub(crate) fn is_clip_rect(rect: Rect) -> Result<(), EditFault>
+    ensures { result ≡ refusals.is_clip_rect rect }
+{
+    in_range(rect.x as i64, -65536, 65536)?;
+    in_range(rect.y as i64, -65536, 65536)?;
+    in_range(rect.w as i64, 0, 65536)?;
+    in_range(rect.h as i64, 0, 65536)
+}
+
+#[tactic(auto, unfolding(crate::specs::Refusals::is_item_rect))]
+pub(crate) fn is_item_rect(rect: Rect) -> Result<(), EditFault>
+    ensures { result ≡ refusals.is_item_rect rect }
+{
+    in_range(rect.x as i64, -16384, 16384)?;
+    in_range(rect.y as i64, -16384, 16384)?;
+    in_range(rect.w as i64, 1, 16384)?;
+    in_range(rect.h as i64, 1, 16384)
+}
+
+#[tactic(auto, unfolding(crate::specs::Refusals::is_scroll_range))]
+pub(crate) fn is_scroll_range(x: u32, y: u32) -> Result<(), EditFault>
+    ensures { result ≡ refusals.is_scroll_range x y }
+{
+    in_range(x as i64, 0, 1048576)?;
+    in_range(y as i64, 0, 1048576)
+}
+
+#[tactic(auto, unfolding(crate::specs::Refusals::is_scroll))]
+pub(crate) fn is_scroll(dx: i32, dy: i32) -> Result<(), EditFault>
+    ensures { result ≡ refusals.is_scroll dx dy }
+{
+    in_range(dx as i64, -1048576, 1048576)?;
+    in_range(dy as i64, -1048576, 1048576)
 }

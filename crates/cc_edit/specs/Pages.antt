@@ -1,0 +1,23 @@
+-- A page: what the commands act on.
+use Rattle.std.specs.Prelude.{ℕ, ◌≤◌, List}
+use Rattle.cc_geom.specs.declared.rect.Point.{Point}
+use Rattle.cc_tree.specs.Trees.{Trees as Props}
+use Rattle.cc_edit.specs.declared.view.View.{View}
+use Rattle.cc_edit.specs.Layers.{PageLayer}
+
+-- a view in its ranges: sides of 1 to 2048, tiles of 16 to 256
+pub record IsView (v : View) : Type 0 where
+  pub w_low : 1 ≤ v.w
+  pub w_high : v.w ≤ 2048
+  pub h_low : 1 ≤ v.h
+  pub h_high : v.h ≤ 2048
+  pub tile_low : 16 ≤ v.tile
+  pub tile_high : v.tile ≤ 256
+
+-- a page: its view, its property nodes, its layers in painting order, the ids that layers have or ever had, and the main scroll values under the ids of their scrollers
+pub record Page : Type 0 where
+  pub view : View
+  pub props : Props
+  pub layers : List PageLayer
+  pub used : List ℕ
+  pub values : List (ℕ × Point)

@@ -1,0 +1,163 @@
+//! The direct painting of a tree: what the screen shows at a point.
+//!
+//! What of a layer does not depend on the point is made ready once, for all points of a picture: where
+//! the layer lies on the screen, and the groups that it is blended in.
+
+ghost use Rattle.std.specs.Prelude.{◌≡◌, ◌≤◌, ℕ, ℤ, List, map, length, All, IfOk, vec_len};
+ghost use Rattle.cc_geom.specs.declared.rect.Point.{Point};
+ghost use Rattle.cc_geom.specs.declared.tile.TileKey.{TileKey as Key};
+ghost use Rattle.cc_geom.specs.Sides.{IsSide};
+ghost use Rattle.cc_tree.specs.OffsetMap.{offset_at, AreOffsets};
+ghost use Rattle.cc_tree.specs.Trees.{IsTrees};
+ghost use Rattle.cc_edit.specs.Layers.{parts_of};
+ghost use Rattle.cc_edit.specs.Pages.{Page};
+ghost use Rattle.cc_edit.specs.Spots.{groups_of, colour_of, HaveOpacities};
+ghost use Rattle.cc_edit.specs.TreePainting.{colour_at, groups_in, opacity_in, paint};
+ghost use Rattle.cc_edit.specs.Paintings.{IsOnScreen, Shows, shown};
+
+use crate::groups;
+use crate::layer::Layer;
+use crate::paint::{Spot, paint_from};
+use crate::placed::{PlacedLayer, placed};
+use crate::tree::LayerTree;
+use cc_geom::TileKey;
+use cc_pixel::Colour;
+use cc_tree::{Offsets, PropertyTrees};
+use std::alloc::{AllocError, Global};
+use std::marker::Model;
+
+/// A tree made ready to be painted, at fixed offsets of its scrollers and with fixed missing tiles.
+#[derive(Drop)]
+pub struct Painting {
+    tile: u32,
+    layers: Vec<PlacedLayer>,
+    // one for each layer; the colours are those of the last point
+    spots: Vec<Spot>,
+}
+
+impl Model for Painting {
+    ghost use Rattle.std.specs.Prelude.{◌≡◌, ◌≤◌, map, length, All};
+    ghost use Rattle.cc_edit.specs.Paintings.{Ready};
+
+    ghost Value = { Ready };
+
+    ghost view = { λ p. record { tile = p.tile; layers = p.layers.items; groups = map (λ s. s.groups.items) p.spots.items } };
+
+    ghost invariant = { λ p. (1 ≤ p.tile) × (length p.layers.items ≡ length p.spots.items) × All (λ gs. length gs ≤ 256) (map (λ s. s.groups.items) p.spots.items) };
+}
+
+// Layers in their places.
+fn placed_layers(
+    alloc: Global,
+    tree: &LayerTree,
+    offsets: &Offsets,
+    missing: &[TileKey],
+    layers: &[Layer],
+) -> Result<Vec<PlacedLayer>, AllocError>
+    requires offsets { AreOffsets (offset_at offsets.now) }
+    requires sizes { All (λ l. IsSide l.w × IsSide l.h) layers.now }
+    ensures colours { IfOk result (λ ready. (x y : ℤ) → map (shown tree.now.view.tile x y) ready.items ≡ map (λ l. colour_at tree.now (offset_at offsets.now) missing.now x y (parts_of l)) layers.now) }
+    ensures count { IfOk result (λ ready. length ready.items ≡ length layers.now) }
+{
+    let mut ready = Vec::new(alloc);
+    for layer in layers {
+        ready.push(placed(alloc, tree, offsets, missing, layer)?)?;
+    }
+    Ok(ready)
+}
+
+// The spots of layers, with their groups, and without colour.
+fn spots_of(alloc: Global, props: &PropertyTrees, layers: &[Layer]) -> Result<Vec<Spot>, AllocError>
+    requires { IsTrees props.now }
+    ensures groups { IfOk result (λ spots. map groups_of spots.items ≡ map (λ l. groups_in props.now.effects l.effect) layers.now) }
+    ensures opacities { IfOk result (λ spots. HaveOpacities (opacity_in props.now.effects) spots.items) }
+    ensures few { IfOk result (λ spots. All (λ s. length s.groups.items ≤ 256) spots.items) }
+    ensures count { IfOk result (λ spots. length spots.items ≡ length layers.now) }
+{
+    let mut spots = Vec::new(alloc);
+    for layer in layers {
+        let groups = groups::groups_of(alloc, props, layer.effect)?;
+        spots.push(Spot {
+            groups,
+            colour: Colour::CLEAR,
+        })?;
+    }
+    Ok(spots)
+}
+
+// Gives each spot the colour of its layer at a point of the screen.
+fn set_colours(layers: &[PlacedLayer], spots: &mut [Spot], tile: u32, x: i32, y: i32)
+    requires count { length layers.now ≡ length spots.old }
+    requires cut { 1 ≤ tile }
+    requires screen { IsOnScreen x y }
+    ensures colours { map colour_of spots.new ≡ map (shown tile x y) layers.now }
+    ensures groups { map (λ s. s.groups.items) spots.new ≡ map (λ s. s.groups.items) spots.old }
+{
+    for i in 0..layers.len() {
+        spots[i].colour = layers[i].colour_at(tile, x, y);
+    }
+}
+
+impl Painting {
+    /// The tree made ready, at these offsets of its scrollers and with the tiles of these keys missing,
+    /// whatever their stamps. Each offset is from 0 to 1048576 on both axes. An error is want of memory.
+    pub fn new(
+        alloc: Global,
+        tree: &LayerTree,
+        offsets: &Offsets,
+        missing: &[TileKey],
+    ) -> Result<Painting, AllocError>
+        requires { AreOffsets (offset_at offsets.now) }
+        ensures { IfOk result (λ painting. Shows tree.now (offset_at offsets.now) missing.now painting) }
+    {
+        tree.is_page();
+        let props = tree.props();
+        props.are_trees();
+        let layers = placed_layers(alloc, tree, offsets, missing, tree.layers())?;
+        let spots = spots_of(alloc, props, tree.layers())?;
+        let tile = tree.view().tile;
+        Ok(Painting {
+            tile,
+            layers,
+            spots,
+        })
+    }
+
+    /// What the screen shows at a point, where nothing stands below the layers but this background.
+    /// Both coordinates are from 0 to 2047. It takes no memory.
+    pub fn pixel(&mut self, background: Colour, x: i32, y: i32) -> Colour
+        requires { IsOnScreen x y }
+        ensures value { (p : Page) (offset : ℕ → Point) (missing : List Key) → Shows p offset missing self.old → result ≡ paint p offset missing background x y }
+        ensures same { self.new ≡ self.old }
+    {
+        set_colours(
+            self.layers.as_slice(),
+            self.spots.as_mut_slice(),
+            self.tile,
+            x,
+            y,
+        );
+        paint_from(self.spots.as_slice(), 0, background)
+    }
+}
+
+/// What the screen shows at one point of a tree, at these offsets of its scrollers, over this
+/// background, and with the tiles of these keys missing. Each offset is from 0 to 1048576 on both axes,
+/// and both coordinates are from 0 to 2047. An error is want of memory. For many points of one picture
+/// make a [`Painting`].
+pub fn paint_at(
+    alloc: Global,
+    tree: &LayerTree,
+    offsets: &Offsets,
+    missing: &[TileKey],
+    background: Colour,
+    x: i32,
+    y: i32,
+) -> Result<Colour, AllocError>
+    requires offsets { AreOffsets (offset_at offsets.now) }
+    requires screen { IsOnScreen x y }
+    ensures { IfOk result (λ c. c ≡ paint tree.now (offset_at offsets.now) missing.now background x y) }
+{
+    let mut painting = Painting::new(alloc, tree, offsets, missing)?;
+    Ok(painting.pixel(background, x, y))
+}
