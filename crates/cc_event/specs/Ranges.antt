@@ -2,7 +2,7 @@
 use Rattle.std.specs.Prelude.{ℕ, ◌+◌, ℤ, pos, negsuc, List, [], ◌∷◌, length, Bool, true, false, ◌&&◌, ◌==◌, nat_le, nat_lt, int_le, if◌then◌else◌}
 use Rattle.std.specs.List.{list_all}
 use Rattle.cc_geom.specs.declared.rect.Rect.{Rect}
-use Rattle.cc_pixel.specs.Colours.{Parts, is_colour}
+use Rattle.cc_pixel.specs.Colours.{is_colour}
 use Rattle.cc_display.specs.Pictures.{has_sides, byte_count}
 use Rattle.cc_display.specs.declared.item.Item.{Item}
 use Rattle.cc_display.specs.declared.item.Item.TheVariants as item

@@ -6,17 +6,46 @@
 //! recording of a history holds.
 #![tactic(auto)]
 
+mod applying;
+mod commit;
 mod event;
+mod frame;
 mod history;
 mod input;
+mod laws_frames;
+mod laws_lockstep;
+mod laws_pages;
+mod laws_scrolls;
+mod laws_sharing;
+mod laws_tiles;
 mod moves;
+mod script;
+mod script_error;
 mod script_parts;
+mod visible;
 
+pub use commit::Commit;
 pub use event::Event;
+pub use frame::{apply_frame, changes_something, take_frame};
 pub use history::{Entry, History};
 pub use input::Input;
+pub use laws_frames::{actors_are_few, beginnings_are_legal, frames_take_their_course, one_answer};
+pub use laws_lockstep::lockstep_is_one;
+pub use laws_pages::{
+    accepted_commands_are_taken, main_values_are_in_range, pages_depend_on_earlier_pulls,
+    unchanged_frames_do_nothing,
+};
+pub use laws_scrolls::{
+    clobbering_leaves_no_delta, listed_moves_rise, moves_are_small, offsets_stay_in_range,
+    scrolls_count_once, values_are_sums,
+};
+pub use laws_sharing::{dead_keys_stay_dead, equal_keys_show_the_same};
+pub use laws_tiles::{no_key_twice, required_stays_ready};
 pub use moves::{Move, Moves, Sends};
+pub use script::Script;
+pub use script_error::ScriptError;
 pub use script_parts::ScriptParts;
+pub use visible::{by_id, visible_keys, visible_places};
 
 #[cfg(test)]
 mod tests;

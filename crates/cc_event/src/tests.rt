@@ -1,7 +1,9 @@
-//! Lists and histories with ample memory.
+//! Lists, histories and scripts with ample memory.
 
 use super::*;
 use std::test::Fail;
+
+mod visible;
 
 #[test]
 fn a_move_pushed_is_there_and_copied(rt: HostRuntime) -> Result<(), Fail> {

@@ -1,0 +1,73 @@
+-- Commands that are applied one after another: what they changed together, so far and in the end.
+use Rattle.std.proofs.Common.{◌≡◌, ℕ, ◌+◌, ◌<◌, List, [], ◌∷◌, Ok, Err, length, sym, ap, ◌∙◌, get_or, drop, subst, arith}
+use Rattle.std.proofs.lemmas.List.{drop_all, drop_more}
+use Rattle.cc_region.specs.Lists.{Changed}
+use Rattle.cc_edit.specs.declared.command.Command.{Command}
+use Rattle.cc_edit.specs.declared.fault.EditError.{EditError}
+use Rattle.cc_edit.specs.declared.fault.EditError.TheVariants.{Refused, Memory}
+use Rattle.cc_edit.specs.Pages.{Page}
+use Rattle.cc_edit.specs.Effects.{after, scrolled_by}
+use Rattle.cc_event.specs.declared.moves.Move.{Move}
+use Rattle.cc_event.specs.Frames.{pulled}
+use Rattle.cc_event.specs.Stamps.{changed_by, unchanged}
+use Rattle.cc_event.specs.SameChanges.{SameChanges}
+use Rattle.cc_event.specs.Ended.{AreBounded, with_next, TookCommand, TookCommands}
+use Rattle.cc_event.proofs.Leads.{Leads, rest_at, leads_start, leads_on}
+use Rattle.cc_event.proofs.SameLists.{same_changes}
+
+-- the pulls from place i on lead from the page now to where all lead from the first one
+pub record Pulls (first : Page) (all : List Move) (now : Page) (rest : List Move) : Type 0 where
+  pub page : pulled rest now ≡ pulled all first
+  pub bounded : AreBounded rest
+
+-- the commands so far were noted; with the rest of them it is what all of them changed
+pub record Gathers (first : Page) (all : List Command) (i : ℕ) (now : Page) (changes : Changed) (rest : List Command) : Type 0 where
+  pub leads : Leads first all i now rest
+  pub done : Changed
+  pub same : SameChanges changes done
+  pub total : changed_by now rest done ≡ changed_by first all unchanged
+
+pub gathers_start : (p : Page) (all : List Command) (none : Changed) → none ≡ unchanged → Gathers p all 0 p none all
+gathers_start p all none e = record { leads = leads_start p all; done = none; same = same_changes none; total = ap (λ (d : Changed). changed_by p all d) e }
+
+gathers_next : (first : Page) (all : List Command) (i : ℕ) (now : Page) (c : Command) (rest : List Command) (old new : Changed) (q : Page)
+    → TookCommand now c old q new (Ok tt) → Gathers first all i now old (c ∷ rest) → Gathers first all (i + 1) q new rest
+gathers_next first all i now c rest old new q t g =
+    let step : Gathers first all (i + 1) (after now c) new rest = record {
+      leads = leads_on first all i now c rest t.0 g.leads;
+      done = with_next now c g.done;
+      same = t.2 g.done g.same;
+      total = g.total;
+    } in
+    subst (λ (p : Page). Gathers first all (i + 1) p new rest) (sym t.1) step
+
+-- one command on
+pub gathers_on : (first : Page) (all : List Command) (i : ℕ) (now : Page) (c : Command) (old new : Changed) (q : Page) → c ≡ get_or all i c → i < length all
+    → TookCommand now c old q new (Ok tt) → Gathers first all i now old (drop i all) → Gathers first all (i + 1) q new (drop (i + 1) all)
+gathers_on first all i now c old new q e lt t g =
+    gathers_next first all i now c (drop (i + 1) all) old new q t (subst (λ (cs : List Command). Gathers first all i now old cs) (rest_at all i c e lt) g)
+
+-- what stops one command stops all of them
+pub gathers_stop : (first : Page) (all : List Command) (i : ℕ) (now : Page) (c : Command) (old new : Changed) (q : Page) (e : EditError) → c ≡ get_or all i c → i < length all
+    → TookCommand now c old q new (Err e) → Gathers first all i now old (drop i all) → TookCommands first all q (Err e)
+gathers_stop first all i now c old new q (Refused fault) is lt t g =
+    let l : Leads first all i now (c ∷ drop (i + 1) all) = subst (λ (cs : List Command). Leads first all i now cs) (rest_at all i c is lt) g.leads in
+    (i + 0, l.refused 0 fault t)
+gathers_stop first all i now c old new q (Memory e) is lt t g = tt
+
+-- in the end
+pub gathers_end : (first : Page) (all : List Command) (i : ℕ) (now : Page) (changes : Changed) → i ≡ length all → Gathers first all i now changes (drop i all) → TookCommands first all now (Ok changes)
+gathers_end first all i now changes e g =
+    let none : drop i all ≡ [] = drop_all i all (omega (arith, e)) in
+    let l : Leads first all i now [] = subst (λ (cs : List Command). Leads first all i now cs) none g.leads in
+    let t : changed_by now [] g.done ≡ changed_by first all unchanged = subst (λ (cs : List Command). changed_by now cs g.done ≡ changed_by first all unchanged) none g.total in
+    (l.taken tt, l.page, subst (λ (d : Changed). SameChanges changes d) t g.same)
+
+pulls_next : (first : Page) (all : List Move) (now q : Page) (m : Move) (rest : List Move) → q ≡ scrolled_by now m.scroller m.dx m.dy → Pulls first all now (m ∷ rest) → Pulls first all q rest
+pulls_next first all now q m rest e p = record { page = ap (λ (x : Page). pulled rest x) e ∙ p.page; bounded = p.bounded.2 }
+
+-- one pull on
+pub pulls_on : (first : Page) (all : List Move) (i : ℕ) (now q : Page) (d : Move) → i < length all → q ≡ scrolled_by now (get_or all i d).scroller (get_or all i d).dx (get_or all i d).dy
+    → Pulls first all now (drop i all) → Pulls first all q (drop (i + 1) all)
+pulls_on first all i now q d lt e p =
+    pulls_next first all now q (get_or all i d) (drop (i + 1) all) e (subst (λ (ms : List Move). Pulls first all now ms) (drop_more all i d lt) p)

@@ -1,0 +1,75 @@
+-- What ending a main frame promises.
+use Rattle.std.specs.Prelude.{◌≡◌, ℕ, suc, ◌-ℤ◌, Bool, not, ◌||◌, List, [], ◌∷◌, Result, Ok, Err, ⊤}
+use Rattle.std.specs.Ordering.{int_eq}
+use Rattle.cc_region.specs.Lists.{Changed}
+use Rattle.cc_synced.specs.Bounds.{IsBoundedNumber}
+use Rattle.cc_edit.specs.declared.command.Command.{Command}
+use Rattle.cc_edit.specs.declared.fault.EditError.{EditError}
+use Rattle.cc_edit.specs.declared.fault.EditError.TheVariants as error
+use Rattle.cc_edit.specs.Pages.{Page}
+use Rattle.cc_edit.specs.Effects.{after, change_of, retiles}
+use Rattle.cc_edit.specs.Outcomes.{Accepts, Refuses, Lists}
+use Rattle.cc_event.specs.declared.moves.Move.{Move}
+use Rattle.cc_event.specs.Scripts.{ScriptModel}
+use Rattle.cc_event.specs.Axes.{across, down, amount_in}
+use Rattle.cc_event.specs.Scrollers.{main_value}
+use Rattle.cc_event.specs.Frames.{commands_of, page, pulled, commanded, changes}
+use Rattle.cc_event.specs.Accepted.{TakesAll}
+use Rattle.cc_event.specs.Judging.{RefusedIn}
+use Rattle.cc_event.specs.Stamps.{with_command, changed_by, unchanged}
+use Rattle.cc_event.specs.SameChanges.{SameChanges}
+
+-- both parts of each pull are below 2^39 in absolute value
+abbrev pub AreBounded : List Move → Type 0
+AreBounded [] = Unit {0}
+AreBounded (m ∷ ms) = IsBoundedNumber m.dx × IsBoundedNumber m.dy × AreBounded ms
+
+-- what commands changed, with a command more, which acts on this page
+abbrev pub with_next : Page → Command → Changed → Changed
+with_next p c done = record { list = with_command p c done.list; retiled = done.retiled || retiles p c }
+
+-- what a command lists was noted behind what was noted before: where that was right, so is this
+abbrev pub Noted : Command → Changed → Changed → Changed → Type 0
+Noted c listed old new = (p : Page) (done : Changed) → Lists (change_of p c) (retiles p c) listed → SameChanges old done → SameChanges new (with_next p c done)
+
+-- a command was applied and noted; or it was refused; or memory ran out
+abbrev pub TookCommand : Page → Command → Changed → Page → Changed → Result ⊤ EditError → Type 0
+TookCommand p c old q new (Ok done) = Accepts p c × (q ≡ after p c) × ((before : Changed) → SameChanges old before → SameChanges new (with_next p c before))
+TookCommand p c old q new (Err (error.Refused fault)) = Refuses p c fault
+TookCommand p c old q new (Err (error.Memory e)) = ⊤
+
+-- all commands were applied and noted behind nothing; or this one was the first that was refused; or memory ran out
+abbrev pub TookCommands : Page → List Command → Page → Result Changed EditError → Type 0
+TookCommands p cs q (Ok changes) = TakesAll p cs × (q ≡ commanded cs p) × SameChanges changes (changed_by p cs unchanged)
+TookCommands p cs q (Err (error.Refused fault)) = (n : ℕ) × RefusedIn p cs n fault
+TookCommands p cs q (Err (error.Memory e)) = ⊤
+
+-- the pulls were added and the commands applied, and these are their changes; or a command was refused; or memory ran out
+abbrev pub TookFrame : Page → List Move → List Command → Page → Result Changed EditError → Type 0
+TookFrame p ms cs q result = TookCommands (pulled ms p) cs q result
+
+-- the page is one of the script before this frame, which gets these pulls
+abbrev pub StandsBefore : ScriptModel → ℕ → List Move → Page → Type 0
+StandsBefore s k ms p = (ps : ℕ → List Move) × (ps k ≡ ms) × (p ≡ page s ps k)
+
+-- the frame with these pulls leads from the one page to the other, and these are its changes
+pub record EndsFrame (s : ScriptModel) (k : ℕ) (ms : List Move) (p q : Page) (done : Changed) : Type 0 where
+  pub page : q ≡ commanded (commands_of s k) (pulled ms p)
+  pub changes : SameChanges done (changed_by (pulled ms p) (commands_of s k) unchanged)
+
+-- the move is what the pulls have for a scroller
+pub record IsPullOf (sc : ℕ) (ms : List Move) (m : Move) : Type 0 where
+  pub across : m.dx ≡ amount_in sc across ms
+  pub down : m.dy ≡ amount_in sc down ms
+  pub bounded_across : IsBoundedNumber m.dx
+  pub bounded_down : IsBoundedNumber m.dy
+
+-- the main value of a scroller changed by more or less than its pull, where the first page became the second
+abbrev pub is_moved : Page → Page → List Move → ℕ → Bool
+is_moved p q ms sc =
+    not (int_eq (main_value q sc across -ℤ main_value p sc across) (amount_in sc across ms))
+    || not (int_eq (main_value q sc down -ℤ main_value p sc down) (amount_in sc down ms))
+
+-- the answer tells whether this frame changes something, where these are the pages before and after it
+abbrev pub Tells : ScriptModel → ℕ → List Move → Page → Page → Bool → Type 0
+Tells s k ms p q answer = (ps : ℕ → List Move) → ps k ≡ ms → p ≡ page s ps k → q ≡ page s ps (suc k) → answer ≡ changes s ps k
