@@ -7,3 +7,4 @@ mod NodeLaws
 pub mod Pixels
 pub mod Plain
 pub mod ScriptLaws
+pub mod OneAnswer

@@ -1,12 +1,17 @@
--- What `read_parts` answers for a text.
+-- What `read_parts` and `read_script` answer for a text.
 use Rattle.std.specs.Prelude.{◌≡◌, ℕ, List, Some, None, Result, Ok, Err, ⊤}
 use Rattle.std.specs.Str.{IsUtf8}
 use Rattle.serde_json.specs.Data.{Data}
 use Rattle.serde_json.specs.Read.{read}
+use Rattle.cc_event.specs.Accepted.{IsAccepted}
+use Rattle.cc_event.specs.Frames.{blank}
+use Rattle.cc_event.specs.Judging.{RefusedAt}
 use Rattle.cc_event.specs.Scripts.{ScriptModel, script_of}
 use Rattle.cc_event.specs.declared.script_parts.ScriptParts.{ScriptParts}
 use Rattle.cc_script.specs.declared.fault.PartsFault.{PartsFault}
 use Rattle.cc_script.specs.declared.fault.PartsFault.TheVariants.{Json, Shape, Memory}
+use Rattle.cc_script.specs.declared.text_fault.TextFault.{TextFault}
+use Rattle.cc_script.specs.declared.text_fault.TextFault.TheVariants as text
 use Rattle.cc_script.specs.Reading.{parts_at}
 
 -- the bytes are a JSON text of this value
@@ -24,3 +29,21 @@ PartsCause bytes (Err Json) = IsUtf8 bytes → read bytes ≡ None
 PartsCause bytes (Err (Shape list index field)) =
     (d : Data) × IsTextOf bytes d × (parts_at d ≡ Err (record { list = list; index = index; field = field }))
 PartsCause bytes (Err (Memory e)) = ⊤
+
+-- why this is the answer for these bytes: they are no JSON; or of a value with this first fault; or of a script whose first refused command is this one; or of this script, which is accepted
+abbrev pub ScriptCause : List ℕ → Result ScriptModel TextFault → Type 0
+ScriptCause bytes (Ok s) = IsScriptText bytes s × IsAccepted s
+ScriptCause bytes (Err text.Json) = IsUtf8 bytes → read bytes ≡ None
+ScriptCause bytes (Err (text.Shape list index field)) =
+    (d : Data) × IsTextOf bytes d × (parts_at d ≡ Err (record { list = list; index = index; field = field }))
+ScriptCause bytes (Err (text.Script frame command fault)) =
+    (s : ScriptModel) × IsScriptText bytes s × RefusedAt (blank s) s.main frame command fault
+ScriptCause bytes (Err (text.Memory e)) = ⊤
+
+-- an answer that is not want of memory
+abbrev pub IsTold : Result ScriptModel TextFault → Type 0
+IsTold (Err (text.Memory e)) = ⊥
+IsTold (Err text.Json) = ⊤
+IsTold (Err (text.Shape list index field)) = ⊤
+IsTold (Err (text.Script frame command fault)) = ⊤
+IsTold (Ok s) = ⊤

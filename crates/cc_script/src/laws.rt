@@ -1,10 +1,12 @@
 //! Laws of reading and printing.
 
-ghost use Rattle.std.specs.Prelude.{◌≡◌, ℕ, List, true, Ok};
+ghost use Rattle.std.specs.Prelude.{◌≡◌, ℕ, List, true, Ok, Result};
 ghost use Rattle.serde_json.specs.Data.{Data};
 ghost use Rattle.cc_event.specs.Ranges.{is_in_ranges};
 ghost use Rattle.cc_event.specs.Scripts.{ScriptModel};
-ghost use Rattle.cc_script.specs.Causes.{IsScriptText};
+ghost use Rattle.cc_event.specs.Accepted.{IsAccepted};
+ghost use Rattle.cc_script.specs.declared.text_fault.TextFault.{TextFault};
+ghost use Rattle.cc_script.specs.Causes.{IsScriptText, ScriptCause, IsTold};
 ghost use Rattle.cc_script.specs.Reading.{parts_at};
 ghost use Rattle.cc_script.specs.ScriptValue.{parts_data};
 
@@ -22,4 +24,15 @@ pub fn parts_are_in_ranges()
 /// Bytes are the text of one script at most.
 pub fn a_text_has_one_script()
     ensures { (bytes : List ℕ) (s t : ScriptModel) → IsScriptText bytes s → IsScriptText bytes t → s ≡ t }
+{}
+
+/// Bytes have one answer: the script that they are, or one fault. So where they are no JSON, have a
+/// fault of shape or a refused command, `read_script` tells so, and nowhere else.
+pub fn a_text_has_one_answer()
+    ensures { (bytes : List ℕ) (r q : Result ScriptModel TextFault) → IsTold r → IsTold q → ScriptCause bytes r → ScriptCause bytes q → r ≡ q }
+{}
+
+/// The value of each accepted script reads back as that script.
+pub fn accepted_scripts_read_back()
+    ensures { (s : ScriptModel) → IsAccepted s → parts_at (parts_data s) ≡ Ok s }
 {}

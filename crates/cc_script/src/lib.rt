@@ -7,10 +7,14 @@ pub mod laws;
 mod op;
 mod print;
 mod read;
+mod script;
+mod text_fault;
 
 pub use fault::PartsFault;
 pub use print::parts::print_parts;
 pub use read::parts::read_parts;
+pub use script::{print_script, read_script};
+pub use text_fault::TextFault;
 
 #[cfg(test)]
 mod tests;

@@ -3,6 +3,8 @@ use super::*;
 use std::alloc::{AllocError, Global};
 use std::test::Fail;
 
+mod acceptance;
+
 /// A page of one layer with one item, one main frame and two inputs.
 const PAGE: &str =
     r#"{"background":"000000","budget":8,"eventually":0,"inputs":[{"frame":0,"op":"await"},{"op":"draw"}],"main":[[{"at":0,"clip":0,"colour":"00000000","effect":0,"h":1,"id":1,"op":"add_layer","transform":0,"w":2},{"at":0,"colour":"ff0000ff","layer":1,"op":"insert_item","rect":[0,0,1,1]}]],"priority":"same","raster_per_frame":4,"soon":0,"tile":16,"version":1,"viewport":[2,1]}"#;
