@@ -5,7 +5,7 @@ PLAYER := build/cc_player
 
 help:
 	@echo 'make demo      builds the program, plays examples/first.json, leaves recording and picture in build/'
-	@echo 'make pictures  plays every script in examples/ and leaves the pictures in build/'
+	@echo 'make pictures  plays every script in examples/ and leaves each picture in build/ as .ppm and .png'
 	@echo 'make check     the gate: all proofs, edits, tests and programs (rt ci)'
 	@echo 'make clean     removes build/'
 
@@ -21,11 +21,13 @@ demo: $(PLAYER)
 	$(PLAYER) step 1 < examples/first.json > build/first.rec
 	python3 tools/pictures.py build/first.rec build/first
 
+# tools/pictures.py writes PNG files by itself: no other tool is needed.
 pictures: $(PLAYER)
 	@for script in examples/*.json; do \
 		name=$$(basename $$script .json); \
-		$(PLAYER) step 1 < $$script > build/$$name.rec || exit 1; \
-		python3 tools/pictures.py build/$$name.rec build/$$name || exit 1; \
+		$(PLAYER) step 1 < $$script > build/$$name.rec \
+			&& python3 tools/pictures.py build/$$name.rec build/$$name \
+			|| { echo "$$script: no picture" >&2; exit 1; }; \
 	done
 
 check: kit

@@ -1,7 +1,6 @@
 -- What a source gave is what it had.
-use Rattle.std.proofs.Common.{◌≡◌, ℕ, ◌+◌, ◌≤◌, ◌<◌, List, [], ◌++◌, length, None, Some, ap, sym, ◌∙◌, arith, subst, append-nil, length-append}
+use Rattle.std.proofs.Common.{◌≡◌, ℕ, ◌+◌, ◌<◌, List, [], ◌++◌, length, None, Some, ap, sym, ◌∙◌, arith, subst, append-nil, length-append}
 use Rattle.std.specs.Prelude.{Option, IfSome}
-use Rattle.std.specs.Io.KnownBytes.{Consumes, IsAtEnd}
 use Rattle.cc_play.specs.Inputs.{GaveAll, GaveMore}
 
 -- what holds of the bytes that a source gave to its end holds of those that it had

@@ -3,5 +3,8 @@ pub mod Words
 pub mod Parts
 pub mod Writing
 pub mod Outcomes
-pub mod Pages
+pub mod Forms
+pub mod Histories
+pub mod Pictures
 pub mod Runs
+pub mod Pages

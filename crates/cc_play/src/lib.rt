@@ -1,9 +1,11 @@
-//! What the program does with its words: `step 1` plays a script of one flat page into its recording.
+//! What the program does with its words: `step 1` plays a script of one main frame into its recording.
 //!
 //! The modules stand in the order in which a run meets them: the words, the input, the program that joins
 //! all, the picture, the recorder, and the notes that tell the outcome.
 #![tactic(auto)]
 
+mod form;
+mod history;
 mod input;
 mod notes;
 mod outcome;

@@ -130,6 +130,27 @@ fn put_usage<E: Sink>(notes: &mut E, word: u32) -> Result<(), PutFault>
     )
 }
 
+/// Puts the place of the first fault of a value that is no script.
+fn put_shape<E: Sink>(notes: &mut E, list: u32, index: u32, field: u32) -> Result<(), PutFault>
+    ensures bytes { PutsAll (E.held notes.old) (E.held notes.new) (line_of (Outcome.Shape list index field)) result }
+    ensures grows { E.faults notes.old ≤ E.faults notes.new }
+    ensures refused { E.refusals notes.old ≤ E.refusals notes.new }
+    ensures cause { PutCause (E.faults notes.old) (E.faults notes.new) (E.refusals notes.old) (E.refusals notes.new) result }
+{
+    put_parts(
+        notes,
+        &[
+            Part::Text(b"cc: shape: list "),
+            Part::Count(u64::from(list)),
+            Part::Text(b" index "),
+            Part::Count(u64::from(index)),
+            Part::Text(b" field "),
+            Part::Count(u64::from(field)),
+            Part::Text(b"\n"),
+        ],
+    )
+}
+
 /// Puts the line of an outcome.
 fn put_line<E: Sink>(notes: &mut E, outcome: Outcome) -> Result<(), PutFault>
     ensures bytes { PutsAll (E.held notes.old) (E.held notes.new) (line_of outcome) result }
@@ -141,6 +162,7 @@ fn put_line<E: Sink>(notes: &mut E, outcome: Outcome) -> Result<(), PutFault>
         Outcome::Done => put_parts(notes, &[]),
         Outcome::Usage { word } => put_usage(notes, word),
         Outcome::Json => notes.put(b"cc: not JSON\n"),
+        Outcome::Shape { list, index, field } => put_shape(notes, list, index, field),
         Outcome::Script {
             frame,
             command,

@@ -1,35 +1,44 @@
 //! The words, the input and the output of one run.
 
-ghost use Rattle.std.specs.Prelude.{◌≡◌, ℕ, ◌≤◌, Option, None, Some, IfSome, IfOk, length, map, string_bytes};
+ghost use Rattle.std.specs.Prelude.{◌≡◌, ℕ, ◌≤◌, true, false, [], Option, None, Some, IfSome, IfOk, MatchOption, length, map, string_bytes};
+ghost use Rattle.cc_tree.specs.OffsetMap.{offset_at, AreOffsets};
+ghost use Rattle.cc_event.specs.Recordings.{image};
+ghost use Rattle.cc_edit.specs.Effects.{value_of};
+ghost use Rattle.cc_play.specs.Forms.{is_played, page_of};
+ghost use Rattle.cc_play.specs.Pictures.{picture};
 ghost use Rattle.cc_play.specs.Words.{usage_of};
 ghost use Rattle.cc_play.specs.Outcomes.{line_of, Told};
 ghost use Rattle.cc_play.specs.Runs.{script_limit, TellsMisfit, CauseOf, ReadToEnd, Writes, Causes, IsComplete};
 ghost use Rattle.cc_play.specs.Pages.{IsReady, IsPrepared, PageIn, PageOf, PageFrom, RefusedBy, Plays};
 
+use crate::form::{is_plain_script, is_still};
+use crate::history::history_of;
 use crate::input::{ReadStop, read_all};
 use crate::notes::tell;
 use crate::outcome::{Outcome, ScriptFault};
 use crate::picture::image_of;
 use crate::recorder::{WriteStop, write_recording};
 use crate::words::misfit;
-use cc_event::{Event, ScriptParts};
-use cc_flat::{FlatLayer, flat_page, history_of, keys_in_order, view_of};
+use cc_edit::{LayerTree, Painting, View, main_offsets};
+use cc_event::{Event, Script, visible_keys};
 use cc_io::{Sink, Source};
-use cc_script::{PartsFault, print_parts, read_parts};
+use cc_pixel::Colour;
+use cc_script::{TextFault, print_script, read_script};
+use cc_tree::Offsets;
 use std::alloc::{AllocError, Global};
 use std::thread::Threads;
 
 /// The greatest number of bytes of a script.
 const SCRIPT_LIMIT: usize = 16777216;
 
-/// A script that makes and shows one flat page, with that page's layers.
+/// A script that is played, and its page.
 #[derive(Drop)]
-struct FlatScript {
-    parts: ScriptParts,
-    layers: Vec<FlatLayer>,
+struct Played {
+    script: Script,
+    tree: LayerTree,
 }
 
-/// What is written of a flat page: the script's line, the image of its picture, and its events.
+/// What is written of a page: the script's line, the image of its picture, and its events.
 #[derive(Drop)]
 struct Show {
     script: Vec<u8>,
@@ -48,47 +57,96 @@ fn not_built() -> Outcome
     }
 }
 
-/// The flat page of a script, or why there is none.
-fn page_of(alloc: Global, parts: ScriptParts) -> Result<FlatScript, Outcome>
-    ensures { PageOf parts result }
+/// The main scroll values of a page as offsets.
+fn main_values(alloc: Global, tree: &LayerTree) -> Result<Offsets, AllocError>
+    ensures values { IfOk result (λ offsets. offset_at offsets ≡ value_of tree.now) }
+    ensures in_range { IfOk result (λ offsets. AreOffsets (offset_at offsets)) }
 {
-    match flat_page(alloc, &parts) {
-        Ok(Some(layers)) => Ok(FlatScript { parts, layers }),
+    main_offsets(alloc, tree)
+}
+
+/// The page of a script that is played; None where it is not.
+#[tactic(auto, unfolding(crate::specs::Forms::is_played))]
+fn tree_of(alloc: Global, script: &Script) -> Result<Option<LayerTree>, AllocError>
+    ensures { IfOk result (λ page. MatchOption page (is_played script.now ≡ false) (λ tree. (is_played script.now ≡ true) × (tree ≡ page_of script.now))) }
+{
+    if !is_plain_script(script) {
+        return Ok(None);
+    }
+    let tree = script.page(alloc)?;
+    let offsets = main_values(alloc, &tree)?;
+    if !is_still(alloc, script.raster_per_frame(), &tree, &offsets)? {
+        return Ok(None);
+    }
+    Ok(Some(tree))
+}
+
+/// The page of a script, or why it is not played.
+fn page_of_script(alloc: Global, script: Script) -> Result<Played, Outcome>
+    ensures { PageOf script result }
+{
+    script.is_accepted();
+    match tree_of(alloc, &script) {
+        Ok(Some(tree)) => Ok(Played { script, tree }),
         Ok(None) => Err(not_built()),
         Err(_) => Err(Outcome::Memory),
     }
 }
 
-/// The flat page that a text's script makes and shows, or why there is none.
-fn page_in(alloc: Global, bytes: &[u8]) -> Result<FlatScript, Outcome>
+/// The page of a text's script, or why there is none.
+fn page_in(alloc: Global, bytes: &[u8]) -> Result<Played, Outcome>
     requires { length bytes.now ≤ script_limit }
     ensures { PageIn bytes.now result }
 {
-    match read_parts(alloc, bytes) {
-        Ok(parts) => page_of(alloc, parts),
-        Err(PartsFault::Json) => Err(Outcome::Json),
-        Err(PartsFault::Shape { .. }) => Err(not_built()),
-        Err(PartsFault::Memory(_)) => Err(Outcome::Memory),
+    match read_script(alloc, bytes) {
+        Ok(script) => page_of_script(alloc, script),
+        Err(TextFault::Json) => Err(Outcome::Json),
+        Err(TextFault::Shape { list, index, field }) => Err(Outcome::Shape { list, index, field }),
+        Err(
+            TextFault::Script {
+                frame,
+                command,
+                fault,
+            },
+        ) => Err(Outcome::Script {
+            frame,
+            command,
+            fault: ScriptFault::Edit(fault),
+        }),
+        Err(TextFault::Memory(_)) => Err(Outcome::Memory),
     }
 }
 
-/// What is to be written of a page.
-fn prepare(alloc: Global, page: &FlatScript) -> Result<Show, AllocError>
-    requires { IsReady page.now }
-    ensures { IfOk result (IsPrepared page.now) }
+/// The image of a page at these offsets, with no tile missing.
+fn image_at(
+    alloc: Global,
+    tree: &LayerTree,
+    offsets: &Offsets,
+    background: Colour,
+    view: View,
+) -> Result<Vec<u8>, AllocError>
+    requires offsets { AreOffsets (offset_at offsets.now) }
+    requires across { view.w ≤ 2048 }
+    requires down { view.h ≤ 2048 }
+    ensures { IfOk result (λ text. text.items ≡ image (picture tree.now (offset_at offsets.now) [] background) view.w view.h) }
 {
-    let parts = &page.parts;
-    let layers = page.layers.as_slice();
-    let keys = keys_in_order(alloc, &view_of(parts), layers)?;
-    let events = history_of(alloc, keys.as_slice(), parts.inputs.as_slice())?;
-    let image = image_of(
-        alloc,
-        layers,
-        parts.background,
-        parts.viewport_w,
-        parts.viewport_h,
-    )?;
-    let script = print_parts(alloc, parts)?;
+    let mut painting = Painting::new(alloc, tree, offsets, &[])?;
+    image_of(alloc, &mut painting, background, view.w, view.h)
+}
+
+/// What is to be written of a page.
+fn prepare(alloc: Global, page: &Played) -> Result<Show, AllocError>
+    requires { IsReady page.now }
+    ensures { IfOk result (IsPrepared page.now.script) }
+{
+    let tree = &page.tree;
+    tree.is_page();
+    let offsets = main_values(alloc, tree)?;
+    let keys = visible_keys(alloc, tree, &offsets, 0)?;
+    let events = history_of(alloc, keys.as_slice(), page.script.inputs())?;
+    let background = page.script.background();
+    let image = image_at(alloc, tree, &offsets, background, tree.view())?;
+    let script = print_script(alloc, &page.script)?;
     Ok(Show {
         script,
         image,
@@ -97,9 +155,9 @@ fn prepare(alloc: Global, page: &FlatScript) -> Result<Show, AllocError>
 }
 
 /// Writes the recording of a page.
-fn play<K: Sink>(alloc: Global, out: &mut K, page: &FlatScript) -> Outcome
+fn play<K: Sink>(alloc: Global, out: &mut K, page: &Played) -> Outcome
     requires { IsReady page.now }
-    ensures plays { Plays page.now (K.held out.old) (K.held out.new) result }
+    ensures plays { Plays page.now.script (K.held out.old) (K.held out.new) result }
     ensures grows { K.faults out.old ≤ K.faults out.new }
     ensures cause { Causes 0 0 (K.faults out.old) (K.faults out.new) result }
 {
@@ -120,7 +178,7 @@ fn play<K: Sink>(alloc: Global, out: &mut K, page: &FlatScript) -> Outcome
 }
 
 /// Reads the source to its end, and the script in it.
-fn read_page<S: Source>(alloc: Global, source: &mut S) -> Result<FlatScript, Outcome>
+fn read_page<S: Source>(alloc: Global, source: &mut S) -> Result<Played, Outcome>
     ensures page { PageFrom (S.left source.old) (S.left source.new) result }
     ensures grows { S.faults source.old ≤ S.faults source.new }
     ensures cause { RefusedBy (S.faults source.old) (S.faults source.new) result }

@@ -6,6 +6,9 @@ use std::alloc::{AllocError, Global};
 use std::test::Fail;
 use std::thread::Threads;
 
+mod pages;
+mod shapes;
+
 /// A script of one layer with one red pixel, drawn once.
 const SCRIPT: &str =
     "{\"background\":\"000000\",\"budget\":8,\"eventually\":0,\"inputs\":[{\"frame\":0,\"op\":\"await\"},{\"op\":\"draw\"}],\"main\":[[{\"at\":0,\"clip\":0,\"colour\":\"00000000\",\"effect\":0,\"h\":1,\"id\":1,\"op\":\"add_layer\",\"transform\":0,\"w\":2},{\"at\":0,\"colour\":\"ff0000ff\",\"layer\":1,\"op\":\"insert_item\",\"rect\":[0,0,1,1]}]],\"priority\":\"same\",\"raster_per_frame\":4,\"soon\":0,\"tile\":16,\"version\":1,\"viewport\":[2,1]}";
@@ -228,38 +231,86 @@ fn changed(alloc: Global, old: &str, new: &str) -> Result<String, AllocError> {
     SCRIPT.replace(alloc, old, new)
 }
 
-/// Changes of the script, and how a run of each ends: no JSON, no script of this form, or played.
+/// How a run of a changed script ends: its status, and the line in the notes.
 const NOT_JSON: (u8, &str) = (3, "cc: not JSON\n");
 
 const NOT_BUILT: (u8, &str) = (5, "cc: script: frame 0 command 0: not built\n");
 
 const PLAYED: (u8, &str) = (0, "");
 
-const CHANGES: [(&str, &str, (u8, &str)); 34] = [
+const CHANGES: [(&str, &str, (u8, &str)); 41] = [
     ("{\"background\"", "\"background\"", NOT_JSON),
     ("[2,1]}", "[2,1]", NOT_JSON),
     ("[2,1]}", "[2,1]}}", NOT_JSON),
     ("\"soon\":0", "\"soon\":", NOT_JSON),
     ("\"soon\":0", "\"soon\":00", NOT_JSON),
-    ("\"version\":1", "\"version\":2", NOT_BUILT),
-    ("\"version\":1", "\"version\":3", NOT_BUILT),
-    ("\"version\":1", "\"version\":1,\"z\":0", NOT_BUILT),
-    ("[2,1]}", "[1025,1]}", NOT_BUILT),
-    ("[2,1]}", "[2]}", NOT_BUILT),
-    ("\"tile\":16", "\"tile\":15", NOT_BUILT),
-    ("\"tile\":16", "\"tile\":16.0", NOT_BUILT),
+    ("\"version\":1", "\"version\":2", PLAYED),
+    (
+        "\"version\":1",
+        "\"version\":3",
+        (4, "cc: shape: list 0 index 0 field 1\n"),
+    ),
+    (
+        "\"version\":1",
+        "\"version\":1,\"z\":0",
+        (4, "cc: shape: list 0 index 0 field 99\n"),
+    ),
+    (
+        "[2,1]}",
+        "[1025,1]}",
+        (4, "cc: shape: list 0 index 0 field 2\n"),
+    ),
+    ("[2,1]}", "[2]}", (4, "cc: shape: list 0 index 0 field 2\n")),
+    (
+        "\"tile\":16",
+        "\"tile\":15",
+        (4, "cc: shape: list 0 index 0 field 3\n"),
+    ),
+    (
+        "\"tile\":16",
+        "\"tile\":16.0",
+        (4, "cc: shape: list 0 index 0 field 3\n"),
+    ),
     ("\"tile\":16", "\"tile\":256", PLAYED),
-    ("\"tile\":16", "\"tile\":257", NOT_BUILT),
-    ("\"soon\":0", "\"soon\":513", NOT_BUILT),
-    ("\"soon\":0", "\"soon\":4", NOT_BUILT),
+    (
+        "\"tile\":16",
+        "\"tile\":257",
+        (4, "cc: shape: list 0 index 0 field 3\n"),
+    ),
+    (
+        "\"soon\":0",
+        "\"soon\":513",
+        (4, "cc: shape: list 0 index 0 field 7\n"),
+    ),
+    (
+        "\"soon\":0",
+        "\"soon\":4",
+        (4, "cc: shape: list 0 index 0 field 8\n"),
+    ),
     ("\"eventually\":0", "\"eventually\":512", PLAYED),
-    ("\"000000\"", "\"FFFFFF\"", NOT_BUILT),
+    (
+        "\"000000\"",
+        "\"FFFFFF\"",
+        (4, "cc: shape: list 0 index 0 field 4\n"),
+    ),
     ("\"000000\"", "\"ffffff\"", PLAYED),
-    ("\"budget\":8", "\"budget\":4097", NOT_BUILT),
+    (
+        "\"budget\":8",
+        "\"budget\":4097",
+        (4, "cc: shape: list 0 index 0 field 5\n"),
+    ),
     ("\"budget\":8", "\"budget\":0", PLAYED),
     ("\"same\"", "\"smooth\"", PLAYED),
-    ("\"same\"", "\"Same\"", NOT_BUILT),
-    ("\"frame\":0", "\"frame\":1", NOT_BUILT),
+    (
+        "\"same\"",
+        "\"Same\"",
+        (4, "cc: shape: list 0 index 0 field 9\n"),
+    ),
+    (
+        "\"frame\":0",
+        "\"frame\":1",
+        (4, "cc: shape: list 1 index 0 field 1\n"),
+    ),
     ("{\"frame\":0,\"op\":\"await\"},", "", NOT_BUILT),
     (
         "[{\"frame\":0,\"op\":\"await\"},{\"op\":\"draw\"}]",
@@ -267,13 +318,65 @@ const CHANGES: [(&str, &str, (u8, &str)); 34] = [
         PLAYED,
     ),
     ("{\"op\":\"draw\"}", "{\"op\":\"settle\"}", NOT_BUILT),
-    ("\"w\":2}", "\"w\":3}", NOT_BUILT),
-    ("\"w\":2}", "\"w\":0}", NOT_BUILT),
-    ("\"clip\":0", "\"clip\":1", NOT_BUILT),
-    ("\"layer\":1", "\"layer\":2", NOT_BUILT),
-    ("\"ff0000ff\"", "\"ff000080\"", NOT_BUILT),
+    (
+        "{\"op\":\"draw\"}",
+        "1",
+        (4, "cc: shape: list 1 index 1 field 0\n"),
+    ),
+    ("\"w\":2}", "\"w\":3}", PLAYED),
+    ("\"w\":2}", "\"w\":17}", NOT_BUILT),
+    (
+        "\"w\":2}",
+        "\"w\":0}",
+        (
+            5,
+            "cc: script: frame 0 command 0: 0 out of range, limit 1\n",
+        ),
+    ),
+    (
+        "\"w\":2}",
+        "\"w\":16385}",
+        (
+            5,
+            "cc: script: frame 0 command 0: 16385 out of range, limit 16384\n",
+        ),
+    ),
+    (
+        "\"clip\":0",
+        "\"clip\":1",
+        (5, "cc: script: frame 0 command 0: unknown id\n"),
+    ),
+    (
+        "\"layer\":1",
+        "\"layer\":2",
+        (5, "cc: script: frame 0 command 1: unknown id\n"),
+    ),
+    (
+        "\"at\":0,\"colour\":\"ff0000ff\"",
+        "\"at\":1,\"colour\":\"ff0000ff\"",
+        (5, "cc: script: frame 0 command 1: bad place\n"),
+    ),
+    (
+        "\"ff0000ff\"",
+        "\"ff000080\"",
+        (4, "cc: shape: list 2 index 1 field 4\n"),
+    ),
+    (
+        "\"colour\":\"ff0000ff\"",
+        "\"colour\":\"ff0000ff\",\"pixels\":\"ff0000ff\"",
+        (4, "cc: shape: list 2 index 1 field 4\n"),
+    ),
+    ("\"colour\":\"ff0000ff\"", "\"pixels\":\"ff0000ff\"", PLAYED),
     ("[0,0,1,1]", "[0,0,16384,16384]", PLAYED),
-    ("[0,0,1,1]", "[0,0,0,1]", NOT_BUILT),
+    (
+        "[0,0,1,1]",
+        "[0,0,0,1]",
+        (
+            5,
+            "cc: script: frame 0 command 1: 0 out of range, limit 1\n",
+        ),
+    ),
+    ("\"raster_per_frame\":4", "\"raster_per_frame\":0", PLAYED),
 ];
 
 #[test]
@@ -374,7 +477,9 @@ fn a_page_has_at_most_sixty_four_layers(rt: HostRuntime) -> Result<(), Fail> {
         )
     );
     let over = played(&rt, rt.alloc(), layers_below(rt.alloc(), 66)?.as_str())?;
-    assert_eq!(rt; over.outcome.status(), 5);
+    assert!(rt;
+        over.notes.bytes() == b"cc: script: frame 0 command 65: too many, limit 64\n".as_slice()
+    );
     Ok(())
 }
 
@@ -400,7 +505,9 @@ fn a_layer_has_at_most_256_items(rt: HostRuntime) -> Result<(), Fail> {
         )
     );
     let over = played(&rt, rt.alloc(), items_below(rt.alloc(), 256)?.as_str())?;
-    assert_eq!(rt; over.outcome.status(), 5);
+    assert!(rt;
+        over.notes.bytes() == b"cc: script: frame 0 command 257: too many, limit 256\n".as_slice()
+    );
     Ok(())
 }
 

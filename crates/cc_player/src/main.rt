@@ -22,7 +22,8 @@ status:
    0  done
    2  the words fit no use
    3  the input is no JSON
-   5  the script is of a form that is not played
+   4  the input is no script: list, index and field of the first fault are told
+   5  a command is refused, or the script is of a form that is not played
    6  standard input could not be read
    7  standard output could not be written
    8  the script is longer than 16777216 bytes

@@ -1,5 +1,5 @@
 -- The pieces before, the piece in hand and the pieces left are the whole.
-use Rattle.std.proofs.Common.{◌≡◌, ◌++◌, arith}
+use Rattle.std.proofs.Common.{◌++◌, arith}
 use Rattle.std.specs.List.{flat_map}
 use Rattle.cc_play.specs.Parts.{part_text}
 use Rattle.cc_play.proofs.Gains.{gains_both, gains_front, piece_moves}

@@ -1,5 +1,5 @@
 -- The events before, the event in hand and the events left are the whole.
-use Rattle.std.proofs.Common.{◌≡◌, ◌++◌, ◌≤◌, arith}
+use Rattle.std.proofs.Common.{◌++◌, arith}
 use Rattle.std.specs.List.{flat_map}
 use Rattle.cc_event.specs.Recordings.{piece}
 use Rattle.cc_play.proofs.Gains.{gains_both, gains_front, part_moves, part_stops}

@@ -1,5 +1,5 @@
 -- The header, the events, and what was held back are the recording.
-use Rattle.std.proofs.Common.{◌≡◌, ℕ, List, ◌++◌, ◌∙◌, subst}
+use Rattle.std.proofs.Common.{ℕ, List, ◌∙◌, subst}
 use Rattle.cc_io.specs.Pieces.{GainsPrefix}
 use Rattle.cc_play.proofs.Gains.{recording_alike, written_after}
 use Rattle.cc_play.proofs.recorder.write_recording.Goals as goal

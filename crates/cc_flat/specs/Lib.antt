@@ -1,4 +1,0 @@
-pub mod Pages
-pub mod Tiles
-pub mod Histories
-pub mod Forms
