@@ -1,0 +1,14 @@
+pub mod PastSteps
+pub mod MovedPlaces
+pub mod KeyedFacts
+pub mod JudgeSums
+pub mod JudgeBounds
+pub mod JudgeLists
+pub mod JudgeOffsets
+pub mod JudgeHits
+pub mod JudgeWheels
+pub mod JudgeInputs
+pub mod Worst
+pub mod TreeKeys
+pub mod Pushed
+pub mod Stocked

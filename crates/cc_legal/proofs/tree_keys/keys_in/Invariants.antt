@@ -1,0 +1,9 @@
+-- The keys of the layers so far were added.
+use Rattle.std.proofs.Common.{◌≡◌, map, take}
+use Rattle.std.specs.List.{flat_map}
+use Rattle.cc_edit.specs.Layers.{parts_of}
+use Rattle.cc_legal.specs.FrameStamps.{layer_keys}
+use Rattle.cc_legal.proofs.tree_keys.keys_in.Given as goal
+
+abbrev pub invariant-loop-layer : goal.invariant-loop-layer
+invariant-loop-layer l = l.keys.items ≡ flat_map (layer_keys l.frames l.page) (map (λ k. parts_of k.now) (take l.layer-index l.layers))
