@@ -14,6 +14,3 @@ pub use laws::nodes_follow_their_parents;
 pub use nodes::{ClipNode, EffectNode, ScrollNode, TransformNode};
 pub use offsets::Offsets;
 pub use trees::PropertyTrees;
-
-#[cfg(test)]
-mod tests;
