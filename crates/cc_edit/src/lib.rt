@@ -28,6 +28,3 @@ pub use tree::LayerTree;
 pub use tree_paint::{Painting, paint_at};
 pub use value_offsets::main_offsets;
 pub use view::View;
-
-#[cfg(test)]
-mod tests;
