@@ -46,6 +46,3 @@ pub use script::Script;
 pub use script_error::ScriptError;
 pub use script_parts::ScriptParts;
 pub use visible::{by_id, visible_keys, visible_places};
-
-#[cfg(test)]
-mod tests;
