@@ -15,6 +15,3 @@ pub use print::parts::print_parts;
 pub use read::parts::read_parts;
 pub use script::{print_script, read_script};
 pub use text_fault::TextFault;
-
-#[cfg(test)]
-mod tests;
