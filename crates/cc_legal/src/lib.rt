@@ -138,6 +138,3 @@ pub fn may_come(
     }
     is_due(alloc, script, past, &entry.event)
 }
-
-#[cfg(test)]
-mod tests;
