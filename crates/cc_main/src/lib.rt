@@ -11,6 +11,3 @@ mod main_end;
 
 pub use host::MainHost;
 pub use main_end::MainEnd;
-
-#[cfg(test)]
-mod tests;
