@@ -13,8 +13,6 @@ mod parts;
 mod picture;
 mod program;
 mod recorder;
-#[cfg(test)]
-mod tests;
 mod words;
 
 pub use outcome::{Outcome, ScriptFault};
