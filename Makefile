@@ -19,14 +19,14 @@ $(PLAYER): kit
 
 demo: $(PLAYER)
 	$(PLAYER) step 1 < examples/first.json > build/first.rec
-	python3 tools/pictures.py build/first.rec build/first
+	python3 tools/recording.py pictures build/first.rec build/first
 
-# tools/pictures.py writes PNG files by itself: no other tool is needed.
+# tools/recording.py writes PNG files by itself: no other tool is needed.
 pictures: $(PLAYER)
 	@for script in examples/*.json; do \
 		name=$$(basename $$script .json); \
 		$(PLAYER) step 1 < $$script > build/$$name.rec \
-			&& python3 tools/pictures.py build/$$name.rec build/$$name \
+			&& python3 tools/recording.py pictures build/$$name.rec build/$$name \
 			|| { echo "$$script: no picture" >&2; exit 1; }; \
 	done
 
