@@ -1,0 +1,5 @@
+pub mod Views
+pub mod Pixels
+pub mod Sound
+pub mod Opaque
+pub mod Laws
