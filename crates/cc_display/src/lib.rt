@@ -13,6 +13,7 @@ mod raster;
 pub use bitmap::{BadBitmap, Bitmap, BitmapCause};
 pub use item::Item;
 pub use list::DisplayList;
+pub use part::{Part, shared_part};
 
 #[cfg(test)]
 mod tests;

@@ -20,13 +20,13 @@ pub(crate) struct Run {
 
 /// The part of an area that a rect covers.
 #[derive(Clone, Copy)]
-pub(crate) struct Part {
+pub struct Part {
     /// The part, counted from the area's top left corner.
-    pub(crate) at: Area,
+    pub at: Area,
     /// How many columns of the rect lie left of it.
-    pub(crate) left: usize,
+    pub left: usize,
     /// How many rows of the rect lie above it.
-    pub(crate) above: usize,
+    pub above: usize,
 }
 
 /// The number behind the last of a span.
@@ -64,8 +64,8 @@ fn shared_run(at: i32, len: i32, from: i32, count: i32) -> Option<Run>
     }
 }
 
-/// The part of an area that a rect covers; `None` where it covers no point of it.
-pub(crate) fn shared_part(rect: Rect, area: Rect) -> Option<Part>
+/// The part of an area that a rect covers; `None` exactly where it covers no point of it.
+pub fn shared_part(rect: Rect, area: Rect) -> Option<Part>
     requires rect { IsSound rect }
     requires area { IsSound area }
     ensures { MatchOption result (IsOutside rect area) (λ part. IsShared rect area part) }
