@@ -1,5 +1,6 @@
 pub mod Blocks
 pub mod Cuts
+pub mod KeyLists
 pub mod KeyOrders
 pub mod Meets
 pub mod Runs

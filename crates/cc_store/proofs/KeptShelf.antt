@@ -10,7 +10,7 @@ use Rattle.cc_geom.specs.declared.tile.TileKey.{TileKey}
 use Rattle.cc_geom.specs.KeyOrder.{key_cmp}
 use Rattle.cc_store.specs.declared.held.Held.{Held}
 use Rattle.cc_store.specs.declared.held.Tile.{Tile}
-use Rattle.cc_store.specs.Stores.{names}
+use Rattle.cc_geom.specs.KeyLists.{has_key}
 use Rattle.cc_store.specs.Rows.{if_live}
 use Rattle.cc_store.specs.Shelves.{shown, rows, After, Rises, AreKept, AreSame, HasTileOf, IsShelf, stays, marked}
 use Rattle.cc_store.proofs.Marks.{rises_marked}
@@ -77,12 +77,12 @@ module _ (first new : Slab Tile) (held now : List Held) (live : List TileKey) (s
         few = omega (arith, shelf.few, ap length is, length_filter test marks, length-map held (marked live));
       }
 
-  pub kept_map : (q : TileKey) → fin.get (held_map new now) q ≡ if_live (names live q) (fin.get (held_map first held) q)
+  pub kept_map : (q : TileKey) → fin.get (held_map new now) q ≡ if_live (has_key live q) (fin.get (held_map first held) q)
   kept_map q =
       get-from_sorted key_cmp (rows (get new) now) q (sorted new now kept_shelf.rises)
       ∙ ap (fin.find key_cmp q) (rows_same (get first) (get new) now same ∙ ap (rows (get first)) is)
       ∙ find_walked (get first) live q held shelf.rises
-      ∙ ap (if_live (names live q)) (sym (get-from_sorted key_cmp (rows (get first) held) q (sorted first held shelf.rises)))
+      ∙ ap (if_live (has_key live q)) (sym (get-from_sorted key_cmp (rows (get first) held) q (sorted first held shelf.rises)))
 
 -- a list that was lent whole, as it comes back
 pub lent : (n : ℕ) (new rest : List Held) → length new ≡ n → take n (new ++ rest) ≡ new

@@ -7,7 +7,7 @@ use Rattle.cc_geom.specs.KeyOrder.{key_cmp}
 use Rattle.cc_store.specs.declared.held.Held.{Held}
 use Rattle.cc_store.specs.Shelves.{Before, After, Rises, StandsAt, IsGapFor, marked, also_marked}
 use Rattle.cc_store.proofs.KeyOrders.{flips, tie}
-use Rattle.cc_store.proofs.Dropped.{names_more}
+use Rattle.cc_geom.proofs.KeyLists.{has_key_more}
 
 or-false : (b : Bool) → (b || false) ≡ b
 or-false true = refl
@@ -68,5 +68,5 @@ pub marked_more : (keys : List TileKey) (i : ℕ) (d : TileKey) (hs : List Held)
     → map (also_marked (get_or keys i d)) (map (marked (take i keys)) hs) ≡ map (marked (take (i + 1) keys)) hs
 marked_more keys i d [] lt = refl
 marked_more keys i d (h ∷ hs) lt =
-    let same = names_more keys i d h.key lt in
+    let same = has_key_more keys i d h.key lt in
     λ j. record h { live = sym same j } ∷ marked_more keys i d hs lt j

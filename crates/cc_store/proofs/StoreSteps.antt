@@ -8,7 +8,7 @@ use Rattle.std.specs.FinSet as set
 use Rattle.std.specs.FinSet.{contains-insert, contains-remove, contains-empty, same_set}
 use Rattle.cc_geom.specs.declared.tile.TileKey.{TileKey}
 use Rattle.cc_geom.specs.KeyOrder.{key_cmp}
-use Rattle.cc_store.specs.Stores.{names}
+use Rattle.cc_geom.specs.KeyLists.{has_key}
 use Rattle.cc_store.specs.Rows.{ready_of, flying_of, is_flying, if_live, if_not_named}
 use Rattle.cc_geom.proofs.KeyOrders.{key_total, key_ties}
 use Rattle.cc_store.proofs.KeyOrders.{tied}
@@ -61,27 +61,27 @@ module _ {X : Type 0} where
   start_flying false false o gone = refl
 
   module _ (m now new : FinMap key_cmp (Option X)) (key : TileKey) (evicted : List TileKey)
-      (left : (q : TileKey) → get now q ≡ if_not_named (names evicted q) (get m q)) where
+      (left : (q : TileKey) → get now q ≡ if_not_named (has_key evicted q) (get m q)) where
     pub absent_after : get m key ≡ None → get now key ≡ None
-    absent_after none = left key ∙ ap (if_not_named (names evicted key)) none ∙ nothing_left (names evicted key)
+    absent_after none = left key ∙ ap (if_not_named (has_key evicted key)) none ∙ nothing_left (has_key evicted key)
 
     module _ (is : new ≡ fin.insert now key None) where
-      found : (q : TileKey) → get new q ≡ cond (eq_by_cmp key_cmp q key) (Some None) (if_not_named (names evicted q) (get m q))
+      found : (q : TileKey) → get new q ≡ cond (eq_by_cmp key_cmp q key) (Some None) (if_not_named (has_key evicted q) (get m q))
       found q = ap (λ n. get n q) is ∙ get-insert key_total now key None q ∙ ap (cond (eq_by_cmp key_cmp q key) (Some None)) (left q)
 
-      pub started_ready : get m key ≡ None → ready_of new ≡ fin.retain_keys (ready_of m) (λ k. not (names evicted k))
+      pub started_ready : get m key ≡ None → ready_of new ≡ fin.retain_keys (ready_of m) (λ k. not (has_key evicted k))
       started_ready none = same_map key_total key_ties _ _ (λ q.
           get_ready new q
           ∙ ap option_flatten (found q)
-          ∙ start_ready (eq_by_cmp key_cmp q key) (names evicted q) (get m q) (λ e. ap (get m) (tied q key e) ∙ none)
-          ∙ ap (λ o. cond (not (names evicted q)) o None) (sym (get_ready m q))
-          ∙ sym (get-retain_keys (ready_of m) (λ k. not (names evicted k)) q (λ x t. ap (λ k. not (names evicted k)) (sym (key_ties q x t)))))
+          ∙ start_ready (eq_by_cmp key_cmp q key) (has_key evicted q) (get m q) (λ e. ap (get m) (tied q key e) ∙ none)
+          ∙ ap (λ o. cond (not (has_key evicted q)) o None) (sym (get_ready m q))
+          ∙ sym (get-retain_keys (ready_of m) (λ k. not (has_key evicted k)) q (λ x t. ap (λ k. not (has_key evicted k)) (sym (key_ties q x t)))))
 
-      pub started_flying : ((k : TileKey) → names evicted k ≡ true → is_some (get (ready_of m) k) ≡ true) → flying_of new ≡ set.insert (flying_of m) key
+      pub started_flying : ((k : TileKey) → has_key evicted k ≡ true → is_some (get (ready_of m) k) ≡ true) → flying_of new ≡ set.insert (flying_of m) key
       started_flying ready = same_set key_total key_ties _ _ (λ q.
           contains_flying new q
           ∙ ap is_flying (found q)
-          ∙ start_flying (eq_by_cmp key_cmp q key) (names evicted q) (get m q) (λ e. has_image (get m q) (ap is_some (sym (get_ready m q)) ∙ ready q e))
+          ∙ start_flying (eq_by_cmp key_cmp q key) (has_key evicted q) (get m q) (λ e. has_image (get m q) (ap is_some (sym (get_ready m q)) ∙ ready q e))
           ∙ ap (λ b. eq_by_cmp key_cmp q key || b) (sym (contains_flying m q))
           ∙ sym (contains-insert key_total (flying_of m) key q))
 
@@ -147,18 +147,18 @@ module _ {X : Type 0} where
   flying_one false (Some None) = refl
   flying_one false (Some (Some x)) = refl
 
-  module _ (m new : FinMap key_cmp (Option X)) (live : List TileKey) (left : (q : TileKey) → get new q ≡ if_live (names live q) (get m q)) where
-    pub kept_ready : ready_of new ≡ fin.retain_keys (ready_of m) (names live)
+  module _ (m new : FinMap key_cmp (Option X)) (live : List TileKey) (left : (q : TileKey) → get new q ≡ if_live (has_key live q) (get m q)) where
+    pub kept_ready : ready_of new ≡ fin.retain_keys (ready_of m) (has_key live)
     kept_ready = same_map key_total key_ties _ _ (λ q.
         get_ready new q
         ∙ ap option_flatten (left q)
-        ∙ kept_one (names live q) (get m q)
-        ∙ ap (λ o. cond (names live q) o None) (sym (get_ready m q))
-        ∙ sym (get-retain_keys (ready_of m) (names live) q (λ x t. ap (names live) (sym (key_ties q x t)))))
+        ∙ kept_one (has_key live q) (get m q)
+        ∙ ap (λ o. cond (has_key live q) o None) (sym (get_ready m q))
+        ∙ sym (get-retain_keys (ready_of m) (has_key live) q (λ x t. ap (has_key live) (sym (key_ties q x t)))))
 
     pub kept_flying : flying_of new ≡ flying_of m
     kept_flying = same_set key_total key_ties _ _ (λ q.
-        contains_flying new q ∙ ap is_flying (left q) ∙ flying_one (names live q) (get m q) ∙ sym (contains_flying m q))
+        contains_flying new q ∙ ap is_flying (left q) ∙ flying_one (has_key live q) (get m q) ∙ sym (contains_flying m q))
 
 -- what is seen of an optional image through references and through its shared value
 pub seen : {A B C : Type 0} (f : A → B) (g : B → C) (o : Option A) → option_map (λ x. g (f x)) o ≡ option_map g (option_map f o)

@@ -11,7 +11,7 @@ use Rattle.cc_geom.specs.KeyOrder.{key_cmp}
 use Rattle.cc_raster.specs.Images.{Image}
 use Rattle.cc_store.specs.declared.held.Held.{Held}
 use Rattle.cc_store.specs.declared.held.Tile.{Tile}
-use Rattle.cc_store.specs.Stores.{names}
+use Rattle.cc_geom.specs.KeyLists.{has_key}
 
 -- the held keys, each with its image or with none while that is being made, and for how many more there is room
 pub record Shelf : Type 0 where
@@ -88,7 +88,7 @@ pub record IsShelf (tiles : Slab Tile) (held : List Held) : Type 0 where
 
 -- the mark says whether the key is one of the list
 abbrev pub marked : List TileKey → Held → Held
-marked live h = record h { live = names live h.key }
+marked live h = record h { live = has_key live h.key }
 
 -- this key is marked too
 abbrev pub also_marked : TileKey → Held → Held

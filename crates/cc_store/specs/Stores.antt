@@ -1,12 +1,11 @@
 -- What contracts see of a tile store, and what its calls do to that.
 use Rattle.std.specs.Prelude.{◌≡◌, ◌≤◌, ℕ, ◌+◌, Bool, true, false, not, if◌then◌else◌, Option, List, is_some, refl}
-use Rattle.std.specs.List.{list_any}
-use Rattle.std.specs.Ordering.{eq_by_cmp}
 use Rattle.std.specs.Coded.{Coded, code_by, coded×, coded_ℕ}
 use Rattle.std.specs.FinMap as map
 use Rattle.std.specs.FinSet as set
 use Rattle.cc_geom.specs.declared.tile.TileKey.{TileKey}
 use Rattle.cc_geom.specs.KeyOrder.{key_cmp}
+use Rattle.cc_geom.specs.KeyLists.{has_key}
 use Rattle.cc_raster.specs.Images.{Image}
 
 -- what a tile store holds
@@ -47,10 +46,6 @@ is_pinned s k = set.contains s.pinned k
 abbrev pub used : Store → ℕ
 used s = map.len s.ready + set.len s.in_flight
 
--- the key is one of the list
-abbrev pub names : List TileKey → TileKey → Bool
-names keys k = list_any (eq_by_cmp key_cmp k) keys
-
 -- no key is held or pinned
 abbrev pub empty_store : ℕ → Store
 empty_store spare = record { ready = map.empty; in_flight = set.empty; pinned = set.empty; spare = spare }
@@ -64,13 +59,13 @@ pub record MayStart (s : Store) (key : TileKey) (evicted : List TileKey) : Type 
   pub room : 1 ≤ s.spare
   pub not_ready : is_ready s key ≡ false
   pub not_in_flight : is_in_flight s key ≡ false
-  pub evicted_ready : (k : TileKey) → names evicted k ≡ true → is_ready s k ≡ true
-  pub evicted_not_pinned : (k : TileKey) → names evicted k ≡ true → is_pinned s k ≡ false
+  pub evicted_ready : (k : TileKey) → has_key evicted k ≡ true → is_ready s k ≡ true
+  pub evicted_not_pinned : (k : TileKey) → has_key evicted k ≡ true → is_pinned s k ≡ false
 
 -- the key is in flight, and the evicted keys are not ready
 abbrev pub started : Store → TileKey → List TileKey → ℕ → Store
 started s key evicted spare =
-    record s { ready = map.retain_keys s.ready (λ k. not (names evicted k)); in_flight = set.insert s.in_flight key; spare = spare }
+    record s { ready = map.retain_keys s.ready (λ k. not (has_key evicted k)); in_flight = set.insert s.in_flight key; spare = spare }
 
 -- the image's key is no longer in flight, and it is ready with this image exactly where it is live
 abbrev pub done_with : Store → Image → Bool → ℕ → Store
@@ -79,4 +74,4 @@ done_with s image live spare =
 
 -- of the ready keys those of the list are left
 abbrev pub kept : Store → List TileKey → ℕ → Store
-kept s live spare = record s { ready = map.retain_keys s.ready (names live); spare = spare }
+kept s live spare = record s { ready = map.retain_keys s.ready (has_key live); spare = spare }

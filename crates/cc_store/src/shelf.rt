@@ -3,7 +3,7 @@
 ghost use Rattle.std.specs.Prelude.{◌≡◌, ◌≤◌, ◌+◌, Some, None, IsSome, IfOk, OnOk, option_map};
 ghost use Rattle.cc_geom.specs.declared.tile.TileKey.{TileKey};
 ghost use Rattle.std.specs.FinMap as fin;
-ghost use Rattle.cc_store.specs.Stores.{names};
+ghost use Rattle.cc_geom.specs.KeyLists.{has_key};
 ghost use Rattle.cc_store.specs.Rows.{ready_of, if_live, if_not_named};
 ghost use Rattle.cc_store.specs.Shelves.{shown};
 
@@ -134,7 +134,7 @@ impl Shelf {
 
     /// Drops these keys with their tiles, where they are held.
     pub(crate) fn remove_all(&mut self, keys: &[TileKey])
-        ensures held { (q : TileKey) → fin.get self.new.held q ≡ if_not_named (names keys.now q) (fin.get self.old.held q) }
+        ensures held { (q : TileKey) → fin.get self.new.held q ≡ if_not_named (has_key keys.now q) (fin.get self.old.held q) }
         ensures spare { self.old.spare ≤ self.new.spare }
     {
         for key in keys {
@@ -145,7 +145,7 @@ impl Shelf {
     /// Drops the images of the keys that are not in `live`, whatever its order, with these keys. Keys whose
     /// images are being made stay.
     pub(crate) fn keep(&mut self, live: &[TileKey])
-        ensures held { (q : TileKey) → fin.get self.new.held q ≡ if_live (names live.now q) (fin.get self.old.held q) }
+        ensures held { (q : TileKey) → fin.get self.new.held q ≡ if_live (has_key live.now q) (fin.get self.old.held q) }
         ensures spare { self.old.spare ≤ self.new.spare }
     {
         mark(&mut self.held, live);

@@ -2,7 +2,7 @@
 use Rattle.std.proofs.Common.{◌≡◌, map, take, length, filter, sym, ◌∙◌, ap, subst}
 use Rattle.std.specs.FinMap as fin
 use Rattle.slab.specs.Slab.{get}
-use Rattle.cc_store.specs.Stores.{names}
+use Rattle.cc_geom.specs.KeyLists.{has_key}
 use Rattle.cc_store.specs.Rows.{if_live}
 use Rattle.cc_store.specs.Shelves.{Rises, AreKept, AreSame, marked, stays}
 use Rattle.cc_store.proofs.Marks.{rises_marked}
@@ -33,4 +33,4 @@ invariant_of-self c =
 pub returns-clause-held : goal.returns-clause-held
 returns-clause-held c = λ q.
     kept_map c.self.inside.tiles c.drop_unmarked-kept.new.tiles c.self.inside.held.items c.truncate.new.self.items c.args.live.now c.self.invariant (left c) (same c) q
-    ∙ ap (λ s. if_live (names c.args.live.now q) (fin.get s.held q)) c.self.view_is
+    ∙ ap (λ s. if_live (has_key c.args.live.now q) (fin.get s.held q)) c.self.view_is

@@ -2,12 +2,12 @@
 use Rattle.std.proofs.Common.{◌≡◌, ◌≤◌, take}
 use Rattle.std.specs.FinMap as fin
 use Rattle.cc_geom.specs.declared.tile.TileKey.{TileKey}
-use Rattle.cc_store.specs.Stores.{names}
+use Rattle.cc_geom.specs.KeyLists.{has_key}
 use Rattle.cc_store.specs.Rows.{if_not_named}
 use Rattle.cc_store.proofs.shelf.Shelf.remove_all.Given as goal
 
 abbrev pub invariant-loop-key : goal.invariant-loop-key
 invariant-loop-key l = record {
-  held : (q : TileKey) → fin.get l.self.held q ≡ if_not_named (names (take l.key-index l.keys) q) (fin.get l.fn.self.held q);
+  held : (q : TileKey) → fin.get l.self.held q ≡ if_not_named (has_key (take l.key-index l.keys) q) (fin.get l.fn.self.held q);
   spare : l.fn.self.spare ≤ l.self.spare;
 }

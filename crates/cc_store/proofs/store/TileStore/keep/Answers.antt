@@ -2,7 +2,8 @@
 use Rattle.std.proofs.Common.{◌≡◌, ap, ◌∙◌, subst}
 use Rattle.std.specs.FinMap as fin
 use Rattle.cc_geom.specs.declared.tile.TileKey.{TileKey}
-use Rattle.cc_store.specs.Stores.{Store, kept, names}
+use Rattle.cc_store.specs.Stores.{Store, kept}
+use Rattle.cc_geom.specs.KeyLists.{has_key}
 use Rattle.cc_store.specs.Rows.{ready_of, flying_of, if_live}
 use Rattle.cc_store.proofs.StoreSteps.{kept_ready, kept_flying}
 use Rattle.cc_store.proofs.store.TileStore.keep.Goals as goal
@@ -13,10 +14,10 @@ returns-clause-store c =
     let new = c.keep.new.self.held in
     let live = c.args.live.now in
     let spare = c.keep.new.self.spare in
-    let left = subst (λ keys. (q : TileKey) → fin.get new q ≡ if_live (names keys q) (fin.get m q)) c.as_slice.ensures c.keep.ensures.held in
+    let left = subst (λ keys. (q : TileKey) → fin.get new q ≡ if_live (has_key keys q) (fin.get m q)) c.as_slice.ensures c.keep.ensures.held in
     let ready = kept_ready m new live left in
     let flying = kept_flying m new live left in
     let made : ◌≡◌ {A = Store} (record { ready = ready_of new; in_flight = flying_of new; pinned = c.self.inside.pins; spare = spare })
-    (record { ready = fin.retain_keys (ready_of m) (names live); in_flight = flying_of m; pinned = c.self.inside.pins; spare = spare })
+    (record { ready = fin.retain_keys (ready_of m) (has_key live); in_flight = flying_of m; pinned = c.self.inside.pins; spare = spare })
     = λ i. record { ready = ready i; in_flight = flying i; pinned = c.self.inside.pins; spare = spare } in
     made ∙ ap (λ s. kept s live spare) c.self.view_is
