@@ -369,7 +369,7 @@ module _ {M E T : Type 0} (stem_of : T → M) (history_of : T → List (ℕ × E
           kept = k.kept;
           once = k.once;
         },
-        (refl, omega arith, omega arith),
+        (refl, omega arith, omega arith, λ n is. let own = (k.numbered n is).0 in omega (arith, own, made_is)),
       )
 
   pub splits : (id : ℕ) (v : V) → Splits Rule id v v (newcomer v)

@@ -1,5 +1,5 @@
 -- What each step tells the pass that takes it.
-use Rattle.std.specs.Prelude.{◌≡◌, ◌≢◌, ◌⊎◌, ℕ, ◌+◌, ◌≤◌, max, true, false, List, [], ◌∷◌, ◌++◌, length, Option, Some, None}
+use Rattle.std.specs.Prelude.{◌≡◌, ◌≢◌, ◌⊎◌, ℕ, ◌+◌, ◌<◌, ◌≤◌, max, true, false, List, [], ◌∷◌, ◌++◌, length, Option, Some, None}
 use mathlib.Core.List.{IsPrefix}
 use Rattle.atomic_table.specs.Table.{Me, Step, rest}
 use Rattle.cc_lock.specs.declared.board.View.{View}
@@ -59,7 +59,7 @@ module _ {M E T : Type 0} where
 
   -- as many numbers were given as were found, and no more than the lock was made for
   abbrev pub learned : Step (Option T) → Who M E T → ℕ → Who M E T → Type 0
-  learned st m found m' = (m' ≡ (record m.0 { known = found }, m.1)) × (m.0.known ≤ found) × (found ≤ m.0.most)
+  learned st m found m' = (m' ≡ (record m.0 { known = found }, m.1)) × (m.0.known ≤ found) × (found ≤ m.0.most) × ((n : ℕ) → m.0.number ≡ Some n → n < found)
 
 module _ {M E : Type 0} where
   -- a pass that was just made of another, and has no number yet

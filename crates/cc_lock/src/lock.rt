@@ -67,7 +67,7 @@ impl<T: Turn> TurnLock<T> {
         }
     }
 
-    /// A new pass, made of the given one, with the next number. It draws by exchanges until one succeeds, so it may wait for other splits.
+    /// A new pass, made of the given one, with the next number, which is above the given pass's own. It draws by exchanges until one succeeds, so it may wait for other splits.
     /// It answers `Full` where the lock had already given as many numbers as it was made for.
     pub fn split<R: Wait>(&self, rt: &R, pass: &mut Pass<T>) -> Result<Pass<T>, SplitFault>
         requires { pass.old.lock ≡ self.now.id }
@@ -75,6 +75,7 @@ impl<T: Turn> TurnLock<T> {
         ensures known { pass.old.known ≤ pass.new.known }
         ensures made { IfOk result (λ made. made ≡ record pass.new { actor = pass.new.known; mine = []; taken = 0; busy = 0 }) }
         ensures room { IfOk result (λ _. pass.new.known < pass.new.most) }
+        ensures other { IfOk result (λ made. pass.old.actor < made.actor) }
         ensures full { IfErr result (λ _. pass.new.known ≡ pass.new.most) }
     {
         for _ in rt.forever() {
@@ -92,6 +93,7 @@ impl<T: Turn> TurnLock<T> {
         ensures known { pass.old.known ≤ pass.new.known }
         ensures made { IfSome result (λ answer. IfOk answer (λ made. made ≡ record pass.new { actor = pass.new.known; mine = []; taken = 0; busy = 0 })) }
         ensures room { IfSome result (λ answer. IfOk answer (λ _. pass.new.known < pass.new.most)) }
+        ensures other { IfSome result (λ answer. IfOk answer (λ made. pass.old.actor < made.actor)) }
         ensures full { IfSome result (λ answer. IfErr answer (λ _. pass.new.known ≡ pass.new.most)) }
     {
         let given = self.table.shared.load::<Learn>(&mut pass.place, MADE);
