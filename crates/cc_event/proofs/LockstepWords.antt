@@ -35,11 +35,11 @@ can_due s h k a e c = go (is_open h k) refl c
     go false is d = absurd (cc)
 
 -- a run that is open for a kind has not ended
-open_going : (a b : Bool) → (not a && b) ≡ true → a ≡ false
+pub open_going : (a b : Bool) → (not a && b) ≡ true → a ≡ false
 open_going true b h = absurd (cc)
 open_going false b h = refl
 
-open_may : (a b : Bool) → (not a && b) ≡ true → b ≡ true
+pub open_may : (a b : Bool) → (not a && b) ≡ true → b ≡ true
 open_may true b h = absurd (cc)
 open_may false b h = h
 
@@ -58,16 +58,16 @@ can_next s n h k a e asks within c =
 
 -- ---- the words
 
-enters : (s : ScriptModel) (k : Kind) (a : ℕ) → MayAsk k a → a < 3 → Good s (Enters s k a)
+pub enters : (s : ScriptModel) (k : Kind) (a : ℕ) → MayAsk k a → a < 3 → Good s (Enters s k a)
 enters s k a asks within = record {
   one = λ h g f x y. let same : x.0 ≡ y.0 = cc in x.2 ∙ ap (λ (e : Event). record { actor = a; event = e } ∷ h) same ∙ sym y.2;
   legal = λ h g l x. subst (Legal s 1) (sym x.2) (l, can_next s 1 h k a x.0 asks within x.1);
 }
 
-stays : (s : ScriptModel) → Good s Stays
+pub stays : (s : ScriptModel) → Good s Stays
 stays s = record { one = λ h g f x y. x ∙ sym y; legal = λ h g l x. subst (Legal s 1) (sym x) l }
 
-then' : (s : ScriptModel) (P Q : Step) → Good s P → Good s Q → Good s (Then P Q)
+pub then' : (s : ScriptModel) (P Q : Step) → Good s P → Good s Q → Good s (Then P Q)
 then' s P Q p q = record {
   one = λ h g f x y. q.one y.0 g f (subst (λ (m : List Entry). Q m g) (p.one h x.0 y.0 x.1 y.1) x.2) y.2;
   legal = λ h g l x. q.legal x.0 g (p.legal h x.0 l x.1) x.2;
@@ -81,7 +81,7 @@ where_legal : (s : ScriptModel) (P Q : Step) → Good s P → Good s Q → (b : 
 where_legal s P Q p q true h g l x = p.legal h g l x
 where_legal s P Q p q false h g l x = q.legal h g l x
 
-where' : (s : ScriptModel) (test : List Entry → Bool) (P Q : Step) → Good s P → Good s Q → Good s (Where test P Q)
+pub where' : (s : ScriptModel) (test : List Entry → Bool) (P Q : Step) → Good s P → Good s Q → Good s (Where test P Q)
 where' s test P Q p q = record {
   one = λ h. where_one s P Q p q (test h) h;
   legal = λ h. where_legal s P Q p q (test h) h;
@@ -98,13 +98,13 @@ times_legal : (s : ScriptModel) (test : List Entry → Bool) (P : Step) → Good
 times_legal s test P p zero h g l x = subst (Legal s 1) (sym x.1) l
 times_legal s test P p (suc n) h g l x = times_legal s test P p n x.1 g (p.legal h x.1 l x.2) x.3
 
-while' : (s : ScriptModel) (test : List Entry → Bool) (P : Step) → Good s P → Good s (While test P)
+pub while' : (s : ScriptModel) (test : List Entry → Bool) (P : Step) → Good s P → Good s (While test P)
 while' s test P p = record {
   one = λ h g f x y. times_one s test P p x.0 y.0 h g f x.1 y.1;
   legal = λ h g l x. times_legal s test P p x.0 h g l x.1;
 }
 
-at_most : (s : ScriptModel) (n : ℕ) (test : List Entry → Bool) (P : Step) → Good s P → Good s (AtMost n test P)
+pub at_most : (s : ScriptModel) (n : ℕ) (test : List Entry → Bool) (P : Step) → Good s P → Good s (AtMost n test P)
 at_most s zero test P p = stays s
 at_most s (suc n) test P p = where' s test (Then P (AtMost n test P)) Stays (then' s P (AtMost n test P) p (at_most s n test P p)) (stays s)
 
@@ -113,38 +113,38 @@ at_most s (suc n) test P p = where' s test (Then P (AtMost n test P)) Stays (the
 by_compositor : (s : ScriptModel) (k : Kind) → MayAsk k 0 → Good s (Enters s k 0)
 by_compositor s k asks = enters s k 0 asks (omega arith)
 
-pair : (s : ScriptModel) → Good s (Pair s)
+pub pair : (s : ScriptModel) → Good s (Pair s)
 pair s = then' s (Enters s kind.Start 2) (Enters s kind.Done 2) (enters s kind.Start 2 (omega arith) (omega arith)) (enters s kind.Done 2 (omega arith) (omega arith))
 
-main_part : (s : ScriptModel) → Good s (MainPart s)
+pub main_part : (s : ScriptModel) → Good s (MainPart s)
 main_part s = then' s _ _ (by_compositor s kind.Send refl)
     (where' s (is_possible s kind.Abort 1) _ _ (enters s kind.Abort 1 refl (omega arith))
     (then' s _ _ (enters s kind.Ready 1 refl (omega arith)) (by_compositor s kind.Commit refl)))
 
-activate_now : (s : ScriptModel) → Good s (ActivateNow s)
+pub activate_now : (s : ScriptModel) → Good s (ActivateNow s)
 activate_now s = then' s _ _ (while' s (λ h. not (is_possible s kind.Activate 0 h)) (Pair s) (pair s)) (by_compositor s kind.Activate refl)
 
-plain_frame : (s : ScriptModel) → Good s (PlainFrame s)
+pub plain_frame : (s : ScriptModel) → Good s (PlainFrame s)
 plain_frame s = then' s _ _ (by_compositor s kind.BeginPlain refl) (then' s _ _ (main_part s)
     (then' s _ _ (where' s waits _ _ (activate_now s) (stays s)) (then' s _ _ (by_compositor s kind.NoDraw refl) (by_compositor s kind.Finish refl))))
 
-round : (s : ScriptModel) → Good s (Round s)
+pub round : (s : ScriptModel) → Good s (Round s)
 round s = where' s waits _ _ (activate_now s) (plain_frame s)
 
-draw_frame : (s : ScriptModel) → Good s (DrawFrame s)
+pub draw_frame : (s : ScriptModel) → Good s (DrawFrame s)
 draw_frame s = then' s _ _ (by_compositor s kind.BeginDraw refl) (then' s _ _ (where' s (may_send s) _ _ (main_part s) (stays s))
     (then' s _ _ (at_most s s.raster_per_frame (has_first s) (Pair s) (pair s))
     (then' s _ _ (where' s (is_possible s kind.Activate 0) _ _ (by_compositor s kind.Activate refl) (stays s))
     (then' s _ _ (where' s (λ h. is_some (active h)) _ _ (by_compositor s kind.Draw refl) (by_compositor s kind.Skip refl)) (by_compositor s kind.Finish refl)))))
 
-input_step : (s : ScriptModel) (i : Input) → Good s (InputStep s i)
+pub input_step : (s : ScriptModel) (i : Input) → Good s (InputStep s i)
 input_step s (input.Scroll sc dx dy) = by_compositor s kind.Scroll refl
 input_step s (input.Wheel x y dx dy) = by_compositor s kind.Wheel refl
 input_step s input.Draw = draw_frame s
 input_step s (input.Await f) = then' s _ _ (while' s (λ h. not (is_possible s kind.Await 0 h)) (Round s) (round s)) (by_compositor s kind.Await refl)
 input_step s input.Settle = then' s _ _ (where' s waits _ _ (round s) (stays s)) (then' s _ _ (while' s (has_first s) (Pair s) (pair s)) (by_compositor s kind.Settle refl))
 
-input_steps : (s : ScriptModel) (is : List Input) → Good s (InputSteps s is)
+pub input_steps : (s : ScriptModel) (is : List Input) → Good s (InputSteps s is)
 input_steps s [] = stays s
 input_steps s (i ∷ is) = then' s (InputStep s i) (InputSteps s is) (input_step s i) (input_steps s is)
 
@@ -160,7 +160,7 @@ pub lockstep_one : (s : ScriptModel) (a b : List Entry) → IsLockstep s a → I
 lockstep_one s a b x y = sym (reverse-reverse a) ∙ ap (λ (h : List Entry). reverse h) ((whole_run s).one [] (reverse a) (reverse b) x y) ∙ reverse-reverse b
 
 -- what is due as the end is the end
-end_due : (b : Bool) (e : Event) → on_if b event.End ≡ Some e → e ≡ event.End
+pub end_due : (b : Bool) (e : Event) → on_if b event.End ≡ Some e → e ≡ event.End
 end_due true e d = cc
 end_due false e d = absurd (cc)
 

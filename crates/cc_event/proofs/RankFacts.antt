@@ -29,7 +29,7 @@ use Rattle.cc_event.proofs.KeyFacts.{has_in, in_has}
 
 -- a rank is of its key
 
-mapped : (f : Bin → Rank) (q : TileKey) → ((b : Bin) → (f b).key ≡ q) → (o : Option Bin) → IsRankOfKey q (option_map f o)
+pub mapped : (f : Bin → Rank) (q : TileKey) → ((b : Bin) → (f b).key ≡ q) → (o : Option Bin) → IsRankOfKey q (option_map f o)
 mapped f q g None = tt
 mapped f q g (Some b) = g b
 
@@ -44,11 +44,11 @@ where_had : (q : TileKey) (b : Bool) (o : Option Rank) → IsRankOfKey q o → I
 where_had q true o i = i
 where_had q false o i = tt
 
-tree_rank : (s : ScriptModel) (a : Side) (t : Tree) (q : TileKey) → IsRankOfKey q (rank_in s a t q)
+pub tree_rank : (s : ScriptModel) (a : Side) (t : Tree) (q : TileKey) → IsRankOfKey q (rank_in s a t q)
 unfolding rank_in
 tree_rank s a t q = where_had q (has_key (keys_of t) q) (rank_on s a t q (find (has_id q.layer) t.page.layers)) (layer_rank s a t q (find (has_id q.layer) t.page.layers))
 
-better_of : (q : TileKey) (o p : Option Rank) → IsRankOfKey q o → IsRankOfKey q p → IsRankOfKey q (least o p)
+pub better_of : (q : TileKey) (o p : Option Rank) → IsRankOfKey q o → IsRankOfKey q p → IsRankOfKey q (least o p)
 better_of q None p i j = j
 better_of q (Some a) None i j = i
 better_of q (Some a) (Some b) i j = by_order (rank_cmp b a)
@@ -63,18 +63,18 @@ rank_key s h q =
     better_of q (rank_in s side.Active (active_tree s h) q) (rank_in s side.Pending (pending_tree s h) q)
     (tree_rank s side.Active (active_tree s h) q) (tree_rank s side.Pending (pending_tree s h) q)
 
-key_of_rank : (q : TileKey) (o : Option Rank) (r : Rank) → IsRankOfKey q o → o ≡ Some r → r.key ≡ q
+pub key_of_rank : (q : TileKey) (o : Option Rank) (r : Rank) → IsRankOfKey q o → o ≡ Some r → r.key ≡ q
 key_of_rank q None r i e = cc
 key_of_rank q (Some p) r i e = let d : p ≡ r = cc in ap (λ (z : Rank). z.key) (sym d) ∙ i
 
 -- what starts first is live, and neither ready nor in flight
 
-in_cons : {Y : Type 0} (y : Y) (o : Option Y) (ys : List Y) → In y (cons_option o ys) → (o ≡ Some y) ⊎ In y ys
+pub in_cons : {Y : Type 0} (y : Y) (o : Option Y) (ys : List Y) → In y (cons_option o ys) → (o ≡ Some y) ⊎ In y ys
 in_cons y None ys i = inr i
 in_cons y (Some x) ys (inl e) = inl (ap Some (sym e))
 in_cons y (Some x) ys (inr i) = inr i
 
-in_filter_map : {X Y : Type 0} (f : X → Option Y) (y : Y) (xs : List X) → In y (filter_map f xs) → (x : X) × In x xs × (f x ≡ Some y)
+pub in_filter_map : {X Y : Type 0} (f : X → Option Y) (y : Y) (xs : List X) → In y (filter_map f xs) → (x : X) × In x xs × (f x ≡ Some y)
 in_filter_map f y [] i = absurd i
 in_filter_map {X = X} f y (x ∷ xs) i = by_or (in_cons y (f x) (filter_map f xs) i) (in_filter_map f y xs)
   where
@@ -102,7 +102,7 @@ first_unmade s h r e =
 
 -- what is given up for it is ready and not pinned
 
-key_of_victim : (k : TileKey) (o : Option Rank) → IsRankOfKey k o → victim_key (victim_by k o) ≡ k
+pub key_of_victim : (k : TileKey) (o : Option Rank) → IsRankOfKey k o → victim_key (victim_by k o) ≡ k
 key_of_victim k None i = refl
 key_of_victim k (Some r) i = i
 
