@@ -100,7 +100,7 @@ kept_line p columns n y false h e =
     ∙ (kept_flat p (λ x. place y x ∷ []) (λ x. []) (record { first = 0; end = 0 }) n (λ x. rw (e x, and_false) (sym (either_nil (nat_le 0 x && nat_lt x 0)))) ∙ rw none refl)
 
 -- of all places the block is kept
-kept_block : (p : Place → Bool) (columns rows : Run) (m n : ℕ) → columns.end ≤ m → rows.end ≤ n
+pub kept_block : (p : Place → Bool) (columns rows : Run) (m n : ℕ) → columns.end ≤ m → rows.end ≤ n
     → ((y x : ℕ) → p (place y x) ≡ (nat_le columns.first x && nat_lt x columns.end) && (nat_le rows.first y && nat_lt y rows.end))
     → filter p (flat_map (λ y. map (place y) (range_with_len 0 m)) (range_with_len 0 n)) ≡ block columns rows
 unfolding block

@@ -134,7 +134,7 @@ is_place_at g i x y h =
     let n = natural 0 g.h y b.1 in
     is_place_by g i x y m.0 n.0 m.1 n.1 (omega (arith, m.3)) (omega (arith, n.3))
 
-in_bounds_by : (g : Sides) (x y : ℤ) (m n : ℕ) → x ≡ pos m → y ≡ pos n → m < g.w → n < g.h → covers (bounds g) x y ≡ true
+pub in_bounds_by : (g : Sides) (x y : ℤ) (m n : ℕ) → x ≡ pos m → y ≡ pos n → m < g.w → n < g.h → covers (bounds g) x y ≡ true
 in_bounds_by g x y m n e f h k = rw (e, f) (both_of _ _ (within_natural 0 g.w m (omega arith) (omega arith)) (within_natural 0 g.h n (omega arith) (omega arith)))
 
 -- the places of a grid part its layer

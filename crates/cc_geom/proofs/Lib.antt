@@ -1,4 +1,5 @@
 pub mod Blocks
+pub mod Covering
 pub mod Cuts
 pub mod KeyLists
 pub mod KeyOrders

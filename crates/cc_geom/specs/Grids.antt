@@ -1,5 +1,5 @@
 -- The places of a grid: how a layer is cut into tiles.
-use Rattle.std.specs.Prelude.{ℕ, ◌*◌, ◌-◌, ◌/◌, min, ℤ, pos, unsigned_abs, nat_lt, Bool, true, ◌&&◌, ◌≡◌, List, map, flat_map, filter}
+use Rattle.std.specs.Prelude.{ℕ, ◌*◌, ◌-◌, ◌/◌, min, ℤ, pos, unsigned_abs, nat_lt, Bool, true, false, ◌&&◌, ◌≡◌, List, [], ◌∷◌, map, flat_map, filter}
 use Rattle.std.specs.Int.{div_ceil}
 use Rattle.std.specs.List.{range_with_len}
 use Rattle.cc_geom.specs.declared.rect.Point.{Point}
@@ -60,3 +60,8 @@ pub record IsPlaceOf (g : Sides) (x y : ℤ) (p : Place) : Type 0 where
 pub record PartTheLayer : Type 0 where
   pub each_once : (g : Sides) → IsGrid g → (x y : ℤ) → covers (bounds g) x y ≡ true → (p : Place) × IsPlaceOf g x y p
   pub no_more : (g : Sides) → IsGrid g → (p : Place) (x y : ℤ) → has g p ≡ true → covers (rect_of g p) x y ≡ true → covers (bounds g) x y ≡ true
+
+-- of the places of each grid those that cover a point of the layer are one, and no place covers another point: as lists
+pub record CoverOnce : Type 0 where
+  pub inside : (g : Sides) → IsGrid g → (x y : ℤ) → covers (bounds g) x y ≡ true → filter (λ q. covers (rect_of g q) x y) (places g) ≡ place_of g (record { x = x; y = y }) ∷ []
+  pub outside : (g : Sides) → IsGrid g → (x y : ℤ) → covers (bounds g) x y ≡ false → filter (λ q. covers (rect_of g q) x y) (places g) ≡ []

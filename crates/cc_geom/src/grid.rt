@@ -5,7 +5,7 @@ ghost use Rattle.cc_geom.specs.Covers.{covers, IsSound};
 ghost use Rattle.cc_geom.specs.Runs;
 ghost use Rattle.cc_geom.specs.Runs.{IsMeeting};
 ghost use Rattle.cc_geom.specs.Grids;
-ghost use Rattle.cc_geom.specs.Grids.{bounds, has, place_of, places_touching, rect_of, IsPlaceOf, PartTheLayer};
+ghost use Rattle.cc_geom.specs.Grids.{bounds, has, place_of, places_touching, rect_of, CoverOnce, IsPlaceOf, PartTheLayer};
 
 use crate::cut::{Run, part, tile_of, tiles, tiles_meeting};
 use crate::rect::{Point, Rect};
@@ -147,4 +147,10 @@ fn block(alloc: Global, columns: Run, rows: Run) -> Result<Vec<Place>, AllocErro
 /// place, and no place covers a point outside the layer. A law that does nothing when it runs.
 pub fn places_part_the_layer()
     ensures { PartTheLayer }
+{}
+
+/// The same, of the list of a grid's places: those that cover a point of the layer are one, and none
+/// covers another point. A law that does nothing when it runs.
+pub fn places_cover_once()
+    ensures { CoverOnce }
 {}

@@ -11,7 +11,7 @@ mod span;
 mod tile;
 
 pub use cut::Run;
-pub use grid::{Grid, places_part_the_layer};
+pub use grid::{Grid, places_cover_once, places_part_the_layer};
 pub use keys::Keys;
 pub use rect::{Point, Rect};
 pub use tile::{Place, TileKey};
