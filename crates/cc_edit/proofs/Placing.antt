@@ -73,7 +73,7 @@ placed_colours p offset missing layer l bounds bounds-is by points colour items 
     ∙ ap (λ (z : Point). cond (lies_at p offset x y layer) (cond (is_missing missing layer.id (place_at p.view.tile z)) layer.colour (content layer.items z.x z.y)) clear) at
 
 -- the sides of a layer of a page
-size_facts : (w h : ℕ) → is_size w h ≡ Ok tt → IsSide w × IsSide h
+pub size_facts : (w h : ℕ) → is_size w h ≡ Ok tt → IsSide w × IsSide h
 unfolding is_size
 size_facts w h ok =
     let first = passed (in_range (pos w) (pos 1) (pos 16384)) _ tt ok in

@@ -21,7 +21,7 @@ fn put_first(groups: &mut Vec<Group>, effect: u32, opacity: u8) -> Result<(), Al
 
 /// The effects below 255 from this one up to the root, the outermost first, with their opacities. An
 /// error is want of memory.
-pub(crate) fn groups_of(
+pub fn groups_of(
     alloc: Global,
     props: &PropertyTrees,
     effect: u32,

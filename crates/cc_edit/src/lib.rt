@@ -21,6 +21,7 @@ mod view;
 
 pub use command::Command;
 pub use fault::{EditError, EditFault};
+pub use groups::groups_of;
 pub use laws::{commands_keep_the_rest, targets_are_topmost};
 pub use layer::Layer;
 pub use paint::{Group, Spot, paint_from};
