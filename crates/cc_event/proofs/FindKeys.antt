@@ -10,7 +10,7 @@ use Rattle.cc_edit.specs.Layers.{PageLayer, has_id}
 use Rattle.cc_edit.specs.Pages.{Page}
 use Rattle.cc_edit.specs.Refusals.{has_layer}
 use Rattle.cc_edit.specs.Sound.{AreDistinct}
-use Rattle.cc_event.specs.Visible.{grid_of, put_layer, by_id, key_at}
+use Rattle.cc_visible.specs.Visible.{grid_of, put_layer, by_id, key_at}
 use Rattle.cc_event.specs.Tiles.{same_key, has_key, page_keys}
 use Rattle.cc_event.specs.Ranking.{place_named}
 

@@ -15,7 +15,7 @@ use Rattle.cc_edit.specs.Contents.{size_of}
 use Rattle.cc_edit.specs.Sound.{AreDistinct}
 use Rattle.cc_event.specs.declared.moves.Move.{Move}
 use Rattle.cc_event.specs.Scripts.{ScriptModel}
-use Rattle.cc_event.specs.Visible.{grid_of}
+use Rattle.cc_visible.specs.Visible.{grid_of}
 use Rattle.cc_event.specs.Frames.{commands_of, page}
 use Rattle.cc_event.specs.Accepted.{IsAccepted}
 use Rattle.cc_event.specs.Stamps.{unchanged, frame_changes, commits_to, place_rect, stamp_in}

@@ -1,8 +1,6 @@
 pub mod Leads
 pub mod Exclusion
 pub mod Ranged
-pub mod Seen
-pub mod LayerOrder
 pub mod BoolFacts
 pub mod DueFacts
 pub mod Course

@@ -17,7 +17,7 @@ use Rattle.cc_event.specs.Scrollers.{has_scroller, offsets_in}
 use Rattle.cc_event.specs.Frames.{page, pulls_of, active, up_to}
 use Rattle.cc_event.specs.Scrolls.{offset, pending_offset, offset_then}
 use Rattle.cc_event.specs.Values.{values}
-use Rattle.cc_event.specs.Visible.{visible_keys}
+use Rattle.cc_visible.specs.Visible.{visible_keys}
 use Rattle.cc_event.specs.Stamps.{stamp_in}
 use Rattle.cc_event.specs.Tiles.{same_key, has_key, visible_in, active_tree, ready, required, pinned, missing}
 use Rattle.cc_event.specs.Legal.{Next, Legal}

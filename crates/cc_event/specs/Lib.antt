@@ -12,7 +12,6 @@ pub mod Accepted
 pub mod Judging
 pub mod Scrolls
 pub mod Values
-pub mod Visible
 pub mod Stamps
 pub mod Tiles
 pub mod Ranking

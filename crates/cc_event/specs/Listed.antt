@@ -7,7 +7,7 @@ use Rattle.cc_edit.specs.Layers.{PageLayer, has_id}
 use Rattle.cc_edit.specs.Pages.{Page}
 use Rattle.cc_event.specs.declared.history.Entry.{Entry}
 use Rattle.cc_event.specs.Scripts.{ScriptModel}
-use Rattle.cc_event.specs.Visible.{grid_of}
+use Rattle.cc_visible.specs.Visible.{grid_of}
 use Rattle.cc_event.specs.Frames.{page, pulls_of}
 use Rattle.cc_event.specs.Stamps.{unchanged, frame_changes}
 use Rattle.cc_event.specs.SameChanges.{SameChanges}

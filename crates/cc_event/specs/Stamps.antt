@@ -14,7 +14,7 @@ use Rattle.cc_edit.specs.Pages.{Page}
 use Rattle.cc_edit.specs.Effects.{Change, after, change_of, retiles}
 use Rattle.cc_event.specs.declared.moves.Move.{Move}
 use Rattle.cc_event.specs.Scripts.{ScriptModel}
-use Rattle.cc_event.specs.Visible.{grid_of}
+use Rattle.cc_visible.specs.Visible.{grid_of}
 use Rattle.cc_event.specs.Frames.{commands_of, page, page_before}
 
 -- a change of a layer after an earlier one of the same layer: whole where one of the two is, and what the two cover

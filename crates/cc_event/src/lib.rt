@@ -22,7 +22,6 @@ mod moves;
 mod script;
 mod script_error;
 mod script_parts;
-mod visible;
 
 pub use commit::Commit;
 pub use event::Event;
@@ -45,4 +44,3 @@ pub use moves::{Move, Moves, Sends};
 pub use script::Script;
 pub use script_error::ScriptError;
 pub use script_parts::ScriptParts;
-pub use visible::{by_id, visible_keys, visible_places};

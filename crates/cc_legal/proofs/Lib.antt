@@ -1,5 +1,4 @@
 pub mod PastSteps
-pub mod MovedPlaces
 pub mod KeyedFacts
 pub mod JudgeSums
 pub mod JudgeBounds

@@ -19,7 +19,7 @@ use Rattle.cc_edit.specs.Sound.{AreDistinct}
 use Rattle.cc_event.specs.declared.moves.Move.{Move}
 use Rattle.cc_event.specs.Scripts.{ScriptModel}
 use Rattle.cc_event.specs.Frames.{page}
-use Rattle.cc_event.specs.Visible.{grid_of, by_id, key_at}
+use Rattle.cc_visible.specs.Visible.{grid_of, by_id, key_at}
 use Rattle.cc_event.specs.Stamps.{commits_to, place_rect, stamp_in}
 use Rattle.cc_event.specs.Tiles.{page_keys}
 use Rattle.cc_legal.specs.FrameStamps.{ShowTheSame, commits_in, stamp_on, layer_keys}

@@ -11,7 +11,7 @@ use Rattle.cc_edit.specs.Layers.{PageLayer}
 use Rattle.cc_edit.specs.Pages.{Page}
 use Rattle.cc_event.specs.declared.moves.Move.{Move}
 use Rattle.cc_event.specs.Scripts.{ScriptModel}
-use Rattle.cc_event.specs.Visible.{grid_of, key_at}
+use Rattle.cc_visible.specs.Visible.{grid_of, key_at}
 use Rattle.cc_event.specs.Stamps.{unchanged, frame_changes}
 
 -- element k says the same as what main frame k changed: it shows in the same rects of each layer

@@ -16,7 +16,7 @@ use Rattle.cc_edit.specs.Layers.{PageLayer, has_id}
 use Rattle.cc_edit.specs.Pages.{Page}
 use Rattle.cc_event.specs.declared.history.Entry.{Entry}
 use Rattle.cc_event.specs.Scripts.{ScriptModel}
-use Rattle.cc_event.specs.Visible.{grid_of, seen}
+use Rattle.cc_visible.specs.Visible.{grid_of, seen}
 use Rattle.cc_event.specs.Tiles.{Tree, has_key, keys_of, active_tree, pending_tree, ready, in_flight}
 use Rattle.cc_event.specs.Ranking.{place_named, borders}
 

@@ -8,12 +8,12 @@ ghost use Rattle.cc_legal.specs.Keyed.{IsOf, rank_at};
 ghost use Rattle.cc_event.specs.Ranking as spec;
 
 use crate::keys::has_key;
-use crate::seen::viewport;
 use crate::tiles::{TilesAt, TreeAt};
 use cc_edit::LayerTree;
 use cc_event::Script;
 use cc_geom::TileKey;
 use cc_priority::{Borders, Rank, ReadyTile, Side, least};
+use cc_visible::viewport;
 use std::alloc::{AllocError, Global};
 
 // By what the tiles of a page are ranked.

@@ -13,14 +13,13 @@ ghost use Rattle.cc_event.specs.Scripts.{ScriptModel};
 ghost use Rattle.cc_event.specs.Frames as framing;
 ghost use Rattle.cc_event.specs.Stamps.{stamp_in};
 ghost use Rattle.cc_event.specs.Tiles.{page_keys};
-ghost use Rattle.cc_event.specs.Visible.{key_at};
+ghost use Rattle.cc_visible.specs.Visible.{key_at};
 ghost use Rattle.cc_legal.specs.FrameStamps as spec;
 
-use crate::seen::grid_of;
-use cc_edit::{Layer, LayerTree};
-use cc_event::by_id;
+use cc_edit::LayerTree;
 use cc_geom::{Grid, Place, Rect, TileKey};
 use cc_region::{Changes, LayerChange};
+use cc_visible::{OrderedLayer, by_id, grid_of};
 use std::alloc::{AllocError, Global};
 
 // Whether a change shows in a rect of its layer.
@@ -129,16 +128,16 @@ fn keys_in(
     alloc: Global,
     page: &LayerTree,
     frames: &[Changes],
-    layers: &[&Layer],
+    layers: &[OrderedLayer<'_>],
 ) -> Result<Vec<TileKey>, AllocError>
-    requires sizes { All (λ l. IsSide l.now.w × IsSide l.now.h) layers.now }
+    requires sizes { All (λ o. IsSide o.layer.now.w × IsSide o.layer.now.h) layers.now }
     requires few { length frames.now ≤ 2 ^ 32 }
-    ensures { IfOk result (λ keys. keys.items ≡ flat_map (spec.layer_keys frames.now page.now) (map (λ l. parts_of l.now) layers.now)) }
+    ensures { IfOk result (λ keys. keys.items ≡ flat_map (spec.layer_keys frames.now page.now) (map (λ o. parts_of o.layer.now) layers.now)) }
 {
     let mut keys = Vec::new(alloc);
-    for layer in layers {
-        let grid = grid_of(page, layer);
-        keys = with_layer(frames, grid, layer.id, keys)?;
+    for ordered in layers {
+        let grid = grid_of(page, ordered.layer);
+        keys = with_layer(frames, grid, ordered.layer.id, keys)?;
     }
     Ok(keys)
 }

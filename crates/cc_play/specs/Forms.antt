@@ -13,7 +13,7 @@ use Rattle.cc_event.specs.declared.input.Input.TheVariants as input
 use Rattle.cc_event.specs.Scripts.{ScriptModel}
 use Rattle.cc_event.specs.Frames.{blank}
 use Rattle.cc_event.specs.Judging.{framed}
-use Rattle.cc_event.specs.Visible.{grid_of, seen}
+use Rattle.cc_visible.specs.Visible.{grid_of, seen}
 
 -- an await or a draw
 abbrev pub is_plain : Input → Bool

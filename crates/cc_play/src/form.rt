@@ -8,13 +8,14 @@ ghost use Rattle.cc_edit.specs.Layers.{parts_of};
 ghost use Rattle.cc_edit.specs.Effects.{value_of};
 ghost use Rattle.std.specs.Prelude.{length, true, ◌&&◌};
 ghost use Rattle.cc_geom.specs.Grids.{places};
-ghost use Rattle.cc_event.specs.Visible.{grid_of};
+ghost use Rattle.cc_visible.specs.Visible.{grid_of};
 ghost use Rattle.cc_play.specs.Forms as forms;
 
 use cc_edit::{Command, Layer, LayerTree};
-use cc_event::{Input, Script, visible_places};
+use cc_event::{Input, Script};
 use cc_geom::Grid;
 use cc_tree::Offsets;
+use cc_visible::visible_places;
 use std::alloc::{AllocError, Global};
 
 /// Whether an input is an await or a draw.

@@ -20,11 +20,12 @@ use crate::picture::image_of;
 use crate::recorder::{WriteStop, write_recording};
 use crate::words::misfit;
 use cc_edit::{LayerTree, Painting, View, main_offsets};
-use cc_event::{Event, Script, visible_keys};
+use cc_event::{Event, Script};
 use cc_io::{Sink, Source};
 use cc_pixel::Colour;
 use cc_script::{TextFault, print_script, read_script};
 use cc_tree::Offsets;
+use cc_visible::visible_keys;
 use std::alloc::{AllocError, Global};
 use std::thread::Threads;
 

@@ -6,7 +6,7 @@ use Rattle.cc_geom.specs.Grids.{places}
 use Rattle.cc_tree.specs.OffsetMap.{offset_at}
 use Rattle.cc_priority.specs.Bins.{is_visible}
 use Rattle.cc_edit.specs.Layers.{parts_of}
-use Rattle.cc_event.specs.Visible.{grid_of, seen, visible_places}
+use Rattle.cc_visible.specs.Visible.{grid_of, seen, visible_places}
 use Rattle.cc_play.proofs.Counts.{all_pass}
 use Rattle.cc_play.proofs.form.shows_whole.Goals as goal
 

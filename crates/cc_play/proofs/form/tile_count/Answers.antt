@@ -4,7 +4,7 @@ use Rattle.cc_geom.specs.Sides.{Sides}
 use Rattle.cc_geom.specs.Grids.{tiles}
 use Rattle.cc_edit.specs.declared.view.View.{View}
 use Rattle.cc_edit.specs.Layers.{parts_of}
-use Rattle.cc_event.specs.Visible.{grid_of}
+use Rattle.cc_visible.specs.Visible.{grid_of}
 use Rattle.cc_play.proofs.Counts.{place_count}
 use Rattle.cc_play.proofs.form.tile_count.Goals as goal
 

@@ -15,7 +15,7 @@ use Rattle.cc_tree.specs.Placement.{translation, clip_of, draws, IsWithin}
 use Rattle.cc_edit.specs.declared.view.View.{View}
 use Rattle.cc_edit.specs.Layers.{PageLayer}
 use Rattle.cc_edit.specs.Pages.{Page, IsView}
-use Rattle.cc_event.specs.Visible.{viewport, grid_of, cut_by, visible_places}
+use Rattle.cc_visible.specs.Visible.{viewport, grid_of, cut_by, visible_places}
 
 -- ---- a clip cut by a viewport
 

@@ -10,30 +10,14 @@ ghost use Rattle.cc_tree.specs.OffsetMap.{offset_at, AreOffsets};
 ghost use Rattle.cc_tree.specs.Placement.{IsWithin};
 ghost use Rattle.cc_edit.specs.Layers.{parts_of};
 ghost use Rattle.cc_edit.specs.Pages.{IsView};
-ghost use Rattle.cc_event.specs.Visible as spec;
+ghost use Rattle.cc_visible.specs.Visible as spec;
 
-use cc_edit::{Layer, LayerTree, View};
-use cc_geom::{Grid, Keys, Place, Point, Rect, TileKey};
+use crate::order::{OrderedLayer, by_id};
+use crate::screen::{clip_in, grid_of};
+use cc_edit::{Layer, LayerTree};
+use cc_geom::{Keys, Place, Point, Rect, TileKey};
 use cc_tree::Offsets;
 use std::alloc::{AllocError, Global};
-
-// The part of a viewport that a clip lets through.
-fn cut(view: View, clip: Option<Rect>) -> Rect
-    requires view { IsView view }
-    requires sound { IfSome clip IsSound }
-    ensures { result ≡ spec.cut_by (record { x = pos 0; y = pos 0; w = pos view.w; h = pos view.h }) clip }
-{
-    let viewport = Rect {
-        x: 0,
-        y: 0,
-        w: view.w as i32,
-        h: view.h as i32,
-    };
-    match clip {
-        None => viewport,
-        Some(clip) => clip.intersect(viewport),
-    }
-}
 
 // The opposite of a number.
 fn opposite(n: i32) -> i32
@@ -75,48 +59,10 @@ pub fn visible_places(
     if !props.draws(layer.effect) {
         return Ok(Vec::new(alloc));
     }
-    let view = tree.view();
-    let grid = Grid {
-        w: layer.w,
-        h: layer.h,
-        tile: view.tile,
-    };
-    let clip = cut(view, props.clip_of(layer.clip, offsets));
+    let grid = grid_of(tree, layer);
+    let clip = clip_in(tree, offsets, layer);
     let by = props.translation(layer.transform, offsets);
     grid.places_touching(alloc, moved_back(clip, by))
-}
-
-// How many of the front have a smaller id.
-fn count_below(layers: &[&Layer], id: u32) -> usize
-    ensures value { result ≡ prefix_len (λ l. nat_lt l.now.id id) layers.now }
-    ensures within { result ≤ length layers.now }
-{
-    let mut count = 0;
-    for layer in layers {
-        if layer.id >= id {
-            break;
-        }
-        count += 1;
-    }
-    count
-}
-
-/// The layers by rising id. Both sides of each are 1 to 16384. An error is want of memory.
-pub fn by_id<'a>(alloc: Global, layers: &'a [Layer]) -> Result<Vec<&'a Layer>, AllocError>
-    requires { All (λ l. IsSide l.w × IsSide l.h) layers.now }
-    ensures order { IfOk result (λ order. map (λ l. parts_of l.now) order.items ≡ spec.by_id (map parts_of layers.now)) }
-    ensures sized { IfOk result (λ order. All (λ l. IsSide l.now.w × IsSide l.now.h) order.items) }
-{
-    let mut order: Vec<&'a Layer> = Vec::new(alloc);
-    let mut left = layers.len();
-    while left > 0 {
-        let i = left - 1;
-        let layer = &layers[i];
-        let at = count_below(order.as_slice(), layer.id);
-        order.insert(at, layer)?;
-        left = i;
-    }
-    Ok(order)
 }
 
 // Adds the keys of these places of a layer.
@@ -142,17 +88,17 @@ fn keys_of(
     alloc: Global,
     tree: &LayerTree,
     offsets: &Offsets,
-    layers: &[&Layer],
+    layers: &[OrderedLayer<'_>],
     stamp: u32,
 ) -> Result<Keys, AllocError>
     requires offsets { AreOffsets (offset_at offsets.now) }
-    requires sizes { All (λ l. IsSide l.now.w × IsSide l.now.h) layers.now }
-    ensures { IfOk result (λ keys. keys ≡ flat_map (λ l. map (spec.key_at (λ _ _. stamp) l.id) (spec.visible_places tree.now (offset_at offsets.now) l)) (map (λ l. parts_of l.now) layers.now)) }
+    requires sizes { All (λ o. IsSide o.layer.now.w × IsSide o.layer.now.h) layers.now }
+    ensures { IfOk result (λ keys. keys ≡ flat_map (λ l. map (spec.key_at (λ _ _. stamp) l.id) (spec.visible_places tree.now (offset_at offsets.now) l)) (map (λ o. parts_of o.layer.now) layers.now)) }
 {
     let mut keys = Keys::new(alloc);
-    for layer in layers {
-        let places = visible_places(alloc, tree, offsets, layer)?;
-        push_keys(&mut keys, layer.id, places.as_slice(), stamp)?;
+    for one in layers {
+        let places = visible_places(alloc, tree, offsets, one.layer)?;
+        push_keys(&mut keys, one.layer.id, places.as_slice(), stamp)?;
     }
     Ok(keys)
 }

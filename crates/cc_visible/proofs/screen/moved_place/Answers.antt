@@ -3,8 +3,8 @@ use Rattle.std.proofs.Common.{sym, subst, rules}
 use Rattle.cc_geom.specs.declared.rect.Rect.{Rect}
 use Rattle.cc_geom.specs.Covers.{IsSound}
 use Rattle.cc_geom.specs.Gaps.{shifted}
-use Rattle.cc_legal.proofs.MovedPlaces.{moved_sound}
-use Rattle.cc_legal.proofs.seen.moved_place.Goals as goal
+use Rattle.cc_visible.proofs.MovedPlaces.{moved_sound}
+use Rattle.cc_visible.proofs.screen.moved_place.Goals as goal
 
 pub shift-requires-clause-result_sound : goal.shift-requires-clause-result_sound
 shift-requires-clause-result_sound c =
