@@ -9,7 +9,7 @@ use mir.Val.{Fits}
 use Rattle.std.proofs.lemmas.List.{get_or-map}
 use Rattle.std.proofs.lemmas.Grind.{and_numeral}
 use Rattle.cc_pixel.specs.Colours.{Parts, times_255, above}
-use Rattle.cc_pixel.specs.Rows.{alpha_place, ArePremultiplied, IsLaid, IsFaded, IsFilled, part_of}
+use Rattle.cc_pixel.specs.Rows.{alpha_place, ArePremultiplied, IsLaid, IsFaded, IsFilled, part_of, AreOpaque}
 use Rattle.cc_pixel.proofs.Fills.{same_parts}
 use Rattle.cc_pixel.specs.LaneBytes.{IsBytes, AreParts}
 
@@ -265,6 +265,26 @@ laid old source seen at same fit whole ready os count lanes lows =
           ∙ fits;
       before = λ i lt. get_or-put_chunk_below at old new i 0 lt;
       behind = λ i le. get_or-put_chunk_above at old new i 0 (omega arith);
+    }
+
+-- sixteen bytes of a row, each that of an opaque source
+pub copied : (old source : List ℕ) (at : ℕ) → length old ≡ length source → at + 16 ≤ length source → AreOpaque at 16 source
+    → IsLaid at 16 source old (put_chunk at old (chunk at 16 source))
+copied old source at same fit opaque =
+    let size : length (chunk at 16 source) ≡ 16 = length-chunk at 16 source fit in
+    record {
+      inside = λ i from to.
+          let j = i - at in
+          let place : at + j ≡ i = omega arith in
+          let none : above (slice_index old i) (slice_index source i) 255 ≡ slice_index source i = omega arith in
+          sym (ap (slice_index (put_chunk at old (chunk at 16 source))) place)
+          ∙ get_or-put_chunk_at at old (chunk at 16 source) j 0 (omega arith) (omega arith)
+          ∙ get_or-chunk at 16 source j 0 (omega arith)
+          ∙ ap (slice_index source) place
+          ∙ sym none
+          ∙ ap (λ (a : ℕ). above (slice_index old i) (slice_index source i) a) (sym (opaque i from to));
+      before = λ i lt. get_or-put_chunk_below at old (chunk at 16 source) i 0 lt;
+      behind = λ i le. get_or-put_chunk_above at old (chunk at 16 source) i 0 (omega arith);
     }
 
 -- sixteen bytes of a row were faded

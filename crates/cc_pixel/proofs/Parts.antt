@@ -1,5 +1,5 @@
 -- What a call on a run of a surface's pixels did to the surface.
-use Rattle.std.specs.Prelude.{ℕ, ◌+◌, ◌*◌, ◌-◌, ◌<◌, ◌≤◌, ◌≡◌, List, length, slice_index, take, drop}
+use Rattle.std.specs.Prelude.{ℕ, ◌+◌, ◌*◌, ◌-◌, ◌/◌, ◌%◌, ◌<◌, ◌≤◌, ◌≡◌, List, length, slice_index, take, drop}
 use Rattle.std.proofs.Common.{arith, ◌∙◌, ap, sym, inl, inr}
 use Rattle.std.proofs.lemmas.Bool.{cases_lt}
 use Rattle.std.proofs.lemmas.List.{length-take, length-drop}
@@ -7,7 +7,7 @@ use Rattle.std.proofs.lemmas.Int.{clamps}
 use Rattle.std.proofs.lemmas.Grind.{common_steps}
 use borrow.Rule.Slice.PartMut.{put_mid}
 use Rattle.cc_pixel.specs.Colours.{Parts, above, blend}
-use Rattle.cc_pixel.specs.Rows.{pixel, ArePremultiplied, alpha_place}
+use Rattle.cc_pixel.specs.Rows.{pixel, ArePremultiplied, IsLaid, alpha_place}
 use Rattle.cc_pixel.specs.Surfaces.{IsPart}
 use Rattle.cc_pixel.proofs.Fills.{same_parts}
 
@@ -143,6 +143,24 @@ laid_pixel n old source new bytes j le =
     (laid_byte n old source new bytes (4 * j + 1) j (omega arith) (omega arith))
     (laid_byte n old source new bytes (4 * j + 2) j (omega arith) (omega arith))
     (laid_byte n old source new bytes (4 * j + 3) j (omega arith) (omega arith))
+
+-- what shows of a greater part is no less
+shown_grows : (x y kept : ℕ) → x ≤ y → (x * kept + 127) / 255 ≤ (y * kept + 127) / 255
+shown_grows x y kept le = let grows : x * kept ≤ y * kept = grind arith in omega arith
+
+-- a premultiplied row that a premultiplied source was laid over is premultiplied
+pub laid_premultiplied : (n : ℕ) (source old new : List ℕ) → IsLaid 0 n source old new → n % 4 ≡ 0 → length source ≡ n → length old ≡ n → length new ≡ n
+    → ArePremultiplied source → ArePremultiplied old → ArePremultiplied new
+laid_premultiplied n source old new laid whole sized olds news above below i lt =
+    let alpha : alpha_place (alpha_place i) ≡ alpha_place i = omega arith in
+    let here = laid.inside i (omega arith) (omega arith) in
+    let there = laid.inside (alpha_place i) (omega arith) (omega arith) in
+    let kept : slice_index source (alpha_place (alpha_place i)) ≡ slice_index source (alpha_place i) = ap (slice_index source) alpha in
+    let low = above i (omega arith) in
+    let shows = shown_grows (slice_index old i) (slice_index old (alpha_place i)) (255 - slice_index source (alpha_place i)) (below i (omega arith)) in
+    let opaque : slice_index new (alpha_place i) ≡ slice_index source (alpha_place i) + (slice_index old (alpha_place i) * (255 - slice_index source (alpha_place i)) + 127) / 255 =
+    there ∙ ap (λ (a : ℕ). slice_index source (alpha_place i) + (slice_index old (alpha_place i) * (255 - a) + 127) / 255) kept in
+    omega arith
 
 -- a run that was changed by `g` was changed by all that does the same
 pub part_like : (k n : ℕ) (g h : ℕ → Parts → Parts) (old new : List ℕ) → IsPart k n g old new

@@ -47,3 +47,11 @@ pub record IsFaded (at n opacity : ℕ) (old new : List ℕ) : Type 0 where
   pub inside : (i : ℕ) → at ≤ i → i < at + n → slice_index new i ≡ times_255 (slice_index old i) opacity
   pub before : (i : ℕ) → i < at → slice_index new i ≡ slice_index old i
   pub behind : (i : ℕ) → at + n ≤ i → slice_index new i ≡ slice_index old i
+
+-- the alphas of bytes `at` to `at + n` of a row are 255
+abbrev pub AreOpaque : ℕ → ℕ → List ℕ → Type 0
+AreOpaque at n row = (i : ℕ) → at ≤ i → i < at + n → slice_index row (alpha_place i) ≡ 255
+
+-- bytes `at` to `at + n` of a row are 0
+abbrev pub AreClear : ℕ → ℕ → List ℕ → Type 0
+AreClear at n row = (i : ℕ) → at ≤ i → i < at + n → slice_index row i ≡ 0

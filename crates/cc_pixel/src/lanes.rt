@@ -1,8 +1,8 @@
 //! Sixteen bytes of a row at a time, two of them in each lane of sixteen bits.
 
-ghost use Rattle.std.specs.Prelude.{◌≡◌, ℕ, ◌+◌, ◌-◌, ◌*◌, ◌/◌, ◌%◌, ◌<◌, ◌≤◌, length, slice_index};
+ghost use Rattle.std.specs.Prelude.{◌≡◌, ℕ, ◌+◌, ◌-◌, ◌*◌, ◌/◌, ◌%◌, ◌<◌, ◌≤◌, ◌↔◌, IsTrue, length, slice_index};
 ghost use Rattle.cc_pixel.specs.Colours.{above, times_255};
-ghost use Rattle.cc_pixel.specs.Rows.{alpha_place, ArePremultiplied, IsLaid, IsFaded, IsFilled, part_of};
+ghost use Rattle.cc_pixel.specs.Rows.{alpha_place, ArePremultiplied, IsLaid, IsFaded, IsFilled, part_of, AreOpaque, AreClear};
 ghost use Rattle.cc_pixel.specs.LaneBytes.{IsBytes, AreParts};
 
 use crate::colour::Colour;
@@ -68,7 +68,7 @@ fn upper_bytes(low: u16x8, high: u16x8) -> u8x16
 
 /// Each byte of `dst` times what shows through of the pixel of `src`.
 #[inline(always)]
-fn shown(dst: u8x16, src: u8x16) -> u8x16
+pub fn shown(dst: u8x16, src: u8x16) -> u8x16
     requires dst { IsBytes dst }
     requires src { IsBytes src }
     ensures len { length result ≡ 16 }
@@ -84,7 +84,7 @@ fn shown(dst: u8x16, src: u8x16) -> u8x16
 
 /// Each byte of `v` faded to an opacity.
 #[inline(always)]
-fn faded(v: u8x16, opacity: u8) -> u8x16
+pub fn faded(v: u8x16, opacity: u8) -> u8x16
     requires { IsBytes v }
     ensures len { length result ≡ 16 }
     ensures lanes { (i : ℕ) → i < 16 → slice_index result i ≡ times_255 (slice_index v i) opacity }
@@ -107,6 +107,36 @@ pub(crate) fn over_lanes(dst: &mut [u8], src: &[u8], at: usize)
     (over + shown(below, over)).copy_to_slice(&mut dst[at..]);
 }
 
+/// Copies sixteen bytes of `src`, whose pixels are opaque.
+#[inline(always)]
+pub(crate) fn copy_lanes(dst: &mut [u8], src: &[u8], at: usize)
+    requires same { length dst.old ≡ length src.now }
+    requires inside { at + 16 ≤ length src.now }
+    requires opaque { AreOpaque at 16 src.now }
+    ensures { IsLaid at 16 src.now dst.old dst.new }
+{
+    u8x16::from_slice(&src[at..]).copy_to_slice(&mut dst[at..]);
+}
+
+/// Whether four pixels are opaque.
+#[inline(always)]
+pub fn are_opaque(v: u8x16) -> bool
+    requires { IsBytes v }
+    ensures { IsTrue result ↔ AreOpaque 0 16 v }
+{
+    let opaque = [0, 0, 0, 255, 0, 0, 0, 255, 0, 0, 0, 255, 0, 0, 0, 255];
+    v.simd_lt(u8x16::from_array(opaque)).to_bitmask() == 0
+}
+
+/// Whether sixteen bytes are all 0.
+#[inline(always)]
+pub fn are_clear(v: u8x16) -> bool
+    requires { IsBytes v }
+    ensures { IsTrue result ↔ AreClear 0 16 v }
+{
+    v.simd_ne(u8x16::splat(0)).to_bitmask() == 0
+}
+
 /// Fades sixteen bytes of a row to an opacity.
 #[inline(always)]
 pub(crate) fn fade_lanes(row: &mut [u8], at: usize, opacity: u8)
@@ -119,7 +149,7 @@ pub(crate) fn fade_lanes(row: &mut [u8], at: usize, opacity: u8)
 
 /// Four pixels of one colour.
 #[inline(always)]
-fn four_pixels(colour: Colour) -> u8x16
+pub fn four_pixels(colour: Colour) -> u8x16
     ensures len { length result ≡ 16 }
     ensures lanes { (i : ℕ) → i < 16 → slice_index result i ≡ part_of colour (i % 4) }
 {

@@ -4,6 +4,7 @@ ghost use Rattle.std.specs.Prelude.{◌≡◌, ℕ, ◌+◌, ◌<◌, ◌≤◌,
 ghost use Rattle.cc_pixel.specs.Colours.{is_colour, above, times_255};
 ghost use Rattle.cc_pixel.specs.Rows.{pixel, ArePremultiplied, IsFirstWrong, IsFilled, alpha_place};
 
+use crate::blocks::{BLOCK, over_block};
 use crate::colour::Colour;
 use crate::lanes::{LANES, fade_lanes, fill_lanes, over_lanes};
 use crate::plain::{fade_byte, over_pixel};
@@ -81,6 +82,10 @@ pub fn over_row(dst: &mut [u8], src: &[u8])
     ensures premultiplied { ArePremultiplied dst.old → ArePremultiplied dst.new }
 {
     let mut at = 0;
+    'sixty_fours: while at + BLOCK <= dst.len() {
+        over_block(dst, src, at);
+        at += BLOCK;
+    }
     'sixteens: while at + LANES <= dst.len() {
         over_lanes(dst, src, at);
         at += LANES;
