@@ -1,13 +1,14 @@
 //! Display lists.
 
-ghost use Rattle.std.specs.Prelude.{◌≡◌, ℕ, ◌<◌, ◌≤◌, List, [], length, insert, remove, slice_set, slice_index_or, All, MatchOption, IfErr, IfOk, OnOk, Option, Some, None};
+ghost use Rattle.std.specs.Prelude.{◌≡◌, ℕ, ◌*◌, ◌<◌, ◌≤◌, List, [], length, insert, remove, slice_set, slice_index_or, All, MatchOption, IfErr, IfOk, OnOk, Option, Some, None};
 ghost use Rattle.cc_geom.specs.Covers.{IsSound};
+ghost use Rattle.cc_display.specs.Pictures.{near, byte_count};
 ghost use Rattle.cc_display.specs.Content.{content, IsSoundItem, IsRaster};
 
 use crate::item::Item;
 use crate::raster::{clear_pixels, draw_items, height_of, width_of};
 use cc_geom::Rect;
-use cc_pixel::Colour;
+use cc_pixel::{Colour, fill_row};
 use std::alloc::{AllocError, Global};
 use std::marker::Model;
 use std::mem;
@@ -119,6 +120,18 @@ impl DisplayList {
             scratch.as_mut_slice(),
         );
         Ok(bytes)
+    }
+
+    /// Writes the pixels that the list shows in an area, row by row from the top: four bytes a pixel.
+    /// What `scratch` holds afterwards is not said.
+    pub fn raster_into(&self, area: Rect, bytes: &mut [u8], scratch: &mut [u8])
+        requires area { IsSound area }
+        requires size { length bytes.old ≡ byte_count area.w area.h }
+        requires room { 4 * near area.w ≤ length scratch.old }
+        ensures { IsRaster self.now area bytes.new }
+    {
+        fill_row(bytes, Colour::CLEAR);
+        draw_items(self.items.as_slice(), bytes, area, scratch);
     }
 
     /// A copy of the list, on the same allocator.
