@@ -15,6 +15,7 @@ use Rattle.cc_priority.specs.Ordered.{In, SameMembers}
 use Rattle.cc_priority.specs.Choice.{Choice, used, Victim, victim_key, victim_by, victim_of, gives_way, is_worse, victims, worst_cmp, IsWorstFirst, worst_first, is_enough, is_now, may_start, IsFirst, NoneStarts, first, least_of, IsEvicted, evicted, SameChoice, NoKeyTwice}
 use Rattle.cc_priority.specs.Laws.{WorstFirstIsOne, FirstIsOne, EvictedAreOne, EvictedGiveWay, VisibleStart, OrderIsFree}
 use Rattle.cc_priority.proofs.InOrder.{in_order_order, in_order_members, same_list, in_filter, filter_in, in_map, same_filter, same_map, same_trans, same_sym, flips}
+use Rattle.cc_priority.proofs.Members.{in_append_left, same_itself}
 use Rattle.cc_priority.proofs.RankOrders.{rank_order, worst_order, IsLeastOf, least_of_is}
 
 -- the worst-first list
@@ -29,9 +30,6 @@ worst_first_alike : (c d : Choice) (q : Rank) (us vs : List Victim) → SameMemb
 worst_first_alike c d q us vs s a b =
     same_list worst_cmp worst_order us vs a.order b.order
     (same_trans us (victims c q) vs a.members (same_trans (victims c q) (victims d q) vs s (same_sym vs (victims d q) b.members)))
-
-same_itself : (vs : List Victim) → SameMembers vs vs
-same_itself vs = record { there = λ v i. i; back = λ v i. i }
 
 pub worst_first_is_one : WorstFirstIsOne
 worst_first_is_one = record {
@@ -150,13 +148,8 @@ evicted_are_one = record { there = evicted_there; only = evicted_only }
 
 -- what the evicted are
 
-in_append : {X : Type 0} (x : X) (xs ys : List X) → In x xs → In x (xs ++ ys)
-in_append x [] ys i = absurd i
-in_append x (z ∷ zs) ys (inl e) = inl e
-in_append x (z ∷ zs) ys (inr i) = inr (in_append x zs ys i)
-
 in_take : {X : Type 0} (x : X) (n : ℕ) (xs : List X) → In x (take n xs) → In x xs
-in_take x n xs i = subst (In x) (take-append-drop n xs) (in_append x (take n xs) (drop n xs) i)
+in_take x n xs i = subst (In x) (take-append-drop n xs) (in_append_left x (take n xs) (drop n xs) i)
 
 evicted_ready : (c : Choice) (q : Rank) (e : Victim) → In e (evicted c q)
     → (t : Tile) × In t c.ready × (victim_of t ≡ e) × (gives_way q.bin t ≡ true)

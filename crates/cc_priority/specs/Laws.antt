@@ -1,13 +1,16 @@
 -- What holds of the order of ranks and of the choice.
-use Rattle.std.specs.Prelude.{◌≡◌, true, Some, None, List}
+use Rattle.std.specs.Prelude.{◌≡◌, ◌≤◌, cond, true, Option, Some, None, List, length}
 use Rattle.std.specs.declared.cmp.Ordering.{Ordering}
 use Rattle.std.specs.declared.cmp.Ordering.TheVariants.{Equal}
 use Rattle.std.specs.Cmp.{IsTotalOrder}
 use Rattle.cc_priority.specs.declared.rank.Bin.TheVariants as bin
 use Rattle.cc_priority.specs.declared.rank.Rank.{Rank}
 use Rattle.cc_priority.specs.Ordered.{In, SameMembers, IsInOrder, IsLeast}
+use Rattle.cc_geom.specs.declared.tile.TileKey.{TileKey}
+use Rattle.cc_priority.specs.Ranks.{bin_number}
 use Rattle.cc_priority.specs.Tiles.{Tile, IsRankOfKey}
-use Rattle.cc_priority.specs.Choice.{Choice, Victim, victim_of, victim_key, gives_way, IsWorstFirst, worst_first, may_start, IsFirst, NoneStarts, first, IsEvicted, evicted, SameChoice, NoKeyTwice}
+use Rattle.cc_priority.specs.Choice.{Choice, Victim, victim_of, victim_key, gives_way, IsWorstFirst, worst_first, may_start, IsFirst, NoneStarts, least_of, first, IsEvicted, evicted, SameChoice, NoKeyTwice}
+use Rattle.cc_priority.specs.Alike.{Alike, started, finished}
 
 -- a total order in which only equal values tie
 pub record IsOrder {X : Type 0} (R : X → X → Ordering) : Type 0 where
@@ -57,3 +60,18 @@ pub record OrderIsFree : Type 0 where
   pub may_start : (c d : Choice) (q : Rank) → SameChoice c d → may_start c q ≡ may_start d q
   pub first : (c d : Choice) → SameChoice c d → first c ≡ first d
   pub evicted : (c d : Choice) (q : Rank) → SameChoice c d → evicted c q ≡ evicted d q
+
+-- a rank of a better bin has no fewer victims; so the first rank is the least wanted one, where that one may start, and else there is none
+pub record LeastIsFirst : Type 0 where
+  pub no_fewer_victims : (c : Choice) (p q : Rank) → bin_number p.bin ≤ bin_number q.bin → length (worst_first c q) ≤ length (worst_first c p)
+  pub least : (c : Choice) (q : Rank) → least_of c.wanted ≡ Some q → first c ≡ cond (may_start c q) (Some q) None
+  pub none : (c : Choice) → least_of c.wanted ≡ None → first c ≡ None
+
+-- alike choices are the same choice, and they stay alike when the same key starts and when the same tile is made
+pub record AlikeStay : Type 0 where
+  pub same_choice : (c d : Choice) → Alike c d → SameChoice c d
+  pub itself : (c : Choice) → Alike c c
+  pub back : (c d : Choice) → Alike c d → Alike d c
+  pub through : (c d e : Choice) → Alike c d → Alike d e → Alike c e
+  pub started : (c d : Choice) (q : TileKey) (evicted : List TileKey) → Alike c d → Alike (started c q evicted) (started d q evicted)
+  pub finished : (c d : Choice) (tile : Option Tile) → Alike c d → Alike (finished c tile) (finished d tile)

@@ -3,7 +3,7 @@
 ghost use Rattle.cc_geom.specs.KeyOrder.{key_cmp};
 ghost use Rattle.cc_priority.specs.Ranks.{rank_cmp};
 ghost use Rattle.cc_priority.specs.Choice.{worst_cmp};
-ghost use Rattle.cc_priority.specs.Laws.{IsOrder, OrdersFix, WorstFirstIsOne, FirstIsOne, EvictedAreOne, EvictedGiveWay, VisibleStart, OrderIsFree};
+ghost use Rattle.cc_priority.specs.Laws.{IsOrder, OrdersFix, WorstFirstIsOne, FirstIsOne, EvictedAreOne, EvictedGiveWay, VisibleStart, OrderIsFree, LeastIsFirst, AlikeStay};
 
 /// Keys, ranks and what may be given up are each totally ordered, and only equal ones tie. So the least
 /// of a list is one, and two lists in order with the same members are one list.
@@ -45,4 +45,16 @@ pub fn visible_tiles_always_start()
 /// The choice does not depend on the order of the lists that it is made from.
 pub fn order_of_lists_is_free()
     ensures { OrderIsFree }
+{}
+
+/// A rank of a better bin has no fewer victims. So the rank that starts first is the least wanted one,
+/// where that one may start; where it may not, none may.
+pub fn the_least_wanted_is_first()
+    ensures { LeastIsFirst }
+{}
+
+/// Choices that differ in the order of their lists alone are alike. They stay so when the same key starts
+/// and when the same tile is made.
+pub fn alike_choices_stay_alike()
+    ensures { AlikeStay }
 {}

@@ -18,8 +18,9 @@ mod tile;
 mod tree_priority;
 
 pub use laws::{
-    evicted_keys_are_a_front, first_is_the_least, order_of_lists_is_free, orders_are_total,
-    pinned_tiles_stay, visible_tiles_always_start, worst_first_is_one_list,
+    alike_choices_stay_alike, evicted_keys_are_a_front, first_is_the_least, order_of_lists_is_free,
+    orders_are_total, pinned_tiles_stay, the_least_wanted_is_first, visible_tiles_always_start,
+    worst_first_is_one_list,
 };
 pub use rank::{Bin, Rank, Side, least};
 pub use ready_tile::ReadyTile;
