@@ -1,9 +1,15 @@
 -- A recording: the script and the events of a run, with each picture that it drew.
-use Rattle.std.specs.Prelude.{ℕ, zero, suc, Bool, true, false, if◌then◌else◌, List, [], ◌∷◌, ◌++◌, codes, decimal}
+use Rattle.std.specs.Prelude.{ℕ, zero, suc, pos, List, [], ◌∷◌, ◌++◌, codes, decimal}
+use Rattle.cc_geom.specs.declared.tile.TileKey.{TileKey}
 use Rattle.cc_pixel.specs.Colours.{Parts}
+use Rattle.cc_edit.specs.TreePainting.{paint}
 use Rattle.cc_event.specs.declared.event.Event.{Event}
 use Rattle.cc_event.specs.declared.event.Event.TheVariants as event
+use Rattle.cc_event.specs.declared.history.Entry.{Entry}
 use Rattle.cc_event.specs.Texts.{event_line}
+use Rattle.cc_event.specs.Scripts.{ScriptModel}
+use Rattle.cc_event.specs.Frames.{active_page}
+use Rattle.cc_event.specs.Scrolls.{active_offsets}
 
 -- f 0, f 1, .., f (n - 1), one after another
 unfoldable pub first : {X : Type 0} → ℕ → (ℕ → List X) → List X
@@ -26,28 +32,32 @@ image_row pixel w y = first w (λ x. rgb (pixel x y))
 unfoldable pub image : (ℕ → ℕ → Parts) → ℕ → ℕ → List ℕ
 image pixel w h = image_head w h ++ first h (image_row pixel w)
 
--- whether an event shows a picture
-abbrev pub is_draw : Event → Bool
-is_draw (event.Draw input missing) = true
-is_draw e = false
+-- what the screen shows at column x and row y after a past, where these tiles are missing: the painting of the active page at the offsets of its scrollers
+abbrev pub shown : ScriptModel → List Entry → List TileKey → ℕ → ℕ → Parts
+shown s h missing x y = paint (active_page s h) (active_offsets s h) missing s.background (pos x) (pos y)
 
--- what stands behind an event's line: the image of the picture, behind that of a draw
-abbrev pub image_behind : List ℕ → Event → List ℕ
-image_behind image e = if is_draw e then image else []
+-- the image of what the screen shows, as large as the view of the active page
+unfoldable pub shown_image : ScriptModel → List Entry → List TileKey → List ℕ
+shown_image s h missing = image (shown s h missing) (active_page s h).view.w (active_page s h).view.h
 
--- what an event adds to a recording where the picture at that point has this image
-unfoldable pub piece : List ℕ → Event → List ℕ
-piece image e = event_line e ++ image_behind image e
+-- what stands behind the line of an event that came after a past: behind that of a draw the image of what it shows, with the tiles missing that it lists
+abbrev pub image_behind : ScriptModel → List Entry → Event → List ℕ
+image_behind s h (event.Draw input missing) = shown_image s h missing
+image_behind s h _ = []
 
--- what these events add where others stand before them; the picture is that of all events before it
-abbrev pub pieces : (List Event → List ℕ) → List Event → List Event → List ℕ
-pieces picture past [] = []
-pieces picture past (e ∷ es) = piece (picture past) e ++ pieces picture (past ++ e ∷ []) es
+-- what an event adds to a recording
+unfoldable pub piece : ScriptModel → List Entry → Event → List ℕ
+piece s h e = event_line e ++ image_behind s h e
+
+-- what these entries add after a past, one after another
+abbrev pub pieces : ScriptModel → List Entry → List Entry → List ℕ
+pieces s h [] = []
+pieces s h (e ∷ es) = piece s h e.event ++ pieces s (e ∷ h) es
 
 -- the two lines before the events: the name of the format, and the script
 unfoldable pub header : List ℕ → List ℕ
 header script = (codes "cc1\n" ++ script) ++ codes "\n"
 
--- the recording of a script's text and the events of a run
-unfoldable pub recording : List ℕ → (List Event → List ℕ) → List Event → List ℕ
-recording script picture events = header script ++ pieces picture [] events
+-- the recording of a script and a history, where the script's line is this text
+unfoldable pub recorded : List ℕ → ScriptModel → List Entry → List ℕ
+recorded line s history = header line ++ pieces s [] history

@@ -7,7 +7,8 @@ use Rattle.cc_io.specs.Pieces.{GainsPrefix, PutAppends}
 use Rattle.cc_io.specs.declared.writing.PutFault.{PutFault}
 use Rattle.cc_io.specs.declared.writing.PutFault.TheVariants.{Failed, Memory}
 use Rattle.cc_event.specs.declared.event.Event.{Event}
-use Rattle.cc_event.specs.Recordings.{piece, pieces, header, recording, image_behind}
+use Rattle.cc_event.specs.Recordings.{header}
+use Rattle.cc_play.specs.Pieces.{piece, pieces, recording, image_behind}
 use Rattle.cc_event.specs.Texts.{event_line}
 use Rattle.cc_play.specs.declared.recorder.WriteStop.{WriteStop}
 use Rattle.cc_play.specs.Writing.{WritesPart}

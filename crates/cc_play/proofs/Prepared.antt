@@ -2,7 +2,7 @@
 use Rattle.std.proofs.Common.{◌≡◌, ℕ, List, ap, ◌∙◌}
 use Rattle.cc_event.specs.declared.event.Event.{Event}
 use Rattle.cc_event.specs.Scripts.{ScriptModel}
-use Rattle.cc_event.specs.Recordings.{recording}
+use Rattle.cc_play.specs.Pieces.{recording}
 use Rattle.cc_play.specs.declared.program.Show.{Show}
 use Rattle.cc_play.specs.Forms.{page_of}
 use Rattle.cc_play.specs.Pictures.{script_text, shown_image, recording_of}

@@ -2,6 +2,7 @@ pub mod Inputs
 pub mod Words
 pub mod Parts
 pub mod Writing
+pub mod Pieces
 pub mod Outcomes
 pub mod Forms
 pub mod Histories

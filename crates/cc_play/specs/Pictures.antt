@@ -8,7 +8,8 @@ use Rattle.cc_edit.specs.Pages.{Page}
 use Rattle.cc_edit.specs.Effects.{value_of}
 use Rattle.cc_edit.specs.TreePainting.{paint}
 use Rattle.cc_event.specs.Scripts.{ScriptModel}
-use Rattle.cc_event.specs.Recordings.{image, recording}
+use Rattle.cc_event.specs.Recordings.{image}
+use Rattle.cc_play.specs.Pieces.{recording}
 use Rattle.cc_visible.specs.Visible.{visible_keys}
 use Rattle.cc_script.specs.ScriptValue.{parts_data}
 use Rattle.cc_play.specs.Forms.{page_of}

@@ -1,7 +1,8 @@
 //! A recording, written as it is made.
 
 ghost use Rattle.std.specs.Prelude.{◌≡◌, ℕ, ◌≤◌, ◌++◌, List, [], flat_map, IfOk, OnOk};
-ghost use Rattle.cc_event.specs.Recordings.{is_draw as is_draw_of, image_behind, piece, header, recording};
+ghost use Rattle.cc_event.specs.Recordings.{header};
+ghost use Rattle.cc_play.specs.Pieces.{is_draw as is_draw_of, image_behind, piece, recording};
 ghost use Rattle.cc_play.specs.Parts.{PutsAll};
 ghost use Rattle.cc_play.specs.Writing.{WritesPart, WriteCause};
 

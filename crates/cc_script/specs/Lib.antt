@@ -13,3 +13,4 @@ pub mod ItemValues
 pub mod CommandValues
 pub mod InputValues
 pub mod ScriptValue
+pub mod Recordings

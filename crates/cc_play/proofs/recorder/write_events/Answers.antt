@@ -1,7 +1,7 @@
 -- The events before, the event in hand and the events left are the whole.
 use Rattle.std.proofs.Common.{◌++◌, arith}
 use Rattle.std.specs.List.{flat_map}
-use Rattle.cc_event.specs.Recordings.{piece}
+use Rattle.cc_play.specs.Pieces.{piece}
 use Rattle.cc_play.proofs.Gains.{gains_both, gains_front, part_moves, part_stops}
 use Rattle.cc_play.proofs.recorder.write_events.Goals as goal
 

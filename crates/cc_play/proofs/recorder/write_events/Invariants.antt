@@ -2,7 +2,7 @@
 use Rattle.std.proofs.Common.{◌≡◌, ℕ, ◌≤◌, List, ◌++◌, length}
 use Rattle.std.specs.List.{flat_map}
 use Rattle.std.specs.Io.KnownBytes.{Appends}
-use Rattle.cc_event.specs.Recordings.{piece}
+use Rattle.cc_play.specs.Pieces.{piece}
 use Rattle.cc_play.proofs.recorder.write_events.Given as goal
 
 abbrev pub invariant-loop-event : goal.invariant-loop-event
