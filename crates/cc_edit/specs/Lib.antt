@@ -13,3 +13,6 @@ pub mod TreePainting
 pub mod Hits
 pub mod Contents
 pub mod Paintings
+pub mod Axes
+pub mod Scrollers
+pub mod Wheels

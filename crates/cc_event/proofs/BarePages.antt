@@ -11,7 +11,7 @@ use Rattle.cc_edit.specs.declared.command.Command.TheVariants as command
 use Rattle.cc_edit.specs.Layers.{has_id}
 use Rattle.cc_edit.specs.Pages.{Page}
 use Rattle.cc_edit.specs.Effects.{after, retiles}
-use Rattle.cc_event.specs.declared.moves.Move.{Move}
+use Rattle.cc_edit.specs.declared.moves.Move.{Move}
 use Rattle.cc_event.specs.Scripts.{ScriptModel}
 use Rattle.cc_event.specs.Frames.{commands_of, page, page_before}
 use Rattle.cc_event.proofs.PageFacts.{page_values, page_before_values}

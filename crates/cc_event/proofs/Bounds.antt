@@ -11,16 +11,16 @@ use Rattle.cc_event.specs.declared.event.Event.{Event}
 use Rattle.cc_event.specs.declared.event.Event.TheVariants as event
 use Rattle.cc_event.specs.declared.input.Input.{Input}
 use Rattle.cc_event.specs.declared.input.Input.TheVariants as input
-use Rattle.cc_event.specs.declared.moves.Move.{Move}
+use Rattle.cc_edit.specs.declared.moves.Move.{Move}
 use Rattle.cc_event.specs.declared.history.Entry.{Entry}
 use Rattle.cc_event.specs.Scripts.{ScriptModel}
 use Rattle.cc_event.specs.Matters.{sends, pulls, settles, moves, scroll_move}
 use Rattle.cc_event.specs.Scans.{names, stands, counted}
-use Rattle.cc_event.specs.Axes.{Axis, across, down, move_of, is_still, listed}
-use Rattle.cc_event.specs.Scrollers.{scrollers, has_scroller, most, taken}
+use Rattle.cc_edit.specs.Axes.{Axis, across, down, move_of, is_still, listed}
+use Rattle.cc_edit.specs.Scrollers.{scrollers, has_scroller, most, taken}
 use Rattle.cc_event.specs.Frames.{page, pulls_of, active, pending, up_to, active_page, pending_page}
 use Rattle.cc_event.specs.Scrolls.{base_of, offset, active_then, pending_base, offset_then, pending_offset, clamp_move, scrollers_moved, unsent, active_offsets}
-use Rattle.cc_event.specs.Wheels.{parts, takes_at, chain_at}
+use Rattle.cc_edit.specs.Wheels.{chain_parts, takes_at, chain_at}
 use Rattle.cc_event.specs.Values.{values}
 use Rattle.cc_event.specs.ScrollLaws.{carried_by, IsSmall, AreSmall}
 use Rattle.cc_event.specs.FrameLaws.{AtEach}
@@ -186,10 +186,10 @@ small_listed : (f : ℕ → Axis → ℤ) → ((sc : ℕ) (ax : Axis) → IsSmal
 small_listed f each [] = tt
 small_listed f each (sc ∷ scs) = small_if (move_of f sc) (listed f scs) (is_still (move_of f sc)) (each sc across) (each sc down) (small_listed f each scs)
 
-small_parts : (takes : ℕ → Axis → ℤ → ℤ) → ((sc : ℕ) (ax : Axis) (z : ℤ) → IsSmall (takes sc ax z)) → (scs : List ℕ) (dx dy : ℤ) → AreSmall (parts takes scs dx dy)
+small_parts : (takes : ℕ → Axis → ℤ → ℤ) → ((sc : ℕ) (ax : Axis) (z : ℤ) → IsSmall (takes sc ax z)) → (scs : List ℕ) (dx dy : ℤ) → AreSmall (chain_parts takes scs dx dy)
 small_parts takes each [] dx dy = tt
 small_parts takes each (sc ∷ scs) dx dy =
-    small_if (record { scroller = sc; dx = takes sc across dx; dy = takes sc down dy }) (parts takes scs (dx -ℤ takes sc across dx) (dy -ℤ takes sc down dy))
+    small_if (record { scroller = sc; dx = takes sc across dx; dy = takes sc down dy }) (chain_parts takes scs (dx -ℤ takes sc across dx) (dy -ℤ takes sc down dy))
     (is_still (record { scroller = sc; dx = takes sc across dx; dy = takes sc down dy })) (each sc across dx) (each sc down dy) (small_parts takes each scs (dx -ℤ takes sc across dx) (dy -ℤ takes sc down dy))
 
 -- what a send lists

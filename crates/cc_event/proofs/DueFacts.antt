@@ -8,17 +8,17 @@ use Rattle.cc_event.specs.declared.event.Event.{Event}
 use Rattle.cc_event.specs.declared.event.Event.TheVariants as event
 use Rattle.cc_event.specs.declared.input.Input.{Input}
 use Rattle.cc_event.specs.declared.input.Input.TheVariants as input
-use Rattle.cc_event.specs.declared.moves.Move.{Move}
+use Rattle.cc_edit.specs.declared.moves.Move.{Move}
 use Rattle.cc_event.specs.declared.history.Entry.{Entry}
 use Rattle.cc_event.specs.Scripts.{ScriptModel}
 use Rattle.cc_event.specs.Matters.{sends, begins}
 use Rattle.cc_event.specs.Scans.{newest, counted, held}
-use Rattle.cc_event.specs.Axes.{across, down}
+use Rattle.cc_edit.specs.Axes.{across, down}
 use Rattle.cc_event.specs.Frames.{changes, pulls_of, is_left, active, pending, active_page}
 use Rattle.cc_event.specs.Scrolls.{next_pulls, next_clamps, accepted, active_offsets}
 use Rattle.cc_event.specs.Tiles.{required, are_ready, missing}
 use Rattle.cc_event.specs.Ranking.{first, evicted_for}
-use Rattle.cc_event.specs.Wheels.{wheel_parts, wheel_rest}
+use Rattle.cc_edit.specs.Wheels.{wheel_parts, wheel_rest}
 use Rattle.cc_event.specs.Due.{on_if, next_input, input_now, is_draw, due_ready, due_abort, due_commit, due_activate, due_scroll, due_wheel, due_start, due_done, due_draw, is_over}
 use Rattle.cc_event.specs.Legal.{sched, Next}
 use Rattle.cc_event.proofs.BoolFacts.{and_left, and_right, and_first, and_second, and_third, not_true}

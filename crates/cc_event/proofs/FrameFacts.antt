@@ -14,13 +14,13 @@ use Rattle.cc_edit.specs.Effects.{clamped_in, value_of, scrolled_by}
 use Rattle.cc_sched.specs.Kinds.{is_ready_to_commit}
 use Rattle.cc_event.specs.declared.event.Event.{Event}
 use Rattle.cc_event.specs.declared.event.Event.TheVariants as event
-use Rattle.cc_event.specs.declared.moves.Move.{Move}
+use Rattle.cc_edit.specs.declared.moves.Move.{Move}
 use Rattle.cc_event.specs.declared.history.Entry.{Entry}
 use Rattle.cc_event.specs.Scripts.{ScriptModel}
 use Rattle.cc_event.specs.Matters.{sends, commits, aborts}
 use Rattle.cc_event.specs.Scans.{stands, newest, counted}
-use Rattle.cc_event.specs.Axes.{Axis, across, down, along, amount, amount_in, named_in}
-use Rattle.cc_event.specs.Scrollers.{scrollers, main_value}
+use Rattle.cc_edit.specs.Axes.{Axis, across, down, along, amount, amount_in, named_in}
+use Rattle.cc_edit.specs.Scrollers.{scrollers, main_value}
 use Rattle.cc_event.specs.Frames.{is_empty, commands_of, pulled, commanded, page, main_move, moves_main, changes, pulls_of, active, pending, up_to}
 use Rattle.cc_event.specs.Scrolls.{active_then}
 use Rattle.cc_event.specs.Legal.{sched, Next, Legal}

@@ -1,13 +1,13 @@
 -- Sums over frames: which of them count, and what a frame that settles takes from the delta to the base.
 use Rattle.std.proofs.Common.{ℕ, ℤ, ◌≡◌, ◌⊎◌, inl, inr, zero, suc, ◌<◌, ◌≤◌, ◌==◌, pos, ◌+ℤ◌, ◌-ℤ◌, Bool, true, false, cond, not, ◌||◌, List, Option, Some, None, refl, sym, ◌∙◌, ap, arith}
 use Rattle.std.proofs.lemmas.Int.{ints}
-use Rattle.cc_event.specs.declared.moves.Move.{Move}
+use Rattle.cc_edit.specs.declared.moves.Move.{Move}
 use Rattle.cc_event.specs.declared.history.Entry.{Entry}
 use Rattle.cc_event.specs.Scripts.{ScriptModel}
 use Rattle.cc_event.specs.Matters.{sends}
 use Rattle.cc_event.specs.Scans.{stands}
-use Rattle.cc_event.specs.Axes.{Axis, amount_in}
-use Rattle.cc_event.specs.Scrollers.{main_value}
+use Rattle.cc_edit.specs.Axes.{Axis, amount_in}
+use Rattle.cc_edit.specs.Scrollers.{main_value}
 use Rattle.cc_event.specs.Frames.{page, main_move}
 use Rattle.cc_event.specs.Scrolls.{moved, main_moves, in_base, in_delta, by_send, not_sent}
 use Rattle.cc_event.proofs.BoolFacts.{same_number, other_number, is_same, is_other, by_test}

@@ -8,10 +8,10 @@ use Rattle.std.proofs.lemmas.List.{drop_all, drop_more}
 use Rattle.cc_synced.specs.Bounds.{IsBoundedNumber}
 use Rattle.cc_edit.specs.declared.command.Command.{Command}
 use Rattle.cc_edit.specs.Pages.{Page}
-use Rattle.cc_event.specs.declared.moves.Move.{Move}
+use Rattle.cc_edit.specs.declared.moves.Move.{Move}
 use Rattle.cc_event.specs.Scripts.{ScriptModel}
-use Rattle.cc_event.specs.Axes.{Axis, across, down, amount_in, named_in}
-use Rattle.cc_event.specs.Scrollers.{scrollers, main_value}
+use Rattle.cc_edit.specs.Axes.{Axis, across, down, amount_in, named_in}
+use Rattle.cc_edit.specs.Scrollers.{scrollers, main_value}
 use Rattle.cc_event.specs.Frames.{is_empty, commands_of, pulled, commanded, page, main_move, moves_main, changes}
 use Rattle.cc_event.specs.Ended.{AreBounded, IsPullOf, is_moved, Tells}
 use Rattle.cc_event.proofs.BoolFacts.{by_test}

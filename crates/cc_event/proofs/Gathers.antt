@@ -7,7 +7,7 @@ use Rattle.cc_edit.specs.declared.fault.EditError.{EditError}
 use Rattle.cc_edit.specs.declared.fault.EditError.TheVariants.{Refused, Memory}
 use Rattle.cc_edit.specs.Pages.{Page}
 use Rattle.cc_edit.specs.Effects.{after, scrolled_by}
-use Rattle.cc_event.specs.declared.moves.Move.{Move}
+use Rattle.cc_edit.specs.declared.moves.Move.{Move}
 use Rattle.cc_event.specs.Frames.{pulled}
 use Rattle.cc_event.specs.Stamps.{changed_by, unchanged}
 use Rattle.cc_event.specs.SameChanges.{SameChanges}

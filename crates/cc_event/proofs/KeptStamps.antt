@@ -13,7 +13,7 @@ use Rattle.cc_edit.specs.Pages.{Page}
 use Rattle.cc_edit.specs.Refusals.{has_layer}
 use Rattle.cc_edit.specs.Contents.{size_of}
 use Rattle.cc_edit.specs.Sound.{AreDistinct}
-use Rattle.cc_event.specs.declared.moves.Move.{Move}
+use Rattle.cc_edit.specs.declared.moves.Move.{Move}
 use Rattle.cc_event.specs.Scripts.{ScriptModel}
 use Rattle.cc_visible.specs.Visible.{grid_of}
 use Rattle.cc_event.specs.Frames.{commands_of, page}

@@ -3,9 +3,9 @@ use Rattle.std.proofs.Common.{ℕ, ℤ, ◌⊎◌, inl, inr, ◌==◌, ◌<◌, 
 use Rattle.std.specs.Prelude.{nat_lt}
 use Rattle.std.specs.Ordering.{int_eq}
 use Rattle.std.proofs.lemmas.Bool.Decides.{nat_tests, Decides-int_eq}
-use Rattle.cc_event.specs.declared.moves.Move.{Move}
+use Rattle.cc_edit.specs.declared.moves.Move.{Move}
 use Rattle.cc_event.specs.ScrollLaws.{AllAbove, AreRising}
-use Rattle.cc_event.specs.Axes.{Axis, across, down, amount, amount_in, move_of, is_still, with_move, listed, named_in, with_number, with_numbers}
+use Rattle.cc_edit.specs.Axes.{Axis, across, down, amount, amount_in, move_of, is_still, with_move, listed, named_in, with_number, with_numbers}
 
 -- a list of numbers has this one
 abbrev pub has : List ℕ → ℕ → Bool

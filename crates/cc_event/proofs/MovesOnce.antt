@@ -6,7 +6,7 @@ use Rattle.cc_event.specs.declared.history.Entry.{Entry}
 use Rattle.cc_event.specs.Scripts.{ScriptModel}
 use Rattle.cc_event.specs.Matters.{sends}
 use Rattle.cc_event.specs.Scans.{stands, counted}
-use Rattle.cc_event.specs.Axes.{Axis, amount_in}
+use Rattle.cc_edit.specs.Axes.{Axis, amount_in}
 use Rattle.cc_event.specs.Frames.{pulls_of}
 use Rattle.cc_event.specs.Scrolls.{moved, not_sent, by_send, any_carrier, unsent, carried, all_moved}
 use Rattle.cc_event.specs.ScrollLaws.{pulled_by}

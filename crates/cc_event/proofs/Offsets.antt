@@ -11,16 +11,16 @@ use Rattle.cc_event.specs.declared.event.Event.{Event}
 use Rattle.cc_event.specs.declared.event.Event.TheVariants as event
 use Rattle.cc_event.specs.declared.input.Input.{Input}
 use Rattle.cc_event.specs.declared.input.Input.TheVariants as input
-use Rattle.cc_event.specs.declared.moves.Move.{Move}
+use Rattle.cc_edit.specs.declared.moves.Move.{Move}
 use Rattle.cc_event.specs.declared.history.Entry.{Entry}
 use Rattle.cc_event.specs.Scripts.{ScriptModel}
 use Rattle.cc_event.specs.Matters.{settles, moves, scroll_move}
 use Rattle.cc_event.specs.Scans.{names, stands}
-use Rattle.cc_event.specs.Axes.{Axis, across, down, along, amount, amount_in, is_still}
-use Rattle.cc_event.specs.Scrollers.{scrollers, has_scroller, most, offsets_in, taken}
+use Rattle.cc_edit.specs.Axes.{Axis, across, down, along, amount, amount_in, is_still}
+use Rattle.cc_edit.specs.Scrollers.{scrollers, has_scroller, most, offsets_in, taken}
 use Rattle.cc_event.specs.Frames.{page, pulls_of, active, pending, up_to, active_page, pending_page}
 use Rattle.cc_event.specs.Scrolls.{delta_of, base, delta, offset, settled_then, active_then, pending_base, offset_then, clobbers, pending_offset, clamp_move, next_clamps, carried, active_offsets}
-use Rattle.cc_event.specs.Wheels.{parts, takes_at, chain_at, wheel_parts}
+use Rattle.cc_edit.specs.Wheels.{chain_parts, takes_at, chain_at, wheel_parts}
 use Rattle.cc_event.specs.Values.{values}
 use Rattle.cc_event.specs.ScrollLaws.{carried_by}
 use Rattle.cc_event.specs.Legal.{Next, Legal}
@@ -129,7 +129,7 @@ takes_is p at sc ax z = go (has_scroller p sc)
 
 -- a part of a wheel is what its scroller takes of some amount
 part_taken : (takes : ℕ → Axis → ℤ → ℤ) (sc : ℕ) (ax : Axis) (scs : List ℕ) (dx dy : ℤ)
-    → (amount_in sc ax (parts takes scs dx dy) ≡ pos 0) ⊎ ((z : ℤ) × (amount_in sc ax (parts takes scs dx dy) ≡ takes sc ax z))
+    → (amount_in sc ax (chain_parts takes scs dx dy) ≡ pos 0) ⊎ ((z : ℤ) × (amount_in sc ax (chain_parts takes scs dx dy) ≡ takes sc ax z))
 part_taken takes sc ax [] dx dy = inl refl
 part_taken takes sc ax (n ∷ scs) dx dy = go (is_still m) (n == sc) refl (part_taken takes sc ax scs (dx -ℤ takes n across dx) (dy -ℤ takes n down dy))
   where
@@ -137,7 +137,7 @@ part_taken takes sc ax (n ∷ scs) dx dy = go (is_still m) (n == sc) refl (part_
     m = record { scroller = n; dx = takes n across dx; dy = takes n down dy }
 
     rest : List Move
-    rest = parts takes scs (dx -ℤ takes n across dx) (dy -ℤ takes n down dy)
+    rest = chain_parts takes scs (dx -ℤ takes n across dx) (dy -ℤ takes n down dy)
 
     asked : Axis → ℤ
     asked across = dx

@@ -9,10 +9,10 @@ use Rattle.cc_edit.specs.Pages.{Page}
 use Rattle.cc_edit.specs.Effects.{scrolled_by, after}
 use Rattle.cc_edit.specs.Outcomes.{Accepts, StandTogether}
 use Rattle.cc_edit.specs.Refusals.{test_of, add_transform_test, set_transform_test, add_clip_test, set_clip_test, add_effect_test, set_opacity_test, add_scroller_test, set_range_test, scroll_by_test, scroll_to_test, add_layer_test, remove_layer_test, resize_layer_test, set_colour_test, insert_item_test, remove_item_test, replace_item_test, move_layer_test}
-use Rattle.cc_event.specs.declared.moves.Move.{Move}
+use Rattle.cc_edit.specs.declared.moves.Move.{Move}
 use Rattle.cc_event.specs.Scripts.{ScriptModel}
-use Rattle.cc_event.specs.Axes.{Axis, across, down, amount_in, named_in}
-use Rattle.cc_event.specs.Scrollers.{scrollers, main_value}
+use Rattle.cc_edit.specs.Axes.{Axis, across, down, amount_in, named_in}
+use Rattle.cc_edit.specs.Scrollers.{scrollers, main_value}
 use Rattle.cc_event.specs.Frames.{commands_of, pulled, commanded, page, page_before, main_move, changes, is_empty}
 use Rattle.cc_event.specs.Accepted.{TakesAll, TakesFrames, IsAccepted}
 

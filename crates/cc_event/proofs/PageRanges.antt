@@ -10,10 +10,10 @@ use Rattle.cc_edit.specs.declared.command.Command.TheVariants as command
 use Rattle.cc_edit.specs.Scrolls.{clamp_to, origin, or_origin}
 use Rattle.cc_edit.specs.Pages.{Page}
 use Rattle.cc_edit.specs.Effects.{after, with_props, clamped_in, scrolled_to, scrolled_by, value_of}
-use Rattle.cc_event.specs.declared.moves.Move.{Move}
+use Rattle.cc_edit.specs.declared.moves.Move.{Move}
 use Rattle.cc_event.specs.Scripts.{ScriptModel}
-use Rattle.cc_event.specs.Axes.{Axis, across, down, along}
-use Rattle.cc_event.specs.Scrollers.{has_scroller, end_of, most, main_value}
+use Rattle.cc_edit.specs.Axes.{Axis, across, down, along}
+use Rattle.cc_edit.specs.Scrollers.{has_scroller, end_of, most, main_value}
 use Rattle.cc_event.specs.Frames.{commands_of, pulled, commanded, page, page_before}
 use Rattle.cc_event.proofs.BoolFacts.{by_test, same_number, other_number}
 use Rattle.cc_event.proofs.NodeFacts.{find_changed, find_other, knows_changed}

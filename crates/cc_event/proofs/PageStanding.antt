@@ -7,13 +7,13 @@ use Rattle.cc_tree.specs.Entries.{ids, put_id, rising, find, knows}
 use Rattle.cc_edit.specs.Scrolls.{clamp_to}
 use Rattle.cc_edit.specs.Pages.{Page}
 use Rattle.cc_sched.specs.Kinds.{is_main_idle}
-use Rattle.cc_event.specs.declared.moves.Move.{Move}
+use Rattle.cc_edit.specs.declared.moves.Move.{Move}
 use Rattle.cc_event.specs.declared.history.Entry.{Entry}
 use Rattle.cc_event.specs.Scripts.{ScriptModel}
 use Rattle.cc_event.specs.Matters.{sends, commits, aborts, activates}
 use Rattle.cc_event.specs.Scans.{stands, newest, counted}
-use Rattle.cc_event.specs.Axes.{Axis}
-use Rattle.cc_event.specs.Scrollers.{scrollers, has_scroller, end_of, most}
+use Rattle.cc_edit.specs.Axes.{Axis}
+use Rattle.cc_edit.specs.Scrollers.{scrollers, has_scroller, end_of, most}
 use Rattle.cc_event.specs.Frames.{page, changes, pulls_of, active, pending, up_to, has_frame_ended}
 use Rattle.cc_event.specs.Scrolls.{active_then, pending_base}
 use Rattle.cc_event.specs.ScrollLaws.{frame_in_flight}

@@ -7,7 +7,7 @@ use Rattle.cc_event.specs.declared.history.Entry.{Entry}
 use Rattle.cc_event.specs.Scripts.{ScriptModel}
 use Rattle.cc_event.specs.Matters.{sends, commits, aborts, activates, settles, moves}
 use Rattle.cc_event.specs.Scans.{names, stands, newest, counted}
-use Rattle.cc_event.specs.Axes.{Axis, amount_in, named_in}
+use Rattle.cc_edit.specs.Axes.{Axis, amount_in, named_in}
 use Rattle.cc_event.specs.Frames.{pending, up_to, has_frame_ended}
 use Rattle.cc_event.specs.Scrolls.{unsent, scrollers_moved, next_pulls, not_sent}
 use Rattle.cc_event.specs.ScrollLaws.{unless_ended, frame_in_flight}

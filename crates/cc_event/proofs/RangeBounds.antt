@@ -15,14 +15,14 @@ use Rattle.cc_edit.specs.Effects.{after}
 use Rattle.cc_edit.proofs.Facts.{passed, scroll_range_facts}
 use Rattle.cc_event.specs.declared.event.Event.{Event}
 use Rattle.cc_event.specs.declared.event.Event.TheVariants as event
-use Rattle.cc_event.specs.declared.moves.Move.{Move}
+use Rattle.cc_edit.specs.declared.moves.Move.{Move}
 use Rattle.cc_event.specs.declared.history.Entry.{Entry}
 use Rattle.cc_event.specs.Scripts.{ScriptModel}
 use Rattle.cc_event.specs.Ranges.{head_in_range, main_in_range, inputs_in_range, is_in_ranges, command_in_range}
 use Rattle.cc_event.specs.Matters.{sends}
 use Rattle.cc_event.specs.Scans.{counted}
-use Rattle.cc_event.specs.Axes.{Axis, across, down}
-use Rattle.cc_event.specs.Scrollers.{end_of, most}
+use Rattle.cc_edit.specs.Axes.{Axis, across, down}
+use Rattle.cc_edit.specs.Scrollers.{end_of, most}
 use Rattle.cc_event.specs.Frames.{commands_of, commanded, page, page_before}
 use Rattle.cc_event.specs.Accepted.{TakesAll, IsAccepted}
 use Rattle.cc_event.specs.Legal.{Next, Legal}

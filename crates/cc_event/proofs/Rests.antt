@@ -9,11 +9,11 @@ use Rattle.cc_edit.specs.Scrolls.{origin}
 use Rattle.cc_edit.specs.Pages.{Page}
 use Rattle.cc_event.specs.declared.event.Event.{Event}
 use Rattle.cc_event.specs.declared.event.Event.TheVariants as event
-use Rattle.cc_event.specs.declared.moves.Move.{Move}
+use Rattle.cc_edit.specs.declared.moves.Move.{Move}
 use Rattle.cc_event.specs.declared.history.Entry.{Entry}
 use Rattle.cc_event.specs.Scripts.{ScriptModel}
-use Rattle.cc_event.specs.Axes.{Axis, across, down, amount_in}
-use Rattle.cc_event.specs.Scrollers.{has_scroller, offsets_in}
+use Rattle.cc_edit.specs.Axes.{Axis, across, down, amount_in}
+use Rattle.cc_edit.specs.Scrollers.{has_scroller, offsets_in}
 use Rattle.cc_event.specs.Frames.{page, pulls_of, active, up_to}
 use Rattle.cc_event.specs.Scrolls.{offset, pending_offset, offset_then}
 use Rattle.cc_event.specs.Values.{values}

@@ -8,7 +8,7 @@ use Rattle.cc_priority.specs.Bins.{is_visible}
 use Rattle.cc_tiling.specs.Stamps.{stamp_of}
 use Rattle.cc_edit.specs.Layers.{PageLayer, has_id}
 use Rattle.cc_edit.specs.Pages.{Page}
-use Rattle.cc_event.specs.declared.moves.Move.{Move}
+use Rattle.cc_edit.specs.declared.moves.Move.{Move}
 use Rattle.cc_event.specs.Scripts.{ScriptModel}
 use Rattle.cc_event.specs.Frames.{commands_of, page}
 use Rattle.cc_visible.specs.Visible.{grid_of, seen, visible_places, visible_keys, by_id, key_at}

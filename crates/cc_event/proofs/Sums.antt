@@ -3,12 +3,12 @@ use Rattle.std.proofs.Common.{ℕ, ℤ, ◌==◌, pos, ◌+ℤ◌, ◌≡◌, Bo
 use Rattle.std.specs.Option.{option_or}
 use Rattle.std.proofs.lemmas.Int.{ints}
 use Rattle.std.proofs.lemmas.Bool.Decides.{nat_tests}
-use Rattle.cc_event.specs.declared.moves.Move.{Move}
+use Rattle.cc_edit.specs.declared.moves.Move.{Move}
 use Rattle.cc_event.specs.declared.history.Entry.{Entry}
 use Rattle.cc_event.specs.Scripts.{ScriptModel}
 use Rattle.cc_event.specs.Matters.{sends, moves}
 use Rattle.cc_event.specs.Scans.{names, stands}
-use Rattle.cc_event.specs.Axes.{Axis, amount_in}
+use Rattle.cc_edit.specs.Axes.{Axis, amount_in}
 use Rattle.cc_event.specs.Frames.{active, up_to, pulls_of}
 use Rattle.cc_event.specs.Matters.{commits, settles}
 use Rattle.cc_event.specs.Scrolls.{added, moved, main_moves, in_base, in_delta, any_carrier, offset, all_moved}

@@ -8,8 +8,8 @@ use Rattle.cc_event.specs.declared.history.Entry.{Entry}
 use Rattle.cc_event.specs.Scripts.{ScriptModel}
 use Rattle.cc_event.specs.Matters.{settles}
 use Rattle.cc_event.specs.Scans.{names, stands}
-use Rattle.cc_event.specs.Axes.{Axis}
-use Rattle.cc_event.specs.Scrollers.{most}
+use Rattle.cc_edit.specs.Axes.{Axis}
+use Rattle.cc_edit.specs.Scrollers.{most}
 use Rattle.cc_event.specs.Frames.{pulls_of, active, pending, up_to, active_page, pending_page}
 use Rattle.cc_event.specs.Scrolls.{delta_of, delta, offset, offset_then, pending_base, pending_offset, clobbers, settled_then, unsent}
 use Rattle.cc_event.specs.Values.{values}

@@ -6,13 +6,13 @@ use Rattle.cc_synced.specs.declared.Synced.{Synced}
 use Rattle.cc_synced.specs.Table as table
 use Rattle.cc_event.specs.declared.event.Event.{Event}
 use Rattle.cc_event.specs.declared.event.Event.TheVariants as event
-use Rattle.cc_event.specs.declared.moves.Move.{Move}
+use Rattle.cc_edit.specs.declared.moves.Move.{Move}
 use Rattle.cc_event.specs.declared.history.Entry.{Entry}
 use Rattle.cc_event.specs.Scripts.{ScriptModel}
 use Rattle.cc_event.specs.Matters.{sends, commits, aborts, activates, settles, moves}
 use Rattle.cc_event.specs.Scans.{names, stands, counted}
-use Rattle.cc_event.specs.Axes.{Axis, across, down, amount_in}
-use Rattle.cc_event.specs.Scrollers.{main_value}
+use Rattle.cc_edit.specs.Axes.{Axis, across, down, amount_in}
+use Rattle.cc_edit.specs.Scrollers.{main_value}
 use Rattle.cc_event.specs.Frames.{blank, page, main_move, pulls_of, active, pending, up_to}
 use Rattle.cc_event.specs.Scrolls.{added, moved, main_moves, in_base, in_delta, by_send, base_of, base, delta, active_then, settled_then, pending_base, unsent, carried}
 use Rattle.cc_event.specs.Values.{values}

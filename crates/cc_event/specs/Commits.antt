@@ -2,7 +2,7 @@
 use Rattle.std.specs.Prelude.{◌≡◌, ◌<◌, ℕ, suc, List, length}
 use Rattle.cc_region.specs.Lists.{Changed}
 use Rattle.cc_edit.specs.Pages.{Page}
-use Rattle.cc_event.specs.declared.moves.Move.{Move}
+use Rattle.cc_edit.specs.declared.moves.Move.{Move}
 use Rattle.cc_event.specs.Scripts.{ScriptModel}
 use Rattle.cc_event.specs.Frames.{page, pulls_in}
 use Rattle.cc_event.specs.Stamps.{frame_changes}

@@ -13,12 +13,12 @@ use Rattle.cc_event.specs.declared.history.Entry.{Entry}
 use Rattle.cc_event.specs.Scripts.{ScriptModel}
 use Rattle.cc_event.specs.Matters.{sends, begins, uses}
 use Rattle.cc_event.specs.Scans.{newest, counted, held}
-use Rattle.cc_event.specs.Axes.{across, down}
+use Rattle.cc_edit.specs.Axes.{across, down}
 use Rattle.cc_event.specs.Frames.{changes, pulls_of, is_left, has_frame_ended, active, pending, active_page, is_empty}
 use Rattle.cc_event.specs.Scrolls.{next_pulls, next_clamps, accepted, active_offsets}
 use Rattle.cc_event.specs.Tiles.{required, are_ready, in_flight, missing}
 use Rattle.cc_event.specs.Ranking.{first, evicted_for}
-use Rattle.cc_event.specs.Wheels.{wheel_parts, wheel_rest}
+use Rattle.cc_edit.specs.Wheels.{wheel_parts, wheel_rest}
 
 -- the event where the condition holds
 abbrev pub on_if : Bool → Event → Option Event

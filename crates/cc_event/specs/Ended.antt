@@ -9,10 +9,10 @@ use Rattle.cc_edit.specs.declared.fault.EditError.TheVariants as error
 use Rattle.cc_edit.specs.Pages.{Page}
 use Rattle.cc_edit.specs.Effects.{after, change_of, retiles}
 use Rattle.cc_edit.specs.Outcomes.{Accepts, Refuses, Lists}
-use Rattle.cc_event.specs.declared.moves.Move.{Move}
+use Rattle.cc_edit.specs.declared.moves.Move.{Move}
 use Rattle.cc_event.specs.Scripts.{ScriptModel}
-use Rattle.cc_event.specs.Axes.{across, down, amount_in}
-use Rattle.cc_event.specs.Scrollers.{main_value}
+use Rattle.cc_edit.specs.Axes.{across, down, amount_in}
+use Rattle.cc_edit.specs.Scrollers.{main_value}
 use Rattle.cc_event.specs.Frames.{commands_of, page, pulled, commanded, changes}
 use Rattle.cc_event.specs.Accepted.{TakesAll}
 use Rattle.cc_event.specs.Judging.{RefusedIn}

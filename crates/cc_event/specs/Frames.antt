@@ -7,13 +7,13 @@ use Rattle.std.specs.Ordering.{int_eq}
 use Rattle.cc_edit.specs.declared.command.Command.{Command}
 use Rattle.cc_edit.specs.Pages.{Page}
 use Rattle.cc_edit.specs.Effects.{scrolled_by, after}
-use Rattle.cc_event.specs.declared.moves.Move.{Move}
+use Rattle.cc_edit.specs.declared.moves.Move.{Move}
 use Rattle.cc_event.specs.declared.history.Entry.{Entry}
 use Rattle.cc_event.specs.Scripts.{ScriptModel}
 use Rattle.cc_event.specs.Matters.{sends, pulls, commits, aborts, activates}
 use Rattle.cc_event.specs.Scans.{names, stands, newest, counted}
-use Rattle.cc_event.specs.Axes.{Axis, across, down, amount_in, named_in}
-use Rattle.cc_event.specs.Scrollers.{scrollers, main_value}
+use Rattle.cc_edit.specs.Axes.{Axis, across, down, amount_in, named_in}
+use Rattle.cc_edit.specs.Scrollers.{scrollers, main_value}
 
 -- the page before all frames: the script's view, and nothing in it
 abbrev pub blank : ScriptModel → Page

@@ -5,8 +5,6 @@ pub mod Scripts
 pub mod Texts
 pub mod Matters
 pub mod Scans
-pub mod Axes
-pub mod Scrollers
 pub mod Frames
 pub mod Accepted
 pub mod Judging
@@ -15,7 +13,6 @@ pub mod Values
 pub mod Stamps
 pub mod Tiles
 pub mod Ranking
-pub mod Wheels
 pub mod Due
 pub mod Legal
 pub mod Lockstep

@@ -7,7 +7,7 @@ use Rattle.cc_event.specs.declared.event.Event.{Event}
 use Rattle.cc_event.specs.declared.event.Event.TheVariants as event
 use Rattle.cc_event.specs.declared.input.Input.{Input}
 use Rattle.cc_event.specs.declared.input.Input.TheVariants as input
-use Rattle.cc_event.specs.declared.moves.Move.{Move}
+use Rattle.cc_edit.specs.declared.moves.Move.{Move}
 use Rattle.cc_event.specs.Scripts.{ScriptModel}
 
 -- the kind of an event

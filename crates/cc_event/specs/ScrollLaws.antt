@@ -3,12 +3,12 @@ use Rattle.std.specs.Prelude.{ℕ, zero, suc, ◌-◌, ◌^◌, ◌<◌, ◌≡�
 use Rattle.cc_synced.specs.declared.Synced.{Synced}
 use Rattle.cc_event.specs.declared.event.Event.{Event}
 use Rattle.cc_event.specs.declared.event.Event.TheVariants as event
-use Rattle.cc_event.specs.declared.moves.Move.{Move}
+use Rattle.cc_edit.specs.declared.moves.Move.{Move}
 use Rattle.cc_event.specs.declared.history.Entry.{Entry}
 use Rattle.cc_event.specs.Scripts.{ScriptModel}
 use Rattle.cc_event.specs.Matters.{sends}
 use Rattle.cc_event.specs.Scans.{newest}
-use Rattle.cc_event.specs.Axes.{Axis, amount_in, is_still}
+use Rattle.cc_edit.specs.Axes.{Axis, amount_in, is_still}
 use Rattle.cc_event.specs.Frames.{has_frame_ended, pending}
 use Rattle.cc_event.specs.Scrolls.{base, delta, pending_base, carried}
 

@@ -8,13 +8,13 @@ use Rattle.cc_geom.specs.declared.rect.Point.{Point}
 use Rattle.cc_edit.specs.declared.command.Command.{Command}
 use Rattle.cc_edit.specs.declared.command.Command.TheVariants as command
 use Rattle.cc_edit.specs.Scrolls.{clamp_to}
-use Rattle.cc_event.specs.declared.moves.Move.{Move}
+use Rattle.cc_edit.specs.declared.moves.Move.{Move}
 use Rattle.cc_event.specs.declared.history.Entry.{Entry}
 use Rattle.cc_event.specs.Scripts.{ScriptModel}
 use Rattle.cc_event.specs.Matters.{sends, commits, settles, moves}
 use Rattle.cc_event.specs.Scans.{names, stands}
-use Rattle.cc_event.specs.Axes.{Axis, amount_in, listed, named_in, with_numbers}
-use Rattle.cc_event.specs.Scrollers.{scrollers, most, offsets_in, taken}
+use Rattle.cc_edit.specs.Axes.{Axis, amount_in, listed, named_in, with_numbers}
+use Rattle.cc_edit.specs.Scrollers.{scrollers, most, offsets_in, taken}
 use Rattle.cc_event.specs.Frames.{commands_of, main_move, pulls_of, active, pending, up_to, active_page, pending_page}
 
 -- the moves of one event added to a sum, where they count; where there are none, nothing is

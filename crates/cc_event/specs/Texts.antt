@@ -4,7 +4,7 @@
 use Rattle.std.specs.Prelude.{ℕ, ℤ, pos, List, [], ◌∷◌, ◌++◌, flat_map, codes}
 use Rattle.std.specs.Fmt.{signed_decimal}
 use Rattle.cc_geom.specs.declared.tile.TileKey.{TileKey}
-use Rattle.cc_event.specs.declared.moves.Move.{Move}
+use Rattle.cc_edit.specs.declared.moves.Move.{Move}
 use Rattle.cc_event.specs.declared.event.Event.{Event}
 use Rattle.cc_event.specs.declared.event.Event.TheVariants as event
 

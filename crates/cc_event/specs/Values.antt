@@ -7,8 +7,8 @@ use Rattle.cc_event.specs.declared.event.Event.TheVariants as event
 use Rattle.cc_event.specs.declared.history.Entry.{Entry}
 use Rattle.cc_event.specs.Scripts.{ScriptModel}
 use Rattle.cc_event.specs.Matters.{moves}
-use Rattle.cc_event.specs.Axes.{Axis, amount_in}
-use Rattle.cc_event.specs.Scrollers.{main_value}
+use Rattle.cc_edit.specs.Axes.{Axis, amount_in}
+use Rattle.cc_edit.specs.Scrollers.{main_value}
 use Rattle.cc_event.specs.Frames.{page, pulls_of}
 
 -- the values after an event: each step of the table at its event, and each accepted move added

@@ -5,13 +5,12 @@ ghost use Rattle.std.specs.List.{list_any};
 ghost use Rattle.std.specs.Ordering.{int_eq};
 ghost use Rattle.cc_synced.specs.Bounds.{IsBoundedNumber};
 ghost use Rattle.cc_edit.specs.Effects.{scrolled_by};
-ghost use Rattle.cc_event.specs.Axes.{named_in};
+ghost use Rattle.cc_edit.specs.Axes.{named_in};
 ghost use Rattle.cc_event.specs.Frames.{commands_of, pulled};
 ghost use Rattle.cc_event.specs.Ended.{AreBounded, Noted, TookCommand, TookCommands, TookFrame, StandsBefore, EndsFrame, IsPullOf, is_moved, Tells};
 
-use crate::moves::Move;
 use crate::script::Script;
-use cc_edit::{Command, EditError, LayerTree};
+use cc_edit::{Command, EditError, LayerTree, Move};
 use cc_geom::Point;
 use cc_region::Changes;
 use std::alloc::{AllocError, Global};

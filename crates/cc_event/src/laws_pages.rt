@@ -4,11 +4,11 @@ ghost use Rattle.std.specs.Prelude.{◌≡◌, ℕ, suc, ◌<◌, ◌≤◌, ℤ
 ghost use Rattle.cc_edit.specs.Scrolls.{clamp_to};
 ghost use Rattle.cc_event.specs.Scripts.{ScriptModel};
 ghost use Rattle.cc_event.specs.declared.history.Entry.{Entry};
-ghost use Rattle.cc_event.specs.declared.moves.Move.{Move};
+ghost use Rattle.cc_edit.specs.declared.moves.Move.{Move};
 ghost use Rattle.cc_event.specs.Matters.{sends};
 ghost use Rattle.cc_event.specs.Scans.{counted};
-ghost use Rattle.cc_event.specs.Axes.{Axis};
-ghost use Rattle.cc_event.specs.Scrollers.{has_scroller, most, main_value};
+ghost use Rattle.cc_edit.specs.Axes.{Axis};
+ghost use Rattle.cc_edit.specs.Scrollers.{has_scroller, most, main_value};
 ghost use Rattle.cc_event.specs.Frames.{commands_of, page, page_before, pulled, main_move, changes, pulls_of};
 ghost use Rattle.cc_event.specs.Accepted.{IsAccepted, TakesAll};
 ghost use Rattle.cc_event.specs.Legal.{Legal};

@@ -4,7 +4,7 @@
 
 ghost use Rattle.std.specs.Prelude.{◌≡◌, ℕ, suc, ◌≤◌, true, false, List, ◌∷◌, ◌++◌};
 ghost use Rattle.cc_geom.specs.declared.tile.TileKey.{TileKey as Key};
-ghost use Rattle.cc_event.specs.declared.moves.Move.{Move as Pull};
+ghost use Rattle.cc_edit.specs.declared.moves.Move.{Move as Pull};
 ghost use Rattle.cc_event.specs.declared.history.Entry.{Entry as Entered};
 ghost use Rattle.cc_event.specs.Scripts.{ScriptModel};
 ghost use Rattle.cc_event.specs.Matters.{commits};

@@ -1,23 +1,10 @@
-//! Moves of scrollers, and lists of them.
+//! Lists of moves of scrollers.
 
 ghost use Rattle.std.specs.Prelude.{◌≡◌, ℕ, ℤ, ◌<◌, List, [], ◌∷◌, ◌++◌, length, slice_get, OnOk, OnErr, IfOk, IfErr, MatchOption, option_copied};
 
+use cc_edit::Move;
 use std::alloc::{AllocError, Global};
 use std::marker::Model;
-
-/// How far one scroller moved or is to move.
-///
-/// The sum that is sent to the main side can grow by one scroll range with each frame, so each part
-/// stays below 2^34 in absolute value, which is more than an `i32` holds.
-#[derive(Clone, Copy, PartialEq, Eq, Debug)]
-pub struct Move {
-    /// The scroller's number.
-    pub scroller: u32,
-    /// To the right, in pixels.
-    pub dx: i64,
-    /// Downwards, in pixels.
-    pub dy: i64,
-}
 
 /// A list of moves.
 #[derive(Drop)]
@@ -27,7 +14,7 @@ pub struct Moves {
 
 impl Model for Moves {
     ghost use Rattle.std.specs.Prelude.{List};
-    ghost use Rattle.cc_event.specs.declared.moves.Move.{Move};
+    ghost use Rattle.cc_edit.specs.declared.moves.Move.{Move};
 
     ghost Value = { List Move };
 
@@ -96,7 +83,7 @@ pub struct Sends {
 
 impl Model for Sends {
     ghost use Rattle.std.specs.Prelude.{List};
-    ghost use Rattle.cc_event.specs.declared.moves.Move.{Move};
+    ghost use Rattle.cc_edit.specs.declared.moves.Move.{Move};
 
     ghost Value = { List (List Move) };
 

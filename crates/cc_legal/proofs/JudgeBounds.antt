@@ -8,7 +8,7 @@ use Rattle.cc_event.specs.declared.history.Entry.{Entry}
 use Rattle.cc_event.specs.Scripts.{ScriptModel}
 use Rattle.cc_event.specs.Matters.{settles}
 use Rattle.cc_event.specs.Scans.{names, stands}
-use Rattle.cc_event.specs.Axes.{Axis}
+use Rattle.cc_edit.specs.Axes.{Axis}
 use Rattle.cc_event.specs.Frames.{pending}
 use Rattle.cc_event.specs.Scrolls.{base, delta, delta_of, pending_base, offset_then}
 use Rattle.cc_event.specs.Values.{values}

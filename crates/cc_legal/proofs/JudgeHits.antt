@@ -10,7 +10,7 @@ use Rattle.cc_tree.proofs.Chains.{gathered_law, parent_older, known_other}
 use Rattle.cc_edit.specs.Layers.{PageLayer}
 use Rattle.cc_edit.specs.Pages.{Page}
 use Rattle.cc_edit.specs.Hits.{last_covering, nearest_scroller, scrollers_from, chain}
-use Rattle.cc_event.specs.Wheels.{chain_or_none}
+use Rattle.cc_edit.specs.Wheels.{chain_or_none}
 
 -- how many nodes stand from the oldest up to that of an id; 0 where it has none
 abbrev pub rank : {N : Type 0} → List (ℕ × N) → ℕ → ℕ

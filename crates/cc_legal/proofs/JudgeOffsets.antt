@@ -8,8 +8,8 @@ use Rattle.std.proofs.lemmas.Bool.Decides.{nat_tests}
 use Rattle.cc_geom.specs.declared.rect.Point.{Point}
 use Rattle.cc_edit.specs.Scrolls.{origin}
 use Rattle.cc_edit.specs.Pages.{Page}
-use Rattle.cc_event.specs.Axes.{Axis, across, down}
-use Rattle.cc_event.specs.Scrollers.{scrollers, offsets_in}
+use Rattle.cc_edit.specs.Axes.{Axis, across, down}
+use Rattle.cc_edit.specs.Scrollers.{scrollers, offsets_in}
 use Rattle.cc_legal.specs.Stages.{offsets_among}
 use Rattle.cc_event.proofs.MoveLists.{has}
 use Rattle.cc_event.proofs.PageStanding.{has_listed}

@@ -8,7 +8,7 @@ use Rattle.cc_tree.specs.OffsetMap.{offset_at}
 use Rattle.cc_edit.specs.Pages.{Page}
 use Rattle.cc_legal.specs.declared.standing.Stage.{Stage}
 use Rattle.cc_legal.specs.declared.standing.Stage.TheVariants as stage
-use Rattle.cc_event.specs.declared.moves.Move.{Move}
+use Rattle.cc_edit.specs.declared.moves.Move.{Move}
 use Rattle.cc_event.specs.declared.history.Entry.{Entry}
 use Rattle.cc_event.specs.Scripts.{ScriptModel}
 use Rattle.cc_event.specs.Accepted.{IsAccepted}

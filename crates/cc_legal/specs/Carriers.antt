@@ -7,7 +7,7 @@ use Rattle.cc_legal.specs.declared.carriers.Carriers.{Carriers}
 use Rattle.cc_legal.specs.declared.carriers.Carriers.TheVariants as carriers
 use Rattle.cc_event.specs.Matters.{settles}
 use Rattle.cc_event.specs.Scans.{names, stands}
-use Rattle.cc_event.specs.Axes.{Axis, across, down}
+use Rattle.cc_edit.specs.Axes.{Axis, across, down}
 use Rattle.cc_event.specs.Scrolls.{not_sent, in_base, in_delta}
 
 -- the axis of the definitions

@@ -9,7 +9,7 @@ use Rattle.cc_region.specs.Lists.{Changed}
 use Rattle.cc_tiling.specs.Stamps.{Commit, changes_in, stamp_of}
 use Rattle.cc_edit.specs.Layers.{PageLayer}
 use Rattle.cc_edit.specs.Pages.{Page}
-use Rattle.cc_event.specs.declared.moves.Move.{Move}
+use Rattle.cc_edit.specs.declared.moves.Move.{Move}
 use Rattle.cc_event.specs.Scripts.{ScriptModel}
 use Rattle.cc_visible.specs.Visible.{grid_of, key_at}
 use Rattle.cc_event.specs.Stamps.{unchanged, frame_changes}

@@ -12,9 +12,9 @@ use Rattle.cc_geom.specs.declared.tile.TileKey.{TileKey}
 use Rattle.cc_priority.specs.declared.rank.Rank.{Rank}
 use Rattle.cc_edit.specs.Pages.{Page}
 use Rattle.cc_edit.specs.Hits.{target}
-use Rattle.cc_event.specs.declared.moves.Move.{Move}
-use Rattle.cc_event.specs.Axes.{across, down}
-use Rattle.cc_event.specs.Wheels.{wheel_rest, wheel_parts}
+use Rattle.cc_edit.specs.declared.moves.Move.{Move}
+use Rattle.cc_edit.specs.Axes.{across, down}
+use Rattle.cc_edit.specs.Wheels.{wheel_rest, wheel_parts}
 use Rattle.cc_event.specs.Ranking.{first, evicted_for}
 use Rattle.cc_event.specs.Legal.{sched, Next, IsLegal}
 

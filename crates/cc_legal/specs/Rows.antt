@@ -1,5 +1,5 @@
 -- Rows of computed moves, whose numbers may be larger than those of a list of moves.
-use Rattle.cc_event.specs.declared.moves.Move.{Move}
+use Rattle.cc_edit.specs.declared.moves.Move.{Move}
 use Rattle.cc_legal.specs.declared.rows.Row.{Row}
 
 -- the move that a row is

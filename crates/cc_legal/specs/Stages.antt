@@ -7,9 +7,9 @@ use Rattle.cc_event.specs.declared.history.Entry.{Entry}
 use Rattle.cc_legal.specs.declared.standing.Stage.{Stage}
 use Rattle.cc_legal.specs.declared.standing.Stage.TheVariants as stage
 use Rattle.cc_event.specs.Scripts.{ScriptModel}
-use Rattle.cc_event.specs.Axes.{Axis, across, down}
+use Rattle.cc_edit.specs.Axes.{Axis, across, down}
 use Rattle.cc_edit.specs.Scrolls.{origin}
-use Rattle.cc_event.specs.Scrollers.{offsets_in}
+use Rattle.cc_edit.specs.Scrollers.{offsets_in}
 use Rattle.cc_event.specs.Frames.{active, pending, active_page, pending_page}
 use Rattle.cc_event.specs.Scrolls.{offset, pending_offset}
 

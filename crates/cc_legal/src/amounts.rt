@@ -2,10 +2,11 @@
 
 ghost use Rattle.std.specs.Prelude.{◌≡◌, slice_get};
 ghost use Rattle.cc_legal.specs.Carriers.{axis_of};
-ghost use Rattle.cc_event.specs.Axes as spec;
+ghost use Rattle.cc_edit.specs.Axes as spec;
 ghost use Rattle.cc_event.specs.Matters.{scroll_move, moves, sends};
 
-use cc_event::{Event, Input, Move, Script};
+use cc_edit::Move;
+use cc_event::{Event, Input, Script};
 
 /// One of the two axes.
 #[derive(Clone, Copy, PartialEq, Eq, Debug)]

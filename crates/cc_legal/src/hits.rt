@@ -10,7 +10,7 @@ ghost use Rattle.cc_edit.specs.Layers.{parts_of, has_id};
 ghost use Rattle.cc_edit.specs.Hits as hits;
 ghost use Rattle.cc_edit.specs.Paintings.{IsOnScreen};
 ghost use Rattle.cc_edit.specs.TreePainting.{lets_through, lies_at};
-ghost use Rattle.cc_event.specs.Wheels as spec;
+ghost use Rattle.cc_edit.specs.Wheels as spec;
 
 use cc_edit::{Layer, LayerTree};
 use cc_geom::{Point, Rect};

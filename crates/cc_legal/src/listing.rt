@@ -1,7 +1,7 @@
 //! What the next `send` and the next activation list.
 
 ghost use Rattle.std.specs.Prelude.{◌≡◌, ◌^◌, ◌≤ℤ◌, ◌-ℤ◌, neg_ℤ, pos, map, IfOk};
-ghost use Rattle.cc_event.specs.Axes as axes;
+ghost use Rattle.cc_edit.specs.Axes as axes;
 ghost use Rattle.cc_legal.specs.Carriers.{axis_of};
 ghost use Rattle.cc_legal.specs.Pagings.{IsLegalPast, HasPages};
 ghost use Rattle.cc_legal.specs.Rows.{move_in};

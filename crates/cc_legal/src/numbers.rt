@@ -2,14 +2,14 @@
 
 ghost use Rattle.std.specs.Prelude.{◌≡◌, ◌≤◌, nat_lt, length, slice_get, IfOk, OnOk};
 ghost use Rattle.std.specs.List.{prefix_len};
-ghost use Rattle.cc_event.specs.Axes as axes;
+ghost use Rattle.cc_edit.specs.Axes as axes;
 ghost use Rattle.cc_event.specs.Matters.{moves, scroll_move};
 ghost use Rattle.cc_event.specs.Scans.{names};
-ghost use Rattle.cc_event.specs.Scrollers.{scrollers};
+ghost use Rattle.cc_edit.specs.Scrollers.{scrollers};
 ghost use Rattle.cc_event.specs.Scrolls as spec;
 
-use cc_edit::LayerTree;
-use cc_event::{Entry, Event, Input, Move, Script};
+use cc_edit::{LayerTree, Move};
+use cc_event::{Entry, Event, Input, Script};
 use std::alloc::{AllocError, Global};
 
 // How many of the front are smaller.

@@ -2,7 +2,7 @@
 
 ghost use Rattle.std.specs.Prelude.{◌≡◌, ℕ, IfOk};
 ghost use Rattle.cc_tree.specs.OffsetMap.{offset_at, IsOffset, AreOffsets};
-ghost use Rattle.cc_event.specs.Axes.{across, down};
+ghost use Rattle.cc_edit.specs.Axes.{across, down};
 ghost use Rattle.cc_legal.specs.Pagings.{IsLegalPast, HasPages};
 ghost use Rattle.cc_legal.specs.Stages.{stands_at, offsets_at, offsets_among};
 

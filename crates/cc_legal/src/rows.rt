@@ -2,10 +2,10 @@
 
 ghost use Rattle.std.specs.Prelude.{◌≡◌, ◌↔◌, ◌++◌, ◌∷◌, [], cond, map, pos, IsTrue, OnOk};
 ghost use Rattle.std.specs.Ordering.{int_eq};
-ghost use Rattle.cc_event.specs.Axes.{is_still};
+ghost use Rattle.cc_edit.specs.Axes.{is_still};
 ghost use Rattle.cc_legal.specs.Rows.{move_in};
 
-use cc_event::Move;
+use cc_edit::Move;
 use std::alloc::AllocError;
 
 /// How far a scroller is to move, by sums that an `i64` may not hold.

@@ -7,7 +7,8 @@ ghost use Rattle.cc_event.specs.Frames as frames;
 ghost use Rattle.cc_event.specs.Legal as legal;
 
 use crate::matter::{Matter, is_last, kind_of};
-use cc_event::{Entry, Event, Move};
+use cc_edit::Move;
+use cc_event::{Entry, Event};
 use cc_geom::TileKey;
 use cc_sched::Sched;
 

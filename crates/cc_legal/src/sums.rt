@@ -7,10 +7,10 @@ ghost use mir.Syntax.{w128};
 ghost use Rattle.cc_legal.specs.Carriers.{axis_of, counts_in, settled_with};
 ghost use Rattle.cc_legal.specs.Pagings.{ArePages};
 ghost use Rattle.cc_event.specs.Matters.{commits, moves};
-ghost use Rattle.cc_event.specs.Axes as axes;
+ghost use Rattle.cc_edit.specs.Axes as axes;
 ghost use Rattle.cc_event.specs.Scans as scans;
 ghost use Rattle.cc_event.specs.Frames as frames;
-ghost use Rattle.cc_event.specs.Scrollers as scrollers;
+ghost use Rattle.cc_edit.specs.Scrollers as scrollers;
 ghost use Rattle.cc_event.specs.Scrolls as spec;
 
 use crate::amounts::{Axis, accepted_amount, amount_in};

@@ -8,7 +8,7 @@ ghost use Rattle.cc_region.specs.Lists.{change_of};
 ghost use Rattle.cc_tiling.specs.Tiles as tiling;
 ghost use Rattle.cc_tiling.specs.Stamps as stamping;
 ghost use Rattle.cc_edit.specs.Layers.{parts_of};
-ghost use Rattle.cc_event.specs.declared.moves.Move.{Move as Pull};
+ghost use Rattle.cc_edit.specs.declared.moves.Move.{Move as Pull};
 ghost use Rattle.cc_event.specs.Scripts.{ScriptModel};
 ghost use Rattle.cc_event.specs.Frames as framing;
 ghost use Rattle.cc_event.specs.Stamps.{stamp_in};

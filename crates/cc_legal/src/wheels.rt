@@ -4,9 +4,9 @@ ghost use Rattle.std.specs.Prelude.{◌≡◌, ◌≤◌, ◌^◌, ℤ, pos, neg
 ghost use Rattle.cc_tree.specs.OffsetMap.{offset_at, AreOffsets};
 ghost use Rattle.cc_edit.specs.Paintings.{IsOnScreen};
 ghost use Rattle.cc_legal.specs.Carriers.{axis_of};
-ghost use Rattle.cc_event.specs.Axes.{across, down, along};
+ghost use Rattle.cc_edit.specs.Axes.{across, down, along};
 ghost use Rattle.cc_legal.specs.Rows.{move_in};
-ghost use Rattle.cc_event.specs.Wheels as spec;
+ghost use Rattle.cc_edit.specs.Wheels as spec;
 ghost use Rattle.cc_event.specs.declared.input.Input.TheVariants as input;
 
 use crate::amounts::Axis;
@@ -56,7 +56,7 @@ fn takes_at(tree: &LayerTree, offsets: &Offsets, scroller: u32, axis: Axis, aske
 // What the scrollers of a chain leave of an amount.
 fn left_of(tree: &LayerTree, offsets: &Offsets, axis: Axis, chain: &[u32], asked: i32) -> i128
     requires { AreOffsets (offset_at offsets.now) }
-    ensures { result ≡ spec.left (spec.takes_at tree.now (offset_at offsets.now)) (axis_of axis) chain.now asked }
+    ensures { result ≡ spec.chain_rest (spec.takes_at tree.now (offset_at offsets.now)) (axis_of axis) chain.now asked }
 {
     let mut left = asked as i128;
     for &scroller in chain {
@@ -93,7 +93,7 @@ fn parts_of_chain(
     asked_y: i32,
 ) -> Result<Vec<Row>, AllocError>
     requires { AreOffsets (offset_at offsets.now) }
-    ensures { IfOk result (λ rows. map move_in rows.items ≡ spec.parts (spec.takes_at tree.now (offset_at offsets.now)) chain.now asked_x asked_y) }
+    ensures { IfOk result (λ rows. map move_in rows.items ≡ spec.chain_parts (spec.takes_at tree.now (offset_at offsets.now)) chain.now asked_x asked_y) }
 {
     let mut rows = Vec::new(alloc);
     let mut left_x = asked_x as i128;

@@ -2,7 +2,7 @@
 use Rattle.std.proofs.Common.{◌≡◌, ℕ, zero, suc, ◌<◌, List, [], ◌∷◌, ◌++◌, length, Bool, refl, sym, ◌∙◌, ap, subst, arith}
 use Rattle.cc_region.specs.Lists.{Changed}
 use Rattle.cc_edit.specs.Pages.{Page}
-use Rattle.cc_event.specs.declared.moves.Move.{Move}
+use Rattle.cc_edit.specs.declared.moves.Move.{Move}
 use Rattle.cc_event.specs.Scripts.{ScriptModel}
 use Rattle.cc_event.specs.Frames.{commands_of, page, pulls_in, pulled, commanded, changes}
 use Rattle.cc_event.specs.Stamps.{changed_by, unchanged}

@@ -3,7 +3,8 @@
 ghost use Rattle.std.specs.Prelude.{◌≡◌, ℕ, pos, List, [], ◌∷◌, ◌++◌, flat_map, codes, OnOk, IfOk};
 ghost use Rattle.cc_event.specs.Texts.{field, field_text, fields_text, spaced, pair_fields, key_fields, move_fields, event_text, event_line as line_of};
 
-use cc_event::{Event, Move, Moves};
+use cc_edit::Move;
+use cc_event::{Event, Moves};
 use cc_geom::{Keys, TileKey};
 use itoa::Buffer;
 use std::alloc::{AllocError, Global};

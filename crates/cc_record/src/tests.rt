@@ -1,7 +1,8 @@
 //! The lines of events and the head of an image.
 
 use super::*;
-use cc_event::{Event, Move, Moves};
+use cc_edit::Move;
+use cc_event::{Event, Moves};
 use cc_geom::{Keys, TileKey};
 use std::alloc::{AllocError, Global};
 use std::test::Fail;

@@ -2,7 +2,7 @@ use Rattle.std.proofs.Common.{List, Err, ◌≡◌, sym, ap, subst, ◌∙◌}
 use Rattle.cc_edit.specs.declared.command.Command.{Command}
 use Rattle.cc_edit.specs.declared.fault.EditError.{EditError}
 use Rattle.cc_edit.specs.Pages.{Page}
-use Rattle.cc_event.specs.declared.moves.Move.{Move}
+use Rattle.cc_edit.specs.declared.moves.Move.{Move}
 use Rattle.cc_event.specs.Frames.{commands_of, page, page_before, pulled}
 use Rattle.cc_event.specs.Accepted.{TakesAll}
 use Rattle.cc_event.specs.Ended.{TookCommands}

@@ -1,6 +1,6 @@
 -- The scrollers so far are listed.
 use Rattle.std.proofs.Common.{◌≡◌, map, take}
-use Rattle.cc_event.specs.Axes.{listed}
+use Rattle.cc_edit.specs.Axes.{listed}
 use Rattle.cc_event.specs.Scrolls.{clamp_move}
 use Rattle.cc_legal.specs.Rows.{move_in}
 use Rattle.cc_legal.proofs.listing.all_clamped.Given as goal

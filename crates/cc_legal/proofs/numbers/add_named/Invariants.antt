@@ -1,6 +1,6 @@
 -- The scrollers of the moves from here on were added.
 use Rattle.std.proofs.Common.{◌≡◌, ◌≤◌, length, drop}
-use Rattle.cc_event.specs.Axes.{with_numbers, named_in}
+use Rattle.cc_edit.specs.Axes.{with_numbers, named_in}
 use Rattle.cc_legal.proofs.numbers.add_named.Given as goal
 
 abbrev pub invariant-loop-left : goal.invariant-loop-left

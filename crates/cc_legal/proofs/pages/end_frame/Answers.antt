@@ -1,5 +1,5 @@
 use Rattle.std.proofs.Common.{List, sym, subst}
-use Rattle.cc_event.specs.declared.moves.Move.{Move}
+use Rattle.cc_edit.specs.declared.moves.Move.{Move}
 use Rattle.cc_event.specs.Ended.{AreBounded}
 use Rattle.cc_event.proofs.PullBounds.{pulls_bounded}
 use Rattle.cc_legal.proofs.pages.end_frame.Goals as goal

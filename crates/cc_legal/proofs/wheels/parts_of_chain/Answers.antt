@@ -4,9 +4,9 @@ use Rattle.std.specs.Int.RustNames.{FitsSigned}
 use Rattle.std.proofs.lemmas.Int.{ints, to_z-of_z}
 use mir.Syntax.{w32, w128}
 use mir.Val.{to_z}
-use Rattle.cc_event.specs.declared.moves.Move.{Move}
+use Rattle.cc_edit.specs.declared.moves.Move.{Move}
 use Rattle.cc_tree.specs.OffsetMap.{offset_at}
-use Rattle.cc_event.specs.Wheels.{takes_at}
+use Rattle.cc_edit.specs.Wheels.{takes_at}
 use Rattle.cc_legal.proofs.JudgeWheels.{parts_more, parts_all}
 use Rattle.cc_legal.proofs.wheels.parts_of_chain.Goals as goal
 

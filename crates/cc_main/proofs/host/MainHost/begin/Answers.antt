@@ -1,5 +1,5 @@
 use Rattle.std.proofs.Common.{List, length, ◌≡◌, ◌<◌, sym, ap, subst, ◌∙◌, arith}
-use Rattle.cc_event.specs.declared.moves.Move.{Move}
+use Rattle.cc_edit.specs.declared.moves.Move.{Move}
 use Rattle.cc_event.specs.Scripts.{ScriptModel}
 use Rattle.cc_event.specs.Ended.{StandsBefore, EndsFrame}
 use Rattle.cc_main.specs.Hosts.{HostModel, IsHost, IsNext}

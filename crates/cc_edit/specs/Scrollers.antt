@@ -6,7 +6,7 @@ use Rattle.cc_tree.specs.Entries.{ids, rising, find, knows}
 use Rattle.cc_edit.specs.Scrolls.{clamp_to, origin}
 use Rattle.cc_edit.specs.Effects.{value_of}
 use Rattle.cc_edit.specs.Pages.{Page}
-use Rattle.cc_event.specs.Axes.{Axis, across, down, along}
+use Rattle.cc_edit.specs.Axes.{Axis, across, down, along}
 
 -- the scrollers of a page by rising id
 abbrev pub scrollers : Page → List ℕ

@@ -4,20 +4,20 @@ use Rattle.cc_geom.specs.declared.rect.Point.{Point}
 use Rattle.cc_edit.specs.Layers.{PageLayer, has_id}
 use Rattle.cc_edit.specs.Pages.{Page}
 use Rattle.cc_edit.specs.Hits.{target, chain}
-use Rattle.cc_event.specs.declared.moves.Move.{Move}
-use Rattle.cc_event.specs.Axes.{Axis, across, down, along, with_move}
-use Rattle.cc_event.specs.Scrollers.{taken}
+use Rattle.cc_edit.specs.declared.moves.Move.{Move}
+use Rattle.cc_edit.specs.Axes.{Axis, across, down, along, with_move}
+use Rattle.cc_edit.specs.Scrollers.{taken}
 
 -- the parts along a chain, where `takes` tells how much of an amount a scroller takes: each takes of what those before it have left; a part of (0, 0) is left out
-abbrev pub parts : (ℕ → Axis → ℤ → ℤ) → List ℕ → ℤ → ℤ → List Move
-parts takes [] dx dy = []
-parts takes (sc ∷ scs) dx dy =
-    with_move (record { scroller = sc; dx = takes sc across dx; dy = takes sc down dy }) (parts takes scs (dx -ℤ takes sc across dx) (dy -ℤ takes sc down dy))
+abbrev pub chain_parts : (ℕ → Axis → ℤ → ℤ) → List ℕ → ℤ → ℤ → List Move
+chain_parts takes [] dx dy = []
+chain_parts takes (sc ∷ scs) dx dy =
+    with_move (record { scroller = sc; dx = takes sc across dx; dy = takes sc down dy }) (chain_parts takes scs (dx -ℤ takes sc across dx) (dy -ℤ takes sc down dy))
 
 -- what the scrollers of a chain leave of an amount
-abbrev pub left : (ℕ → Axis → ℤ → ℤ) → Axis → List ℕ → ℤ → ℤ
-left takes ax [] asked = asked
-left takes ax (sc ∷ scs) asked = left takes ax scs (asked -ℤ takes sc ax asked)
+abbrev pub chain_rest : (ℕ → Axis → ℤ → ℤ) → Axis → List ℕ → ℤ → ℤ
+chain_rest takes ax [] asked = asked
+chain_rest takes ax (sc ∷ scs) asked = chain_rest takes ax scs (asked -ℤ takes sc ax asked)
 
 abbrev pub chain_or_none : Page → Option PageLayer → List ℕ
 chain_or_none p None = []
@@ -33,8 +33,8 @@ takes_at p offset = taken p (λ sc ax. along ax (offset sc))
 
 -- what the scrollers under a point take of a wheel, in the order of the chain
 abbrev pub wheel_parts : Page → (ℕ → Point) → ℤ → ℤ → ℤ → ℤ → List Move
-wheel_parts p offset x y dx dy = parts (takes_at p offset) (chain_at p (target p offset x y)) dx dy
+wheel_parts p offset x y dx dy = chain_parts (takes_at p offset) (chain_at p (target p offset x y)) dx dy
 
 -- what they leave of it along an axis
 abbrev pub wheel_rest : Page → (ℕ → Point) → ℤ → ℤ → Axis → ℤ → ℤ
-wheel_rest p offset x y ax asked = left (takes_at p offset) ax (chain_at p (target p offset x y)) asked
+wheel_rest p offset x y ax asked = chain_rest (takes_at p offset) ax (chain_at p (target p offset x y)) asked
