@@ -11,7 +11,8 @@ use Rattle.cc_edit.specs.Pages.{Page}
 use Rattle.cc_edit.specs.Refusals.{has_layer}
 use Rattle.cc_edit.specs.Sound.{AreDistinct}
 use Rattle.cc_visible.specs.Visible.{grid_of, put_layer, by_id, key_at}
-use Rattle.cc_event.specs.Tiles.{same_key, has_key, page_keys}
+use Rattle.cc_geom.specs.KeyLists.{same_key, has_key}
+use Rattle.cc_event.specs.Tiles.{page_keys}
 use Rattle.cc_event.specs.Ranking.{place_named}
 
 -- a place is in a list

@@ -19,7 +19,8 @@ use Rattle.cc_visible.specs.Visible.{grid_of}
 use Rattle.cc_event.specs.Frames.{commands_of, page}
 use Rattle.cc_event.specs.Accepted.{IsAccepted}
 use Rattle.cc_event.specs.Stamps.{unchanged, frame_changes, commits_to, place_rect, stamp_in}
-use Rattle.cc_event.specs.Tiles.{has_key, page_keys}
+use Rattle.cc_geom.specs.KeyLists.{has_key}
+use Rattle.cc_event.specs.Tiles.{page_keys}
 use Rattle.cc_event.specs.Ranking.{place_named}
 use Rattle.cc_event.specs.Sharing.{key_rect}
 use Rattle.cc_event.proofs.BoolFacts.{and_right}

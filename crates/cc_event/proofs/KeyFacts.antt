@@ -1,31 +1,13 @@
 -- Keys in lists: which are left where some are taken away.
-use Rattle.std.proofs.Common.{◌≡◌, ◌⊎◌, inl, inr, Bool, true, false, cond, not, ◌==◌, ◌&&◌, ◌||◌, List, [], ◌∷◌, ◌++◌, filter, refl, sym, ◌∙◌, ap}
+use Rattle.std.proofs.Common.{◌≡◌, ◌⊎◌, inl, inr, Bool, true, false, cond, not, ◌&&◌, ◌||◌, List, [], ◌∷◌, ◌++◌, filter, refl, sym, ◌∙◌, ap}
 use Rattle.std.specs.List.{list_all}
 use Rattle.std.proofs.lemmas.List.Folds.{list_any-append}
 use Rattle.cc_geom.specs.declared.tile.TileKey.{TileKey}
 use Rattle.cc_priority.specs.Ordered.{In}
-use Rattle.cc_event.specs.Tiles.{same_key, has_key, without}
-use Rattle.cc_event.specs.TileLaws.{AreDistinct}
-use Rattle.cc_event.proofs.BoolFacts.{and_left, and_right, and_first, and_second, and_third, and_both, or_either, or_left, or_right, same_number, is_same}
-
--- keys that are the same are one key
-pub one_key : (k q : TileKey) → same_key k q ≡ true → k ≡ q
-one_key k q h =
-    let three = and_left (((k.layer == q.layer) && (k.x == q.x)) && (k.y == q.y)) (k.stamp == q.stamp) h in
-    let a = same_number k.layer q.layer (and_first (k.layer == q.layer) (k.x == q.x) (k.y == q.y) three) in
-    let b = same_number k.x q.x (and_second (k.layer == q.layer) (k.x == q.x) (k.y == q.y) three) in
-    let c = same_number k.y q.y (and_third (k.layer == q.layer) (k.x == q.x) (k.y == q.y) three) in
-    let d = same_number k.stamp q.stamp (and_right (((k.layer == q.layer) && (k.x == q.x)) && (k.y == q.y)) (k.stamp == q.stamp) h) in
-    λ i. record { layer = a i; x = b i; y = c i; stamp = d i }
-
-pub key_itself : (k : TileKey) → same_key k k ≡ true
-key_itself k =
-    and_both (((k.layer == k.layer) && (k.x == k.x)) && (k.y == k.y)) (k.stamp == k.stamp)
-    (and_both ((k.layer == k.layer) && (k.x == k.x)) (k.y == k.y)
-    (and_both (k.layer == k.layer) (k.x == k.x) (is_same k.layer k.layer refl) (is_same k.x k.x refl)) (is_same k.y k.y refl)) (is_same k.stamp k.stamp refl)
-
-pub same_from : (k q : TileKey) → k ≡ q → same_key k q ≡ true
-same_from k q e = ap (λ (z : TileKey). same_key k z) (sym e) ∙ key_itself k
+use Rattle.cc_geom.specs.KeyLists.{same_key, has_key, AreDistinct}
+use Rattle.cc_event.specs.Tiles.{without}
+pub use Rattle.cc_geom.proofs.KeyLists.{one_key, key_itself, same_from}
+use Rattle.cc_event.proofs.BoolFacts.{and_left, and_right, or_either, or_left, or_right}
 
 -- a list of one key
 pub has_one : (k q : TileKey) → has_key (k ∷ []) q ≡ true → k ≡ q

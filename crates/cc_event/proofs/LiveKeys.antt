@@ -10,7 +10,8 @@ use Rattle.cc_event.specs.Scripts.{ScriptModel}
 use Rattle.cc_event.specs.Frames.{pulls_of, active, pending, up_to}
 use Rattle.cc_event.specs.Accepted.{IsAccepted}
 use Rattle.cc_event.specs.Scrolls.{active_then}
-use Rattle.cc_event.specs.Tiles.{same_key, has_key, keys_of, active_tree, pending_tree, live_keys}
+use Rattle.cc_geom.specs.KeyLists.{same_key, has_key}
+use Rattle.cc_event.specs.Tiles.{keys_of, active_tree, pending_tree, live_keys}
 use Rattle.cc_event.specs.Legal.{Next, Legal}
 use Rattle.cc_event.specs.Sharing.{was_live}
 use Rattle.cc_event.proofs.BoolFacts.{or_either, or_left, or_right, is_false, not_both, none_where}

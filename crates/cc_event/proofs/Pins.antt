@@ -8,7 +8,8 @@ use Rattle.cc_event.specs.Scripts.{ScriptModel}
 use Rattle.cc_event.specs.Frames.{page, pulls_of, active, pending, up_to, pending_page}
 use Rattle.cc_event.specs.Scrolls.{pending_offsets}
 use Rattle.cc_event.specs.Stamps.{stamp_in}
-use Rattle.cc_event.specs.Tiles.{same_key, has_key, page_keys, keys_of, visible_in, active_tree, pending_tree, live_keys, made, ready, required, pinned, missing}
+use Rattle.cc_geom.specs.KeyLists.{same_key, has_key}
+use Rattle.cc_event.specs.Tiles.{page_keys, keys_of, visible_in, active_tree, pending_tree, live_keys, made, ready, required, pinned, missing}
 use Rattle.cc_event.specs.Legal.{Next, Legal}
 use Rattle.cc_event.specs.FrameLaws.{AtEach}
 use Rattle.cc_event.specs.TileLaws.{Within, AreApart, is_activate, lacking}

@@ -22,7 +22,8 @@ use Rattle.cc_edit.specs.Layers.{PageLayer, has_id}
 use Rattle.cc_event.specs.declared.history.Entry.{Entry}
 use Rattle.cc_event.specs.Scripts.{ScriptModel}
 use Rattle.cc_visible.specs.Visible.{seen}
-use Rattle.cc_event.specs.Tiles.{Tree, active_tree, pending_tree, keys_of, live_keys, has_key, ready, in_flight, pinned}
+use Rattle.cc_geom.specs.KeyLists.{has_key}
+use Rattle.cc_event.specs.Tiles.{Tree, active_tree, pending_tree, keys_of, live_keys, ready, in_flight, pinned}
 use Rattle.cc_event.specs.Ranking.{borders, place_named, rank_on, rank_in, rank, is_unmade, ready_tile, choice, first, evicted_for}
 use Rattle.cc_event.proofs.BoolFacts.{and_left, and_right, not_true}
 use Rattle.cc_event.proofs.KeyFacts.{has_in, in_has}

@@ -19,7 +19,8 @@ use Rattle.cc_event.specs.Scrolls.{offset, pending_offset, offset_then}
 use Rattle.cc_event.specs.Values.{values}
 use Rattle.cc_visible.specs.Visible.{visible_keys}
 use Rattle.cc_event.specs.Stamps.{stamp_in}
-use Rattle.cc_event.specs.Tiles.{same_key, has_key, visible_in, active_tree, ready, required, pinned, missing}
+use Rattle.cc_geom.specs.KeyLists.{same_key, has_key}
+use Rattle.cc_event.specs.Tiles.{visible_in, active_tree, ready, required, pinned, missing}
 use Rattle.cc_event.specs.Legal.{Next, Legal}
 use Rattle.cc_event.specs.FrameLaws.{AtEach}
 use Rattle.cc_event.specs.TileLaws.{lacking, is_at_rest}

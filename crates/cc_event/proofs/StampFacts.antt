@@ -13,7 +13,8 @@ use Rattle.cc_event.specs.Scripts.{ScriptModel}
 use Rattle.cc_event.specs.Frames.{commands_of, page}
 use Rattle.cc_visible.specs.Visible.{grid_of, seen, visible_places, visible_keys, by_id, key_at}
 use Rattle.cc_event.specs.Stamps.{changed_by, unchanged, frame_changes, commits_to, place_rect, stamp_in}
-use Rattle.cc_event.specs.Tiles.{page_keys, same_key, has_key}
+use Rattle.cc_geom.specs.KeyLists.{same_key, has_key}
+use Rattle.cc_event.specs.Tiles.{page_keys}
 use Rattle.cc_event.proofs.BoolFacts.{or_either, or_left, or_right}
 use Rattle.cc_event.proofs.KeyFacts.{has_append}
 use Rattle.cc_event.proofs.PageFacts.{page_alike, page_before_alike}

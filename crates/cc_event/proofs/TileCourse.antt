@@ -6,9 +6,9 @@ use Rattle.cc_event.specs.declared.event.Event.TheVariants as event
 use Rattle.cc_event.specs.declared.history.Entry.{Entry}
 use Rattle.cc_event.specs.Scripts.{ScriptModel}
 use Rattle.cc_event.specs.Scans.{held}
-use Rattle.cc_event.specs.Tiles.{same_key, has_key, without, live_keys, made, in_flight, ready}
+use Rattle.cc_geom.specs.KeyLists.{same_key, has_key, AreDistinct}
+use Rattle.cc_event.specs.Tiles.{without, live_keys, made, in_flight, ready}
 use Rattle.cc_event.specs.Legal.{Next, Legal}
-use Rattle.cc_event.specs.TileLaws.{AreDistinct}
 use Rattle.cc_event.proofs.BoolFacts.{not_both, is_false, and_left, and_right, and_both, or_either, or_left, or_right, same_number, other_number, is_same, is_other, not_true}
 use Rattle.cc_event.proofs.DueFacts.{entry, at_start, at_done}
 use Rattle.cc_event.proofs.KeyFacts.{one_key, same_from, has_one, has_filter, has_without, distinct_without}

@@ -16,7 +16,8 @@ use Rattle.cc_edit.specs.Pages.{Page}
 use Rattle.cc_event.specs.declared.history.Entry.{Entry}
 use Rattle.cc_event.specs.Scripts.{ScriptModel}
 use Rattle.cc_visible.specs.Visible.{viewport, seen}
-use Rattle.cc_event.specs.Tiles.{Tree, active_tree, pending_tree, keys_of, live_keys, has_key, ready, in_flight, pinned}
+use Rattle.cc_geom.specs.KeyLists.{has_key}
+use Rattle.cc_event.specs.Tiles.{Tree, active_tree, pending_tree, keys_of, live_keys, ready, in_flight, pinned}
 
 -- by what the tiles of a page are ranked
 abbrev pub borders : ScriptModel → Page → Borders

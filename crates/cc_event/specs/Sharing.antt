@@ -11,7 +11,8 @@ use Rattle.cc_event.specs.declared.history.Entry.{Entry}
 use Rattle.cc_event.specs.Scripts.{ScriptModel}
 use Rattle.cc_event.specs.Frames.{page}
 use Rattle.cc_event.specs.Stamps.{place_rect, stamp_in}
-use Rattle.cc_event.specs.Tiles.{has_key, page_keys, live_keys}
+use Rattle.cc_geom.specs.KeyLists.{has_key}
+use Rattle.cc_event.specs.Tiles.{page_keys, live_keys}
 use Rattle.cc_event.specs.Ranking.{place_named}
 
 -- the key is one of page n of a script, with these pulls

@@ -4,12 +4,7 @@ use Rattle.cc_geom.specs.declared.tile.TileKey.{TileKey}
 use Rattle.cc_event.specs.declared.event.Event.{Event}
 use Rattle.cc_event.specs.declared.event.Event.TheVariants as event
 use Rattle.cc_event.specs.declared.history.Entry.{Entry}
-use Rattle.cc_event.specs.Tiles.{has_key}
-
--- no key stands twice
-abbrev pub AreDistinct : List TileKey → Type 0
-AreDistinct [] = Unit {0}
-AreDistinct (k ∷ ks) = (has_key ks k ≡ false) × AreDistinct ks
+use Rattle.cc_geom.specs.KeyLists.{has_key}
 
 -- every key of the first list is one of the second
 abbrev pub Within : List TileKey → List TileKey → Type 0

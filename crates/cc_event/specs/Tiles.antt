@@ -5,6 +5,7 @@ use Rattle.cc_geom.specs.declared.rect.Point.{Point}
 use Rattle.cc_geom.specs.declared.tile.Place.{Place}
 use Rattle.cc_geom.specs.declared.tile.TileKey.{TileKey}
 use Rattle.cc_geom.specs.Grids.{places}
+use Rattle.cc_geom.specs.KeyLists.{has_key}
 use Rattle.cc_edit.specs.Pages.{Page}
 use Rattle.cc_event.specs.declared.history.Entry.{Entry}
 use Rattle.cc_event.specs.Scripts.{ScriptModel}
@@ -37,14 +38,6 @@ keys_of t = page_keys t.page t.stamp
 
 abbrev pub visible_in : Tree → List TileKey
 visible_in t = visible_keys t.page t.offset t.stamp
-
--- whether two keys are one
-abbrev pub same_key : TileKey → TileKey → Bool
-same_key k q = (k.layer == q.layer) && (k.x == q.x) && (k.y == q.y) && (k.stamp == q.stamp)
-
--- a key is in a list
-abbrev pub has_key : List TileKey → TileKey → Bool
-has_key ks q = list_any (λ k. same_key k q) ks
 
 -- keys of which some are taken away; where there are none to take away, all stay
 abbrev pub without : List TileKey → List TileKey → List TileKey

@@ -11,7 +11,8 @@ ghost use Rattle.cc_event.specs.Matters.{commits};
 ghost use Rattle.cc_event.specs.Scans.{stands};
 ghost use Rattle.cc_event.specs.Frames.{page, pulls_of};
 ghost use Rattle.cc_event.specs.Accepted.{IsAccepted};
-ghost use Rattle.cc_event.specs.Tiles.{has_key, live_keys};
+ghost use Rattle.cc_geom.specs.KeyLists.{has_key};
+ghost use Rattle.cc_event.specs.Tiles.{live_keys};
 ghost use Rattle.cc_event.specs.Legal.{Legal};
 ghost use Rattle.cc_event.specs.Sharing.{has_page_key, ShowTheSame, was_live};
 

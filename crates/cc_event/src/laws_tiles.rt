@@ -6,10 +6,11 @@ ghost use Rattle.cc_geom.specs.declared.tile.TileKey.{TileKey};
 ghost use Rattle.cc_event.specs.Scripts.{ScriptModel};
 ghost use Rattle.cc_event.specs.declared.history.Entry.{Entry};
 ghost use Rattle.cc_event.specs.Scans.{held};
-ghost use Rattle.cc_event.specs.Tiles.{has_key, made, in_flight, ready, required, pinned};
+ghost use Rattle.cc_geom.specs.KeyLists.{has_key, AreDistinct};
+ghost use Rattle.cc_event.specs.Tiles.{made, in_flight, ready, required, pinned};
 ghost use Rattle.cc_event.specs.Legal.{Legal};
 ghost use Rattle.cc_event.specs.FrameLaws.{AtEach};
-ghost use Rattle.cc_event.specs.TileLaws.{AreDistinct, Within, AreApart, is_activate, lacking, is_at_rest};
+ghost use Rattle.cc_event.specs.TileLaws.{Within, AreApart, is_activate, lacking, is_at_rest};
 
 /// At each activation all that it needs is ready. After every legal past what the last activation needed
 /// is ready still, so no missing key of a draw is one of these; and a draw after an activation, with no

@@ -17,7 +17,8 @@ use Rattle.cc_edit.specs.Pages.{Page}
 use Rattle.cc_event.specs.declared.history.Entry.{Entry}
 use Rattle.cc_event.specs.Scripts.{ScriptModel}
 use Rattle.cc_visible.specs.Visible.{grid_of, seen}
-use Rattle.cc_event.specs.Tiles.{Tree, has_key, keys_of, active_tree, pending_tree, ready, in_flight}
+use Rattle.cc_geom.specs.KeyLists.{has_key}
+use Rattle.cc_event.specs.Tiles.{Tree, keys_of, active_tree, pending_tree, ready, in_flight}
 use Rattle.cc_event.specs.Ranking.{place_named, borders}
 
 -- a page at given offsets of its scrollers, with the keys of all its places

@@ -3,6 +3,7 @@
 ghost use Rattle.std.specs.Prelude.{◌≡◌, ◌∷◌, ◌++◌, IfOk};
 ghost use Rattle.std.specs.Bool.{Decides};
 ghost use Rattle.cc_event.specs.Matters.{starts, evicts, finishes};
+ghost use Rattle.cc_geom.specs.KeyLists as key_lists;
 ghost use Rattle.cc_event.specs.Tiles as spec;
 
 use cc_event::{Entry, Event};
@@ -11,7 +12,7 @@ use std::alloc::{AllocError, Global};
 
 /// Whether two keys are one.
 pub(crate) fn same_key(a: TileKey, b: TileKey) -> bool
-    ensures { result ≡ spec.same_key a b }
+    ensures { result ≡ key_lists.same_key a b }
 {
     let row = a.layer == b.layer && a.x == b.x;
     row && a.y == b.y && a.stamp == b.stamp
@@ -19,7 +20,7 @@ pub(crate) fn same_key(a: TileKey, b: TileKey) -> bool
 
 /// Whether a key is in a list.
 pub(crate) fn has_key(keys: &[TileKey], key: TileKey) -> bool
-    ensures { result ≡ spec.has_key keys.now key }
+    ensures { result ≡ key_lists.has_key keys.now key }
 {
     let mut rest = keys;
     while let Some((first, others)) = rest.split_first() {

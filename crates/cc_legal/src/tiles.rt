@@ -5,6 +5,7 @@ ghost use Rattle.std.specs.List.{list_all};
 ghost use Rattle.cc_geom.specs.Covers.{IsSound};
 ghost use Rattle.cc_tree.specs.OffsetMap.{offset_at, AreOffsets};
 ghost use Rattle.cc_event.specs.Tiles.{Tree, active_tree, pending_tree};
+ghost use Rattle.cc_geom.specs.KeyLists as key_lists;
 ghost use Rattle.cc_event.specs.Tiles as spec;
 ghost use Rattle.cc_legal.specs.Keyed.{IsOf, seen_at, shows};
 
@@ -67,7 +68,7 @@ impl<'a> TreeAt<'a> {
 
     /// Whether it has a key.
     pub(crate) fn has(&self, key: TileKey) -> bool
-        ensures { result ≡ spec.has_key self.now.keys key }
+        ensures { result ≡ key_lists.has_key self.now.keys key }
     {
         has_key(self.keys.as_slice(), key)
     }
@@ -142,7 +143,7 @@ fn ready_of(
     pending: &TreeAt<'_>,
     made: &[TileKey],
 ) -> Result<Vec<TileKey>, AllocError>
-    ensures { IfOk result (λ keys. keys.items ≡ filter (spec.has_key (active.now.keys ++ pending.now.keys)) made.now) }
+    ensures { IfOk result (λ keys. keys.items ≡ filter (key_lists.has_key (active.now.keys ++ pending.now.keys)) made.now) }
 {
     let mut keys = Vec::new(alloc);
     let mut rest = made;
@@ -157,7 +158,7 @@ fn ready_of(
 
 // Those of some keys that others lack.
 fn lacking(alloc: Global, keys: &[TileKey], others: &[TileKey]) -> Result<Vec<TileKey>, AllocError>
-    ensures { IfOk result (λ left. left.items ≡ filter (λ q. not (spec.has_key others.now q)) keys.now) }
+    ensures { IfOk result (λ left. left.items ≡ filter (λ q. not (key_lists.has_key others.now q)) keys.now) }
 {
     let mut left = Vec::new(alloc);
     let mut rest = keys;
@@ -172,7 +173,7 @@ fn lacking(alloc: Global, keys: &[TileKey], others: &[TileKey]) -> Result<Vec<Ti
 
 // Whether all of some keys are among others.
 fn are_among(keys: &[TileKey], others: &[TileKey]) -> bool
-    ensures { result ≡ list_all (spec.has_key others.now) keys.now }
+    ensures { result ≡ list_all (key_lists.has_key others.now) keys.now }
 {
     let mut rest = keys;
     while let Some((key, more)) = rest.split_first() {

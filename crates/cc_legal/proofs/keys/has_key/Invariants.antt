@@ -1,6 +1,6 @@
 -- The rest answers as all keys.
 use Rattle.std.proofs.Common.{◌≡◌, length}
-use Rattle.cc_event.specs.Tiles.{has_key}
+use Rattle.cc_geom.specs.KeyLists.{has_key}
 use Rattle.cc_legal.proofs.keys.has_key.Given as goal
 
 abbrev pub invariant-loop-first : goal.invariant-loop-first

@@ -1,7 +1,7 @@
 -- The rest answers as all keys.
 use Rattle.std.proofs.Common.{◌≡◌, length}
 use Rattle.std.specs.List.{list_all}
-use Rattle.cc_event.specs.Tiles.{has_key}
+use Rattle.cc_geom.specs.KeyLists.{has_key}
 use Rattle.cc_legal.proofs.tiles.are_among.Given as goal
 
 abbrev pub invariant-loop-key : goal.invariant-loop-key

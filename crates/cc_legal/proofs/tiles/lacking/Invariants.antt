@@ -1,6 +1,6 @@
 -- What is left, and what the rest leaves, are all that is left.
 use Rattle.std.proofs.Common.{◌≡◌, not, ◌++◌, length, filter}
-use Rattle.cc_event.specs.Tiles.{has_key}
+use Rattle.cc_geom.specs.KeyLists.{has_key}
 use Rattle.cc_legal.proofs.tiles.lacking.Given as goal
 
 abbrev pub invariant-loop-key : goal.invariant-loop-key

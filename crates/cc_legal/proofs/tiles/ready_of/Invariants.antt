@@ -1,6 +1,6 @@
 -- What was found, and what the rest gives, are all that are ready.
 use Rattle.std.proofs.Common.{◌≡◌, ◌||◌, ◌++◌, length, filter}
-use Rattle.cc_event.specs.Tiles.{has_key}
+use Rattle.cc_geom.specs.KeyLists.{has_key}
 use Rattle.cc_legal.proofs.tiles.ready_of.Given as goal
 
 abbrev pub invariant-loop-key : goal.invariant-loop-key
