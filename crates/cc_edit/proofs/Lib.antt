@@ -1,5 +1,5 @@
 pub mod PaintSteps
-pub mod SpotSteps
+pub mod SampleSteps
 pub mod ListEdits
 pub mod LayerPlaces
 pub mod ItemContent
@@ -13,6 +13,6 @@ pub mod FoundLayers
 pub mod Unlisted
 pub mod Topmost
 pub mod EffectChains
-pub mod SpotColours
+pub mod SampleColours
 pub mod Placing
 pub mod MainValues

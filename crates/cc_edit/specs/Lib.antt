@@ -1,5 +1,5 @@
 pub mod Painting
-pub mod Spots
+pub mod LayerSamples
 pub mod Tests
 pub mod Lists
 pub mod Layers

@@ -26,7 +26,7 @@ pub use groups::groups_of;
 pub use laws::{commands_keep_the_rest, targets_are_topmost};
 pub use layer::Layer;
 pub use moves::Move;
-pub use paint::{Group, Spot, paint_from};
+pub use paint::Group;
 pub use tree::LayerTree;
 pub use tree_paint::{Painting, paint_at};
 pub use value_offsets::main_offsets;

@@ -3,7 +3,7 @@
 ghost use Rattle.std.specs.Prelude.{◌≡◌, ℕ, ◌≤◌, ◌+◌, All, length, vec_len};
 ghost use Rattle.std.specs.List.{prefix_len};
 ghost use Rattle.cc_edit.specs.Painting.{folded, items_at, lies_in};
-ghost use Rattle.cc_edit.specs.Spots.{groups_of, colour_of, HaveOpacities};
+ghost use Rattle.cc_edit.specs.LayerSamples.{groups_of, colour_of, HaveOpacities};
 
 use cc_pixel::Colour;
 
@@ -18,19 +18,19 @@ pub struct Group {
 
 /// A layer at a point.
 #[derive(Drop)]
-pub struct Spot {
+pub(crate) struct LayerSample {
     /// The effects below 255 that the layer lies in, the outermost first.
-    pub groups: Vec<Group>,
+    pub(crate) groups: Vec<Group>,
     /// The layer's colour at the point.
-    pub colour: Colour,
+    pub(crate) colour: Colour,
 }
 
 // Whether the layer lies in this effect's group at this depth.
-fn lies_inside(spot: &Spot, depth: usize, effect: u32) -> bool
-    ensures { result ≡ lies_in groups_of depth effect spot.now }
+fn lies_inside(sample: &LayerSample, depth: usize, effect: u32) -> bool
+    ensures { result ≡ lies_in groups_of depth effect sample.now }
 {
-    if depth < spot.groups.len() {
-        let group = spot.groups[depth];
+    if depth < sample.groups.len() {
+        let group = sample.groups[depth];
         effect == group.effect
     } else {
         false
@@ -38,13 +38,13 @@ fn lies_inside(spot: &Spot, depth: usize, effect: u32) -> bool
 }
 
 // How many layers from the front on lie in this effect's group.
-fn run_len(spots: &[Spot], depth: usize, effect: u32) -> usize
-    ensures value { result ≡ prefix_len (lies_in groups_of depth effect) spots.now }
-    ensures within { result ≤ length spots.now }
+fn run_len(samples: &[LayerSample], depth: usize, effect: u32) -> usize
+    ensures value { result ≡ prefix_len (lies_in groups_of depth effect) samples.now }
+    ensures within { result ≤ length samples.now }
 {
     let mut len = 0;
-    for spot in spots {
-        if !lies_inside(spot, depth, effect) {
+    for sample in samples {
+        if !lies_inside(sample, depth, effect) {
             break;
         }
         len += 1;
@@ -55,14 +55,14 @@ fn run_len(spots: &[Spot], depth: usize, effect: u32) -> usize
 /// The layers at a point, those of one effect with their groups from a depth on, laid over a colour
 /// in order. Layers that stand together in a group are blended from transparent, faded by the
 /// group's opacity, and laid over what stands below them.
-pub fn paint_from(spots: &[Spot], depth: usize, below: Colour) -> Colour
-    requires few { All (λ s. vec_len s.groups ≤ 256) spots.now }
+pub(crate) fn paint_from(samples: &[LayerSample], depth: usize, below: Colour) -> Colour
+    requires few { All (λ s. vec_len s.groups ≤ 256) samples.now }
     requires deep { depth ≤ 256 }
-    ensures { (opacity : ℕ → ℕ) → HaveOpacities opacity spots.now →
-        result ≡ folded opacity (items_at groups_of colour_of depth spots.now) below }
+    ensures { (opacity : ℕ → ℕ) → HaveOpacities opacity samples.now →
+        result ≡ folded opacity (items_at groups_of colour_of depth samples.now) below }
 {
     let mut colour = below;
-    let mut rest = spots;
+    let mut rest = samples;
     while let Some((first, tail)) = rest.split_first() {
         if depth < first.groups.len() {
             let group = first.groups[depth];

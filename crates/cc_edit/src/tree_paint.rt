@@ -11,13 +11,13 @@ ghost use Rattle.cc_tree.specs.OffsetMap.{offset_at, AreOffsets};
 ghost use Rattle.cc_tree.specs.Trees.{IsTrees};
 ghost use Rattle.cc_edit.specs.Layers.{parts_of};
 ghost use Rattle.cc_edit.specs.Pages.{Page};
-ghost use Rattle.cc_edit.specs.Spots.{groups_of, colour_of, HaveOpacities};
+ghost use Rattle.cc_edit.specs.LayerSamples.{groups_of, colour_of, HaveOpacities};
 ghost use Rattle.cc_edit.specs.TreePainting.{colour_at, groups_in, opacity_in, paint};
 ghost use Rattle.cc_edit.specs.Paintings.{IsOnScreen, Shows, shown};
 
 use crate::groups;
 use crate::layer::Layer;
-use crate::paint::{Spot, paint_from};
+use crate::paint::{LayerSample, paint_from};
 use crate::placed::{PlacedLayer, placed};
 use crate::tree::LayerTree;
 use cc_geom::TileKey;
@@ -32,7 +32,7 @@ pub struct Painting {
     tile: u32,
     layers: Vec<PlacedLayer>,
     // one for each layer; the colours are those of the last point
-    spots: Vec<Spot>,
+    samples: Vec<LayerSample>,
 }
 
 impl Model for Painting {
@@ -41,9 +41,9 @@ impl Model for Painting {
 
     ghost Value = { Ready };
 
-    ghost view = { λ p. record { tile = p.tile; layers = p.layers.items; groups = map (λ s. s.groups.items) p.spots.items } };
+    ghost view = { λ p. record { tile = p.tile; layers = p.layers.items; groups = map (λ s. s.groups.items) p.samples.items } };
 
-    ghost invariant = { λ p. (1 ≤ p.tile) × (length p.layers.items ≡ length p.spots.items) × All (λ gs. length gs ≤ 256) (map (λ s. s.groups.items) p.spots.items) };
+    ghost invariant = { λ p. (1 ≤ p.tile) × (length p.layers.items ≡ length p.samples.items) × All (λ gs. length gs ≤ 256) (map (λ s. s.groups.items) p.samples.items) };
 }
 
 // Layers in their places.
@@ -66,35 +66,35 @@ fn placed_layers(
     Ok(ready)
 }
 
-// The spots of layers, with their groups, and without colour.
-fn spots_of(alloc: Global, props: &PropertyTrees, layers: &[Layer]) -> Result<Vec<Spot>, AllocError>
+// The samples of layers, with their groups, and without colour.
+fn samples_of(alloc: Global, props: &PropertyTrees, layers: &[Layer]) -> Result<Vec<LayerSample>, AllocError>
     requires { IsTrees props.now }
-    ensures groups { IfOk result (λ spots. map groups_of spots.items ≡ map (λ l. groups_in props.now.effects l.effect) layers.now) }
-    ensures opacities { IfOk result (λ spots. HaveOpacities (opacity_in props.now.effects) spots.items) }
-    ensures few { IfOk result (λ spots. All (λ s. length s.groups.items ≤ 256) spots.items) }
-    ensures count { IfOk result (λ spots. length spots.items ≡ length layers.now) }
+    ensures groups { IfOk result (λ samples. map groups_of samples.items ≡ map (λ l. groups_in props.now.effects l.effect) layers.now) }
+    ensures opacities { IfOk result (λ samples. HaveOpacities (opacity_in props.now.effects) samples.items) }
+    ensures few { IfOk result (λ samples. All (λ s. length s.groups.items ≤ 256) samples.items) }
+    ensures count { IfOk result (λ samples. length samples.items ≡ length layers.now) }
 {
-    let mut spots = Vec::new(alloc);
+    let mut samples = Vec::new(alloc);
     for layer in layers {
         let groups = groups::groups_of(alloc, props, layer.effect)?;
-        spots.push(Spot {
+        samples.push(LayerSample {
             groups,
             colour: Colour::CLEAR,
         })?;
     }
-    Ok(spots)
+    Ok(samples)
 }
 
-// Gives each spot the colour of its layer at a point of the screen.
-fn set_colours(layers: &[PlacedLayer], spots: &mut [Spot], tile: u32, x: i32, y: i32)
-    requires count { length layers.now ≡ length spots.old }
+// Gives each sample the colour of its layer at a point of the screen.
+fn set_colours(layers: &[PlacedLayer], samples: &mut [LayerSample], tile: u32, x: i32, y: i32)
+    requires count { length layers.now ≡ length samples.old }
     requires cut { 1 ≤ tile }
     requires screen { IsOnScreen x y }
-    ensures colours { map colour_of spots.new ≡ map (shown tile x y) layers.now }
-    ensures groups { map (λ s. s.groups.items) spots.new ≡ map (λ s. s.groups.items) spots.old }
+    ensures colours { map colour_of samples.new ≡ map (shown tile x y) layers.now }
+    ensures groups { map (λ s. s.groups.items) samples.new ≡ map (λ s. s.groups.items) samples.old }
 {
     for i in 0..layers.len() {
-        spots[i].colour = layers[i].colour_at(tile, x, y);
+        samples[i].colour = layers[i].colour_at(tile, x, y);
     }
 }
 
@@ -114,12 +114,12 @@ impl Painting {
         let props = tree.props();
         props.are_trees();
         let layers = placed_layers(alloc, tree, offsets, missing, tree.layers())?;
-        let spots = spots_of(alloc, props, tree.layers())?;
+        let samples = samples_of(alloc, props, tree.layers())?;
         let tile = tree.view().tile;
         Ok(Painting {
             tile,
             layers,
-            spots,
+            samples,
         })
     }
 
@@ -132,12 +132,12 @@ impl Painting {
     {
         set_colours(
             self.layers.as_slice(),
-            self.spots.as_mut_slice(),
+            self.samples.as_mut_slice(),
             self.tile,
             x,
             y,
         );
-        paint_from(self.spots.as_slice(), 0, background)
+        paint_from(self.samples.as_slice(), 0, background)
     }
 }
 

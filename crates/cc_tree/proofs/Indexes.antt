@@ -5,18 +5,18 @@ use Rattle.std.proofs.lemmas.Bool.{cases_lt, cases_order}
 use Rattle.std.proofs.lemmas.List.{reverse-append, reverse-reverse, length-reverse, length-map, set-append_left, set_at}
 use Rattle.std.proofs.lemmas.List.Sums.{prefix_len-le-length, prefix_len_passes}
 use Rattle.std.specs.List.{prefix_len, insert}
-use Rattle.cc_tree.specs.declared.spots.Spot.{Spot}
-use Rattle.cc_tree.specs.Spots.{put, index_of, place_of, spot_of, front, AreAbove, AreRising, IsIndex, IsEntryOf}
+use Rattle.cc_tree.specs.declared.index.IndexEntry.{IndexEntry}
+use Rattle.cc_tree.specs.Index.{put, index_of, place_of, listed_place, front, AreAbove, AreRising, IsIndex, IsEntryOf}
 use Rattle.cc_tree.specs.Entries.{ids, find, knows, changed, AreDistinct}
 
-above_at : (id : ℕ) (spots : List Spot) (k : ℕ) (d : Spot) → AreAbove id spots → k < length spots → id < (get_or spots k d).id
+above_at : (id : ℕ) (entries : List IndexEntry) (k : ℕ) (d : IndexEntry) → AreAbove id entries → k < length entries → id < (get_or entries k d).id
 above_at id [] k d a h = absurd (omega arith)
 above_at id (s ∷ ss) zero d a h = a.0
 above_at id (s ∷ ss) (suc k) d a h = above_at id ss k d a.1 (omega arith)
 
--- a spot with a smaller id is in the front
-pub in_front : (id : ℕ) (spots : List Spot) (k : ℕ) (d : Spot) → AreRising spots → k < length spots → (get_or spots k d).id < id
-    → k < front id spots
+-- a entry with a smaller id is in the front
+pub in_front : (id : ℕ) (entries : List IndexEntry) (k : ℕ) (d : IndexEntry) → AreRising entries → k < length entries → (get_or entries k d).id < id
+    → k < front id entries
 unfolding front
 in_front id [] k d r h l = absurd (omega arith)
 in_front id (s ∷ ss) zero d r h l = let t : nat_lt s.id id ≡ true = grind (arith, nat_tests) in rw t (omega arith)
@@ -25,58 +25,58 @@ in_front id (s ∷ ss) (suc k) d r h l =
     let t : nat_lt s.id id ≡ true = grind (arith, nat_tests) in
     let i = in_front id ss k d r.1 (omega arith) l in rw t (omega arith)
 
-upto_by : (id : ℕ) (spots : List Spot) (k : ℕ) (d : Spot) → id ≤ (get_or spots k d).id
-    → (k < prefix_len (λ s. nat_lt s.id id) spots) ⊎ (prefix_len (λ s. nat_lt s.id id) spots ≤ k) → prefix_len (λ s. nat_lt s.id id) spots ≤ k
-upto_by id spots k d h (inl l) =
-    let t : nat_lt (get_or spots k d).id id ≡ true = prefix_len_passes (λ s. nat_lt s.id id) spots k d l in absurd (grind (arith, nat_tests))
-upto_by id spots k d h (inr m) = m
+upto_by : (id : ℕ) (entries : List IndexEntry) (k : ℕ) (d : IndexEntry) → id ≤ (get_or entries k d).id
+    → (k < prefix_len (λ s. nat_lt s.id id) entries) ⊎ (prefix_len (λ s. nat_lt s.id id) entries ≤ k) → prefix_len (λ s. nat_lt s.id id) entries ≤ k
+upto_by id entries k d h (inl l) =
+    let t : nat_lt (get_or entries k d).id id ≡ true = prefix_len_passes (λ s. nat_lt s.id id) entries k d l in absurd (grind (arith, nat_tests))
+upto_by id entries k d h (inr m) = m
 
--- no spot without a smaller id is in it
-pub front_upto : (id : ℕ) (spots : List Spot) (k : ℕ) (d : Spot) → id ≤ (get_or spots k d).id → front id spots ≤ k
+-- no entry without a smaller id is in it
+pub front_upto : (id : ℕ) (entries : List IndexEntry) (k : ℕ) (d : IndexEntry) → id ≤ (get_or entries k d).id → front id entries ≤ k
 unfolding front
-front_upto id spots k d h = upto_by id spots k d h (cases_lt k (prefix_len (λ s. nat_lt s.id id) spots))
+front_upto id entries k d h = upto_by id entries k d h (cases_lt k (prefix_len (λ s. nat_lt s.id id) entries))
 
-pub front_le : (id : ℕ) (spots : List Spot) → front id spots ≤ length spots
+pub front_le : (id : ℕ) (entries : List IndexEntry) → front id entries ≤ length entries
 unfolding front
-front_le id spots = prefix_len-le-length (λ s. nat_lt s.id id) spots
+front_le id entries = prefix_len-le-length (λ s. nat_lt s.id id) entries
 
 -- inserting behind the smaller ids is `put`
-insert_by : (s x : Spot) (xs : List Spot) (n : ℕ) (t : Bool) → insert xs n s ≡ put s xs
+insert_by : (s x : IndexEntry) (xs : List IndexEntry) (n : ℕ) (t : Bool) → insert xs n s ≡ put s xs
     → insert (x ∷ xs) (cond t (1 + n) 0) s ≡ cond t (x ∷ put s xs) (s ∷ x ∷ xs)
 insert_by s x xs n true e = let one : 1 + n ≡ suc n = omega arith in rw one (ap (λ l. x ∷ l) e)
 insert_by s x xs n false e = refl
 
-pub insert_put : (s : Spot) (spots : List Spot) → insert spots (front s.id spots) s ≡ put s spots
+pub insert_put : (s : IndexEntry) (entries : List IndexEntry) → insert entries (front s.id entries) s ≡ put s entries
 unfolding front
 insert_put s [] = refl
 insert_put s (x ∷ xs) = insert_by s x xs (prefix_len (λ t. nat_lt t.id s.id) xs) (nat_lt x.id s.id) (insert_put s xs)
 
--- no spot above has the id
-none_above : (id n : ℕ) (spots : List Spot) → id ≤ n → AreAbove n spots → spot_of id spots ≡ None
+-- no entry above has the id
+none_above : (id n : ℕ) (entries : List IndexEntry) → id ≤ n → AreAbove n entries → listed_place id entries ≡ None
 none_above id n [] h a = refl
 none_above id n (s ∷ ss) h a =
     let t : s.id == id ≡ false = grind (arith, nat_tests, a.0) in rw t (none_above id n ss h a.1)
 
--- the place that a spot gives where it has the id
-abbrev pub named : ℕ → Option Spot → Option ℕ
+-- the place that a entry gives where it has the id
+abbrev pub named : ℕ → Option IndexEntry → Option ℕ
 named id None = None
 named id (Some s) = cond (s.id == id) (Some s.place) None
 
-spot_by : (id : ℕ) (x : Spot) (xs : List Spot) (n : ℕ) → (x.id < id) ⊎ (id ≤ x.id) → AreAbove x.id xs → spot_of id xs ≡ named id (slice_get xs n)
-    → spot_of id (x ∷ xs) ≡ named id (slice_get (x ∷ xs) (cond (nat_lt x.id id) (1 + n) 0))
-spot_by id x xs n (inl l) a e =
+found_by : (id : ℕ) (x : IndexEntry) (xs : List IndexEntry) (n : ℕ) → (x.id < id) ⊎ (id ≤ x.id) → AreAbove x.id xs → listed_place id xs ≡ named id (slice_get xs n)
+    → listed_place id (x ∷ xs) ≡ named id (slice_get (x ∷ xs) (cond (nat_lt x.id id) (1 + n) 0))
+found_by id x xs n (inl l) a e =
     let t : x.id == id ≡ false = grind (arith, nat_tests) in
     let u : nat_lt x.id id ≡ true = grind (arith, nat_tests) in
     let one : 1 + n ≡ suc n = omega arith in rw (t, u, one) e
-spot_by id x xs n (inr l) a e =
+found_by id x xs n (inr l) a e =
     let u : nat_lt x.id id ≡ false = grind (arith, nat_tests) in rw (u, none_above id x.id xs l a) refl
 
--- the spot behind the smaller ids is the one with the id, where there is one
-pub spot_found : (id : ℕ) (spots : List Spot) → AreRising spots
-    → spot_of id spots ≡ named id (slice_get spots (front id spots))
+-- the entry behind the smaller ids is the one with the id, where there is one
+pub entry_found : (id : ℕ) (entries : List IndexEntry) → AreRising entries
+    → listed_place id entries ≡ named id (slice_get entries (front id entries))
 unfolding front
-spot_found id [] r = refl
-spot_found id (x ∷ xs) r = spot_by id x xs (prefix_len (λ t. nat_lt t.id id) xs) (cases_lt x.id id) r.0 (spot_found id xs r.1)
+entry_found id [] r = refl
+entry_found id (x ∷ xs) r = found_by id x xs (prefix_len (λ t. nat_lt t.id id) xs) (cases_lt x.id id) r.0 (entry_found id xs r.1)
 
 read_at : {A : Type 0} (xs : List A) (k : ℕ) (d : A) → k < length xs → slice_get xs k ≡ Some (get_or xs k d)
 read_at [] k d h = absurd (omega arith)
@@ -89,20 +89,20 @@ read_past (x ∷ xs) zero h = absurd (omega arith)
 read_past (x ∷ xs) (suc k) h = read_past xs k (omega arith)
 
 -- the same by what the code reads there
-pub spot_here : (id : ℕ) (spots : List Spot) (d : Spot) → AreRising spots → front id spots < length spots → (get_or spots (front id spots) d).id ≡ id
-    → Some ((get_or spots (front id spots) d).place) ≡ spot_of id spots
-spot_here id spots d r h e =
-    let t : (get_or spots (front id spots) d).id == id ≡ true = grind (arith, nat_tests) in
-    sym (spot_found id spots r ∙ rw (read_at spots (front id spots) d h, t) refl)
+pub entry_here : (id : ℕ) (entries : List IndexEntry) (d : IndexEntry) → AreRising entries → front id entries < length entries → (get_or entries (front id entries) d).id ≡ id
+    → Some ((get_or entries (front id entries) d).place) ≡ listed_place id entries
+entry_here id entries d r h e =
+    let t : (get_or entries (front id entries) d).id == id ≡ true = grind (arith, nat_tests) in
+    sym (entry_found id entries r ∙ rw (read_at entries (front id entries) d h, t) refl)
 
-pub spot_other : (id : ℕ) (spots : List Spot) (d : Spot) → AreRising spots → front id spots < length spots
-    → ((get_or spots (front id spots) d).id ≡ id → ⊥) → None ≡ spot_of id spots
-spot_other id spots d r h e =
-    let t : (get_or spots (front id spots) d).id == id ≡ false = grind (arith, nat_tests) in
-    sym (spot_found id spots r ∙ rw (read_at spots (front id spots) d h, t) refl)
+pub entry_other : (id : ℕ) (entries : List IndexEntry) (d : IndexEntry) → AreRising entries → front id entries < length entries
+    → ((get_or entries (front id entries) d).id ≡ id → ⊥) → None ≡ listed_place id entries
+entry_other id entries d r h e =
+    let t : (get_or entries (front id entries) d).id == id ≡ false = grind (arith, nat_tests) in
+    sym (entry_found id entries r ∙ rw (read_at entries (front id entries) d h, t) refl)
 
-pub spot_past : (id : ℕ) (spots : List Spot) → AreRising spots → length spots ≤ front id spots → None ≡ spot_of id spots
-spot_past id spots r h = sym (spot_found id spots r ∙ rw (read_past spots (front id spots) h) refl)
+pub entry_past : (id : ℕ) (entries : List IndexEntry) → AreRising entries → length entries ≤ front id entries → None ≡ listed_place id entries
+entry_past id entries r h = sym (entry_found id entries r ∙ rw (read_past entries (front id entries) h) refl)
 
 -- two tests that are not both true may be asked in either order
 in_turn : {A : Type 0} (a b : Bool) (u v w : A) → (a ≡ true → b ≡ true → ⊥) → cond a u (cond b v w) ≡ cond b v (cond a u w)
@@ -110,39 +110,39 @@ in_turn true true u v w f = absurd (f refl refl)
 in_turn true false u v w f = refl
 in_turn false b u v w f = refl
 
-put_by : (id : ℕ) (s x : Spot) (xs : List Spot) → (x.id < s.id) ⊎ (s.id ≤ x.id) → spot_of id (put s xs) ≡ cond (s.id == id) (Some s.place) (spot_of id xs)
-    → spot_of id (cond (nat_lt x.id s.id) (x ∷ put s xs) (s ∷ x ∷ xs)) ≡ cond (s.id == id) (Some s.place) (spot_of id (x ∷ xs))
+put_by : (id : ℕ) (s x : IndexEntry) (xs : List IndexEntry) → (x.id < s.id) ⊎ (s.id ≤ x.id) → listed_place id (put s xs) ≡ cond (s.id == id) (Some s.place) (listed_place id xs)
+    → listed_place id (cond (nat_lt x.id s.id) (x ∷ put s xs) (s ∷ x ∷ xs)) ≡ cond (s.id == id) (Some s.place) (listed_place id (x ∷ xs))
 put_by id s x xs (inl l) e =
     let u : nat_lt x.id s.id ≡ true = grind (arith, nat_tests) in
-    rw (u, e) (in_turn (x.id == id) (s.id == id) (Some x.place) (Some s.place) (spot_of id xs) (λ h k. absurd (grind (arith, nat_tests))))
+    rw (u, e) (in_turn (x.id == id) (s.id == id) (Some x.place) (Some s.place) (listed_place id xs) (λ h k. absurd (grind (arith, nat_tests))))
 put_by id s x xs (inr l) e = let u : nat_lt x.id s.id ≡ false = grind (arith, nat_tests) in rw u refl
 
--- the new spot is found under its id, all others as before
-spot_put : (id : ℕ) (s : Spot) (spots : List Spot) → spot_of id (put s spots) ≡ cond (s.id == id) (Some s.place) (spot_of id spots)
-spot_put id s [] = refl
-spot_put id s (x ∷ xs) = put_by id s x xs (cases_lt x.id s.id) (spot_put id s xs)
+-- the new entry is found under its id, all others as before
+entry_put : (id : ℕ) (s : IndexEntry) (entries : List IndexEntry) → listed_place id (put s entries) ≡ cond (s.id == id) (Some s.place) (listed_place id entries)
+entry_put id s [] = refl
+entry_put id s (x ∷ xs) = put_by id s x xs (cases_lt x.id s.id) (entry_put id s xs)
 
 -- the index names each id's place
-pub spot_index : (id : ℕ) (xs : List ℕ) → spot_of id (index_of xs) ≡ place_of id xs
-spot_index id [] = refl
-spot_index id (x ∷ xs) =
-    spot_put id (record { id = x; place = length xs }) (index_of xs) ∙ ap (λ o. cond (x == id) (Some (length xs)) o) (spot_index id xs)
+pub entry_index : (id : ℕ) (xs : List ℕ) → listed_place id (index_of xs) ≡ place_of id xs
+entry_index id [] = refl
+entry_index id (x ∷ xs) =
+    entry_put id (record { id = x; place = length xs }) (index_of xs) ∙ ap (λ o. cond (x == id) (Some (length xs)) o) (entry_index id xs)
 
-above_by : (n : ℕ) (s x : Spot) (xs : List Spot) (t : Bool) → n < s.id → AreAbove n (x ∷ xs) → AreAbove n (put s xs)
+above_by : (n : ℕ) (s x : IndexEntry) (xs : List IndexEntry) (t : Bool) → n < s.id → AreAbove n (x ∷ xs) → AreAbove n (put s xs)
     → AreAbove n (cond t (x ∷ put s xs) (s ∷ x ∷ xs))
 above_by n s x xs true h a b = (a.0, b)
 above_by n s x xs false h a b = (h, a)
 
-above_put : (n : ℕ) (s : Spot) (spots : List Spot) → n < s.id → AreAbove n spots → AreAbove n (put s spots)
+above_put : (n : ℕ) (s : IndexEntry) (entries : List IndexEntry) → n < s.id → AreAbove n entries → AreAbove n (put s entries)
 above_put n s [] h a = (h, tt)
 above_put n s (x ∷ xs) h a = above_by n s x xs (nat_lt x.id s.id) h a (above_put n s xs h a.1)
 
-above_trans : (m n : ℕ) (spots : List Spot) → m < n → AreAbove n spots → AreAbove m spots
+above_trans : (m n : ℕ) (entries : List IndexEntry) → m < n → AreAbove n entries → AreAbove m entries
 above_trans m n [] h a = tt
 above_trans m n (s ∷ ss) h a = (omega (arith, a.0), above_trans m n ss h a.1)
 
-rising_by : (s x : Spot) (xs : List Spot) → (x.id ≡ s.id) ⊎ ((x.id < s.id) ⊎ (s.id < x.id)) → AreRising (x ∷ xs)
-    → spot_of s.id (x ∷ xs) ≡ None → (spot_of s.id xs ≡ None → AreRising (put s xs)) → AreRising (cond (nat_lt x.id s.id) (x ∷ put s xs) (s ∷ x ∷ xs))
+rising_by : (s x : IndexEntry) (xs : List IndexEntry) → (x.id ≡ s.id) ⊎ ((x.id < s.id) ⊎ (s.id < x.id)) → AreRising (x ∷ xs)
+    → listed_place s.id (x ∷ xs) ≡ None → (listed_place s.id xs ≡ None → AreRising (put s xs)) → AreRising (cond (nat_lt x.id s.id) (x ∷ put s xs) (s ∷ x ∷ xs))
 rising_by s x xs (inl same) r none f =
     let t : x.id == s.id ≡ true = grind (arith, nat_tests) in absurd (cc (rw t at none))
 rising_by s x xs (inr (inl less)) r none f =
@@ -153,7 +153,7 @@ rising_by s x xs (inr (inr more)) r none f =
     let u : nat_lt x.id s.id ≡ false = grind (arith, nat_tests) in
     rw u ((more, above_trans s.id x.id xs more r.0), r)
 
-rising_put : (s : Spot) (spots : List Spot) → AreRising spots → spot_of s.id spots ≡ None → AreRising (put s spots)
+rising_put : (s : IndexEntry) (entries : List IndexEntry) → AreRising entries → listed_place s.id entries ≡ None → AreRising (put s entries)
 rising_put s [] r none = (tt, tt)
 rising_put s (x ∷ xs) r none = rising_by s x xs (cases_order x.id s.id) r none (λ e. rising_put s xs r.1 e)
 
@@ -176,7 +176,7 @@ pub rising_index : {N : Type 0} (nodes : List (ℕ × N)) → AreDistinct nodes 
 rising_index [] d = tt
 rising_index (e ∷ older) d =
     rising_put _ (index_of (ids older)) (rising_index older d.1)
-    (spot_index e.0 (ids older) ∙ none_of (place_of e.0 (ids older)) (known_place e.0 older ∙ d.0))
+    (entry_index e.0 (ids older) ∙ none_of (place_of e.0 (ids older)) (known_place e.0 older ∙ d.0))
 
 -- the node of an id stands at its place in the order of addition
 pub record IsAt {N : Type 0} (id : ℕ) (nodes : List (ℕ × N)) (p : ℕ) (e : ℕ × N) : Type 0 where
@@ -291,52 +291,52 @@ entry_by id items p f =
       found = f.1.found;
     }
 
-pub entry_of : {N : Type 0} (id : ℕ) (items : List (ℕ × N)) (spots : List Spot) (p : ℕ) → IsIndex (ids (reverse items)) spots → spot_of id spots ≡ Some p
+pub entry_of : {N : Type 0} (id : ℕ) (items : List (ℕ × N)) (entries : List IndexEntry) (p : ℕ) → IsIndex (ids (reverse items)) entries → listed_place id entries ≡ Some p
     → (e : ℕ × N) × IsEntry id items p e
-entry_of id items spots p i h =
-    let f = is_at id (reverse items) p (sym (spot_index id (ids (reverse items))) ∙ (ap (spot_of id) (sym i.all) ∙ h)) in
+entry_of id items entries p i h =
+    let f = is_at id (reverse items) p (sym (entry_index id (ids (reverse items))) ∙ (ap (listed_place id) (sym i.all) ∙ h)) in
     (f.0, entry_by id items p f)
 
-pub unknown_entry : {N : Type 0} (id : ℕ) (items : List (ℕ × N)) (spots : List Spot) → IsIndex (ids (reverse items)) spots → spot_of id spots ≡ None
+pub unknown_entry : {N : Type 0} (id : ℕ) (items : List (ℕ × N)) (entries : List IndexEntry) → IsIndex (ids (reverse items)) entries → listed_place id entries ≡ None
     → find id (reverse items) ≡ None
-unknown_entry id items spots i h = unknown_place id (reverse items) (sym (spot_index id (ids (reverse items))) ∙ (ap (spot_of id) (sym i.all) ∙ h))
+unknown_entry id items entries i h = unknown_place id (reverse items) (sym (entry_index id (ids (reverse items))) ∙ (ap (listed_place id) (sym i.all) ∙ h))
 
 -- another node under an id
-pub set_entry : {N : Type 0} (id : ℕ) (n : N) (items : List (ℕ × N)) (spots : List Spot) (p : ℕ) → IsIndex (ids (reverse items)) spots → spot_of id spots ≡ Some p
+pub set_entry : {N : Type 0} (id : ℕ) (n : N) (items : List (ℕ × N)) (entries : List IndexEntry) (p : ℕ) → IsIndex (ids (reverse items)) entries → listed_place id entries ≡ Some p
     → reverse (set items p (id, n)) ≡ changed id (λ _. n) (reverse items)
-set_entry id n items spots p i h =
+set_entry id n items entries p i h =
     ap (λ l. reverse (set l p (id, n))) (sym (reverse-reverse items))
-    ∙ set_changed id n (reverse items) p (sym (spot_index id (ids (reverse items))) ∙ (ap (spot_of id) (sym i.all) ∙ h))
+    ∙ set_changed id n (reverse items) p (sym (entry_index id (ids (reverse items))) ∙ (ap (listed_place id) (sym i.all) ∙ h))
 
 -- one more node
-pub added : {N : Type 0} (id : ℕ) (n : N) (items : List (ℕ × N)) (spots : List Spot) (items' : List (ℕ × N)) (spots' : List Spot)
-    → AreDistinct (reverse items) → IsIndex (ids (reverse items)) spots → knows id (reverse items) ≡ false
-    → items' ≡ items ++ (id, n) ∷ [] → spots' ≡ insert spots (front id spots) (record { id = id; place = length items })
-    → AreDistinct (reverse items') × IsIndex (ids (reverse items')) spots'
-added id n items spots items' spots' d i fresh e f =
+pub added : {N : Type 0} (id : ℕ) (n : N) (items : List (ℕ × N)) (entries : List IndexEntry) (items' : List (ℕ × N)) (entries' : List IndexEntry)
+    → AreDistinct (reverse items) → IsIndex (ids (reverse items)) entries → knows id (reverse items) ≡ false
+    → items' ≡ items ++ (id, n) ∷ [] → entries' ≡ insert entries (front id entries) (record { id = id; place = length items })
+    → AreDistinct (reverse items') × IsIndex (ids (reverse items')) entries'
+added id n items entries items' entries' d i fresh e f =
     let r : reverse items' ≡ (id, n) ∷ reverse items = ap reverse e ∙ reverse-append items ((id, n) ∷ []) in
     let l : length (ids (reverse items)) ≡ length items = length-map (reverse items) (λ g. g.0) ∙ length-reverse items in
-    let s : Spot = record { id = id; place = length items } in
-    let a : spots' ≡ put s spots = f ∙ insert_put s spots in
-    let none : spot_of id spots ≡ None =
-    ap (spot_of id) i.all ∙ (spot_index id (ids (reverse items)) ∙ none_of (place_of id (ids (reverse items))) (known_place id (reverse items) ∙ fresh)) in
+    let s : IndexEntry = record { id = id; place = length items } in
+    let a : entries' ≡ put s entries = f ∙ insert_put s entries in
+    let none : listed_place id entries ≡ None =
+    ap (listed_place id) i.all ∙ (entry_index id (ids (reverse items)) ∙ none_of (place_of id (ids (reverse items))) (known_place id (reverse items) ∙ fresh)) in
     rw r (
       (fresh, d),
       record {
         all = a ∙ rw (i.all, l) refl;
-        rising = rw a (rising_put s spots i.rising none);
+        rising = rw a (rising_put s entries i.rising none);
       },
     )
 
 -- the entry that the index leads to
-pub entry_is : {N : Type 0} (id : ℕ) (items nodes : List (ℕ × N)) (spots : List Spot) (p : ℕ) (n : ℕ × N) → reverse items ≡ nodes → IsIndex (ids (reverse items)) spots
-    → spot_of id spots ≡ Some p → n ≡ get_or items p n → IsEntryOf id nodes p n.1
-entry_is id items nodes spots p n e i h r =
-    let f = entry_of id items spots p i h in
+pub entry_is : {N : Type 0} (id : ℕ) (items nodes : List (ℕ × N)) (entries : List IndexEntry) (p : ℕ) (n : ℕ × N) → reverse items ≡ nodes → IsIndex (ids (reverse items)) entries
+    → listed_place id entries ≡ Some p → n ≡ get_or items p n → IsEntryOf id nodes p n.1
+entry_is id items nodes entries p n e i h r =
+    let f = entry_of id items entries p i h in
     let same : n ≡ f.0 = r ∙ f.1.read n in
     let k = f.1.inside in
     record {
-      place = ap (λ l. place_of id (ids l)) (sym e) ∙ (sym (spot_index id (ids (reverse items))) ∙ (ap (spot_of id) (sym i.all) ∙ h));
+      place = ap (λ l. place_of id (ids l)) (sym e) ∙ (sym (entry_index id (ids (reverse items))) ∙ (ap (listed_place id) (sym i.all) ∙ h));
       inside = subst (λ l. p < length l) e (omega (arith, k, length-reverse items));
       node = ap (find id) (sym e) ∙ (f.1.found ∙ ap (λ m. Some m.1) (sym same));
     }

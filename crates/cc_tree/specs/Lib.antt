@@ -5,5 +5,5 @@ pub mod Marks
 pub mod Nesting
 pub mod OffsetMap
 pub mod Placement
-pub mod Spots
+pub mod Index
 pub mod Trees

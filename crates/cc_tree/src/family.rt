@@ -3,9 +3,9 @@
 ghost use Rattle.std.specs.Prelude.{◌≡◌, ℕ, Bool, true, false, ◌∷◌, [], List, length, if◌then◌else◌, is_ok, IfOk, MatchOption, IsTrue, reverse, slice_get};
 ghost use Rattle.std.specs.Option.{option_copied};
 ghost use Rattle.cc_tree.specs.Entries.{changed, find, ids, knows, rising};
-ghost use Rattle.cc_tree.specs.Spots.{IsEntryOf};
+ghost use Rattle.cc_tree.specs.Index.{IsEntryOf};
 
-use crate::spots::{Spot, count_below, place_in};
+use crate::index::{IndexEntry, count_below, place_in};
 use std::alloc::{AllocError, Global};
 use std::marker::Model;
 
@@ -13,19 +13,19 @@ use std::marker::Model;
 #[derive(Drop)]
 pub struct Family<N> {
     nodes: Vec<(u32, N)>,
-    spots: Vec<Spot>,
+    entries: Vec<IndexEntry>,
 }
 
 impl<N> Model for Family<N> {
     ghost use Rattle.std.specs.Prelude.{◌≡◌, ℕ, List, reverse};
     ghost use Rattle.cc_tree.specs.Entries.{ids, AreDistinct};
-    ghost use Rattle.cc_tree.specs.Spots.{IsIndex};
+    ghost use Rattle.cc_tree.specs.Index.{IsIndex};
 
     ghost Value = { List (ℕ × N) };
 
     ghost view = { λ f. reverse f.nodes.items };
 
-    ghost invariant = { λ f. AreDistinct (reverse f.nodes.items) × IsIndex (ids (reverse f.nodes.items)) f.spots.items };
+    ghost invariant = { λ f. AreDistinct (reverse f.nodes.items) × IsIndex (ids (reverse f.nodes.items)) f.entries.items };
 }
 
 impl<N: Copy> Family<N> {
@@ -35,7 +35,7 @@ impl<N: Copy> Family<N> {
     {
         Family {
             nodes: Vec::new(alloc),
-            spots: Vec::new(alloc),
+            entries: Vec::new(alloc),
         }
     }
 
@@ -44,7 +44,7 @@ impl<N: Copy> Family<N> {
     pub fn entry(&self, id: u32) -> Option<(usize, &N)>
         ensures { MatchOption result (find id self.now ≡ None) (λ e. IsEntryOf id self.now e.0 e.1.now) }
     {
-        match place_in(&self.spots, id) {
+        match place_in(&self.entries, id) {
             Some(place) => Some((place, &self.nodes[place].1)),
             None => None,
         }
@@ -65,11 +65,11 @@ impl<N: Copy> Family<N> {
         requires { knows id self.old ≡ false }
         ensures { self.new ≡ (if is_ok result then (id, node) ∷ self.old else self.old) }
     {
-        self.spots.reserve(1)?;
-        let below = count_below(&self.spots, id);
+        self.entries.reserve(1)?;
+        let below = count_below(&self.entries, id);
         let place = self.nodes.len();
         self.nodes.push((id, node))?;
-        self.spots.insert(below, Spot { id, place })?;
+        self.entries.insert(below, IndexEntry { id, place })?;
         Ok(())
     }
 
@@ -78,7 +78,7 @@ impl<N: Copy> Family<N> {
         requires { IsTrue (knows id self.old) }
         ensures { self.new ≡ changed id (λ _. node.now) self.old }
     {
-        if let Some(place) = place_in(&self.spots, id) {
+        if let Some(place) = place_in(&self.entries, id) {
             self.nodes[place] = (id, *node);
         }
     }
@@ -95,8 +95,8 @@ impl<N: Copy> Family<N> {
     pub fn id_at(&self, i: usize) -> Option<u32>
         ensures { result ≡ slice_get (rising (ids self.now)) i }
     {
-        if i < self.spots.len() {
-            Some(self.spots[i].id)
+        if i < self.entries.len() {
+            Some(self.entries[i].id)
         } else {
             None
         }
@@ -114,7 +114,7 @@ impl<N: Copy> Family<N> {
         ensures { IfOk result (λ f. f ≡ self.now) }
     {
         let nodes = Vec::from_slice(*self.nodes.allocator(), &self.nodes)?;
-        let spots = Vec::from_slice(*self.spots.allocator(), &self.spots)?;
-        Ok(Family { nodes, spots })
+        let entries = Vec::from_slice(*self.entries.allocator(), &self.entries)?;
+        Ok(Family { nodes, entries })
     }
 }

@@ -2,12 +2,12 @@
 #![tactic(auto)]
 
 mod family;
+mod index;
 mod laws;
 mod nesting;
 mod nodes;
 mod offsets;
 mod placement;
-mod spots;
 mod trees;
 
 pub use laws::nodes_follow_their_parents;

@@ -2,10 +2,10 @@ use Rattle.std.proofs.Common.{ℕ, ◌≡◌, ◌≤◌, ◌+◌, suc, All, vec_
 use Rattle.std.proofs.lemmas.List.Elements.{All-drop, All-rest, All-same}
 use Rattle.cc_pixel.specs.Colours.{clear}
 use Rattle.cc_edit.specs.declared.paint.Group.{Group}
-use Rattle.cc_edit.specs.declared.paint.Spot.{Spot}
+use Rattle.cc_edit.specs.declared.paint.LayerSample.{LayerSample}
 use Rattle.cc_edit.specs.Painting.{folded, items_at}
-use Rattle.cc_edit.specs.Spots.{groups_of, colour_of}
-use Rattle.cc_edit.proofs.SpotSteps.{run_not_empty, group_turn, layer_turn}
+use Rattle.cc_edit.specs.LayerSamples.{groups_of, colour_of}
+use Rattle.cc_edit.proofs.SampleSteps.{run_not_empty, group_turn, layer_turn}
 use Rattle.cc_edit.proofs.paint.+paint_from.Goals as goal
 
 pub loop-first-smaller-then-depth-len : goal.loop-first-smaller-then-depth-len
@@ -18,10 +18,10 @@ loop-first-preserved-then-depth-len t c =
     let back = c.split_at.ensures.back in
     let same : c.args.depth + 1 ≡ suc c.args.depth = add-one c.args.depth in
     record {
-      few = All-same (λ (s : Spot). vec_len s.groups ≤ 256) c.split_at.result.1.now (drop c.run_len.result c.loop-first.rest.now) back (All-drop (λ (s : Spot). vec_len s.groups ≤ 256) c.run_len.result c.loop-first.rest.now c.loop-first.invariant.few);
+      few = All-same (λ (s : LayerSample). vec_len s.groups ≤ 256) c.split_at.result.1.now (drop c.run_len.result c.loop-first.rest.now) back (All-drop (λ (s : LayerSample). vec_len s.groups ≤ 256) c.run_len.result c.loop-first.rest.now c.loop-first.invariant.few);
       painted = λ opacity all.
           let old = c.loop-first.invariant.painted opacity all in (
-            All-same (λ (s : Spot). All (λ (g : Group). opacity g.effect ≡ g.opacity) s.groups.items) c.split_at.result.1.now (drop c.run_len.result c.loop-first.rest.now) back (All-drop (λ (s : Spot). All (λ (g : Group). opacity g.effect ≡ g.opacity) s.groups.items) c.run_len.result c.loop-first.rest.now old.0),
+            All-same (λ (s : LayerSample). All (λ (g : Group). opacity g.effect ≡ g.opacity) s.groups.items) c.split_at.result.1.now (drop c.run_len.result c.loop-first.rest.now) back (All-drop (λ (s : LayerSample). All (λ (g : Group). opacity g.effect ≡ g.opacity) s.groups.items) c.run_len.result c.loop-first.rest.now old.0),
             group_turn opacity c.args.depth c.run_len.result c.loop-first.rest.now c.split_at.result.0.now c.split_at.result.1.now c.in-Some.tail.now c.in-Some.first.now c.index-group.result.now c.loop-first.colour c.paint_from-inner.result c.scale.result c.over-colour.result c.in-Some.ensures.cases.0 (omega arith) c.index-group.ensures c.run_len.ensures.value c.split_at.ensures.front back old.0 (λ have. c.paint_from-inner.ensures opacity have ∙ ap (λ (d : ℕ). folded opacity (items_at groups_of colour_of d c.split_at.result.0.now) clear) same) c.scale.ensures.value c.over-colour.ensures.value
                 ∙ old.1,
           );
@@ -29,10 +29,10 @@ loop-first-preserved-then-depth-len t c =
 
 pub loop-first-preserved : goal.loop-first-preserved
 loop-first-preserved t c = record {
-  few = All-rest (λ (s : Spot). vec_len s.groups ≤ 256) c.in-Some.first.now c.in-Some.tail.now c.loop-first.rest.now c.in-Some.ensures.cases.0 c.loop-first.invariant.few;
+  few = All-rest (λ (s : LayerSample). vec_len s.groups ≤ 256) c.in-Some.first.now c.in-Some.tail.now c.loop-first.rest.now c.in-Some.ensures.cases.0 c.loop-first.invariant.few;
   painted = λ opacity all.
       let old = c.loop-first.invariant.painted opacity all in (
-        All-rest (λ (s : Spot). All (λ (g : Group). opacity g.effect ≡ g.opacity) s.groups.items) c.in-Some.first.now c.in-Some.tail.now c.loop-first.rest.now c.in-Some.ensures.cases.0 old.0,
+        All-rest (λ (s : LayerSample). All (λ (g : Group). opacity g.effect ≡ g.opacity) s.groups.items) c.in-Some.first.now c.in-Some.tail.now c.loop-first.rest.now c.in-Some.ensures.cases.0 old.0,
         layer_turn opacity c.args.depth c.loop-first.rest.now c.in-Some.tail.now c.in-Some.first.now c.loop-first.colour c.over-colour-else-depth-len.result c.in-Some.ensures.cases.0 (omega arith) c.over-colour-else-depth-len.ensures.value
             ∙ old.1,
       );

@@ -1,11 +1,11 @@
--- The spots so far have their colours, and all have their groups.
+-- The samples so far have their colours, and all have their groups.
 use Rattle.std.proofs.Common.{◌≡◌, map, take}
-use Rattle.cc_edit.specs.Spots.{colour_of}
+use Rattle.cc_edit.specs.LayerSamples.{colour_of}
 use Rattle.cc_edit.specs.Paintings.{shown}
 use Rattle.cc_edit.proofs.tree_paint.set_colours.Given as goal
 
 abbrev pub invariant-loop-i : goal.invariant-loop-i
 invariant-loop-i l = record {
-  colours : map colour_of (take l.i l.spots) ≡ map (shown l.tile l.x l.y) (take l.i l.layers);
-  groups : map (λ s. s.groups.items) l.spots ≡ map (λ s. s.groups.items) l.fn.spots;
+  colours : map colour_of (take l.i l.samples) ≡ map (shown l.tile l.x l.y) (take l.i l.layers);
+  groups : map (λ s. s.groups.items) l.samples ≡ map (λ s. s.groups.items) l.fn.samples;
 }

@@ -6,14 +6,14 @@ use Rattle.std.proofs.lemmas.Simd.{map-map}
 use Rattle.cc_tree.specs.OffsetMap.{offset_at}
 use Rattle.cc_tree.specs.Trees.{Trees as Props}
 use Rattle.cc_edit.specs.declared.paint.Group.{Group}
-use Rattle.cc_edit.specs.declared.paint.Spot.{Spot}
+use Rattle.cc_edit.specs.declared.paint.LayerSample.{LayerSample}
 use Rattle.cc_edit.specs.declared.view.View.{View}
 use Rattle.cc_edit.specs.Layers.{PageLayer, parts_of}
-use Rattle.cc_edit.specs.Spots.{HaveOpacities}
+use Rattle.cc_edit.specs.LayerSamples.{HaveOpacities}
 use Rattle.cc_edit.specs.TreePainting.{groups_in, opacity_in, colour_at}
 use Rattle.cc_edit.specs.Paintings.{shown}
 use Rattle.cc_edit.proofs.Placing.{sizes}
-use Rattle.cc_edit.proofs.SpotColours.{effects_of_lists}
+use Rattle.cc_edit.proofs.SampleColours.{effects_of_lists}
 use Rattle.cc_edit.proofs.tree_paint.Painting.new.Goals as goal
 
 pub placed_layers-requires-clause-sizes : goal.placed_layers-requires-clause-sizes
@@ -25,12 +25,12 @@ invariant_of-result c =
     let same : c.view-tile.result ≡ c.args.tree.now.view = c.view-tile.ensures in
     let tile : c.view-tile.result.tile ≡ c.args.tree.now.view.tile = ap (λ (v : View). v.tile) same in
     let first : length c.in_ok-layers.layers.items ≡ length c.layers.result.now = c.in_ok-layers.ensures.count in
-    let second : length c.in_ok-spots.spots.items ≡ length c.layers-2.result.now = c.in_ok-spots.ensures.count in
+    let second : length c.in_ok-samples.samples.items ≡ length c.layers-2.result.now = c.in_ok-samples.ensures.count in
     let both : length c.layers.result.now ≡ length c.layers-2.result.now =
     sym (length-map c.layers.result.now parts_of) ∙ ap (λ (ls : List PageLayer). length ls) (c.layers.ensures ∙ sym c.layers-2.ensures) ∙ length-map c.layers-2.result.now parts_of in (
       omega (arith, low, tile),
       omega (arith, first, second, both),
-      All-map (λ (gs : List Group). length gs ≤ 256) (λ (s : Spot). s.groups.items) c.in_ok-spots.spots.items c.in_ok-spots.ensures.few,
+      All-map (λ (gs : List Group). length gs ≤ 256) (λ (s : LayerSample). s.groups.items) c.in_ok-samples.samples.items c.in_ok-samples.ensures.few,
     )
 
 pub returns : goal.returns
@@ -41,12 +41,12 @@ returns c = record {
       ∙ sym (map-map (colour_at c.args.tree.now (offset_at c.args.offsets.now) c.args.missing.now x y) parts_of c.layers.result.now)
       ∙ ap (λ (ls : List PageLayer). map (colour_at c.args.tree.now (offset_at c.args.offsets.now) c.args.missing.now x y) ls) c.layers.ensures;
   groups =
-      sym (effects_of_lists c.in_ok-spots.spots.items)
-      ∙ c.in_ok-spots.ensures.groups
+      sym (effects_of_lists c.in_ok-samples.samples.items)
+      ∙ c.in_ok-samples.ensures.groups
       ∙ sym (map-map (λ (l : PageLayer). groups_in c.props-props.result.now.effects l.effect) parts_of c.layers-2.result.now)
       ∙ ap (λ (ls : List PageLayer). map (λ (l : PageLayer). groups_in c.props-props.result.now.effects l.effect) ls) c.layers-2.ensures
       ∙ ap (λ (t : Props). map (λ (l : PageLayer). groups_in t.effects l.effect) c.args.tree.now.layers) c.props-props.ensures;
   opacities =
-      All-map (λ (gs : List Group). All (λ (g : Group). opacity_in c.args.tree.now.props.effects g.effect ≡ g.opacity) gs) (λ (s : Spot). s.groups.items) c.in_ok-spots.spots.items
-      (subst (λ (t : Props). HaveOpacities (opacity_in t.effects) c.in_ok-spots.spots.items) c.props-props.ensures c.in_ok-spots.ensures.opacities);
+      All-map (λ (gs : List Group). All (λ (g : Group). opacity_in c.args.tree.now.props.effects g.effect ≡ g.opacity) gs) (λ (s : LayerSample). s.groups.items) c.in_ok-samples.samples.items
+      (subst (λ (t : Props). HaveOpacities (opacity_in t.effects) c.in_ok-samples.samples.items) c.props-props.ensures c.in_ok-samples.ensures.opacities);
 }

@@ -2,15 +2,15 @@
 use Rattle.std.specs.Prelude.{◌≡◌, ℕ, ◌==◌, nat_lt, ◌<◌, cond, List, [], ◌∷◌, length, Option, Some, None}
 use Rattle.std.specs.List.{prefix_len}
 use Rattle.cc_tree.specs.Entries.{find, ids}
-use Rattle.cc_tree.specs.declared.spots.Spot.{Spot}
+use Rattle.cc_tree.specs.declared.index.IndexEntry.{IndexEntry}
 
--- a spot put before the first one that has no smaller id
-abbrev pub put : Spot → List Spot → List Spot
+-- an entry put before the first one that has no smaller id
+abbrev pub put : IndexEntry → List IndexEntry → List IndexEntry
 put s [] = s ∷ []
 put s (x ∷ xs) = cond (nat_lt x.id s.id) (x ∷ put s xs) (s ∷ x ∷ xs)
 
 -- the index of ids, the newest first: places count from the oldest
-abbrev pub index_of : List ℕ → List Spot
+abbrev pub index_of : List ℕ → List IndexEntry
 index_of [] = []
 index_of (id ∷ older) = put (record { id = id; place = length older }) (index_of older)
 
@@ -20,27 +20,27 @@ place_of id [] = None
 place_of id (x ∷ older) = cond (x == id) (Some (length older)) (place_of id older)
 
 -- the place that the index names
-abbrev pub spot_of : ℕ → List Spot → Option ℕ
-spot_of id [] = None
-spot_of id (s ∷ ss) = cond (s.id == id) (Some s.place) (spot_of id ss)
+abbrev pub listed_place : ℕ → List IndexEntry → Option ℕ
+listed_place id [] = None
+listed_place id (s ∷ ss) = cond (s.id == id) (Some s.place) (listed_place id ss)
 
 -- each id is smaller than those behind it
-abbrev pub AreAbove : ℕ → List Spot → Type 0
+abbrev pub AreAbove : ℕ → List IndexEntry → Type 0
 AreAbove id [] = Unit {0}
 AreAbove id (s ∷ ss) = (id < s.id) × AreAbove id ss
 
-abbrev pub AreRising : List Spot → Type 0
+abbrev pub AreRising : List IndexEntry → Type 0
 AreRising [] = Unit {0}
 AreRising (s ∷ ss) = AreAbove s.id ss × AreRising ss
 
--- how many spots of the front have a smaller id
-unfoldable pub front : ℕ → List Spot → ℕ
-front id spots = prefix_len (λ s. nat_lt s.id id) spots
+-- how many entries of the front have a smaller id
+unfoldable pub front : ℕ → List IndexEntry → ℕ
+front id entries = prefix_len (λ s. nat_lt s.id id) entries
 
 -- what is kept of the index of ids, the newest first
-pub record IsIndex (ids : List ℕ) (spots : List Spot) : Type 0 where
-  pub all : spots ≡ index_of ids
-  pub rising : AreRising spots
+pub record IsIndex (ids : List ℕ) (entries : List IndexEntry) : Type 0 where
+  pub all : entries ≡ index_of ids
+  pub rising : AreRising entries
 
 -- the node of an id, with its place
 pub record IsEntryOf {N : Type 0} (id : ℕ) (nodes : List (ℕ × N)) (p : ℕ) (n : N) : Type 0 where
