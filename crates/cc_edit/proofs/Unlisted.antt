@@ -128,10 +128,14 @@ still_there i id ls d there = go (i == id) refl
 
 -- ---- each command
 
+-- a layer that is resized keeps its items
+resized_shows : (p : Page) (i w h id : ℕ) (x y : ℤ) → content_at (after p (command.ResizeLayer i w h)) id x y ≡ content_at p id x y
+resized_shows p i w h id x y = viewed (λ l. content l.items x y) i id (with_size w h) (λ l. refl) p.layers (λ e. of_every (λ l. content l.items x y) (with_size w h) (λ l. refl) (find (has_id i) p.layers))
+
 content_kept : (p : Page) (c : Command) → IsPage p → test_of p c ≡ Ok tt → (id : ℕ) (x y : ℤ) → has_layer id (after p c).layers ≡ true → shows_at (change_of p c) id x y ≡ false → content_at (after p c) id x y ≡ content_at p id x y
 content_kept p (command.AddLayer i at transform clip effect w h colour) is ok id x y there out = ap (shown x y) (found-insert id _ p.layers at (first_fails (i == id) out))
 content_kept p (command.RemoveLayer i) is ok id x y there out = ap (shown x y) (found-without i id p.layers (still_there i id p.layers is.distinct there))
-content_kept p (command.ResizeLayer i w h) is ok id x y there out = viewed (λ l. content l.items x y) i id (with_size w h) (λ l. refl) p.layers (λ e. of_every (λ l. content l.items x y) (with_size w h) (λ l. refl) (find (has_id i) p.layers))
+content_kept p (command.ResizeLayer i w h) is ok id x y there out = resized_shows p i w h id x y
 content_kept p (command.SetColour i colour) is ok id x y there out = viewed (λ l. content l.items x y) i id (with_colour colour) (λ l. refl) p.layers (λ e. of_every (λ l. content l.items x y) (with_colour colour) (λ l. refl) (find (has_id i) p.layers))
 content_kept p (command.InsertItem i at item) is ok id x y there out = viewed (λ l. content l.items x y) i id (with_items (λ items. insert items at item)) (λ l. refl) p.layers (λ e. of_every (λ l. content l.items x y) (with_items (λ items. insert items at item)) (λ l. content-insert l.items at item x y (first_of (covers (rect_of item) x y) (covered [] x y) (second_fails (i == id) (covered (rect_of item ∷ []) x y) e out))) (find (has_id i) p.layers))
 content_kept p (command.RemoveItem i at) is ok id x y there out = viewed (λ l. content l.items x y) i id (with_items (λ items. remove items at)) (λ l. refl) p.layers (λ e. removed_view x y at (find (has_id i) p.layers) (remove_tested p i at ok) (second_fails (i == id) _ e out))
@@ -151,4 +155,4 @@ size_kept p (command.MoveLayer i at) is id there out = ap sized (found-moved i a
 size_kept p _ is id there out = refl
 
 pub unlisted_stays : (p : Page) (c : Command) → IsPage p → Accepts p c → KeepsTheRest p c
-unlisted_stays p c is ok = record { content = λ id x y before there out. content_kept p c is ok.passes id x y there out; size = λ id before there out. size_kept p c is id there out }
+unlisted_stays p c is ok = record { content = λ id x y before there out. content_kept p c is ok.passes id x y there out; size = λ id before there out. size_kept p c is id there out; resized = λ id w h x y is_resize. ap (λ (d : Command). content_at (after p d) id x y) is_resize ∙ resized_shows p id w h id x y }

@@ -4,6 +4,7 @@ use Rattle.cc_pixel.specs.Colours.{Parts}
 use Rattle.cc_region.specs.Points.{covered}
 use Rattle.cc_display.specs.Content.{content}
 use Rattle.cc_edit.specs.declared.command.Command.{Command}
+use Rattle.cc_edit.specs.declared.command.Command.TheVariants as command
 use Rattle.cc_edit.specs.Layers.{has_id}
 use Rattle.cc_edit.specs.Pages.{Page}
 use Rattle.cc_edit.specs.Refusals.{has_layer}
@@ -27,9 +28,10 @@ abbrev pub is_whole : Option Change → ℕ → Bool
 is_whole None id = false
 is_whole (Some change) id = (change.layer == id) && change.whole
 
--- what a command does not list it does not change, in each layer that is there before and after it: neither what the layer shows at a point, nor the size of a layer that is not listed whole
+-- what a command does not list it does not change, in each layer that is there before and after it: neither what the layer shows at a point, nor the size of a layer that is not listed whole; a layer that is resized keeps its list, so it shows at each point what it showed
 pub record KeepsTheRest (p : Page) (c : Command) : Type 0 where
   pub content : (id : ℕ) (x y : ℤ) → has_layer id p.layers ≡ true → has_layer id (after p c).layers ≡ true
       → shows_at (change_of p c) id x y ≡ false → content_at (after p c) id x y ≡ content_at p id x y
   pub size : (id : ℕ) → has_layer id p.layers ≡ true → has_layer id (after p c).layers ≡ true
       → is_whole (change_of p c) id ≡ false → size_of (after p c) id ≡ size_of p id
+  pub resized : (id w h : ℕ) (x y : ℤ) → c ≡ command.ResizeLayer id w h → content_at (after p c) id x y ≡ content_at p id x y

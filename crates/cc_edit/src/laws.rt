@@ -10,7 +10,8 @@ ghost use Rattle.cc_geom.specs.declared.rect.Point.{Point as Offset};
 ghost use Rattle.cc_edit.specs.Hits.{covers_point, target, IsTopmost};
 
 /// What a command does not list it does not change: outside the listed rects, and in layers that are
-/// neither listed nor added or removed, each layer shows what it showed.
+/// neither listed nor added or removed, each layer shows what it showed. A resized layer keeps its
+/// list, so it shows at each point what it showed.
 pub fn commands_keep_the_rest()
     ensures { (p : Page) (c : Edit) → IsPage p → Accepts p c → KeepsTheRest p c }
 {}
