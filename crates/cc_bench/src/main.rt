@@ -6,7 +6,7 @@
 //! - `raster KIND ITEMS TIMES`: a tile of 256 by 256 pixels under so many items that cover it, of the kind
 //!   `opaque`, `translucent` or `bitmap`.
 //!
-//! The script `bench/run` times it.
+//! The script `bench/rows` times it.
 #![tactic(auto)]
 
 mod job;

@@ -181,6 +181,7 @@ impl Script {
         ensures accepted { IsAccepted self.now }
         ensures short { are_short self.now.main ≡ true }
     {
+        // This read tells the proof what the type keeps; it does nothing when it runs.
         let _ = &self.parts;
     }
 }

@@ -25,6 +25,7 @@ pub(crate) fn end_frame(
 {
     script.is_accepted();
     let changes = take_frame(alloc, script, frame, pulls_of(past, frame), tree)?;
+    // This call tells the proof what a list of changes keeps; its answer is not used.
     let _ = changes.len();
     Ok(changes)
 }

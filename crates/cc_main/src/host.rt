@@ -92,6 +92,7 @@ fn is_changed(
     requires bounded { AreBounded pulls.now }
     ensures { result ≡ changes script.now (pulls_in (sends.now ++ pulls.now ∷ [])) (length sends.now) }
 {
+    // The contract alone speaks of what was sent.
     let _ = sends;
     changes_something(script, frame, pulls.as_slice(), before, after)
 }

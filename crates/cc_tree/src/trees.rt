@@ -242,6 +242,7 @@ impl PropertyTrees {
     pub fn are_trees(&self)
         ensures { IsTrees self.now }
     {
+        // This read tells the proof what the type keeps; it does nothing when it runs.
         let _ = &self.transforms;
     }
 

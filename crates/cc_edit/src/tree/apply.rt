@@ -17,6 +17,7 @@ impl LayerTree {
     pub fn apply(&mut self, command: &Command) -> Result<Changes, EditError>
         ensures { Outcome self.old command.now self.new result }
     {
+        // This read tells the proof what the type keeps; it does nothing when it runs.
         let _ = &self.view;
         match command {
             Command::AddTransform {

@@ -15,6 +15,7 @@ impl LayerTree {
     pub fn is_page(&self)
         ensures { IsPage self.now }
     {
+        // This read tells the proof what the type keeps; it does nothing when it runs.
         let _ = &self.view;
     }
     /// Both sides of each of its layers are 1 to 16384. A law that does nothing when it runs.
