@@ -1,6 +1,7 @@
 -- What ending a main frame promises.
-use Rattle.std.specs.Prelude.{◌≡◌, ℕ, suc, ◌-ℤ◌, Bool, not, ◌||◌, List, [], ◌∷◌, Result, Ok, Err, ⊤}
+use Rattle.std.specs.Prelude.{◌≡◌, ◌⊎◌, ℕ, suc, ◌-ℤ◌, Bool, not, ◌||◌, List, [], ◌∷◌, take, Result, Ok, Err, ⊤}
 use Rattle.std.specs.Ordering.{int_eq}
+use Rattle.std.specs.declared.alloc.AllocError.{AllocError}
 use Rattle.cc_region.specs.Lists.{Changed}
 use Rattle.cc_synced.specs.Bounds.{IsBoundedNumber}
 use Rattle.cc_edit.specs.declared.command.Command.{Command}
@@ -32,19 +33,23 @@ with_next p c done = record { list = with_command p c done.list; retiled = done.
 abbrev pub Noted : Command → Changed → Changed → Changed → Type 0
 Noted c listed old new = (p : Page) (done : Changed) → Lists (change_of p c) (retiles p c) listed → SameChanges old done → SameChanges new (with_next p c done)
 
--- a command was applied and noted; or it was refused; or memory ran out
+-- a command was applied and noted; or it was refused, and the page is as it was; or memory ran out, before the command was applied or when it was noted
 abbrev pub TookCommand : Page → Command → Changed → Page → Changed → Result ⊤ EditError → Type 0
 TookCommand p c old q new (Ok done) = Accepts p c × (q ≡ after p c) × ((before : Changed) → SameChanges old before → SameChanges new (with_next p c before))
-TookCommand p c old q new (Err (error.Refused fault)) = Refuses p c fault
-TookCommand p c old q new (Err (error.Memory e)) = ⊤
+TookCommand p c old q new (Err (error.Refused fault)) = Refuses p c fault × (q ≡ p)
+TookCommand p c old q new (Err (error.Memory e)) = (q ≡ p) ⊎ (q ≡ after p c)
 
--- all commands were applied and noted behind nothing; or this one was the first that was refused; or memory ran out
+-- the first n commands were applied to a page, and no more
+abbrev pub HasTaken : Page → List Command → ℕ → Page → Type 0
+HasTaken p cs n q = q ≡ commanded (take n cs) p
+
+-- all commands were applied and noted behind nothing; or this one was the first that was refused, and those before it were applied; or memory ran out, and the first few were applied
 abbrev pub TookCommands : Page → List Command → Page → Result Changed EditError → Type 0
 TookCommands p cs q (Ok changes) = TakesAll p cs × (q ≡ commanded cs p) × SameChanges changes (changed_by p cs unchanged)
-TookCommands p cs q (Err (error.Refused fault)) = (n : ℕ) × RefusedIn p cs n fault
-TookCommands p cs q (Err (error.Memory e)) = ⊤
+TookCommands p cs q (Err (error.Refused fault)) = (n : ℕ) × RefusedIn p cs n fault × HasTaken p cs n q
+TookCommands p cs q (Err (error.Memory e)) = (n : ℕ) × HasTaken p cs n q
 
--- the pulls were added and the commands applied, and these are their changes; or a command was refused; or memory ran out
+-- the pulls were added and the commands applied, and these are their changes; or the pulls were added and a command was refused, or memory ran out
 abbrev pub TookFrame : Page → List Move → List Command → Page → Result Changed EditError → Type 0
 TookFrame p ms cs q result = TookCommands (pulled ms p) cs q result
 
@@ -56,6 +61,11 @@ StandsBefore s k ms p = (ps : ℕ → List Move) × (ps k ≡ ms) × (p ≡ page
 pub record EndsFrame (s : ScriptModel) (k : ℕ) (ms : List Move) (p q : Page) (done : Changed) : Type 0 where
   pub page : q ≡ commanded (commands_of s k) (pulled ms p)
   pub changes : SameChanges done (changed_by (pulled ms p) (commands_of s k) unchanged)
+
+-- the frame with these pulls leads from the one page to the other, and these are its changes; or memory ran out, when the pulls had been added and the first few commands applied
+abbrev pub TookScriptFrame : ScriptModel → ℕ → List Move → Page → Page → Result Changed AllocError → Type 0
+TookScriptFrame s k ms p q (Ok done) = EndsFrame s k ms p q done
+TookScriptFrame s k ms p q (Err e) = (n : ℕ) × HasTaken (pulled ms p) (commands_of s k) n q
 
 -- the move is what the pulls have for a scroller
 pub record IsPullOf (sc : ℕ) (ms : List Move) (m : Move) : Type 0 where

@@ -1,13 +1,13 @@
 //! Main frames on a tree: first the pulls, then the commands.
 
-ghost use Rattle.std.specs.Prelude.{◌≡◌, ◌-ℤ◌, not, ◌||◌, OnOk, IfOk};
+ghost use Rattle.std.specs.Prelude.{◌≡◌, ◌-ℤ◌, not, ◌||◌, OnOk};
 ghost use Rattle.std.specs.List.{list_any};
 ghost use Rattle.std.specs.Ordering.{int_eq};
 ghost use Rattle.cc_synced.specs.Bounds.{IsBoundedNumber};
 ghost use Rattle.cc_edit.specs.Effects.{scrolled_by};
 ghost use Rattle.cc_edit.specs.Axes.{named_in};
 ghost use Rattle.cc_event.specs.Frames.{commands_of, pulled};
-ghost use Rattle.cc_event.specs.Ended.{AreBounded, Noted, TookCommand, TookCommands, TookFrame, StandsBefore, EndsFrame, IsPullOf, is_moved, Tells};
+ghost use Rattle.cc_event.specs.Ended.{AreBounded, Noted, TookCommand, TookCommands, TookFrame, StandsBefore, TookScriptFrame, IsPullOf, is_moved, Tells};
 
 use crate::script::Script;
 use cc_edit::{Command, EditError, LayerTree, Move};
@@ -91,7 +91,8 @@ fn take_commands(
 /// one of them removed is not listed for what came before.
 ///
 /// The parts of a pull are below 2^39 in absolute value; one of a scroller that the tree lacks does
-/// nothing. After an error the tree may have taken some of the frame.
+/// nothing. After a refusal the tree has the pulls and the commands before the refused one; after want
+/// of memory it has the pulls and the first few commands.
 pub fn apply_frame(
     alloc: Global,
     tree: &mut LayerTree,
@@ -116,8 +117,8 @@ fn commands_of(script: &Script, frame: u32) -> &[Command]
 }
 
 /// Ends a main frame of a script on the tree before it, as `apply_frame` does with the frame's commands.
-/// A script's commands are taken whatever was pulled, so an error is want of memory; the tree may then
-/// have taken some of the frame.
+/// A script's commands are taken whatever was pulled, so an error is want of memory; the tree then has
+/// the pulls and the first few commands.
 pub fn take_frame(
     alloc: Global,
     script: &Script,
@@ -127,7 +128,7 @@ pub fn take_frame(
 ) -> Result<Changes, AllocError>
     requires bounded { AreBounded pulls.now }
     requires before { StandsBefore script.now frame pulls.now tree.old }
-    ensures { IfOk result (λ changes. EndsFrame script.now frame pulls.now tree.old tree.new changes) }
+    ensures { TookScriptFrame script.now frame pulls.now tree.old tree.new result }
 {
     script.is_accepted();
     let commands = commands_of(script, frame);
