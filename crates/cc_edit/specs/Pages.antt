@@ -1,5 +1,6 @@
 -- A page: what the commands act on.
 use Rattle.std.specs.Prelude.{ℕ, ◌≤◌, List}
+use Rattle.cc_geom.specs.Limits.{max_viewport, max_tile}
 use Rattle.cc_geom.specs.declared.rect.Point.{Point}
 use Rattle.cc_tree.specs.Trees.{Trees as Props}
 use Rattle.cc_edit.specs.declared.view.View.{View}
@@ -8,11 +9,11 @@ use Rattle.cc_edit.specs.Layers.{PageLayer}
 -- a view in its ranges: sides of 1 to 2048, tiles of 16 to 256
 pub record IsView (v : View) : Type 0 where
   pub w_low : 1 ≤ v.w
-  pub w_high : v.w ≤ 2048
+  pub w_high : v.w ≤ max_viewport
   pub h_low : 1 ≤ v.h
-  pub h_high : v.h ≤ 2048
+  pub h_high : v.h ≤ max_viewport
   pub tile_low : 16 ≤ v.tile
-  pub tile_high : v.tile ≤ 256
+  pub tile_high : v.tile ≤ max_tile
 
 -- a page: its view, its property nodes, its layers in painting order, the ids that layers have or ever had, and the main scroll values under the ids of their scrollers
 pub record Page : Type 0 where

@@ -1,6 +1,7 @@
 -- A page made ready to be painted at many points: what of each layer does not depend on the point.
 use Rattle.std.specs.Prelude.{ℕ, ℤ, pos, ◌≡◌, ◌≤ℤ◌, ◌<ℤ◌, ◌==◌, Bool, cond, ◌&&◌, List, map, All}
 use Rattle.std.specs.List.{list_any}
+use Rattle.cc_geom.specs.Limits.{max_viewport}
 use Rattle.cc_geom.specs.declared.rect.Point.{Point}
 use Rattle.cc_geom.specs.declared.rect.Rect.{Rect}
 use Rattle.cc_geom.specs.declared.tile.Place.{Place}
@@ -17,9 +18,9 @@ use Rattle.cc_edit.specs.TreePainting.{groups_in, opacity_in, place_at, colour_a
 -- a point that may lie on a screen: both from 0 to 2047
 pub record IsOnScreen (x y : ℤ) : Type 0 where
   pub left : pos 0 ≤ℤ x
-  pub right : x <ℤ pos 2048
+  pub right : x <ℤ pos max_viewport
   pub upper : pos 0 ≤ℤ y
-  pub lower : y <ℤ pos 2048
+  pub lower : y <ℤ pos max_viewport
 
 -- a layer in its place: the part of the screen where it lies, how far it is moved, its background colour, its items, and the keys of its missing tiles
 pub record Placed : Type 0 where

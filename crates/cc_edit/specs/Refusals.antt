@@ -1,6 +1,7 @@
 -- Which commands a page refuses: the tests of each command, in the order of the faults' numbers. The first that fails is the answer. The last fault, that layers would not stand together, looks at the page after the command and is tested after all others.
 use Rattle.std.specs.Prelude.{ℕ, ℤ, pos, neg_ℤ, Bool, ◌&&◌, not, nat_lt, nat_le, List, [], length, Option, Some, None, Result, Ok, Err, ⊤, find, is_some, ◌==◌}
 use Rattle.std.specs.List.{list_any}
+use Rattle.cc_geom.specs.Limits.{max_nodes, max_layers, max_items, max_side, max_viewport, min_tile, max_tile, max_offset, max_scroll}
 use Rattle.cc_geom.specs.declared.rect.Rect.{Rect}
 use Rattle.cc_tree.specs.Entries.{knows, is_known}
 use Rattle.cc_display.specs.declared.item.Item.{Item}
@@ -16,36 +17,36 @@ use Rattle.cc_edit.specs.Pages.{Page}
 -- the offset of a transform: both -65536 to 65536
 unfoldable pub is_offset : ℤ → ℤ → Result ⊤ EditFault
 is_offset x y = do
-  _ ← in_range x (neg_ℤ (pos 65536)) (pos 65536)
-  in_range y (neg_ℤ (pos 65536)) (pos 65536)
+  _ ← in_range x (neg_ℤ (pos max_offset)) (pos max_offset)
+  in_range y (neg_ℤ (pos max_offset)) (pos max_offset)
 
 -- the rect of a clip: x and y -65536 to 65536, w and h 0 to 65536
 unfoldable pub is_clip_rect : Rect → Result ⊤ EditFault
 is_clip_rect r = do
-  _ ← in_range r.x (neg_ℤ (pos 65536)) (pos 65536)
-  _ ← in_range r.y (neg_ℤ (pos 65536)) (pos 65536)
-  _ ← in_range r.w (pos 0) (pos 65536)
-  in_range r.h (pos 0) (pos 65536)
+  _ ← in_range r.x (neg_ℤ (pos max_offset)) (pos max_offset)
+  _ ← in_range r.y (neg_ℤ (pos max_offset)) (pos max_offset)
+  _ ← in_range r.w (pos 0) (pos max_offset)
+  in_range r.h (pos 0) (pos max_offset)
 
 -- the rect of an item: x and y -16384 to 16384, w and h 1 to 16384
 unfoldable pub is_item_rect : Rect → Result ⊤ EditFault
 is_item_rect r = do
-  _ ← in_range r.x (neg_ℤ (pos 16384)) (pos 16384)
-  _ ← in_range r.y (neg_ℤ (pos 16384)) (pos 16384)
-  _ ← in_range r.w (pos 1) (pos 16384)
-  in_range r.h (pos 1) (pos 16384)
+  _ ← in_range r.x (neg_ℤ (pos max_side)) (pos max_side)
+  _ ← in_range r.y (neg_ℤ (pos max_side)) (pos max_side)
+  _ ← in_range r.w (pos 1) (pos max_side)
+  in_range r.h (pos 1) (pos max_side)
 
 -- the ends of a scroll range, or a place in the largest: both 0 to 1048576
 unfoldable pub is_scroll_range : ℕ → ℕ → Result ⊤ EditFault
 is_scroll_range x y = do
-  _ ← in_range (pos x) (pos 0) (pos 1048576)
-  in_range (pos y) (pos 0) (pos 1048576)
+  _ ← in_range (pos x) (pos 0) (pos max_scroll)
+  in_range (pos y) (pos 0) (pos max_scroll)
 
 -- a scroll: both -1048576 to 1048576
 unfoldable pub is_scroll : ℤ → ℤ → Result ⊤ EditFault
 is_scroll dx dy = do
-  _ ← in_range dx (neg_ℤ (pos 1048576)) (pos 1048576)
-  in_range dy (neg_ℤ (pos 1048576)) (pos 1048576)
+  _ ← in_range dx (neg_ℤ (pos max_scroll)) (pos max_scroll)
+  in_range dy (neg_ℤ (pos max_scroll)) (pos max_scroll)
 
 -- how many items the layer with this id has
 abbrev pub count_in : Option PageLayer → Result ℕ EditFault
@@ -63,7 +64,7 @@ has_layer id layers = is_some (find (has_id id) layers)
 unfoldable pub takes : {N : Type 0} → ℕ → List (ℕ × N) → Result ⊤ EditFault
 takes id nodes = do
   _ ← require (not (knows id nodes)) fault.IdUsed
-  _ ← require (nat_lt (length nodes) 256) (fault.TooMany 256)
+  _ ← require (nat_lt (length nodes) max_nodes) (fault.TooMany max_nodes)
   is_id id
 
 unfoldable pub add_transform_test : Page → ℕ → ℕ → ℤ → ℤ → ℕ → Result ⊤ EditFault
@@ -125,7 +126,7 @@ add_layer_test p l at = do
   _ ← require (is_known l.transform p.props.transforms && is_known l.clip p.props.clips && is_known l.effect p.props.effects) fault.UnknownId
   _ ← require (not (list_any (λ id. id == l.id) p.used)) fault.IdUsed
   _ ← require (nat_le at (length p.layers)) fault.BadPlace
-  _ ← require (nat_lt (length p.layers) 64) (fault.TooMany 64)
+  _ ← require (nat_lt (length p.layers) max_layers) (fault.TooMany max_layers)
   _ ← is_id l.id
   is_size l.w l.h
 
@@ -144,7 +145,7 @@ unfoldable pub insert_item_test : Page → ℕ → ℕ → Item → Result ⊤ E
 insert_item_test p layer at item = do
   count ← item_count layer p.layers
   _ ← require (nat_le at count) fault.BadPlace
-  _ ← require (nat_lt count 256) (fault.TooMany 256)
+  _ ← require (nat_lt count max_items) (fault.TooMany max_items)
   is_item_rect (rect_of item)
 
 unfoldable pub remove_item_test : Page → ℕ → ℕ → Result ⊤ EditFault
@@ -165,9 +166,9 @@ move_layer_test p id at = do
 
 unfoldable pub set_view_test : ℕ → ℕ → ℕ → Result ⊤ EditFault
 set_view_test w h tile = do
-  _ ← in_range (pos w) (pos 1) (pos 2048)
-  _ ← in_range (pos h) (pos 1) (pos 2048)
-  in_range (pos tile) (pos 16) (pos 256)
+  _ ← in_range (pos w) (pos 1) (pos max_viewport)
+  _ ← in_range (pos h) (pos 1) (pos max_viewport)
+  in_range (pos tile) (pos min_tile) (pos max_tile)
 
 -- the tests of a command in a page: passed, or the fault of least number
 abbrev pub test_of : Page → Command → Result ⊤ EditFault

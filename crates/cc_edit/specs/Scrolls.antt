@@ -1,6 +1,7 @@
 -- The main scroll values: where the main thread has scrolled to.
 use Rattle.std.specs.Prelude.{ℕ, ℤ, pos, ◌≡◌, ◌≤ℤ◌, ◌≤◌, List, [], ◌∷◌, Option, Some, None}
 use Rattle.std.specs.Int.{int_max, int_min}
+use Rattle.cc_geom.specs.Limits.{max_scroll}
 use Rattle.cc_geom.specs.declared.rect.Point.{Point}
 use Rattle.cc_tree.specs.declared.nodes.ScrollNode.{ScrollNode}
 
@@ -25,7 +26,7 @@ or_origin (Some p) = p
 pub record IsInRange (most : ℕ) (z : ℤ) : Type 0 where
   pub low : pos 0 ≤ℤ z
   pub high : z ≤ℤ pos most
-  pub bounded : most ≤ 1048576
+  pub bounded : most ≤ max_scroll
 
 -- each scroller has a value in its range, in the same order
 abbrev pub AreInRange : List (ℕ × ScrollNode) → List (ℕ × Point) → Type 0

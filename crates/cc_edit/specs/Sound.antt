@@ -1,6 +1,7 @@
 -- What holds of every page, whatever commands made it.
 use Rattle.std.specs.Prelude.{ℕ, ◌≡◌, ◌≤◌, Bool, true, false, ◌==◌, List, [], ◌∷◌, length, map, Ok}
 use Rattle.std.specs.List.{list_any, AllByRecursion}
+use Rattle.cc_geom.specs.Limits.{max_layers}
 use Rattle.cc_tree.specs.Trees.{Trees as Props}
 use Rattle.cc_tree.specs.Entries.{is_known}
 use Rattle.cc_edit.specs.Tests.{is_id, is_size}
@@ -31,7 +32,7 @@ AreDistinct (l ∷ ls) = (has_layer l.id ls ≡ false) × AreDistinct ls
 -- a page: at most 64 layers with ids of their own, whose named nodes are there; the layers of each effect, with those of the effects below it, stand together; the main scroll values are in their ranges
 pub record IsPage (p : Page) : Type 0 where
   pub view : IsView p.view
-  pub few : length p.layers ≤ 64
+  pub few : length p.layers ≤ max_layers
   pub layers : AllByRecursion (IsLayer p.props p.used) p.layers
   pub distinct : AreDistinct p.layers
   pub nested : AreNested p.props.effects (map (λ l. l.effect) p.layers)

@@ -1,5 +1,6 @@
 -- What a command is tested for: each test passes or names its fault.
 use Rattle.std.specs.Prelude.{ℕ, ℤ, pos, int_lt, Bool, true, false, cond, Result, Ok, Err, ⊤}
+use Rattle.cc_geom.specs.Limits.{max_id, max_side}
 use Rattle.cc_edit.specs.declared.fault.EditFault.{EditFault}
 use Rattle.cc_edit.specs.declared.fault.EditFault.TheVariants as fault
 
@@ -20,10 +21,10 @@ in_range value low high = cond (int_lt value low) (Err (fault.OutOfRange value l
 
 -- a new id: 1 to 65535
 unfoldable pub is_id : ℕ → Result ⊤ EditFault
-is_id id = in_range (pos id) (pos 1) (pos 65535)
+is_id id = in_range (pos id) (pos 1) (pos max_id)
 
 -- a layer's size: both sides 1 to 16384
 unfoldable pub is_size : ℕ → ℕ → Result ⊤ EditFault
 is_size w h = do
-  _ ← in_range (pos w) (pos 1) (pos 16384)
-  in_range (pos h) (pos 1) (pos 16384)
+  _ ← in_range (pos w) (pos 1) (pos max_side)
+  in_range (pos h) (pos 1) (pos max_side)

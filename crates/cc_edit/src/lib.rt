@@ -9,7 +9,7 @@ mod groups;
 mod laws;
 mod layer;
 mod layers;
-mod limits;
+pub mod limits;
 mod listing;
 mod moves;
 mod paint;

@@ -1,7 +1,8 @@
 -- Which scripts the format can say: the ranges of all their numbers, and how long their lists may be.
-use Rattle.std.specs.Prelude.{ℕ, ◌+◌, ℤ, pos, negsuc, List, [], ◌∷◌, length, Bool, true, false, ◌&&◌, ◌==◌, nat_le, nat_lt, int_le, if◌then◌else◌}
+use Rattle.std.specs.Prelude.{ℕ, ◌+◌, ℤ, pos, negsuc, neg_ℤ, List, [], ◌∷◌, length, Bool, true, false, ◌&&◌, ◌==◌, nat_le, nat_lt, int_le, if◌then◌else◌}
 use Rattle.std.specs.List.{list_all}
 use Rattle.cc_geom.specs.declared.rect.Rect.{Rect}
+use Rattle.cc_geom.specs.Limits.{max_id, max_viewport, max_first_viewport, min_tile, max_tile, max_scroll, max_frames, max_inputs, max_draws, max_budget, max_distance}
 use Rattle.cc_pixel.specs.Colours.{is_colour}
 use Rattle.cc_display.specs.Pictures.{has_sides, byte_count}
 use Rattle.cc_display.specs.declared.item.Item.{Item}
@@ -74,11 +75,11 @@ command_in_range version (SetView w h tile) = (version == 2) && is_whole w && is
 
 -- one axis of a scroll or a wheel: at most 2^20 either way
 abbrev pub is_amount : ℤ → Bool
-is_amount z = int_in_range (negsuc 1048575) (pos 1048576) z
+is_amount z = int_in_range (neg_ℤ (pos max_scroll)) (pos max_scroll) z
 
 -- an input of a script of so many main frames
 abbrev pub input_in_range : ℕ → Input → Bool
-input_in_range frames (Scroll scroller dx dy) = in_range 1 65535 scroller && is_amount dx && is_amount dy
+input_in_range frames (Scroll scroller dx dy) = in_range 1 max_id scroller && is_amount dx && is_amount dy
 input_in_range frames (Wheel x y dx dy) = in_range 0 2047 x && in_range 0 2047 y && is_amount dx && is_amount dy
 input_in_range frames Draw = true
 input_in_range frames (Await frame) = is_whole frame && nat_lt frame frames
@@ -95,7 +96,7 @@ draw_count (Settle ∷ rest) = draw_count rest
 
 -- the longest side of a viewport in a version
 abbrev pub longest_side : ℕ → ℕ
-longest_side version = if version == 1 then 1024 else 2048
+longest_side version = if version == 1 then max_first_viewport else max_viewport
 
 -- the version, the viewport, the tile side, the background and the bounds of a run
 abbrev pub head_in_range : ScriptModel → Bool
@@ -103,20 +104,20 @@ head_in_range s =
     in_range 1 2 s.version
     && in_range 1 (longest_side s.version) s.viewport_w
     && in_range 1 (longest_side s.version) s.viewport_h
-    && in_range 16 256 s.tile
+    && in_range min_tile max_tile s.tile
     && (is_colour s.background && (s.background.a == 255))
-    && in_range 0 4096 s.budget
-    && in_range 0 4096 s.raster_per_frame
-    && in_range 0 512 s.soon
-    && in_range s.soon 512 s.eventually
+    && in_range 0 max_budget s.budget
+    && in_range 0 max_budget s.raster_per_frame
+    && in_range 0 max_distance s.soon
+    && in_range s.soon max_distance s.eventually
 
 -- the main frames: at most 4096
 abbrev pub main_in_range : ℕ → List (List Command) → Bool
-main_in_range version main = nat_le (length main) 4096 && list_all (list_all (command_in_range version)) main
+main_in_range version main = nat_le (length main) max_frames && list_all (list_all (command_in_range version)) main
 
 -- the inputs: at most 65536, of them at most 4096 draws
 abbrev pub inputs_in_range : ℕ → List Input → Bool
-inputs_in_range frames inputs = nat_le (length inputs) 65536 && list_all (input_in_range frames) inputs && nat_le (draw_count inputs) 4096
+inputs_in_range frames inputs = nat_le (length inputs) max_inputs && list_all (input_in_range frames) inputs && nat_le (draw_count inputs) max_draws
 
 -- a script that the format can say
 unfoldable pub is_in_ranges : ScriptModel → Bool

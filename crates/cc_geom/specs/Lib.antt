@@ -4,5 +4,6 @@ pub mod Gaps
 pub mod Grids
 pub mod KeyLists
 pub mod KeyOrder
+pub mod Limits
 pub mod Runs
 pub mod Sides

@@ -1,5 +1,6 @@
 -- What contracts see of a grid.
 use Rattle.std.specs.Prelude.{ℕ, ◌≤◌}
+use Rattle.cc_geom.specs.Limits.{max_side}
 
 -- a layer's width and height, and the side of the tiles that it is cut into
 pub record Sides : Type 0 where
@@ -10,7 +11,7 @@ pub record Sides : Type 0 where
 -- a length of 1 to 16384 pixels
 pub record IsSide (n : ℕ) : Type 0 where
   pub low : 1 ≤ n
-  pub high : n ≤ 16384
+  pub high : n ≤ max_side
 
 -- what every grid keeps
 pub record IsGrid (g : Sides) : Type 0 where

@@ -1,8 +1,9 @@
 -- The inputs of a script.
-use Rattle.std.specs.Prelude.{ℕ, ◌+◌, ℤ, pos, negsuc, List, [], codes, nat_lt, Option, Some, None, option_and_then, Result, Ok, Err, ⊤, if◌then◌else◌}
+use Rattle.std.specs.Prelude.{ℕ, ◌+◌, ℤ, pos, neg_ℤ, List, [], codes, nat_lt, Option, Some, None, option_and_then, Result, Ok, Err, ⊤, if◌then◌else◌}
 use Rattle.std.specs.Str.{bytes_eq}
 use Rattle.serde_json.specs.Data.{Data, Items, no_items, item}
 use Rattle.serde_json.specs.Find.{get, as_str}
+use Rattle.cc_geom.specs.Limits.{max_id, max_draws, max_scroll}
 use Rattle.cc_event.specs.declared.input.Input.{Input}
 use Rattle.cc_event.specs.declared.input.Input.TheVariants.{Scroll, Wheel, Draw, Await, Settle}
 use Rattle.cc_shape.specs.declared.fault.FieldFault.{FieldFault}
@@ -28,12 +29,12 @@ input_op_at d = or_fault 0 (option_and_then input_named (option_and_then as_str 
 
 -- one axis of a scroll or a wheel: at most 2^20 either way
 unfoldable pub amount_at : List ℕ → ℕ → Data → Result ℤ FieldFault
-amount_at key field d = int_at key (negsuc 1048575) (pos 1048576) field d
+amount_at key field d = int_at key (neg_ℤ (pos max_scroll)) (pos max_scroll) field d
 
 -- `scroll`
 unfoldable pub scroll_at : Data → Result Input FieldFault
 scroll_at d = do
-  scroller ← number_at (codes "scroller") 1 65535 1 d
+  scroller ← number_at (codes "scroller") 1 max_id 1 d
   dx ← amount_at (codes "dx") 2 d
   dy ← amount_at (codes "dy") 3 d
   _ ← no_more 4 d
@@ -51,7 +52,7 @@ wheel_at d = do
 
 -- one draw too many is a fault of field 0
 abbrev pub room_for_draw : ℕ → Result ⊤ FieldFault
-room_for_draw draws = if nat_lt draws 4096 then Ok tt else Err (fault 0)
+room_for_draw draws = if nat_lt draws max_draws then Ok tt else Err (fault 0)
 
 -- `draw`
 unfoldable pub draw_at : ℕ → Data → Result Input FieldFault

@@ -3,6 +3,7 @@ use Rattle.std.specs.Prelude.{ℕ, List, length, codes, Option, Some, None, opti
 use Rattle.std.specs.Str.{bytes_eq}
 use Rattle.serde_json.specs.Data.{Data, Items}
 use Rattle.serde_json.specs.Find.{get, as_str}
+use Rattle.cc_geom.specs.Limits.{min_tile, max_tile, max_budget, max_frames, max_inputs, max_distance}
 use Rattle.cc_priority.specs.declared.tree_priority.TreePriority.{TreePriority}
 use Rattle.cc_priority.specs.declared.tree_priority.TreePriority.TheVariants.{Same, Smooth, New}
 use Rattle.cc_event.specs.Ranges.{longest_side}
@@ -33,12 +34,12 @@ head_at d = do
   _ ← object_at d
   version ← number_at (codes "version") 1 2 1 d
   viewport ← sides_at (codes "viewport") (longest_side version) 2 d
-  tile ← number_at (codes "tile") 16 256 3 d
+  tile ← number_at (codes "tile") min_tile max_tile 3 d
   background ← opaque_at (codes "background") 4 d
-  budget ← number_at (codes "budget") 0 4096 5 d
-  raster_per_frame ← number_at (codes "raster_per_frame") 0 4096 6 d
-  soon ← number_at (codes "soon") 0 512 7 d
-  eventually ← number_at (codes "eventually") soon 512 8 d
+  budget ← number_at (codes "budget") 0 max_budget 5 d
+  raster_per_frame ← number_at (codes "raster_per_frame") 0 max_budget 6 d
+  soon ← number_at (codes "soon") 0 max_distance 7 d
+  eventually ← number_at (codes "eventually") soon max_distance 8 d
   priority ← priority_at 9 d
   Ok (record { version = version; viewport = viewport; tile = tile; background = background; budget = budget; raster_per_frame = raster_per_frame; soon = soon; eventually = eventually; priority = priority })
 
@@ -50,8 +51,8 @@ pub record Lists : Type 0 where
 -- the last two fields of the top object, then further fields
 unfoldable pub lists_at : Data → Result Lists FieldFault
 lists_at d = do
-  main ← list_at (codes "main") 4096 10 d
-  inputs ← list_at (codes "inputs") 65536 11 d
+  main ← list_at (codes "main") max_frames 10 d
+  inputs ← list_at (codes "inputs") max_inputs 11 d
   _ ← no_more 11 d
   Ok (record { main = main; inputs = inputs })
 

@@ -1,5 +1,6 @@
 -- Families whose nodes were added one after another: each parent was there before its child.
 use Rattle.std.specs.Prelude.{ℕ, ◌<◌, ◌≤◌, false, ◌≡◌, List, [], ◌∷◌, length, IsTrue}
+use Rattle.cc_geom.specs.Limits.{max_id, max_nodes}
 use Rattle.cc_tree.specs.Entries.{is_known, knows}
 
 -- a family of at most 256 nodes, each with a parent and a range for its values
@@ -8,8 +9,8 @@ module _ {N : Type 0} (parent : N → ℕ) (fits : N → Type 0) where
   pub record MayJoin (id : ℕ) (n : N) (nodes : List (ℕ × N)) : Type 0 where
     pub fresh : knows id nodes ≡ false
     pub id_low : 1 ≤ id
-    pub id_high : id ≤ 65535
-    pub few : length nodes < 256
+    pub id_high : id ≤ max_id
+    pub few : length nodes < max_nodes
     pub parent_known : IsTrue (is_known (parent n) nodes)
     pub in_range : fits n
 

@@ -8,7 +8,7 @@ ghost use Rattle.cc_edit.specs.Outcomes.{Tested, Lists};
 
 use super::LayerTree;
 use crate::fault::{EditError, EditFault};
-use crate::limits::{is_item_rect, require};
+use crate::limits::{MAX_ITEMS, is_item_rect, require};
 use crate::{display, listing};
 use cc_display::Item;
 use cc_region::Changes;
@@ -20,7 +20,7 @@ impl LayerTree {
     {
         let count = display::item_count(self.layers.as_slice(), layer)?;
         require(at as usize <= count, EditFault::BadPlace)?;
-        require(count < 256, EditFault::TooMany { limit: 256 })?;
+        require(count < MAX_ITEMS as usize, EditFault::TooMany { limit: MAX_ITEMS })?;
         is_item_rect(item.rect())
     }
 

@@ -8,7 +8,7 @@ ghost use Rattle.cc_edit.specs.Outcomes.{Tested, Lists};
 
 use super::LayerTree;
 use crate::fault::{EditError, EditFault};
-use crate::limits::{in_range, is_size, require};
+use crate::limits::{MAX_TILE, MAX_VIEWPORT, MIN_TILE, in_range, is_size, require};
 use crate::view::View;
 use crate::{layers, listing};
 use cc_pixel::Colour;
@@ -75,9 +75,9 @@ impl LayerTree {
     fn may_set_view(&self, w: u32, h: u32, tile: u32) -> Result<(), EditFault>
         ensures { result ≡ refusals.set_view_test w h tile }
     {
-        in_range(w as i64, 1, 2048)?;
-        in_range(h as i64, 1, 2048)?;
-        in_range(tile as i64, 16, 256)
+        in_range(w as i64, 1, MAX_VIEWPORT)?;
+        in_range(h as i64, 1, MAX_VIEWPORT)?;
+        in_range(tile as i64, MIN_TILE, MAX_TILE)
     }
 
     pub(crate) fn set_view(&mut self, w: u32, h: u32, tile: u32) -> Result<Changes, EditError>

@@ -8,7 +8,7 @@ ghost use Rattle.cc_edit.specs.Outcomes.{Tested};
 
 use super::LayerTree;
 use crate::fault::{EditError, EditFault};
-use crate::limits::{in_range, is_clip_rect, is_id, is_offset, require};
+use crate::limits::{MAX_NODES, in_range, is_clip_rect, is_id, is_offset, require};
 use cc_geom::Rect;
 use cc_region::Changes;
 use cc_tree::{ClipNode, EffectNode, TransformNode};
@@ -70,8 +70,8 @@ impl LayerTree {
         require(parent_known && scroller_known, EditFault::UnknownId)?;
         require(self.props.transform(id).is_none(), EditFault::IdUsed)?;
         require(
-            self.props.transforms() < 256,
-            EditFault::TooMany { limit: 256 },
+            self.props.transforms() < MAX_NODES as usize,
+            EditFault::TooMany { limit: MAX_NODES },
         )?;
         is_id(id)?;
         is_offset(x, y)
@@ -123,7 +123,7 @@ impl LayerTree {
         let transform_known = self.is_transform(transform);
         require(parent_known && transform_known, EditFault::UnknownId)?;
         require(self.props.clip(id).is_none(), EditFault::IdUsed)?;
-        require(self.props.clips() < 256, EditFault::TooMany { limit: 256 })?;
+        require(self.props.clips() < MAX_NODES as usize, EditFault::TooMany { limit: MAX_NODES })?;
         is_id(id)?;
         is_clip_rect(rect)
     }
@@ -172,8 +172,8 @@ impl LayerTree {
         require(self.is_effect(parent), EditFault::UnknownId)?;
         require(self.props.effect(id).is_none(), EditFault::IdUsed)?;
         require(
-            self.props.effects() < 256,
-            EditFault::TooMany { limit: 256 },
+            self.props.effects() < MAX_NODES as usize,
+            EditFault::TooMany { limit: MAX_NODES },
         )?;
         is_id(id)?;
         in_range(opacity as i64, 0, 255)

@@ -13,7 +13,7 @@ ghost use Rattle.cc_edit.specs.Outcomes.{StandTogether, Outcome};
 use super::LayerTree;
 use crate::fault::{EditError, EditFault};
 use crate::layer::Layer;
-use crate::limits::{is_id, is_size, require};
+use crate::limits::{MAX_LAYERS, is_id, is_size, require};
 use crate::{layers, listing};
 use cc_display::DisplayList;
 use cc_pixel::Colour;
@@ -129,7 +129,7 @@ impl LayerTree {
         require(!self.was_used(id), EditFault::IdUsed)?;
         let count = self.count();
         require(at as usize <= count, EditFault::BadPlace)?;
-        require(count < 64, EditFault::TooMany { limit: 64 })?;
+        require(count < MAX_LAYERS as usize, EditFault::TooMany { limit: MAX_LAYERS })?;
         is_id(id)?;
         is_size(w, h)
     }

@@ -12,7 +12,7 @@ ghost use Rattle.cc_edit.specs.Outcomes.{Tested};
 
 use super::LayerTree;
 use crate::fault::{EditError, EditFault};
-use crate::limits::{is_id, is_scroll, is_scroll_range, require};
+use crate::limits::{MAX_NODES, is_id, is_scroll, is_scroll_range, require};
 use crate::scroll::{clamp_to, set_value, value_in};
 use cc_geom::Point;
 use cc_region::Changes;
@@ -104,8 +104,8 @@ impl LayerTree {
         require(self.is_scroller(parent), EditFault::UnknownId)?;
         require(self.props.scroller(id).is_none(), EditFault::IdUsed)?;
         require(
-            self.props.scrollers() < 256,
-            EditFault::TooMany { limit: 256 },
+            self.props.scrollers() < MAX_NODES as usize,
+            EditFault::TooMany { limit: MAX_NODES },
         )?;
         is_id(id)?;
         is_scroll_range(max_x, max_y)
