@@ -19,7 +19,7 @@ use Rattle.cc_edit.specs.Refusals.{has_layer, item_count, count_in, test_of, rem
 use Rattle.cc_edit.specs.Effects.{after, change_of, rects_of, rect_in}
 use Rattle.cc_edit.specs.Outcomes.{Accepts}
 use Rattle.cc_edit.specs.Sound.{AreDistinct, IsPage}
-use Rattle.cc_edit.specs.Contents.{content_at, size_of, shows_at, is_whole, KeepsTheRest}
+use Rattle.cc_edit.specs.Contents.{content_at, size_of, shows_at, is_changed_whole, KeepsTheRest}
 use Rattle.cc_edit.proofs.LayerKeeps.{absent-taken}
 use Rattle.cc_edit.proofs.LayerPlaces.{item_there}
 use Rattle.cc_edit.proofs.FoundLayers.{found-insert, found-without, found-other, found-here, found-moved}
@@ -143,7 +143,7 @@ content_kept p (command.ReplaceItem i at item) is ok id x y there out = viewed (
 content_kept p (command.MoveLayer i at) is ok id x y there out = ap (shown x y) (found-moved i at id p.layers is.distinct)
 content_kept p _ is ok id x y there out = refl
 
-size_kept : (p : Page) (c : Command) → IsPage p → (id : ℕ) → has_layer id (after p c).layers ≡ true → is_whole (change_of p c) id ≡ false → size_of (after p c) id ≡ size_of p id
+size_kept : (p : Page) (c : Command) → IsPage p → (id : ℕ) → has_layer id (after p c).layers ≡ true → is_changed_whole (change_of p c) id ≡ false → size_of (after p c) id ≡ size_of p id
 size_kept p (command.AddLayer i at transform clip effect w h colour) is id there out = ap sized (found-insert id _ p.layers at (first_fails (i == id) out))
 size_kept p (command.RemoveLayer i) is id there out = ap sized (found-without i id p.layers (still_there i id p.layers is.distinct there))
 size_kept p (command.ResizeLayer i w h) is id there out = ap sized (found-other i id (with_size w h) (λ l. refl) p.layers (first_fails (i == id) out))

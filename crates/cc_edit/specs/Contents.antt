@@ -24,14 +24,14 @@ shows_at None id x y = false
 shows_at (Some change) id x y = (change.layer == id) && (change.whole || covered change.rects x y)
 
 -- the layer changed whole
-abbrev pub is_whole : Option Change → ℕ → Bool
-is_whole None id = false
-is_whole (Some change) id = (change.layer == id) && change.whole
+abbrev pub is_changed_whole : Option Change → ℕ → Bool
+is_changed_whole None id = false
+is_changed_whole (Some change) id = (change.layer == id) && change.whole
 
 -- what a command does not list it does not change, in each layer that is there before and after it: neither what the layer shows at a point, nor the size of a layer that is not listed whole; a layer that is resized keeps its list, so it shows at each point what it showed
 pub record KeepsTheRest (p : Page) (c : Command) : Type 0 where
   pub content : (id : ℕ) (x y : ℤ) → has_layer id p.layers ≡ true → has_layer id (after p c).layers ≡ true
       → shows_at (change_of p c) id x y ≡ false → content_at (after p c) id x y ≡ content_at p id x y
   pub size : (id : ℕ) → has_layer id p.layers ≡ true → has_layer id (after p c).layers ≡ true
-      → is_whole (change_of p c) id ≡ false → size_of (after p c) id ≡ size_of p id
+      → is_changed_whole (change_of p c) id ≡ false → size_of (after p c) id ≡ size_of p id
   pub resized : (id w h : ℕ) (x y : ℤ) → c ≡ command.ResizeLayer id w h → content_at (after p c) id x y ≡ content_at p id x y

@@ -14,8 +14,8 @@ use Rattle.cc_event.specs.declared.input.Input.TheVariants as input
 use Rattle.cc_edit.specs.declared.moves.Move.{Move}
 use Rattle.cc_event.specs.declared.history.Entry.{Entry}
 use Rattle.cc_event.specs.Scripts.{ScriptModel}
-use Rattle.cc_event.specs.Matters.{sends, pulls, settles, moves, scroll_move}
-use Rattle.cc_event.specs.Scans.{names, stands, counted}
+use Rattle.cc_event.specs.EventFields.{sends, pulls, settles, moves, scroll_move}
+use Rattle.cc_event.specs.Scans.{names, was_named, counted}
 use Rattle.cc_edit.specs.Axes.{Axis, across, down, move_of, is_still, listed}
 use Rattle.cc_edit.specs.Scrollers.{scrollers, has_scroller, most, taken}
 use Rattle.cc_event.specs.Frames.{page, pulls_of, active, pending, up_to, active_page, pending_page}
@@ -105,7 +105,7 @@ nothing_between b = omega (arith, ints)
 same_base : (s : ScriptModel) (n : ℕ) (h : List Entry) (sc : ℕ) (ax : Axis) → Legal s n h → pending h ≡ None → (values s sc ax h).active_base ≡ (values s sc ax h).pending_base
 same_base s n h sc ax l e =
     let m = sums s n sc ax h l in
-    m.active_base ∙ (sym (ap (λ o. base_of s h (option_or o (active h)) (λ k. names o k || stands settles h k) sc ax) e) ∙ sym m.pending_base)
+    m.active_base ∙ (sym (ap (λ o. base_of s h (option_or o (active h)) (λ k. names o k || was_named settles h k) sc ax) e) ∙ sym m.pending_base)
 
 one_step : (s : ScriptModel) (n : ℕ) (h : List Entry) (a : ℕ) (e : Event) (sc : ℕ) (ax : Axis) → IsAccepted s → Legal s n (entry a e ∷ h) → Near s sc ax h → Near s sc ax (entry a e ∷ h)
 one_step s n h a (event.Send k ms) sc ax acc l r =

@@ -7,8 +7,8 @@ use Rattle.cc_event.specs.declared.event.Event.{Event}
 use Rattle.cc_event.specs.declared.event.Event.TheVariants as event
 use Rattle.cc_event.specs.declared.history.Entry.{Entry}
 use Rattle.cc_event.specs.Scripts.{ScriptModel}
-use Rattle.cc_event.specs.Matters.{sends, commits, aborts, activates}
-use Rattle.cc_event.specs.Scans.{stands, newest, counted}
+use Rattle.cc_event.specs.EventFields.{sends, commits, aborts, activates}
+use Rattle.cc_event.specs.Scans.{was_named, newest, counted}
 use Rattle.cc_event.specs.Frames.{active, pending, unless_activated, up_to, has_frame_ended}
 use Rattle.cc_event.specs.Legal.{sched, Next, Legal}
 use Rattle.cc_event.proofs.BoolFacts.{not_both, is_false, by_test, is_below, below, or_either, or_left, or_right, or_neither, same_number, other_number, is_same, is_other, none_where}
@@ -41,7 +41,7 @@ pub record CourseOf (free waits : Bool) (total : ℕ) (last wait on : Option ℕ
 -- the course of frames in a past
 abbrev pub Course : List Entry → Type 0
 Course h = CourseOf (is_main_idle (sched h).main_state) (sched h).has_pending (counted sends h) (newest sends h) (pending h) (active h)
-    (stands sends h) (stands commits h) (stands aborts h) (stands activates h)
+    (was_named sends h) (was_named commits h) (was_named aborts h) (was_named activates h)
 
 pub sent_not_idle : (m : MainState) → is_sent m ≡ true → is_main_idle m ≡ false
 sent_not_idle main.Idle h = cc
@@ -253,14 +253,14 @@ module _ {free waits : Bool} {total : ℕ} {last wait on : Option ℕ} {sent com
 -- the pending commit is the last one
 pub pending_last : (h : List Entry) (o : Option ℕ) (k : ℕ) → unless_activated h o ≡ Some k → o ≡ Some k
 pending_last h None k e = cc
-pending_last h (Some j) k e = by_activated (stands activates h j) e
+pending_last h (Some j) k e = by_activated (was_named activates h j) e
   where
     by_activated : (b : Bool) → cond b None (Some j) ≡ Some k → Some j ≡ Some k
     by_activated true e = cc
     by_activated false e = e
 
 -- where the last commit is activated, none is pending
-none_then : (h : List Entry) (o : Option ℕ) (k : ℕ) → o ≡ Some k → stands activates h k ≡ true → unless_activated h o ≡ None
+none_then : (h : List Entry) (o : Option ℕ) (k : ℕ) → o ≡ Some k → was_named activates h k ≡ true → unless_activated h o ≡ None
 none_then h o k e t = ap (unless_activated h) e ∙ ap (λ b. cond b None (Some k)) t
 
 one_step : (s : ScriptModel) (n : ℕ) (h : List Entry) (a : ℕ) (e : Event) → Course h → Next s n h (entry a e) → Course (entry a e ∷ h)
@@ -273,7 +273,7 @@ one_step s n h a (event.Commit k) c x =
 one_step s n h a (event.Activate k ms) c x =
     let d = at_activate s n h a k ms x in
     activate_step c k d.frame (pending (entry a (event.Activate k ms) ∷ h))
-    (none_then (entry a (event.Activate k ms) ∷ h) (newest commits h) k (pending_last h (newest commits h) k d.frame) (to_name k k (stands activates h k) refl))
+    (none_then (entry a (event.Activate k ms) ∷ h) (newest commits h) k (pending_last h (newest commits h) k d.frame) (to_name k k (was_named activates h k) refl))
 one_step s n h a _ c x = c
 
 none_yet : Course []
@@ -302,8 +302,8 @@ course s n [] l = none_yet
 course s n (e ∷ h) l = one_step s n h e.actor e.event (course s n h l.0) l.1
 
 -- the frames that were sent are the first ones
-pub sent_are_first : (h : List Entry) → Course h → (k : ℕ) → stands sends h k ≡ nat_lt k (counted sends h)
-sent_are_first h c k = by_test (stands sends h k) (λ t. t ∙ sym (below k (counted sends h) (c.sent_below k t))) (λ f. f ∙ sym (is_false (nat_lt k (counted sends h)) (λ t. not_both (stands sends h k) (c.below_sent k (is_below k (counted sends h) t)) f)))
+pub sent_are_first : (h : List Entry) → Course h → (k : ℕ) → was_named sends h k ≡ nat_lt k (counted sends h)
+sent_are_first h c k = by_test (was_named sends h k) (λ t. t ∙ sym (below k (counted sends h) (c.sent_below k t))) (λ f. f ∙ sym (is_false (nat_lt k (counted sends h)) (λ t. not_both (was_named sends h k) (c.below_sent k (is_below k (counted sends h) t)) f)))
 
 -- each has ended but the one in flight
 pub ended_or_in_flight : (h : List Entry) → Course h → (k : ℕ) → k < counted sends h
@@ -313,4 +313,4 @@ ended_or_in_flight h c k l = by_or (c.ended_or_last k l)
     by_or : (has_frame_ended h k ≡ true) ⊎ ((is_main_idle (sched h).main_state ≡ false) × (newest sends h ≡ Some k))
         → (has_frame_ended h k ≡ true) ⊎ ((is_main_idle (sched h).main_state ≡ false) × (newest sends h ≡ Some k) × (has_frame_ended h k ≡ false))
     by_or (inl t) = inl t
-    by_or (inr x) = let f = flying c x.0 k x.1 in inr (x.0, x.1, or_neither (stands commits h k) (stands aborts h k) f.1 f.2)
+    by_or (inr x) = let f = flying c x.0 k x.1 in inr (x.0, x.1, or_neither (was_named commits h k) (was_named aborts h k) f.1 f.2)

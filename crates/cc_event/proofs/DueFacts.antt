@@ -11,7 +11,7 @@ use Rattle.cc_event.specs.declared.input.Input.TheVariants as input
 use Rattle.cc_edit.specs.declared.moves.Move.{Move}
 use Rattle.cc_event.specs.declared.history.Entry.{Entry}
 use Rattle.cc_event.specs.Scripts.{ScriptModel}
-use Rattle.cc_event.specs.Matters.{sends, begins}
+use Rattle.cc_event.specs.EventFields.{sends, begins}
 use Rattle.cc_event.specs.Scans.{newest, counted, held}
 use Rattle.cc_edit.specs.Axes.{across, down}
 use Rattle.cc_event.specs.Frames.{changes, pulls_of, is_left, active, pending, active_page}

@@ -10,7 +10,7 @@ use Rattle.cc_event.specs.declared.input.Input.{Input}
 use Rattle.cc_event.specs.declared.input.Input.TheVariants as input
 use Rattle.cc_event.specs.declared.history.Entry.{Entry}
 use Rattle.cc_event.specs.Scripts.{ScriptModel}
-use Rattle.cc_event.specs.Matters.{kind_of, actor_of, sends, begins}
+use Rattle.cc_event.specs.EventFields.{kind_of, actor_of, sends, begins}
 use Rattle.cc_event.specs.Scans.{newest, held}
 use Rattle.cc_event.specs.Frames.{pending}
 use Rattle.cc_event.specs.Ranking.{first}

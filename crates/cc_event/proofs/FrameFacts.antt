@@ -17,8 +17,8 @@ use Rattle.cc_event.specs.declared.event.Event.TheVariants as event
 use Rattle.cc_edit.specs.declared.moves.Move.{Move}
 use Rattle.cc_event.specs.declared.history.Entry.{Entry}
 use Rattle.cc_event.specs.Scripts.{ScriptModel}
-use Rattle.cc_event.specs.Matters.{sends, commits, aborts}
-use Rattle.cc_event.specs.Scans.{stands, newest, counted}
+use Rattle.cc_event.specs.EventFields.{sends, commits, aborts}
+use Rattle.cc_event.specs.Scans.{was_named, newest, counted}
 use Rattle.cc_edit.specs.Axes.{Axis, across, down, along, amount, amount_in, named_in}
 use Rattle.cc_edit.specs.Scrollers.{scrollers, main_value}
 use Rattle.cc_event.specs.Frames.{is_empty, commands_of, pulled, commanded, page, main_move, moves_main, changes, pulls_of, active, pending, up_to}
@@ -151,7 +151,7 @@ pub record ChangesOf (changed : ℕ → Bool) (prepared : Bool) (last : Option �
   pub prepared_changed : (k : ℕ) → prepared ≡ true → last ≡ Some k → changed k ≡ true
 
 abbrev pub Changes : ScriptModel → List Entry → Type 0
-Changes s h = ChangesOf (changes s (pulls_of h)) (is_ready_to_commit (sched h).main_state) (newest sends h) (stands commits h) (stands aborts h)
+Changes s h = ChangesOf (changes s (pulls_of h)) (is_ready_to_commit (sched h).main_state) (newest sends h) (was_named commits h) (was_named aborts h)
 
 named_case : {P : Type 0} (k j : ℕ) (b : Bool) → (k == j) || b ≡ true → (k ≡ j → P) → (b ≡ true → P) → P
 named_case {P = P} k j b t f g = by_or (or_either (k == j) b t)
@@ -180,7 +180,7 @@ one_step s n h a (event.Ready j) c r x =
 one_step s n h a (event.Abort j) c r x =
     let d = at_abort s n h a j x in
     record {
-      aborted_unchanged = λ k t. named_case j k (stands aborts h k) t (λ i. ap (changes s (pulls_of h)) (sym i) ∙ d.unchanged) (r.aborted_unchanged k);
+      aborted_unchanged = λ k t. named_case j k (was_named aborts h k) t (λ i. ap (changes s (pulls_of h)) (sym i) ∙ d.unchanged) (r.aborted_unchanged k);
       committed_changed = r.committed_changed;
       prepared_changed = λ k t i. absurd cc;
     }
@@ -188,7 +188,7 @@ one_step s n h a (event.Commit j) c r x =
     let d = at_commit s n h a j x in
     record {
       aborted_unchanged = r.aborted_unchanged;
-      committed_changed = λ k t. named_case j k (stands commits h k) t (λ i. ap (changes s (pulls_of h)) (sym i) ∙ r.prepared_changed j d.prepared d.last) (r.committed_changed k);
+      committed_changed = λ k t. named_case j k (was_named commits h k) t (λ i. ap (changes s (pulls_of h)) (sym i) ∙ r.prepared_changed j d.prepared d.last) (r.committed_changed k);
       prepared_changed = λ k t i. absurd cc;
     }
 one_step s n h a _ c r x = r

@@ -21,7 +21,7 @@ use Rattle.cc_edit.specs.Refusals.{has_layer}
 use Rattle.cc_edit.specs.Sound.{AreDistinct, IsPage}
 use Rattle.cc_edit.specs.Effects.{Change, after, change_of, retiles}
 use Rattle.cc_edit.specs.Outcomes.{Accepts}
-use Rattle.cc_edit.specs.Contents.{content_at, size_of, shows_at, is_whole, KeepsTheRest}
+use Rattle.cc_edit.specs.Contents.{content_at, size_of, shows_at, is_changed_whole, KeepsTheRest}
 use Rattle.cc_edit.proofs.LayerKeeps.{absent-taken}
 use Rattle.cc_edit.proofs.Unlisted.{unlisted_stays}
 use Rattle.cc_event.specs.Frames.{commanded}
@@ -221,7 +221,7 @@ quiet_points layer r (Some c) x y out in' = go (c.layer == layer) out
     go false h = refl
     go true h = or_neither c.whole (covered c.rects x y) (or_left_false c.whole (touched c.rects r) h) (untouched c.rects r x y (or_right_false c.whole (touched c.rects r) h) in')
 
-quiet_whole : (layer : ℕ) (r : Rect) (o : Option Change) → some_shows layer r o ≡ false → is_whole o layer ≡ false
+quiet_whole : (layer : ℕ) (r : Rect) (o : Option Change) → some_shows layer r o ≡ false → is_changed_whole o layer ≡ false
 quiet_whole layer r None out = refl
 quiet_whole layer r (Some c) out = go (c.layer == layer) out
   where

@@ -4,8 +4,8 @@ use Rattle.std.proofs.lemmas.Int.{ints}
 use Rattle.cc_edit.specs.declared.moves.Move.{Move}
 use Rattle.cc_event.specs.declared.history.Entry.{Entry}
 use Rattle.cc_event.specs.Scripts.{ScriptModel}
-use Rattle.cc_event.specs.Matters.{sends}
-use Rattle.cc_event.specs.Scans.{stands}
+use Rattle.cc_event.specs.EventFields.{sends}
+use Rattle.cc_event.specs.Scans.{was_named}
 use Rattle.cc_edit.specs.Axes.{Axis, amount_in}
 use Rattle.cc_edit.specs.Scrollers.{main_value}
 use Rattle.cc_event.specs.Frames.{page, main_move}
@@ -130,7 +130,7 @@ pub sent_unsent : (s : ScriptModel) (h : List Entry) (sc : ℕ) (ax : Axis) (k :
 sent_unsent s h sc ax k = moved_none s sc ax not_sent (Some k) h refl (λ j t. refl)
 
 -- it carries what was unsent
-pub sent_carried : (s : ScriptModel) (h : List Entry) (sc : ℕ) (ax : Axis) (k : ℕ) → ((j : ℕ) → stands sends h j ≡ true → j < k)
+pub sent_carried : (s : ScriptModel) (h : List Entry) (sc : ℕ) (ax : Axis) (k : ℕ) → ((j : ℕ) → was_named sends h j ≡ true → j < k)
     → moved s sc ax (by_send k) (Some k) h ≡ moved s sc ax not_sent None h
 sent_carried s h sc ax k below = moved_alike s sc ax (by_send k) not_sent (Some k) None h (is_same k k refl) (λ j t. below_other j (below j t))
   where

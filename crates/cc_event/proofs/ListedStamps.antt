@@ -7,7 +7,7 @@ use Rattle.cc_geom.specs.declared.tile.Place.{Place}
 use Rattle.cc_geom.specs.Grids.{rect_of}
 use Rattle.cc_geom.specs.Sides.{Sides}
 use Rattle.cc_region.specs.declared.change.LayerChange.{LayerChange}
-use Rattle.cc_region.specs.Lists.{Changed, AllAbove, IsRising, change_of, is_whole, has_changed}
+use Rattle.cc_region.specs.Lists.{Changed, AllAbove, IsRising, change_of, is_listed_whole, has_changed}
 use Rattle.cc_region.specs.Points.{covered, touched}
 use Rattle.cc_region.proofs.Covering.{points_decide}
 use Rattle.cc_tiling.specs.Tiles.{shows_in}
@@ -37,24 +37,24 @@ abbrev region_of : Option LayerChange → List Rect
 region_of None = []
 region_of (Some c) = c.region
 
-above_unlisted : (n m : ℕ) (ds : List LayerChange) → n ≤ m → AllAbove m ds → (is_whole ds n ≡ false) × ((x y : ℤ) → has_changed ds n x y ≡ false)
+above_unlisted : (n m : ℕ) (ds : List LayerChange) → n ≤ m → AllAbove m ds → (is_listed_whole ds n ≡ false) × ((x y : ℤ) → has_changed ds n x y ≡ false)
 above_unlisted n m [] le all = (refl, λ x y. refl)
 above_unlisted n m (d ∷ ds) le all =
     let lt : m < d.layer = all.0 in
     let out : nat_eq d.layer n ≡ false = grind (arith, nat_tests, le, lt) in
     let rest = above_unlisted n m ds le all.1 in
-    (ap (λ b. (b && d.whole) || is_whole ds n) out ∙ rest.0, λ x y. ap (λ b. (b && covered d.region x y) || has_changed ds n x y) out ∙ rest.1 x y)
+    (ap (λ b. (b && d.whole) || is_listed_whole ds n) out ∙ rest.0, λ x y. ap (λ b. (b && covered d.region x y) || has_changed ds n x y) out ∙ rest.1 x y)
 
 or_false : (b : Bool) → b || false ≡ b
 or_false true = refl
 or_false false = refl
 
-rising_whole : (n : ℕ) (ds : List LayerChange) → IsRising ds → is_whole ds n ≡ whole_of (change_of ds n)
+rising_whole : (n : ℕ) (ds : List LayerChange) → IsRising ds → is_listed_whole ds n ≡ whole_of (change_of ds n)
 unfolding whole_of
 rising_whole n [] up = refl
 rising_whole n (d ∷ ds) up = go (nat_eq d.layer n) refl (rising_whole n ds up.1)
   where
-    go : (b : Bool) → nat_eq d.layer n ≡ b → is_whole ds n ≡ whole_of (change_of ds n) → (b && d.whole) || is_whole ds n ≡ whole_of (if b then Some d else change_of ds n)
+    go : (b : Bool) → nat_eq d.layer n ≡ b → is_listed_whole ds n ≡ whole_of (change_of ds n) → (b && d.whole) || is_listed_whole ds n ≡ whole_of (if b then Some d else change_of ds n)
     go true e rest =
         let none = above_unlisted n d.layer ds (at_most d.layer n e) up.0 in
         ap (λ b. d.whole || b) none.0 ∙ or_false d.whole

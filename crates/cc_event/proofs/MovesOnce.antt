@@ -4,8 +4,8 @@ use Rattle.std.proofs.lemmas.Int.{ints}
 use Rattle.std.proofs.lemmas.Bool.Decides.{nat_tests}
 use Rattle.cc_event.specs.declared.history.Entry.{Entry}
 use Rattle.cc_event.specs.Scripts.{ScriptModel}
-use Rattle.cc_event.specs.Matters.{sends}
-use Rattle.cc_event.specs.Scans.{stands, counted}
+use Rattle.cc_event.specs.EventFields.{sends}
+use Rattle.cc_event.specs.Scans.{was_named, counted}
 use Rattle.cc_edit.specs.Axes.{Axis, amount_in}
 use Rattle.cc_event.specs.Frames.{pulls_of}
 use Rattle.cc_event.specs.Scrolls.{moved, not_sent, by_send, any_carrier, unsent, carried, all_moved}
@@ -63,7 +63,7 @@ within_is s h sc ax (suc n) =
     ∙ regroup (moved s sc ax (sent_within n) None h) (unsent s h sc ax) (carried_to s h sc ax n) (carried s h n sc ax) (within_is s h sc ax n)
 
 -- where all sends are of the first n frames, all moves are unsent or carried by one of them
-all_carried : (s : ScriptModel) (h : List Entry) (sc : ℕ) (ax : Axis) (n : ℕ) → ((k : ℕ) → stands sends h k ≡ true → k < n)
+all_carried : (s : ScriptModel) (h : List Entry) (sc : ℕ) (ax : Axis) (n : ℕ) → ((k : ℕ) → was_named sends h k ≡ true → k < n)
     → all_moved s h sc ax ≡ unsent s h sc ax +ℤ carried_to s h sc ax n
 unfolding sent_within
 all_carried s h sc ax n below =
@@ -82,7 +82,7 @@ pulled_is s h sc ax (suc n) same =
     λ i. a i +ℤ sym b i
 
 -- the pulls of a send are what it carries
-pub pulls_are : (s : ScriptModel) (n : ℕ) (h : List Entry) (k sc : ℕ) (ax : Axis) → Legal s n h → stands sends h k ≡ true → amount_in sc ax (pulls_of h k) ≡ carried s h k sc ax
+pub pulls_are : (s : ScriptModel) (n : ℕ) (h : List Entry) (k sc : ℕ) (ax : Axis) → Legal s n h → was_named sends h k ≡ true → amount_in sc ax (pulls_of h k) ≡ carried s h k sc ax
 pulls_are s n h k sc ax l t = (sums s n sc ax h l).pulls k t
 
 -- all accepted moves are those that are unsent and those in the pulls of the frames that were sent

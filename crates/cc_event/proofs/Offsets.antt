@@ -14,8 +14,8 @@ use Rattle.cc_event.specs.declared.input.Input.TheVariants as input
 use Rattle.cc_edit.specs.declared.moves.Move.{Move}
 use Rattle.cc_event.specs.declared.history.Entry.{Entry}
 use Rattle.cc_event.specs.Scripts.{ScriptModel}
-use Rattle.cc_event.specs.Matters.{settles, moves, scroll_move}
-use Rattle.cc_event.specs.Scans.{names, stands}
+use Rattle.cc_event.specs.EventFields.{settles, moves, scroll_move}
+use Rattle.cc_event.specs.Scans.{names, was_named}
 use Rattle.cc_edit.specs.Axes.{Axis, across, down, along, amount, amount_in, is_still}
 use Rattle.cc_edit.specs.Scrollers.{scrollers, has_scroller, most, offsets_in, taken}
 use Rattle.cc_event.specs.Frames.{page, pulls_of, active, pending, up_to, active_page, pending_page}
@@ -199,7 +199,7 @@ before s n h k sc ax legal waits = record {
     rest : delta_of s h (settled_then h) sc ax ≡ (values s sc ax h).active_delta -ℤ (values s sc ax h).reflected_pending
     rest =
         subtract (delta s h sc ax) (carried s h k sc ax) (delta_of s h (settled_then h) sc ax) (values s sc ax h).active_delta (values s sc ax h).reflected_pending
-        (settled_delta s h sc ax (stands settles h) (settled_then h) k (λ j. ap (λ o. names o j || stands settles h j) waits) (pending_not_settled h k c waits))
+        (settled_delta s h sc ax (was_named settles h) (settled_then h) k (λ j. ap (λ o. names o j || was_named settles h j) waits) (pending_not_settled h k c waits))
         m.active_delta (m.reflected_pending ∙ ap (λ o. carried_by s h o sc ax) waits)
 
     same_page : page s (pulls_of h) (up_to (active_then h)) ≡ pending_page s h

@@ -8,7 +8,7 @@ use Rattle.cc_event.specs.declared.event.Event.{Event}
 use Rattle.cc_event.specs.declared.event.Event.TheVariants as event
 use Rattle.cc_event.specs.declared.history.Entry.{Entry}
 use Rattle.cc_event.specs.Scripts.{ScriptModel}
-use Rattle.cc_event.specs.Matters.{kind_of, actor_of, sends, is_last}
+use Rattle.cc_event.specs.EventFields.{kind_of, actor_of, sends, is_last}
 use Rattle.cc_event.specs.Scans.{newest, has_ended}
 use Rattle.cc_event.specs.Frames.{changes, pulls_of}
 use Rattle.cc_event.specs.Due.{on_if, due, due_ready, due_abort}

@@ -10,8 +10,8 @@ use Rattle.cc_sched.specs.Kinds.{is_main_idle}
 use Rattle.cc_edit.specs.declared.moves.Move.{Move}
 use Rattle.cc_event.specs.declared.history.Entry.{Entry}
 use Rattle.cc_event.specs.Scripts.{ScriptModel}
-use Rattle.cc_event.specs.Matters.{sends, commits, aborts, activates}
-use Rattle.cc_event.specs.Scans.{stands, newest, counted}
+use Rattle.cc_event.specs.EventFields.{sends, commits, aborts, activates}
+use Rattle.cc_event.specs.Scans.{was_named, newest, counted}
 use Rattle.cc_edit.specs.Axes.{Axis}
 use Rattle.cc_edit.specs.Scrollers.{scrollers, has_scroller, end_of, most}
 use Rattle.cc_event.specs.Frames.{page, changes, pulls_of, active, pending, up_to, has_frame_ended}
@@ -111,17 +111,17 @@ aborted_since s n h legal j from below = flight_cases h c all_ended but_last
     r : Changes s h
     r = changes_course s n h legal
 
-    no_commit : stands commits h j ≡ true → ⊥
+    no_commit : was_named commits h j ≡ true → ⊥
     no_commit t = go (c.activated_or_pending j t)
       where
-        go : (stands activates h j ≡ true) ⊎ (pending h ≡ Some j) → ⊥
+        go : (was_named activates h j ≡ true) ⊎ (pending h ≡ Some j) → ⊥
         go (inl a) = let l = c.activated_to j a in let m = active_before h c in absurd (omega arith)
         go (inr e) = let i : up_to (active_then h) ≡ suc j = ap (λ o. up_to (option_or o (active h))) e in absurd (omega arith)
 
     ended : has_frame_ended h j ≡ true → changes s (pulls_of h) j ≡ false
-    ended t = go (or_either (stands commits h j) (stands aborts h j) t)
+    ended t = go (or_either (was_named commits h j) (was_named aborts h j) t)
       where
-        go : (stands commits h j ≡ true) ⊎ (stands aborts h j ≡ true) → changes s (pulls_of h) j ≡ false
+        go : (was_named commits h j ≡ true) ⊎ (was_named aborts h j ≡ true) → changes s (pulls_of h) j ≡ false
         go (inl a) = absurd (no_commit a)
         go (inr b) = r.aborted_unchanged j b
 
@@ -160,12 +160,12 @@ ended_since s n h legal = flight_cases h c none some
     committed_then : (o w : Option ℕ) → pending h ≡ w → active h ≡ o → (k : ℕ) → InFlight h k → up_to (option_or w o) ≤ k
     committed_then o (Some j) e f k fl = let t = c.pending_committed j e in below j t k fl
       where
-        below : (i : ℕ) → stands commits h i ≡ true → (m : ℕ) → InFlight h m → suc i ≤ m
-        below i t m fl = let l = c.committed_below i t in let u = fl.total in let d : i ≡ m → ⊥ = λ e. not_both (stands commits h i) t (ap (stands commits h) e ∙ fl.no_commit) in omega arith
+        below : (i : ℕ) → was_named commits h i ≡ true → (m : ℕ) → InFlight h m → suc i ≤ m
+        below i t m fl = let l = c.committed_below i t in let u = fl.total in let d : i ≡ m → ⊥ = λ e. not_both (was_named commits h i) t (ap (was_named commits h) e ∙ fl.no_commit) in omega arith
     committed_then (Some j) None e f k fl = let t = c.activated_committed j (c.active_activated j f) in below j t k fl
       where
-        below : (i : ℕ) → stands commits h i ≡ true → (m : ℕ) → InFlight h m → suc i ≤ m
-        below i t m fl = let l = c.committed_below i t in let u = fl.total in let d : i ≡ m → ⊥ = λ e. not_both (stands commits h i) t (ap (stands commits h) e ∙ fl.no_commit) in omega arith
+        below : (i : ℕ) → was_named commits h i ≡ true → (m : ℕ) → InFlight h m → suc i ≤ m
+        below i t m fl = let l = c.committed_below i t in let u = fl.total in let d : i ≡ m → ⊥ = λ e. not_both (was_named commits h i) t (ap (was_named commits h) e ∙ fl.no_commit) in omega arith
     committed_then None None e f k fl = omega arith
 
     some : (k : ℕ) → InFlight h k → up_to (active_then h) ≤ ended_to (frame_in_flight h) (counted sends h)

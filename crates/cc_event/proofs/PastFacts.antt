@@ -5,8 +5,8 @@ use Rattle.cc_event.specs.declared.event.Event.{Event}
 use Rattle.cc_event.specs.declared.event.Event.TheVariants as event
 use Rattle.cc_event.specs.declared.history.Entry.{Entry}
 use Rattle.cc_event.specs.Scripts.{ScriptModel}
-use Rattle.cc_event.specs.Matters.{sends, commits, aborts, activates, settles, moves}
-use Rattle.cc_event.specs.Scans.{names, stands, newest, counted}
+use Rattle.cc_event.specs.EventFields.{sends, commits, aborts, activates, settles, moves}
+use Rattle.cc_event.specs.Scans.{names, was_named, newest, counted}
 use Rattle.cc_edit.specs.Axes.{Axis, amount_in, named_in}
 use Rattle.cc_event.specs.Frames.{pending, up_to, has_frame_ended}
 use Rattle.cc_event.specs.Scrolls.{unsent, scrollers_moved, next_pulls, not_sent}
@@ -35,29 +35,29 @@ or_four false true false d = refl
 or_four false false c d = refl
 
 -- a frame is settled where it was aborted or activated
-pub settles_is : (h : List Entry) (k : ℕ) → stands settles h k ≡ (stands aborts h k || stands activates h k)
+pub settles_is : (h : List Entry) (k : ℕ) → was_named settles h k ≡ (was_named aborts h k || was_named activates h k)
 settles_is [] k = refl
 settles_is (e ∷ h) k =
     let a : names (settles e.event) k ≡ (names (aborts e.event) k || names (activates e.event) k) = settles_one e.event k in
-    let b : stands settles h k ≡ (stands aborts h k || stands activates h k) = settles_is h k in
-    (λ i. a i || b i) ∙ or_four (names (aborts e.event) k) (names (activates e.event) k) (stands aborts h k) (stands activates h k)
+    let b : was_named settles h k ≡ (was_named aborts h k || was_named activates h k) = settles_is h k in
+    (λ i. a i || b i) ∙ or_four (names (aborts e.event) k) (names (activates e.event) k) (was_named aborts h k) (was_named activates h k)
 
 -- one that has not ended is not settled
-pub not_settled : (h : List Entry) (k : ℕ) → Course h → stands commits h k ≡ false → stands aborts h k ≡ false → stands settles h k ≡ false
+pub not_settled : (h : List Entry) (k : ℕ) → Course h → was_named commits h k ≡ false → was_named aborts h k ≡ false → was_named settles h k ≡ false
 not_settled h k c no_commit no_abort =
-    settles_is h k ∙ or_neither (stands aborts h k) (stands activates h k) no_abort
-    (is_false (stands activates h k) (λ t. not_both (stands commits h k) (c.activated_committed k t) no_commit))
+    settles_is h k ∙ or_neither (was_named aborts h k) (was_named activates h k) no_abort
+    (is_false (was_named activates h k) (λ t. not_both (was_named commits h k) (c.activated_committed k t) no_commit))
 
 -- nor is one that was not sent
-pub later_not_settled : (h : List Entry) (k : ℕ) → Course h → counted sends h ≤ k → stands settles h k ≡ false
+pub later_not_settled : (h : List Entry) (k : ℕ) → Course h → counted sends h ≤ k → was_named settles h k ≡ false
 later_not_settled h k c l =
-    not_settled h k c (is_false (stands commits h k) (λ t. let b = c.committed_below k t in absurd (omega arith)))
-    (is_false (stands aborts h k) (λ t. let b = c.aborted_below k t in absurd (omega arith)))
+    not_settled h k c (is_false (was_named commits h k) (λ t. let b = c.committed_below k t in absurd (omega arith)))
+    (is_false (was_named aborts h k) (λ t. let b = c.aborted_below k t in absurd (omega arith)))
 
 -- the pending commit is not settled
-pub pending_not_settled : (h : List Entry) (k : ℕ) → Course h → pending h ≡ Some k → stands settles h k ≡ false
+pub pending_not_settled : (h : List Entry) (k : ℕ) → Course h → pending h ≡ Some k → was_named settles h k ≡ false
 pending_not_settled h k c e =
-    settles_is h k ∙ or_neither (stands aborts h k) (stands activates h k) (c.one_end k (c.pending_committed k e)) (c.pending_not_activated k e)
+    settles_is h k ∙ or_neither (was_named aborts h k) (was_named activates h k) (c.one_end k (c.pending_committed k e)) (c.pending_not_activated k e)
 
 -- the pending commit was sent
 pub pending_within : (h : List Entry) (o : Option ℕ) → Course h → pending h ≡ o → up_to o ≤ counted sends h
@@ -82,17 +82,17 @@ none_in_flight h c free = ended_none h (newest sends h) (λ k e. let t = c.last_
 pub record InFlight (h : List Entry) (k : ℕ) : Type 0 where
   pub flies : frame_in_flight h ≡ Some k
   pub total : counted sends h ≡ suc k
-  pub no_commit : stands commits h k ≡ false
-  pub no_abort : stands aborts h k ≡ false
+  pub no_commit : was_named commits h k ≡ false
+  pub no_abort : was_named aborts h k ≡ false
 
 pub in_flight : (h : List Entry) (k : ℕ) → Course h → is_main_idle (sched h).main_state ≡ false → newest sends h ≡ Some k → InFlight h k
 in_flight h k c busy e =
     let x = c.in_flight busy in
     let i : x.0 ≡ k = cc in
-    let a : stands commits h k ≡ false = ap (stands commits h) (sym i) ∙ x.2 in
-    let b : stands aborts h k ≡ false = ap (stands aborts h) (sym i) ∙ x.3 in
+    let a : was_named commits h k ≡ false = ap (was_named commits h) (sym i) ∙ x.2 in
+    let b : was_named aborts h k ≡ false = ap (was_named aborts h) (sym i) ∙ x.3 in
     record {
-      flies = ap (unless_ended h) e ∙ ap (λ t. cond t None (Some k)) (or_neither (stands commits h k) (stands aborts h k) a b);
+      flies = ap (unless_ended h) e ∙ ap (λ t. cond t None (Some k)) (or_neither (was_named commits h k) (was_named aborts h k) a b);
       total = c.last_is k e;
       no_commit = a;
       no_abort = b;

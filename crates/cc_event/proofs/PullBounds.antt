@@ -5,7 +5,7 @@ use Rattle.cc_synced.specs.Bounds.{IsBoundedNumber}
 use Rattle.cc_edit.specs.declared.moves.Move.{Move}
 use Rattle.cc_event.specs.declared.history.Entry.{Entry}
 use Rattle.cc_event.specs.Scripts.{ScriptModel}
-use Rattle.cc_event.specs.Matters.{sends, pulls, moves}
+use Rattle.cc_event.specs.EventFields.{sends, pulls, moves}
 use Rattle.cc_event.specs.Scans.{names}
 use Rattle.cc_event.specs.Frames.{pulls_of}
 use Rattle.cc_event.specs.ScrollLaws.{IsSmall, AreSmall}

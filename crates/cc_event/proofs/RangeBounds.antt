@@ -19,7 +19,7 @@ use Rattle.cc_edit.specs.declared.moves.Move.{Move}
 use Rattle.cc_event.specs.declared.history.Entry.{Entry}
 use Rattle.cc_event.specs.Scripts.{ScriptModel}
 use Rattle.cc_event.specs.Ranges.{head_in_range, main_in_range, inputs_in_range, is_in_ranges, command_in_range}
-use Rattle.cc_event.specs.Matters.{sends}
+use Rattle.cc_event.specs.EventFields.{sends}
 use Rattle.cc_event.specs.Scans.{counted}
 use Rattle.cc_edit.specs.Axes.{Axis, across, down}
 use Rattle.cc_edit.specs.Scrollers.{end_of, most}

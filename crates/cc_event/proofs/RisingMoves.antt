@@ -15,7 +15,7 @@ use Rattle.cc_event.specs.declared.event.Event.TheVariants as event
 use Rattle.cc_edit.specs.declared.moves.Move.{Move}
 use Rattle.cc_event.specs.declared.history.Entry.{Entry}
 use Rattle.cc_event.specs.Scripts.{ScriptModel}
-use Rattle.cc_event.specs.Matters.{pulls, moves}
+use Rattle.cc_event.specs.EventFields.{pulls, moves}
 use Rattle.cc_edit.specs.Axes.{named_in}
 use Rattle.cc_edit.specs.Scrollers.{scrollers}
 use Rattle.cc_event.specs.Frames.{commands_of, pulled, commanded, page, page_before, pulls_of, pending, up_to, pending_page}

@@ -6,7 +6,7 @@ use Rattle.std.proofs.lemmas.Bool.Decides.{nat_tests}
 use Rattle.std.proofs.lemmas.List.Folds.{list_any-append}
 use Rattle.cc_geom.specs.Covers.{covers}
 use Rattle.cc_region.specs.declared.change.LayerChange.{LayerChange}
-use Rattle.cc_region.specs.Lists.{Changed, is_listed, is_whole, has_changed, without, AreJoined}
+use Rattle.cc_region.specs.Lists.{Changed, is_listed, is_listed_whole, has_changed, without, AreJoined}
 use Rattle.cc_region.specs.Points.{covered}
 use Rattle.cc_edit.specs.declared.command.Command.{Command}
 use Rattle.cc_edit.specs.declared.command.Command.TheVariants as command
@@ -32,7 +32,7 @@ listed_any : (n : ℕ) (ds : List LayerChange) → is_listed ds n ≡ list_any (
 listed_any n [] = refl
 listed_any n (d ∷ ds) = ap (λ b. nat_eq d.layer n || b) (listed_any n ds)
 
-whole_any : (n : ℕ) (ds : List LayerChange) → is_whole ds n ≡ list_any (names_whole n) ds
+whole_any : (n : ℕ) (ds : List LayerChange) → is_listed_whole ds n ≡ list_any (names_whole n) ds
 whole_any n [] = refl
 whole_any n (d ∷ ds) = ap (λ b. (nat_eq d.layer n && d.whole) || b) (whole_any n ds)
 
@@ -143,7 +143,7 @@ own_layer n d e = grind (arith, nat_tests, e)
 -- lists that say the same
 
 abbrev pub SameList : List LayerChange → List LayerChange → Type 0
-SameList cs ds = ((n : ℕ) → is_listed cs n ≡ is_listed ds n) × ((n : ℕ) → is_whole cs n ≡ is_whole ds n) × ((n : ℕ) (x y : ℤ) → has_changed cs n x y ≡ has_changed ds n x y)
+SameList cs ds = ((n : ℕ) → is_listed cs n ≡ is_listed ds n) × ((n : ℕ) → is_listed_whole cs n ≡ is_listed_whole ds n) × ((n : ℕ) (x y : ℤ) → has_changed cs n x y ≡ has_changed ds n x y)
 
 same_without : (id : ℕ) (cs ds : List LayerChange) → SameList cs ds → SameList (without id cs) (without id ds)
 same_without id cs ds s = (
@@ -165,7 +165,7 @@ or_nothing a false e = e
 same_some : (o : Option Change) (listed old new ds : List LayerChange) → HoldsOnly o listed → AreJoined old listed new → SameList old ds → SameList new (with_some o ds)
 same_some None [] old new ds h j s = (
   λ n. or_nothing (is_listed new n) (is_listed old n) (j.listed n) ∙ s.0 n,
-  λ n. or_nothing (is_whole new n) (is_whole old n) (j.whole n) ∙ s.1 n,
+  λ n. or_nothing (is_listed_whole new n) (is_listed_whole old n) (j.whole n) ∙ s.1 n,
   λ n x y. or_nothing (has_changed new n x y) (has_changed old n x y) (j.points n x y) ∙ s.2 n x y,
 )
 same_some None (l ∷ ls) old new ds h j s = absurd h
@@ -188,7 +188,7 @@ same_some (Some c) (l ∷ []) old new ds h j s = (
     layer : (n : ℕ) → is_listed (l ∷ []) n ≡ names_layer n (alone c)
     layer n = alone_or (nat_eq l.layer n) ∙ ap (λ k. nat_eq k n) h.layer
 
-    whole : (n : ℕ) → is_whole (l ∷ []) n ≡ names_whole n (alone c)
+    whole : (n : ℕ) → is_listed_whole (l ∷ []) n ≡ names_whole n (alone c)
     whole n = alone_or (nat_eq l.layer n && l.whole) ∙ (ap (λ k. nat_eq k n && l.whole) h.layer ∙ ap (λ b. nat_eq c.layer n && b) h.whole)
 
     point : (n : ℕ) (x y : ℤ) → has_changed (l ∷ []) n x y ≡ names_point n x y (alone c)
@@ -215,7 +215,7 @@ noted_removal id listed old new is p done lists same =
     let kept : SameList (without id old.list) (without id done.list) = same_without id old.list done.list (same_list old done same) in
     record {
       listed = λ n. ap (λ (ds : List LayerChange). is_listed ds n) list ∙ kept.0 n;
-      whole = λ n. ap (λ (ds : List LayerChange). is_whole ds n) list ∙ kept.1 n;
+      whole = λ n. ap (λ (ds : List LayerChange). is_listed_whole ds n) list ∙ kept.1 n;
       points = λ n x y. ap (λ (ds : List LayerChange). has_changed ds n x y) list ∙ kept.2 n x y;
       retiled = ap (λ (c : Changed). c.retiled) is ∙ (same.retiled ∙ or_false done.retiled);
     }
@@ -226,7 +226,7 @@ noted_joined c listed old new out joined tiles p done lists same =
     let all : SameList new.list (with_some (change_of p c) done.list) = same_some (change_of p c) listed.list old.list new.list done.list lists.holds joined (same_list old done same) in
     record {
       listed = λ n. all.0 n ∙ ap (λ (ds : List LayerChange). is_listed ds n) (sym list);
-      whole = λ n. all.1 n ∙ ap (λ (ds : List LayerChange). is_whole ds n) (sym list);
+      whole = λ n. all.1 n ∙ ap (λ (ds : List LayerChange). is_listed_whole ds n) (sym list);
       points = λ n x y. all.2 n x y ∙ ap (λ (ds : List LayerChange). has_changed ds n x y) (sym list);
       retiled = tiles ∙ (ap (λ b. b || listed.retiled) same.retiled ∙ ap (λ b. done.retiled || b) lists.retiled);
     }

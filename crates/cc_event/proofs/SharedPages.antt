@@ -10,13 +10,13 @@ use Rattle.cc_edit.specs.Contents.{content_at, size_of}
 use Rattle.cc_edit.specs.declared.moves.Move.{Move}
 use Rattle.cc_event.specs.declared.history.Entry.{Entry}
 use Rattle.cc_event.specs.Scripts.{ScriptModel}
-use Rattle.cc_event.specs.Matters.{commits}
-use Rattle.cc_event.specs.Scans.{stands}
+use Rattle.cc_event.specs.EventFields.{commits}
+use Rattle.cc_event.specs.Scans.{was_named}
 use Rattle.cc_event.specs.Frames.{page, pulls_of}
 use Rattle.cc_event.specs.Accepted.{IsAccepted}
 use Rattle.cc_event.specs.Legal.{Legal}
 use Rattle.cc_event.specs.Ranking.{place_named}
-use Rattle.cc_event.specs.Sharing.{has_page_key, key_rect, ShowTheSame}
+use Rattle.cc_event.specs.Sharing.{has_page_key, key_rect, HaveSameContent}
 use Rattle.cc_event.proofs.BarePages.{bare, page_bare}
 use Rattle.cc_event.proofs.ScriptPages.{ahead, ahead_is, plain}
 use Rattle.cc_event.proofs.KeptStamps.{plain_key, IsKept, key_between, keys_plain, rect_kept}
@@ -39,18 +39,18 @@ key_stays s ps q m k n a low high first last =
 
 -- ---- what is shown
 
-same_back : (q : TileKey) (p r : Page) → ShowTheSame q p r → ShowTheSame q r p
+same_back : (q : TileKey) (p r : Page) → HaveSameContent q p r → HaveSameContent q r p
 same_back q p r same = record { rect = sym same.rect; content = λ x y in'. sym (same.content x y (ap (λ (z : Rect). covers z x y) (sym same.rect) ∙ in')) }
 
-same_after : (s : ScriptModel) → IsAccepted s → (q : TileKey) (m n : ℕ) → m ≤ n → plain_key s m q ≡ true → plain_key s n q ≡ true → ShowTheSame q (plain s m) (plain s n)
+same_after : (s : ScriptModel) → IsAccepted s → (q : TileKey) (m n : ℕ) → m ≤ n → plain_key s m q ≡ true → plain_key s n q ≡ true → HaveSameContent q (plain s m) (plain s n)
 same_after s a q m n le first last =
     let k : IsKept s q m n = kept s a q m n n le (omega arith) first last in
     record { rect = k.rect; content = k.keeps.content }
 
-same_plain : (s : ScriptModel) → IsAccepted s → (q : TileKey) (m n : ℕ) → plain_key s m q ≡ true → plain_key s n q ≡ true → ShowTheSame q (plain s m) (plain s n)
+same_plain : (s : ScriptModel) → IsAccepted s → (q : TileKey) (m n : ℕ) → plain_key s m q ≡ true → plain_key s n q ≡ true → HaveSameContent q (plain s m) (plain s n)
 same_plain s a q m n first last = go (nat_le m n) refl
   where
-    go : (b : Bool) → nat_le m n ≡ b → ShowTheSame q (plain s m) (plain s n)
+    go : (b : Bool) → nat_le m n ≡ b → HaveSameContent q (plain s m) (plain s n)
     go true e = same_after s a q m n (grind (arith, nat_tests, e)) first last
     go false e = same_back q (plain s n) (plain s m) (same_after s a q n m (grind (arith, nat_tests, e)) last first)
 
@@ -63,14 +63,14 @@ bare_rect s ps n q =
 bare_content : (s : ScriptModel) (ps : ℕ → List Move) (n layer : ℕ) (x y : ℤ) → content_at (page s ps n) layer x y ≡ content_at (plain s n) layer x y
 bare_content s ps n layer x y = ap (λ (z : Page). content_at z layer x y) (page_bare s ps n)
 
-pub same_pages : (s : ScriptModel) (ps qs : ℕ → List Move) (m n : ℕ) (q : TileKey) → IsAccepted s → has_page_key s ps m q ≡ true → has_page_key s qs n q ≡ true → ShowTheSame q (page s ps m) (page s qs n)
+pub same_pages : (s : ScriptModel) (ps qs : ℕ → List Move) (m n : ℕ) (q : TileKey) → IsAccepted s → has_page_key s ps m q ≡ true → has_page_key s qs n q ≡ true → HaveSameContent q (page s ps m) (page s qs n)
 same_pages s ps qs m n q a first last =
-    let same : ShowTheSame q (plain s m) (plain s n) = same_plain s a q m n (sym (keys_plain s a ps m q) ∙ first) (sym (keys_plain s a qs n q) ∙ last) in
+    let same : HaveSameContent q (plain s m) (plain s n) = same_plain s a q m n (sym (keys_plain s a ps m q) ∙ first) (sym (keys_plain s a qs n q) ∙ last) in
     record {
       rect = bare_rect s qs n q ∙ same.rect ∙ sym (bare_rect s ps m q);
       content = λ x y in'. bare_content s qs n q.layer x y ∙ same.content x y (ap (λ (z : Rect). covers z x y) (sym (bare_rect s ps m q)) ∙ in') ∙ sym (bare_content s ps m q.layer x y);
     }
 
-pub same_commits : (s : ScriptModel) (workers : ℕ) (h : List Entry) (j k : ℕ) (q : TileKey) → IsAccepted s → Legal s workers h → stands commits h j ≡ true → stands commits h k ≡ true
-    → has_page_key s (pulls_of h) (suc j) q ≡ true → has_page_key s (pulls_of h) (suc k) q ≡ true → ShowTheSame q (page s (pulls_of h) (suc j)) (page s (pulls_of h) (suc k))
+pub same_commits : (s : ScriptModel) (workers : ℕ) (h : List Entry) (j k : ℕ) (q : TileKey) → IsAccepted s → Legal s workers h → was_named commits h j ≡ true → was_named commits h k ≡ true
+    → has_page_key s (pulls_of h) (suc j) q ≡ true → has_page_key s (pulls_of h) (suc k) q ≡ true → HaveSameContent q (page s (pulls_of h) (suc j)) (page s (pulls_of h) (suc k))
 same_commits s workers h j k q a l cj ck first last = same_pages s (pulls_of h) (pulls_of h) (suc j) (suc k) q a first last

@@ -6,11 +6,11 @@ use Rattle.std.proofs.lemmas.Bool.Decides.{nat_tests}
 use Rattle.cc_edit.specs.declared.moves.Move.{Move}
 use Rattle.cc_event.specs.declared.history.Entry.{Entry}
 use Rattle.cc_event.specs.Scripts.{ScriptModel}
-use Rattle.cc_event.specs.Matters.{sends, moves}
-use Rattle.cc_event.specs.Scans.{names, stands}
+use Rattle.cc_event.specs.EventFields.{sends, moves}
+use Rattle.cc_event.specs.Scans.{names, was_named}
 use Rattle.cc_edit.specs.Axes.{Axis, amount_in}
 use Rattle.cc_event.specs.Frames.{active, up_to, pulls_of}
-use Rattle.cc_event.specs.Matters.{commits, settles}
+use Rattle.cc_event.specs.EventFields.{commits, settles}
 use Rattle.cc_event.specs.Scrolls.{added, moved, main_moves, in_base, in_delta, any_carrier, offset, all_moved}
 
 -- what an event adds to a sum
@@ -44,14 +44,14 @@ stands_later false b h = h
 
 -- two tests that agree at the first carrier and at each frame that the past sends have equal sums
 pub moved_alike : (s : ScriptModel) (sc : ℕ) (ax : Axis) (f g : Option ℕ → Bool) (o p : Option ℕ) (h : List Entry)
-    → f o ≡ g p → ((k : ℕ) → stands sends h k ≡ true → f (Some k) ≡ g (Some k)) → moved s sc ax f o h ≡ moved s sc ax g p h
+    → f o ≡ g p → ((k : ℕ) → was_named sends h k ≡ true → f (Some k) ≡ g (Some k)) → moved s sc ax f o h ≡ moved s sc ax g p h
 moved_alike s sc ax f g o p [] e frames = refl
 moved_alike s sc ax f g o p (x ∷ h) e frames =
     ap (λ (b : Bool). added sc ax (moves s x.event) b (moved s sc ax f (option_or (sends x.event) o) h)) e
     ∙ ap (λ (z : ℤ). added sc ax (moves s x.event) (g p) z)
     (moved_alike s sc ax f g (option_or (sends x.event) o) (option_or (sends x.event) p) h
-    (next_alike f g (sends x.event) o p e (λ k n. frames k (stands_first (names (sends x.event) k) (stands sends h k) n)))
-    (λ k n. frames k (stands_later (names (sends x.event) k) (stands sends h k) n)))
+    (next_alike f g (sends x.event) o p e (λ k n. frames k (stands_first (names (sends x.event) k) (was_named sends h k) n)))
+    (λ k n. frames k (stands_later (names (sends x.event) k) (was_named sends h k) n)))
 
 four : (a b c x y z : ℤ) → a ≡ b +ℤ c → z ≡ x +ℤ y → a +ℤ z ≡ (b +ℤ x) +ℤ (c +ℤ y)
 four a b c x y z e f = omega (arith, ints, e, f)
@@ -72,7 +72,7 @@ moved_both s sc ax f g r o (x ∷ h) parts =
 
 -- where no carrier counts, the sum is 0
 pub moved_none : (s : ScriptModel) (sc : ℕ) (ax : Axis) (f : Option ℕ → Bool) (o : Option ℕ) (h : List Entry)
-    → f o ≡ false → ((k : ℕ) → stands sends h k ≡ true → f (Some k) ≡ false) → moved s sc ax f o h ≡ pos 0
+    → f o ≡ false → ((k : ℕ) → was_named sends h k ≡ true → f (Some k) ≡ false) → moved s sc ax f o h ≡ pos 0
 moved_none s sc ax f o h e frames = moved_alike s sc ax f (λ p. false) o o h e frames ∙ nothing o h
   where
     nothing : (p : Option ℕ) (g : List Entry) → moved s sc ax (λ c. false) p g ≡ pos 0
@@ -113,10 +113,10 @@ regroup : (a b c d : ℤ) → d ≡ b +ℤ c → (a +ℤ b) +ℤ c ≡ a +ℤ d
 regroup a b c d e = omega (arith, ints, e)
 
 pub offset_is : (s : ScriptModel) (h : List Entry) (sc : ℕ) (ax : Axis)
-    → offset s h sc ax ≡ main_moves s (pulls_of h) (stands commits h) sc ax (up_to (active h)) +ℤ all_moved s h sc ax
+    → offset s h sc ax ≡ main_moves s (pulls_of h) (was_named commits h) sc ax (up_to (active h)) +ℤ all_moved s h sc ax
 offset_is s h sc ax =
-    regroup (main_moves s (pulls_of h) (stands commits h) sc ax (up_to (active h))) (moved s sc ax (in_base (stands settles h)) None h)
-    (moved s sc ax (in_delta (stands settles h)) None h) (all_moved s h sc ax) (moves_part s sc ax (stands settles h) h)
+    regroup (main_moves s (pulls_of h) (was_named commits h) sc ax (up_to (active h))) (moved s sc ax (in_base (was_named settles h)) None h)
+    (moved s sc ax (in_delta (was_named settles h)) None h) (all_moved s h sc ax) (moves_part s sc ax (was_named settles h) h)
 
 -- the sum of all moves grows by those of each event
 pub all_more : (s : ScriptModel) (h : List Entry) (e : Entry) (sc : ℕ) (ax : Axis) → all_moved s (e ∷ h) sc ax ≡ amount_in sc ax (moves s e.event) +ℤ all_moved s h sc ax

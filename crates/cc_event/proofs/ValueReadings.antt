@@ -6,8 +6,8 @@ use Rattle.cc_synced.specs.Table as table
 use Rattle.cc_edit.specs.Scrolls.{clamp_to, IsInRange}
 use Rattle.cc_event.specs.declared.history.Entry.{Entry}
 use Rattle.cc_event.specs.Scripts.{ScriptModel}
-use Rattle.cc_event.specs.Matters.{settles}
-use Rattle.cc_event.specs.Scans.{names, stands}
+use Rattle.cc_event.specs.EventFields.{settles}
+use Rattle.cc_event.specs.Scans.{names, was_named}
 use Rattle.cc_edit.specs.Axes.{Axis}
 use Rattle.cc_edit.specs.Scrollers.{most}
 use Rattle.cc_event.specs.Frames.{pulls_of, active, pending, up_to, active_page, pending_page}
@@ -34,7 +34,7 @@ by_pending : (s : ScriptModel) (n : ℕ) (h : List Entry) (sc : ℕ) (ax : Axis)
 by_pending s n h sc ax None l e =
     let v : Synced = values s sc ax h in
     let m : Sums s sc ax h = sums s n sc ax h l in
-    let d : delta_of s h (settled_then h) sc ax ≡ delta s h sc ax = ap (λ w. delta_of s h (λ k. names w k || stands settles h k) sc ax) e in
+    let d : delta_of s h (settled_then h) sc ax ≡ delta s h sc ax = ap (λ w. delta_of s h (λ k. names w k || was_named settles h k) sc ax) e in
     let p : v.reflected_pending ≡ pos 0 = m.reflected_pending ∙ ap (λ w. carried_by s h w sc ax) e in
     (λ i. sym m.pending_base i +ℤ (d ∙ sym m.active_delta) i) ∙ no_part v.pending_base v.active_delta v.reflected_pending p
 by_pending s n h sc ax (Some k) l e =

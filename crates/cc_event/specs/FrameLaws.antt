@@ -6,7 +6,7 @@ use Rattle.cc_event.specs.declared.event.Event.{Event}
 use Rattle.cc_event.specs.declared.event.Event.TheVariants as event
 use Rattle.cc_event.specs.declared.history.Entry.{Entry}
 use Rattle.cc_event.specs.Scripts.{ScriptModel}
-use Rattle.cc_event.specs.Matters.{kind_of}
+use Rattle.cc_event.specs.EventFields.{kind_of}
 use Rattle.cc_event.specs.Legal.{Next}
 
 -- each entry, with the past before it, meets this

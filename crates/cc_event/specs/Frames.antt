@@ -10,8 +10,8 @@ use Rattle.cc_edit.specs.Effects.{scrolled_by, after}
 use Rattle.cc_edit.specs.declared.moves.Move.{Move}
 use Rattle.cc_event.specs.declared.history.Entry.{Entry}
 use Rattle.cc_event.specs.Scripts.{ScriptModel}
-use Rattle.cc_event.specs.Matters.{sends, pulls, commits, aborts, activates}
-use Rattle.cc_event.specs.Scans.{names, stands, newest, counted}
+use Rattle.cc_event.specs.EventFields.{sends, pulls, commits, aborts, activates}
+use Rattle.cc_event.specs.Scans.{names, was_named, newest, counted}
 use Rattle.cc_edit.specs.Axes.{Axis, across, down, amount_in, named_in}
 use Rattle.cc_edit.specs.Scrollers.{scrollers, main_value}
 
@@ -79,7 +79,7 @@ is_left s h = nat_lt (counted sends h) (length s.main)
 
 -- a frame has ended: it was committed or aborted
 abbrev pub has_frame_ended : List Entry → ℕ → Bool
-has_frame_ended h k = stands commits h k || stands aborts h k
+has_frame_ended h k = was_named commits h k || was_named aborts h k
 
 -- the frame that was activated last
 abbrev pub active : List Entry → Option ℕ
@@ -87,7 +87,7 @@ active h = newest activates h
 
 abbrev pub unless_activated : List Entry → Option ℕ → Option ℕ
 unless_activated h None = None
-unless_activated h (Some k) = cond (stands activates h k) None (Some k)
+unless_activated h (Some k) = cond (was_named activates h k) None (Some k)
 
 -- the frame that was committed last, where it was not activated
 abbrev pub pending : List Entry → Option ℕ

@@ -6,7 +6,7 @@ use Rattle.cc_sched.specs.Kinds.{start, may, after}
 use Rattle.cc_event.specs.declared.event.Event.{Event}
 use Rattle.cc_event.specs.declared.history.Entry.{Entry}
 use Rattle.cc_event.specs.Scripts.{ScriptModel}
-use Rattle.cc_event.specs.Matters.{kind_of, actor_of}
+use Rattle.cc_event.specs.EventFields.{kind_of, actor_of}
 use Rattle.cc_event.specs.Scans.{has_ended}
 use Rattle.cc_event.specs.Due.{due}
 

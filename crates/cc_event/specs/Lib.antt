@@ -3,7 +3,7 @@ pub mod Ranges
 pub mod Recordings
 pub mod Scripts
 pub mod Texts
-pub mod Matters
+pub mod EventFields
 pub mod Scans
 pub mod Frames
 pub mod Accepted

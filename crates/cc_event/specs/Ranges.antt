@@ -18,8 +18,8 @@ abbrev pub in_range : ℕ → ℕ → ℕ → Bool
 in_range low high n = nat_le low n && nat_le n high
 
 -- a number of 32 bits
-abbrev pub is_whole : ℕ → Bool
-is_whole n = in_range 0 4294967295 n
+abbrev pub is_u32 : ℕ → Bool
+is_u32 n = in_range 0 4294967295 n
 
 -- a signed number from `low` to `high`
 abbrev pub int_in_range : ℤ → ℤ → ℤ → Bool
@@ -52,26 +52,26 @@ item_in_range (item.Bitmap picture) = is_rect picture.rect && is_picture picture
 
 -- a command whose numbers fit 32 bits, of a script of this version: `set_view` is of version 2 alone
 abbrev pub command_in_range : ℕ → Command → Bool
-command_in_range version (AddTransform id parent x y scroller) = is_whole id && is_whole parent && is_signed x && is_signed y && is_whole scroller
-command_in_range version (SetTransform id x y) = is_whole id && is_signed x && is_signed y
-command_in_range version (AddClip id parent transform rect) = is_whole id && is_whole parent && is_whole transform && is_rect rect
-command_in_range version (SetClip id rect) = is_whole id && is_rect rect
-command_in_range version (AddEffect id parent opacity) = is_whole id && is_whole parent && is_whole opacity
-command_in_range version (SetOpacity id opacity) = is_whole id && is_whole opacity
-command_in_range version (AddScroller id parent max_x max_y) = is_whole id && is_whole parent && is_whole max_x && is_whole max_y
-command_in_range version (SetRange id max_x max_y) = is_whole id && is_whole max_x && is_whole max_y
-command_in_range version (ScrollBy id dx dy) = is_whole id && is_signed dx && is_signed dy
-command_in_range version (ScrollTo id x y) = is_whole id && is_whole x && is_whole y
+command_in_range version (AddTransform id parent x y scroller) = is_u32 id && is_u32 parent && is_signed x && is_signed y && is_u32 scroller
+command_in_range version (SetTransform id x y) = is_u32 id && is_signed x && is_signed y
+command_in_range version (AddClip id parent transform rect) = is_u32 id && is_u32 parent && is_u32 transform && is_rect rect
+command_in_range version (SetClip id rect) = is_u32 id && is_rect rect
+command_in_range version (AddEffect id parent opacity) = is_u32 id && is_u32 parent && is_u32 opacity
+command_in_range version (SetOpacity id opacity) = is_u32 id && is_u32 opacity
+command_in_range version (AddScroller id parent max_x max_y) = is_u32 id && is_u32 parent && is_u32 max_x && is_u32 max_y
+command_in_range version (SetRange id max_x max_y) = is_u32 id && is_u32 max_x && is_u32 max_y
+command_in_range version (ScrollBy id dx dy) = is_u32 id && is_signed dx && is_signed dy
+command_in_range version (ScrollTo id x y) = is_u32 id && is_u32 x && is_u32 y
 command_in_range version (AddLayer id place transform clip effect w h colour) =
-    is_whole id && is_whole place && is_whole transform && is_whole clip && is_whole effect && is_whole w && is_whole h && is_colour colour
-command_in_range version (RemoveLayer id) = is_whole id
-command_in_range version (ResizeLayer id w h) = is_whole id && is_whole w && is_whole h
-command_in_range version (SetColour id colour) = is_whole id && is_colour colour
-command_in_range version (InsertItem layer place item) = is_whole layer && is_whole place && item_in_range item
-command_in_range version (RemoveItem layer place) = is_whole layer && is_whole place
-command_in_range version (ReplaceItem layer place item) = is_whole layer && is_whole place && item_in_range item
-command_in_range version (MoveLayer id place) = is_whole id && is_whole place
-command_in_range version (SetView w h tile) = (version == 2) && is_whole w && is_whole h && is_whole tile
+    is_u32 id && is_u32 place && is_u32 transform && is_u32 clip && is_u32 effect && is_u32 w && is_u32 h && is_colour colour
+command_in_range version (RemoveLayer id) = is_u32 id
+command_in_range version (ResizeLayer id w h) = is_u32 id && is_u32 w && is_u32 h
+command_in_range version (SetColour id colour) = is_u32 id && is_colour colour
+command_in_range version (InsertItem layer place item) = is_u32 layer && is_u32 place && item_in_range item
+command_in_range version (RemoveItem layer place) = is_u32 layer && is_u32 place
+command_in_range version (ReplaceItem layer place item) = is_u32 layer && is_u32 place && item_in_range item
+command_in_range version (MoveLayer id place) = is_u32 id && is_u32 place
+command_in_range version (SetView w h tile) = (version == 2) && is_u32 w && is_u32 h && is_u32 tile
 
 -- one axis of a scroll or a wheel: at most 2^20 either way
 abbrev pub is_amount : ℤ → Bool
@@ -82,7 +82,7 @@ abbrev pub input_in_range : ℕ → Input → Bool
 input_in_range frames (Scroll scroller dx dy) = in_range 1 max_id scroller && is_amount dx && is_amount dy
 input_in_range frames (Wheel x y dx dy) = in_range 0 2047 x && in_range 0 2047 y && is_amount dx && is_amount dy
 input_in_range frames Draw = true
-input_in_range frames (Await frame) = is_whole frame && nat_lt frame frames
+input_in_range frames (Await frame) = is_u32 frame && nat_lt frame frames
 input_in_range frames Settle = true
 
 -- how many draws stand in a list of inputs

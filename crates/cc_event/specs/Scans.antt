@@ -6,17 +6,17 @@ use Rattle.std.specs.Option.{option_or}
 use Rattle.cc_geom.specs.declared.tile.TileKey.{TileKey}
 use Rattle.cc_event.specs.declared.event.Event.{Event}
 use Rattle.cc_event.specs.declared.history.Entry.{Entry}
-use Rattle.cc_event.specs.Matters.{held_after, is_last}
+use Rattle.cc_event.specs.EventFields.{held_after, is_last}
 
 -- whether it is this number
 abbrev pub names : Option ℕ → ℕ → Bool
 names None n = false
 names (Some m) n = m == n
 
--- whether an event names n in this matter
-abbrev pub stands : (Event → Option ℕ) → List Entry → ℕ → Bool
-stands f [] n = false
-stands f (e ∷ h) n = names (f e.event) n || stands f h n
+-- whether an event of the history names n in this field
+abbrev pub was_named : (Event → Option ℕ) → List Entry → ℕ → Bool
+was_named f [] n = false
+was_named f (e ∷ h) n = names (f e.event) n || was_named f h n
 
 -- what the newest such event names
 abbrev pub newest : (Event → Option ℕ) → List Entry → Option ℕ

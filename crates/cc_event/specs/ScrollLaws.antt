@@ -6,7 +6,7 @@ use Rattle.cc_event.specs.declared.event.Event.TheVariants as event
 use Rattle.cc_edit.specs.declared.moves.Move.{Move}
 use Rattle.cc_event.specs.declared.history.Entry.{Entry}
 use Rattle.cc_event.specs.Scripts.{ScriptModel}
-use Rattle.cc_event.specs.Matters.{sends}
+use Rattle.cc_event.specs.EventFields.{sends}
 use Rattle.cc_event.specs.Scans.{newest}
 use Rattle.cc_edit.specs.Axes.{Axis, amount_in, is_still}
 use Rattle.cc_event.specs.Frames.{has_frame_ended, pending}

@@ -11,8 +11,8 @@ use Rattle.cc_edit.specs.Scrolls.{clamp_to}
 use Rattle.cc_edit.specs.declared.moves.Move.{Move}
 use Rattle.cc_event.specs.declared.history.Entry.{Entry}
 use Rattle.cc_event.specs.Scripts.{ScriptModel}
-use Rattle.cc_event.specs.Matters.{sends, commits, settles, moves}
-use Rattle.cc_event.specs.Scans.{names, stands}
+use Rattle.cc_event.specs.EventFields.{sends, commits, settles, moves}
+use Rattle.cc_event.specs.Scans.{names, was_named}
 use Rattle.cc_edit.specs.Axes.{Axis, amount_in, listed, named_in, with_numbers}
 use Rattle.cc_edit.specs.Scrollers.{scrollers, most, offsets_in, taken}
 use Rattle.cc_event.specs.Frames.{commands_of, main_move, pulls_of, active, pending, up_to, active_page, pending_page}
@@ -55,17 +55,17 @@ main_moves s ps committed sc ax (suc k) = main_moves s ps committed sc ax k +ℤ
 
 -- base and delta where frame a is active and these frames have settled
 abbrev pub base_of : ScriptModel → List Entry → Option ℕ → (ℕ → Bool) → ℕ → Axis → ℤ
-base_of s h a settled sc ax = main_moves s (pulls_of h) (stands commits h) sc ax (up_to a) +ℤ moved s sc ax (in_base settled) None h
+base_of s h a settled sc ax = main_moves s (pulls_of h) (was_named commits h) sc ax (up_to a) +ℤ moved s sc ax (in_base settled) None h
 
 abbrev pub delta_of : ScriptModel → List Entry → (ℕ → Bool) → ℕ → Axis → ℤ
 delta_of s h settled sc ax = moved s sc ax (in_delta settled) None h
 
 -- the base, the delta and the offset of a scroller
 abbrev pub base : ScriptModel → List Entry → ℕ → Axis → ℤ
-base s h sc ax = base_of s h (active h) (stands settles h) sc ax
+base s h sc ax = base_of s h (active h) (was_named settles h) sc ax
 
 abbrev pub delta : ScriptModel → List Entry → ℕ → Axis → ℤ
-delta s h sc ax = delta_of s h (stands settles h) sc ax
+delta s h sc ax = delta_of s h (was_named settles h) sc ax
 
 abbrev pub offset : ScriptModel → List Entry → ℕ → Axis → ℤ
 offset s h sc ax = base s h sc ax +ℤ delta s h sc ax
@@ -75,7 +75,7 @@ abbrev pub active_then : List Entry → Option ℕ
 active_then h = option_or (pending h) (active h)
 
 abbrev pub settled_then : List Entry → ℕ → Bool
-settled_then h k = names (pending h) k || stands settles h k
+settled_then h k = names (pending h) k || was_named settles h k
 
 -- the base and the offset as if the pending commit were active
 abbrev pub pending_base : ScriptModel → List Entry → ℕ → Axis → ℤ

@@ -24,7 +24,7 @@ abbrev pub key_rect : Page → TileKey → Rect
 key_rect p q = place_rect p (place_named q) (find (has_id q.layer) p.layers)
 
 -- two pages show the same in a tile: its place has one rect in both, and the layer's content is the same at each point of it
-pub record ShowTheSame (q : TileKey) (p r : Page) : Type 0 where
+pub record HaveSameContent (q : TileKey) (p r : Page) : Type 0 where
   pub rect : key_rect r q ≡ key_rect p q
   pub content : (x y : ℤ) → covers (key_rect p q) x y ≡ true → content_at r q.layer x y ≡ content_at p q.layer x y
 

@@ -9,7 +9,7 @@ use Rattle.cc_geom.specs.KeyLists.{has_key}
 use Rattle.cc_edit.specs.Pages.{Page}
 use Rattle.cc_event.specs.declared.history.Entry.{Entry}
 use Rattle.cc_event.specs.Scripts.{ScriptModel}
-use Rattle.cc_event.specs.Matters.{starts, evicts, finishes, activates}
+use Rattle.cc_event.specs.EventFields.{starts, evicts, finishes, activates}
 use Rattle.cc_visible.specs.Visible.{grid_of, by_id, key_at, visible_keys}
 use Rattle.cc_event.specs.Frames.{pulls_of, active, pending, up_to, active_page, pending_page}
 use Rattle.cc_event.specs.Scrolls.{active_offsets, pending_offsets}

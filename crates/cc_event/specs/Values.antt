@@ -6,7 +6,7 @@ use Rattle.cc_event.specs.declared.event.Event.{Event}
 use Rattle.cc_event.specs.declared.event.Event.TheVariants as event
 use Rattle.cc_event.specs.declared.history.Entry.{Entry}
 use Rattle.cc_event.specs.Scripts.{ScriptModel}
-use Rattle.cc_event.specs.Matters.{moves}
+use Rattle.cc_event.specs.EventFields.{moves}
 use Rattle.cc_edit.specs.Axes.{Axis, amount_in}
 use Rattle.cc_edit.specs.Scrollers.{main_value}
 use Rattle.cc_event.specs.Frames.{page, pulls_of}

@@ -6,8 +6,8 @@ ghost use Rattle.cc_sched.specs.declared.kind.Kind.TheVariants as kind;
 ghost use Rattle.cc_sched.specs.Kinds.{is_main_idle, is_sent};
 ghost use Rattle.cc_event.specs.Scripts.{ScriptModel};
 ghost use Rattle.cc_event.specs.declared.history.Entry.{Entry};
-ghost use Rattle.cc_event.specs.Matters.{kind_of, sends, commits, aborts, activates};
-ghost use Rattle.cc_event.specs.Scans.{stands, newest, counted};
+ghost use Rattle.cc_event.specs.EventFields.{kind_of, sends, commits, aborts, activates};
+ghost use Rattle.cc_event.specs.Scans.{was_named, newest, counted};
 ghost use Rattle.cc_event.specs.Frames.{has_frame_ended, changes, pulls_of, active, pending, up_to};
 ghost use Rattle.cc_event.specs.Legal.{sched, Next, Legal, IsLegal};
 ghost use Rattle.cc_event.specs.FrameLaws.{AtEach, MayCome, OneOf, is_by_actor, has_stopped};
@@ -37,13 +37,13 @@ pub fn beginnings_are_legal()
 /// last while it is in flight, in one way: by a commit where it changes something, else by an abort. Of
 /// the commits some were activated, up to the active one; one that was not is pending, and later.
 pub fn frames_take_their_course()
-    ensures sent { (s : ScriptModel) (workers : ℕ) (h : List Entry) (k : ℕ) → Legal s workers h → stands sends h k ≡ nat_lt k (counted sends h) }
+    ensures sent { (s : ScriptModel) (workers : ℕ) (h : List Entry) (k : ℕ) → Legal s workers h → was_named sends h k ≡ nat_lt k (counted sends h) }
     ensures ended { (s : ScriptModel) (workers : ℕ) (h : List Entry) (k : ℕ) → Legal s workers h → k < counted sends h → (has_frame_ended h k ≡ true) ⊎ ((is_main_idle (sched h).main_state ≡ false) × (newest sends h ≡ Some k) × (has_frame_ended h k ≡ false)) }
-    ensures one_end { (s : ScriptModel) (workers : ℕ) (h : List Entry) (k : ℕ) → Legal s workers h → stands commits h k ≡ true → stands aborts h k ≡ false }
-    ensures commit { (s : ScriptModel) (workers : ℕ) (h : List Entry) (k : ℕ) → Legal s workers h → stands commits h k ≡ true → changes s (pulls_of h) k ≡ true }
-    ensures abort { (s : ScriptModel) (workers : ℕ) (h : List Entry) (k : ℕ) → Legal s workers h → stands aborts h k ≡ true → changes s (pulls_of h) k ≡ false }
-    ensures activated { (s : ScriptModel) (workers : ℕ) (h : List Entry) (k : ℕ) → Legal s workers h → stands activates h k ≡ true → (stands commits h k ≡ true) × (k < up_to (active h)) }
-    ensures pending { (s : ScriptModel) (workers : ℕ) (h : List Entry) (k : ℕ) → Legal s workers h → pending h ≡ Some k → (stands commits h k ≡ true) × (stands activates h k ≡ false) × (up_to (active h) ≤ k) }
-    ensures not_activated { (s : ScriptModel) (workers : ℕ) (h : List Entry) (k : ℕ) → Legal s workers h → stands commits h k ≡ true → (stands activates h k ≡ true) ⊎ (pending h ≡ Some k) }
+    ensures one_end { (s : ScriptModel) (workers : ℕ) (h : List Entry) (k : ℕ) → Legal s workers h → was_named commits h k ≡ true → was_named aborts h k ≡ false }
+    ensures commit { (s : ScriptModel) (workers : ℕ) (h : List Entry) (k : ℕ) → Legal s workers h → was_named commits h k ≡ true → changes s (pulls_of h) k ≡ true }
+    ensures abort { (s : ScriptModel) (workers : ℕ) (h : List Entry) (k : ℕ) → Legal s workers h → was_named aborts h k ≡ true → changes s (pulls_of h) k ≡ false }
+    ensures activated { (s : ScriptModel) (workers : ℕ) (h : List Entry) (k : ℕ) → Legal s workers h → was_named activates h k ≡ true → (was_named commits h k ≡ true) × (k < up_to (active h)) }
+    ensures pending { (s : ScriptModel) (workers : ℕ) (h : List Entry) (k : ℕ) → Legal s workers h → pending h ≡ Some k → (was_named commits h k ≡ true) × (was_named activates h k ≡ false) × (up_to (active h) ≤ k) }
+    ensures not_activated { (s : ScriptModel) (workers : ℕ) (h : List Entry) (k : ℕ) → Legal s workers h → was_named commits h k ≡ true → (was_named activates h k ≡ true) ⊎ (pending h ≡ Some k) }
     ensures state { (s : ScriptModel) (workers : ℕ) (h : List Entry) → Legal s workers h → (sched h).has_pending ≡ is_some (pending h) }
 {}

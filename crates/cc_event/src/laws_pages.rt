@@ -5,7 +5,7 @@ ghost use Rattle.cc_edit.specs.Scrolls.{clamp_to};
 ghost use Rattle.cc_event.specs.Scripts.{ScriptModel};
 ghost use Rattle.cc_event.specs.declared.history.Entry.{Entry};
 ghost use Rattle.cc_edit.specs.declared.moves.Move.{Move};
-ghost use Rattle.cc_event.specs.Matters.{sends};
+ghost use Rattle.cc_event.specs.EventFields.{sends};
 ghost use Rattle.cc_event.specs.Scans.{counted};
 ghost use Rattle.cc_edit.specs.Axes.{Axis};
 ghost use Rattle.cc_edit.specs.Scrollers.{has_scroller, most, main_value};

@@ -10,8 +10,8 @@ ghost use Rattle.cc_event.specs.Scripts.{ScriptModel};
 ghost use Rattle.cc_event.specs.declared.event.Event.TheVariants as event;
 ghost use Rattle.cc_event.specs.declared.history.Entry.{Entry};
 ghost use Rattle.cc_edit.specs.declared.moves.Move.{Move};
-ghost use Rattle.cc_event.specs.Matters.{sends, commits, settles, pulls, moves};
-ghost use Rattle.cc_event.specs.Scans.{stands, counted};
+ghost use Rattle.cc_event.specs.EventFields.{sends, commits, settles, pulls, moves};
+ghost use Rattle.cc_event.specs.Scans.{was_named, counted};
 ghost use Rattle.cc_edit.specs.Axes.{Axis, amount_in};
 ghost use Rattle.cc_edit.specs.Scrollers.{has_scroller, most};
 ghost use Rattle.cc_event.specs.Frames.{pulls_of, active, up_to, active_page, pending_page};
@@ -28,12 +28,12 @@ ghost use Rattle.cc_event.specs.Legal.{Legal};
 /// it carries, so each move is in the pulls of one send at most, and all moves are those in the pulls and
 /// those not yet sent.
 pub fn scrolls_count_once()
-    ensures offset { (s : ScriptModel) (h : List Entry) (sc : ℕ) (ax : Axis) → offset s h sc ax ≡ main_moves s (pulls_of h) (stands commits h) sc ax (up_to (active h)) +ℤ all_moved s h sc ax }
+    ensures offset { (s : ScriptModel) (h : List Entry) (sc : ℕ) (ax : Axis) → offset s h sc ax ≡ main_moves s (pulls_of h) (was_named commits h) sc ax (up_to (active h)) +ℤ all_moved s h sc ax }
     ensures each_event { (s : ScriptModel) (h : List Entry) (e : Entry) (sc : ℕ) (ax : Axis) → all_moved s (e ∷ h) sc ax ≡ amount_in sc ax (moves s e.event) +ℤ all_moved s h sc ax }
     ensures one_part { (settled : ℕ → Bool) (carrier : Option ℕ) → in_delta settled carrier ≡ not (in_base settled carrier) }
-    ensures both_parts { (s : ScriptModel) (h : List Entry) (sc : ℕ) (ax : Axis) → all_moved s h sc ax ≡ moved s sc ax (in_base (stands settles h)) None h +ℤ delta s h sc ax }
+    ensures both_parts { (s : ScriptModel) (h : List Entry) (sc : ℕ) (ax : Axis) → all_moved s h sc ax ≡ moved s sc ax (in_base (was_named settles h)) None h +ℤ delta s h sc ax }
     ensures one_send { (j k : ℕ) (carrier : Option ℕ) → by_send j carrier ≡ true → by_send k carrier ≡ true → j ≡ k }
-    ensures pulls { (s : ScriptModel) (workers : ℕ) (h : List Entry) (k sc : ℕ) (ax : Axis) → Legal s workers h → stands sends h k ≡ true → amount_in sc ax (pulls_of h k) ≡ carried s h k sc ax }
+    ensures pulls { (s : ScriptModel) (workers : ℕ) (h : List Entry) (k sc : ℕ) (ax : Axis) → Legal s workers h → was_named sends h k ≡ true → amount_in sc ax (pulls_of h k) ≡ carried s h k sc ax }
     ensures all_moves { (s : ScriptModel) (workers : ℕ) (h : List Entry) (sc : ℕ) (ax : Axis) → Legal s workers h → all_moved s h sc ax ≡ unsent s h sc ax +ℤ pulled_by (pulls_of h) sc ax (counted sends h) }
 {}
 

@@ -7,21 +7,21 @@ ghost use Rattle.cc_geom.specs.declared.tile.TileKey.{TileKey as Key};
 ghost use Rattle.cc_edit.specs.declared.moves.Move.{Move as Pull};
 ghost use Rattle.cc_event.specs.declared.history.Entry.{Entry as Entered};
 ghost use Rattle.cc_event.specs.Scripts.{ScriptModel};
-ghost use Rattle.cc_event.specs.Matters.{commits};
-ghost use Rattle.cc_event.specs.Scans.{stands};
+ghost use Rattle.cc_event.specs.EventFields.{commits};
+ghost use Rattle.cc_event.specs.Scans.{was_named};
 ghost use Rattle.cc_event.specs.Frames.{page, pulls_of};
 ghost use Rattle.cc_event.specs.Accepted.{IsAccepted};
 ghost use Rattle.cc_geom.specs.KeyLists.{has_key};
 ghost use Rattle.cc_event.specs.Tiles.{live_keys};
 ghost use Rattle.cc_event.specs.Legal.{Legal};
-ghost use Rattle.cc_event.specs.Sharing.{has_page_key, ShowTheSame, was_live};
+ghost use Rattle.cc_event.specs.Sharing.{has_page_key, HaveSameContent, was_live};
 
 /// If a key is the key of its place in two commits of a legal history, the layer's contents in both
 /// are equal on the whole place. The same holds of any two pages of an accepted script, whatever was
 /// pulled; and a key of two pages is a key of each page between them.
 pub fn equal_keys_show_the_same()
-    ensures commits { (s : ScriptModel) (workers : ℕ) (h : List Entered) (j k : ℕ) (q : Key) → IsAccepted s → Legal s workers h → stands commits h j ≡ true → stands commits h k ≡ true → has_page_key s (pulls_of h) (suc j) q ≡ true → has_page_key s (pulls_of h) (suc k) q ≡ true → ShowTheSame q (page s (pulls_of h) (suc j)) (page s (pulls_of h) (suc k)) }
-    ensures pages { (s : ScriptModel) (ps qs : ℕ → List Pull) (m n : ℕ) (q : Key) → IsAccepted s → has_page_key s ps m q ≡ true → has_page_key s qs n q ≡ true → ShowTheSame q (page s ps m) (page s qs n) }
+    ensures commits { (s : ScriptModel) (workers : ℕ) (h : List Entered) (j k : ℕ) (q : Key) → IsAccepted s → Legal s workers h → was_named commits h j ≡ true → was_named commits h k ≡ true → has_page_key s (pulls_of h) (suc j) q ≡ true → has_page_key s (pulls_of h) (suc k) q ≡ true → HaveSameContent q (page s (pulls_of h) (suc j)) (page s (pulls_of h) (suc k)) }
+    ensures pages { (s : ScriptModel) (ps qs : ℕ → List Pull) (m n : ℕ) (q : Key) → IsAccepted s → has_page_key s ps m q ≡ true → has_page_key s qs n q ≡ true → HaveSameContent q (page s ps m) (page s qs n) }
     ensures between { (s : ScriptModel) (ps : ℕ → List Pull) (q : Key) (m k n : ℕ) → IsAccepted s → m ≤ k → k ≤ n → has_page_key s ps m q ≡ true → has_page_key s ps n q ≡ true → has_page_key s ps k q ≡ true }
 {}
 

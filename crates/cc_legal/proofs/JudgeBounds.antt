@@ -6,8 +6,8 @@ use Rattle.std.proofs.lemmas.Int.{ints}
 use Rattle.cc_synced.specs.Bounds.{IsBoundedNumber}
 use Rattle.cc_event.specs.declared.history.Entry.{Entry}
 use Rattle.cc_event.specs.Scripts.{ScriptModel}
-use Rattle.cc_event.specs.Matters.{settles}
-use Rattle.cc_event.specs.Scans.{names, stands}
+use Rattle.cc_event.specs.EventFields.{settles}
+use Rattle.cc_event.specs.Scans.{names, was_named}
 use Rattle.cc_edit.specs.Axes.{Axis}
 use Rattle.cc_event.specs.Frames.{pending}
 use Rattle.cc_event.specs.Scrolls.{base, delta, delta_of, pending_base, offset_then}
@@ -51,7 +51,7 @@ then_sized s n h sc ax a l = go (pending h) refl
     go : (o : Option ℕ) → pending h ≡ o → IsSized (offset_then s h sc ax)
     go None e =
         two_sized (pending_base s h sc ax) (delta s h sc ax) (offset_then s h sc ax) (pending_base_place s n h sc ax a l) (delta_bounded s n h sc ax a l)
-        (ap (λ (o : Option ℕ). pending_base s h sc ax +ℤ delta_of s h (λ k. names o k || stands settles h k) sc ax) e)
+        (ap (λ (o : Option ℕ). pending_base s h sc ax +ℤ delta_of s h (λ k. names o k || was_named settles h k) sc ax) e)
     go (Some k) e =
         three_sized (values s sc ax h).pending_base (values s sc ax h).active_delta (values s sc ax h).reflected_pending (offset_then s h sc ax)
         (base_place s n h sc ax a l) (values_bounded s n h sc ax a l).active_delta (values_bounded s n h sc ax a l).reflected_pending (before s n h k sc ax l e).then_at

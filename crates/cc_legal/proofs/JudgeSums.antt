@@ -5,7 +5,7 @@ use Rattle.std.proofs.lemmas.Int.{ints}
 use Rattle.cc_edit.specs.declared.moves.Move.{Move}
 use Rattle.cc_event.specs.declared.history.Entry.{Entry}
 use Rattle.cc_event.specs.Scripts.{ScriptModel}
-use Rattle.cc_event.specs.Matters.{sends, moves}
+use Rattle.cc_event.specs.EventFields.{sends, moves}
 use Rattle.cc_edit.specs.Axes.{Axis, amount_in}
 use Rattle.cc_event.specs.Frames.{main_move}
 use Rattle.cc_event.specs.Scrolls.{added, moved, main_moves}

@@ -10,4 +10,4 @@ pub mod JudgeInputs
 pub mod Worst
 pub mod TreeKeys
 pub mod Pushed
-pub mod Stocked
+pub mod PastStateFacts

@@ -4,7 +4,7 @@ use Rattle.std.proofs.lemmas.List.{reverse-append, reverse-reverse, length-rever
 use Rattle.cc_sched.specs.Kinds.{may}
 use Rattle.cc_event.specs.declared.history.Entry.{Entry}
 use Rattle.cc_event.specs.Scripts.{ScriptModel}
-use Rattle.cc_event.specs.Matters.{kind_of}
+use Rattle.cc_event.specs.EventFields.{kind_of}
 use Rattle.cc_event.specs.Legal.{sched, Legal, Next}
 use Rattle.cc_legal.specs.Judge.{IsAllowed, StopsAt, FirstIllegal}
 

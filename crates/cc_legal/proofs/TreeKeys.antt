@@ -22,7 +22,7 @@ use Rattle.cc_event.specs.Frames.{page}
 use Rattle.cc_visible.specs.Visible.{grid_of, by_id, key_at}
 use Rattle.cc_event.specs.Stamps.{commits_to, place_rect, stamp_in}
 use Rattle.cc_event.specs.Tiles.{page_keys}
-use Rattle.cc_legal.specs.FrameStamps.{ShowTheSame, commits_in, stamp_on, layer_keys}
+use Rattle.cc_legal.specs.FrameStamps.{HaveSameChanges, commits_in, stamp_on, layer_keys}
 use Rattle.cc_legal.proofs.KeyedFacts.{Each, each_both, each_found, each_by_id}
 
 -- ---- the change of a layer in a list
@@ -101,7 +101,7 @@ flat_where : {X Y : Type 0} (f g : X → List Y) (xs : List X) → Each (λ (x :
 flat_where f g [] e = refl
 flat_where {X} {Y} f g (x ∷ xs) e = ap (λ (ys : List Y). ys ++ flat_map f xs) e.0 ∙ ap (λ (ys : List Y). g x ++ ys) (flat_where f g xs e.1)
 
-module _ (s : ScriptModel) (ps : ℕ → List Move) (cs : List Changed) (is_changes : ShowTheSame s ps cs) where
+module _ (s : ScriptModel) (ps : ℕ → List Move) (cs : List Changed) (is_changes : HaveSameChanges s ps cs) where
   stamp_alike : (layer : ℕ) (r : Rect) (n : ℕ) → n ≤ length cs → stamp_of layer r (commits_in cs n) ≡ stamp_of layer r (commits_to s ps n)
   stamp_alike layer r zero le = refl
   stamp_alike layer r (suc k) le =

@@ -15,8 +15,8 @@ use Rattle.cc_visible.specs.Visible.{grid_of, key_at}
 use Rattle.cc_event.specs.Stamps.{unchanged, frame_changes}
 
 -- element k says the same as what main frame k changed: it shows in the same rects of each layer
-abbrev pub ShowTheSame : ScriptModel → (ℕ → List Move) → List Changed → Type 0
-ShowTheSame s ps cs =
+abbrev pub HaveSameChanges : ScriptModel → (ℕ → List Move) → List Changed → Type 0
+HaveSameChanges s ps cs =
     (k : ℕ) → k < length cs → (layer : ℕ) (r : Rect)
     → changes_in layer r (record { frame = k; changed = get_or cs k unchanged }) ≡ changes_in layer r (record { frame = k; changed = frame_changes s ps k })
 

@@ -1,11 +1,11 @@
--- The matters that a judge of histories looks through a past for.
+-- The fields that a judge of histories looks through a past for.
 use Rattle.std.specs.Prelude.{◌≡◌, ℕ, ℤ, true, List, [], ◌∷◌, ◌++◌, length, reverse, Option, Some, None, ⊤}
 use Rattle.cc_sched.specs.Kinds.{may}
 use Rattle.cc_event.specs.declared.event.Event.{Event}
 use Rattle.cc_event.specs.declared.history.Entry.{Entry}
-use Rattle.cc_legal.specs.declared.matter.Matter.{Matter}
-use Rattle.cc_legal.specs.declared.matter.Matter.TheVariants as matter
-use Rattle.cc_event.specs.Matters.{kind_of, sends, aborts, commits, activates, settles, begins, uses}
+use Rattle.cc_legal.specs.declared.event_field.EventField.{EventField}
+use Rattle.cc_legal.specs.declared.event_field.EventField.TheVariants as field
+use Rattle.cc_event.specs.EventFields.{kind_of, sends, aborts, commits, activates, settles, begins, uses}
 use Rattle.cc_event.specs.Scripts.{ScriptModel}
 use Rattle.cc_geom.specs.declared.rect.Point.{Point}
 use Rattle.cc_geom.specs.declared.tile.TileKey.{TileKey}
@@ -18,15 +18,15 @@ use Rattle.cc_edit.specs.Wheels.{wheel_rest, wheel_parts}
 use Rattle.cc_event.specs.Ranking.{first, evicted_for}
 use Rattle.cc_event.specs.Legal.{sched, Next, IsLegal}
 
--- what an event names in a matter
-abbrev pub matter_of : Matter → Event → Option ℕ
-matter_of matter.Sends = sends
-matter_of matter.Aborts = aborts
-matter_of matter.Commits = commits
-matter_of matter.Activates = activates
-matter_of matter.Settles = settles
-matter_of matter.Begins = begins
-matter_of matter.Uses = uses
+-- what an event names in a field
+abbrev pub field_of : EventField → Event → Option ℕ
+field_of field.Sends = sends
+field_of field.Aborts = aborts
+field_of field.Commits = commits
+field_of field.Activates = activates
+field_of field.Settles = settles
+field_of field.Begins = begins
+field_of field.Uses = uses
 
 -- the scheduler's state allowed the kind of each entry
 abbrev pub IsAllowed : List Entry → Type 0

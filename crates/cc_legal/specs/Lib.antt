@@ -2,7 +2,7 @@ pub mod Keyed
 pub mod FrameStamps
 pub mod Judge
 pub mod Pagings
-pub mod Stocks
-pub mod Carriers
+pub mod PastStates
+pub mod SumFilters
 pub mod Stages
 pub mod Rows

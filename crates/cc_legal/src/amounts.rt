@@ -1,9 +1,9 @@
 //! What lists of moves and events have for a scroller along an axis.
 
 ghost use Rattle.std.specs.Prelude.{◌≡◌, slice_get};
-ghost use Rattle.cc_legal.specs.Carriers.{axis_of};
+ghost use Rattle.cc_legal.specs.SumFilters.{axis_of};
 ghost use Rattle.cc_edit.specs.Axes as spec;
-ghost use Rattle.cc_event.specs.Matters.{scroll_move, moves, sends};
+ghost use Rattle.cc_event.specs.EventFields.{scroll_move, moves, sends};
 
 use cc_edit::Move;
 use cc_event::{Event, Input, Script};

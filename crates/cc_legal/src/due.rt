@@ -9,7 +9,7 @@ ghost use Rattle.cc_event.specs.Due.{due};
 ghost use Rattle.cc_event.specs.Frames as frames;
 
 use crate::keys::in_flight;
-use crate::matter::Matter;
+use crate::event_field::EventField;
 use crate::scans::{active, counted, has_frame_ended, held, names, newest, pending};
 use cc_event::{Entry, Input, Script};
 use cc_geom::TileKey;
@@ -19,7 +19,7 @@ use std::alloc::{AllocError, Global};
 pub(crate) fn next_input(past: &[Entry]) -> usize
     ensures { result ≡ spec.next_input past.now }
 {
-    counted(Matter::Uses, past)
+    counted(EventField::Uses, past)
 }
 
 /// That input, if there is one.
@@ -43,7 +43,7 @@ fn is_draw(input: Option<Input>) -> bool
 pub(crate) fn is_left(script: &Script, past: &[Entry]) -> bool
     ensures { result ≡ frames.is_left script.now past.now }
 {
-    counted(Matter::Sends, past) < script.main().len()
+    counted(EventField::Sends, past) < script.main().len()
 }
 
 /// Whether an impl frame may begin for this draw.
@@ -68,7 +68,7 @@ pub(crate) fn is_due_begin_plain(script: &Script, past: &[Entry]) -> bool
 pub(crate) fn is_due_commit(script: &Script, past: &[Entry], frame: u32) -> bool
     ensures { Decides result (due script.now past.now kind.Commit 0 ≡ Some (event.Commit frame)) }
 {
-    names(newest(Matter::Sends, past), frame)
+    names(newest(EventField::Sends, past), frame)
 }
 
 // Whether two keys are one.
@@ -93,7 +93,7 @@ pub(crate) fn is_due_skip(script: &Script, past: &[Entry], input: u32) -> bool
     ensures { Decides result (due script.now past.now kind.Skip 0 ≡ Some (event.Skip input)) }
 {
     let none = active(past).is_none();
-    let begun = names(newest(Matter::Begins, past), input);
+    let begun = names(newest(EventField::Begins, past), input);
     none && begun
 }
 

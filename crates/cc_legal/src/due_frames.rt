@@ -12,11 +12,11 @@ ghost use Rattle.cc_legal.specs.Pagings.{IsLegalPast};
 
 use crate::due::is_left;
 use crate::listing::{next_clamps, next_pulls};
-use crate::matter::Matter;
+use crate::event_field::EventField;
 use crate::pages::pages;
 use crate::rows::same_moves;
 use crate::scans::{counted, names, newest, pending, pulls_of};
-use crate::stock::Stock;
+use crate::past_state::PastState;
 use cc_event::{Entry, Moves, Script, changes_something};
 use std::alloc::{AllocError, Global};
 
@@ -31,7 +31,7 @@ pub(crate) fn is_due_send(
     ensures { IfOk result (λ yes. Decides yes (due script.now past.now kind.Send 0 ≡ Some (event.Send frame pulls.now))) }
 {
     let left = is_left(script, past);
-    let next = counted(Matter::Sends, past) == frame as usize;
+    let next = counted(EventField::Sends, past) == frame as usize;
     let rows = next_pulls(alloc, script, past)?;
     let same = same_moves(rows.as_slice(), pulls.as_slice());
     Ok(left && next && same)
@@ -59,7 +59,7 @@ pub(crate) fn is_due_ready(
     requires { IsLegalPast script.now past.now }
     ensures { IfOk result (λ yes. Decides yes (due script.now past.now kind.Ready 1 ≡ Some (event.Ready frame))) }
 {
-    if !names(newest(Matter::Sends, past), frame) {
+    if !names(newest(EventField::Sends, past), frame) {
         return Ok(false);
     }
     changes(alloc, script, past, frame)
@@ -75,7 +75,7 @@ pub(crate) fn is_due_abort(
     requires { IsLegalPast script.now past.now }
     ensures { IfOk result (λ yes. Decides yes (due script.now past.now kind.Abort 1 ≡ Some (event.Abort frame))) }
 {
-    if !names(newest(Matter::Sends, past), frame) {
+    if !names(newest(EventField::Sends, past), frame) {
         return Ok(false);
     }
     let some = changes(alloc, script, past, frame)?;
@@ -87,8 +87,8 @@ fn is_ready(alloc: Global, script: &Script, past: &[Entry]) -> Result<bool, Allo
     requires { IsLegalPast script.now past.now }
     ensures { IfOk result (λ yes. yes ≡ tiles.are_ready script.now past.now (tiles.required script.now past.now)) }
 {
-    let stock = Stock::of(alloc, script, past)?;
-    let at = stock.tiles(alloc)?;
+    let state = PastState::of(alloc, script, past)?;
+    let at = state.tiles(alloc)?;
     let required = at.required(alloc)?;
     Ok(at.are_ready(required.as_slice()))
 }
@@ -103,8 +103,8 @@ fn are_clamps(
     requires { IsLegalPast script.now past.now }
     ensures { IfOk result (λ yes. Decides yes (next_clamps script.now past.now ≡ clamps.now)) }
 {
-    let stock = Stock::of(alloc, script, past)?;
-    let rows = next_clamps(alloc, script, past, stock.pages())?;
+    let state = PastState::of(alloc, script, past)?;
+    let rows = next_clamps(alloc, script, past, state.pages())?;
     Ok(same_moves(rows.as_slice(), clamps.as_slice()))
 }
 

@@ -6,7 +6,7 @@ ghost use Rattle.cc_sched.specs.declared.kind.Kind.TheVariants as kind;
 ghost use Rattle.cc_event.specs.declared.event.Event.TheVariants as event;
 ghost use Rattle.cc_event.specs.Due.{due};
 ghost use Rattle.cc_edit.specs.Axes.{across, down};
-ghost use Rattle.cc_legal.specs.Carriers.{axis_of};
+ghost use Rattle.cc_legal.specs.SumFilters.{axis_of};
 ghost use Rattle.cc_event.specs.Frames.{active_page};
 ghost use Rattle.cc_event.specs.Scrolls as spec;
 ghost use Rattle.cc_edit.specs.Wheels as wheels;
@@ -20,7 +20,7 @@ use crate::due::{input_now, next_input};
 use crate::hits::target;
 use crate::rows::same_moves;
 use crate::standing::{Stage, accepted};
-use crate::stock::Stock;
+use crate::past_state::PastState;
 use crate::wheels::{wheel_parts, wheel_rest};
 use cc_edit::LayerTree;
 use cc_event::{Entry, Input, Moves, Script};
@@ -47,8 +47,8 @@ fn is_accepted(
     requires { IsLegalPast script.now past.now }
     ensures { IfOk result (λ yes. Decides yes ((spec.accepted script.now past.now scroller across asked.0 ≡ given.0) × (spec.accepted script.now past.now scroller down asked.1 ≡ given.1))) }
 {
-    let stock = Stock::of(alloc, script, past)?;
-    let pages = stock.pages();
+    let state = PastState::of(alloc, script, past)?;
+    let pages = state.pages();
     let x = accepted(script, past, pages, scroller, Axis::Across, asked.0);
     let y = accepted(script, past, pages, scroller, Axis::Down, asked.1);
     Ok(is_same(x, given.0) && is_same(y, given.1))
@@ -158,9 +158,9 @@ fn does_wheel(
     requires screen { IsOnScreen at.x at.y }
     ensures { IfOk result (λ yes. Decides yes (WheelIs (active_page script.now past.now) (spec.active_offsets script.now past.now) at asked.0 asked.1 layer rest.0 rest.1 moves.now)) }
 {
-    let stock = Stock::of(alloc, script, past)?;
-    let page = stock.page(Stage::Active);
-    let offsets = stock.offsets(Stage::Active);
+    let state = PastState::of(alloc, script, past)?;
+    let page = state.page(Stage::Active);
+    let offsets = state.offsets(Stage::Active);
     let does = does_on_page(alloc, page, offsets, at, asked, layer, rest, moves)?;
     Ok(does)
 }

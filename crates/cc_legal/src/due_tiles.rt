@@ -6,7 +6,7 @@ ghost use Rattle.cc_sched.specs.declared.kind.Kind.TheVariants as kind;
 ghost use Rattle.cc_event.specs.declared.event.Event.TheVariants as event;
 ghost use Rattle.cc_event.specs.Due as spec;
 ghost use Rattle.cc_event.specs.Due.{due};
-ghost use Rattle.cc_event.specs.Matters.{activates};
+ghost use Rattle.cc_event.specs.EventFields.{activates};
 ghost use Rattle.cc_event.specs.Tiles as tiles;
 ghost use Rattle.cc_legal.specs.Judge.{IsFirst};
 ghost use Rattle.cc_legal.specs.Pagings.{IsLegalPast};
@@ -14,9 +14,9 @@ ghost use Rattle.cc_legal.specs.Pagings.{IsLegalPast};
 use crate::choice::{evicted_for, first};
 use crate::due::{input_now, is_empty, next_input};
 use crate::keys::same_keys;
-use crate::matter::Matter;
+use crate::event_field::EventField;
 use crate::scans::{active, held, names, newest};
-use crate::stock::Stock;
+use crate::past_state::PastState;
 use crate::tiles::TilesAt;
 use cc_event::{Entry, Input, Script};
 use cc_geom::{Keys, TileKey};
@@ -27,8 +27,8 @@ fn required(alloc: Global, script: &Script, past: &[Entry]) -> Result<Vec<TileKe
     requires { IsLegalPast script.now past.now }
     ensures { IfOk result (λ keys. keys.items ≡ tiles.required script.now past.now) }
 {
-    let stock = Stock::of(alloc, script, past)?;
-    let tiles = stock.tiles(alloc)?;
+    let state = PastState::of(alloc, script, past)?;
+    let tiles = state.tiles(alloc)?;
     tiles.required(alloc)
 }
 
@@ -36,7 +36,7 @@ fn required(alloc: Global, script: &Script, past: &[Entry]) -> Result<Vec<TileKe
 fn is_activation(entry: &Entry) -> bool
     ensures { result ≡ is_some (activates entry.now.event) }
 {
-    Matter::Activates.of(&entry.event).is_some()
+    EventField::Activates.of(&entry.event).is_some()
 }
 
 /// What the last activation needed; nothing before the first. An error is want of memory.
@@ -69,8 +69,8 @@ fn is_first(
     requires { IsLegalPast script.now past.now }
     ensures { IfOk result (λ yes. Decides yes (IsFirst script.now past.now key evicted.now)) }
 {
-    let stock = Stock::of(alloc, script, past)?;
-    let at = stock.tiles(alloc)?;
+    let state = PastState::of(alloc, script, past)?;
+    let at = state.tiles(alloc)?;
     let pinned = pinned(alloc, script, past)?;
     match first(alloc, &at, pinned.as_slice())? {
         None => Ok(false),
@@ -112,14 +112,14 @@ pub(crate) fn is_due_draw(
     requires { IsLegalPast script.now past.now }
     ensures { IfOk result (λ yes. Decides yes (due script.now past.now kind.Draw 0 ≡ Some (event.Draw input missing.now))) }
 {
-    if !names(newest(Matter::Begins, past), input) {
+    if !names(newest(EventField::Begins, past), input) {
         return Ok(false);
     }
     if active(past).is_none() {
         return Ok(false);
     }
-    let stock = Stock::of(alloc, script, past)?;
-    let tiles = stock.tiles(alloc)?;
+    let state = PastState::of(alloc, script, past)?;
+    let tiles = state.tiles(alloc)?;
     let keys = tiles.missing(alloc)?;
     Ok(same_keys(keys.as_slice(), missing.as_slice()))
 }
@@ -129,8 +129,8 @@ fn is_settled(alloc: Global, script: &Script, past: &[Entry]) -> Result<bool, Al
     requires { IsLegalPast script.now past.now }
     ensures { IfOk result (λ yes. yes ≡ spec.is_settled script.now past.now) }
 {
-    let stock = Stock::of(alloc, script, past)?;
-    let at = stock.tiles(alloc)?;
+    let state = PastState::of(alloc, script, past)?;
+    let at = state.tiles(alloc)?;
     let pinned = pinned(alloc, script, past)?;
     let first = first(alloc, &at, pinned.as_slice())?;
     let none = is_empty(at.in_flight());

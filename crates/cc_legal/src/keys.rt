@@ -2,7 +2,7 @@
 
 ghost use Rattle.std.specs.Prelude.{◌≡◌, ◌∷◌, ◌++◌, IfOk};
 ghost use Rattle.std.specs.Bool.{Decides};
-ghost use Rattle.cc_event.specs.Matters.{starts, evicts, finishes};
+ghost use Rattle.cc_event.specs.EventFields.{starts, evicts, finishes};
 ghost use Rattle.cc_geom.specs.KeyLists as key_lists;
 ghost use Rattle.cc_event.specs.Tiles as spec;
 

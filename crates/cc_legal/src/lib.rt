@@ -3,34 +3,34 @@
 
 ghost use Rattle.std.specs.Prelude.{◌≡◌, ◌+◌, ◌<◌, Some, IfOk};
 ghost use Rattle.std.specs.Bool.{Decides};
-ghost use Rattle.cc_event.specs.Matters as spec;
+ghost use Rattle.cc_event.specs.EventFields as spec;
 ghost use Rattle.cc_event.specs.Due.{due};
 ghost use Rattle.cc_event.specs.Legal.{Legal, Next};
 ghost use Rattle.cc_legal.specs.Pagings.{IsLegalPast};
 
 mod amounts;
-mod carriers;
 mod choice;
 mod due;
 mod due_frames;
 mod due_inputs;
 mod due_tiles;
+mod event_field;
 mod first;
 mod frame_changes;
 mod hits;
 mod keys;
 mod listing;
-mod matter;
 mod numbers;
 mod offsets;
 mod pages;
+mod past_state;
 mod ranges;
 mod ranks;
 mod rows;
 mod scans;
 mod seen;
 mod standing;
-mod stock;
+mod sum_filter;
 mod sums;
 mod tiles;
 mod tree_keys;
@@ -45,7 +45,7 @@ use due_frames::{is_due_abort, is_due_activate, is_due_ready, is_due_send};
 use due_inputs::{is_due_scroll, is_due_wheel};
 use due_tiles::{is_due_draw, is_due_settle, is_due_start};
 pub use first::first_illegal;
-use matter::kind_of;
+use field::kind_of;
 use scans::{has_ended, sched};
 use std::alloc::{AllocError, Global};
 

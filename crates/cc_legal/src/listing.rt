@@ -2,13 +2,13 @@
 
 ghost use Rattle.std.specs.Prelude.{◌≡◌, ◌^◌, ◌≤ℤ◌, ◌-ℤ◌, neg_ℤ, pos, map, IfOk};
 ghost use Rattle.cc_edit.specs.Axes as axes;
-ghost use Rattle.cc_legal.specs.Carriers.{axis_of};
+ghost use Rattle.cc_legal.specs.SumFilters.{axis_of};
 ghost use Rattle.cc_legal.specs.Pagings.{IsLegalPast, HasPages};
 ghost use Rattle.cc_legal.specs.Rows.{move_in};
 ghost use Rattle.cc_event.specs.Scrolls as spec;
 
 use crate::amounts::Axis;
-use crate::carriers::Carriers;
+use crate::sum_filter::SumFilter;
 use crate::numbers::{scrollers_moved, scrollers_of};
 use crate::rows::{Row, push_moving};
 use crate::standing::{Stage, offset_then, page_in, pending_offset};
@@ -21,8 +21,8 @@ use std::alloc::{AllocError, Global};
 fn unsent(script: &Script, past: &[Entry], scroller: u32) -> Row
     ensures { move_in result ≡ axes.move_of (spec.unsent script.now past.now) scroller }
 {
-    let dx = moved(script, past, Carriers::NotSent, scroller, Axis::Across);
-    let dy = moved(script, past, Carriers::NotSent, scroller, Axis::Down);
+    let dx = moved(script, past, SumFilter::NotSent, scroller, Axis::Across);
+    let dy = moved(script, past, SumFilter::NotSent, scroller, Axis::Down);
     Row { scroller, dx, dy }
 }
 

@@ -3,7 +3,7 @@
 ghost use Rattle.std.specs.Prelude.{◌≡◌, ◌≤◌, nat_lt, length, slice_get, IfOk, OnOk};
 ghost use Rattle.std.specs.List.{prefix_len};
 ghost use Rattle.cc_edit.specs.Axes as axes;
-ghost use Rattle.cc_event.specs.Matters.{moves, scroll_move};
+ghost use Rattle.cc_event.specs.EventFields.{moves, scroll_move};
 ghost use Rattle.cc_event.specs.Scans.{names};
 ghost use Rattle.cc_edit.specs.Scrollers.{scrollers};
 ghost use Rattle.cc_event.specs.Scrolls as spec;

@@ -8,7 +8,7 @@ ghost use Rattle.cc_legal.specs.Stages.{stands_at, offsets_at, offsets_among};
 
 use crate::amounts::Axis;
 use crate::numbers::scrollers_of;
-use crate::standing::{Stage, page_in, stands};
+use crate::standing::{Stage, page_in, offset_along};
 use cc_edit::LayerTree;
 use cc_event::{Entry, Script};
 use cc_geom::Point;
@@ -22,8 +22,8 @@ fn point(script: &Script, past: &[Entry], pages: &[LayerTree], stage: Stage, scr
     ensures value { result ≡ record { x = stands_at stage script.now past.now scroller across; y = stands_at stage script.now past.now scroller down } }
     ensures in_range { IsOffset result }
 {
-    let x = stands(script, past, pages, stage, scroller, Axis::Across);
-    let y = stands(script, past, pages, stage, scroller, Axis::Down);
+    let x = offset_along(script, past, pages, stage, scroller, Axis::Across);
+    let y = offset_along(script, past, pages, stage, scroller, Axis::Down);
     Point { x, y }
 }
 

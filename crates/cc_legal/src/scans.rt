@@ -1,12 +1,12 @@
 //! Looking through a past, which lists the newest entry first.
 
 ghost use Rattle.std.specs.Prelude.{◌≡◌, ◌≤◌, length};
-ghost use Rattle.cc_legal.specs.Judge.{matter_of, IsAllowed};
+ghost use Rattle.cc_legal.specs.Judge.{field_of, IsAllowed};
 ghost use Rattle.cc_event.specs.Scans as spec;
 ghost use Rattle.cc_event.specs.Frames as frames;
 ghost use Rattle.cc_event.specs.Legal as legal;
 
-use crate::matter::{Matter, is_last, kind_of};
+use crate::event_field::{EventField, is_last, kind_of};
 use cc_edit::Move;
 use cc_event::{Entry, Event};
 use cc_geom::TileKey;
@@ -22,13 +22,13 @@ pub(crate) fn names(named: Option<u32>, n: u32) -> bool
     }
 }
 
-/// Whether an event of the past names `n` in this matter.
-pub(crate) fn stands(matter: Matter, past: &[Entry], n: u32) -> bool
-    ensures { result ≡ spec.stands (matter_of matter) past.now n }
+/// Whether an event of the past names `n` in this field.
+pub(crate) fn was_named(field: EventField, past: &[Entry], n: u32) -> bool
+    ensures { result ≡ spec.was_named (field_of field) past.now n }
 {
     let mut rest = past;
     while let Some((entry, older)) = rest.split_first() {
-        if names(matter.of(&entry.event), n) {
+        if names(field.of(&entry.event), n) {
             return true;
         }
         rest = older;
@@ -36,13 +36,13 @@ pub(crate) fn stands(matter: Matter, past: &[Entry], n: u32) -> bool
     false
 }
 
-/// What the newest event that names something in this matter names.
-pub(crate) fn newest(matter: Matter, past: &[Entry]) -> Option<u32>
-    ensures { result ≡ spec.newest (matter_of matter) past.now }
+/// What the newest event that names something in this field names.
+pub(crate) fn newest(field: EventField, past: &[Entry]) -> Option<u32>
+    ensures { result ≡ spec.newest (field_of field) past.now }
 {
     let mut rest = past;
     while let Some((entry, older)) = rest.split_first() {
-        if let Some(n) = matter.of(&entry.event) {
+        if let Some(n) = field.of(&entry.event) {
             return Some(n);
         }
         rest = older;
@@ -50,15 +50,15 @@ pub(crate) fn newest(matter: Matter, past: &[Entry]) -> Option<u32>
     None
 }
 
-/// How many events of the past name something in this matter.
-pub(crate) fn counted(matter: Matter, past: &[Entry]) -> usize
-    ensures value { result ≡ spec.counted (matter_of matter) past.now }
+/// How many events of the past name something in this field.
+pub(crate) fn counted(field: EventField, past: &[Entry]) -> usize
+    ensures value { result ≡ spec.counted (field_of field) past.now }
     ensures within { result ≤ length past.now }
 {
     let mut count = 0;
     let mut rest = past;
     while let Some((entry, older)) = rest.split_first() {
-        if matter.of(&entry.event).is_some() {
+        if field.of(&entry.event).is_some() {
             count += 1;
         }
         rest = older;
@@ -132,8 +132,8 @@ pub(crate) fn sched(past: &[Entry]) -> Sched
 pub(crate) fn has_frame_ended(past: &[Entry], frame: u32) -> bool
     ensures { result ≡ frames.has_frame_ended past.now frame }
 {
-    let committed = stands(Matter::Commits, past, frame);
-    let aborted = stands(Matter::Aborts, past, frame);
+    let committed = was_named(EventField::Commits, past, frame);
+    let aborted = was_named(EventField::Aborts, past, frame);
     committed || aborted
 }
 
@@ -141,7 +141,7 @@ pub(crate) fn has_frame_ended(past: &[Entry], frame: u32) -> bool
 pub(crate) fn active(past: &[Entry]) -> Option<u32>
     ensures { result ≡ frames.active past.now }
 {
-    newest(Matter::Activates, past)
+    newest(EventField::Activates, past)
 }
 
 // The frame, where it was not activated.
@@ -151,7 +151,7 @@ fn unless_activated(past: &[Entry], frame: Option<u32>) -> Option<u32>
     match frame {
         None => None,
         Some(k) => {
-            if stands(Matter::Activates, past, k) {
+            if was_named(EventField::Activates, past, k) {
                 None
             } else {
                 Some(k)
@@ -164,7 +164,7 @@ fn unless_activated(past: &[Entry], frame: Option<u32>) -> Option<u32>
 pub(crate) fn pending(past: &[Entry]) -> Option<u32>
     ensures { result ≡ frames.pending past.now }
 {
-    unless_activated(past, newest(Matter::Commits, past))
+    unless_activated(past, newest(EventField::Commits, past))
 }
 
 /// How many frames there are up to this one.

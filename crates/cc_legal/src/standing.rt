@@ -3,14 +3,14 @@
 ghost use Rattle.std.specs.Prelude.{◌≡◌, ◌<◌, ◌≤◌, ◌^◌, ℕ, ℤ, pos, neg_ℤ, ◌+ℤ◌, ◌≤ℤ◌, length, FitsSigned};
 ghost use Rattle.std.specs.List.{list_any};
 ghost use mir.Syntax.{w128};
-ghost use Rattle.cc_legal.specs.Carriers.{axis_of, settled_with};
+ghost use Rattle.cc_legal.specs.SumFilters.{axis_of, settled_with};
 ghost use Rattle.cc_legal.specs.Pagings.{IsLegalPast, HasPages};
 ghost use Rattle.cc_event.specs.Frames as frames;
 ghost use Rattle.cc_event.specs.Scrolls as spec;
 ghost use Rattle.cc_legal.specs.Stages.{frame_at, page_of, stands_at};
 
 use crate::amounts::Axis;
-use crate::carriers::Carriers;
+use crate::sum_filter::SumFilter;
 use crate::ranges::{clamp_to, most, taken};
 use crate::scans::{active, pending, up_to};
 use crate::sums::{base_of, moved, page_at};
@@ -46,7 +46,7 @@ pub(crate) fn base(
 pub(crate) fn delta(script: &Script, past: &[Entry], scroller: u32, axis: Axis) -> i128
     ensures { result ≡ spec.delta script.now past.now scroller (axis_of axis) }
 {
-    moved(script, past, Carriers::InDelta(None), scroller, axis)
+    moved(script, past, SumFilter::InDelta(None), scroller, axis)
 }
 
 // A sum.
@@ -139,7 +139,7 @@ fn delta_then(script: &Script, past: &[Entry], scroller: u32, axis: Axis) -> i12
     moved(
         script,
         past,
-        Carriers::InDelta(pending(past)),
+        SumFilter::InDelta(pending(past)),
         scroller,
         axis,
     )
@@ -247,7 +247,7 @@ pub(crate) fn pending_offset(
 }
 
 /// Where a scroller stands in a commit, 0 to 2^20.
-pub(crate) fn stands(
+pub(crate) fn offset_along(
     script: &Script,
     past: &[Entry],
     pages: &[LayerTree],

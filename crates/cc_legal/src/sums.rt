@@ -4,9 +4,9 @@
 
 ghost use Rattle.std.specs.Prelude.{◌≡◌, ◌<◌, ◌≤◌, ◌^◌, ℤ, ◌+ℤ◌, ◌-ℤ◌, ◌≤ℤ◌, neg_ℤ, ◌+◌, None, length, cond, pos, FitsSigned};
 ghost use mir.Syntax.{w128};
-ghost use Rattle.cc_legal.specs.Carriers.{axis_of, counts_in, settled_with};
+ghost use Rattle.cc_legal.specs.SumFilters.{axis_of, counts_in, settled_with};
 ghost use Rattle.cc_legal.specs.Pagings.{ArePages};
-ghost use Rattle.cc_event.specs.Matters.{commits, moves};
+ghost use Rattle.cc_event.specs.EventFields.{commits, moves};
 ghost use Rattle.cc_edit.specs.Axes as axes;
 ghost use Rattle.cc_event.specs.Scans as scans;
 ghost use Rattle.cc_event.specs.Frames as frames;
@@ -14,9 +14,9 @@ ghost use Rattle.cc_edit.specs.Scrollers as scrollers;
 ghost use Rattle.cc_event.specs.Scrolls as spec;
 
 use crate::amounts::{Axis, accepted_amount, amount_in};
-use crate::carriers::{Carriers, carrier_from};
-use crate::matter::Matter;
-use crate::scans::{pulls_of, stands, up_to};
+use crate::sum_filter::{SumFilter, carrier_from};
+use crate::event_field::EventField;
+use crate::scans::{pulls_of, was_named, up_to};
 use cc_edit::LayerTree;
 use cc_event::{Entry, Event, Script};
 
@@ -25,13 +25,13 @@ use cc_event::{Entry, Event, Script};
 fn counted_amount(
     script: &Script,
     past: &[Entry],
-    carriers: Carriers,
+    filter: SumFilter,
     carrier: Option<u32>,
     scroller: u32,
     axis: Axis,
     event: &Event,
 ) -> i128
-    ensures value { result ≡ cond (counts_in carriers past.now carrier) (axes.amount_in scroller (axis_of axis) (moves script.now event.now)) (pos 0) }
+    ensures value { result ≡ cond (counts_in filter past.now carrier) (axes.amount_in scroller (axis_of axis) (moves script.now event.now)) (pos 0) }
     ensures above { neg_ℤ (pos (2 ^ 63)) ≤ℤ result }
     ensures below { result ≤ℤ pos (2 ^ 63) }
 {
@@ -39,7 +39,7 @@ fn counted_amount(
     if amount == 0 {
         return 0;
     }
-    if carriers.count(past, carrier) {
+    if filter.count(past, carrier) {
         amount as i128
     } else {
         0
@@ -50,11 +50,11 @@ fn counted_amount(
 pub(crate) fn moved(
     script: &Script,
     past: &[Entry],
-    carriers: Carriers,
+    filter: SumFilter,
     scroller: u32,
     axis: Axis,
 ) -> i128
-    ensures { result ≡ spec.moved script.now scroller (axis_of axis) (counts_in carriers past.now) None past.now }
+    ensures { result ≡ spec.moved script.now scroller (axis_of axis) (counts_in filter past.now) None past.now }
 {
     let mut sum: i128 = 0;
     let mut carrier = None;
@@ -63,7 +63,7 @@ pub(crate) fn moved(
         sum += counted_amount(
             script,
             past,
-            carriers,
+            filter,
             carrier,
             scroller,
             axis,
@@ -156,11 +156,11 @@ fn committed_move(
 ) -> i128
     requires pages { ArePages script.now past.now pages.now }
     requires within { frame + 1 < length pages.now }
-    ensures value { result ≡ cond (scans.stands commits past.now frame) (frames.main_move script.now (frames.pulls_of past.now) frame scroller (axis_of axis)) (pos 0) }
+    ensures value { result ≡ cond (scans.was_named commits past.now frame) (frames.main_move script.now (frames.pulls_of past.now) frame scroller (axis_of axis)) (pos 0) }
     ensures above { neg_ℤ (pos (2 ^ 64)) ≤ℤ result }
     ensures below { result ≤ℤ pos (2 ^ 64) }
 {
-    if stands(Matter::Commits, past, frame) {
+    if was_named(EventField::Commits, past, frame) {
         main_move(script, past, pages, frame, scroller, axis)
     } else {
         0
@@ -179,7 +179,7 @@ fn main_moves(
     requires pages { ArePages script.now past.now pages.now }
     requires within { n < length pages.now }
     requires few { n ≤ 2 ^ 32 }
-    ensures { result ≡ spec.main_moves script.now (frames.pulls_of past.now) (scans.stands commits past.now) scroller (axis_of axis) n }
+    ensures { result ≡ spec.main_moves script.now (frames.pulls_of past.now) (scans.was_named commits past.now) scroller (axis_of axis) n }
 {
     let mut sum: i128 = 0;
     for k in 0..n {
@@ -204,6 +204,6 @@ pub(crate) fn base_of(
     ensures { result ≡ spec.base_of script.now past.now active (settled_with with past.now) scroller (axis_of axis) }
 {
     let by_main = main_moves(script, past, pages, scroller, axis, up_to(active));
-    let by_scrolls = moved(script, past, Carriers::InBase(with), scroller, axis);
+    let by_scrolls = moved(script, past, SumFilter::InBase(with), scroller, axis);
     by_main + by_scrolls
 }

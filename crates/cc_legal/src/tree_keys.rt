@@ -151,7 +151,7 @@ pub(crate) fn keys_of_tree(
     frames: &[Changes],
 ) -> Result<Vec<TileKey>, AllocError>
     requires { length frames.now ≤ 2 ^ 32 }
-    ensures { IfOk result (λ keys. (s : ScriptModel) (ps : ℕ → List Pull) → page.now ≡ framing.page s ps (length frames.now) → spec.ShowTheSame s ps frames.now → keys.items ≡ page_keys page.now (stamp_in s ps (length frames.now))) }
+    ensures { IfOk result (λ keys. (s : ScriptModel) (ps : ℕ → List Pull) → page.now ≡ framing.page s ps (length frames.now) → spec.HaveSameChanges s ps frames.now → keys.items ≡ page_keys page.now (stamp_in s ps (length frames.now))) }
 {
     page.is_page();
     let layers = page.layers();

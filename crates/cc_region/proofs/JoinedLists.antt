@@ -7,7 +7,7 @@ use Rattle.cc_region.specs.declared.change.LayerChange.{LayerChange}
 use Rattle.std.proofs.lemmas.Bool.Decides.{nat_tests}
 use Rattle.cc_region.specs.Laws.{EachLayerOnce}
 use Rattle.cc_region.specs.Points.{covered}
-use Rattle.cc_region.specs.Lists.{AllAbove, AllBelow, IsRising, IsAboveLast, StartsAbove, change_of, is_listed, is_whole, has_changed, IsJoined, AreJoined, without}
+use Rattle.cc_region.specs.Lists.{AllAbove, AllBelow, IsRising, IsAboveLast, StartsAbove, change_of, is_listed, is_listed_whole, has_changed, IsJoined, AreJoined, without}
 use Rattle.cc_region.proofs.Covering.{or-false, or_assoc}
 
 -- the order
@@ -87,7 +87,7 @@ to_back false false = refl
 pub joined_none : (cs : List LayerChange) → AreJoined cs [] cs
 joined_none cs = record {
   listed = λ n. sym (or-false (is_listed cs n));
-  whole = λ n. sym (or-false (is_whole cs n));
+  whole = λ n. sym (or-false (is_listed_whole cs n));
   points = λ n x y. sym (or-false (has_changed cs n x y));
 }
 
@@ -96,9 +96,9 @@ listed_push : (cs : List LayerChange) (d : LayerChange) (n : ℕ) → is_listed 
 listed_push [] d n = refl
 listed_push (c ∷ cs) d n = ap (λ b. nat_eq c.layer n || b) (listed_push cs d n) ∙ moved_out (nat_eq c.layer n) (is_listed cs n) (is_listed (d ∷ []) n)
 
-whole_push : (cs : List LayerChange) (d : LayerChange) (n : ℕ) → is_whole (cs ++ d ∷ []) n ≡ (is_whole cs n || is_whole (d ∷ []) n)
+whole_push : (cs : List LayerChange) (d : LayerChange) (n : ℕ) → is_listed_whole (cs ++ d ∷ []) n ≡ (is_listed_whole cs n || is_listed_whole (d ∷ []) n)
 whole_push [] d n = refl
-whole_push (c ∷ cs) d n = ap (λ b. (nat_eq c.layer n && c.whole) || b) (whole_push cs d n) ∙ moved_out (nat_eq c.layer n && c.whole) (is_whole cs n) (is_whole (d ∷ []) n)
+whole_push (c ∷ cs) d n = ap (λ b. (nat_eq c.layer n && c.whole) || b) (whole_push cs d n) ∙ moved_out (nat_eq c.layer n && c.whole) (is_listed_whole cs n) (is_listed_whole (d ∷ []) n)
 
 changed_push : (cs : List LayerChange) (d : LayerChange) (n : ℕ) (x y : ℤ) → has_changed (cs ++ d ∷ []) n x y ≡ (has_changed cs n x y || has_changed (d ∷ []) n x y)
 changed_push [] d n x y = refl
@@ -109,7 +109,7 @@ changed_push (c ∷ cs) d n x y =
 pub joined_more : (xs ds bs cs : List LayerChange) (d : LayerChange) → AreJoined xs ds bs → AreJoined bs (d ∷ []) cs → AreJoined xs (ds ++ d ∷ []) cs
 joined_more xs ds bs cs d j k = record {
   listed = λ n. k.listed n ∙ (ap (λ b. b || is_listed (d ∷ []) n) (j.listed n) ∙ (or_assoc (is_listed xs n) (is_listed ds n) (is_listed (d ∷ []) n) ∙ ap (λ b. is_listed xs n || b) (sym (listed_push ds d n))));
-  whole = λ n. k.whole n ∙ (ap (λ b. b || is_whole (d ∷ []) n) (j.whole n) ∙ (or_assoc (is_whole xs n) (is_whole ds n) (is_whole (d ∷ []) n) ∙ ap (λ b. is_whole xs n || b) (sym (whole_push ds d n))));
+  whole = λ n. k.whole n ∙ (ap (λ b. b || is_listed_whole (d ∷ []) n) (j.whole n) ∙ (or_assoc (is_listed_whole xs n) (is_listed_whole ds n) (is_listed_whole (d ∷ []) n) ∙ ap (λ b. is_listed_whole xs n || b) (sym (whole_push ds d n))));
   points = λ n x y. k.points n x y ∙ (ap (λ b. b || has_changed (d ∷ []) n x y) (j.points n x y) ∙ (or_assoc (has_changed xs n x y) (has_changed ds n x y) (has_changed (d ∷ []) n x y) ∙ ap (λ b. has_changed xs n x y || b) (sym (changed_push ds d n x y))));
 }
 
@@ -118,9 +118,9 @@ listed_insert : (xs ys : List LayerChange) (d : LayerChange) (n : ℕ) → is_li
 listed_insert [] ys d n = to_back (is_listed ys n) (nat_eq d.layer n)
 listed_insert (x ∷ xs) ys d n = ap (λ b. nat_eq x.layer n || b) (listed_insert xs ys d n) ∙ moved_out (nat_eq x.layer n) (is_listed (xs ++ ys) n) (is_listed (d ∷ []) n)
 
-whole_insert : (xs ys : List LayerChange) (d : LayerChange) (n : ℕ) → is_whole (xs ++ d ∷ ys) n ≡ (is_whole (xs ++ ys) n || is_whole (d ∷ []) n)
-whole_insert [] ys d n = to_back (is_whole ys n) (nat_eq d.layer n && d.whole)
-whole_insert (x ∷ xs) ys d n = ap (λ b. (nat_eq x.layer n && x.whole) || b) (whole_insert xs ys d n) ∙ moved_out (nat_eq x.layer n && x.whole) (is_whole (xs ++ ys) n) (is_whole (d ∷ []) n)
+whole_insert : (xs ys : List LayerChange) (d : LayerChange) (n : ℕ) → is_listed_whole (xs ++ d ∷ ys) n ≡ (is_listed_whole (xs ++ ys) n || is_listed_whole (d ∷ []) n)
+whole_insert [] ys d n = to_back (is_listed_whole ys n) (nat_eq d.layer n && d.whole)
+whole_insert (x ∷ xs) ys d n = ap (λ b. (nat_eq x.layer n && x.whole) || b) (whole_insert xs ys d n) ∙ moved_out (nat_eq x.layer n && x.whole) (is_listed_whole (xs ++ ys) n) (is_listed_whole (d ∷ []) n)
 
 changed_insert : (xs ys : List LayerChange) (d : LayerChange) (n : ℕ) (x y : ℤ) → has_changed (xs ++ d ∷ ys) n x y ≡ (has_changed (xs ++ ys) n x y || has_changed (d ∷ []) n x y)
 changed_insert [] ys d n x y = to_back (has_changed ys n x y) (nat_eq d.layer n && covered d.region x y)
@@ -152,9 +152,9 @@ listed_replace [] ys c d f j e n = rw (j.layer, ← e) (same_listed (nat_eq c.la
 listed_replace (x ∷ xs) ys c d f j e n = ap (λ b. nat_eq x.layer n || b) (listed_replace xs ys c d f j e n) ∙ moved_out (nat_eq x.layer n) (is_listed (xs ++ c ∷ ys) n) (is_listed (d ∷ []) n)
 
 whole_replace : (xs ys : List LayerChange) (c d f : LayerChange) → IsJoined c d f → c.layer ≡ d.layer → (n : ℕ)
-    → is_whole (xs ++ f ∷ ys) n ≡ (is_whole (xs ++ c ∷ ys) n || is_whole (d ∷ []) n)
-whole_replace [] ys c d f j e n = rw (j.layer, j.whole, ← e) (same_part (nat_eq c.layer n) c.whole d.whole (is_whole ys n))
-whole_replace (x ∷ xs) ys c d f j e n = ap (λ b. (nat_eq x.layer n && x.whole) || b) (whole_replace xs ys c d f j e n) ∙ moved_out (nat_eq x.layer n && x.whole) (is_whole (xs ++ c ∷ ys) n) (is_whole (d ∷ []) n)
+    → is_listed_whole (xs ++ f ∷ ys) n ≡ (is_listed_whole (xs ++ c ∷ ys) n || is_listed_whole (d ∷ []) n)
+whole_replace [] ys c d f j e n = rw (j.layer, j.whole, ← e) (same_part (nat_eq c.layer n) c.whole d.whole (is_listed_whole ys n))
+whole_replace (x ∷ xs) ys c d f j e n = ap (λ b. (nat_eq x.layer n && x.whole) || b) (whole_replace xs ys c d f j e n) ∙ moved_out (nat_eq x.layer n && x.whole) (is_listed_whole (xs ++ c ∷ ys) n) (is_listed_whole (d ∷ []) n)
 
 changed_replace : (xs ys : List LayerChange) (c d f : LayerChange) → IsJoined c d f → c.layer ≡ d.layer → (n : ℕ) (x y : ℤ)
     → has_changed (xs ++ f ∷ ys) n x y ≡ (has_changed (xs ++ c ∷ ys) n x y || has_changed (d ∷ []) n x y)

@@ -45,9 +45,9 @@ is_listed [] n = false
 is_listed (c ∷ cs) n = nat_eq c.layer n || is_listed cs n
 
 -- the layer is listed as changed whole
-abbrev pub is_whole : List LayerChange → ℕ → Bool
-is_whole [] n = false
-is_whole (c ∷ cs) n = (nat_eq c.layer n && c.whole) || is_whole cs n
+abbrev pub is_listed_whole : List LayerChange → ℕ → Bool
+is_listed_whole [] n = false
+is_listed_whole (c ∷ cs) n = (nat_eq c.layer n && c.whole) || is_listed_whole cs n
 
 -- the point is in the region that is listed for the layer
 abbrev pub has_changed : List LayerChange → ℕ → ℤ → ℤ → Bool
@@ -63,7 +63,7 @@ pub record IsJoined (before later after : LayerChange) : Type 0 where
 -- what is changed is what was changed before or later
 pub record AreJoined (before later after : List LayerChange) : Type 0 where
   pub listed : (n : ℕ) → is_listed after n ≡ (is_listed before n || is_listed later n)
-  pub whole : (n : ℕ) → is_whole after n ≡ (is_whole before n || is_whole later n)
+  pub whole : (n : ℕ) → is_listed_whole after n ≡ (is_listed_whole before n || is_listed_whole later n)
   pub points : (n : ℕ) (x y : ℤ) → has_changed after n x y ≡ (has_changed before n x y || has_changed later n x y)
 
 -- the list without a layer

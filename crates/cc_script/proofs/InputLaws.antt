@@ -7,7 +7,7 @@ use Rattle.serde_json.specs.Events.{items_len}
 use Rattle.serde_json.specs.View.{items_of}
 use Rattle.cc_event.specs.declared.input.Input.{Input}
 use Rattle.cc_event.specs.declared.input.Input.TheVariants.{Scroll, Wheel, Draw, Await, Settle}
-use Rattle.cc_event.specs.Ranges.{in_range, is_whole, is_amount, input_in_range, draw_count}
+use Rattle.cc_event.specs.Ranges.{in_range, is_u32, is_amount, input_in_range, draw_count}
 use Rattle.cc_shape.specs.Faults.{fault, or_fault}
 use Rattle.cc_shape.specs.Fields.{object_at, no_more, number_at, int_at}
 use Rattle.cc_shape.proofs.Again.{left, right, both, number_again, int_again}
@@ -56,8 +56,8 @@ await_again : (frames draws frame : ℕ) → input_in_range frames (Await frame)
     → input_at frames draws (await_data frame) ≡ Ok (Await frame)
 unfolding input_at object_at input_op_at input_named await_at await_data no_more number_at frame_number
 await_again frames draws frame all =
-    let h0 = left (is_whole frame) (nat_lt frame frames) all in
-    let h1 : nat_lt frame frames ≡ true = right (is_whole frame) (nat_lt frame frames) all in
+    let h0 = left (is_u32 frame) (nat_lt frame frames) all in
+    let h1 : nat_lt frame frames ≡ true = right (is_u32 frame) (nat_lt frame frames) all in
     rw (number_again 0 4294967295 frame h0) (rw h1 refl)
 
 settle_again : (frames draws : ℕ) → input_at frames draws settle_data ≡ Ok Settle
@@ -137,7 +137,7 @@ frame_number_fits frames n =
 await_fits : (frames draws : ℕ) (d : Data) → draws ≤ 4096 → IfOk (await_at frames d) (Fits frames draws)
 unfolding await_at
 await_fits frames draws d few =
-    then_ok (number_at (codes "frame") 0 4294967295 1 d) _ (λ n. is_whole n ≡ true) _ (number_fits (codes "frame") 0 4294967295 1 d) (λ n h0.
+    then_ok (number_at (codes "frame") 0 4294967295 1 d) _ (λ n. is_u32 n ≡ true) _ (number_fits (codes "frame") 0 4294967295 1 d) (λ n h0.
     then_ok (or_fault 1 (frame_number frames n)) _ (λ m. (m ≡ n) × (nat_lt m frames ≡ true)) _ (or_fault_ok 1 (frame_number frames n) (λ m. (m ≡ n) × (nat_lt m frames ≡ true)) (frame_number_fits frames n)) (λ m h1.
     then_any (no_more 2 d) _ _ (λ u. record { in_range = both _ _ (rw h1.0 h0) h1.1; few = few })))
 

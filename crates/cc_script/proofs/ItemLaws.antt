@@ -7,7 +7,7 @@ use Rattle.cc_pixel.specs.Colours.{Parts, is_colour}
 use Rattle.cc_display.specs.Pictures.{Picture}
 use Rattle.cc_display.specs.declared.item.Item.TheVariants as item
 use Rattle.cc_edit.specs.declared.command.Command.TheVariants.{InsertItem, ReplaceItem}
-use Rattle.cc_event.specs.Ranges.{command_in_range, item_in_range, is_whole, is_rect, is_picture, are_pixels}
+use Rattle.cc_event.specs.Ranges.{command_in_range, item_in_range, is_u32, is_rect, is_picture, are_pixels}
 use Rattle.cc_shape.specs.Hex.{bytes_of, bytes_digits}
 use Rattle.cc_shape.specs.Forms.{colour_form, bytes_form}
 use Rattle.cc_shape.specs.Fields.{object_at, no_more, number_at, whole_at, rect_at}
@@ -40,7 +40,7 @@ unfolding pixels_form bytes_form bytes_data
 pixels_again rect bytes h = rw (bytes_again bytes (picture_pixels rect bytes h)) (rw h refl)
 
 pub insert_rect_again : (version layer place : ℕ) (rect : Rect) (colour : Parts)
-    → (is_whole layer && is_whole place && (is_rect rect && is_colour colour)) ≡ true
+    → (is_u32 layer && is_u32 place && (is_rect rect && is_colour colour)) ≡ true
     → command_at version (rect_item_data (codes "insert_item") layer place rect colour) ≡ Ok (InsertItem layer place (item.Rect rect colour))
 unfolding command_at object_at op_at op_named layer_op_named insert_item_at rect_item_data no_more number_at whole_at rect_at paint_at
 insert_rect_again version layer place rect colour all =
@@ -55,7 +55,7 @@ insert_rect_again version layer place rect colour all =
     (rw (colour_again colour h3) refl)))
 
 pub insert_bitmap_again : (version layer place : ℕ) (picture : Picture)
-    → (is_whole layer && is_whole place && (is_rect picture.rect && is_picture picture.rect picture.pixels)) ≡ true
+    → (is_u32 layer && is_u32 place && (is_rect picture.rect && is_picture picture.rect picture.pixels)) ≡ true
     → command_at version (bitmap_data (codes "insert_item") layer place picture) ≡ Ok (InsertItem layer place (item.Bitmap picture))
 unfolding command_at object_at op_at op_named layer_op_named insert_item_at bitmap_data no_more number_at whole_at rect_at paint_at
 insert_bitmap_again version layer place picture all =
@@ -70,7 +70,7 @@ insert_bitmap_again version layer place picture all =
     (rw (pixels_again picture.rect picture.pixels h3) refl)))
 
 pub replace_rect_again : (version layer place : ℕ) (rect : Rect) (colour : Parts)
-    → (is_whole layer && is_whole place && (is_rect rect && is_colour colour)) ≡ true
+    → (is_u32 layer && is_u32 place && (is_rect rect && is_colour colour)) ≡ true
     → command_at version (rect_item_data (codes "replace_item") layer place rect colour) ≡ Ok (ReplaceItem layer place (item.Rect rect colour))
 unfolding command_at object_at op_at op_named layer_op_named replace_item_at rect_item_data no_more number_at whole_at rect_at paint_at
 replace_rect_again version layer place rect colour all =
@@ -85,7 +85,7 @@ replace_rect_again version layer place rect colour all =
     (rw (colour_again colour h3) refl)))
 
 pub replace_bitmap_again : (version layer place : ℕ) (picture : Picture)
-    → (is_whole layer && is_whole place && (is_rect picture.rect && is_picture picture.rect picture.pixels)) ≡ true
+    → (is_u32 layer && is_u32 place && (is_rect picture.rect && is_picture picture.rect picture.pixels)) ≡ true
     → command_at version (bitmap_data (codes "replace_item") layer place picture) ≡ Ok (ReplaceItem layer place (item.Bitmap picture))
 unfolding command_at object_at op_at op_named layer_op_named replace_item_at bitmap_data no_more number_at whole_at rect_at paint_at
 replace_bitmap_again version layer place picture all =
@@ -124,8 +124,8 @@ paint_fits rect field d hr = or_fault_ok field (paint_of rect (get (codes "colou
 pub insert_item_fits : (version : ℕ) (d : Data) → IfOk (insert_item_at d) (λ c. command_in_range version c ≡ true)
 unfolding insert_item_at
 insert_item_fits version d =
-    then_ok (whole_at (codes "layer") 1 d) _ (λ x. is_whole x ≡ true) _ (whole_fits (codes "layer") 1 d) (λ layer h0.
-    then_ok (whole_at (codes "at") 2 d) _ (λ x. is_whole x ≡ true) _ (whole_fits (codes "at") 2 d) (λ place h1.
+    then_ok (whole_at (codes "layer") 1 d) _ (λ x. is_u32 x ≡ true) _ (whole_fits (codes "layer") 1 d) (λ layer h0.
+    then_ok (whole_at (codes "at") 2 d) _ (λ x. is_u32 x ≡ true) _ (whole_fits (codes "at") 2 d) (λ place h1.
     then_ok (rect_at (codes "rect") 3 d) _ (λ x. is_rect x ≡ true) _ (rect_fits (codes "rect") 3 d) (λ rect h2.
     then_ok (paint_at rect 4 d) _ (λ i. item_in_range i ≡ true) _ (paint_fits rect 4 d h2) (λ i h3.
     then_any (no_more 5 d) _ _ (λ u. both _ _ (both _ _ h0 h1) h3)))))
@@ -133,8 +133,8 @@ insert_item_fits version d =
 pub replace_item_fits : (version : ℕ) (d : Data) → IfOk (replace_item_at d) (λ c. command_in_range version c ≡ true)
 unfolding replace_item_at
 replace_item_fits version d =
-    then_ok (whole_at (codes "layer") 1 d) _ (λ x. is_whole x ≡ true) _ (whole_fits (codes "layer") 1 d) (λ layer h0.
-    then_ok (whole_at (codes "at") 2 d) _ (λ x. is_whole x ≡ true) _ (whole_fits (codes "at") 2 d) (λ place h1.
+    then_ok (whole_at (codes "layer") 1 d) _ (λ x. is_u32 x ≡ true) _ (whole_fits (codes "layer") 1 d) (λ layer h0.
+    then_ok (whole_at (codes "at") 2 d) _ (λ x. is_u32 x ≡ true) _ (whole_fits (codes "at") 2 d) (λ place h1.
     then_ok (rect_at (codes "rect") 3 d) _ (λ x. is_rect x ≡ true) _ (rect_fits (codes "rect") 3 d) (λ rect h2.
     then_ok (paint_at rect 4 d) _ (λ i. item_in_range i ≡ true) _ (paint_fits rect 4 d h2) (λ i h3.
     then_any (no_more 5 d) _ _ (λ u. both _ _ (both _ _ h0 h1) h3)))))

@@ -3,7 +3,7 @@ use Rattle.std.proofs.Common.{◌≡◌, ℕ, true, ◌==◌, Ok, IfOk, codes, r
 use Rattle.serde_json.specs.Data.{Data}
 use Rattle.cc_pixel.specs.Colours.{Parts, is_colour}
 use Rattle.cc_edit.specs.declared.command.Command.TheVariants.{AddLayer, RemoveLayer, ResizeLayer, SetColour, RemoveItem, MoveLayer, SetView}
-use Rattle.cc_event.specs.Ranges.{command_in_range, is_whole}
+use Rattle.cc_event.specs.Ranges.{command_in_range, is_u32}
 use Rattle.cc_shape.specs.Fields.{object_at, no_more, colour_at, number_at, whole_at}
 use Rattle.cc_shape.proofs.Again.{left, right, both, colour_again, number_again}
 use Rattle.cc_shape.proofs.Fits.{then_ok, then_any, colour_fits, whole_fits}
@@ -36,13 +36,13 @@ add_layer_again version id at transform clip effect w h colour all =
 pub add_layer_fits : (version : ℕ) → (d : Data) → IfOk (add_layer_at d) (λ c. command_in_range version c ≡ true)
 unfolding add_layer_at
 add_layer_fits version d =
-    then_ok (whole_at (codes "id") 1 d) _ (λ x. is_whole x ≡ true) _ (whole_fits (codes "id") 1 d) (λ id h0.
-    then_ok (whole_at (codes "at") 2 d) _ (λ x. is_whole x ≡ true) _ (whole_fits (codes "at") 2 d) (λ at h1.
-    then_ok (whole_at (codes "transform") 3 d) _ (λ x. is_whole x ≡ true) _ (whole_fits (codes "transform") 3 d) (λ transform h2.
-    then_ok (whole_at (codes "clip") 4 d) _ (λ x. is_whole x ≡ true) _ (whole_fits (codes "clip") 4 d) (λ clip h3.
-    then_ok (whole_at (codes "effect") 5 d) _ (λ x. is_whole x ≡ true) _ (whole_fits (codes "effect") 5 d) (λ effect h4.
-    then_ok (whole_at (codes "w") 6 d) _ (λ x. is_whole x ≡ true) _ (whole_fits (codes "w") 6 d) (λ w h5.
-    then_ok (whole_at (codes "h") 7 d) _ (λ x. is_whole x ≡ true) _ (whole_fits (codes "h") 7 d) (λ h h6.
+    then_ok (whole_at (codes "id") 1 d) _ (λ x. is_u32 x ≡ true) _ (whole_fits (codes "id") 1 d) (λ id h0.
+    then_ok (whole_at (codes "at") 2 d) _ (λ x. is_u32 x ≡ true) _ (whole_fits (codes "at") 2 d) (λ at h1.
+    then_ok (whole_at (codes "transform") 3 d) _ (λ x. is_u32 x ≡ true) _ (whole_fits (codes "transform") 3 d) (λ transform h2.
+    then_ok (whole_at (codes "clip") 4 d) _ (λ x. is_u32 x ≡ true) _ (whole_fits (codes "clip") 4 d) (λ clip h3.
+    then_ok (whole_at (codes "effect") 5 d) _ (λ x. is_u32 x ≡ true) _ (whole_fits (codes "effect") 5 d) (λ effect h4.
+    then_ok (whole_at (codes "w") 6 d) _ (λ x. is_u32 x ≡ true) _ (whole_fits (codes "w") 6 d) (λ w h5.
+    then_ok (whole_at (codes "h") 7 d) _ (λ x. is_u32 x ≡ true) _ (whole_fits (codes "h") 7 d) (λ h h6.
     then_ok (colour_at (codes "colour") 8 d) _ (λ x. is_colour x ≡ true) _ (colour_fits (codes "colour") 8 d) (λ colour h7.
     then_any (no_more 9 d) _ _ (λ u. (both _ _ (both _ _ (both _ _ (both _ _ (both _ _ (both _ _ (both _ _ h0 h1) h2) h3) h4) h5) h6) h7))))))))))
 
@@ -55,7 +55,7 @@ remove_layer_again version id all =
 pub remove_layer_fits : (version : ℕ) → (d : Data) → IfOk (remove_layer_at d) (λ c. command_in_range version c ≡ true)
 unfolding remove_layer_at
 remove_layer_fits version d =
-    then_ok (whole_at (codes "id") 1 d) _ (λ x. is_whole x ≡ true) _ (whole_fits (codes "id") 1 d) (λ id h0.
+    then_ok (whole_at (codes "id") 1 d) _ (λ x. is_u32 x ≡ true) _ (whole_fits (codes "id") 1 d) (λ id h0.
     then_any (no_more 2 d) _ _ (λ u. h0))
 
 pub resize_layer_again : (version : ℕ) (id : ℕ) (w : ℕ) (h : ℕ) → command_in_range version (ResizeLayer id w h) ≡ true
@@ -72,9 +72,9 @@ resize_layer_again version id w h all =
 pub resize_layer_fits : (version : ℕ) → (d : Data) → IfOk (resize_layer_at d) (λ c. command_in_range version c ≡ true)
 unfolding resize_layer_at
 resize_layer_fits version d =
-    then_ok (whole_at (codes "id") 1 d) _ (λ x. is_whole x ≡ true) _ (whole_fits (codes "id") 1 d) (λ id h0.
-    then_ok (whole_at (codes "w") 2 d) _ (λ x. is_whole x ≡ true) _ (whole_fits (codes "w") 2 d) (λ w h1.
-    then_ok (whole_at (codes "h") 3 d) _ (λ x. is_whole x ≡ true) _ (whole_fits (codes "h") 3 d) (λ h h2.
+    then_ok (whole_at (codes "id") 1 d) _ (λ x. is_u32 x ≡ true) _ (whole_fits (codes "id") 1 d) (λ id h0.
+    then_ok (whole_at (codes "w") 2 d) _ (λ x. is_u32 x ≡ true) _ (whole_fits (codes "w") 2 d) (λ w h1.
+    then_ok (whole_at (codes "h") 3 d) _ (λ x. is_u32 x ≡ true) _ (whole_fits (codes "h") 3 d) (λ h h2.
     then_any (no_more 4 d) _ _ (λ u. (both _ _ (both _ _ h0 h1) h2)))))
 
 pub set_colour_again : (version : ℕ) (id : ℕ) (colour : Parts) → command_in_range version (SetColour id colour) ≡ true
@@ -89,7 +89,7 @@ set_colour_again version id colour all =
 pub set_colour_fits : (version : ℕ) → (d : Data) → IfOk (set_colour_at d) (λ c. command_in_range version c ≡ true)
 unfolding set_colour_at
 set_colour_fits version d =
-    then_ok (whole_at (codes "id") 1 d) _ (λ x. is_whole x ≡ true) _ (whole_fits (codes "id") 1 d) (λ id h0.
+    then_ok (whole_at (codes "id") 1 d) _ (λ x. is_u32 x ≡ true) _ (whole_fits (codes "id") 1 d) (λ id h0.
     then_ok (colour_at (codes "colour") 2 d) _ (λ x. is_colour x ≡ true) _ (colour_fits (codes "colour") 2 d) (λ colour h1.
     then_any (no_more 3 d) _ _ (λ u. (both _ _ h0 h1))))
 
@@ -105,8 +105,8 @@ remove_item_again version layer at all =
 pub remove_item_fits : (version : ℕ) → (d : Data) → IfOk (remove_item_at d) (λ c. command_in_range version c ≡ true)
 unfolding remove_item_at
 remove_item_fits version d =
-    then_ok (whole_at (codes "layer") 1 d) _ (λ x. is_whole x ≡ true) _ (whole_fits (codes "layer") 1 d) (λ layer h0.
-    then_ok (whole_at (codes "at") 2 d) _ (λ x. is_whole x ≡ true) _ (whole_fits (codes "at") 2 d) (λ at h1.
+    then_ok (whole_at (codes "layer") 1 d) _ (λ x. is_u32 x ≡ true) _ (whole_fits (codes "layer") 1 d) (λ layer h0.
+    then_ok (whole_at (codes "at") 2 d) _ (λ x. is_u32 x ≡ true) _ (whole_fits (codes "at") 2 d) (λ at h1.
     then_any (no_more 3 d) _ _ (λ u. (both _ _ h0 h1))))
 
 pub move_layer_again : (version : ℕ) (id : ℕ) (at : ℕ) → command_in_range version (MoveLayer id at) ≡ true
@@ -121,8 +121,8 @@ move_layer_again version id at all =
 pub move_layer_fits : (version : ℕ) → (d : Data) → IfOk (move_layer_at d) (λ c. command_in_range version c ≡ true)
 unfolding move_layer_at
 move_layer_fits version d =
-    then_ok (whole_at (codes "id") 1 d) _ (λ x. is_whole x ≡ true) _ (whole_fits (codes "id") 1 d) (λ id h0.
-    then_ok (whole_at (codes "at") 2 d) _ (λ x. is_whole x ≡ true) _ (whole_fits (codes "at") 2 d) (λ at h1.
+    then_ok (whole_at (codes "id") 1 d) _ (λ x. is_u32 x ≡ true) _ (whole_fits (codes "id") 1 d) (λ id h0.
+    then_ok (whole_at (codes "at") 2 d) _ (λ x. is_u32 x ≡ true) _ (whole_fits (codes "at") 2 d) (λ at h1.
     then_any (no_more 3 d) _ _ (λ u. (both _ _ h0 h1))))
 
 pub set_view_again : (version : ℕ) (w : ℕ) (h : ℕ) (tile : ℕ) → command_in_range version (SetView w h tile) ≡ true
@@ -133,7 +133,7 @@ set_view_again version w h tile all =
     let h1 = right _ _ (left _ _ all) in
     let h2 = right _ _ all in
     let first_two = left _ _ (left _ _ all) in
-    let is_two : (version == 2) ≡ true = left (version == 2) (is_whole w) first_two in
+    let is_two : (version == 2) ≡ true = left (version == 2) (is_u32 w) first_two in
     rw is_two
     (rw (number_again 0 4294967295 w h0)
     (rw (number_again 0 4294967295 h h1)
@@ -142,7 +142,7 @@ set_view_again version w h tile all =
 pub set_view_fits : (version : ℕ) → (version == 2) ≡ true → (d : Data) → IfOk (set_view_at d) (λ c. command_in_range version c ≡ true)
 unfolding set_view_at
 set_view_fits version is_two d =
-    then_ok (whole_at (codes "w") 1 d) _ (λ x. is_whole x ≡ true) _ (whole_fits (codes "w") 1 d) (λ w h0.
-    then_ok (whole_at (codes "h") 2 d) _ (λ x. is_whole x ≡ true) _ (whole_fits (codes "h") 2 d) (λ h h1.
-    then_ok (whole_at (codes "tile") 3 d) _ (λ x. is_whole x ≡ true) _ (whole_fits (codes "tile") 3 d) (λ tile h2.
+    then_ok (whole_at (codes "w") 1 d) _ (λ x. is_u32 x ≡ true) _ (whole_fits (codes "w") 1 d) (λ w h0.
+    then_ok (whole_at (codes "h") 2 d) _ (λ x. is_u32 x ≡ true) _ (whole_fits (codes "h") 2 d) (λ h h1.
+    then_ok (whole_at (codes "tile") 3 d) _ (λ x. is_u32 x ≡ true) _ (whole_fits (codes "tile") 3 d) (λ tile h2.
     then_any (no_more 4 d) _ _ (λ u. (both _ _ (both _ _ (both _ _ is_two h0) h1) h2)))))

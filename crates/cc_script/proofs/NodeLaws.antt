@@ -3,7 +3,7 @@ use Rattle.std.proofs.Common.{◌≡◌, ℕ, ℤ, true, Ok, IfOk, codes, refl}
 use Rattle.serde_json.specs.Data.{Data}
 use Rattle.cc_geom.specs.declared.rect.Rect.{Rect}
 use Rattle.cc_edit.specs.declared.command.Command.TheVariants.{AddTransform, SetTransform, AddClip, SetClip, AddEffect, SetOpacity, AddScroller, SetRange, ScrollBy, ScrollTo}
-use Rattle.cc_event.specs.Ranges.{command_in_range, is_rect, is_signed, is_whole}
+use Rattle.cc_event.specs.Ranges.{command_in_range, is_rect, is_signed, is_u32}
 use Rattle.cc_shape.specs.Fields.{object_at, no_more, int_at, number_at, rect_at, signed_at, whole_at}
 use Rattle.cc_shape.proofs.Again.{left, right, both, number_again, rect_again, signed_again}
 use Rattle.cc_shape.proofs.Fits.{then_ok, then_any, rect_fits, signed_fits, whole_fits}
@@ -30,11 +30,11 @@ add_transform_again version id parent x y scroller all =
 pub add_transform_fits : (version : ℕ) → (d : Data) → IfOk (add_transform_at d) (λ c. command_in_range version c ≡ true)
 unfolding add_transform_at
 add_transform_fits version d =
-    then_ok (whole_at (codes "id") 1 d) _ (λ x. is_whole x ≡ true) _ (whole_fits (codes "id") 1 d) (λ id h0.
-    then_ok (whole_at (codes "parent") 2 d) _ (λ x. is_whole x ≡ true) _ (whole_fits (codes "parent") 2 d) (λ parent h1.
+    then_ok (whole_at (codes "id") 1 d) _ (λ x. is_u32 x ≡ true) _ (whole_fits (codes "id") 1 d) (λ id h0.
+    then_ok (whole_at (codes "parent") 2 d) _ (λ x. is_u32 x ≡ true) _ (whole_fits (codes "parent") 2 d) (λ parent h1.
     then_ok (signed_at (codes "x") 3 d) _ (λ x. is_signed x ≡ true) _ (signed_fits (codes "x") 3 d) (λ x h2.
     then_ok (signed_at (codes "y") 4 d) _ (λ x. is_signed x ≡ true) _ (signed_fits (codes "y") 4 d) (λ y h3.
-    then_ok (whole_at (codes "scroller") 5 d) _ (λ x. is_whole x ≡ true) _ (whole_fits (codes "scroller") 5 d) (λ scroller h4.
+    then_ok (whole_at (codes "scroller") 5 d) _ (λ x. is_u32 x ≡ true) _ (whole_fits (codes "scroller") 5 d) (λ scroller h4.
     then_any (no_more 6 d) _ _ (λ u. (both _ _ (both _ _ (both _ _ (both _ _ h0 h1) h2) h3) h4)))))))
 
 pub set_transform_again : (version : ℕ) (id : ℕ) (x : ℤ) (y : ℤ) → command_in_range version (SetTransform id x y) ≡ true
@@ -51,7 +51,7 @@ set_transform_again version id x y all =
 pub set_transform_fits : (version : ℕ) → (d : Data) → IfOk (set_transform_at d) (λ c. command_in_range version c ≡ true)
 unfolding set_transform_at
 set_transform_fits version d =
-    then_ok (whole_at (codes "id") 1 d) _ (λ x. is_whole x ≡ true) _ (whole_fits (codes "id") 1 d) (λ id h0.
+    then_ok (whole_at (codes "id") 1 d) _ (λ x. is_u32 x ≡ true) _ (whole_fits (codes "id") 1 d) (λ id h0.
     then_ok (signed_at (codes "x") 2 d) _ (λ x. is_signed x ≡ true) _ (signed_fits (codes "x") 2 d) (λ x h1.
     then_ok (signed_at (codes "y") 3 d) _ (λ x. is_signed x ≡ true) _ (signed_fits (codes "y") 3 d) (λ y h2.
     then_any (no_more 4 d) _ _ (λ u. (both _ _ (both _ _ h0 h1) h2)))))
@@ -72,9 +72,9 @@ add_clip_again version id parent transform rect all =
 pub add_clip_fits : (version : ℕ) → (d : Data) → IfOk (add_clip_at d) (λ c. command_in_range version c ≡ true)
 unfolding add_clip_at
 add_clip_fits version d =
-    then_ok (whole_at (codes "id") 1 d) _ (λ x. is_whole x ≡ true) _ (whole_fits (codes "id") 1 d) (λ id h0.
-    then_ok (whole_at (codes "parent") 2 d) _ (λ x. is_whole x ≡ true) _ (whole_fits (codes "parent") 2 d) (λ parent h1.
-    then_ok (whole_at (codes "transform") 3 d) _ (λ x. is_whole x ≡ true) _ (whole_fits (codes "transform") 3 d) (λ transform h2.
+    then_ok (whole_at (codes "id") 1 d) _ (λ x. is_u32 x ≡ true) _ (whole_fits (codes "id") 1 d) (λ id h0.
+    then_ok (whole_at (codes "parent") 2 d) _ (λ x. is_u32 x ≡ true) _ (whole_fits (codes "parent") 2 d) (λ parent h1.
+    then_ok (whole_at (codes "transform") 3 d) _ (λ x. is_u32 x ≡ true) _ (whole_fits (codes "transform") 3 d) (λ transform h2.
     then_ok (rect_at (codes "rect") 4 d) _ (λ x. is_rect x ≡ true) _ (rect_fits (codes "rect") 4 d) (λ rect h3.
     then_any (no_more 5 d) _ _ (λ u. (both _ _ (both _ _ (both _ _ h0 h1) h2) h3))))))
 
@@ -90,7 +90,7 @@ set_clip_again version id rect all =
 pub set_clip_fits : (version : ℕ) → (d : Data) → IfOk (set_clip_at d) (λ c. command_in_range version c ≡ true)
 unfolding set_clip_at
 set_clip_fits version d =
-    then_ok (whole_at (codes "id") 1 d) _ (λ x. is_whole x ≡ true) _ (whole_fits (codes "id") 1 d) (λ id h0.
+    then_ok (whole_at (codes "id") 1 d) _ (λ x. is_u32 x ≡ true) _ (whole_fits (codes "id") 1 d) (λ id h0.
     then_ok (rect_at (codes "rect") 2 d) _ (λ x. is_rect x ≡ true) _ (rect_fits (codes "rect") 2 d) (λ rect h1.
     then_any (no_more 3 d) _ _ (λ u. (both _ _ h0 h1))))
 
@@ -108,9 +108,9 @@ add_effect_again version id parent opacity all =
 pub add_effect_fits : (version : ℕ) → (d : Data) → IfOk (add_effect_at d) (λ c. command_in_range version c ≡ true)
 unfolding add_effect_at
 add_effect_fits version d =
-    then_ok (whole_at (codes "id") 1 d) _ (λ x. is_whole x ≡ true) _ (whole_fits (codes "id") 1 d) (λ id h0.
-    then_ok (whole_at (codes "parent") 2 d) _ (λ x. is_whole x ≡ true) _ (whole_fits (codes "parent") 2 d) (λ parent h1.
-    then_ok (whole_at (codes "opacity") 3 d) _ (λ x. is_whole x ≡ true) _ (whole_fits (codes "opacity") 3 d) (λ opacity h2.
+    then_ok (whole_at (codes "id") 1 d) _ (λ x. is_u32 x ≡ true) _ (whole_fits (codes "id") 1 d) (λ id h0.
+    then_ok (whole_at (codes "parent") 2 d) _ (λ x. is_u32 x ≡ true) _ (whole_fits (codes "parent") 2 d) (λ parent h1.
+    then_ok (whole_at (codes "opacity") 3 d) _ (λ x. is_u32 x ≡ true) _ (whole_fits (codes "opacity") 3 d) (λ opacity h2.
     then_any (no_more 4 d) _ _ (λ u. (both _ _ (both _ _ h0 h1) h2)))))
 
 pub set_opacity_again : (version : ℕ) (id : ℕ) (opacity : ℕ) → command_in_range version (SetOpacity id opacity) ≡ true
@@ -125,8 +125,8 @@ set_opacity_again version id opacity all =
 pub set_opacity_fits : (version : ℕ) → (d : Data) → IfOk (set_opacity_at d) (λ c. command_in_range version c ≡ true)
 unfolding set_opacity_at
 set_opacity_fits version d =
-    then_ok (whole_at (codes "id") 1 d) _ (λ x. is_whole x ≡ true) _ (whole_fits (codes "id") 1 d) (λ id h0.
-    then_ok (whole_at (codes "opacity") 2 d) _ (λ x. is_whole x ≡ true) _ (whole_fits (codes "opacity") 2 d) (λ opacity h1.
+    then_ok (whole_at (codes "id") 1 d) _ (λ x. is_u32 x ≡ true) _ (whole_fits (codes "id") 1 d) (λ id h0.
+    then_ok (whole_at (codes "opacity") 2 d) _ (λ x. is_u32 x ≡ true) _ (whole_fits (codes "opacity") 2 d) (λ opacity h1.
     then_any (no_more 3 d) _ _ (λ u. (both _ _ h0 h1))))
 
 pub add_scroller_again : (version : ℕ) (id : ℕ) (parent : ℕ) (max_x : ℕ) (max_y : ℕ) → command_in_range version (AddScroller id parent max_x max_y) ≡ true
@@ -145,10 +145,10 @@ add_scroller_again version id parent max_x max_y all =
 pub add_scroller_fits : (version : ℕ) → (d : Data) → IfOk (add_scroller_at d) (λ c. command_in_range version c ≡ true)
 unfolding add_scroller_at
 add_scroller_fits version d =
-    then_ok (whole_at (codes "id") 1 d) _ (λ x. is_whole x ≡ true) _ (whole_fits (codes "id") 1 d) (λ id h0.
-    then_ok (whole_at (codes "parent") 2 d) _ (λ x. is_whole x ≡ true) _ (whole_fits (codes "parent") 2 d) (λ parent h1.
-    then_ok (whole_at (codes "max_x") 3 d) _ (λ x. is_whole x ≡ true) _ (whole_fits (codes "max_x") 3 d) (λ max_x h2.
-    then_ok (whole_at (codes "max_y") 4 d) _ (λ x. is_whole x ≡ true) _ (whole_fits (codes "max_y") 4 d) (λ max_y h3.
+    then_ok (whole_at (codes "id") 1 d) _ (λ x. is_u32 x ≡ true) _ (whole_fits (codes "id") 1 d) (λ id h0.
+    then_ok (whole_at (codes "parent") 2 d) _ (λ x. is_u32 x ≡ true) _ (whole_fits (codes "parent") 2 d) (λ parent h1.
+    then_ok (whole_at (codes "max_x") 3 d) _ (λ x. is_u32 x ≡ true) _ (whole_fits (codes "max_x") 3 d) (λ max_x h2.
+    then_ok (whole_at (codes "max_y") 4 d) _ (λ x. is_u32 x ≡ true) _ (whole_fits (codes "max_y") 4 d) (λ max_y h3.
     then_any (no_more 5 d) _ _ (λ u. (both _ _ (both _ _ (both _ _ h0 h1) h2) h3))))))
 
 pub set_range_again : (version : ℕ) (id : ℕ) (max_x : ℕ) (max_y : ℕ) → command_in_range version (SetRange id max_x max_y) ≡ true
@@ -165,9 +165,9 @@ set_range_again version id max_x max_y all =
 pub set_range_fits : (version : ℕ) → (d : Data) → IfOk (set_range_at d) (λ c. command_in_range version c ≡ true)
 unfolding set_range_at
 set_range_fits version d =
-    then_ok (whole_at (codes "id") 1 d) _ (λ x. is_whole x ≡ true) _ (whole_fits (codes "id") 1 d) (λ id h0.
-    then_ok (whole_at (codes "max_x") 2 d) _ (λ x. is_whole x ≡ true) _ (whole_fits (codes "max_x") 2 d) (λ max_x h1.
-    then_ok (whole_at (codes "max_y") 3 d) _ (λ x. is_whole x ≡ true) _ (whole_fits (codes "max_y") 3 d) (λ max_y h2.
+    then_ok (whole_at (codes "id") 1 d) _ (λ x. is_u32 x ≡ true) _ (whole_fits (codes "id") 1 d) (λ id h0.
+    then_ok (whole_at (codes "max_x") 2 d) _ (λ x. is_u32 x ≡ true) _ (whole_fits (codes "max_x") 2 d) (λ max_x h1.
+    then_ok (whole_at (codes "max_y") 3 d) _ (λ x. is_u32 x ≡ true) _ (whole_fits (codes "max_y") 3 d) (λ max_y h2.
     then_any (no_more 4 d) _ _ (λ u. (both _ _ (both _ _ h0 h1) h2)))))
 
 pub scroll_by_again : (version : ℕ) (id : ℕ) (dx : ℤ) (dy : ℤ) → command_in_range version (ScrollBy id dx dy) ≡ true
@@ -184,7 +184,7 @@ scroll_by_again version id dx dy all =
 pub scroll_by_fits : (version : ℕ) → (d : Data) → IfOk (scroll_by_at d) (λ c. command_in_range version c ≡ true)
 unfolding scroll_by_at
 scroll_by_fits version d =
-    then_ok (whole_at (codes "id") 1 d) _ (λ x. is_whole x ≡ true) _ (whole_fits (codes "id") 1 d) (λ id h0.
+    then_ok (whole_at (codes "id") 1 d) _ (λ x. is_u32 x ≡ true) _ (whole_fits (codes "id") 1 d) (λ id h0.
     then_ok (signed_at (codes "dx") 2 d) _ (λ x. is_signed x ≡ true) _ (signed_fits (codes "dx") 2 d) (λ dx h1.
     then_ok (signed_at (codes "dy") 3 d) _ (λ x. is_signed x ≡ true) _ (signed_fits (codes "dy") 3 d) (λ dy h2.
     then_any (no_more 4 d) _ _ (λ u. (both _ _ (both _ _ h0 h1) h2)))))
@@ -203,7 +203,7 @@ scroll_to_again version id x y all =
 pub scroll_to_fits : (version : ℕ) → (d : Data) → IfOk (scroll_to_at d) (λ c. command_in_range version c ≡ true)
 unfolding scroll_to_at
 scroll_to_fits version d =
-    then_ok (whole_at (codes "id") 1 d) _ (λ x. is_whole x ≡ true) _ (whole_fits (codes "id") 1 d) (λ id h0.
-    then_ok (whole_at (codes "x") 2 d) _ (λ x. is_whole x ≡ true) _ (whole_fits (codes "x") 2 d) (λ x h1.
-    then_ok (whole_at (codes "y") 3 d) _ (λ x. is_whole x ≡ true) _ (whole_fits (codes "y") 3 d) (λ y h2.
+    then_ok (whole_at (codes "id") 1 d) _ (λ x. is_u32 x ≡ true) _ (whole_fits (codes "id") 1 d) (λ id h0.
+    then_ok (whole_at (codes "x") 2 d) _ (λ x. is_u32 x ≡ true) _ (whole_fits (codes "x") 2 d) (λ x h1.
+    then_ok (whole_at (codes "y") 3 d) _ (λ x. is_u32 x ≡ true) _ (whole_fits (codes "y") 3 d) (λ y h2.
     then_any (no_more 4 d) _ _ (λ u. (both _ _ (both _ _ h0 h1) h2)))))

@@ -1,6 +1,6 @@
 use Rattle.std.proofs.Common.{refl}
-use Rattle.cc_event.specs.Matters.{settles}
-use Rattle.cc_event.specs.Scans.{stands}
+use Rattle.cc_event.specs.EventFields.{settles}
+use Rattle.cc_event.specs.Scans.{was_named}
 use Rattle.cc_event.proofs.Sums.{offset_is, all_more, moves_part}
 use Rattle.cc_event.proofs.MovesOnce.{one_carrier, pulls_are, moves_once}
 use Rattle.cc_event.proofs.laws_scrolls.scrolls_count_once.Goals as goal
@@ -10,7 +10,7 @@ returns c = record {
   offset = offset_is;
   each_event = all_more;
   one_part = λ settled carrier. refl;
-  both_parts = λ s h sc ax. moves_part s sc ax (stands settles h) h;
+  both_parts = λ s h sc ax. moves_part s sc ax (was_named settles h) h;
   one_send = one_carrier;
   pulls = pulls_are;
   all_moves = moves_once;

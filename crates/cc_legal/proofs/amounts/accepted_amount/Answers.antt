@@ -4,9 +4,9 @@ use Rattle.std.specs.Int.RustNames.{FitsSigned}
 use Rattle.std.proofs.lemmas.Int.{to_z-of_z}
 use mir.Syntax.{w32, w64}
 use Rattle.cc_event.specs.declared.event.Event.{Event}
-use Rattle.cc_event.specs.Matters.{moves}
+use Rattle.cc_event.specs.EventFields.{moves}
 use Rattle.cc_edit.specs.Axes.{amount_in}
-use Rattle.cc_legal.specs.Carriers.{axis_of}
+use Rattle.cc_legal.specs.SumFilters.{axis_of}
 use Rattle.cc_legal.proofs.amounts.accepted_amount.Goals as goal
 
 pub returns-in-Scroll : goal.returns-in-Scroll

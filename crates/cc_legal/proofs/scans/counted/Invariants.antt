@@ -1,12 +1,12 @@
 -- What was counted, and what the rest has, are all.
 use Rattle.std.proofs.Common.{◌≡◌, ◌≤◌, ◌+◌, length}
-use Rattle.cc_legal.specs.Judge.{matter_of}
+use Rattle.cc_legal.specs.Judge.{field_of}
 use Rattle.cc_event.specs.Scans.{counted}
 use Rattle.cc_legal.proofs.scans.counted.Given as goal
 
 abbrev pub invariant-loop-entry : goal.invariant-loop-entry
 invariant-loop-entry l = record {
-  value : l.count + counted (matter_of l.matter) l.rest ≡ counted (matter_of l.matter) l.past;
+  value : l.count + counted (field_of l.field) l.rest ≡ counted (field_of l.field) l.past;
   within : l.count + length l.rest ≤ length l.past;
 }
 

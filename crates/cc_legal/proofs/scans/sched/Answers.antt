@@ -4,7 +4,7 @@ use Rattle.cc_sched.specs.declared.kind.Kind.{Kind}
 use Rattle.cc_sched.specs.Kinds.{may}
 use Rattle.cc_event.specs.declared.history.Entry.{Entry}
 use Rattle.cc_event.specs.Legal.{sched}
-use Rattle.cc_event.specs.Matters.{kind_of}
+use Rattle.cc_event.specs.EventFields.{kind_of}
 use Rattle.cc_legal.proofs.PastSteps.{allowed_at}
 use Rattle.cc_legal.proofs.scans.sched.Goals as goal
 

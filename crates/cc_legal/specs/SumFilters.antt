@@ -3,10 +3,10 @@ use Rattle.std.specs.Prelude.{ℕ, Bool, ◌||◌, List, Option}
 use Rattle.cc_event.specs.declared.history.Entry.{Entry}
 use Rattle.cc_legal.specs.declared.amounts.Axis.{Axis as Direction}
 use Rattle.cc_legal.specs.declared.amounts.Axis.TheVariants as direction
-use Rattle.cc_legal.specs.declared.carriers.Carriers.{Carriers}
-use Rattle.cc_legal.specs.declared.carriers.Carriers.TheVariants as carriers
-use Rattle.cc_event.specs.Matters.{settles}
-use Rattle.cc_event.specs.Scans.{names, stands}
+use Rattle.cc_legal.specs.declared.sum_filter.SumFilter.{SumFilter}
+use Rattle.cc_legal.specs.declared.sum_filter.SumFilter.TheVariants as filter
+use Rattle.cc_event.specs.EventFields.{settles}
+use Rattle.cc_event.specs.Scans.{names, was_named}
 use Rattle.cc_edit.specs.Axes.{Axis, across, down}
 use Rattle.cc_event.specs.Scrolls.{not_sent, in_base, in_delta}
 
@@ -17,10 +17,10 @@ axis_of direction.Down = down
 
 -- the frames that have settled, as if this one had too
 abbrev pub settled_with : Option ℕ → List Entry → ℕ → Bool
-settled_with frame h k = names frame k || stands settles h k
+settled_with frame h k = names frame k || was_named settles h k
 
 -- whether a move with this carrier counts, in a past
-abbrev pub counts_in : Carriers → List Entry → Option ℕ → Bool
-counts_in carriers.NotSent h = not_sent
-counts_in (carriers.InBase frame) h = in_base (settled_with frame h)
-counts_in (carriers.InDelta frame) h = in_delta (settled_with frame h)
+abbrev pub counts_in : SumFilter → List Entry → Option ℕ → Bool
+counts_in filter.NotSent h = not_sent
+counts_in (filter.InBase frame) h = in_base (settled_with frame h)
+counts_in (filter.InDelta frame) h = in_delta (settled_with frame h)

@@ -1,15 +1,15 @@
-//! The matters in which events name a number.
+//! The fields in which events name a number.
 
 ghost use Rattle.std.specs.Prelude.{◌≡◌};
-ghost use Rattle.cc_legal.specs.Judge.{matter_of};
-ghost use Rattle.cc_event.specs.Matters as spec;
+ghost use Rattle.cc_legal.specs.Judge.{field_of};
+ghost use Rattle.cc_event.specs.EventFields as spec;
 
 use cc_event::Event;
 use cc_sched::Kind;
 
-/// A matter in which an event may name a number.
+/// A field in which an event may name a number.
 #[derive(Clone, Copy, PartialEq, Eq, Debug)]
-pub(crate) enum Matter {
+pub(crate) enum EventField {
     /// The frame that is sent.
     Sends,
     /// The frame that is aborted.
@@ -50,19 +50,19 @@ fn uses(event: &Event) -> Option<u32>
     }
 }
 
-impl Matter {
-    /// What an event names in this matter.
+impl EventField {
+    /// What an event names in this field.
     pub(crate) fn of(self, event: &Event) -> Option<u32>
-        ensures { result ≡ matter_of self event.now }
+        ensures { result ≡ field_of self event.now }
     {
         match (self, event) {
-            (Matter::Sends, Event::Send { frame, .. }) => Some(*frame),
-            (Matter::Aborts, Event::Abort { frame }) => Some(*frame),
-            (Matter::Commits, Event::Commit { frame }) => Some(*frame),
-            (Matter::Activates, Event::Activate { frame, .. }) => Some(*frame),
-            (Matter::Settles, event) => settles(event),
-            (Matter::Begins, Event::Begin { input }) => Some(*input),
-            (Matter::Uses, event) => uses(event),
+            (EventField::Sends, Event::Send { frame, .. }) => Some(*frame),
+            (EventField::Aborts, Event::Abort { frame }) => Some(*frame),
+            (EventField::Commits, Event::Commit { frame }) => Some(*frame),
+            (EventField::Activates, Event::Activate { frame, .. }) => Some(*frame),
+            (EventField::Settles, event) => settles(event),
+            (EventField::Begins, Event::Begin { input }) => Some(*input),
+            (EventField::Uses, event) => uses(event),
             _ => None,
         }
     }

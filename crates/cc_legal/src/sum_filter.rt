@@ -2,17 +2,17 @@
 
 ghost use Rattle.std.specs.Prelude.{◌≡◌};
 ghost use Rattle.std.specs.Option.{option_or};
-ghost use Rattle.cc_legal.specs.Carriers.{counts_in, settled_with};
-ghost use Rattle.cc_event.specs.Matters.{sends};
+ghost use Rattle.cc_legal.specs.SumFilters.{counts_in, settled_with};
+ghost use Rattle.cc_event.specs.EventFields.{sends};
 ghost use Rattle.cc_event.specs.Scrolls as scrolls;
 
-use crate::matter::Matter;
-use crate::scans::{names, stands};
+use crate::event_field::EventField;
+use crate::scans::{names, was_named};
 use cc_event::{Entry, Event};
 
 /// Which accepted moves count, by the frame whose `send` carries them.
 #[derive(Clone, Copy, PartialEq, Eq, Debug)]
-pub(crate) enum Carriers {
+pub(crate) enum SumFilter {
     /// Those that no `send` carries yet.
     NotSent,
     /// Those of frames that have settled, or that are this one.
@@ -25,7 +25,7 @@ pub(crate) enum Carriers {
 fn has_settled(past: &[Entry], with: Option<u32>, frame: u32) -> bool
     ensures { result ≡ settled_with with past.now frame }
 {
-    names(with, frame) || stands(Matter::Settles, past, frame)
+    names(with, frame) || was_named(EventField::Settles, past, frame)
 }
 
 // Whether a move with this carrier is in the base.
@@ -38,15 +38,15 @@ fn is_in_base(past: &[Entry], with: Option<u32>, carrier: Option<u32>) -> bool
     }
 }
 
-impl Carriers {
+impl SumFilter {
     /// Whether a move with this carrier counts, in a past.
     pub(crate) fn count(self, past: &[Entry], carrier: Option<u32>) -> bool
         ensures { result ≡ counts_in self past.now carrier }
     {
         match self {
-            Carriers::NotSent => carrier.is_none(),
-            Carriers::InBase(with) => is_in_base(past, with, carrier),
-            Carriers::InDelta(with) => !is_in_base(past, with, carrier),
+            SumFilter::NotSent => carrier.is_none(),
+            SumFilter::InBase(with) => is_in_base(past, with, carrier),
+            SumFilter::InDelta(with) => !is_in_base(past, with, carrier),
         }
     }
 }

@@ -7,12 +7,12 @@ ghost use Rattle.cc_legal.specs.Keyed.{IsOf};
 ghost use Rattle.cc_legal.specs.Pagings.{IsLegalPast, HasPages};
 ghost use Rattle.cc_event.specs.Listed.{AreChanges};
 ghost use Rattle.cc_legal.specs.Stages.{frame_at, page_of};
-ghost use Rattle.cc_legal.specs.Stocks.{tree_of};
+ghost use Rattle.cc_legal.specs.PastStates.{tree_of};
 ghost use Rattle.cc_event.specs.Frames.{up_to};
 
 use crate::frame_changes::all_changes;
 use crate::keys::{in_flight, made};
-use crate::matter::Matter;
+use crate::event_field::EventField;
 use crate::offsets::offsets_of;
 use crate::pages::pages;
 use crate::scans::{active, counted, pending, up_to};
@@ -29,7 +29,7 @@ use std::marker::Model;
 
 /// All that is looked up about a legal past of a script.
 #[derive(Drop)]
-pub(crate) struct Stock<'a> {
+pub(crate) struct PastState<'a> {
     script: &'a Script,
     past: &'a [Entry],
     // page n at place n, up to the page after the frame that was sent last
@@ -42,15 +42,15 @@ pub(crate) struct Stock<'a> {
     in_flight: Vec<TileKey>,
 }
 
-impl<'a> Model for Stock<'a> {
+impl<'a> Model for PastState<'a> {
     ghost use Rattle.cc_legal.specs.Keyed.{At};
-    ghost use Rattle.cc_legal.specs.Stocks.{IsStock};
+    ghost use Rattle.cc_legal.specs.PastStates.{IsPastState};
 
     ghost Value = { At };
 
     ghost view = { λ t. record { script = t.script.now; past = t.past.now } };
 
-    ghost invariant = { λ t. IsStock t.script.now t.past.now t.pages.items t.changes.items t.active_offsets t.pending_offsets t.made.items t.in_flight.items };
+    ghost invariant = { λ t. IsPastState t.script.now t.past.now t.pages.items t.changes.items t.active_offsets t.pending_offsets t.made.items t.in_flight.items };
 }
 
 // The pages up to the one after the frame that was sent last.
@@ -60,17 +60,17 @@ fn all_pages(alloc: Global, script: &Script, past: &[Entry]) -> Result<Vec<Layer
     ensures few { IfOk result (λ pages. length pages.items ≤ 2 ^ 32) }
 {
     script.is_accepted();
-    let pages = pages(alloc, script, past, counted(Matter::Sends, past))?;
+    let pages = pages(alloc, script, past, counted(EventField::Sends, past))?;
     Ok(pages)
 }
 
-impl<'a> Stock<'a> {
+impl<'a> PastState<'a> {
     /// Looks all up. An error is want of memory.
     pub(crate) fn of(
         alloc: Global,
         script: &'a Script,
         past: &'a [Entry],
-    ) -> Result<Stock<'a>, AllocError>
+    ) -> Result<PastState<'a>, AllocError>
         requires { IsLegalPast script.now past.now }
         ensures { IfOk result (λ t. t ≡ record { script = script.now; past = past.now }) }
     {
@@ -80,7 +80,7 @@ impl<'a> Stock<'a> {
         let pending_offsets = offsets_of(alloc, script, past, pages.as_slice(), Stage::Pending)?;
         let made = made(alloc, past)?;
         let in_flight = in_flight(alloc, past)?;
-        Ok(Stock {
+        Ok(PastState {
             script,
             past,
             pages,

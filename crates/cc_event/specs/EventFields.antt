@@ -1,4 +1,4 @@
--- What an event says of each matter: which frame it sends, which tile it starts, and so on.
+-- What an event says in each field: which frame it sends, which tile it starts, and so on.
 use Rattle.std.specs.Prelude.{ℕ, ◌+◌, ◌==◌, ℤ, Bool, true, false, cond, List, [], ◌∷◌, slice_get, Option, Some, None}
 use Rattle.cc_geom.specs.declared.tile.TileKey.{TileKey}
 use Rattle.cc_sched.specs.declared.kind.Kind.{Kind}

@@ -1,8 +1,8 @@
 use Rattle.std.proofs.Common.{sym, subst}
 use Rattle.cc_legal.specs.Keyed.{Keyed, IsOf}
-use Rattle.cc_legal.specs.Stocks.{tree_of}
-use Rattle.cc_legal.proofs.Stocked.{tree_is}
-use Rattle.cc_legal.proofs.stock.Stock.tree.Goals as goal
+use Rattle.cc_legal.specs.PastStates.{tree_of}
+use Rattle.cc_legal.proofs.PastStateFacts.{tree_is}
+use Rattle.cc_legal.proofs.past_state.PastState.tree.Goals as goal
 
 pub returns : goal.returns
 returns c =

@@ -12,17 +12,17 @@ use Rattle.cc_edit.specs.declared.moves.Move.{Move}
 use Rattle.cc_event.specs.declared.history.Entry.{Entry}
 use Rattle.cc_event.specs.Scripts.{ScriptModel}
 use Rattle.cc_event.specs.Accepted.{IsAccepted}
-use Rattle.cc_event.specs.Matters.{sends}
+use Rattle.cc_event.specs.EventFields.{sends}
 use Rattle.cc_event.specs.Scans.{counted}
 use Rattle.cc_event.specs.Stamps.{unchanged, stamp_in}
 use Rattle.cc_event.specs.Frames.{active, pending, pulls_of, up_to, page}
 use Rattle.cc_event.specs.Tiles.{page_keys, required, are_ready}
 use Rattle.cc_legal.specs.Keyed.{IsOf, At}
 use Rattle.cc_legal.specs.Stages.{frame_at, page_of}
-use Rattle.cc_legal.specs.Stocks.{tree_of}
+use Rattle.cc_legal.specs.PastStates.{tree_of}
 use Rattle.cc_legal.specs.Pagings.{IsLegalPast, ArePages, HasPages}
 use Rattle.cc_event.specs.Listed.{IsChangesOf, AreChanges}
-use Rattle.cc_legal.specs.FrameStamps.{ShowTheSame}
+use Rattle.cc_legal.specs.FrameStamps.{HaveSameChanges}
 use Rattle.cc_event.proofs.Course.{Course, course}
 use Rattle.cc_event.proofs.PastFacts.{pending_within}
 use Rattle.cc_event.proofs.RangeBounds.{few_frames, sent_few}
@@ -56,13 +56,13 @@ changes_front s h cs n le are k d lt =
     subst (λ (c : Changed). IsChangesOf s h k c) (sym (get_or-take n cs k d here)) (are k d (omega (arith, here, le)))
 
 -- they show in the same rects
-pub show_the_same : (s : ScriptModel) (h : List Entry) (cs : List Changed) → AreChanges s h cs → ShowTheSame s (pulls_of h) cs
+pub show_the_same : (s : ScriptModel) (h : List Entry) (cs : List Changed) → AreChanges s h cs → HaveSameChanges s (pulls_of h) cs
 show_the_same s h cs are k lt layer r = one_shows s h k (get_or cs k unchanged) layer r (are k unchanged lt)
 
 -- the tree of a commit: its page, its offsets, and the keys by what the frames up to it changed
 pub tree_is : (w : Stage) (s : ScriptModel) (h : List Entry) (p : Page) (o : Offsets) (ks : List TileKey) (cs : List Changed) → p ≡ page_of w s h → offset_at o ≡ (tree_of w s h).offset
     → length cs ≡ up_to (frame_at w h) → AreChanges s h cs
-    → ((t : ScriptModel) (ps : ℕ → List Move) → p ≡ page t ps (length cs) → ShowTheSame t ps cs → ks ≡ page_keys p (stamp_in t ps (length cs)))
+    → ((t : ScriptModel) (ps : ℕ → List Move) → p ≡ page t ps (length cs) → HaveSameChanges t ps cs → ks ≡ page_keys p (stamp_in t ps (length cs)))
     → IsOf (tree_of w s h) (record { page = p; offsets = o; keys = ks })
 tree_is stage.Active s h p o ks cs is at long are keys =
     let here = keys s (pulls_of h) (is ∙ ap (λ (n : ℕ). page s (pulls_of h) n) (sym long)) (show_the_same s h cs are) in

@@ -20,7 +20,7 @@ tree_of stage.Active = active_tree
 tree_of stage.Pending = pending_tree
 
 -- the pages of a legal past, what its frames changed, its two offsets, and the keys that were made and are in flight
-pub record IsStock (s : ScriptModel) (h : List Entry) (ps : List Page) (cs : List Changed) (a p : Offsets) (done started : List TileKey) : Type 0 where
+pub record IsPastState (s : ScriptModel) (h : List Entry) (ps : List Page) (cs : List Changed) (a p : Offsets) (done started : List TileKey) : Type 0 where
   pub legal : IsLegalPast s h
   pub pages : HasPages s h ps
   pub changes : AreChanges s h cs

@@ -1,6 +1,6 @@
 use Rattle.std.proofs.Common.{List, length, sym, ap, ◌∙◌}
 use Rattle.cc_edit.specs.Pages.{Page}
-use Rattle.cc_legal.proofs.stock.Stock.of.Goals as goal
+use Rattle.cc_legal.proofs.past_state.PastState.of.Goals as goal
 
 pub invariant_of-result : goal.invariant_of-result
 invariant_of-result c = record {

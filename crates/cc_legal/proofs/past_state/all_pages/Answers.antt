@@ -1,6 +1,6 @@
 use Rattle.std.proofs.Common.{arith}
-use Rattle.cc_legal.proofs.Stocked.{has_pages, few_sent}
-use Rattle.cc_legal.proofs.stock.all_pages.Goals as goal
+use Rattle.cc_legal.proofs.PastStateFacts.{has_pages, few_sent}
+use Rattle.cc_legal.proofs.past_state.all_pages.Goals as goal
 
 pub pages-requires-clause-few : goal.pages-requires-clause-few
 pages-requires-clause-few c =
