@@ -22,7 +22,8 @@ use Rattle.cc_edit.specs.Pages.{Page, IsView}
 use Rattle.cc_edit.specs.Scrolls.{IsInRange, AreInRange}
 use Rattle.cc_edit.specs.Refusals.{has_layer, takes, test_of, add_effect_test, add_scroller_test, set_range_test, add_layer_test, resize_layer_test, move_layer_test, set_view_test}
 use Rattle.cc_edit.specs.Effects.{after, with_layer, scrolled_to, clamped_in, value_of}
-use Rattle.cc_edit.specs.Outcomes.{StandTogether, may_part}
+use Rattle.cc_edit.specs.Outcomes.{StandTogether}
+use Rattle.cc_edit.specs.inner.Tested.{may_part}
 use Rattle.cc_edit.specs.Sound.{is_used, IsLayer, AreDistinct, IsPage}
 use Rattle.cc_edit.proofs.LayerKeeps.{each-weaker, each-changed, each-without, each-insert, each-moved, length-changed, length-without, length-moved, view-changed, absent-both, distinct-changed, distinct-without, distinct-insert, distinct-moved}
 use Rattle.cc_edit.proofs.Facts.{passed, held, both, is_not, scroll_range_facts, add_effect_facts, view_facts}

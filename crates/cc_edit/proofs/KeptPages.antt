@@ -13,7 +13,8 @@ use Rattle.cc_edit.specs.declared.command.Command.{Command}
 use Rattle.cc_edit.specs.Pages.{Page}
 use Rattle.cc_edit.specs.Refusals.{test_of}
 use Rattle.cc_edit.specs.Effects.{after}
-use Rattle.cc_edit.specs.Outcomes.{may_part, StandTogether, Accepts, Refuses, Tested, Outcome}
+use Rattle.cc_edit.specs.Outcomes.{StandTogether, Accepts, Refuses, Outcome}
+use Rattle.cc_edit.specs.inner.Tested.{may_part, Tested}
 use Rattle.cc_edit.specs.Sound.{IsPage}
 use Rattle.cc_edit.proofs.AfterKeeps.{after-keeps}
 

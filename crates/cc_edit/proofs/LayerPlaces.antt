@@ -4,7 +4,8 @@ use Rattle.std.specs.Prelude.{MatchOption, is_some, IfSome, slice_get, Result, O
 use Rattle.std.specs.List.{position, position_or_len, find, insert, remove}
 use Rattle.std.proofs.lemmas.List.{length-map, map-set, get_or-map}
 use Rattle.cc_edit.specs.declared.layer.Layer.{Layer}
-use Rattle.cc_edit.specs.Layers.{PageLayer, parts_of, has_id, with_items, put_at, moved, StandsAt}
+use Rattle.cc_edit.specs.Layers.{PageLayer, parts_of, has_id, with_items, put_at, moved}
+use Rattle.cc_edit.specs.inner.FoundPlaces.{StandsAt}
 use Rattle.cc_edit.specs.Lists.{changed, without}
 use Rattle.cc_edit.specs.Refusals.{count_in, item_count}
 use Rattle.cc_display.specs.declared.item.Item.{Item}

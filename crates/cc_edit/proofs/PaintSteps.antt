@@ -3,7 +3,8 @@ use Rattle.std.proofs.Common.{ℕ, zero, suc, ◌≡◌, ◌+◌, ◌<◌, ◌�
 use Rattle.std.specs.List.{prefix_len}
 use Rattle.std.proofs.lemmas.Bool.Decides.{nat_tests}
 use Rattle.cc_pixel.specs.Colours.{Parts, blend, scaled, clear}
-use Rattle.cc_edit.specs.Painting.{Items, none, layer, group, folded, inside, after, with_layer, items_at, first_is, lies_in}
+use Rattle.cc_edit.specs.Painting.{Items, none, layer, group, folded, inside, after, with_layer, items_at}
+use Rattle.cc_edit.specs.inner.Runs.{first_is, lies_in}
 
 -- the first of the groups from a depth on, where there is one
 pub first_here : {G : Type 0} (f : G → ℕ) (e depth : ℕ) (gs : List G) (d : G) → depth < length gs → first_is e (drop depth (map f gs)) ≡ (e == f (get_or gs depth d))

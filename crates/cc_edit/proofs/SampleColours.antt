@@ -12,7 +12,7 @@ use Rattle.cc_edit.specs.declared.paint.LayerSample.{LayerSample}
 use Rattle.cc_edit.specs.Layers.{PageLayer}
 use Rattle.cc_edit.specs.Pages.{Page}
 use Rattle.cc_edit.specs.Painting.{Items, folded, items_at, with_layer}
-use Rattle.cc_edit.specs.LayerSamples.{groups_of, colour_of, HaveOpacities}
+use Rattle.cc_edit.specs.inner.LayerSamples.{groups_of, colour_of, HaveOpacities}
 use Rattle.cc_edit.specs.TreePainting.{groups_in, opacity_in, colour_at, paint}
 use Rattle.cc_edit.specs.Paintings.{Placed, Ready, Shows, shown}
 

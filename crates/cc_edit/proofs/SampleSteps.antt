@@ -6,8 +6,9 @@ use Rattle.std.proofs.lemmas.Bool.Decides.{nat_tests}
 use Rattle.cc_pixel.specs.Colours.{Parts, blend, scaled, clear}
 use Rattle.cc_edit.specs.declared.paint.LayerSample.{LayerSample}
 use Rattle.cc_edit.specs.declared.paint.Group.{Group}
-use Rattle.cc_edit.specs.Painting.{folded, items_at, lies_in}
-use Rattle.cc_edit.specs.LayerSamples.{groups_of, colour_of, HaveOpacities}
+use Rattle.cc_edit.specs.Painting.{folded, items_at}
+use Rattle.cc_edit.specs.inner.Runs.{lies_in}
+use Rattle.cc_edit.specs.inner.LayerSamples.{groups_of, colour_of, HaveOpacities}
 use Rattle.cc_edit.proofs.PaintSteps.{first_here, drop_past, group_step, layer_step, run_some}
 
 -- a sample lies in the group that it has at the depth

@@ -1,6 +1,5 @@
 -- A layer as contracts see it, and lists of layers.
-use Rattle.std.specs.Prelude.{ℕ, ◌≡◌, ◌<◌, ◌==◌, Bool, Option, None, Some, List, length, insert, find}
-use Rattle.std.specs.List.{position_or_len}
+use Rattle.std.specs.Prelude.{ℕ, ◌==◌, Bool, Option, None, Some, List, insert, find}
 use Rattle.cc_pixel.specs.Colours.{Parts}
 use Rattle.cc_display.specs.declared.item.Item.{Item}
 use Rattle.cc_edit.specs.declared.layer.Layer.{Layer}
@@ -36,11 +35,6 @@ with_colour c l = record l { colour = c }
 -- a layer with other items
 abbrev pub with_items : (List Item → List Item) → PageLayer → PageLayer
 with_items f l = record l { items = f l.items }
-
--- the first layer with this id stands at this place
-pub record StandsAt (id : ℕ) (layers : List Layer) (place : ℕ) : Type 0 where
-  pub within : place < length layers
-  pub first : place ≡ position_or_len (λ (l : Layer). l.id == id) layers
 
 -- a layer, if there is one, at this place of the others
 abbrev pub put_at : ℕ → Option PageLayer → List PageLayer → List PageLayer

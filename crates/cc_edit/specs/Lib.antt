@@ -1,5 +1,4 @@
 pub mod Painting
-pub mod LayerSamples
 pub mod Tests
 pub mod Lists
 pub mod Layers
@@ -16,3 +15,4 @@ pub mod Paintings
 pub mod Axes
 pub mod Scrollers
 pub mod Wheels
+pub mod inner

@@ -1,5 +1,5 @@
 -- What applying a command promises.
-use Rattle.std.specs.Prelude.{ℤ, ◌≡◌, Bool, true, false, ◌⊎◌, map, List, [], ◌∷◌, Option, None, Some, Result, Ok, Err}
+use Rattle.std.specs.Prelude.{ℤ, ◌≡◌, Bool, ◌⊎◌, map, List, [], ◌∷◌, Option, None, Some, Result, Ok, Err}
 use Rattle.cc_region.specs.declared.change.LayerChange.{LayerChange}
 use Rattle.cc_region.specs.Lists.{Changed}
 use Rattle.cc_region.specs.Points.{covered}
@@ -9,7 +9,6 @@ use Rattle.cc_edit.specs.declared.fault.EditFault.TheVariants as kind
 use Rattle.cc_edit.specs.declared.fault.EditError.{EditError}
 use Rattle.cc_edit.specs.declared.fault.EditError.TheVariants as error
 use Rattle.cc_edit.specs.declared.command.Command.{Command}
-use Rattle.cc_edit.specs.declared.command.Command.TheVariants as command
 use Rattle.cc_edit.specs.Pages.{Page}
 use Rattle.cc_edit.specs.Refusals.{test_of}
 use Rattle.cc_edit.specs.Effects.{Change, after, change_of, retiles}
@@ -37,12 +36,6 @@ pub record Lists (change : Option Change) (tiles : Bool) (c : Changed) : Type 0 
 abbrev pub StandTogether : Page → Type 0
 StandTogether p = AreNested p.props.effects (map (λ l. l.effect) p.layers)
 
--- only these commands may part the layers of an effect
-abbrev pub may_part : Command → Bool
-may_part (command.AddLayer id at transform clip effect w h colour) = true
-may_part (command.MoveLayer id at) = true
-may_part _ = false
-
 -- a page takes a command
 pub record Accepts (p : Page) (c : Command) : Type 0 where
   pub passes : test_of p c ≡ Ok tt
@@ -57,9 +50,3 @@ abbrev pub Outcome : Page → Command → Page → Result Changed EditError → 
 Outcome old c new (Ok changes) = Accepts old c × (new ≡ after old c) × Lists (change_of old c) (retiles old c) changes
 Outcome old c new (Err (error.Refused fault)) = Refuses old c fault × (new ≡ old)
 Outcome old c new (Err (error.Memory e)) = new ≡ old
-
--- the same, but for layers that would not stand together: for the commands that cannot part them
-abbrev pub Tested : Page → Command → Page → Result Changed EditError → Type 0
-Tested old c new (Ok changes) = (test_of old c ≡ Ok tt) × (new ≡ after old c) × Lists (change_of old c) (retiles old c) changes
-Tested old c new (Err (error.Refused fault)) = (test_of old c ≡ Err fault) × (new ≡ old)
-Tested old c new (Err (error.Memory e)) = new ≡ old

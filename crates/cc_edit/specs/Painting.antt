@@ -1,5 +1,5 @@
 -- The painting of one point: layers in order, in nested groups that are blended as one.
-use Rattle.std.specs.Prelude.{ℕ, ◌==◌, Bool, false, cond, List, [], ◌∷◌, drop}
+use Rattle.std.specs.Prelude.{ℕ, ◌==◌, cond, List, [], ◌∷◌, drop}
 use Rattle.cc_pixel.specs.Colours.{Parts, blend, scaled, clear}
 
 -- the items of an effect in order: a layer's colour, or an effect below 255 with its own items
@@ -38,12 +38,3 @@ module _ {A : Type 0} (groups_of : A → List ℕ) (colour_of : A → Parts) whe
   abbrev pub items_at : ℕ → List A → Items
   items_at depth [] = none
   items_at depth (l ∷ more) = with_layer (drop depth (groups_of l)) (colour_of l) (items_at depth more)
-
--- whether this effect is the first of the groups
-abbrev pub first_is : ℕ → List ℕ → Bool
-first_is e [] = false
-first_is e (f ∷ fs) = e == f
-
--- whether a layer that lies in these groups lies in the effect's group at this depth
-abbrev pub lies_in : {A : Type 0} → (A → List ℕ) → ℕ → ℕ → A → Bool
-lies_in groups_of depth e l = first_is e (drop depth (groups_of l))

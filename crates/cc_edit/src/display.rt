@@ -7,7 +7,8 @@ ghost use Rattle.std.specs.Prelude.{◌≡◌, ◌≤◌, ◌<◌, ℕ, length, 
 ghost use Rattle.cc_geom.specs.Covers.{IsSound};
 ghost use Rattle.cc_display.specs.Content.{IsSoundItem};
 ghost use Rattle.cc_edit.specs.Lists.{changed};
-ghost use Rattle.cc_edit.specs.Layers.{parts_of, has_id, with_items, StandsAt};
+ghost use Rattle.cc_edit.specs.Layers.{parts_of, has_id, with_items};
+ghost use Rattle.cc_edit.specs.inner.FoundPlaces.{StandsAt};
 ghost use Rattle.cc_edit.specs.Refusals as refusals;
 ghost use Rattle.cc_edit.specs.Effects as effects;
 

@@ -4,7 +4,8 @@ ghost use Rattle.std.specs.Prelude.{◌≡◌, ◌==◌, ◌<◌, ◌≤◌, ℕ
 ghost use Rattle.std.specs.List.{find, position};
 ghost use Rattle.cc_edit.specs.Lists.{changed, without};
 ghost use Rattle.cc_edit.specs.Refusals as refusals;
-ghost use Rattle.cc_edit.specs.Layers.{parts_of, has_id, with_size, with_colour, moved, StandsAt};
+ghost use Rattle.cc_edit.specs.Layers.{parts_of, has_id, with_size, with_colour, moved};
+ghost use Rattle.cc_edit.specs.inner.FoundPlaces.{StandsAt};
 
 use crate::layer::Layer;
 use cc_pixel::Colour;

@@ -2,8 +2,9 @@
 
 ghost use Rattle.std.specs.Prelude.{◌≡◌, ℕ, ◌≤◌, ◌+◌, All, length, vec_len};
 ghost use Rattle.std.specs.List.{prefix_len};
-ghost use Rattle.cc_edit.specs.Painting.{folded, items_at, lies_in};
-ghost use Rattle.cc_edit.specs.LayerSamples.{groups_of, colour_of, HaveOpacities};
+ghost use Rattle.cc_edit.specs.Painting.{folded, items_at};
+ghost use Rattle.cc_edit.specs.inner.Runs.{lies_in};
+ghost use Rattle.cc_edit.specs.inner.LayerSamples.{groups_of, colour_of, HaveOpacities};
 
 use cc_pixel::Colour;
 

@@ -11,7 +11,7 @@ ghost use Rattle.cc_tree.specs.OffsetMap.{offset_at, AreOffsets};
 ghost use Rattle.cc_tree.specs.Trees.{IsTrees};
 ghost use Rattle.cc_edit.specs.Layers.{parts_of};
 ghost use Rattle.cc_edit.specs.Pages.{Page};
-ghost use Rattle.cc_edit.specs.LayerSamples.{groups_of, colour_of, HaveOpacities};
+ghost use Rattle.cc_edit.specs.inner.LayerSamples.{groups_of, colour_of, HaveOpacities};
 ghost use Rattle.cc_edit.specs.TreePainting.{colour_at, groups_in, opacity_in, paint};
 ghost use Rattle.cc_edit.specs.Paintings.{IsOnScreen, Shows, shown};
 

@@ -13,7 +13,8 @@ use Rattle.cc_event.specs.Scripts.{ScriptModel}
 use Rattle.cc_edit.specs.Axes.{Axis, across, down, amount_in, named_in}
 use Rattle.cc_edit.specs.Scrollers.{scrollers, main_value}
 use Rattle.cc_event.specs.Frames.{is_empty, commands_of, pulled, commanded, page, main_move, moves_main, changes}
-use Rattle.cc_event.specs.Ended.{AreBounded, IsPullOf, is_moved, Tells}
+use Rattle.cc_event.specs.Ended.{AreBounded, Tells}
+use Rattle.cc_event.specs.inner.Ending.{IsPullOf, is_moved}
 use Rattle.cc_event.proofs.BoolFacts.{by_test}
 use Rattle.cc_event.proofs.FrameFacts.{is_named, amount_other, pulled_other}
 

@@ -12,7 +12,8 @@ use Rattle.cc_event.specs.Frames.{pulled, commanded}
 use Rattle.cc_event.specs.Stamps.{changed_by, unchanged}
 use Rattle.cc_event.specs.Judging.{RefusedIn}
 use Rattle.cc_event.specs.SameChanges.{SameChanges}
-use Rattle.cc_event.specs.Ended.{AreBounded, with_next, HasTaken, TookCommand, TookCommands}
+use Rattle.cc_event.specs.Ended.{AreBounded, HasTaken, TookCommands}
+use Rattle.cc_event.specs.inner.Ending.{with_next, TookCommand}
 use Rattle.cc_event.proofs.Leads.{Leads, rest_at, leads_start, leads_on}
 use Rattle.cc_event.proofs.SameLists.{same_changes}
 

@@ -10,7 +10,8 @@ use Rattle.cc_event.specs.Frames.{commanded}
 use Rattle.cc_event.specs.Accepted.{TakesAll, TakesFrames}
 use Rattle.cc_event.specs.declared.script_error.ScriptError.{ScriptError}
 use Rattle.cc_event.specs.declared.script_error.ScriptError.TheVariants.{Command as Refused, Memory}
-use Rattle.cc_event.specs.Judging.{RefusedIn, RefusedAt, framed, AppliedCommand, AppliedFrame, Applied}
+use Rattle.cc_event.specs.Judging.{RefusedIn, RefusedAt, framed}
+use Rattle.cc_event.specs.inner.Applying.{AppliedCommand, AppliedFrame, Applied}
 
 -- the rest of a list from place i on: the element there, and the rest after it
 pub rest_at : {A : Type 0} (xs : List A) (i : ℕ) (x : A) → x ≡ get_or xs i x → i < length xs → drop i xs ≡ x ∷ drop (i + 1) xs

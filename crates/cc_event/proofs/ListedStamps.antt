@@ -22,8 +22,8 @@ use Rattle.cc_event.specs.Scripts.{ScriptModel}
 use Rattle.cc_event.specs.Frames.{commands_of, page, page_before, pulls_of}
 use Rattle.cc_event.specs.Stamps.{changed_by, unchanged, frame_changes, commits_to, place_rect, stamp_in}
 use Rattle.cc_event.specs.SameChanges.{SameChanges}
-use Rattle.cc_event.specs.Ended.{with_next}
-use Rattle.cc_event.specs.Listed.{IsChangesOf, AreChanges, commits_of, IsGridOf}
+use Rattle.cc_event.specs.inner.Ending.{with_next}
+use Rattle.cc_event.specs.inner.Listed.{IsChangesOf, AreChanges, commits_of, IsGridOf}
 use Rattle.cc_event.proofs.BoolFacts.{is_same, is_other}
 use Rattle.cc_event.proofs.FrameKeeps.{rising_command}
 

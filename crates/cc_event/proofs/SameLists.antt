@@ -15,7 +15,7 @@ use Rattle.cc_edit.specs.Effects.{Change, change_of}
 use Rattle.cc_edit.specs.Outcomes.{HoldsOnly}
 use Rattle.cc_event.specs.Stamps.{with_later, alone, with_change, with_some, with_command}
 use Rattle.cc_event.specs.SameChanges.{SameChanges}
-use Rattle.cc_event.specs.Ended.{Noted}
+use Rattle.cc_event.specs.inner.Ending.{Noted}
 
 -- the three questions as tests of one element
 

@@ -1,6 +1,5 @@
 -- What ending a main frame promises.
-use Rattle.std.specs.Prelude.{◌≡◌, ◌⊎◌, ℕ, suc, ◌-ℤ◌, Bool, not, ◌||◌, List, [], ◌∷◌, take, Result, Ok, Err, ⊤}
-use Rattle.std.specs.Ordering.{int_eq}
+use Rattle.std.specs.Prelude.{◌≡◌, ℕ, suc, Bool, List, [], ◌∷◌, take, Result, Ok, Err}
 use Rattle.std.specs.declared.alloc.AllocError.{AllocError}
 use Rattle.cc_region.specs.Lists.{Changed}
 use Rattle.cc_synced.specs.Bounds.{IsBoundedNumber}
@@ -8,36 +7,19 @@ use Rattle.cc_edit.specs.declared.command.Command.{Command}
 use Rattle.cc_edit.specs.declared.fault.EditError.{EditError}
 use Rattle.cc_edit.specs.declared.fault.EditError.TheVariants as error
 use Rattle.cc_edit.specs.Pages.{Page}
-use Rattle.cc_edit.specs.Effects.{after, change_of, retiles}
-use Rattle.cc_edit.specs.Outcomes.{Accepts, Refuses, Lists}
+use Rattle.cc_edit.specs.Effects.{after}
 use Rattle.cc_edit.specs.declared.moves.Move.{Move}
 use Rattle.cc_event.specs.Scripts.{ScriptModel}
-use Rattle.cc_edit.specs.Axes.{across, down, amount_in}
-use Rattle.cc_edit.specs.Scrollers.{main_value}
 use Rattle.cc_event.specs.Frames.{commands_of, page, pulled, commanded, changes}
 use Rattle.cc_event.specs.Accepted.{TakesAll}
 use Rattle.cc_event.specs.Judging.{RefusedIn}
-use Rattle.cc_event.specs.Stamps.{with_command, changed_by, unchanged}
+use Rattle.cc_event.specs.Stamps.{changed_by, unchanged}
 use Rattle.cc_event.specs.SameChanges.{SameChanges}
 
 -- both parts of each pull are below 2^39 in absolute value
 abbrev pub AreBounded : List Move → Type 0
 AreBounded [] = Unit {0}
 AreBounded (m ∷ ms) = IsBoundedNumber m.dx × IsBoundedNumber m.dy × AreBounded ms
-
--- what commands changed, with a command more, which acts on this page
-abbrev pub with_next : Page → Command → Changed → Changed
-with_next p c done = record { list = with_command p c done.list; retiled = done.retiled || retiles p c }
-
--- what a command lists was noted behind what was noted before: where that was right, so is this
-abbrev pub Noted : Command → Changed → Changed → Changed → Type 0
-Noted c listed old new = (p : Page) (done : Changed) → Lists (change_of p c) (retiles p c) listed → SameChanges old done → SameChanges new (with_next p c done)
-
--- a command was applied and noted; or it was refused, and the page is as it was; or memory ran out, before the command was applied or when it was noted
-abbrev pub TookCommand : Page → Command → Changed → Page → Changed → Result ⊤ EditError → Type 0
-TookCommand p c old q new (Ok done) = Accepts p c × (q ≡ after p c) × ((before : Changed) → SameChanges old before → SameChanges new (with_next p c before))
-TookCommand p c old q new (Err (error.Refused fault)) = Refuses p c fault × (q ≡ p)
-TookCommand p c old q new (Err (error.Memory e)) = (q ≡ p) ⊎ (q ≡ after p c)
 
 -- the first n commands were applied to a page, and no more
 abbrev pub HasTaken : Page → List Command → ℕ → Page → Type 0
@@ -66,19 +48,6 @@ pub record EndsFrame (s : ScriptModel) (k : ℕ) (ms : List Move) (p q : Page) (
 abbrev pub TookScriptFrame : ScriptModel → ℕ → List Move → Page → Page → Result Changed AllocError → Type 0
 TookScriptFrame s k ms p q (Ok done) = EndsFrame s k ms p q done
 TookScriptFrame s k ms p q (Err e) = (n : ℕ) × HasTaken (pulled ms p) (commands_of s k) n q
-
--- the move is what the pulls have for a scroller
-pub record IsPullOf (sc : ℕ) (ms : List Move) (m : Move) : Type 0 where
-  pub across : m.dx ≡ amount_in sc across ms
-  pub down : m.dy ≡ amount_in sc down ms
-  pub bounded_across : IsBoundedNumber m.dx
-  pub bounded_down : IsBoundedNumber m.dy
-
--- the main value of a scroller changed by more or less than its pull, where the first page became the second
-abbrev pub is_moved : Page → Page → List Move → ℕ → Bool
-is_moved p q ms sc =
-    not (int_eq (main_value q sc across -ℤ main_value p sc across) (amount_in sc across ms))
-    || not (int_eq (main_value q sc down -ℤ main_value p sc down) (amount_in sc down ms))
 
 -- the answer tells whether this frame changes something, where these are the pages before and after it
 abbrev pub Tells : ScriptModel → ℕ → List Move → Page → Page → Bool → Type 0

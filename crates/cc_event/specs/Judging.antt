@@ -9,7 +9,7 @@ use Rattle.cc_event.specs.declared.script_error.ScriptError.{ScriptError}
 use Rattle.cc_event.specs.declared.script_error.ScriptError.TheVariants as error
 use Rattle.cc_event.specs.Scripts.{ScriptModel}
 use Rattle.cc_event.specs.Frames.{blank, commanded}
-use Rattle.cc_event.specs.Accepted.{TakesAll, TakesFrames, IsAccepted}
+use Rattle.cc_event.specs.Accepted.{TakesAll, IsAccepted}
 
 -- the page takes the commands before place n one after another, and refuses the one there with this fault
 abbrev pub RefusedIn : Page → List Command → ℕ → EditFault → Type 0
@@ -27,24 +27,6 @@ RefusedAt p (f ∷ fs) (suc k) n fault = TakesAll p f × RefusedAt (commanded f 
 abbrev pub framed : List (List Command) → Page → Page
 framed [] p = p
 framed (f ∷ fs) p = framed fs (commanded f p)
-
--- the command at place n of frame k was applied to a page, which took it; or it was refused; or memory ran out
-abbrev pub AppliedCommand : Page → ℕ → ℕ → Command → Page → Result ⊤ ScriptError → Type 0
-AppliedCommand old k n c new (Ok done) = Accepts old c × (new ≡ after old c)
-AppliedCommand old k n c new (Err (error.Command frame command fault)) = (frame ≡ k) × (command ≡ n) × Refuses old c fault
-AppliedCommand old k n c new (Err (error.Memory e)) = ⊤
-
--- the commands of frame k were applied to a page, which took all of them; or this one is the first that was refused; or memory ran out
-abbrev pub AppliedFrame : Page → ℕ → List Command → Page → Result ⊤ ScriptError → Type 0
-AppliedFrame old k commands new (Ok done) = TakesAll old commands × (new ≡ commanded commands old)
-AppliedFrame old k commands new (Err (error.Command frame n fault)) = (frame ≡ k) × RefusedIn old commands n fault
-AppliedFrame old k commands new (Err (error.Memory e)) = ⊤
-
--- the main frames were applied to a page, which took all of them; or this command is the first that was refused; or memory ran out
-abbrev pub Applied : Page → List (List Command) → Page → Result ⊤ ScriptError → Type 0
-Applied old frames new (Ok done) = TakesFrames old frames × (new ≡ framed frames old)
-Applied old frames new (Err (error.Command k n fault)) = RefusedAt old frames k n fault
-Applied old frames new (Err (error.Memory e)) = ⊤
 
 -- what is said of a script whose numbers are in their ranges: it is this one, and accepted; or this command is the first that is refused; or memory ran out
 abbrev pub Judged : ScriptModel → Result ScriptModel ScriptError → Type 0

@@ -23,4 +23,4 @@ pub mod Sharing
 pub mod SameChanges
 pub mod Ended
 pub mod Commits
-pub mod Listed
+pub mod inner

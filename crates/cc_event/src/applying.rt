@@ -1,7 +1,7 @@
 //! Applying main frames to a page, up to the first command that is refused.
 
 ghost use Rattle.std.specs.Prelude.{◌≡◌, ◌≤◌, ◌<◌, ◌^◌, length, map, true};
-ghost use Rattle.cc_event.specs.Judging.{Applied, AppliedCommand, AppliedFrame};
+ghost use Rattle.cc_event.specs.inner.Applying.{Applied, AppliedCommand, AppliedFrame};
 ghost use Rattle.cc_event.specs.Ranges.{are_short};
 
 use crate::script_error::ScriptError;

@@ -7,7 +7,8 @@ ghost use Rattle.cc_synced.specs.Bounds.{IsBoundedNumber};
 ghost use Rattle.cc_edit.specs.Effects.{scrolled_by};
 ghost use Rattle.cc_edit.specs.Axes.{named_in};
 ghost use Rattle.cc_event.specs.Frames.{commands_of, pulled};
-ghost use Rattle.cc_event.specs.Ended.{AreBounded, Noted, TookCommand, TookCommands, TookFrame, StandsBefore, TookScriptFrame, IsPullOf, is_moved, Tells};
+ghost use Rattle.cc_event.specs.Ended.{AreBounded, TookCommands, TookFrame, StandsBefore, TookScriptFrame, Tells};
+ghost use Rattle.cc_event.specs.inner.Ending.{Noted, TookCommand, IsPullOf, is_moved};
 
 use crate::script::Script;
 use cc_edit::{Command, EditError, LayerTree, Move};

@@ -10,7 +10,7 @@ use Rattle.cc_edit.specs.Scrolls.{origin}
 use Rattle.cc_edit.specs.Pages.{Page}
 use Rattle.cc_edit.specs.Axes.{Axis, across, down}
 use Rattle.cc_edit.specs.Scrollers.{scrollers, offsets_in}
-use Rattle.cc_legal.specs.Stages.{offsets_among}
+use Rattle.cc_legal.specs.inner.Stages.{offsets_among}
 use Rattle.cc_event.proofs.MoveLists.{has}
 use Rattle.cc_event.proofs.PageStanding.{has_listed}
 

@@ -3,7 +3,7 @@ use Rattle.std.proofs.Common.{◌≡◌, ℕ, ◌+◌, ◌<◌, ◌≤◌, ℤ, 
 use Rattle.std.proofs.lemmas.List.{drop_all}
 use Rattle.cc_edit.specs.declared.moves.Move.{Move}
 use Rattle.cc_legal.specs.declared.rows.Row.{Row}
-use Rattle.cc_legal.specs.Rows.{move_in}
+use Rattle.cc_legal.specs.inner.Rows.{move_in}
 use Rattle.cc_edit.specs.Axes.{Axis, across, down, is_still}
 use Rattle.cc_edit.specs.Wheels.{chain_parts, chain_rest}
 use Rattle.cc_legal.proofs.JudgeLists.{with_is, pushed}

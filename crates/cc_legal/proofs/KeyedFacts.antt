@@ -20,7 +20,7 @@ use Rattle.cc_visible.specs.Visible.{grid_of, seen, put_layer, by_id, key_at, vi
 use Rattle.cc_geom.specs.KeyLists.{has_key}
 use Rattle.cc_event.specs.Tiles.{Tree, page_keys, keys_of, visible_in}
 use Rattle.cc_event.specs.Ranking.{place_named, borders, rank_on, rank_in}
-use Rattle.cc_legal.specs.Keyed.{Keyed, IsOf, seen_on, seen_at, shows, rank_seen, rank_at}
+use Rattle.cc_legal.specs.inner.Keyed.{Keyed, IsOf, seen_on, seen_at, shows, rank_seen, rank_at}
 use Rattle.cc_event.proofs.BoolFacts.{below, and_both, and_left, and_right, same_number, other_number, is_same, is_other, or_either}
 use Rattle.cc_event.proofs.FindKeys.{has_place, key_on, key_of_page}
 

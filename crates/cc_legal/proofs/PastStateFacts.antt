@@ -17,12 +17,12 @@ use Rattle.cc_event.specs.Scans.{counted}
 use Rattle.cc_event.specs.Stamps.{unchanged, stamp_in}
 use Rattle.cc_event.specs.Frames.{active, pending, pulls_of, up_to, page}
 use Rattle.cc_event.specs.Tiles.{page_keys, required, are_ready}
-use Rattle.cc_legal.specs.Keyed.{IsOf, At}
-use Rattle.cc_legal.specs.Stages.{frame_at, page_of}
-use Rattle.cc_legal.specs.PastStates.{tree_of}
-use Rattle.cc_legal.specs.Pagings.{IsLegalPast, ArePages, HasPages}
-use Rattle.cc_event.specs.Listed.{IsChangesOf, AreChanges}
-use Rattle.cc_legal.specs.FrameStamps.{HaveSameChanges}
+use Rattle.cc_legal.specs.inner.Keyed.{IsOf, At}
+use Rattle.cc_legal.specs.inner.Stages.{frame_at, page_of}
+use Rattle.cc_legal.specs.inner.PastStates.{tree_of}
+use Rattle.cc_legal.specs.inner.Pagings.{IsLegalPast, ArePages, HasPages}
+use Rattle.cc_event.specs.inner.Listed.{IsChangesOf, AreChanges}
+use Rattle.cc_legal.specs.inner.FrameStamps.{HaveSameChanges}
 use Rattle.cc_event.proofs.Course.{Course, course}
 use Rattle.cc_event.proofs.PastFacts.{pending_within}
 use Rattle.cc_event.proofs.RangeBounds.{few_frames, sent_few}

@@ -5,8 +5,8 @@ use Rattle.cc_edit.specs.Pages.{Page}
 use Rattle.cc_event.specs.declared.history.Entry.{Entry}
 use Rattle.cc_event.specs.Scripts.{ScriptModel}
 use Rattle.cc_event.specs.Frames.{page, pulls_of}
-use Rattle.cc_legal.specs.Pagings.{ArePages}
-use Rattle.cc_event.specs.Listed.{IsChangesOf, AreChanges}
+use Rattle.cc_legal.specs.inner.Pagings.{ArePages}
+use Rattle.cc_event.specs.inner.Listed.{IsChangesOf, AreChanges}
 
 -- each element meets what is asked at its place, counted from i on
 abbrev EachFrom : {A : Type 0} → (ℕ → A → Type 0) → ℕ → List A → Type 0

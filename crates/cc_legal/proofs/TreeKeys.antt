@@ -22,7 +22,7 @@ use Rattle.cc_event.specs.Frames.{page}
 use Rattle.cc_visible.specs.Visible.{grid_of, by_id, key_at}
 use Rattle.cc_event.specs.Stamps.{commits_to, place_rect, stamp_in}
 use Rattle.cc_event.specs.Tiles.{page_keys}
-use Rattle.cc_legal.specs.FrameStamps.{HaveSameChanges, commits_in, stamp_on, layer_keys}
+use Rattle.cc_legal.specs.inner.FrameStamps.{HaveSameChanges, commits_in, stamp_on, layer_keys}
 use Rattle.cc_legal.proofs.KeyedFacts.{Each, each_both, each_found, each_by_id}
 
 -- ---- the change of a layer in a list

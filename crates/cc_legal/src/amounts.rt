@@ -1,7 +1,7 @@
 //! What lists of moves and events have for a scroller along an axis.
 
 ghost use Rattle.std.specs.Prelude.{◌≡◌, slice_get};
-ghost use Rattle.cc_legal.specs.SumFilters.{axis_of};
+ghost use Rattle.cc_legal.specs.inner.SumFilters.{axis_of};
 ghost use Rattle.cc_edit.specs.Axes as spec;
 ghost use Rattle.cc_event.specs.EventFields.{scroll_move, moves, sends};
 

@@ -8,7 +8,7 @@ ghost use Rattle.cc_event.specs.Due.{due};
 ghost use Rattle.cc_event.specs.Frames as spec;
 ghost use Rattle.cc_event.specs.Scrolls.{next_clamps};
 ghost use Rattle.cc_event.specs.Tiles as tiles;
-ghost use Rattle.cc_legal.specs.Pagings.{IsLegalPast};
+ghost use Rattle.cc_legal.specs.inner.Pagings.{IsLegalPast};
 
 use crate::due::is_left;
 use crate::listing::{next_clamps, next_pulls};

@@ -6,14 +6,14 @@ ghost use Rattle.cc_sched.specs.declared.kind.Kind.TheVariants as kind;
 ghost use Rattle.cc_event.specs.declared.event.Event.TheVariants as event;
 ghost use Rattle.cc_event.specs.Due.{due};
 ghost use Rattle.cc_edit.specs.Axes.{across, down};
-ghost use Rattle.cc_legal.specs.SumFilters.{axis_of};
+ghost use Rattle.cc_legal.specs.inner.SumFilters.{axis_of};
 ghost use Rattle.cc_event.specs.Frames.{active_page};
 ghost use Rattle.cc_event.specs.Scrolls as spec;
 ghost use Rattle.cc_edit.specs.Wheels as wheels;
 ghost use Rattle.cc_tree.specs.OffsetMap.{offset_at, AreOffsets};
 ghost use Rattle.cc_edit.specs.Paintings.{IsOnScreen};
 ghost use Rattle.cc_legal.specs.Judge.{WheelIs};
-ghost use Rattle.cc_legal.specs.Pagings.{IsLegalPast};
+ghost use Rattle.cc_legal.specs.inner.Pagings.{IsLegalPast};
 
 use crate::amounts::Axis;
 use crate::due::{input_now, next_input};

@@ -9,7 +9,7 @@ ghost use Rattle.cc_event.specs.Due.{due};
 ghost use Rattle.cc_event.specs.EventFields.{activates};
 ghost use Rattle.cc_event.specs.Tiles as tiles;
 ghost use Rattle.cc_legal.specs.Judge.{IsFirst};
-ghost use Rattle.cc_legal.specs.Pagings.{IsLegalPast};
+ghost use Rattle.cc_legal.specs.inner.Pagings.{IsLegalPast};
 
 use crate::choice::{evicted_for, first};
 use crate::due::{input_now, is_empty, next_input};

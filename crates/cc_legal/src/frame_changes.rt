@@ -2,8 +2,8 @@
 
 ghost use Rattle.std.specs.Prelude.{◌≡◌, ◌≤◌, ◌^◌, IfOk, length};
 ghost use Rattle.cc_event.specs.Frames.{page, pulls_of};
-ghost use Rattle.cc_legal.specs.Pagings.{IsLegalPast, ArePages};
-ghost use Rattle.cc_event.specs.Listed.{IsChangesOf, AreChanges};
+ghost use Rattle.cc_legal.specs.inner.Pagings.{IsLegalPast, ArePages};
+ghost use Rattle.cc_event.specs.inner.Listed.{IsChangesOf, AreChanges};
 
 use crate::pages::end_frame;
 use cc_edit::LayerTree;

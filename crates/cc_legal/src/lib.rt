@@ -6,7 +6,7 @@ ghost use Rattle.std.specs.Bool.{Decides};
 ghost use Rattle.cc_event.specs.EventFields as spec;
 ghost use Rattle.cc_event.specs.Due.{due};
 ghost use Rattle.cc_event.specs.Legal.{Legal, Next};
-ghost use Rattle.cc_legal.specs.Pagings.{IsLegalPast};
+ghost use Rattle.cc_legal.specs.inner.Pagings.{IsLegalPast};
 
 mod amounts;
 mod choice;

@@ -2,9 +2,9 @@
 
 ghost use Rattle.std.specs.Prelude.{◌≡◌, ◌^◌, ◌≤ℤ◌, ◌-ℤ◌, neg_ℤ, pos, map, IfOk};
 ghost use Rattle.cc_edit.specs.Axes as axes;
-ghost use Rattle.cc_legal.specs.SumFilters.{axis_of};
-ghost use Rattle.cc_legal.specs.Pagings.{IsLegalPast, HasPages};
-ghost use Rattle.cc_legal.specs.Rows.{move_in};
+ghost use Rattle.cc_legal.specs.inner.SumFilters.{axis_of};
+ghost use Rattle.cc_legal.specs.inner.Pagings.{IsLegalPast, HasPages};
+ghost use Rattle.cc_legal.specs.inner.Rows.{move_in};
 ghost use Rattle.cc_event.specs.Scrolls as spec;
 
 use crate::amounts::Axis;

@@ -3,8 +3,8 @@
 ghost use Rattle.std.specs.Prelude.{◌≡◌, ℕ, IfOk};
 ghost use Rattle.cc_tree.specs.OffsetMap.{offset_at, IsOffset, AreOffsets};
 ghost use Rattle.cc_edit.specs.Axes.{across, down};
-ghost use Rattle.cc_legal.specs.Pagings.{IsLegalPast, HasPages};
-ghost use Rattle.cc_legal.specs.Stages.{stands_at, offsets_at, offsets_among};
+ghost use Rattle.cc_legal.specs.inner.Pagings.{IsLegalPast, HasPages};
+ghost use Rattle.cc_legal.specs.inner.Stages.{stands_at, offsets_at, offsets_among};
 
 use crate::amounts::Axis;
 use crate::numbers::scrollers_of;

@@ -2,8 +2,8 @@
 
 ghost use Rattle.std.specs.Prelude.{◌≡◌, suc, ◌+◌, ◌≤◌, ◌^◌, IfOk, length};
 ghost use Rattle.cc_event.specs.Frames.{page, pulls_of};
-ghost use Rattle.cc_legal.specs.Pagings.{IsLegalPast, ArePages};
-ghost use Rattle.cc_event.specs.Listed.{IsFrameOf};
+ghost use Rattle.cc_legal.specs.inner.Pagings.{IsLegalPast, ArePages};
+ghost use Rattle.cc_event.specs.inner.Listed.{IsFrameOf};
 
 use crate::scans::pulls_of;
 use cc_edit::LayerTree;

@@ -3,11 +3,11 @@
 
 ghost use Rattle.std.specs.Prelude.{◌≡◌, ◌≤◌, ◌^◌, ◌+◌, length, IfOk};
 ghost use Rattle.cc_tree.specs.OffsetMap.{offset_at, AreOffsets};
-ghost use Rattle.cc_legal.specs.Keyed.{IsOf};
-ghost use Rattle.cc_legal.specs.Pagings.{IsLegalPast, HasPages};
-ghost use Rattle.cc_event.specs.Listed.{AreChanges};
-ghost use Rattle.cc_legal.specs.Stages.{frame_at, page_of};
-ghost use Rattle.cc_legal.specs.PastStates.{tree_of};
+ghost use Rattle.cc_legal.specs.inner.Keyed.{IsOf};
+ghost use Rattle.cc_legal.specs.inner.Pagings.{IsLegalPast, HasPages};
+ghost use Rattle.cc_event.specs.inner.Listed.{AreChanges};
+ghost use Rattle.cc_legal.specs.inner.Stages.{frame_at, page_of};
+ghost use Rattle.cc_legal.specs.inner.PastStates.{tree_of};
 ghost use Rattle.cc_event.specs.Frames.{up_to};
 
 use crate::frame_changes::all_changes;
@@ -43,8 +43,8 @@ pub(crate) struct PastState<'a> {
 }
 
 impl<'a> Model for PastState<'a> {
-    ghost use Rattle.cc_legal.specs.Keyed.{At};
-    ghost use Rattle.cc_legal.specs.PastStates.{IsPastState};
+    ghost use Rattle.cc_legal.specs.inner.Keyed.{At};
+    ghost use Rattle.cc_legal.specs.inner.PastStates.{IsPastState};
 
     ghost Value = { At };
 

@@ -2,7 +2,7 @@
 
 ghost use Rattle.std.specs.Prelude.{◌≡◌, ◌≤◌, ◌^◌, ℤ, pos, neg_ℤ, ◌-ℤ◌, ◌+ℤ◌, ◌≤ℤ◌, Some};
 ghost use Rattle.cc_edit.specs.Scrolls.{clamp_to as clamp};
-ghost use Rattle.cc_legal.specs.SumFilters.{axis_of};
+ghost use Rattle.cc_legal.specs.inner.SumFilters.{axis_of};
 ghost use Rattle.cc_edit.specs.Scrollers as spec;
 
 use crate::amounts::Axis;

@@ -4,7 +4,7 @@ ghost use Rattle.std.specs.Prelude.{◌≡◌, ◌++◌, map, filter, filter_map
 ghost use Rattle.cc_geom.specs.Covers.{IsSound};
 ghost use Rattle.cc_event.specs.Tiles.{Tree};
 ghost use Rattle.cc_event.specs.Tiles as tiles;
-ghost use Rattle.cc_legal.specs.Keyed.{IsOf, rank_at};
+ghost use Rattle.cc_legal.specs.inner.Keyed.{IsOf, rank_at};
 ghost use Rattle.cc_event.specs.Ranking as spec;
 
 use crate::keys::has_key;

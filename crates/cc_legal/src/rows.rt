@@ -3,7 +3,7 @@
 ghost use Rattle.std.specs.Prelude.{◌≡◌, ◌↔◌, ◌++◌, ◌∷◌, [], cond, map, pos, IsTrue, OnOk};
 ghost use Rattle.std.specs.Ordering.{int_eq};
 ghost use Rattle.cc_edit.specs.Axes.{is_still};
-ghost use Rattle.cc_legal.specs.Rows.{move_in};
+ghost use Rattle.cc_legal.specs.inner.Rows.{move_in};
 
 use cc_edit::Move;
 use std::alloc::AllocError;

@@ -6,7 +6,7 @@ ghost use Rattle.cc_geom.specs.Covers.{IsSound};
 ghost use Rattle.cc_geom.specs.Sides.{IsSide};
 ghost use Rattle.cc_tree.specs.OffsetMap.{offset_at, AreOffsets};
 ghost use Rattle.cc_edit.specs.Layers.{parts_of, has_id};
-ghost use Rattle.cc_legal.specs.Keyed.{seen_at};
+ghost use Rattle.cc_legal.specs.inner.Keyed.{seen_at};
 
 use cc_edit::{Layer, LayerTree};
 use cc_geom::{Place, TileKey};
@@ -31,7 +31,7 @@ fn layer_of(page: &LayerTree, id: u32) -> Option<&Layer>
 
 /// How the tile that a key names is seen at these offsets, each of which is from 0 to 1048576 on both
 /// axes; None exactly where the page has no such place.
-#[tactic(auto, unfolding(crate::specs::Keyed::seen_at))]
+#[tactic(auto, unfolding(crate::specs::inner::Keyed::seen_at))]
 pub(crate) fn seen_at(page: &LayerTree, offsets: &Offsets, key: TileKey) -> Option<Seen>
     requires { AreOffsets (offset_at offsets.now) }
     ensures value { result ≡ seen_at page.now (offset_at offsets.now) key }

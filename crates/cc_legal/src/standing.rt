@@ -3,11 +3,11 @@
 ghost use Rattle.std.specs.Prelude.{◌≡◌, ◌<◌, ◌≤◌, ◌^◌, ℕ, ℤ, pos, neg_ℤ, ◌+ℤ◌, ◌≤ℤ◌, length, FitsSigned};
 ghost use Rattle.std.specs.List.{list_any};
 ghost use mir.Syntax.{w128};
-ghost use Rattle.cc_legal.specs.SumFilters.{axis_of, settled_with};
-ghost use Rattle.cc_legal.specs.Pagings.{IsLegalPast, HasPages};
+ghost use Rattle.cc_legal.specs.inner.SumFilters.{axis_of, settled_with};
+ghost use Rattle.cc_legal.specs.inner.Pagings.{IsLegalPast, HasPages};
 ghost use Rattle.cc_event.specs.Frames as frames;
 ghost use Rattle.cc_event.specs.Scrolls as spec;
-ghost use Rattle.cc_legal.specs.Stages.{frame_at, page_of, stands_at};
+ghost use Rattle.cc_legal.specs.inner.Stages.{frame_at, page_of, stands_at};
 
 use crate::amounts::Axis;
 use crate::sum_filter::SumFilter;

@@ -2,7 +2,7 @@
 
 ghost use Rattle.std.specs.Prelude.{◌≡◌};
 ghost use Rattle.std.specs.Option.{option_or};
-ghost use Rattle.cc_legal.specs.SumFilters.{counts_in, settled_with};
+ghost use Rattle.cc_legal.specs.inner.SumFilters.{counts_in, settled_with};
 ghost use Rattle.cc_event.specs.EventFields.{sends};
 ghost use Rattle.cc_event.specs.Scrolls as scrolls;
 

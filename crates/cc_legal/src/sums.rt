@@ -4,8 +4,8 @@
 
 ghost use Rattle.std.specs.Prelude.{◌≡◌, ◌<◌, ◌≤◌, ◌^◌, ℤ, ◌+ℤ◌, ◌-ℤ◌, ◌≤ℤ◌, neg_ℤ, ◌+◌, None, length, cond, pos, FitsSigned};
 ghost use mir.Syntax.{w128};
-ghost use Rattle.cc_legal.specs.SumFilters.{axis_of, counts_in, settled_with};
-ghost use Rattle.cc_legal.specs.Pagings.{ArePages};
+ghost use Rattle.cc_legal.specs.inner.SumFilters.{axis_of, counts_in, settled_with};
+ghost use Rattle.cc_legal.specs.inner.Pagings.{ArePages};
 ghost use Rattle.cc_event.specs.EventFields.{commits, moves};
 ghost use Rattle.cc_edit.specs.Axes as axes;
 ghost use Rattle.cc_event.specs.Scans as scans;

@@ -7,7 +7,7 @@ ghost use Rattle.cc_tree.specs.OffsetMap.{offset_at, AreOffsets};
 ghost use Rattle.cc_event.specs.Tiles.{Tree, active_tree, pending_tree};
 ghost use Rattle.cc_geom.specs.KeyLists as key_lists;
 ghost use Rattle.cc_event.specs.Tiles as spec;
-ghost use Rattle.cc_legal.specs.Keyed.{IsOf, seen_at, shows};
+ghost use Rattle.cc_legal.specs.inner.Keyed.{IsOf, seen_at, shows};
 
 use crate::keys::has_key;
 use crate::seen;
@@ -29,7 +29,7 @@ pub(crate) struct TreeAt<'a> {
 
 impl<'a> Model for TreeAt<'a> {
     ghost use Rattle.cc_tree.specs.OffsetMap.{offset_at, AreOffsets};
-    ghost use Rattle.cc_legal.specs.Keyed.{Keyed};
+    ghost use Rattle.cc_legal.specs.inner.Keyed.{Keyed};
 
     ghost Value = { Keyed };
 
@@ -127,7 +127,7 @@ pub(crate) struct TilesAt<'a> {
 }
 
 impl<'a> Model for TilesAt<'a> {
-    ghost use Rattle.cc_legal.specs.Keyed.{At, AreTiles};
+    ghost use Rattle.cc_legal.specs.inner.Keyed.{At, AreTiles};
 
     ghost Value = { At };
 

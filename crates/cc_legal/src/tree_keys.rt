@@ -14,7 +14,7 @@ ghost use Rattle.cc_event.specs.Frames as framing;
 ghost use Rattle.cc_event.specs.Stamps.{stamp_in};
 ghost use Rattle.cc_event.specs.Tiles.{page_keys};
 ghost use Rattle.cc_visible.specs.Visible.{key_at};
-ghost use Rattle.cc_legal.specs.FrameStamps as spec;
+ghost use Rattle.cc_legal.specs.inner.FrameStamps as spec;
 
 use cc_edit::LayerTree;
 use cc_geom::{Grid, Place, Rect, TileKey};

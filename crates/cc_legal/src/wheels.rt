@@ -3,9 +3,9 @@
 ghost use Rattle.std.specs.Prelude.{◌≡◌, ◌≤◌, ◌^◌, ℤ, pos, neg_ℤ, ◌≤ℤ◌, map, slice_get, Some, IfOk};
 ghost use Rattle.cc_tree.specs.OffsetMap.{offset_at, AreOffsets};
 ghost use Rattle.cc_edit.specs.Paintings.{IsOnScreen};
-ghost use Rattle.cc_legal.specs.SumFilters.{axis_of};
+ghost use Rattle.cc_legal.specs.inner.SumFilters.{axis_of};
 ghost use Rattle.cc_edit.specs.Axes.{across, down, along};
-ghost use Rattle.cc_legal.specs.Rows.{move_in};
+ghost use Rattle.cc_legal.specs.inner.Rows.{move_in};
 ghost use Rattle.cc_edit.specs.Wheels as spec;
 ghost use Rattle.cc_event.specs.declared.input.Input.TheVariants as input;
 

@@ -12,7 +12,7 @@ use Rattle.std.proofs.lemmas.List.Edits.{map_over_more}
 use Rattle.cc_geom.proofs.Spans.{inside, is_within_of, same_test, both, both_of, common_points}
 use Rattle.cc_geom.proofs.Meets.{meet_points, points_meet}
 use Rattle.cc_region.specs.Laws.{PointsDecide}
-use Rattle.cc_region.specs.Holding.{span_holds, rect_holds, any_holds}
+use Rattle.cc_region.specs.inner.Holding.{span_holds, rect_holds, any_holds}
 use Rattle.cc_region.specs.Points.{covered, touched, Touch}
 
 pub or-false : (b : Bool) → (b || false) ≡ b

@@ -1,4 +1,4 @@
 pub mod Points
-pub mod Holding
 pub mod Lists
 pub mod Laws
+pub mod inner

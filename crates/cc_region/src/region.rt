@@ -2,8 +2,8 @@
 
 ghost use Rattle.std.specs.Prelude.{◌≡◌, ◌↔◌, ◌⊎◌, ℤ, Bool, ◌&&◌, ◌||◌, IsTrue, OnOk, OnErr, IfOk, All, List, [], ◌∷◌, ◌++◌};
 ghost use Rattle.cc_geom.specs.Covers.{covers, IsSound, IsSpan};
-ghost use Rattle.cc_region.specs.Holding;
-ghost use Rattle.cc_region.specs.Holding.{any_holds, rect_holds};
+ghost use Rattle.cc_region.specs.inner.Holding;
+ghost use Rattle.cc_region.specs.inner.Holding.{any_holds, rect_holds};
 ghost use Rattle.cc_region.specs.Points.{covered, touched, Touch};
 
 use cc_geom::{Point, Rect};
@@ -135,7 +135,7 @@ fn holds(rect: Rect, r: Rect) -> bool
 }
 
 // whether the one span holds the other whole
-#[tactic(auto, unfolding(crate::specs::Holding::span_holds))]
+#[tactic(auto, unfolding(crate::specs::inner::Holding::span_holds))]
 fn span_holds(at: i32, len: i32, other_at: i32, other_len: i32) -> bool
     requires span { IsSpan at len }
     requires other { IsSpan other_at other_len }

@@ -17,7 +17,7 @@ use Rattle.cc_geom.proofs.Meets.{meet_points, points_meet}
 use Rattle.cc_region.specs.Points.{touched}
 use Rattle.cc_tiling.specs.Tiles.{index_of, HasStamps, shows_in}
 use Rattle.cc_region.specs.declared.change.LayerChange.{LayerChange}
-use Rattle.cc_tiling.specs.Writes.{in_run, WritesRow, WritesCells, WritesPlaces}
+use Rattle.cc_tiling.specs.inner.Writes.{in_run, WritesRow, WritesCells, WritesPlaces}
 
 -- a row that is above another lies behind it
 pub row_behind : (w y r : ℕ) → y < r → y * w + w ≤ r * w

@@ -1,3 +1,3 @@
 pub mod Tiles
-pub mod Writes
 pub mod Stamps
+pub mod inner

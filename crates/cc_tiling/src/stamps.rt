@@ -6,7 +6,7 @@ ghost use Rattle.cc_geom.specs.Common.{meets};
 ghost use Rattle.cc_geom.specs.Grids.{tiles, rect_of};
 ghost use Rattle.cc_region.specs.Points.{touched};
 ghost use Rattle.cc_tiling.specs.Tiles.{key_of, shows_in, IsWhole};
-ghost use Rattle.cc_tiling.specs.Writes.{WritesPlaces, WritesCells, WritesRow, in_run};
+ghost use Rattle.cc_tiling.specs.inner.Writes.{WritesPlaces, WritesCells, WritesRow, in_run};
 
 use cc_geom::{Grid, Place, Rect, Run, TileKey};
 use cc_region::LayerChange;

@@ -6,7 +6,7 @@ use Rattle.std.proofs.lemmas.List.{reverse-append, reverse-reverse, length-rever
 use Rattle.std.proofs.lemmas.List.Sums.{prefix_len-le-length, prefix_len_passes}
 use Rattle.std.specs.List.{prefix_len, insert}
 use Rattle.cc_tree.specs.declared.index.IndexEntry.{IndexEntry}
-use Rattle.cc_tree.specs.Index.{put, index_of, place_of, listed_place, front, AreAbove, AreRising, IsIndex, IsEntryOf}
+use Rattle.cc_tree.specs.inner.Index.{put, index_of, place_of, listed_place, front, AreAbove, AreRising, IsIndex, IsEntryOf}
 use Rattle.cc_tree.specs.Entries.{ids, find, knows, changed, AreDistinct}
 
 above_at : (id : ℕ) (entries : List IndexEntry) (k : ℕ) (d : IndexEntry) → AreAbove id entries → k < length entries → id < (get_or entries k d).id

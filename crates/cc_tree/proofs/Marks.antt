@@ -5,9 +5,9 @@ use Rattle.std.proofs.lemmas.Bool.{cases_lt, cases_eq}
 use Rattle.std.proofs.lemmas.List.{get_or-set_same, get_or-set_other, length-replicate}
 use Rattle.cc_tree.specs.declared.nodes.EffectNode.{EffectNode}
 use Rattle.cc_tree.specs.Entries.{find, knows, ids}
-use Rattle.cc_tree.specs.Marks.{mark_at, marked}
+use Rattle.cc_tree.specs.inner.Marks.{mark_at, marked}
 use Rattle.cc_tree.specs.Nesting.{lies_in, AreNested}
-use Rattle.cc_tree.specs.Index.{place_of}
+use Rattle.cc_tree.specs.inner.Index.{place_of}
 use Rattle.cc_tree.specs.Trees.{AreEffects, IsEffect}
 use Rattle.cc_tree.proofs.Chains.{lies_law, parent_older, known_other}
 use Rattle.cc_tree.proofs.Indexes.{is_at}

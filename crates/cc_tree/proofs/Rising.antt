@@ -2,7 +2,7 @@
 use Rattle.std.proofs.Common.{◌≡◌, ℕ, zero, suc, ◌<◌, ◌≤◌, nat_lt, Bool, true, false, cond, List, [], ◌∷◌, length, get_or, map, slice_get, Some, None, arith, refl, sym, ◌∙◌, ap}
 use Rattle.cc_tree.specs.declared.index.IndexEntry.{IndexEntry}
 use Rattle.cc_tree.specs.Entries.{put_id, rising}
-use Rattle.cc_tree.specs.Index.{put, index_of, IsIndex}
+use Rattle.cc_tree.specs.inner.Index.{put, index_of, IsIndex}
 
 abbrev pub entry_ids : List IndexEntry → List ℕ
 entry_ids entries = map (λ s. s.id) entries

@@ -1,9 +1,8 @@
 pub mod Entries
 pub mod Families
 pub mod Laws
-pub mod Marks
 pub mod Nesting
 pub mod OffsetMap
 pub mod Placement
-pub mod Index
 pub mod Trees
+pub mod inner

@@ -3,7 +3,7 @@
 ghost use Rattle.std.specs.Prelude.{◌≡◌, ℕ, Bool, true, false, ◌∷◌, [], List, length, if◌then◌else◌, is_ok, IfOk, MatchOption, IsTrue, reverse, slice_get};
 ghost use Rattle.std.specs.Option.{option_copied};
 ghost use Rattle.cc_tree.specs.Entries.{changed, find, ids, knows, rising};
-ghost use Rattle.cc_tree.specs.Index.{IsEntryOf};
+ghost use Rattle.cc_tree.specs.inner.Index.{IsEntryOf};
 
 use crate::index::{IndexEntry, count_below, place_in};
 use std::alloc::{AllocError, Global};
@@ -19,7 +19,7 @@ pub struct Family<N> {
 impl<N> Model for Family<N> {
     ghost use Rattle.std.specs.Prelude.{◌≡◌, ℕ, List, reverse};
     ghost use Rattle.cc_tree.specs.Entries.{ids, AreDistinct};
-    ghost use Rattle.cc_tree.specs.Index.{IsIndex};
+    ghost use Rattle.cc_tree.specs.inner.Index.{IsIndex};
 
     ghost Value = { List (ℕ × N) };
 

@@ -1,7 +1,7 @@
 //! The index of a family: for each id the place of its node, by rising id.
 
 ghost use Rattle.std.specs.Prelude.{◌≡◌, ◌≤◌, length};
-ghost use Rattle.cc_tree.specs.Index.{front, listed_place, AreRising};
+ghost use Rattle.cc_tree.specs.inner.Index.{front, listed_place, AreRising};
 
 /// The place of the node that has this id.
 #[derive(Clone, Copy, PartialEq, Eq, Debug)]

@@ -6,7 +6,7 @@
 //! number of layers and effects, times a search by id.
 
 ghost use Rattle.std.specs.Prelude.{◌≡◌, ◌≤◌, ◌⊎◌, ◌↔◌, ℕ, Bool, true, false, ◌&&◌, ◌||◌, not, length, IsTrue};
-ghost use Rattle.cc_tree.specs.Marks.{marked};
+ghost use Rattle.cc_tree.specs.inner.Marks.{marked};
 ghost use Rattle.cc_tree.specs.Nesting.{lies_in, AreNested};
 ghost use Rattle.cc_tree.specs.Trees.{AreEffects};
 

@@ -4,7 +4,8 @@ ghost use Rattle.std.specs.Prelude.{◌≡◌, ◌≤◌, ◌<◌, length, map, 
 ghost use Rattle.cc_edit.specs.declared.command.Command.TheVariants as command;
 ghost use Rattle.cc_edit.specs.Layers.{PageLayer, parts_of};
 ghost use Rattle.cc_edit.specs.Refusals as refusals;
-ghost use Rattle.cc_edit.specs.Outcomes.{Tested, Lists};
+ghost use Rattle.cc_edit.specs.Outcomes.{Lists};
+ghost use Rattle.cc_edit.specs.inner.Tested.{Tested};
 
 use super::LayerTree;
 use crate::fault::{EditError, EditFault};

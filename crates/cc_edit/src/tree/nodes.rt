@@ -4,7 +4,7 @@ ghost use Rattle.std.specs.Prelude.{◌≡◌, ℕ};
 ghost use Rattle.cc_tree.specs.Entries.{is_known};
 ghost use Rattle.cc_edit.specs.declared.command.Command.TheVariants as command;
 ghost use Rattle.cc_edit.specs.Refusals as refusals;
-ghost use Rattle.cc_edit.specs.Outcomes.{Tested};
+ghost use Rattle.cc_edit.specs.inner.Tested.{Tested};
 
 use super::LayerTree;
 use crate::fault::{EditError, EditFault};

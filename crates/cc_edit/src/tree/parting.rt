@@ -6,7 +6,8 @@ ghost use Rattle.cc_tree.specs.Nesting.{AreNested};
 ghost use Rattle.cc_edit.specs.Effects.{after};
 ghost use Rattle.std.specs.List.{list_any};
 ghost use Rattle.cc_edit.specs.declared.command.Command.TheVariants as command;
-ghost use Rattle.cc_edit.specs.Layers.{PageLayer, parts_of, moved, StandsAt};
+ghost use Rattle.cc_edit.specs.Layers.{PageLayer, parts_of, moved};
+ghost use Rattle.cc_edit.specs.inner.FoundPlaces.{StandsAt};
 ghost use Rattle.cc_edit.specs.Refusals as refusals;
 ghost use Rattle.cc_edit.specs.Outcomes.{StandTogether, Outcome};
 

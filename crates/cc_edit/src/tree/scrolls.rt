@@ -8,7 +8,7 @@ ghost use Rattle.cc_tree.specs.Placement.{minus};
 ghost use Rattle.cc_tree.specs.Entries.{find, knows};
 ghost use Rattle.cc_edit.specs.Effects.{value_of, scrolled_to, scrolled_by};
 ghost use Rattle.cc_edit.specs.Scrolls as scrolls;
-ghost use Rattle.cc_edit.specs.Outcomes.{Tested};
+ghost use Rattle.cc_edit.specs.inner.Tested.{Tested};
 
 use super::LayerTree;
 use crate::fault::{EditError, EditFault};

@@ -2,7 +2,8 @@ use Rattle.std.proofs.Common.{◌≤◌, ◌<◌, List, length, ap, sym, subst}
 use Rattle.std.specs.Prelude.{insert}
 use Rattle.cc_display.specs.declared.item.Item.{Item}
 use Rattle.cc_edit.specs.declared.layer.Layer.{Layer}
-use Rattle.cc_edit.specs.Layers.{PageLayer, parts_of, StandsAt}
+use Rattle.cc_edit.specs.Layers.{PageLayer, parts_of}
+use Rattle.cc_edit.specs.inner.FoundPlaces.{StandsAt}
 use Rattle.cc_edit.proofs.LayerPlaces.{at_place, edited_is, unedited_is, on_ok, on_err}
 use Rattle.cc_edit.proofs.display.insert.Goals as goal
 

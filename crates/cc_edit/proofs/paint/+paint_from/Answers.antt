@@ -4,7 +4,7 @@ use Rattle.cc_pixel.specs.Colours.{clear}
 use Rattle.cc_edit.specs.declared.paint.Group.{Group}
 use Rattle.cc_edit.specs.declared.paint.LayerSample.{LayerSample}
 use Rattle.cc_edit.specs.Painting.{folded, items_at}
-use Rattle.cc_edit.specs.LayerSamples.{groups_of, colour_of}
+use Rattle.cc_edit.specs.inner.LayerSamples.{groups_of, colour_of}
 use Rattle.cc_edit.proofs.SampleSteps.{run_not_empty, group_turn, layer_turn}
 use Rattle.cc_edit.proofs.paint.+paint_from.Goals as goal
 

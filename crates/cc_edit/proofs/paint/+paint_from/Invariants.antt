@@ -1,6 +1,6 @@
 use Rattle.std.proofs.Common.{ℕ, ◌≡◌, ◌-◌, ◌≤◌, All, length, vec_len}
 use Rattle.cc_edit.specs.Painting.{folded, items_at}
-use Rattle.cc_edit.specs.LayerSamples.{groups_of, colour_of, HaveOpacities}
+use Rattle.cc_edit.specs.inner.LayerSamples.{groups_of, colour_of, HaveOpacities}
 use Rattle.cc_edit.proofs.paint.+paint_from.Given as goal
 
 abbrev pub decreases-paint_from : goal.decreases-paint_from

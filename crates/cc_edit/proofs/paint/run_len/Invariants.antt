@@ -1,7 +1,7 @@
 use Rattle.std.proofs.Common.{◌≡◌, ◌+◌, drop}
 use Rattle.std.specs.List.{prefix_len}
-use Rattle.cc_edit.specs.Painting.{lies_in}
-use Rattle.cc_edit.specs.LayerSamples.{groups_of}
+use Rattle.cc_edit.specs.inner.Runs.{lies_in}
+use Rattle.cc_edit.specs.inner.LayerSamples.{groups_of}
 use Rattle.cc_edit.proofs.paint.run_len.Given as goal
 
 abbrev pub invariant-loop-sample : goal.invariant-loop-sample

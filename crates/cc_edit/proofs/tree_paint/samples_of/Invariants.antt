@@ -1,6 +1,6 @@
 -- The layers so far have their groups.
 use Rattle.std.proofs.Common.{◌≡◌, ◌≤◌, map, length, take, All}
-use Rattle.cc_edit.specs.LayerSamples.{groups_of, HaveOpacities}
+use Rattle.cc_edit.specs.inner.LayerSamples.{groups_of, HaveOpacities}
 use Rattle.cc_edit.specs.TreePainting.{groups_in, opacity_in}
 use Rattle.cc_edit.proofs.tree_paint.samples_of.Given as goal
 

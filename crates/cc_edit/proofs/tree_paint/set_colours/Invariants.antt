@@ -1,6 +1,6 @@
 -- The samples so far have their colours, and all have their groups.
 use Rattle.std.proofs.Common.{◌≡◌, map, take}
-use Rattle.cc_edit.specs.LayerSamples.{colour_of}
+use Rattle.cc_edit.specs.inner.LayerSamples.{colour_of}
 use Rattle.cc_edit.specs.Paintings.{shown}
 use Rattle.cc_edit.proofs.tree_paint.set_colours.Given as goal
 

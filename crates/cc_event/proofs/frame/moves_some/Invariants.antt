@@ -1,7 +1,7 @@
 use Rattle.std.proofs.Common.{drop, ◌≡◌}
 use Rattle.std.specs.List.{list_any}
 use Rattle.cc_edit.specs.Axes.{named_in}
-use Rattle.cc_event.specs.Ended.{is_moved}
+use Rattle.cc_event.specs.inner.Ending.{is_moved}
 use Rattle.cc_event.proofs.frame.moves_some.Given as goal
 
 abbrev pub invariant-loop-pull : goal.invariant-loop-pull

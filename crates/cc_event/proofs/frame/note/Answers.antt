@@ -1,6 +1,6 @@
 use Rattle.std.proofs.Common.{sym, subst}
 use Rattle.cc_edit.specs.declared.command.Command.{Command}
-use Rattle.cc_event.specs.Ended.{Noted}
+use Rattle.cc_event.specs.inner.Ending.{Noted}
 use Rattle.cc_event.proofs.SameLists.{noted_removal, noted_join}
 use Rattle.cc_event.proofs.frame.note.Goals as goal
 

@@ -6,7 +6,7 @@ use mir.Syntax.{w32, w64}
 use Rattle.cc_event.specs.declared.event.Event.{Event}
 use Rattle.cc_event.specs.EventFields.{moves}
 use Rattle.cc_edit.specs.Axes.{amount_in}
-use Rattle.cc_legal.specs.SumFilters.{axis_of}
+use Rattle.cc_legal.specs.inner.SumFilters.{axis_of}
 use Rattle.cc_legal.proofs.amounts.accepted_amount.Goals as goal
 
 pub returns-in-Scroll : goal.returns-in-Scroll

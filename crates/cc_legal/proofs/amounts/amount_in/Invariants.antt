@@ -1,6 +1,6 @@
 -- The rest of the list answers as the whole of it.
 use Rattle.std.proofs.Common.{◌≡◌, drop}
-use Rattle.cc_legal.specs.SumFilters.{axis_of}
+use Rattle.cc_legal.specs.inner.SumFilters.{axis_of}
 use Rattle.cc_edit.specs.Axes.{amount_in}
 use Rattle.cc_legal.proofs.amounts.amount_in.Given as goal
 

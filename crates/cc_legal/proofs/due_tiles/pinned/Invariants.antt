@@ -1,7 +1,7 @@
 -- The rest of the past answers as the whole of it, and is legal.
 use Rattle.std.proofs.Common.{◌≡◌, length}
 use Rattle.cc_event.specs.Tiles.{pinned}
-use Rattle.cc_legal.specs.Pagings.{IsLegalPast}
+use Rattle.cc_legal.specs.inner.Pagings.{IsLegalPast}
 use Rattle.cc_legal.proofs.due_tiles.pinned.Given as goal
 
 abbrev pub invariant-loop-entry : goal.invariant-loop-entry

@@ -1,6 +1,6 @@
 use Rattle.std.proofs.Common.{List, length, sym, ap, subst, arith}
 use Rattle.cc_region.specs.Lists.{Changed}
-use Rattle.cc_event.specs.Listed.{AreChanges}
+use Rattle.cc_event.specs.inner.Listed.{AreChanges}
 use Rattle.cc_legal.proofs.Pushed.{changes_push, more_long}
 use Rattle.cc_legal.proofs.frame_changes.all_changes.Goals as goal
 

@@ -2,7 +2,7 @@
 use Rattle.std.proofs.Common.{◌≡◌, map, take}
 use Rattle.cc_edit.specs.Axes.{listed}
 use Rattle.cc_event.specs.Scrolls.{clamp_move}
-use Rattle.cc_legal.specs.Rows.{move_in}
+use Rattle.cc_legal.specs.inner.Rows.{move_in}
 use Rattle.cc_legal.proofs.listing.all_clamped.Given as goal
 
 abbrev pub invariant-loop-scroller : goal.invariant-loop-scroller

@@ -3,7 +3,7 @@ use Rattle.std.proofs.Common.{ℕ, List, ap, ◌∙◌}
 use Rattle.cc_edit.specs.Pages.{Page}
 use Rattle.cc_edit.proofs.KeptPages.{weaken}
 use Rattle.cc_edit.specs.Scrollers.{scrollers}
-use Rattle.cc_legal.specs.Stages.{page_of, stands_at, offsets_among}
+use Rattle.cc_legal.specs.inner.Stages.{page_of, stands_at, offsets_among}
 use Rattle.cc_legal.proofs.JudgeOffsets.{all_offsets}
 use Rattle.cc_legal.proofs.offsets.offsets_of.Goals as goal
 

@@ -1,7 +1,7 @@
 -- One offset more is set.
 use Rattle.std.proofs.Common.{◌==◌, get_or, rules}
 use Rattle.cc_tree.specs.OffsetMap.{offset_at}
-use Rattle.cc_legal.specs.Stages.{stands_at}
+use Rattle.cc_legal.specs.inner.Stages.{stands_at}
 use Rattle.cc_legal.proofs.JudgeOffsets.{offset_more, range_more}
 use Rattle.cc_legal.proofs.offsets.offsets_of_all.Goals as goal
 

@@ -1,6 +1,6 @@
 use Rattle.std.proofs.Common.{suc, List, length, sym, ap, subst, arith}
 use Rattle.cc_edit.specs.Pages.{Page}
-use Rattle.cc_legal.specs.Pagings.{ArePages}
+use Rattle.cc_legal.specs.inner.Pagings.{ArePages}
 use Rattle.cc_legal.proofs.Pushed.{pages_push, more_long}
 use Rattle.cc_legal.proofs.pages.pages.Goals as goal
 

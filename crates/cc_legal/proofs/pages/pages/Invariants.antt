@@ -1,5 +1,5 @@
 use Rattle.std.proofs.Common.{◌≡◌, ◌+◌, length}
-use Rattle.cc_legal.specs.Pagings.{ArePages}
+use Rattle.cc_legal.specs.inner.Pagings.{ArePages}
 use Rattle.cc_legal.proofs.pages.pages.Given as goal
 
 abbrev pub invariant-loop-frame : goal.invariant-loop-frame

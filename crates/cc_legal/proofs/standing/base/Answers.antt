@@ -2,7 +2,7 @@
 use Rattle.std.proofs.Common.{ℕ, None, Option, sym, subst}
 use Rattle.std.specs.Int.RustNames.{FitsSigned}
 use mir.Syntax.{w128}
-use Rattle.cc_legal.specs.SumFilters.{axis_of, settled_with}
+use Rattle.cc_legal.specs.inner.SumFilters.{axis_of, settled_with}
 use Rattle.cc_event.specs.Scrolls.{base, base_of}
 use Rattle.cc_legal.proofs.JudgeBounds.{base_bounded, bounded_fits}
 use Rattle.cc_legal.proofs.standing.base.Goals as goal

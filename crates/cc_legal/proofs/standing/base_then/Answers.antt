@@ -3,7 +3,7 @@ use Rattle.std.proofs.Common.{ℕ, Option, ap, sym, ◌∙◌, subst, rules}
 use Rattle.std.specs.Int.RustNames.{FitsSigned}
 use Rattle.std.proofs.lemmas.Int.{to_z-of_z}
 use mir.Syntax.{w128}
-use Rattle.cc_legal.specs.SumFilters.{axis_of, settled_with}
+use Rattle.cc_legal.specs.inner.SumFilters.{axis_of, settled_with}
 use Rattle.cc_event.specs.Frames.{pending}
 use Rattle.cc_event.specs.Scrolls.{active_then, pending_base, base_of}
 use Rattle.cc_legal.proofs.JudgeBounds.{pending_base_place, place_fits}

@@ -1,7 +1,7 @@
 -- One frame more.
 use Rattle.std.proofs.Common.{arith}
 use Rattle.std.proofs.lemmas.Int.{ints}
-use Rattle.cc_legal.specs.SumFilters.{axis_of}
+use Rattle.cc_legal.specs.inner.SumFilters.{axis_of}
 use Rattle.cc_event.specs.EventFields.{commits}
 use Rattle.cc_event.specs.Scans.{was_named}
 use Rattle.cc_event.specs.Frames.{pulls_of}

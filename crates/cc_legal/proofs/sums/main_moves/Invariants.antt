@@ -1,6 +1,6 @@
 -- The sum over the frames so far; each adds at most 2^64.
 use Rattle.std.proofs.Common.{◌≡◌, ◌*◌, ◌^◌, pos, ◌+ℤ◌, ◌≤ℤ◌}
-use Rattle.cc_legal.specs.SumFilters.{axis_of}
+use Rattle.cc_legal.specs.inner.SumFilters.{axis_of}
 use Rattle.cc_event.specs.EventFields.{commits}
 use Rattle.cc_event.specs.Scans.{was_named}
 use Rattle.cc_event.specs.Frames.{pulls_of}

@@ -4,7 +4,7 @@ use Rattle.std.specs.Int.RustNames.{FitsSigned}
 use Rattle.std.proofs.lemmas.Int.{ints}
 use mir.Syntax.{w128}
 use Rattle.cc_event.specs.declared.history.Entry.{Entry}
-use Rattle.cc_legal.specs.SumFilters.{axis_of, counts_in}
+use Rattle.cc_legal.specs.inner.SumFilters.{axis_of, counts_in}
 use Rattle.cc_legal.proofs.JudgeSums.{moved_more}
 use Rattle.cc_legal.proofs.sums.moved.Goals as goal
 

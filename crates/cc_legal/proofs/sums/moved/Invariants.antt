@@ -1,6 +1,6 @@
 -- What was summed, and what the rest has, are all; each entry adds less than 2^63.
 use Rattle.std.proofs.Common.{◌≡◌, ◌≤◌, ◌*◌, ◌^◌, pos, ◌+ℤ◌, ◌-ℤ◌, ◌≤ℤ◌, None, length}
-use Rattle.cc_legal.specs.SumFilters.{axis_of, counts_in}
+use Rattle.cc_legal.specs.inner.SumFilters.{axis_of, counts_in}
 use Rattle.cc_event.specs.Scrolls.{moved}
 use Rattle.cc_legal.proofs.sums.moved.Given as goal
 

@@ -2,7 +2,7 @@
 use Rattle.std.proofs.Common.{◌≡◌, map, take}
 use Rattle.std.specs.List.{flat_map}
 use Rattle.cc_edit.specs.Layers.{parts_of}
-use Rattle.cc_legal.specs.FrameStamps.{layer_keys}
+use Rattle.cc_legal.specs.inner.FrameStamps.{layer_keys}
 use Rattle.cc_legal.proofs.tree_keys.keys_in.Given as goal
 
 abbrev pub invariant-loop-layer : goal.invariant-loop-layer

@@ -6,7 +6,7 @@ use Rattle.cc_edit.specs.declared.layer.Layer.{Layer}
 use Rattle.cc_edit.specs.Layers.{PageLayer, parts_of}
 use Rattle.cc_edit.proofs.KeptPages.{weaken}
 use Rattle.cc_visible.specs.Visible.{by_id}
-use Rattle.cc_legal.specs.FrameStamps.{layer_keys}
+use Rattle.cc_legal.specs.inner.FrameStamps.{layer_keys}
 use Rattle.cc_legal.proofs.TreeKeys.{keys_same}
 use Rattle.cc_legal.proofs.tree_keys.keys_of_tree.Goals as goal
 

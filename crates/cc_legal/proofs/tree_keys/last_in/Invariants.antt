@@ -1,6 +1,6 @@
 -- The frames from here on changed nothing there.
 use Rattle.std.proofs.Common.{◌≡◌, ◌≤◌, length}
-use Rattle.cc_legal.specs.FrameStamps.{last_in}
+use Rattle.cc_legal.specs.inner.FrameStamps.{last_in}
 use Rattle.cc_legal.proofs.tree_keys.last_in.Given as goal
 
 abbrev pub invariant-loop-left : goal.invariant-loop-left

@@ -1,6 +1,6 @@
 -- One row more.
 use Rattle.cc_visible.specs.Visible.{key_at}
-use Rattle.cc_legal.specs.FrameStamps.{stamp_on}
+use Rattle.cc_legal.specs.inner.FrameStamps.{stamp_on}
 use Rattle.cc_legal.proofs.TreeKeys.{rows_more}
 use Rattle.cc_legal.proofs.tree_keys.with_layer.Goals as goal
 

@@ -5,7 +5,7 @@ use Rattle.std.proofs.lemmas.Int.{ints}
 use mir.Syntax.{w128}
 use mir.Val.{to_z}
 use Rattle.cc_tree.specs.OffsetMap.{offset_at}
-use Rattle.cc_legal.specs.SumFilters.{axis_of}
+use Rattle.cc_legal.specs.inner.SumFilters.{axis_of}
 use Rattle.cc_edit.specs.Wheels.{takes_at}
 use Rattle.cc_legal.proofs.JudgeWheels.{left_more}
 use Rattle.cc_legal.proofs.wheels.left_of.Goals as goal

@@ -1,7 +1,7 @@
 -- What the rest of the chain leaves of what is left is what all of it leaves; each takes at most 2^20.
 use Rattle.std.proofs.Common.{◌≡◌, ◌+◌, ◌*◌, ◌^◌, pos, ◌+ℤ◌, ◌≤ℤ◌, drop}
 use Rattle.cc_tree.specs.OffsetMap.{offset_at}
-use Rattle.cc_legal.specs.SumFilters.{axis_of}
+use Rattle.cc_legal.specs.inner.SumFilters.{axis_of}
 use Rattle.cc_edit.specs.Wheels.{chain_rest, takes_at}
 use Rattle.cc_legal.proofs.wheels.left_of.Given as goal
 

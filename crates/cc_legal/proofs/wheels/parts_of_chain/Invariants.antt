@@ -1,7 +1,7 @@
 -- The parts so far, and those of the rest of the chain, are all; each is at most 2^20.
 use Rattle.std.proofs.Common.{◌≡◌, ◌+◌, ◌*◌, ◌^◌, pos, ◌+ℤ◌, ◌≤ℤ◌, ◌++◌, map, drop}
 use Rattle.cc_tree.specs.OffsetMap.{offset_at}
-use Rattle.cc_legal.specs.Rows.{move_in}
+use Rattle.cc_legal.specs.inner.Rows.{move_in}
 use Rattle.cc_edit.specs.Wheels.{chain_parts, takes_at}
 use Rattle.cc_legal.proofs.wheels.parts_of_chain.Given as goal
 

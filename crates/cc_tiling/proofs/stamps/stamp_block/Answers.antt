@@ -1,5 +1,5 @@
 use Rattle.std.proofs.Common.{◌≡◌, arith, subst, nat_le, nat_lt, ◌&&◌}
-use Rattle.cc_tiling.specs.Writes.{WritesCells, in_run}
+use Rattle.cc_tiling.specs.inner.Writes.{WritesCells, in_run}
 use Rattle.cc_tiling.proofs.Cells.{cells_none, cells_more}
 use Rattle.cc_tiling.proofs.stamps.stamp_block.Goals as goal
 

@@ -1,5 +1,5 @@
 use Rattle.std.proofs.Common.{nat_le, nat_lt, ◌&&◌}
-use Rattle.cc_tiling.specs.Writes.{WritesCells, in_run}
+use Rattle.cc_tiling.specs.inner.Writes.{WritesCells, in_run}
 use Rattle.cc_tiling.proofs.stamps.stamp_block.Given as goal
 
 abbrev pub invariant-loop-y : goal.invariant-loop-y

@@ -1,7 +1,7 @@
 use Rattle.std.proofs.Common.{take}
 use Rattle.cc_geom.specs.Grids.{rect_of}
 use Rattle.cc_region.specs.Points.{touched}
-use Rattle.cc_tiling.specs.Writes.{WritesPlaces}
+use Rattle.cc_tiling.specs.inner.Writes.{WritesPlaces}
 use Rattle.cc_tiling.proofs.stamps.stamp_rects.Given as goal
 
 abbrev pub invariant-loop-rect : goal.invariant-loop-rect

@@ -1,4 +1,4 @@
-use Rattle.cc_tiling.specs.Writes.{WritesRow}
+use Rattle.cc_tiling.specs.inner.Writes.{WritesRow}
 use Rattle.cc_tiling.proofs.stamps.stamp_row.Given as goal
 
 abbrev pub invariant-loop-i : goal.invariant-loop-i

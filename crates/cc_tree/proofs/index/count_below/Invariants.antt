@@ -1,6 +1,6 @@
 -- The number lies between the two ends.
 use Rattle.std.proofs.Common.{◌≤◌, ◌-◌, length}
-use Rattle.cc_tree.specs.Index.{front}
+use Rattle.cc_tree.specs.inner.Index.{front}
 use Rattle.cc_tree.proofs.index.count_below.Given as goal
 
 abbrev pub invariant-loop-low : goal.invariant-loop-low

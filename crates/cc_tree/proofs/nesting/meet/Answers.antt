@@ -1,6 +1,6 @@
 -- Each goal is a lemma on the pass up the chain.
 use Rattle.std.proofs.Common.{arith, rules}
-use Rattle.cc_tree.specs.Index.{IsEntryOf}
+use Rattle.cc_tree.specs.inner.Index.{IsEntryOf}
 use Rattle.cc_tree.proofs.Marks.{climbed_stop, climbed_step, climbed_all, rank_falls}
 use Rattle.cc_tree.proofs.nesting.meet.Goals as goal
 

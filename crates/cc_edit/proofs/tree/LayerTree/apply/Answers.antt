@@ -2,7 +2,7 @@ use Rattle.std.proofs.Common.{subst, refl, rules, w32}
 use Rattle.std.specs.Prelude.{FitsSigned}
 use Rattle.std.proofs.lemmas.Int.{to_z-of_z}
 use Rattle.cc_edit.specs.declared.command.Command.TheVariants as command
-use Rattle.cc_edit.specs.Outcomes.{Tested}
+use Rattle.cc_edit.specs.inner.Tested.{Tested}
 use Rattle.cc_edit.specs.Sound.{IsPage}
 use Rattle.cc_edit.proofs.KeptPages.{outcome_of}
 use Rattle.cc_edit.proofs.tree.LayerTree.apply.Goals as goal

@@ -9,7 +9,7 @@ use Rattle.cc_edit.specs.declared.paint.Group.{Group}
 use Rattle.cc_edit.specs.declared.paint.LayerSample.{LayerSample}
 use Rattle.cc_edit.specs.declared.view.View.{View}
 use Rattle.cc_edit.specs.Layers.{PageLayer, parts_of}
-use Rattle.cc_edit.specs.LayerSamples.{HaveOpacities}
+use Rattle.cc_edit.specs.inner.LayerSamples.{HaveOpacities}
 use Rattle.cc_edit.specs.TreePainting.{groups_in, opacity_in, colour_at}
 use Rattle.cc_edit.specs.Paintings.{shown}
 use Rattle.cc_edit.proofs.Placing.{sizes}

@@ -6,7 +6,7 @@ use Rattle.std.proofs.lemmas.Int.{to_z-of_z}
 use Rattle.std.proofs.lemmas.Grind.{common_steps}
 use Rattle.cc_edit.specs.declared.paint.Group.{Group}
 use Rattle.cc_edit.specs.declared.paint.LayerSample.{LayerSample}
-use Rattle.cc_edit.specs.LayerSamples.{colour_of}
+use Rattle.cc_edit.specs.inner.LayerSamples.{colour_of}
 use Rattle.cc_edit.specs.Paintings.{Ready, Placed, shown}
 use Rattle.cc_edit.proofs.SampleColours.{each-sample, lists_of, painted}
 use Rattle.cc_edit.proofs.tree_paint.Painting.pixel.Goals as goal

@@ -5,7 +5,7 @@ use Rattle.cc_edit.specs.Pages.{Page}
 use Rattle.cc_event.specs.declared.script_error.ScriptError.{ScriptError}
 use Rattle.cc_event.specs.Accepted.{TakesFrames}
 use Rattle.cc_event.specs.Frames.{blank}
-use Rattle.cc_event.specs.Judging.{Applied}
+use Rattle.cc_event.specs.inner.Applying.{Applied}
 use Rattle.cc_event.specs.Scripts.{script_of}
 use Rattle.cc_event.proofs.Ranged.{has_few_frames}
 use Rattle.cc_event.proofs.Exclusion.{frames_taken}

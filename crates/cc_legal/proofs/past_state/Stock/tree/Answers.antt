@@ -1,6 +1,6 @@
 use Rattle.std.proofs.Common.{sym, subst}
-use Rattle.cc_legal.specs.Keyed.{Keyed, IsOf}
-use Rattle.cc_legal.specs.PastStates.{tree_of}
+use Rattle.cc_legal.specs.inner.Keyed.{Keyed, IsOf}
+use Rattle.cc_legal.specs.inner.PastStates.{tree_of}
 use Rattle.cc_legal.proofs.PastStateFacts.{tree_is}
 use Rattle.cc_legal.proofs.past_state.PastState.tree.Goals as goal
 

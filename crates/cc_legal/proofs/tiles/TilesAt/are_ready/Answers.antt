@@ -2,7 +2,7 @@
 use Rattle.std.proofs.Common.{◌≡◌, List, ap, ◌∙◌}
 use Rattle.std.specs.List.{list_all}
 use Rattle.cc_geom.specs.declared.tile.TileKey.{TileKey}
-use Rattle.cc_legal.specs.Keyed.{At}
+use Rattle.cc_legal.specs.inner.Keyed.{At}
 use Rattle.cc_geom.specs.KeyLists.{has_key}
 use Rattle.cc_event.specs.Tiles.{ready}
 use Rattle.cc_legal.proofs.tiles.TilesAt.are_ready.Goals as goal

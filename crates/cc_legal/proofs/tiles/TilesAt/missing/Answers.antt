@@ -2,7 +2,7 @@
 use Rattle.std.proofs.Common.{◌≡◌, not, List, filter, ap, ◌∙◌, subst}
 use Rattle.cc_geom.specs.declared.tile.TileKey.{TileKey}
 use Rattle.cc_edit.proofs.KeptPages.{weaken}
-use Rattle.cc_legal.specs.Keyed.{At, IsOf}
+use Rattle.cc_legal.specs.inner.Keyed.{At, IsOf}
 use Rattle.cc_geom.specs.KeyLists.{has_key}
 use Rattle.cc_event.specs.Tiles.{active_tree, ready, visible_in}
 use Rattle.cc_legal.proofs.tiles.TilesAt.missing.Goals as goal

@@ -1,7 +1,7 @@
 -- The visible keys of the pending tree.
 use Rattle.std.proofs.Common.{subst}
 use Rattle.cc_edit.proofs.KeptPages.{weaken}
-use Rattle.cc_legal.specs.Keyed.{At, IsOf}
+use Rattle.cc_legal.specs.inner.Keyed.{At, IsOf}
 use Rattle.cc_event.specs.Tiles.{pending_tree}
 use Rattle.cc_legal.proofs.tiles.TilesAt.required.Goals as goal
 

@@ -1,7 +1,7 @@
 -- What was found, and what the rest shows, are all that show.
 use Rattle.std.proofs.Common.{◌≡◌, ◌++◌, length, filter}
 use Rattle.cc_tree.specs.OffsetMap.{offset_at}
-use Rattle.cc_legal.specs.Keyed.{seen_at, shows}
+use Rattle.cc_legal.specs.inner.Keyed.{seen_at, shows}
 use Rattle.cc_legal.proofs.tiles.TreeAt.shown.Given as goal
 
 abbrev pub invariant-loop-key : goal.invariant-loop-key

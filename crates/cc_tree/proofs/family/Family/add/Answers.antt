@@ -1,7 +1,7 @@
 -- The new entry stands where the index of the new list has it.
 use Rattle.std.proofs.Common.{◌≡◌, ◌∙◌, ap, arith, length, refl}
 use Rattle.cc_tree.specs.Entries.{knows}
-use Rattle.cc_tree.specs.Index.{front}
+use Rattle.cc_tree.specs.inner.Index.{front}
 use Rattle.cc_tree.proofs.Indexes.{added}
 use Rattle.cc_tree.proofs.family.Family.add.Goals as goal
 

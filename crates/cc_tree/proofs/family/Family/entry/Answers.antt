@@ -1,7 +1,7 @@
 -- The index leads to the node of the id.
 use Rattle.std.proofs.Common.{◌∙◌, sym, ap, arith}
 use Rattle.cc_tree.specs.Entries.{find}
-use Rattle.cc_tree.specs.Index.{listed_place}
+use Rattle.cc_tree.specs.inner.Index.{listed_place}
 use Rattle.cc_tree.proofs.Indexes.{entry_of, entry_is, unknown_entry}
 use Rattle.cc_tree.proofs.family.Family.entry.Goals as goal
 

@@ -1,7 +1,7 @@
 -- The place of the id takes the node, which changes no id.
 use Rattle.std.proofs.Common.{◌≡◌, ◌∙◌, sym, ap, arith, None, true, is_some}
 use Rattle.cc_tree.specs.Entries.{find, changed}
-use Rattle.cc_tree.specs.Index.{listed_place}
+use Rattle.cc_tree.specs.inner.Index.{listed_place}
 use Rattle.cc_tree.proofs.Indexes.{entry_of, set_entry, unknown_entry, distinct_changed, ids_changed}
 use Rattle.cc_tree.proofs.family.Family.set.Goals as goal
 

@@ -2,7 +2,7 @@
 use Rattle.std.specs.Prelude.{ℕ, Bool, false, List, Option, Some, None, slice_index_or}
 use Rattle.cc_tree.specs.declared.nodes.EffectNode.{EffectNode}
 use Rattle.cc_tree.specs.Entries.{ids}
-use Rattle.cc_tree.specs.Index.{place_of}
+use Rattle.cc_tree.specs.inner.Index.{place_of}
 
 abbrev pub mark_at : List Bool → Option ℕ → Bool
 mark_at marks None = false

@@ -11,8 +11,8 @@ use Rattle.cc_legal.specs.declared.standing.Stage.TheVariants as stage
 use Rattle.cc_event.specs.Scripts.{ScriptModel}
 use Rattle.cc_event.specs.Scrolls.{active_offsets, pending_offsets}
 use Rattle.cc_event.specs.Tiles.{Tree, active_tree, pending_tree, made, in_flight}
-use Rattle.cc_legal.specs.Pagings.{IsLegalPast, HasPages}
-use Rattle.cc_event.specs.Listed.{AreChanges}
+use Rattle.cc_legal.specs.inner.Pagings.{IsLegalPast, HasPages}
+use Rattle.cc_event.specs.inner.Listed.{AreChanges}
 
 -- the tree of a commit
 abbrev pub tree_of : Stage → ScriptModel → List Entry → Tree

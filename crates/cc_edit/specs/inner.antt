@@ -1,0 +1,4 @@
+pub mod LayerSamples
+pub mod FoundPlaces
+pub mod Tested
+pub mod Runs
