@@ -37,7 +37,7 @@ played bytes a b c e (Usage word) fits cause faults few good calm_source calm_ou
 played bytes a b c e Json fits cause faults few good calm_source calm_out =
     let none : read bytes ≡ None = cause.1 good.1.1.0 in
     absurd (cc (none, good.1.1.1))
-played bytes a b c e (Shape list index field) fits cause faults few good calm_source calm_out = absurd (not_at_fault bytes good cause.1 cause.2 _ cause.3)
+played bytes a b c e (Shape fault) fits cause faults few good calm_source calm_out = absurd (not_at_fault bytes good cause.1 cause.2 _ cause.3)
 played bytes a b c e (Script frame command (Edit fault)) fits cause faults few good calm_source calm_out =
     let same : cause.1 ≡ good.0 = one_script bytes cause.1 good.0 cause.2 good.1 in
     let taken : TakesFrames (blank cause.1) cause.1.main = subst (λ (s : ScriptModel). TakesFrames (blank s) s.main) (sym same) good.2.accepted.commands in

@@ -9,6 +9,7 @@ use Rattle.cc_edit.specs.declared.fault.EditFault.TheVariants as fault
 use Rattle.cc_play.specs.declared.outcome.ScriptFault.{ScriptFault}
 use Rattle.cc_play.specs.declared.outcome.ScriptFault.TheVariants.{Edit, NotBuilt}
 use Rattle.cc_play.specs.declared.outcome.Outcome.{Outcome}
+use Rattle.cc_script.specs.declared.fault.ShapeFault.{ShapeFault}
 use Rattle.cc_play.specs.declared.outcome.Outcome.TheVariants.{Done, Usage, Json, Shape, Script, ReadFault, WriteFault, TooLong, Memory}
 
 -- the status with which the program exits
@@ -16,7 +17,7 @@ abbrev pub status_of : Outcome → ℕ
 status_of Done = 0
 status_of (Usage word) = 2
 status_of Json = 3
-status_of (Shape list index field) = 4
+status_of (Shape fault) = 4
 status_of (Script frame command why) = 5
 status_of ReadFault = 6
 status_of WriteFault = 7
@@ -46,15 +47,15 @@ abbrev pub place_text : ℕ → ℕ → List (List ℕ)
 place_text frame command = codes "cc: script: frame " ∷ decimal frame ∷ codes " command " ∷ decimal command ∷ codes ": " ∷ []
 
 -- the place of the first fault of a value that is no script
-abbrev pub shape_text : ℕ → ℕ → ℕ → List (List ℕ)
-shape_text list index field = codes "cc: shape: list " ∷ decimal list ∷ codes " index " ∷ decimal index ∷ codes " field " ∷ decimal field ∷ codes "\n" ∷ []
+abbrev pub shape_text : ShapeFault → List (List ℕ)
+shape_text f = codes "cc: shape: list " ∷ decimal f.list ∷ codes " index " ∷ decimal f.index ∷ codes " field " ∷ decimal f.field ∷ codes "\n" ∷ []
 
 -- the line that tells of an outcome; none where all was done
 abbrev pub line_of : Outcome → List ℕ
 line_of Done = []
 line_of (Usage word) = joined (codes "cc: usage: word " ∷ decimal word ∷ codes "\n" ∷ [])
 line_of Json = codes "cc: not JSON\n"
-line_of (Shape list index field) = joined (shape_text list index field)
+line_of (Shape fault) = joined (shape_text fault)
 line_of (Script frame command why) = (joined (place_text frame command) ++ joined (why_text why)) ++ codes "\n"
 line_of ReadFault = codes "cc: read fault\n"
 line_of WriteFault = codes "cc: write fault\n"

@@ -30,7 +30,7 @@ PageOf s (Err _) = ⊥
 -- no page was read, and nothing is to be written
 abbrev pub IsRefusal : Outcome → Type 0
 IsRefusal Json = ⊤
-IsRefusal (Shape list index field) = ⊤
+IsRefusal (Shape fault) = ⊤
 IsRefusal (Script frame command why) = ⊤
 IsRefusal Memory = ⊤
 IsRefusal _ = ⊥

@@ -42,8 +42,8 @@ abbrev pub CauseOf : List ℕ → Outcome → Type 0
 CauseOf bytes Done = (length bytes ≤ script_limit) × IsPlayedText bytes
 CauseOf bytes (Usage word) = ⊤
 CauseOf bytes Json = (length bytes ≤ script_limit) × (IsUtf8 bytes → read bytes ≡ None)
-CauseOf bytes (Shape list index field) =
-    (length bytes ≤ script_limit) × (d : Data) × IsTextOf bytes d × (parts_at d ≡ Err (record { list = list; index = index; field = field }))
+CauseOf bytes (Shape fault) =
+    (length bytes ≤ script_limit) × (d : Data) × IsTextOf bytes d × (parts_at d ≡ Err fault)
 CauseOf bytes (Script frame command (Edit fault)) =
     (length bytes ≤ script_limit) × (s : ScriptModel) × IsScriptText bytes s × RefusedAt (blank s) s.main frame command fault
 CauseOf bytes (Script frame command NotBuilt) =
@@ -57,7 +57,7 @@ CauseOf bytes Memory = ⊤
 abbrev pub ReadToEnd : Option (List ℕ) → Outcome → Type 0
 ReadToEnd left Done = IsAtEnd left
 ReadToEnd left Json = IsAtEnd left
-ReadToEnd left (Shape list index field) = IsAtEnd left
+ReadToEnd left (Shape fault) = IsAtEnd left
 ReadToEnd left (Script frame command why) = IsAtEnd left
 ReadToEnd left WriteFault = IsAtEnd left
 ReadToEnd left _ = ⊤

@@ -9,6 +9,7 @@ use crate::outcome::{Outcome, ScriptFault};
 use crate::parts::{Part, put_parts};
 use cc_edit::EditFault;
 use cc_io::{PutFault, Sink};
+use cc_script::ShapeFault;
 
 /// Puts the place of a refused command.
 fn put_place<E: Sink>(notes: &mut E, frame: u32, command: u32) -> Result<(), PutFault>
@@ -131,8 +132,8 @@ fn put_usage<E: Sink>(notes: &mut E, word: u32) -> Result<(), PutFault>
 }
 
 /// Puts the place of the first fault of a value that is no script.
-fn put_shape<E: Sink>(notes: &mut E, list: u32, index: u32, field: u32) -> Result<(), PutFault>
-    ensures bytes { PutsAll (E.held notes.old) (E.held notes.new) (line_of (Outcome.Shape list index field)) result }
+fn put_shape<E: Sink>(notes: &mut E, fault: ShapeFault) -> Result<(), PutFault>
+    ensures bytes { PutsAll (E.held notes.old) (E.held notes.new) (line_of (Outcome.Shape fault)) result }
     ensures grows { E.faults notes.old ≤ E.faults notes.new }
     ensures refused { E.refusals notes.old ≤ E.refusals notes.new }
     ensures cause { PutCause (E.faults notes.old) (E.faults notes.new) (E.refusals notes.old) (E.refusals notes.new) result }
@@ -141,11 +142,11 @@ fn put_shape<E: Sink>(notes: &mut E, list: u32, index: u32, field: u32) -> Resul
         notes,
         &[
             Part::Text(b"cc: shape: list "),
-            Part::Count(u64::from(list)),
+            Part::Count(u64::from(fault.list)),
             Part::Text(b" index "),
-            Part::Count(u64::from(index)),
+            Part::Count(u64::from(fault.index)),
             Part::Text(b" field "),
-            Part::Count(u64::from(field)),
+            Part::Count(u64::from(fault.field)),
             Part::Text(b"\n"),
         ],
     )
@@ -162,7 +163,7 @@ fn put_line<E: Sink>(notes: &mut E, outcome: Outcome) -> Result<(), PutFault>
         Outcome::Done => put_parts(notes, &[]),
         Outcome::Usage { word } => put_usage(notes, word),
         Outcome::Json => notes.put(b"cc: not JSON\n"),
-        Outcome::Shape { list, index, field } => put_shape(notes, list, index, field),
+        Outcome::Shape(fault) => put_shape(notes, fault),
         Outcome::Script {
             frame,
             command,

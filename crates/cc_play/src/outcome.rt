@@ -4,6 +4,7 @@ ghost use Rattle.std.specs.Prelude.{◌≡◌, ℕ};
 ghost use Rattle.cc_play.specs.Outcomes.{status_of};
 
 use cc_edit::EditFault;
+use cc_script::ShapeFault;
 
 /// Why a script is not played.
 #[derive(Clone, Copy, Debug, Drop, PartialEq)]
@@ -29,15 +30,7 @@ pub enum Outcome {
     /// The bytes are no JSON text, by `serde_json`'s definition.
     Json,
     /// The JSON value is no script: the place of its first fault.
-    Shape {
-        /// 0 for the top object, 1 for the inputs, `2 + k` for main frame k.
-        list: u32,
-        /// The place in that list, from 0; 0 for the top object.
-        index: u32,
-        /// The number of the field: 0 for the value itself or its `op`, 98 for a main frame that is no
-        /// list, 99 for a further field.
-        field: u32,
-    },
+    Shape(ShapeFault),
     /// The script was refused at a command.
     Script {
         /// The main frame, from 0.
@@ -69,7 +62,7 @@ impl Outcome {
             Outcome::Done => 0,
             Outcome::Usage { .. } => 2,
             Outcome::Json => 3,
-            Outcome::Shape { .. } => 4,
+            Outcome::Shape(_) => 4,
             Outcome::Script { .. } => 5,
             Outcome::ReadFault => 6,
             Outcome::WriteFault => 7,

@@ -102,7 +102,7 @@ fn page_in(alloc: Global, bytes: &[u8]) -> Result<Played, Outcome>
     match read_script(alloc, bytes) {
         Ok(script) => page_of_script(alloc, script),
         Err(TextFault::Json) => Err(Outcome::Json),
-        Err(TextFault::Shape { list, index, field }) => Err(Outcome::Shape { list, index, field }),
+        Err(TextFault::Shape(fault)) => Err(Outcome::Shape(fault)),
         Err(
             TextFault::Script {
                 frame,

@@ -14,7 +14,7 @@ use Rattle.cc_shape.specs.Faults.{or_fault}
 use Rattle.cc_shape.specs.Fields.{object_at}
 use Rattle.cc_shape.proofs.Again.{left, right, both}
 use Rattle.cc_shape.proofs.Fits.{then_ok, then_any, then_some, or_fault_ok}
-use Rattle.cc_script.specs.declared.fault.Fault.{Fault}
+use Rattle.cc_script.specs.declared.fault.ShapeFault.{ShapeFault}
 use Rattle.cc_script.specs.declared.op.Op.{Op}
 use Rattle.cc_script.specs.declared.op.Op.TheVariants as op
 use Rattle.cc_script.specs.Faults.{placed, before_rest}
@@ -117,7 +117,7 @@ placed_ok list index (Ok x) P h = h
 placed_ok list index (Err e) P h = tt
 
 -- an element in its range before others in theirs, and one more of them
-rest_fits : {A : Type 0} (first : Result A Fault) (rest : Result (List A) Fault) (n : ℕ) (test : A → Bool)
+rest_fits : {A : Type 0} (first : Result A ShapeFault) (rest : Result (List A) ShapeFault) (n : ℕ) (test : A → Bool)
     → IfOk first (λ x. test x ≡ true)
     → IfOk rest (λ xs. (list_all test xs ≡ true) × (length xs ≡ n))
     → IfOk (before_rest first rest) (λ xs. (list_all test xs ≡ true) × (length xs ≡ suc n))

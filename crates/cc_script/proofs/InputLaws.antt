@@ -12,7 +12,7 @@ use Rattle.cc_shape.specs.Faults.{fault, or_fault}
 use Rattle.cc_shape.specs.Fields.{object_at, no_more, number_at, int_at}
 use Rattle.cc_shape.proofs.Again.{left, right, both, number_again, int_again}
 use Rattle.cc_shape.proofs.Fits.{then_ok, then_any, or_fault_ok, number_fits, int_fits}
-use Rattle.cc_script.specs.declared.fault.Fault.{Fault}
+use Rattle.cc_script.specs.declared.fault.ShapeFault.{ShapeFault}
 use Rattle.cc_script.specs.declared.op.InputOp.{InputOp}
 use Rattle.cc_script.specs.declared.op.InputOp.TheVariants as op
 use Rattle.cc_script.specs.Faults.{placed, before_rest}
@@ -171,7 +171,7 @@ more_fits frames draws n Draw xs h k = record { in_range = both _ _ h.in_range k
 more_fits frames draws n (Await frame) xs h k = record { in_range = both _ _ h.in_range k.in_range; few = k.few; count = ap suc k.count }
 more_fits frames draws n Settle xs h k = record { in_range = both _ _ h.in_range k.in_range; few = k.few; count = ap suc k.count }
 
-rest_fits : (frames draws n : ℕ) (x : Input) (rest : Result (List Input) Fault) → Fits frames draws x
+rest_fits : (frames draws n : ℕ) (x : Input) (rest : Result (List Input) ShapeFault) → Fits frames draws x
     → IfOk rest (AllFit frames (draws_after draws x) n) → IfOk (before_rest (Ok x) rest) (AllFit frames draws (suc n))
 rest_fits frames draws n x (Ok xs) h k = more_fits frames draws n x xs h k
 rest_fits frames draws n x (Err e) h k = tt

@@ -9,7 +9,7 @@ use Rattle.cc_event.specs.Frames.{blank}
 use Rattle.cc_event.specs.Judging.{RefusedAt}
 use Rattle.cc_event.specs.Scripts.{ScriptModel}
 use Rattle.cc_event.proofs.Exclusion.{frames_taken, one_at}
-use Rattle.cc_script.specs.declared.fault.Fault.{Fault}
+use Rattle.cc_script.specs.declared.fault.ShapeFault.{ShapeFault}
 use Rattle.cc_script.specs.declared.text_fault.TextFault.{TextFault}
 use Rattle.cc_script.specs.declared.text_fault.TextFault.TheVariants.{Json, Shape, Script, Memory}
 use Rattle.cc_script.specs.Reading.{parts_at}
@@ -25,17 +25,17 @@ is_json : (bytes : List ℕ) (d : Data) → IsTextOf bytes d → (IsUtf8 bytes �
 is_json bytes d h none = let no : None ≡ Some d = sym (none h.0) ∙ h.1 in absurd (cc)
 
 -- a value at fault is no script
-at_fault : (bytes : List ℕ) (d : Data) (fault : Fault) (s : ScriptModel) → IsTextOf bytes d → parts_at d ≡ Err fault → IsScriptText bytes s → ⊥
+at_fault : (bytes : List ℕ) (d : Data) (fault : ShapeFault) (s : ScriptModel) → IsTextOf bytes d → parts_at d ≡ Err fault → IsScriptText bytes s → ⊥
 at_fault bytes d fault s h e t =
     let same = one_value bytes d t.0 h t.1 in
-    let no : ◌≡◌ {A = Result ScriptModel Fault} (Err fault) (Ok s) = sym e ∙ ap parts_at same ∙ t.2 in
+    let no : ◌≡◌ {A = Result ScriptModel ShapeFault} (Err fault) (Ok s) = sym e ∙ ap parts_at same ∙ t.2 in
     absurd (cc)
 
 -- a value has one first fault
-one_shape : (bytes : List ℕ) (d e : Data) (f g : Fault) → IsTextOf bytes d → parts_at d ≡ Err f → IsTextOf bytes e → parts_at e ≡ Err g → f ≡ g
+one_shape : (bytes : List ℕ) (d e : Data) (f g : ShapeFault) → IsTextOf bytes d → parts_at d ≡ Err f → IsTextOf bytes e → parts_at e ≡ Err g → f ≡ g
 one_shape bytes d e f g h p k q =
     let same = one_value bytes d e h k in
-    let both : ◌≡◌ {A = Result ScriptModel Fault} (Err f) (Err g) = sym p ∙ ap parts_at same ∙ q in
+    let both : ◌≡◌ {A = Result ScriptModel ShapeFault} (Err f) (Err g) = sym p ∙ ap parts_at same ∙ q in
     cc
 
 -- an accepted script has no refused command
@@ -44,32 +44,28 @@ accepted bytes s t k n fault h a i r =
     let P : ScriptModel → Type 0 = λ u. RefusedAt (blank u) u.main k n fault in
     frames_taken (blank s) s.main k n fault a.commands (subst P (one_script bytes t s i h) r)
 
-shape_of : Fault → TextFault
-shape_of f = Shape f.list f.index f.field
-
 pub one_answer : (bytes : List ℕ) (r q : Result ScriptModel TextFault) → IsTold r → IsTold q → ScriptCause bytes r → ScriptCause bytes q → r ≡ q
-unfolding shape_of
 one_answer bytes (Err (Memory e)) q told tells a b = absurd told
 one_answer bytes (Ok s) (Err (Memory e)) told tells a b = absurd tells
 one_answer bytes (Err Json) (Err (Memory e)) told tells a b = absurd tells
-one_answer bytes (Err (Shape list index field)) (Err (Memory e)) told tells a b = absurd tells
+one_answer bytes (Err (Shape f)) (Err (Memory e)) told tells a b = absurd tells
 one_answer bytes (Err (Script k n fault)) (Err (Memory e)) told tells a b = absurd tells
 one_answer bytes (Ok s) (Ok t) told tells a b = ap Ok (one_script bytes s t a.0 b.0)
 one_answer bytes (Ok s) (Err Json) told tells a b = absurd (is_json bytes a.0.0 a.0.1 b)
-one_answer bytes (Ok s) (Err (Shape list index field)) told tells a b = absurd (at_fault bytes b.0 _ s b.1 b.2 a.0)
+one_answer bytes (Ok s) (Err (Shape f)) told tells a b = absurd (at_fault bytes b.0 _ s b.1 b.2 a.0)
 one_answer bytes (Ok s) (Err (Script k n fault)) told tells a b = absurd (accepted bytes s b.0 k n fault a.0 a.1 b.1 b.2)
 one_answer bytes (Err Json) (Ok s) told tells a b = absurd (is_json bytes b.0.0 b.0.1 a)
 one_answer bytes (Err Json) (Err Json) told tells a b = refl
-one_answer bytes (Err Json) (Err (Shape list index field)) told tells a b = absurd (is_json bytes b.0 b.1 a)
+one_answer bytes (Err Json) (Err (Shape f)) told tells a b = absurd (is_json bytes b.0 b.1 a)
 one_answer bytes (Err Json) (Err (Script k n fault)) told tells a b = absurd (is_json bytes b.1.0 b.1.1 a)
-one_answer bytes (Err (Shape list index field)) (Ok s) told tells a b = absurd (at_fault bytes a.0 _ s a.1 a.2 b.0)
-one_answer bytes (Err (Shape list index field)) (Err Json) told tells a b = absurd (is_json bytes a.0 a.1 b)
-one_answer bytes (Err (Shape list index field)) (Err (Shape l i f)) told tells a b =
-    ap (λ (g : Fault). Err (shape_of g)) (one_shape bytes a.0 b.0 (record { list = list; index = index; field = field }) (record { list = l; index = i; field = f }) a.1 a.2 b.1 b.2)
-one_answer bytes (Err (Shape list index field)) (Err (Script k n fault)) told tells a b = absurd (at_fault bytes a.0 _ b.0 a.1 a.2 b.1)
+one_answer bytes (Err (Shape f)) (Ok s) told tells a b = absurd (at_fault bytes a.0 _ s a.1 a.2 b.0)
+one_answer bytes (Err (Shape f)) (Err Json) told tells a b = absurd (is_json bytes a.0 a.1 b)
+one_answer bytes (Err (Shape f)) (Err (Shape g)) told tells a b =
+    ap (λ (h : ShapeFault). Err (Shape h)) (one_shape bytes a.0 b.0 f g a.1 a.2 b.1 b.2)
+one_answer bytes (Err (Shape f)) (Err (Script k n fault)) told tells a b = absurd (at_fault bytes a.0 _ b.0 a.1 a.2 b.1)
 one_answer bytes (Err (Script k n fault)) (Ok s) told tells a b = absurd (accepted bytes s a.0 k n fault b.0 b.1 a.1 a.2)
 one_answer bytes (Err (Script k n fault)) (Err Json) told tells a b = absurd (is_json bytes a.1.0 a.1.1 b)
-one_answer bytes (Err (Script k n fault)) (Err (Shape list index field)) told tells a b = absurd (at_fault bytes b.0 _ a.0 b.1 b.2 a.1)
+one_answer bytes (Err (Script k n fault)) (Err (Shape f)) told tells a b = absurd (at_fault bytes b.0 _ a.0 b.1 b.2 a.1)
 one_answer bytes (Err (Script k n fault)) (Err (Script j m other)) told tells a b =
     let P : ScriptModel → Type 0 = λ u. RefusedAt (blank u) u.main k n fault in
     let same = one_at (blank b.0) b.0.main k j n m fault other (subst P (one_script bytes a.0 b.0 a.1 b.1) a.2) b.2 in

@@ -16,7 +16,7 @@ use Rattle.cc_event.specs.Ranges.{in_range, longest_side, command_in_range, inpu
 use Rattle.cc_shape.specs.Fields.{object_at, no_more, number_at, sides_at, opaque_at, list_at}
 use Rattle.cc_shape.proofs.Again.{left, right, both, number_again, opaque_again, sides_again, list_again, items_len-items_of}
 use Rattle.cc_shape.proofs.Fits.{then_ok, then_any, SidesFit, number_fits, opaque_fits, sides_fits, list_fits}
-use Rattle.cc_script.specs.declared.fault.Fault.{Fault}
+use Rattle.cc_script.specs.declared.fault.ShapeFault.{ShapeFault}
 use Rattle.cc_script.specs.declared.head.Head.{Head}
 use Rattle.cc_script.specs.Faults.{placed}
 use Rattle.cc_script.specs.Causes.{IsScriptText}
@@ -180,7 +180,7 @@ parts_fit d =
 
 pub parts_are_in_ranges : (d : Data) (s : ScriptModel) → parts_at d ≡ Ok s → is_in_ranges s ≡ true
 parts_are_in_ranges d s e =
-    let P : Result ScriptModel Fault → Type 0 = λ r. IfOk r (λ t. is_in_ranges t ≡ true) in
+    let P : Result ScriptModel ShapeFault → Type 0 = λ r. IfOk r (λ t. is_in_ranges t ≡ true) in
     subst P e (parts_fit d)
 
 -- ---- texts
@@ -189,5 +189,5 @@ pub one_script : (bytes : List ℕ) (s t : ScriptModel) → IsScriptText bytes s
 one_script bytes s t h k =
     let d : Some h.0 ≡ Some k.0 = sym h.1.1 ∙ k.1.1 in
     let same : h.0 ≡ k.0 = cc in
-    let e : ◌≡◌ {A = Result ScriptModel Fault} (Ok s) (Ok t) = sym h.2 ∙ ap parts_at same ∙ k.2 in
+    let e : ◌≡◌ {A = Result ScriptModel ShapeFault} (Ok s) (Ok t) = sym h.2 ∙ ap parts_at same ∙ k.2 in
     cc

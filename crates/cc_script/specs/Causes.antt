@@ -26,16 +26,16 @@ IsScriptText bytes s = (d : Data) × IsTextOf bytes d × (parts_at d ≡ Ok s)
 abbrev pub PartsCause : List ℕ → Result ScriptParts PartsFault → Type 0
 PartsCause bytes (Ok p) = IsScriptText bytes (script_of p)
 PartsCause bytes (Err Json) = IsUtf8 bytes → read bytes ≡ None
-PartsCause bytes (Err (Shape list index field)) =
-    (d : Data) × IsTextOf bytes d × (parts_at d ≡ Err (record { list = list; index = index; field = field }))
+PartsCause bytes (Err (Shape fault)) =
+    (d : Data) × IsTextOf bytes d × (parts_at d ≡ Err fault)
 PartsCause bytes (Err (Memory e)) = ⊤
 
 -- why this is the answer for these bytes: they are no JSON; or of a value with this first fault; or of a script whose first refused command is this one; or of this script, which is accepted
 abbrev pub ScriptCause : List ℕ → Result ScriptModel TextFault → Type 0
 ScriptCause bytes (Ok s) = IsScriptText bytes s × IsAccepted s
 ScriptCause bytes (Err text.Json) = IsUtf8 bytes → read bytes ≡ None
-ScriptCause bytes (Err (text.Shape list index field)) =
-    (d : Data) × IsTextOf bytes d × (parts_at d ≡ Err (record { list = list; index = index; field = field }))
+ScriptCause bytes (Err (text.Shape fault)) =
+    (d : Data) × IsTextOf bytes d × (parts_at d ≡ Err fault)
 ScriptCause bytes (Err (text.Script frame command fault)) =
     (s : ScriptModel) × IsScriptText bytes s × RefusedAt (blank s) s.main frame command fault
 ScriptCause bytes (Err (text.Memory e)) = ⊤
@@ -44,6 +44,6 @@ ScriptCause bytes (Err (text.Memory e)) = ⊤
 abbrev pub IsTold : Result ScriptModel TextFault → Type 0
 IsTold (Err (text.Memory e)) = ⊥
 IsTold (Err text.Json) = ⊤
-IsTold (Err (text.Shape list index field)) = ⊤
+IsTold (Err (text.Shape fault)) = ⊤
 IsTold (Err (text.Script frame command fault)) = ⊤
 IsTold (Ok s) = ⊤

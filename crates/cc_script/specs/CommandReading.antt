@@ -6,7 +6,7 @@ use Rattle.cc_edit.specs.declared.command.Command.{Command}
 use Rattle.cc_shape.specs.declared.fault.FieldFault.{FieldFault}
 use Rattle.cc_shape.specs.Faults.{◌>>=◌, or_fault}
 use Rattle.cc_shape.specs.Fields.{object_at}
-use Rattle.cc_script.specs.declared.fault.Fault.{Fault}
+use Rattle.cc_script.specs.declared.fault.ShapeFault.{ShapeFault}
 use Rattle.cc_script.specs.declared.op.Op.{Op}
 use Rattle.cc_script.specs.declared.op.Op.TheVariants as op
 use Rattle.cc_script.specs.Faults.{placed, before_rest}
@@ -45,17 +45,17 @@ command_at version d = do
   fields_at name d
 
 -- the commands of a main frame from the one at `index` on
-abbrev pub commands_at : ℕ → ℕ → ℕ → Items → Result (List Command) Fault
+abbrev pub commands_at : ℕ → ℕ → ℕ → Items → Result (List Command) ShapeFault
 commands_at version list index no_items = Ok []
 commands_at version list index (item d ds) =
     before_rest (placed list index (command_at version d)) (commands_at version list (index + 1) ds)
 
 -- a main frame; a value that is no list is a fault of field 98
-unfoldable pub frame_at : ℕ → ℕ → Data → Result (List Command) Fault
+unfoldable pub frame_at : ℕ → ℕ → Data → Result (List Command) ShapeFault
 frame_at version list d = placed list 0 (or_fault 98 (as_array d)) >>= commands_at version list 0
 
 -- the main frames from the one whose list is `list` on
-abbrev pub frames_at : ℕ → ℕ → Items → Result (List (List Command)) Fault
+abbrev pub frames_at : ℕ → ℕ → Items → Result (List (List Command)) ShapeFault
 frames_at version list no_items = Ok []
 frames_at version list (item d ds) =
     before_rest (frame_at version list d) (frames_at version (list + 1) ds)

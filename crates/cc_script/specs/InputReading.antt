@@ -9,7 +9,7 @@ use Rattle.cc_event.specs.declared.input.Input.TheVariants.{Scroll, Wheel, Draw,
 use Rattle.cc_shape.specs.declared.fault.FieldFault.{FieldFault}
 use Rattle.cc_shape.specs.Faults.{◌>>=◌, fault, or_fault}
 use Rattle.cc_shape.specs.Fields.{number_at, int_at, object_at, no_more}
-use Rattle.cc_script.specs.declared.fault.Fault.{Fault}
+use Rattle.cc_script.specs.declared.fault.ShapeFault.{ShapeFault}
 use Rattle.cc_script.specs.declared.op.InputOp.{InputOp}
 use Rattle.cc_script.specs.declared.op.InputOp.TheVariants as op
 use Rattle.cc_script.specs.Faults.{placed, before_rest}
@@ -103,11 +103,11 @@ draws_after draws (Await frame) = draws
 draws_after draws Settle = draws
 
 -- an element before those that are read after it
-abbrev pub then_rest : {A : Type 0} → Result A Fault → (A → Result (List A) Fault) → Result (List A) Fault
+abbrev pub then_rest : {A : Type 0} → Result A ShapeFault → (A → Result (List A) ShapeFault) → Result (List A) ShapeFault
 then_rest first rest = first >>= λ x. before_rest (Ok x) (rest x)
 
 -- the inputs from the one at `index` on, after so many draws
-abbrev pub inputs_at : ℕ → ℕ → ℕ → Items → Result (List Input) Fault
+abbrev pub inputs_at : ℕ → ℕ → ℕ → Items → Result (List Input) ShapeFault
 inputs_at frames draws index no_items = Ok []
 inputs_at frames draws index (item d ds) =
     then_rest (placed 1 index (input_at frames draws d)) (λ x. inputs_at frames (draws_after draws x) (index + 1) ds)

@@ -11,7 +11,7 @@ use Rattle.cc_event.specs.Scripts.{ScriptModel}
 use Rattle.cc_shape.specs.declared.fault.FieldFault.{FieldFault}
 use Rattle.cc_shape.specs.Faults.{◌>>=◌, or_fault}
 use Rattle.cc_shape.specs.Fields.{object_at, number_at, sides_at, opaque_at, list_at, no_more}
-use Rattle.cc_script.specs.declared.fault.Fault.{Fault}
+use Rattle.cc_script.specs.declared.fault.ShapeFault.{ShapeFault}
 use Rattle.cc_script.specs.declared.head.Head.{Head}
 use Rattle.cc_script.specs.Faults.{placed}
 use Rattle.cc_script.specs.CommandReading.{frames_at}
@@ -57,7 +57,7 @@ lists_at d = do
   Ok (record { main = main; inputs = inputs })
 
 -- a script; its first fault is in the top object, else in a main frame, else in an input
-unfoldable pub parts_at : Data → Result ScriptModel Fault
+unfoldable pub parts_at : Data → Result ScriptModel ShapeFault
 parts_at d = do
   head ← placed 0 0 (head_at d)
   lists ← placed 0 0 (lists_at d)

@@ -7,7 +7,7 @@ use std::alloc::AllocError;
 
 /// Where a script is at fault.
 #[derive(Clone, Copy, PartialEq, Eq, Debug)]
-pub struct Fault {
+pub struct ShapeFault {
     /// 0 for the top object, 1 for the inputs, `2 + k` for main frame k.
     pub list: u32,
     /// The place in that list; 0 for the top object.
@@ -23,15 +23,7 @@ pub enum PartsFault {
     /// The bytes are no JSON.
     Json,
     /// The value is no script: the place of its first fault.
-    Shape {
-        /// 0 for the top object, 1 for the inputs, `2 + k` for main frame k.
-        list: u32,
-        /// The place in that list; 0 for the top object.
-        index: u32,
-        /// The number of the field: 0 for the value itself or its `op`, 98 for a main frame that is
-        /// no list, 99 for a further field.
-        field: u32,
-    },
+    Shape(ShapeFault),
     /// There was no memory.
     Memory(AllocError),
 }
@@ -40,15 +32,15 @@ pub enum PartsFault {
 #[derive(Clone, Copy, PartialEq, Eq, Debug)]
 pub(crate) enum Stop {
     /// The value is at fault.
-    Fault(Fault),
+    Fault(ShapeFault),
     /// There was no memory.
     Memory(AllocError),
 }
 
-impl From<Fault> for Stop {
+impl From<ShapeFault> for Stop {
     ghost from_gives = { λ f e. e ≡ stop.Fault f };
 
-    fn from(fault: Fault) -> Stop {
+    fn from(fault: ShapeFault) -> Stop {
         Stop::Fault(fault)
     }
 }

@@ -10,7 +10,7 @@ mod read;
 mod script;
 mod text_fault;
 
-pub use fault::PartsFault;
+pub use fault::{PartsFault, ShapeFault};
 pub use print::parts::print_parts;
 pub use read::parts::read_parts;
 pub use script::{print_script, read_script};

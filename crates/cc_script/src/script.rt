@@ -39,9 +39,7 @@ pub fn read_script(alloc: Global, bytes: &[u8]) -> Result<Script, TextFault>
             Err(ScriptError::Memory(refused)) => Err(TextFault::Memory(refused)),
         },
         Err(PartsFault::Json) => Err(TextFault::Json),
-        Err(PartsFault::Shape { list, index, field }) => {
-            Err(TextFault::Shape { list, index, field })
-        }
+        Err(PartsFault::Shape(fault)) => Err(TextFault::Shape(fault)),
         Err(PartsFault::Memory(refused)) => Err(TextFault::Memory(refused)),
     }
 }

@@ -1,5 +1,6 @@
 //! Why bytes are no script.
 
+use crate::fault::ShapeFault;
 use cc_edit::EditFault;
 use std::alloc::AllocError;
 use thiserror::Error;
@@ -11,16 +12,8 @@ pub enum TextFault {
     #[error("the text is no JSON")]
     Json,
     /// The value is no script: the place of its first fault.
-    #[error("list {list}, place {index}: field {field} is at fault")]
-    Shape {
-        /// 0 for the top object, 1 for the inputs, `2 + k` for main frame k.
-        list: u32,
-        /// The place in that list; 0 for the top object.
-        index: u32,
-        /// The number of the field: 0 for the value itself or its `op`, 98 for a main frame that is
-        /// no list, 99 for a further field.
-        field: u32,
-    },
+    #[error("list {}, index {}: field {} is at fault", .0.list, .0.index, .0.field)]
+    Shape(ShapeFault),
     /// A command is refused, and it is the first: all before it are taken, frame by frame.
     #[error("main frame {frame}, command {command}: refused with {fault:?}")]
     Script {

@@ -8,7 +8,7 @@ ghost use Rattle.cc_script.specs.Faults.{Gives, placed};
 ghost use Rattle.cc_script.specs.CommandReading.{fields_at, command_at, commands_at, frame_at, frames_at};
 
 use super::{items, layers, nodes};
-use crate::fault::{Fault, Stop};
+use crate::fault::{ShapeFault, Stop};
 use crate::op::{self, Op};
 use cc_edit::Command;
 use cc_shape::{Trouble, fields};
@@ -65,7 +65,7 @@ fn placed_command(
 {
     match command(alloc, version, value) {
         Ok(command) => Ok(command),
-        Err(Trouble::Fault(fault)) => Err(Stop::Fault(Fault {
+        Err(Trouble::Fault(fault)) => Err(Stop::Fault(ShapeFault {
             list,
             index,
             field: fault.field,
@@ -101,7 +101,7 @@ fn frame(alloc: Global, version: u32, list: u32, value: &Value) -> Result<Vec<Co
 {
     match value.as_array() {
         Some(values) => commands(alloc, version, list, values.as_slice()),
-        None => Err(Stop::Fault(Fault {
+        None => Err(Stop::Fault(ShapeFault {
             list,
             index: 0,
             field: 98,

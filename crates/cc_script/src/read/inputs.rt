@@ -5,7 +5,7 @@ ghost use Rattle.serde_json.specs.View.{view, items_view};
 ghost use Rattle.cc_script.specs.Faults.{Gives, placed};
 ghost use Rattle.cc_script.specs.InputReading.{amount_at, scroll_at, wheel_at, draw_at, frame_number, await_at, settle_at, input_fields_at, input_at, draws_after, inputs_at};
 
-use crate::fault::{Fault, Stop};
+use crate::fault::{ShapeFault, Stop};
 use crate::op::{self, InputOp};
 use cc_event::Input;
 use cc_shape::{FieldFault, fields};
@@ -123,12 +123,12 @@ fn draws_after(draws: u32, input: Input) -> u32
 }
 
 // The input at a place of the list.
-fn placed_input(frames: u32, draws: u32, index: u32, value: &Value) -> Result<Input, Fault>
+fn placed_input(frames: u32, draws: u32, index: u32, value: &Value) -> Result<Input, ShapeFault>
     ensures { result ≡ placed 1 index (input_at frames draws (view value.now)) }
 {
     match input(frames, draws, value) {
         Ok(input) => Ok(input),
-        Err(fault) => Err(Fault {
+        Err(fault) => Err(ShapeFault {
             list: 1,
             index,
             field: fault.field,

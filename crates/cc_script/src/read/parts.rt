@@ -11,7 +11,7 @@ ghost use Rattle.cc_script.specs.Reading.{priority_named, priority_at, head_at, 
 ghost use Rattle.cc_script.specs.Causes.{PartsCause};
 
 use super::{commands, inputs};
-use crate::fault::{Fault, PartsFault, Stop};
+use crate::fault::{ShapeFault, PartsFault, Stop};
 use crate::head::Head;
 use cc_event::ScriptParts;
 use cc_priority::TreePriority;
@@ -100,12 +100,12 @@ fn lists_of(value: &Value) -> Result<Lists<'_>, FieldFault>
 }
 
 // The first nine fields, or the fault's place.
-fn placed_head(value: &Value) -> Result<Head, Fault>
+fn placed_head(value: &Value) -> Result<Head, ShapeFault>
     ensures { result ≡ placed 0 0 (head_at (view value.now)) }
 {
     match head_of(value) {
         Ok(head) => Ok(head),
-        Err(fault) => Err(Fault {
+        Err(fault) => Err(ShapeFault {
             list: 0,
             index: 0,
             field: fault.field,
@@ -114,13 +114,13 @@ fn placed_head(value: &Value) -> Result<Head, Fault>
 }
 
 // The lists, or the fault's place.
-fn placed_lists(value: &Value) -> Result<Lists<'_>, Fault>
+fn placed_lists(value: &Value) -> Result<Lists<'_>, ShapeFault>
     ensures value { seen (λ l. record { main = items_view l.main.now; inputs = items_view l.inputs.now }) result ≡ placed 0 0 (lists_at (view value.now)) }
     ensures few { IfOk result (λ l. (length l.main.now ≤ 4096) × (length l.inputs.now ≤ 65536)) }
 {
     match lists_of(value) {
         Ok(lists) => Ok(lists),
-        Err(fault) => Err(Fault {
+        Err(fault) => Err(ShapeFault {
             list: 0,
             index: 0,
             field: fault.field,
@@ -168,11 +168,7 @@ pub fn read_parts(alloc: Global, bytes: &[u8]) -> Result<ScriptParts, PartsFault
     match Value::from_slice(alloc, bytes) {
         Ok(value) => match parts(alloc, &value) {
             Ok(parts) => Ok(parts),
-            Err(Stop::Fault(fault)) => Err(PartsFault::Shape {
-                list: fault.list,
-                index: fault.index,
-                field: fault.field,
-            }),
+            Err(Stop::Fault(fault)) => Err(PartsFault::Shape(fault)),
             Err(Stop::Memory(refused)) => Err(PartsFault::Memory(refused)),
         },
         Err(error) if error.is_memory() => Err(PartsFault::Memory(AllocError)),
