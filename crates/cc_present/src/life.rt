@@ -25,6 +25,7 @@ pub fn present_from<R: Threads + Wait + Sync, K: Sink + Send>(
 ) -> Presented
     ensures bytes { Gained result (K.held out.old) (K.held out.new) (joined pieces.now) }
     ensures cause { FaultRose result (K.faults out.old) (K.faults out.new) }
+    ensures place { K.place out.new ≡ K.place out.old }
 {
     match ring(alloc) {
         Ok((sink, presenter)) => {
@@ -61,6 +62,7 @@ fn run<R: Threads + Wait + Sync, K: Sink + Send>(
     ensures bytes { Gained result.served (K.held out.old) (K.held out.new) (taken result.presenter) }
     ensures faults { K.faults out.old ≤ K.faults out.new }
     ensures cause { FaultRose result.served (K.faults out.old) (K.faults out.new) }
+    ensures place { K.place out.new ≡ K.place out.old }
 {
     let mut sink = sink;
     let mut presenter = presenter;
@@ -82,6 +84,7 @@ fn settle<K: Sink>(ran: Ran, out: &mut K) -> Presented
     requires { OneRing ran.sink ran.presenter }
     ensures bytes { (first : Option (List ℕ)) (bytes : List ℕ) → Filled ran.put [] (whole ran.sink) bytes → Gained ran.served first (K.held out.old) (taken ran.presenter) → Gained result first (K.held out.new) bytes }
     ensures cause { Blames ran.served result (K.faults out.old) (K.faults out.new) }
+    ensures place { K.place out.new ≡ K.place out.old }
 {
     let finished = finish(ran.sink, ran.presenter, ran.served, out);
     told(finished, ran.put)

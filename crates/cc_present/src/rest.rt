@@ -29,6 +29,7 @@ pub fn finish<K: Sink>(
     ensures refusals { K.refusals out.old ≤ K.refusals out.new }
     ensures stops { Stops served result out.old out.new }
     ensures cause { Blames served result (K.faults out.old) (K.faults out.new) }
+    ensures place { K.place out.new ≡ K.place out.old }
 {
     let RingSink {
         mut producer,
@@ -54,6 +55,7 @@ fn empty<K: Sink>(
     ensures refusals { K.refusals out.old ≤ K.refusals out.new }
     ensures stops { Stops served result out.old out.new }
     ensures cause { Blames served result (K.faults out.old) (K.faults out.new) }
+    ensures place { K.place out.new ≡ K.place out.old }
 {
     let mut state = served;
     for _ in 0..count {
@@ -70,6 +72,7 @@ fn put_all<K: Sink>(pieces: &[Vec<u8>], served: Presented, out: &mut K) -> Prese
     ensures refusals { K.refusals out.old ≤ K.refusals out.new }
     ensures stops { Stops served result out.old out.new }
     ensures cause { Blames served result (K.faults out.old) (K.faults out.new) }
+    ensures place { K.place out.new ≡ K.place out.old }
 {
     let mut state = served;
     for piece in pieces {

@@ -1,5 +1,5 @@
 //! Handing the pieces of a ring on.
-ghost use Rattle.std.specs.Prelude.{◌≤◌};
+ghost use Rattle.std.specs.Prelude.{◌≡◌, ◌≤◌};
 ghost use Rattle.cc_present.specs.Ring.{SamePresenter, taken};
 ghost use Rattle.cc_present.specs.Answers.{Adds, Blames, FaultRose, Served, Stops};
 
@@ -16,6 +16,7 @@ pub(crate) fn present<K: Sink>(state: Presented, piece: &[u8], out: &mut K) -> P
     ensures refusals { K.refusals out.old ≤ K.refusals out.new }
     ensures stops { Stops state result out.old out.new }
     ensures cause { Blames state result (K.faults out.old) (K.faults out.new) }
+    ensures place { K.place out.new ≡ K.place out.old }
 {
     match state {
         Presented::Written => match out.put(piece) {
@@ -42,6 +43,7 @@ impl Presenter {
         ensures faults { K.faults out.old ≤ K.faults out.new }
         ensures refusals { K.refusals out.old ≤ K.refusals out.new }
         ensures cause { FaultRose result (K.faults out.old) (K.faults out.new) }
+        ensures place { K.place out.new ≡ K.place out.old }
     {
         let mut state = Presented::Written;
         for _ in rt.forever() {

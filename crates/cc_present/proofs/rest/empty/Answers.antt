@@ -15,4 +15,5 @@ loop-preserved g c =
       refusals = search rules;
       stops = search rules;
       cause = search rules;
+      place = search rules;
     }

@@ -12,4 +12,5 @@ invariant-loop g l = record {
   refusals : g.K.Sink.refusals l.fn.out ≤ g.K.Sink.refusals l.out;
   stops : Stops l.fn.served l.state l.fn.out l.out;
   cause : Blames l.fn.served l.state (g.K.Sink.faults l.fn.out) (g.K.Sink.faults l.out);
+  place : g.K.Sink.place l.out ≡ g.K.Sink.place l.fn.out;
 }

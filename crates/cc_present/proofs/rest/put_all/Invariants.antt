@@ -1,4 +1,4 @@
-use Rattle.std.proofs.Common.{◌≤◌, take}
+use Rattle.std.proofs.Common.{◌≡◌, ◌≤◌, take}
 use Rattle.cc_present.specs.Ring.{joined}
 use Rattle.cc_present.specs.Answers.{Adds, Blames, Stops}
 use Rattle.cc_present.proofs.rest.put_all.Given as goal
@@ -10,4 +10,5 @@ invariant-loop-piece g l = record {
   refusals : g.K.Sink.refusals l.fn.out ≤ g.K.Sink.refusals l.out;
   stops : Stops l.fn.served l.state l.fn.out l.out;
   cause : Blames l.fn.served l.state (g.K.Sink.faults l.fn.out) (g.K.Sink.faults l.out);
+  place : g.K.Sink.place l.out ≡ g.K.Sink.place l.fn.out;
 }

@@ -1,4 +1,4 @@
-use Rattle.std.proofs.Common.{◌≤◌}
+use Rattle.std.proofs.Common.{◌≡◌, ◌≤◌}
 use Rattle.cc_present.specs.Ring.{SamePresenter, taken}
 use Rattle.cc_present.specs.Answers.{FaultRose, Served}
 use Rattle.cc_present.proofs.ends.Presenter.serve.Given as goal
@@ -10,4 +10,5 @@ invariant-loop g l = record {
   faults : g.K.Sink.faults l.fn.out ≤ g.K.Sink.faults l.out;
   refusals : g.K.Sink.refusals l.fn.out ≤ g.K.Sink.refusals l.out;
   cause : FaultRose l.state (g.K.Sink.faults l.fn.out) (g.K.Sink.faults l.out);
+  place : g.K.Sink.place l.out ≡ g.K.Sink.place l.fn.out;
 }
