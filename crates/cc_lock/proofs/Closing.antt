@@ -17,15 +17,15 @@ use Rattle.cc_lock.specs.declared.board.View.{View}
 use Rattle.cc_lock.specs.declared.board.Old.{Old}
 use Rattle.cc_lock.specs.Lists.{own, times, one_if}
 use Rattle.cc_lock.specs.Turns.{OldOk, Knows, Kept, numbers_of}
-use Rattle.cc_lock.specs.Cards.{Card, card_of, old_of, Rests, IsToldBy, HasAllActors}
-use Rattle.cc_lock.specs.Steps.{old_at, absorbed, spent_view}
+use Rattle.cc_lock.specs.PassModels.{PassModel, pass_of, old_of, Rests, IsToldBy, HasAllActors}
+use Rattle.cc_lock.specs.inner.Steps.{old_at, absorbed, spent_view}
 use Rattle.cc_lock.proofs.Seats.{put, put_here, put_else, put_keeps, seats, someone_stays, some_of}
 use Rattle.cc_lock.proofs.Counts.{one_at_most, one_else, times_between, times_none, all_there, contains_times}
 use Rattle.cc_lock.proofs.Keeps.{moved_olds, owned_numbers}
 
 module _ {M E : Type 0} where
   -- the passes that are left, with the one that was taken in behind them, are the passes that were
-  pub one_more : (left : List (Card M E)) (p : Card M E) (olds : List (Old M E)) → map old_of left ++ (old_of p ∷ olds) ≡ map old_of (left ++ p ∷ []) ++ olds
+  pub one_more : (left : List (PassModel M E)) (p : PassModel M E) (olds : List (Old M E)) → map old_of left ++ (old_of p ∷ olds) ≡ map old_of (left ++ p ∷ []) ++ olds
   one_more [] p olds = refl
   one_more (q ∷ qs) p olds = ap (λ (os : List (Old M E)). old_of q ∷ os) (one_more qs p olds)
 
@@ -209,7 +209,7 @@ module _ {M E T : Type 0} (stem_of : T → M) (history_of : T → List (ℕ × E
       x = found.0
 
   -- v is what the pass p knows once it has taken in the others
-  pub record Took (v : V) (others : List (Card M E)) (p : Card M E) : Type 0 where
+  pub record Took (v : V) (others : List (PassModel M E)) (p : PassModel M E) : Type 0 where
     pub number : v.number ≡ Some p.actor
     pub stem : v.stem ≡ p.stem
     pub most : v.most ≡ p.most
@@ -218,42 +218,42 @@ module _ {M E T : Type 0} (stem_of : T → M) (history_of : T → List (ℕ × E
     pub waits : v.holds ≡ false
     pub olds : v.olds ≡ map old_of others
 
-  pub took_in : (lock : TableId) (actor most : ℕ) (me : Me (Option T) V) (v : V) (others : List (Card M E)) (p : Card M E) → Rests actor most me → card_of lock actor me.0 ≡ p
+  pub took_in : (lock : TableId) (actor most : ℕ) (me : Me (Option T) V) (v : V) (others : List (PassModel M E)) (p : PassModel M E) → Rests actor most me → pass_of lock actor me.0 ≡ p
       → v ≡ record me.0 { known = v.known; olds = map old_of others ++ me.0.olds } → Took v others p
   took_in lock actor most me v others p rests is took = record {
-    number = ap (λ (z : V). z.number) took ∙ (rests.number ∙ ap (λ (q : Card M E). Some q.actor) is);
-    stem = ap (λ (z : V). z.stem) took ∙ ap (λ (q : Card M E). q.stem) is;
-    most = ap (λ (z : V). z.most) took ∙ ap (λ (q : Card M E). q.most) is;
-    seen = ap (λ (z : V). z.seen) took ∙ ap (λ (q : Card M E). q.seen) is;
-    mine = ap (λ (z : V). z.mine) took ∙ ap (λ (q : Card M E). q.mine) is;
+    number = ap (λ (z : V). z.number) took ∙ (rests.number ∙ ap (λ (q : PassModel M E). Some q.actor) is);
+    stem = ap (λ (z : V). z.stem) took ∙ ap (λ (q : PassModel M E). q.stem) is;
+    most = ap (λ (z : V). z.most) took ∙ ap (λ (q : PassModel M E). q.most) is;
+    seen = ap (λ (z : V). z.seen) took ∙ ap (λ (q : PassModel M E). q.seen) is;
+    mine = ap (λ (z : V). z.mine) took ∙ ap (λ (q : PassModel M E). q.mine) is;
     waits = ap (λ (z : V). z.holds) took ∙ rests.waits;
     olds = ap (λ (z : V). z.olds) took ∙ (ap (λ (os : List (Old M E)). map old_of others ++ os) rests.fresh ∙ append-nil (map old_of others));
   }
 
-  abbrev IsTold : T → Card M E → Type 0
+  abbrev IsTold : T → PassModel M E → Type 0
   IsTold = IsToldBy stem_of history_of
 
-  told_others : (x : T) (others : List (Card M E)) → AllByRecursion (Told x) (map old_of others) → AllByRecursion (IsTold x) others
+  told_others : (x : T) (others : List (PassModel M E)) → AllByRecursion (Told x) (map old_of others) → AllByRecursion (IsTold x) others
   told_others x [] all = tt
   told_others x (p ∷ ps) all = ((all.0.stem, all.0.seen, all.0.mine), told_others x ps all.1)
 
   -- the numbers of the pass that took in the others are those of all passes
-  all_numbers : (k : ℕ) (others : List (Card M E)) (p : Card M E) → times k (map (λ (q : Card M E). q.actor) (others ++ p ∷ [])) ≡ times k (p.actor ∷ map (λ (o : Old M E). o.number) (map old_of others))
+  all_numbers : (k : ℕ) (others : List (PassModel M E)) (p : PassModel M E) → times k (map (λ (q : PassModel M E). q.actor) (others ++ p ∷ [])) ≡ times k (p.actor ∷ map (λ (o : Old M E). o.number) (map old_of others))
   all_numbers k [] p = refl
   all_numbers k (q ∷ qs) p = let h = all_numbers k qs p in omega (arith, h)
 
-  many_numbers : (others : List (Card M E)) (p : Card M E) → length (others ++ p ∷ []) ≡ length (p.actor ∷ map (λ (o : Old M E). o.number) (map old_of others))
+  many_numbers : (others : List (PassModel M E)) (p : PassModel M E) → length (others ++ p ∷ []) ≡ length (p.actor ∷ map (λ (o : Old M E). o.number) (map old_of others))
   many_numbers [] p = refl
   many_numbers (q ∷ qs) p = let h = many_numbers qs p in omega (arith, h)
 
-  lasts : (words : List ℕ) (slots : List (Option T)) (id : ℕ) (v : V) (others : List (Card M E)) (p : Card M E) → Final (Seen Rule id v) words slots → Took v others p → IsSome p.stem
+  lasts : (words : List ℕ) (slots : List (Option T)) (id : ℕ) (v : V) (others : List (PassModel M E)) (p : PassModel M E) → Final (Seen Rule id v) words slots → Took v others p → IsSome p.stem
       → p.most ≤ length (others ++ p ∷ []) → (x : T) × (get_elem? slots 0 ≡ some (Some x)) × All (IsTold x) (others ++ p ∷ []) × HasAllActors (history_of x) (others ++ p ∷ [])
   lasts words slots id v others p final took live enough = (
     x,
     final.4 0 (Some x) (ap (λ hs. get_elem? hs 0) ended.1),
     All-push (IsTold x) others p (All-from_recursion (IsTold x) others (told_others x others (subst (AllByRecursion (Told x)) took.olds ended.2.olds)))
         (sym took.stem ∙ ended.2.stem, subst (λ h. IsPrefix h (history_of x)) took.seen ended.2.seen, sym took.mine ∙ ended.2.mine p.actor took.number),
-    λ k some_entry. contains_times k (map (λ (q : Card M E). q.actor) (others ++ p ∷ []))
+    λ k some_entry. contains_times k (map (λ (q : PassModel M E). q.actor) (others ++ p ∷ []))
         (let there = ended.2.all k some_entry in let same = all_numbers k others p in let is = ap (times k) numbers in omega (arith, there, same, is)),
   )
     where
@@ -271,14 +271,14 @@ module _ {M E T : Type 0} (stem_of : T → M) (history_of : T → List (ℕ × E
       x = ended.0
 
   -- What the last state gives, where there are as many passes as the lock was made for
-  pub record Last (home : Option T) (passes : List (Card M E)) : Type 0 where
+  pub record Last (home : Option T) (passes : List (PassModel M E)) : Type 0 where
     pub value : T
     pub found : home ≡ Some value
     pub told : All (IsTold value) passes
     pub named : HasAllActors (history_of value) passes
 
-  pub ends : (words : List ℕ) (slots : List (Option T)) (id : ℕ) (v : V) (others : List (Card M E)) (p : Card M E) (lock : TableId) (actor most : ℕ) (me : Me (Option T) V) (home : Option T)
-      → Final (Seen Rule id v) words slots → Rests actor most me → card_of lock actor me.0 ≡ p → v ≡ record me.0 { known = v.known; olds = map old_of others ++ me.0.olds }
+  pub ends : (words : List ℕ) (slots : List (Option T)) (id : ℕ) (v : V) (others : List (PassModel M E)) (p : PassModel M E) (lock : TableId) (actor most : ℕ) (me : Me (Option T) V) (home : Option T)
+      → Final (Seen Rule id v) words slots → Rests actor most me → pass_of lock actor me.0 ≡ p → v ≡ record me.0 { known = v.known; olds = map old_of others ++ me.0.olds }
       → p.most ≤ length others + 1 → get_elem? slots 0 ≡ some home → Last home (others ++ p ∷ [])
   ends words slots id v others p lock actor most me home final rests is took enough at = record {
     value = last.0;
@@ -288,5 +288,5 @@ module _ {M E T : Type 0} (stem_of : T → M) (history_of : T → List (ℕ × E
   }
     where
       last : (x : T) × (get_elem? slots 0 ≡ some (Some x)) × All (IsTold x) (others ++ p ∷ []) × HasAllActors (history_of x) (others ++ p ∷ [])
-      last = lasts words slots id v others p final (took_in lock actor most me v others p rests is took) (subst (λ (q : Card M E). IsSome q.stem) is rests.live)
+      last = lasts words slots id v others p final (took_in lock actor most me v others p rests is took) (subst (λ (q : PassModel M E). IsSome q.stem) is rests.live)
           (omega (arith, enough, length-append others (p ∷ [])))

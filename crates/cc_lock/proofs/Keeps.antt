@@ -15,7 +15,7 @@ use Rattle.cc_lock.specs.declared.board.View.{View}
 use Rattle.cc_lock.specs.declared.board.Old.{Old}
 use Rattle.cc_lock.specs.Lists.{own, gained, times}
 use Rattle.cc_lock.specs.Turns.{OldOk, Knows, Kept, opening_view, numbers_of}
-use Rattle.cc_lock.specs.Steps.{Who, sees, gains, tried, stamped, released, drawn, learned, newcomer}
+use Rattle.cc_lock.specs.inner.Steps.{Who, sees, gains, tried, stamped, released, drawn, learned, newcomer}
 use Rattle.cc_lock.proofs.Histories.{own_here, own_else, prefix_more, prefix_same}
 use Rattle.cc_lock.proofs.Seats.{put, put_here, put_else, set_there, seats, someone_stays}
 use Rattle.cc_lock.proofs.Counts.{one_at_most}

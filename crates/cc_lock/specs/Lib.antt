@@ -1,5 +1,5 @@
 pub mod Lists
 pub mod Turns
-pub mod Steps
-pub mod Cards
+pub mod PassModels
 pub mod Journals
+pub mod inner

@@ -1,6 +1,6 @@
 //! The end of a lock: all its passes together give the value back.
 ghost use Rattle.std.specs.Prelude.{◌≡◌, ◌+◌, ◌<◌, ◌≤◌, [], ◌∷◌, ◌++◌, length, map, vec_len, All, IfOk, IfErr};
-ghost use Rattle.cc_lock.specs.Cards.{old_of, IsOf, IsToldBy, HasAllActors};
+ghost use Rattle.cc_lock.specs.PassModels.{old_of, IsOf, IsToldBy, HasAllActors};
 
 use crate::board::{Board, Place};
 use crate::lock::TurnLock;

@@ -1,7 +1,7 @@
 //! The lock.
 ghost use Rattle.std.specs.Prelude.{◌≡◌, ◌+◌, ◌<◌, ◌≤◌, [], Some, IsSome, IfSome, IfOk, IfErr, MatchBool};
 ghost use mathlib.Core.List.{IsPrefix};
-ghost use Rattle.cc_lock.specs.Steps.{Took, Missed};
+ghost use Rattle.cc_lock.specs.inner.Steps.{Took, Missed};
 
 use crate::board::{Board, MADE, Place, TURN};
 use crate::pass::{Busy, Held, Pass, SplitFault};
@@ -22,7 +22,7 @@ pub struct TurnLock<T: Turn> {
 
 impl<T: Turn> Model for TurnLock<T> {
     ghost use Rattle.std.specs.Prelude.{◌≡◌};
-    ghost use Rattle.cc_lock.specs.Cards.{Lock};
+    ghost use Rattle.cc_lock.specs.PassModels.{Lock};
 
     ghost Value = { Lock };
 
@@ -118,7 +118,7 @@ impl<T: Turn> TurnLock<T> {
     /// Takes the turn if it is free, by one exchange. Otherwise the pass comes back, and counts that.
     pub fn try_enter(&self, pass: Pass<T>) -> Result<Held<T>, Busy<T>>
         requires { pass.lock ≡ self.now.id }
-        ensures entered { IfOk result (λ held. held.card ≡ record pass { seen = T.history held.value; taken = pass.taken + 1 }) }
+        ensures entered { IfOk result (λ held. held.pass ≡ record pass { seen = T.history held.value; taken = pass.taken + 1 }) }
         ensures seen { IfOk result (λ held. IsPrefix pass.seen (T.history held.value)) }
         ensures busy { IfErr result (λ refused. refused.pass ≡ record pass { busy = pass.busy + 1 }) }
     {
@@ -153,9 +153,9 @@ impl<T: Turn> TurnLock<T> {
     /// Takes the turn. It waits while another pass holds it.
     pub fn enter<R: Wait>(&self, rt: &R, pass: Pass<T>) -> Held<T>
         requires { pass.lock ≡ self.now.id }
-        ensures entered { result.card ≡ record pass { seen = T.history result.value; taken = pass.taken + 1; busy = result.card.busy } }
+        ensures entered { result.pass ≡ record pass { seen = T.history result.value; taken = pass.taken + 1; busy = result.pass.busy } }
         ensures seen { IsPrefix pass.seen (T.history result.value) }
-        ensures waited { pass.busy ≤ result.card.busy }
+        ensures waited { pass.busy ≤ result.pass.busy }
     {
         let mut pass = pass;
         for _ in rt.forever() {

@@ -1,7 +1,7 @@
 //! The passes, through which actors know what they saw and did.
 ghost use Rattle.std.specs.Prelude.{◌≡◌, ◌⊎◌, ◌+◌, [], ◌∷◌, ◌++◌, Some};
 ghost use Rattle.cc_lock.specs.Lists.{own, gained};
-ghost use Rattle.cc_lock.specs.Steps.{gains, Brings};
+ghost use Rattle.cc_lock.specs.inner.Steps.{gains, Brings};
 
 use crate::board::{Board, COUNT, Place, TURN};
 use crate::lock::TurnLock;
@@ -18,11 +18,11 @@ pub struct Pass<T: Turn> {
 }
 
 impl<T: Turn> Model for Pass<T> {
-    ghost use Rattle.cc_lock.specs.Cards.{Card, card_of, Rests};
+    ghost use Rattle.cc_lock.specs.PassModels.{PassModel, pass_of, Rests};
 
-    ghost Value = { Card T.Stem T.Entry };
+    ghost Value = { PassModel T.Stem T.Entry };
 
-    ghost view = { λ p. card_of p.place.table_id p.actor p.place.me.0 };
+    ghost view = { λ p. pass_of p.place.table_id p.actor p.place.me.0 };
 
     ghost invariant = { λ p. Rests p.actor p.most p.place.me };
 }
@@ -36,11 +36,11 @@ pub struct Held<T: Turn> {
 }
 
 impl<T: Turn> Model for Held<T> {
-    ghost use Rattle.cc_lock.specs.Cards.{Hold, card_of, Takes, Fits};
+    ghost use Rattle.cc_lock.specs.PassModels.{Hold, pass_of, Takes, Fits};
 
     ghost Value = { Hold T T.Stem T.Entry };
 
-    ghost view = { λ h. record { card = card_of h.place.table_id h.actor h.place.me.0; value = h.value } };
+    ghost view = { λ h. record { pass = pass_of h.place.table_id h.actor h.place.me.0; value = h.value } };
 
     ghost invariant = { λ h. Takes h.actor h.most h.place.me × Fits T.stem T.history h.actor h.place.me.0 h.value };
 }
@@ -55,11 +55,11 @@ pub struct Empty<T: Turn> {
 
 impl<T: Turn> Model for Empty<T> {
     ghost use Rattle.std.specs.Prelude.{◌≡◌, length};
-    ghost use Rattle.cc_lock.specs.Cards.{Card, card_of, Takes};
+    ghost use Rattle.cc_lock.specs.PassModels.{PassModel, pass_of, Takes};
 
-    ghost Value = { Card T.Stem T.Entry };
+    ghost Value = { PassModel T.Stem T.Entry };
 
-    ghost view = { λ e. card_of e.place.table_id e.actor e.place.me.0 };
+    ghost view = { λ e. pass_of e.place.table_id e.actor e.place.me.0 };
 
     ghost invariant = { λ e. Takes e.actor e.most e.place.me × (e.count ≡ length e.place.me.0.seen) };
 }
@@ -88,7 +88,7 @@ impl<T: Turn> Pass<T> {
 impl<T: Turn> Held<T> {
     /// The number of the actor that holds the turn.
     pub fn actor(&self) -> u32
-        ensures { result ≡ self.now.card.actor }
+        ensures { result ≡ self.now.pass.actor }
     {
         self.actor
     }
@@ -96,9 +96,9 @@ impl<T: Turn> Held<T> {
     /// The value. Its history is what the pass has seen, and has the pass's own entries under its number.
     pub fn value(&self) -> &T
         ensures value { result.now ≡ self.now.value }
-        ensures seen { T.history result.now ≡ self.now.card.seen }
-        ensures mine { own self.now.card.actor (T.history result.now) ≡ self.now.card.mine }
-        ensures stem { self.now.card.stem ≡ Some (T.stem result.now) }
+        ensures seen { T.history result.now ≡ self.now.pass.seen }
+        ensures mine { own self.now.pass.actor (T.history result.now) ≡ self.now.pass.mine }
+        ensures stem { self.now.pass.stem ≡ Some (T.stem result.now) }
     {
         &self.value
     }
@@ -106,10 +106,10 @@ impl<T: Turn> Held<T> {
     /// The value out of the lock, and the place to put it back.
     pub fn take(self) -> (T, Empty<T>)
         ensures value { result.0 ≡ self.value }
-        ensures place { result.1 ≡ self.card }
-        ensures seen { T.history result.0 ≡ self.card.seen }
-        ensures mine { own self.card.actor (T.history result.0) ≡ self.card.mine }
-        ensures stem { self.card.stem ≡ Some (T.stem result.0) }
+        ensures place { result.1 ≡ self.pass }
+        ensures seen { T.history result.0 ≡ self.pass.seen }
+        ensures mine { own self.pass.actor (T.history result.0) ≡ self.pass.mine }
+        ensures stem { self.pass.stem ≡ Some (T.stem result.0) }
     {
         let Held {
             place,

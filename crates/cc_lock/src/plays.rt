@@ -7,7 +7,7 @@ use atomic_table::{Join, Play, Split};
 pub(crate) struct Try;
 
 impl<T: Turn> Play<Option<T>, View<T::Stem, T::Entry>> for Try {
-    ghost use Rattle.cc_lock.specs.Steps.{tried};
+    ghost use Rattle.cc_lock.specs.inner.Steps.{tried};
 
     ghost then = { tried T.stem T.history };
 }
@@ -16,7 +16,7 @@ impl<T: Turn> Play<Option<T>, View<T::Stem, T::Entry>> for Try {
 pub(crate) struct Stamp;
 
 impl<T: Turn> Play<Option<T>, View<T::Stem, T::Entry>> for Stamp {
-    ghost use Rattle.cc_lock.specs.Steps.{stamped};
+    ghost use Rattle.cc_lock.specs.inner.Steps.{stamped};
 
     ghost then = { stamped T.history };
 }
@@ -25,7 +25,7 @@ impl<T: Turn> Play<Option<T>, View<T::Stem, T::Entry>> for Stamp {
 pub(crate) struct Release;
 
 impl<T: Turn> Play<Option<T>, View<T::Stem, T::Entry>> for Release {
-    ghost use Rattle.cc_lock.specs.Steps.{released};
+    ghost use Rattle.cc_lock.specs.inner.Steps.{released};
 
     ghost then = { released };
 }
@@ -34,7 +34,7 @@ impl<T: Turn> Play<Option<T>, View<T::Stem, T::Entry>> for Release {
 pub(crate) struct Draw;
 
 impl<T: Turn> Play<Option<T>, View<T::Stem, T::Entry>> for Draw {
-    ghost use Rattle.cc_lock.specs.Steps.{drawn};
+    ghost use Rattle.cc_lock.specs.inner.Steps.{drawn};
 
     ghost then = { drawn };
 }
@@ -43,7 +43,7 @@ impl<T: Turn> Play<Option<T>, View<T::Stem, T::Entry>> for Draw {
 pub(crate) struct Learn;
 
 impl<T: Turn> Play<Option<T>, View<T::Stem, T::Entry>> for Learn {
-    ghost use Rattle.cc_lock.specs.Steps.{learned};
+    ghost use Rattle.cc_lock.specs.inner.Steps.{learned};
 
     ghost then = { learned };
 }
@@ -52,7 +52,7 @@ impl<T: Turn> Play<Option<T>, View<T::Stem, T::Entry>> for Learn {
 pub(crate) struct Cut;
 
 impl<M, E> Split<View<M, E>> for Cut {
-    ghost use Rattle.cc_lock.specs.Steps.{newcomer};
+    ghost use Rattle.cc_lock.specs.inner.Steps.{newcomer};
 
     ghost left = { λ v. v };
 
@@ -63,7 +63,7 @@ impl<M, E> Split<View<M, E>> for Cut {
 pub(crate) struct TakeIn;
 
 impl<M, E> Join<View<M, E>> for TakeIn {
-    ghost use Rattle.cc_lock.specs.Steps.{absorbed, spent_view};
+    ghost use Rattle.cc_lock.specs.inner.Steps.{absorbed, spent_view};
 
     ghost both = { absorbed };
 

@@ -1,5 +1,5 @@
 ghost use Rattle.std.specs.Prelude.{◌≡◌, ◌<◌, [], All, vec_len};
-ghost use Rattle.cc_lock.specs.Cards.{IsOf};
+ghost use Rattle.cc_lock.specs.PassModels.{IsOf};
 
 use crate::{Held, Journal, Pass, SplitFault, TurnLock, write_all, write_both, write_note};
 use std::alloc::{AllocError, Global};
@@ -56,7 +56,7 @@ fn split_all<R: Abort + Wait>(
 
 // The value goes back as it was.
 fn leave(lock: &Lock, held: Held<Journal>) -> Slip
-    requires { held.card.lock ≡ lock.now.id }
+    requires { held.pass.lock ≡ lock.now.id }
 {
     let (journal, empty) = held.take();
     empty.put(lock, journal)

@@ -1,14 +1,14 @@
 use Rattle.std.proofs.Common.{rules, ◌≡◌, ◌∷◌, [], ◌++◌, map, Some, ap, sym, ◌∙◌}
 use Rattle.std.proofs.lemmas.List.Elements.{All-pop}
-use Rattle.cc_lock.specs.Cards.{Card, old_of}
-use Rattle.cc_lock.specs.Steps.{old_at}
+use Rattle.cc_lock.specs.PassModels.{PassModel, old_of}
+use Rattle.cc_lock.specs.inner.Steps.{old_at}
 use Rattle.cc_lock.proofs.Seats.{some_of}
 use Rattle.cc_lock.proofs.Closing.{joins, one_more, same_pass}
 use Rattle.cc_lock.proofs.close.join_all.Goals as goal
 
 pub join_seat-requires : goal.join_seat-requires
 join_seat-requires g c =
-    let IsHere : Card g.row.T-Stem.Denot g.row.T-Entry.Denot → Type 0 = λ p. p.lock ≡ c.args.table.now.shared.table_id in
+    let IsHere : PassModel g.row.T-Stem.Denot g.row.T-Entry.Denot → Type 0 = λ p. p.lock ≡ c.args.table.now.shared.table_id in
     let items : c.loop-pass.passes.items ≡ c.pop.new.self.items ++ c.in-Some.pass ∷ [] = search rules in
     let here = (All-pop IsHere c.loop-pass.passes.items c.pop.new.self.items (Some c.in-Some.pass) items c.loop-pass.invariant.passes).1 in
     let stem = some_of _ c.pass.invariant.live in (
@@ -21,7 +21,7 @@ join_seat-requires g c =
 
 pub loop-pass-preserved : goal.loop-pass-preserved
 loop-pass-preserved g c =
-    let IsHere : Card g.row.T-Stem.Denot g.row.T-Entry.Denot → Type 0 = λ p. p.lock ≡ c.args.table.now.shared.table_id in
+    let IsHere : PassModel g.row.T-Stem.Denot g.row.T-Entry.Denot → Type 0 = λ p. p.lock ≡ c.args.table.now.shared.table_id in
     let before = c.loop-pass.invariant in
     let joined = ap (λ m. m.0) c.join_seat.ensures.2 in
     let left = c.pop.new.self.items in

@@ -1,6 +1,6 @@
 use Rattle.std.proofs.Common.{◌≡◌, ◌++◌, map, vec_len}
 use Rattle.std.specs.List.{All}
-use Rattle.cc_lock.specs.Cards.{old_of}
+use Rattle.cc_lock.specs.PassModels.{old_of}
 use Rattle.cc_lock.proofs.close.join_all.Given as goal
 
 abbrev pub invariant-loop-pass : goal.invariant-loop-pass

@@ -1,7 +1,7 @@
 use Rattle.std.proofs.Common.{◌≡◌, ◌++◌, ◌∷◌, [], unwrap_or, sym, ap, ◌∙◌, subst}
 use Rattle.std.specs.Option.{is_some}
 use Rattle.std.specs.List.{All}
-use Rattle.cc_lock.specs.Cards.{IsToldBy, HasAllActors}
+use Rattle.cc_lock.specs.PassModels.{IsToldBy, HasAllActors}
 use Rattle.cc_lock.proofs.Closing.{ends}
 use Rattle.cc_lock.proofs.close.reunite.Goals as goal
 

@@ -1,6 +1,6 @@
 use Rattle.std.proofs.Common.{rules, arith, ◌≡◌, ◌∷◌, [], ◌∙◌, subst}
 use Rattle.std.proofs.lemmas.Grind.{common_steps}
-use Rattle.cc_lock.specs.Cards.{HasAllActors}
+use Rattle.cc_lock.specs.PassModels.{HasAllActors}
 use Rattle.cc_lock.proofs.Pairs.{nobody_else}
 use Rattle.cc_lock.proofs.journal.write_both.Goals as goal
 

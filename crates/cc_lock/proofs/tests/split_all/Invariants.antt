@@ -1,5 +1,5 @@
 use Rattle.std.specs.List.{All}
-use Rattle.cc_lock.specs.Cards.{IsOf}
+use Rattle.cc_lock.specs.PassModels.{IsOf}
 use Rattle.cc_lock.proofs.tests.split_all.Given as goal
 
 abbrev pub invariant-loop : goal.invariant-loop

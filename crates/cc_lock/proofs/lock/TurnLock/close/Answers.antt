@@ -1,6 +1,6 @@
 use Rattle.std.proofs.Common.{rules, ◌≡◌, ◌++◌, ◌∷◌, []}
 use Rattle.std.proofs.lemmas.List.Elements.{All-same}
-use Rattle.cc_lock.specs.Cards.{IsToldBy}
+use Rattle.cc_lock.specs.PassModels.{IsToldBy}
 use Rattle.cc_lock.proofs.lock.TurnLock.close.Goals as goal
 
 pub returns-clause-told : goal.returns-clause-told

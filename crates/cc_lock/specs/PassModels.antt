@@ -13,7 +13,7 @@ pub record Lock : Type 0 where
   pub most : ℕ
 
 -- A pass, free or with the turn
-pub record Card (M E : Type 0) : Type 0 where
+pub record PassModel (M E : Type 0) : Type 0 where
   -- the lock that it is of
   pub lock : TableId
   -- its number
@@ -35,28 +35,28 @@ pub record Card (M E : Type 0) : Type 0 where
 
 -- A pass with the turn, and the value
 pub record Hold (T M E : Type 0) : Type 0 where
-  pub card : Card M E
+  pub pass : PassModel M E
   pub value : T
 
 module _ {M E : Type 0} where
   -- what contracts see of a pass with this lock, number and view
-  abbrev pub card_of : TableId → ℕ → View M E → Card M E
-  card_of lock actor v = record { lock = lock; actor = actor; stem = v.stem; most = v.most; seen = v.seen; mine = v.mine; taken = v.taken; busy = v.busy; known = v.known }
+  abbrev pub pass_of : TableId → ℕ → View M E → PassModel M E
+  pass_of lock actor v = record { lock = lock; actor = actor; stem = v.stem; most = v.most; seen = v.seen; mine = v.mine; taken = v.taken; busy = v.busy; known = v.known }
 
   -- what is kept of a pass that another takes in
-  abbrev pub old_of : Card M E → Old M E
+  abbrev pub old_of : PassModel M E → Old M E
   old_of p = record { stem = p.stem; number = p.actor; seen = p.seen; mine = p.mine }
 
   -- each entry has the number of one of the passes
-  abbrev pub HasAllActors : List (ℕ × E) → List (Card M E) → Type 0
+  abbrev pub HasAllActors : List (ℕ × E) → List (PassModel M E) → Type 0
   HasAllActors history passes = (actor : ℕ) → own actor history ≢ [] → Contains (map (λ p. p.actor) passes) actor
 
 -- the pass is the lock's
-abbrev pub IsOf : {M E : Type 0} → Lock → Card M E → Type 0
+abbrev pub IsOf : {M E : Type 0} → Lock → PassModel M E → Type 0
 IsOf lock p = (p.lock ≡ lock.id) × (p.most ≡ lock.most)
 
 -- what a pass knows is so of the value: the stem is the value's, what it saw is where the value's history began, and what it made is all that the history has of its number
-abbrev pub IsToldBy : {M E T : Type 0} → (T → M) → (T → List (ℕ × E)) → T → Card M E → Type 0
+abbrev pub IsToldBy : {M E T : Type 0} → (T → M) → (T → List (ℕ × E)) → T → PassModel M E → Type 0
 IsToldBy stem_of history_of x p = (p.stem ≡ Some (stem_of x)) × IsPrefix p.seen (history_of x) × (p.mine ≡ own p.actor (history_of x))
 
 -- What is true of the seat of a pass that does not hold the turn
