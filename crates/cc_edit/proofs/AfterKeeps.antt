@@ -26,7 +26,7 @@ use Rattle.cc_edit.specs.Outcomes.{StandTogether}
 use Rattle.cc_edit.specs.inner.Tested.{may_part}
 use Rattle.cc_edit.specs.Sound.{is_used, IsLayer, AreDistinct, IsPage}
 use Rattle.cc_edit.proofs.LayerKeeps.{each-weaker, each-changed, each-without, each-insert, each-moved, length-changed, length-without, length-moved, view-changed, absent-both, distinct-changed, distinct-without, distinct-insert, distinct-moved}
-use Rattle.cc_edit.proofs.Facts.{passed, held, both, is_not, scroll_range_facts, add_effect_facts, view_facts}
+use Rattle.cc_edit.proofs.TestFacts.{passed, held, both, is_not, scroll_range_facts, add_effect_facts, view_facts}
 use Rattle.cc_edit.proofs.NodeKeeps.{values-in_range, is_known-more, is_known-changed, in_range_clamped, in_range_origin, values-set, values-ranged, found-changed, known_found}
 use Rattle.cc_edit.proofs.Nested.{nested-without, nested-more, nested-changed}
 

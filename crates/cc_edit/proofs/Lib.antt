@@ -7,7 +7,7 @@ pub mod LayerKeeps
 pub mod NodeKeeps
 pub mod Nested
 pub mod AfterKeeps
-pub mod Facts
+pub mod TestFacts
 pub mod KeptPages
 pub mod FoundLayers
 pub mod Unlisted

@@ -22,7 +22,7 @@ use Rattle.cc_edit.specs.Pages.{Page}
 use Rattle.cc_edit.specs.Sound.{IsLayer}
 use Rattle.cc_edit.specs.TreePainting.{lets_through, lies_at, point_in, place_at, is_missing, colour_at}
 use Rattle.cc_edit.specs.Paintings.{Placed, has_place, colour_there, shown}
-use Rattle.cc_edit.proofs.Facts.{passed, count_facts}
+use Rattle.cc_edit.proofs.TestFacts.{passed, count_facts}
 use Rattle.cc_edit.specs.Tests.{in_range, is_size}
 
 -- the bounds of a layer, moved, are a sound rect

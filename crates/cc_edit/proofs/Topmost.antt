@@ -9,7 +9,7 @@ use Rattle.cc_edit.specs.Layers.{PageLayer}
 use Rattle.cc_edit.specs.Pages.{Page}
 use Rattle.cc_edit.specs.Sound.{IsLayer, IsPage}
 use Rattle.cc_edit.specs.Hits.{covers_point, last_covering, target, IsTopmost}
-use Rattle.cc_edit.proofs.Facts.{count_facts}
+use Rattle.cc_edit.proofs.TestFacts.{count_facts}
 
 -- the ids of a page's layers are not 0
 id_facts : (id : ℕ) → is_id id ≡ Ok tt → 1 ≤ id

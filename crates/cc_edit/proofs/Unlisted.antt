@@ -24,7 +24,7 @@ use Rattle.cc_edit.proofs.LayerKeeps.{absent-taken}
 use Rattle.cc_edit.proofs.LayerPlaces.{item_there}
 use Rattle.cc_edit.proofs.FoundLayers.{found-insert, found-without, found-other, found-here, found-moved}
 use Rattle.cc_edit.proofs.ItemContent.{content-insert, content-remove, content-set}
-use Rattle.cc_edit.proofs.Facts.{passed, held}
+use Rattle.cc_edit.proofs.TestFacts.{passed, held}
 
 -- what is read of a layer that was found
 abbrev shown : ℤ → ℤ → Option PageLayer → Option Parts

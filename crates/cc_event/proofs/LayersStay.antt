@@ -17,7 +17,7 @@ use Rattle.cc_edit.specs.Effects.{after}
 use Rattle.cc_edit.specs.Outcomes.{Accepts}
 use Rattle.cc_edit.proofs.LayerKeeps.{each-found, absent-without, found_id}
 use Rattle.cc_edit.proofs.FoundLayers.{found-insert, found-other, found-here, found-moved}
-use Rattle.cc_edit.proofs.Facts.{passed, held}
+use Rattle.cc_edit.proofs.TestFacts.{passed, held}
 use Rattle.cc_event.specs.Scripts.{ScriptModel}
 use Rattle.cc_event.specs.Frames.{commanded, commands_of}
 use Rattle.cc_event.specs.Accepted.{TakesAll, IsAccepted}

@@ -12,7 +12,7 @@ use Rattle.cc_edit.specs.Tests.{require}
 use Rattle.cc_edit.specs.Refusals.{takes, test_of, add_scroller_test, set_range_test}
 use Rattle.cc_edit.specs.Pages.{Page}
 use Rattle.cc_edit.specs.Effects.{after}
-use Rattle.cc_edit.proofs.Facts.{passed, scroll_range_facts}
+use Rattle.cc_edit.proofs.TestFacts.{passed, scroll_range_facts}
 use Rattle.cc_event.specs.declared.event.Event.{Event}
 use Rattle.cc_event.specs.declared.event.Event.TheVariants as event
 use Rattle.cc_edit.specs.declared.moves.Move.{Move}

@@ -9,7 +9,7 @@ use Rattle.cc_edit.specs.Tests.{require}
 use Rattle.cc_edit.specs.Refusals.{takes, test_of, add_scroller_test}
 use Rattle.cc_edit.specs.Pages.{Page}
 use Rattle.cc_edit.specs.Effects.{after, scrolled_by}
-use Rattle.cc_edit.proofs.Facts.{passed, held, is_not}
+use Rattle.cc_edit.proofs.TestFacts.{passed, held, is_not}
 use Rattle.cc_event.specs.declared.event.Event.{Event}
 use Rattle.cc_event.specs.declared.event.Event.TheVariants as event
 use Rattle.cc_edit.specs.declared.moves.Move.{Move}

@@ -5,7 +5,7 @@ use Rattle.cc_edit.specs.Layers.{parts_of}
 use Rattle.cc_edit.specs.Pages.{Page}
 use Rattle.cc_edit.proofs.KeptPages.{kept, passed_inside}
 use Rattle.cc_edit.proofs.tree.LayerTree.add_clip.Goals as goal
-use Rattle.cc_edit.proofs.Facts.{add_clip_facts}
+use Rattle.cc_edit.proofs.TestFacts.{add_clip_facts}
 
 pub add_clip-requires-clause-joins : goal.add_clip-requires-clause-joins
 add_clip-requires-clause-joins c =

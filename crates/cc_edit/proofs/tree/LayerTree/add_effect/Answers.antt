@@ -5,7 +5,7 @@ use Rattle.cc_edit.specs.Layers.{parts_of}
 use Rattle.cc_edit.specs.Pages.{Page}
 use Rattle.cc_edit.proofs.KeptPages.{kept, passed_inside}
 use Rattle.cc_edit.proofs.tree.LayerTree.add_effect.Goals as goal
-use Rattle.cc_edit.proofs.Facts.{add_effect_facts}
+use Rattle.cc_edit.proofs.TestFacts.{add_effect_facts}
 
 pub overflow_cast-opacity : goal.overflow_cast-opacity
 overflow_cast-opacity c =

@@ -5,7 +5,7 @@ use Rattle.cc_edit.specs.Layers.{parts_of}
 use Rattle.cc_edit.specs.Pages.{Page}
 use Rattle.cc_edit.proofs.KeptPages.{kept, passed_inside}
 use Rattle.cc_edit.proofs.tree.LayerTree.add_scroller.Goals as goal
-use Rattle.cc_edit.proofs.Facts.{add_scroller_facts}
+use Rattle.cc_edit.proofs.TestFacts.{add_scroller_facts}
 use Rattle.std.proofs.Common.{◌∷◌}
 use Rattle.cc_geom.specs.declared.rect.Point.{Point}
 use Rattle.cc_edit.specs.Scrolls.{origin}

@@ -5,7 +5,7 @@ use Rattle.cc_edit.specs.Layers.{parts_of}
 use Rattle.cc_edit.specs.Pages.{Page}
 use Rattle.cc_edit.proofs.KeptPages.{kept, passed_inside}
 use Rattle.cc_edit.proofs.tree.LayerTree.add_transform.Goals as goal
-use Rattle.cc_edit.proofs.Facts.{add_transform_facts}
+use Rattle.cc_edit.proofs.TestFacts.{add_transform_facts}
 use Rattle.std.proofs.Common.{rules}
 use Rattle.std.specs.Prelude.{FitsSigned}
 use Rattle.std.proofs.Common.{w32}

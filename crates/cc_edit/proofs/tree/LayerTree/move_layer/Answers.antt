@@ -6,7 +6,7 @@ use Rattle.cc_edit.specs.Layers.{PageLayer, parts_of}
 use Rattle.cc_edit.specs.Pages.{Page}
 use Rattle.cc_edit.specs.Effects.{after}
 use Rattle.cc_edit.specs.Outcomes.{Lists}
-use Rattle.cc_edit.proofs.Facts.{move_layer_facts}
+use Rattle.cc_edit.proofs.TestFacts.{move_layer_facts}
 use Rattle.cc_edit.proofs.KeptPages.{passed_inside, accepted, parted, kept_together}
 use Rattle.cc_edit.proofs.tree.LayerTree.move_layer.Goals as goal
 

@@ -4,7 +4,7 @@ use Rattle.cc_edit.specs.Layers.{PageLayer, parts_of}
 use Rattle.cc_edit.specs.Pages.{Page}
 use Rattle.cc_edit.proofs.KeptPages.{kept, passed_inside}
 use Rattle.cc_edit.proofs.tree.LayerTree.remove_item.Goals as goal
-use Rattle.cc_edit.proofs.Facts.{remove_item_facts}
+use Rattle.cc_edit.proofs.TestFacts.{remove_item_facts}
 
 pub remove-requires : goal.remove-requires
 remove-requires c =

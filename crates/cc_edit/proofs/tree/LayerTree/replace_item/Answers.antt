@@ -4,7 +4,7 @@ use Rattle.cc_edit.specs.Layers.{PageLayer, parts_of}
 use Rattle.cc_edit.specs.Pages.{Page}
 use Rattle.cc_edit.proofs.KeptPages.{kept, passed_inside}
 use Rattle.cc_edit.proofs.tree.LayerTree.replace_item.Goals as goal
-use Rattle.cc_edit.proofs.Facts.{replace_item_facts}
+use Rattle.cc_edit.proofs.TestFacts.{replace_item_facts}
 use Rattle.cc_geom.specs.Covers.{IsSound}
 use Rattle.cc_display.specs.Content.{rect_of}
 use Rattle.cc_display.specs.declared.item.Item.{Item}

@@ -5,7 +5,7 @@ use Rattle.cc_edit.specs.Layers.{parts_of}
 use Rattle.cc_edit.specs.Pages.{Page}
 use Rattle.cc_edit.proofs.KeptPages.{kept, passed_inside}
 use Rattle.cc_edit.proofs.tree.LayerTree.set_clip.Goals as goal
-use Rattle.cc_edit.proofs.Facts.{set_clip_facts}
+use Rattle.cc_edit.proofs.TestFacts.{set_clip_facts}
 
 pub set_clip-requires-clause-known : goal.set_clip-requires-clause-known
 set_clip-requires-clause-known c =

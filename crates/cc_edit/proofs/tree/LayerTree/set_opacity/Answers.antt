@@ -5,7 +5,7 @@ use Rattle.cc_edit.specs.Layers.{parts_of}
 use Rattle.cc_edit.specs.Pages.{Page}
 use Rattle.cc_edit.proofs.KeptPages.{kept, passed_inside}
 use Rattle.cc_edit.proofs.tree.LayerTree.set_opacity.Goals as goal
-use Rattle.cc_edit.proofs.Facts.{set_opacity_facts}
+use Rattle.cc_edit.proofs.TestFacts.{set_opacity_facts}
 
 pub overflow_cast-opacity : goal.overflow_cast-opacity
 overflow_cast-opacity c =

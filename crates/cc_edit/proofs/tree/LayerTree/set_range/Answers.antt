@@ -8,7 +8,7 @@ use Rattle.cc_edit.specs.Layers.{parts_of}
 use Rattle.cc_edit.specs.Pages.{Page}
 use Rattle.cc_edit.specs.Effects.{after}
 use Rattle.cc_edit.specs.Outcomes.{Lists}
-use Rattle.cc_edit.proofs.Facts.{set_range_facts}
+use Rattle.cc_edit.proofs.TestFacts.{set_range_facts}
 use Rattle.cc_edit.proofs.NodeKeeps.{range_values, within_range}
 use Rattle.cc_edit.proofs.KeptPages.{kept, passed_inside}
 use Rattle.cc_edit.proofs.tree.LayerTree.set_range.Goals as goal
