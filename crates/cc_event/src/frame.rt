@@ -6,7 +6,7 @@ ghost use Rattle.std.specs.Ordering.{int_eq};
 ghost use Rattle.cc_synced.specs.Bounds.{IsBoundedNumber};
 ghost use Rattle.cc_edit.specs.Effects.{scrolled_by};
 ghost use Rattle.cc_edit.specs.Axes.{named_in};
-ghost use Rattle.cc_event.specs.Frames.{commands_of, pulled};
+ghost use Rattle.cc_event.specs.Frames.{pulled};
 ghost use Rattle.cc_event.specs.Ended.{AreBounded, TookCommands, TookFrame, StandsBefore, TookScriptFrame, Tells};
 ghost use Rattle.cc_event.specs.inner.Ending.{Noted, TookCommand, IsPullOf, is_moved};
 
@@ -107,16 +107,6 @@ pub fn apply_frame(
     take_commands(alloc, tree, commands)
 }
 
-// The commands of a frame of a script.
-fn commands_of(script: &Script, frame: u32) -> &[Command]
-    ensures { result.now ≡ commands_of script.now frame }
-{
-    match script.main().get(frame as usize) {
-        Some(commands) => commands.as_slice(),
-        None => &[],
-    }
-}
-
 /// Ends a main frame of a script on the tree before it, as `apply_frame` does with the frame's commands.
 /// A script's commands are taken whatever was pulled, so an error is want of memory; the tree then has
 /// the pulls and the first few commands.
@@ -132,8 +122,8 @@ pub fn take_frame(
     ensures { TookScriptFrame script.now frame pulls.now tree.old tree.new result }
 {
     script.is_accepted();
-    let commands = commands_of(script, frame);
-    match apply_frame(alloc, tree, pulls, commands) {
+    let own = script.commands(frame);
+    match apply_frame(alloc, tree, pulls, own) {
         Ok(changes) => Ok(changes),
         Err(EditError::Memory(refused)) => Err(refused),
         Err(EditError::Refused(_)) => unreachable!(),
@@ -224,7 +214,7 @@ pub fn changes_something(
     requires { AreBounded pulls.now }
     ensures { Tells script.now frame pulls.now before.now after.now result }
 {
-    match commands_of(script, frame) {
+    match script.commands(frame) {
         [] => moves_some(before, after, pulls),
         [_, ..] => true,
     }

@@ -4,7 +4,7 @@ ghost use Rattle.std.specs.Prelude.{◌≡◌, true, map, IfOk};
 ghost use Rattle.cc_event.specs.Scripts.{script_of};
 ghost use Rattle.cc_event.specs.Ranges.{is_in_ranges, are_short};
 ghost use Rattle.cc_event.specs.Accepted.{IsAccepted};
-ghost use Rattle.cc_event.specs.Frames.{blank};
+ghost use Rattle.cc_event.specs.Frames.{blank, commands_of};
 ghost use Rattle.cc_event.specs.Judging.{Judged, framed};
 
 use crate::applying::apply_frames;
@@ -166,6 +166,16 @@ impl Script {
         ensures { map (λ frame. frame.items) result.now ≡ self.now.main }
     {
         self.parts.main.as_slice()
+    }
+
+    /// The commands of a main frame, counted from 0; none where there is no such frame.
+    pub fn commands(&self, frame: u32) -> &[Command]
+        ensures { result.now ≡ commands_of self.now frame }
+    {
+        match self.main().get(frame as usize) {
+            Some(commands) => commands.as_slice(),
+            None => &[],
+        }
     }
 
     /// What the compositor side is to do, in order.

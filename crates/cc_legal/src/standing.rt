@@ -5,7 +5,6 @@ ghost use Rattle.std.specs.List.{list_any};
 ghost use mir.Syntax.{w128};
 ghost use Rattle.cc_legal.specs.inner.SumFilters.{axis_of, settled_with};
 ghost use Rattle.cc_legal.specs.inner.Pagings.{IsLegalPast, HasPages};
-ghost use Rattle.cc_event.specs.Frames as frames;
 ghost use Rattle.cc_event.specs.Scrolls as spec;
 ghost use Rattle.cc_legal.specs.inner.Stages.{frame_at, page_of, stands_at};
 
@@ -175,16 +174,6 @@ fn scrolls_to(command: &Command, scroller: u32) -> bool
     }
 }
 
-// The commands of a main frame.
-fn commands_of(script: &Script, frame: u32) -> &[Command]
-    ensures { result.now ≡ frames.commands_of script.now frame }
-{
-    match script.main().get(frame as usize) {
-        Some(commands) => commands.as_slice(),
-        None => &[],
-    }
-}
-
 // Whether one of these commands sets the value of a scroller outright.
 fn any_scrolls_to(commands: &[Command], scroller: u32) -> bool
     ensures { result ≡ list_any (spec.scrolls_to scroller) commands.now }
@@ -203,7 +192,7 @@ fn clobbers(script: &Script, frame: Option<u32>, scroller: u32) -> bool
 {
     match frame {
         None => false,
-        Some(k) => any_scrolls_to(commands_of(script, k), scroller),
+        Some(k) => any_scrolls_to(script.commands(k), scroller),
     }
 }
 
