@@ -56,6 +56,15 @@ impl DisplayList {
         self.items.get(at)
     }
 
+    /// The items in painting order.
+    pub fn items(&self) -> &[Item]
+        ensures value { result.now ≡ self.now }
+        ensures sound { All IsSoundItem result.now }
+        ensures few { length result.now ≤ 256 }
+    {
+        self.items.as_slice()
+    }
+
     /// Puts an item before that at `at`, or behind the last.
     ///
     /// Want of memory hands the item back and leaves the list as it was.
