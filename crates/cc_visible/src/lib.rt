@@ -11,5 +11,5 @@ mod screen;
 mod visible;
 
 pub use order::{OrderedLayer, by_id};
-pub use screen::{clip_in, grid_of, screen_rect, seen, viewport};
+pub use screen::{clip_in, grid_of, moved_place, screen_rect, seen, viewport};
 pub use visible::{visible_keys, visible_places};

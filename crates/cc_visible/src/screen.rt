@@ -44,8 +44,9 @@ pub fn grid_of(page: &LayerTree, layer: &Layer) -> Grid
     }
 }
 
-// The rect of a place, moved.
-fn moved_place(grid: Grid, place: Place, by: Point) -> Rect
+/// The rect of a place, moved. The grid is to have the place, and the move is at most 256 times 1114112 on
+/// both axes.
+pub fn moved_place(grid: Grid, place: Place, by: Point) -> Rect
     requires there { IsTrue (has grid place) }
     requires near { IsWithin (256 * 1114112) by }
     ensures value { result ≡ shifted (rect_of grid place) by }
