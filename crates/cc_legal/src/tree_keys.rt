@@ -135,9 +135,9 @@ fn keys_in(
     ensures { IfOk result (λ keys. keys.items ≡ flat_map (spec.layer_keys frames.now page.now) (map (λ o. parts_of o.layer.now) layers.now)) }
 {
     let mut keys = Vec::new(alloc);
-    for ordered in layers {
-        let grid = grid_of(page, ordered.layer);
-        keys = with_layer(frames, grid, ordered.layer.id, keys)?;
+    for one in layers {
+        let grid = grid_of(page, one.layer);
+        keys = with_layer(frames, grid, one.layer.id, keys)?;
     }
     Ok(keys)
 }
