@@ -1,28 +1,38 @@
-# The compositor core: build, run, look. `make help` lists the targets.
+# The compositor core: look, build, check. `make help` lists the targets.
 PLAYER := build/cc_player
 
-.PHONY: help demo pictures check clean kit
+.PHONY: build help demo pictures bench check clean kit python
+
+build: $(PLAYER)
 
 help:
-	@echo 'make demo      builds the program, plays examples/first.json, leaves recording and picture in build/'
+	@echo 'make           proves and builds the program: $(PLAYER) (the first time about half an hour)'
+	@echo 'make demo      plays examples/first.json without the proofs, and leaves its picture in build/ (a minute)'
 	@echo 'make pictures  plays every script in examples/ and leaves each picture in build/ as .ppm and .png'
-	@echo 'make check     the gate: all proofs, edits, tests and programs (rt ci)'
+	@echo 'make bench     times step 1 on large pages'
+	@echo 'make check     the gate: all proofs, edits, tests and programs, and our own checks'
 	@echo 'make clean     removes build/'
 
 kit:
-	@command -v rt > /dev/null || { echo 'rt is not here: install the Rattle kit (rt version: rattle-kit-13f) and put its bin/ on the PATH'; exit 1; }
+	@command -v rt > /dev/null || { echo 'rt is missing: install the Rattle kit (rattle-kit-13f) and put its bin/ on the PATH' >&2; exit 1; }
+
+python:
+	@command -v python3 > /dev/null || { echo 'python3 is missing: tools/ and bench/ need it' >&2; exit 1; }
 
 $(PLAYER): kit
 	@mkdir -p build
 	cd crates/cc_player && rt run -- --version
 	cp crates/cc_player/out/cc_player $(PLAYER)
 
-demo: $(PLAYER)
-	$(PLAYER) step 1 < examples/first.json > build/first.rec
-	python3 tools/recording.py pictures build/first.rec build/first
+demo: kit python
+	@mkdir -p build
+	@echo 'This run is not checked; `make` checks and builds the program.'
+	@cd crates/cc_player && rt try -- step 1 < ../../examples/first.json > ../../build/first.rec 2> ../../build/demo.log \
+		|| { cat ../../build/demo.log >&2; exit 1; }
+	@python3 tools/recording.py pictures build/first.rec build/first
 
 # tools/recording.py writes PNG files by itself: no other tool is needed.
-pictures: $(PLAYER)
+pictures: python $(PLAYER)
 	@for script in examples/*.json; do \
 		name=$$(basename $$script .json); \
 		$(PLAYER) step 1 < $$script > build/$$name.rec \
@@ -30,8 +40,11 @@ pictures: $(PLAYER)
 			|| { echo "$$script: no picture" >&2; exit 1; }; \
 	done
 
-check: kit
-	rt ci
+bench: python $(PLAYER)
+	bench/step $(PLAYER)
+
+check: kit python
+	.ci/run
 
 clean:
 	rm -rf build
