@@ -45,7 +45,7 @@ use due_frames::{is_due_abort, is_due_activate, is_due_ready, is_due_send};
 use due_inputs::{is_due_scroll, is_due_wheel};
 use due_tiles::{is_due_draw, is_due_settle, is_due_start};
 pub use first::first_illegal;
-use field::kind_of;
+use event_field::kind_of;
 use scans::{has_ended, sched};
 use std::alloc::{AllocError, Global};
 
