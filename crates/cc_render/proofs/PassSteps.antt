@@ -1,0 +1,114 @@
+-- Passes, one more at a time.
+use Rattle.std.proofs.Common.{◌≡◌, ℕ, zero, suc, ◌+◌, ◌*◌, ◌/◌, ◌-◌, ◌<◌, ◌≤◌, ℤ, pos, ◌+ℤ◌, List, [], ◌∷◌, ◌++◌, length, take, drop, set, get_or, refl, sym, ◌∙◌, ap, subst, arith, inl, inr}
+use Rattle.std.specs.Prelude.{map, All, slice_index, slice_index_or}
+use Rattle.std.proofs.lemmas.Bool.{cases_lt}
+use Rattle.std.proofs.lemmas.List.{get_or-map, get_or-drop, get_or_append_left, length-append, length-drop, length-map, take_more, take_more_set, take_all, map-append}
+use Rattle.std.proofs.lemmas.List.Elements.{All-set, All-take}
+use Rattle.std.proofs.lemmas.Grind.{common_steps}
+use Rattle.cc_geom.specs.declared.Rect.{Rect}
+use Rattle.cc_pixel.specs.Colours.{Parts, clear}
+use Rattle.cc_pixel.specs.Rows.{pixel, ArePremultiplied, alpha_place}
+use Rattle.cc_pixel.proofs.Fills.{same_parts}
+use Rattle.cc_display.specs.Pictures.{near, byte_count}
+use Rattle.cc_scene.specs.declared.RenderPass.{RenderPass}
+use Rattle.cc_scene.specs.Views.{QuadView, quads_view, pass_view, passes_view}
+use Rattle.cc_scene.specs.Pixels.{quads_over, passes_at}
+use Rattle.cc_scene.proofs.Steps.{passes_push}
+use Rattle.cc_render.specs.inner.Drawing.{colours, CanBeDrawn, AreRoomy, PassesCanBeDrawn, EachQuadPixel, ShowsQuads, ShowPasses}
+use Rattle.cc_render.proofs.QuadSteps.{place_below}
+
+-- the first bytes, with other bytes behind them
+byte_front : (xs ys : List ℕ) (i : ℕ) → i < length xs → slice_index (xs ++ ys) i ≡ slice_index xs i
+byte_front xs ys i lt = get_or_append_left xs ys 0 i lt
+
+byte_back : (n : ℕ) (xs ys : List ℕ) (i : ℕ) → length xs ≡ n → n ≤ i → slice_index (xs ++ drop n ys) i ≡ slice_index ys i
+byte_back n xs ys i len le = grind (arith, common_steps)
+
+pub pixel_of_front : (xs ys : List ℕ) (k : ℕ) → 4 * k + 4 ≤ length xs → pixel (xs ++ ys) k ≡ pixel xs k
+pixel_of_front xs ys k le =
+    same_parts (pixel (xs ++ ys) k) (pixel xs k)
+    (byte_front xs ys (4 * k) (omega arith)) (byte_front xs ys (4 * k + 1) (omega arith))
+    (byte_front xs ys (4 * k + 2) (omega arith)) (byte_front xs ys (4 * k + 3) (omega arith))
+
+pub front_premultiplied : (n : ℕ) (new old : List ℕ) → length new ≡ 4 * n → 4 * n ≤ length old → ArePremultiplied new → ArePremultiplied old
+    → ArePremultiplied (new ++ drop (4 * n) old)
+front_premultiplied n new old len fit front whole i lt =
+    let long = length-append new (drop (4 * n) old) in
+    let rest = length-drop (4 * n) old in
+    elim (cases_lt i (4 * n)) as (λ _. slice_index (new ++ drop (4 * n) old) i ≤ slice_index (new ++ drop (4 * n) old) (alpha_place i)) [
+      | inl low ↦
+          let here = byte_front new (drop (4 * n) old) i (omega arith) in
+          let alpha = byte_front new (drop (4 * n) old) (alpha_place i) (omega arith) in
+          let known = front i (omega arith) in
+          omega arith
+      | inr high ↦
+          let here = byte_back (4 * n) new old i len high in
+          let alpha = byte_back (4 * n) new old (alpha_place i) len (omega arith) in
+          let known = whole i (omega arith) in
+          omega arith
+    ]
+
+-- quads drawn over pixels of one colour
+pub shows_quads : (area : Rect) (passes : List (List ℕ)) (below : Parts) (quads : List QuadView) (blank new rest : List ℕ)
+    → length blank ≡ byte_count area.w area.h → length new ≡ length blank
+    → ((k : ℕ) → k < length blank / 4 → pixel blank k ≡ below)
+    → EachQuadPixel area (λ k x y below. quads_over (colours passes k) x y below quads) blank new
+    → ShowsQuads area passes below quads (new ++ rest)
+shows_quads area passes below quads blank new rest size same filled each x y xw yh =
+    let k = y * near area.w + x in
+    let room : 4 * (y * near area.w + x) + 4 ≤ 4 * (near area.w * near area.h) = place_below (near area.w) (near area.h) x y xw yh in
+    pixel_of_front new rest k (omega arith)
+    ∙ each x y xw yh
+    ∙ ap (λ (c : Parts). quads_over (colours passes k) (area.x +ℤ pos x) (area.y +ℤ pos y) c quads) (filled k (omega arith))
+
+-- a list in two parts, with another first element of the second
+pub joined_set : (xs : List (List ℕ)) (i : ℕ) (y : List ℕ) → i < length xs → take i xs ++ set (drop i xs) 0 y ≡ set xs i y
+joined_set [] i y lt = absurd (omega arith)
+joined_set (x ∷ xs) zero y lt = refl
+joined_set (x ∷ xs) (suc i) y lt = ap (λ (ys : List (List ℕ)). x ∷ ys) (joined_set xs i y (omega arith))
+
+-- one more pass
+pub passes_more : (area : Rect) (passes : List RenderPass) (surfaces : List (List ℕ)) (i : ℕ) (pass : RenderPass) (own : List ℕ)
+    → i < length passes → length surfaces ≡ length passes → pass ≡ get_or passes i pass
+    → ShowPasses area (passes_view (take i passes)) (take i surfaces)
+    → ShowsQuads area (take i surfaces) clear (pass_view pass) own
+    → ShowPasses area (passes_view (take (i + 1) passes)) (take (i + 1) (set surfaces i own))
+passes_more area passes surfaces i pass own lt same e before drawn x y xw yh =
+    let k = y * near area.w + x in
+    let px = area.x +ℤ pos x in
+    let py = area.y +ℤ pos y in
+    let shown : List Parts = passes_at px py [] (passes_view (take i passes)) in
+    let more : take (i + 1) passes ≡ take i passes ++ pass ∷ [] =
+    take_more passes i pass lt ∙ ap (λ (p : RenderPass). take i passes ++ p ∷ []) (sym e) in
+    let views : passes_view (take (i + 1) passes) ≡ passes_view (take i passes) ++ pass_view pass ∷ [] =
+    ap passes_view more ∙ map-append pass_view (take i passes) (pass ∷ []) in
+    ap (λ (ss : List (List ℕ)). colours ss k) (take_more_set surfaces i own (omega arith))
+    ∙ map-append (λ (s : List ℕ). pixel s k) (take i surfaces) (own ∷ [])
+    ∙ ap (λ (cs : List Parts). cs ++ pixel own k ∷ []) (before x y xw yh)
+    ∙ ap (λ (c : Parts). shown ++ c ∷ [])
+    (drawn x y xw yh ∙ ap (λ (cs : List Parts). quads_over cs px py clear (pass_view pass)) (before x y xw yh))
+    ∙ sym (passes_push px py [] (passes_view (take i passes)) (pass_view pass))
+    ∙ ap (passes_at px py []) (sym views)
+
+-- all passes
+pub passes_all : (area : Rect) (passes : List RenderPass) (surfaces : List (List ℕ)) (i : ℕ)
+    → length passes ≤ i → length surfaces ≡ length passes
+    → ShowPasses area (passes_view (take i passes)) (take i surfaces) → ShowPasses area (passes_view passes) surfaces
+passes_all area passes surfaces i le same shown =
+    subst (λ (ss : List (List ℕ)). ShowPasses area (passes_view passes) ss) (take_all i surfaces (omega arith))
+    (subst (λ (ps : List RenderPass). ShowPasses area (passes_view ps) (take i surfaces)) (take_all i passes le) shown)
+
+-- the quads of a pass can be drawn
+pub pass_drawable : (passes : List RenderPass) (i : ℕ) (pass : RenderPass) → PassesCanBeDrawn (passes_view passes) → i < length passes
+    → pass ≡ get_or passes i pass → All (CanBeDrawn i) (pass_view pass)
+pass_drawable passes i pass can lt e =
+    let long : length (passes_view passes) ≡ length passes = length-map passes pass_view in
+    let here : get_or (passes_view passes) i [] ≡ pass_view pass = get_or-map pass_view passes i pass [] lt ∙ ap pass_view (sym e) in
+    subst (All (CanBeDrawn i)) here (can i (omega arith))
+
+-- the first surface behind those of the passes before has room
+pub room_behind : (n : ℕ) (surfaces rest : List (List ℕ)) (i : ℕ) (d : List ℕ) → AreRoomy n surfaces → i < length surfaces → rest ≡ drop i surfaces
+    → n ≤ length (get_or rest 0 d)
+room_behind n surfaces rest i d room lt e =
+    let here : get_or rest 0 d ≡ get_or surfaces (i + 0) d = ap (λ (ss : List (List ℕ)). get_or ss 0 d) e ∙ get_or-drop i surfaces 0 d in
+    subst (λ (s : List ℕ). n ≤ length s) (sym here) (room (i + 0) d (omega arith))

@@ -1,0 +1,122 @@
+-- A scene, drawn strip by strip.
+use Rattle.std.proofs.Common.{◌≡◌, ℕ, ◌+◌, ◌-◌, ◌*◌, ◌<◌, ◌≤◌, ℤ, pos, ◌+ℤ◌, Bool, true, cond, List, [], ◌∷◌, ◌++◌, length, get_or, refl, sym, ◌∙◌, ap, subst, arith}
+use Rattle.std.specs.Prelude.{map, All, slice_index_or}
+use Rattle.std.proofs.Math.Nat.{mul-le-mul_left}
+use Rattle.std.proofs.lemmas.Int.{ints}
+use Rattle.std.proofs.lemmas.Bool.Decides.{nat_tests}
+use Rattle.std.proofs.lemmas.List.{map-append, length-append, length-map, get_or_append_left, get_or_push}
+use Rattle.std.proofs.lemmas.List.Elements.{All-weaker}
+use Rattle.cc_geom.specs.declared.Rect.{Rect}
+use Rattle.cc_geom.specs.Covers.{IsSound}
+use Rattle.cc_pixel.specs.Colours.{Parts}
+use Rattle.cc_pixel.specs.Rows.{pixel}
+use Rattle.cc_pixel.specs.Surfaces.{EachPixel, within, in_rows}
+use Rattle.cc_pixel.specs.declared.Area.{Area}
+use Rattle.cc_display.specs.Pictures.{near}
+use Rattle.cc_scene.specs.declared.RenderPass.{RenderPass}
+use Rattle.cc_scene.specs.Views.{QuadView, tiled, plain, grouped, pass_view, passes_view, SceneView}
+use Rattle.cc_scene.specs.Pixels.{quads_over, passes_at, scene_pixel}
+use Rattle.cc_scene.specs.Sound.{IsIn, IsTaken, Fits, IsSide, IsScene}
+use Rattle.cc_scene.proofs.Steps.{sound_at, scene_last}
+use Rattle.cc_render.specs.inner.Drawing.{colours, CanBeDrawn, PassesCanBeDrawn, ShowsQuads, ShowPasses}
+use Rattle.cc_render.specs.inner.Strips.{ShowsScene}
+use Rattle.cc_render.proofs.Tiles.{where_held}
+
+-- a rect on a screen is sound
+sound_in : (w h : ℕ) (at : Rect) → IsSide w → IsSide h → IsIn w h at → IsSound at
+sound_in w h at wide tall i = record {
+  across = record { from_low = omega (arith, ints); from_high = omega (arith, ints); length_low = omega (arith, ints); length_high = omega (arith, ints) };
+  down = record { from_low = omega (arith, ints); from_high = omega (arith, ints); length_low = omega (arith, ints); length_high = omega (arith, ints) };
+}
+
+fits_drawn : (w h i : ℕ) (q : QuadView) → IsSide w → IsSide h → Fits w h i q → CanBeDrawn i q
+fits_drawn w h i (tiled image at from) wide tall f = (sound_in w h at wide tall f.0, f.1)
+fits_drawn w h i (plain at colour) wide tall f = sound_in w h at wide tall f
+fits_drawn w h i (grouped pass opacity) wide tall f = f
+
+-- the quads of pass `i` of a scene
+pass_of : (s : SceneView) (i : ℕ) → IsScene s → i < length s.passes → All (CanBeDrawn i) (slice_index_or s.passes i [])
+pass_of s i is lt =
+    All-weaker (Fits s.w s.h i) (CanBeDrawn i) (λ q. fits_drawn s.w s.h i q is.wide is.tall) (slice_index_or s.passes i [])
+    (subst (λ (k : ℕ). All (Fits s.w s.h k) (slice_index_or s.passes i [])) (zero_plus i) (sound_at s.w s.h 0 i s.passes is.sound lt))
+  where
+    zero_plus : (i : ℕ) → 0 + i ≡ i
+    zero_plus i = omega arith
+
+-- the passes of a scene, of which the last is the root
+passes_split : (s : SceneView) (all inner : List RenderPass) (root : RenderPass) → passes_view all ≡ s.passes → all ≡ inner ++ root ∷ []
+    → s.passes ≡ passes_view inner ++ pass_view root ∷ []
+passes_split s all inner root e f = sym e ∙ ap passes_view f ∙ map-append pass_view inner (root ∷ [])
+
+pub inner_drawable : (s : SceneView) (all inner : List RenderPass) (root : RenderPass) → IsScene s → passes_view all ≡ s.passes → all ≡ inner ++ root ∷ []
+    → PassesCanBeDrawn (passes_view inner)
+inner_drawable s all inner root is e f i lt =
+    let split = passes_split s all inner root e f in
+    let long = ap length split ∙ length-append (passes_view inner) (pass_view root ∷ []) in
+    let here : slice_index_or s.passes i [] ≡ slice_index_or (passes_view inner) i [] =
+    ap (λ (ps : List (List QuadView)). slice_index_or ps i []) split ∙ get_or_append_left (passes_view inner) (pass_view root ∷ []) [] i lt in
+    subst (All (CanBeDrawn i)) here (pass_of s i is (omega arith))
+
+pub root_drawable : (s : SceneView) (all inner : List RenderPass) (root : RenderPass) (i : ℕ) → IsScene s → passes_view all ≡ s.passes → all ≡ inner ++ root ∷ []
+    → length inner ≡ i → All (CanBeDrawn i) (pass_view root)
+root_drawable s all inner root i is e f len =
+    let split = passes_split s all inner root e f in
+    let long = ap length split ∙ length-append (passes_view inner) (pass_view root ∷ []) in
+    let count : length (passes_view inner) ≡ length inner = length-map inner pass_view in
+    let here : slice_index_or s.passes i [] ≡ pass_view root =
+    ap (λ (ps : List (List QuadView)). slice_index_or ps i []) split ∙ get_or_push (passes_view inner) (pass_view root) [] i (count ∙ len) in
+    subst (All (CanBeDrawn i)) here (pass_of s i is (omega arith))
+
+-- how many passes there are
+pub passes_count : (s : SceneView) (all inner : List RenderPass) (root : RenderPass) → passes_view all ≡ s.passes → all ≡ inner ++ root ∷ []
+    → length s.passes ≡ length inner + 1
+passes_count s all inner root e f =
+    ap length (passes_split s all inner root e f) ∙ length-append (passes_view inner) (pass_view root ∷ []) ∙ ap (λ (n : ℕ). n + 1) (length-map inner pass_view)
+
+-- the root over the background, where the passes before it are drawn
+pub scene_shown : (s : SceneView) (area : Rect) (all inner : List RenderPass) (root : RenderPass) (surfaces : List (List ℕ)) (surface : List ℕ)
+    → passes_view all ≡ s.passes → all ≡ inner ++ root ∷ []
+    → ShowPasses area (passes_view inner) surfaces → ShowsQuads area surfaces s.background (pass_view root) surface → ShowsScene s area surface
+scene_shown s area all inner root surfaces surface e f before drawn x y xw yh =
+    let px = area.x +ℤ pos x in
+    let py = area.y +ℤ pos y in
+    let last : scene_pixel (record { w = s.w; h = s.h; background = s.background; passes = passes_view inner ++ pass_view root ∷ [] }) px py
+    ≡ quads_over (passes_at px py [] (passes_view inner)) px py s.background (pass_view root) =
+    scene_last s.w s.h s.background (passes_view inner) (pass_view root) px py in
+    let whole : scene_pixel s px py ≡ scene_pixel (record { w = s.w; h = s.h; background = s.background; passes = passes_view inner ++ pass_view root ∷ [] }) px py =
+    ap (λ (ps : List (List QuadView)). scene_pixel (record { w = s.w; h = s.h; background = s.background; passes = ps }) px py) (passes_split s all inner root e f) in
+    drawn x y xw yh
+    ∙ ap (λ (cs : List Parts). quads_over cs px py s.background (pass_view root)) (before x y xw yh)
+    ∙ sym (whole ∙ last)
+
+-- a strip is no larger than the surfaces
+pub strip_size : (w h wide tall : ℕ) → w ≤ wide → h ≤ tall → 4 * (w * h) ≤ 4 * (wide * tall)
+strip_size w h wide tall le low =
+    let across : w * h ≤ w * tall = mul-le-mul_left w low in
+    let down : w * tall ≤ wide * tall = grind arith in
+    omega arith
+
+-- the rect of an area
+abbrev pub rect_of : Area → Rect
+rect_of at = record { x = pos at.x; y = pos at.y; w = pos at.w; h = pos at.h }
+
+-- the pixels of an area, copied into a frame
+copied : (s : SceneView) (at : Area) (surface : List ℕ) (x y : ℕ) → ShowsScene s (rect_of at) surface → in_rows at at.h x y ≡ true
+    → pixel surface ((y - at.y) * at.w + (x - at.x)) ≡ scene_pixel s (pos x) (pos y)
+copied s at surface x y shown h =
+    let left : at.x ≤ x = grind (arith, nat_tests) in
+    let right : x < at.x + at.w = grind (arith, nat_tests) in
+    let top : at.y ≤ y = grind (arith, nat_tests) in
+    let bottom : y < at.y + at.h = grind (arith, nat_tests) in
+    let column : pos at.x +ℤ pos (x - at.x) ≡ pos x = omega (arith, ints) in
+    let row : pos at.y +ℤ pos (y - at.y) ≡ pos y = omega (arith, ints) in
+    shown (x - at.x) (y - at.y) (omega arith) (omega arith)
+    ∙ ap (λ (z : ℤ). scene_pixel s z (pos at.y +ℤ pos (y - at.y))) column ∙ ap (scene_pixel s (pos x)) row
+
+pub strip_shown : (s : SceneView) (w h : ℕ) (at : Area) (surface old new : List ℕ) → ShowsScene s (rect_of at) surface
+    → EachPixel w h (within at at.h (λ x y below. pixel surface ((y - at.y) * at.w + (x - at.x)))) old new
+    → EachPixel w h (within at at.h (λ x y below. scene_pixel s (pos x) (pos y))) old new
+strip_shown s w h at surface old new shown each x y xw yh =
+    each x y xw yh
+    ∙ where_held (in_rows at at.h x y) (pixel surface ((y - at.y) * at.w + (x - at.x))) (scene_pixel s (pos x) (pos y)) (pixel old (y * w + x))
+    (λ h. copied s at surface x y shown h)

@@ -1,0 +1,115 @@
+-- What drawing a part of an image shows.
+use Rattle.std.proofs.Common.{◌≡◌, ℕ, ◌+◌, ◌-◌, ◌*◌, ◌<◌, ◌≤◌, ℤ, pos, negsuc, ◌+ℤ◌, ◌-ℤ◌, ◌≤ℤ◌, Bool, true, false, cond, List, refl, sym, ◌∙◌, ap, arith, zero-mul, zero-add}
+use Rattle.std.proofs.lemmas.Int.{ints, clamps}
+use Rattle.std.proofs.lemmas.Bool.Decides.{nat_tests}
+use Rattle.cc_geom.specs.declared.Rect.{Rect}
+use Rattle.cc_geom.specs.declared.Point.{Point}
+use Rattle.cc_geom.specs.Covers.{covers, within as in_span, IsSound}
+use Rattle.cc_geom.proofs.Spans.{inside, both}
+use Rattle.cc_pixel.specs.Colours.{Parts, blend}
+use Rattle.cc_pixel.specs.Rows.{pixel}
+use Rattle.cc_pixel.specs.Surfaces.{EachPixel, within, in_rows, holds}
+use Rattle.cc_pixel.specs.declared.Area.{Area}
+use Rattle.cc_display.specs.Content.{content}
+use Rattle.cc_display.specs.Pictures.{near}
+use Rattle.cc_display.specs.Shared.{IsShared}
+use Rattle.cc_display.specs.declared.Part.{Part}
+use Rattle.cc_raster.specs.Images.{Image, IsRow, shown}
+use Rattle.cc_scene.specs.Pixels.{placed_pixel}
+use Rattle.cc_scene.specs.Sound.{IsTaken}
+use Rattle.cc_render.specs.inner.Drawing.{rows_from, part_pixel, EachPoint, laid_on}
+
+-- two colours that are equal where a test holds
+pub where_held : (t : Bool) (c d below : Parts) → (t ≡ true → c ≡ d) → cond t c below ≡ cond t d below
+where_held true c d below h = h refl
+where_held false c d below h = refl
+
+-- a count that is not negative
+near_is : (z : ℤ) → pos 0 ≤ℤ z → pos (near z) ≡ z
+near_is (pos n) h = refl
+near_is (negsuc n) h = absurd (omega (arith, ints))
+
+-- the place of the image that belongs to a place of the part, on one axis
+place_in : (start from at point : ℤ) (x first skipped : ℕ) → pos 0 ≤ℤ from → at ≤ℤ point
+    → near (point -ℤ at) ≡ x - first + skipped
+    → start +ℤ pos (x - first + (skipped + near from)) ≡ start +ℤ (from +ℤ (point -ℤ at))
+place_in start from at point x first skipped low le e =
+    let f : pos (near from) ≡ from = near_is from low in
+    let g : pos (near (point -ℤ at)) ≡ point -ℤ at = near_is (point -ℤ at) (omega (arith, ints)) in
+    omega (arith, ints)
+
+-- what the rect takes of the image, as a part of the image
+abbrev pub taken : Part → Point → Part
+taken part from = record { at = part.at; left = part.left + near from.x; above = part.above + near from.y }
+
+from_left : (part : Part) (x y : ℕ) → holds part.at x y ≡ true → part.at.x ≤ x
+from_left part x y h = grind (arith, nat_tests)
+
+from_top : (part : Part) (x y : ℕ) → holds part.at x y ≡ true → part.at.y ≤ y
+from_top part x y h = grind (arith, nat_tests)
+
+-- a pixel of the part
+pixel_taken : (image : Image) (at area : Rect) (from : Point) (part : Part) (x y : ℕ) → IsTaken image at from → IsShared at area part
+    → x < near area.w → y < near area.h → holds part.at x y ≡ true
+    → part_pixel image (taken part from) x y ≡ placed_pixel image at from (area.x +ℤ pos x) (area.y +ℤ pos y)
+pixel_taken image at area from part x y t shared xw yh h =
+    let c : covers at (area.x +ℤ pos x) (area.y +ℤ pos y) ≡ true = shared.points x y xw yh ∙ h in
+    let k = both _ _ c in
+    let across = inside at.x at.w (area.x +ℤ pos x) k.0 in
+    let down = inside at.y at.h (area.y +ℤ pos y) k.1 in
+    let column = place_in image.rect.x from.x at.x (area.x +ℤ pos x) x part.at.x part.left t.left across.low (shared.column x (from_left part x y h)) in
+    let row = place_in image.rect.y from.y at.y (area.y +ℤ pos y) y part.at.y part.above t.top down.low (shared.row y (from_top part x y h)) in
+    ap (λ (z : ℤ). content image.list z (image.rect.y +ℤ pos (y - part.at.y + (part.above + near from.y)))) column
+    ∙ ap (λ (z : ℤ). content image.list (image.rect.x +ℤ (from.x +ℤ ((area.x +ℤ pos x) -ℤ at.x))) z) row
+
+-- a part of a tile's image, drawn where its rect lies
+pub tile_shown : (image : Image) (at area : Rect) (from : Point) (part : Part) (old new : List ℕ) → IsTaken image at from → IsShared at area part
+    → EachPixel (near area.w) (near area.h) (within part.at part.at.h (λ x y below. blend below (part_pixel image (taken part from) x y))) old new
+    → EachPoint area (laid_on at (placed_pixel image at from)) old new
+tile_shown image at area from part old new t shared each x y xw yh =
+    let before = pixel old (y * near area.w + x) in
+    let drawn = blend before (placed_pixel image at from (area.x +ℤ pos x) (area.y +ℤ pos y)) in
+    each x y xw yh
+    ∙ where_held (holds part.at x y) (blend before (part_pixel image (taken part from) x y)) drawn before
+    (λ h. ap (blend before) (pixel_taken image at area from part x y t shared xw yh h))
+    ∙ ap (λ (b : Bool). cond b drawn before) (sym (shared.points x y xw yh))
+
+-- a place of one row of an area
+row_place : (at : Area) (row x y : ℕ) → in_rows (rows_from at row 1) 1 x y ≡ true → y ≡ at.y + row
+row_place at row x y h = grind (arith, nat_tests)
+
+column_low : (at : Area) (row x y : ℕ) → in_rows (rows_from at row 1) 1 x y ≡ true → at.x ≤ x
+column_low at row x y h = grind (arith, nat_tests)
+
+column_high : (at : Area) (row x y : ℕ) → in_rows (rows_from at row 1) 1 x y ≡ true → x < at.x + at.w
+column_high at row x y h = grind (arith, nat_tests)
+
+-- the pixel of a row of the image
+row_pixel : (image : Image) (part : Part) (row w : ℕ) (bytes : List ℕ) (x y : ℕ) → IsRow image.list image.rect (part.above + row) bytes
+    → part.left + part.at.w ≤ near image.rect.w → in_rows (rows_from part.at row 1) 1 x y ≡ true
+    → pixel bytes ((y - (part.at.y + row) + 0) * w + (x - part.at.x + part.left)) ≡ part_pixel image part x y
+row_pixel image part row w bytes x y is fit h =
+    let at_row : y ≡ part.at.y + row = row_place part.at row x y h in
+    let low : part.at.x ≤ x = column_low part.at row x y h in
+    let high : x < part.at.x + part.at.w = column_high part.at row x y h in
+    let first : y - (part.at.y + row) + 0 ≡ 0 = omega arith in
+    let below : part.above + row ≡ y - part.at.y + part.above = omega arith in
+    ap (λ (n : ℕ). pixel bytes (n * w + (x - part.at.x + part.left))) first
+    ∙ ap (pixel bytes) (nothing w (x - part.at.x + part.left))
+    ∙ is.pixels (x - part.at.x + part.left) (omega arith)
+    ∙ ap (λ (n : ℕ). shown image.list image.rect (x - part.at.x + part.left) n) below
+  where
+    nothing : (w k : ℕ) → 0 * w + k ≡ k
+    nothing w k = omega arith
+
+-- a row of the image, drawn in a row of the part
+pub row_shown : (w h : ℕ) (image : Image) (part : Part) (row width : ℕ) (bytes old new : List ℕ)
+    → IsRow image.list image.rect (part.above + row) bytes → part.left + part.at.w ≤ near image.rect.w
+    → EachPixel w h (within (rows_from part.at row 1) 1 (λ x y below. blend below (pixel bytes ((y - (part.at.y + row) + 0) * width + (x - part.at.x + part.left))))) old new
+    → EachPixel w h (within (rows_from part.at row 1) 1 (λ x y below. blend below (part_pixel image part x y))) old new
+row_shown w h image part row width bytes old new is fit each x y xw yh =
+    let before = pixel old (y * w + x) in
+    each x y xw yh
+    ∙ where_held (in_rows (rows_from part.at row 1) 1 x y)
+    (blend before (pixel bytes ((y - (part.at.y + row) + 0) * width + (x - part.at.x + part.left)))) (blend before (part_pixel image part x y)) before
+    (λ t. ap (blend before) (row_pixel image part row width bytes x y is fit t))

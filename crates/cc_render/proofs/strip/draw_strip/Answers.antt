@@ -1,0 +1,39 @@
+-- The strip is drawn and copied.
+use Rattle.std.proofs.Common.{◌≡◌, ◌+◌, ◌*◌, ◌≤◌, List, ℕ, length, arith, refl}
+use Rattle.std.proofs.lemmas.List.Elements.{All-weaker}
+use Rattle.cc_render.specs.inner.Strips.{HasRoom}
+use Rattle.cc_render.specs.declared.strip.Surfaces.{Surfaces}
+use Rattle.cc_render.proofs.SceneSteps.{strip_size, strip_shown}
+use Rattle.cc_render.proofs.strip.draw_strip.Goals as goal
+
+-- room for more is room for less
+less_room : (n m passes : ℕ) (s : Surfaces) → n ≤ m → HasRoom m passes s → HasRoom n passes s
+less_room n m passes s le r = record {
+  count = r.count;
+  inner = All-weaker (λ (b : List ℕ). m ≤ length b) (λ (b : List ℕ). n ≤ length b) (λ b h. omega arith) s.passes.items r.inner;
+  root = let h = r.root in omega arith;
+  scratch = let h = r.scratch in omega arith;
+}
+
+pub draw_scene-requires-clause-room : goal.draw_scene-requires-clause-room
+draw_scene-requires-clause-room c =
+    let low : c.args.at.w ≤ c.args.scene.now.w = omega arith in
+    rw (c.rect_of.ensures)
+    (less_room _ _ _ _ (strip_size c.args.at.w c.args.at.h c.args.scene.now.w 16 low c.requires.low) c.requires.room)
+
+pub copy_area-requires-clause-given : goal.copy_area-requires-clause-given
+copy_area-requires-clause-given c =
+    let low : c.args.at.w ≤ c.args.scene.now.w = omega arith in
+    let fit = strip_size c.args.at.w c.args.at.h c.args.scene.now.w 16 low c.requires.low in
+    let room = c.draw_scene.ensures.room _ c.requires.room in
+    let had = room.root in
+    rw (c.bytes.ensures.value) (omega arith)
+
+pub returns-clause-pixels : goal.returns-clause-pixels
+returns-clause-pixels c =
+    let shown = rw (c.rect_of.ensures) at c.draw_scene.ensures.pixels in
+    let each = rw (c.bytes.ensures.value, c.w-width.ensures.value, c.h-height.ensures.value) at c.copy_area.ensures.pixels in
+    strip_shown c.args.scene.now c.args.scene.now.w c.args.scene.now.h c.args.at c.draw_scene.new.surfaces.root c.args.bytes.now c.copy_area.new.surface shown each
+
+pub returns-clause-room : goal.returns-clause-room
+returns-clause-room c = c.draw_scene.ensures.room _ c.requires.room

@@ -1,0 +1,22 @@
+-- The surfaces that a scene is drawn into.
+use Rattle.std.specs.Prelude.{ℕ, ◌+◌, ◌*◌, ◌<◌, ◌≤◌, ◌≡◌, pos, ◌+ℤ◌, List, length}
+use Rattle.cc_geom.specs.declared.Rect.{Rect}
+use Rattle.cc_pixel.specs.Rows.{pixel}
+use Rattle.cc_display.specs.Pictures.{near}
+use Rattle.cc_scene.specs.Views.{SceneView}
+use Rattle.cc_scene.specs.Pixels.{scene_pixel}
+use Rattle.cc_render.specs.declared.strip.Surfaces.{Surfaces}
+use Rattle.cc_render.specs.inner.Drawing.{AreRoomy}
+
+-- so many passes have a surface each, and each surface has so many bytes at least
+pub record HasRoom (n passes : ℕ) (s : Surfaces) : Type 0 where
+  pub count : length s.passes.items + 1 ≡ passes
+  pub inner : AreRoomy n s.passes.items
+  pub root : n ≤ length s.root
+  pub scratch : n ≤ length s.scratch.items
+
+-- the pixels of a surface are those of a scene in an area
+abbrev pub ShowsScene : SceneView → Rect → List ℕ → Type 0
+ShowsScene s area surface =
+    (x y : ℕ) → x < near area.w → y < near area.h
+    → pixel surface (y * near area.w + x) ≡ scene_pixel s (area.x +ℤ pos x) (area.y +ℤ pos y)

@@ -1,0 +1,157 @@
+//! Drawing a scene strip by strip.
+
+ghost use Rattle.std.specs.Prelude.{◌≡◌, ℕ, ◌+◌, ◌*◌, ◌<◌, ◌≤◌, ◌^◌, ℤ, pos, ◌+ℤ◌, length, IfOk, cond};
+ghost use Rattle.cc_geom.specs.Covers.{covers, IsSound};
+ghost use Rattle.cc_pixel.specs.Rows.{pixel, ArePremultiplied};
+ghost use Rattle.cc_pixel.specs.Surfaces.{IsInside, EachPixel, within};
+ghost use Rattle.cc_display.specs.Pictures.{near, byte_count};
+ghost use Rattle.cc_scene.specs.Views.{passes_view};
+ghost use Rattle.cc_scene.specs.Pixels.{scene_pixel};
+ghost use Rattle.cc_render.specs.inner.Drawing.{AreRoomy, PassesCanBeDrawn, ShowPasses};
+ghost use Rattle.cc_render.specs.inner.Strips.{HasRoom, ShowsScene};
+
+use crate::copy::copy_area;
+use crate::passes::{draw_pass, draw_passes};
+use crate::surface::Surface;
+use cc_geom::Rect;
+use cc_pixel::Area;
+use cc_scene::{RenderPass, Scene};
+use std::alloc::{AllocError, Global};
+
+/// The most rows of a strip.
+pub(crate) const STRIP: usize = 16;
+
+/// The pixels that the passes of a scene are drawn into, one strip at a time.
+#[derive(Drop)]
+pub(crate) struct Surfaces {
+    // those of the passes before the root
+    passes: Vec<Surface>,
+    root: Surface,
+    // a group of which is faded before it is drawn
+    scratch: Vec<u8>,
+}
+
+impl Surfaces {
+    /// Takes the memory for strips of a scene.
+    pub(crate) fn new(alloc: Global, scene: &Scene) -> Result<Surfaces, AllocError>
+        ensures { IfOk result (λ surfaces. HasRoom (4 * (scene.now.w * STRIP)) (length scene.now.passes) surfaces) }
+    {
+        let pixels = scene.w() as usize * STRIP;
+        let inner = scene.passes().len() - 1;
+        Ok(Surfaces {
+            passes: inner_surfaces(alloc, inner, pixels)?,
+            root: Surface::new(alloc, pixels)?,
+            scratch: vec![in alloc; 0u8; 4 * pixels]?,
+        })
+    }
+}
+
+// so many surfaces of so many pixels
+fn inner_surfaces(alloc: Global, count: usize, pixels: usize) -> Result<Vec<Surface>, AllocError>
+    requires { pixels ≤ 2 ^ 60 }
+    ensures count { IfOk result (λ surfaces. length surfaces.items ≡ count) }
+    ensures room { IfOk result (λ surfaces. AreRoomy (4 * pixels) surfaces.items) }
+{
+    let mut surfaces = Vec::new(alloc);
+    for _ in 0..count {
+        surfaces.push(Surface::new(alloc, pixels)?)?;
+    }
+    Ok(surfaces)
+}
+
+/// Draws the pixels of a scene in an area of a frame's bytes; the other pixels stay.
+pub(crate) fn draw_area(scene: &Scene, bytes: &mut [u8], at: Area, surfaces: &mut Surfaces)
+    requires size { length bytes.old ≡ 4 * (scene.now.w * scene.now.h) }
+    requires inside { IsInside at scene.now.w scene.now.h }
+    requires end { at.y + at.h ≤ 2048 }
+    requires room { HasRoom (4 * (scene.now.w * STRIP)) (length scene.now.passes) surfaces.old }
+    ensures pixels { EachPixel scene.now.w scene.now.h (within at at.h (λ x y below. scene_pixel scene.now (pos x) (pos y))) bytes.old bytes.new }
+    ensures premultiplied { ArePremultiplied bytes.old → ArePremultiplied bytes.new }
+    ensures room { HasRoom (4 * (scene.now.w * STRIP)) (length scene.now.passes) surfaces.new }
+{
+    let mut done = 0;
+    while done < at.h {
+        let rows = STRIP.min(at.h - done);
+        let strip = Area {
+            x: at.x,
+            y: at.y + done,
+            w: at.w,
+            h: rows,
+        };
+        draw_strip(scene, bytes, strip, surfaces);
+        done += rows;
+    }
+}
+
+// draws the pixels of a scene in one strip
+fn draw_strip(scene: &Scene, bytes: &mut [u8], at: Area, surfaces: &mut Surfaces)
+    requires size { length bytes.old ≡ 4 * (scene.now.w * scene.now.h) }
+    requires inside { IsInside at scene.now.w scene.now.h }
+    requires some { 1 ≤ at.h }
+    requires low { at.h ≤ STRIP }
+    requires room { HasRoom (4 * (scene.now.w * STRIP)) (length scene.now.passes) surfaces.old }
+    ensures pixels { EachPixel scene.now.w scene.now.h (within at at.h (λ x y below. scene_pixel scene.now (pos x) (pos y))) bytes.old bytes.new }
+    ensures premultiplied { ArePremultiplied bytes.old → ArePremultiplied bytes.new }
+    ensures room { HasRoom (4 * (scene.now.w * STRIP)) (length scene.now.passes) surfaces.new }
+{
+    let width = scene.w() as usize;
+    let height = scene.h() as usize;
+    draw_scene(scene, rect_of(at), surfaces);
+    copy_area(bytes, width, height, at, surfaces.root.bytes());
+}
+
+// the rect of an area of a frame
+fn rect_of(at: Area) -> Rect
+    requires { IsInside at 2048 2048 }
+    ensures { result ≡ record { x = pos at.x; y = pos at.y; w = pos at.w; h = pos at.h } }
+{
+    Rect {
+        x: at.x as i32,
+        y: at.y as i32,
+        w: at.w as i32,
+        h: at.h as i32,
+    }
+}
+
+// draws the pixels of an area of all passes of a scene; those of the root are the scene's
+fn draw_scene(scene: &Scene, area: Rect, surfaces: &mut Surfaces)
+    requires area { IsSound area }
+    requires some { 1 ≤ near area.h }
+    requires room { HasRoom (byte_count area.w area.h) (length scene.now.passes) surfaces.old }
+    ensures pixels { ShowsScene scene.now area surfaces.new.root }
+    ensures room { (n : ℕ) → HasRoom n (length scene.now.passes) surfaces.old → HasRoom n (length scene.now.passes) surfaces.new }
+{
+    let Some((root, inner)) = scene.passes().split_last() else {
+        return;
+    };
+    draw_inner(inner, area, &mut surfaces.passes, &mut surfaces.scratch);
+    draw_pass(
+        &mut surfaces.root,
+        scene.background(),
+        area,
+        &root.quads,
+        &surfaces.passes,
+        surfaces.scratch.as_mut_slice(),
+    );
+}
+
+// draws the pixels of an area of the passes before the root
+fn draw_inner(passes: &[RenderPass], area: Rect, surfaces: &mut Vec<Surface>, scratch: &mut Vec<u8>)
+    requires area { IsSound area }
+    requires some { 1 ≤ near area.h }
+    requires each { length surfaces.old.items ≡ length passes.now }
+    requires quads { PassesCanBeDrawn (passes_view passes.now) }
+    requires room { AreRoomy (byte_count area.w area.h) surfaces.old.items }
+    requires scratch { byte_count area.w area.h ≤ length scratch.old.items }
+    ensures pixels { ShowPasses area (passes_view passes.now) surfaces.new.items }
+    ensures count { length surfaces.new.items ≡ length surfaces.old.items }
+    ensures room { (n : ℕ) → AreRoomy n surfaces.old.items → AreRoomy n surfaces.new.items }
+    ensures scratch { length scratch.new.items ≡ length scratch.old.items }
+{
+    draw_passes(
+        passes,
+        area,
+        surfaces.as_mut_slice(),
+        scratch.as_mut_slice(),
+    );
+}

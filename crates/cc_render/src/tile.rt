@@ -1,0 +1,109 @@
+//! Drawing a part of the image of a tile.
+
+ghost use Rattle.std.specs.Prelude.{◌≡◌, ℕ, ◌+◌, ◌*◌, ◌<◌, ◌≤◌, ◌^◌, length, pos, ◌≤ℤ◌};
+ghost use Rattle.cc_geom.specs.Covers.{IsSound};
+ghost use Rattle.cc_pixel.specs.Colours.{blend};
+ghost use Rattle.cc_pixel.specs.Rows.{ArePremultiplied};
+ghost use Rattle.cc_pixel.specs.Surfaces.{IsInside, EachPixel, within};
+ghost use Rattle.cc_display.specs.Pictures.{near, byte_count};
+ghost use Rattle.cc_scene.specs.Pixels.{placed_pixel};
+ghost use Rattle.cc_scene.specs.Sound.{IsTaken};
+ghost use Rattle.cc_render.specs.inner.Drawing.{rows_from, part_pixel, EachPoint, laid_on};
+
+use crate::size::{count, height_of, width_of};
+use cc_display::{Part, shared_part};
+use cc_geom::{Point, Rect};
+use cc_pixel::{Area, image_over_area};
+use cc_raster::TileImage;
+
+/// Draws the part of an image from `from` on where `at` lies in an area.
+pub(crate) fn draw_tile(surface: &mut [u8], area: Rect, image: &TileImage, at: Rect, from: Point)
+    requires area { IsSound area }
+    requires at { IsSound at }
+    requires taken { IsTaken image.now at from }
+    requires size { length surface.old ≡ byte_count area.w area.h }
+    ensures pixels { EachPoint area (laid_on at (placed_pixel image.now at from)) surface.old surface.new }
+    ensures premultiplied { ArePremultiplied surface.old → ArePremultiplied surface.new }
+{
+    let Some(part) = shared_part(at, area) else {
+        return;
+    };
+    let part = taken_part(part, from);
+    draw_part(surface, width_of(area), height_of(area), image, part);
+}
+
+// the part with its columns and rows counted in the image, of which the rect takes what is from `from` on
+fn taken_part(part: Part, from: Point) -> Part
+    requires from_left { pos 0 ≤ℤ from.x }
+    requires from_top { pos 0 ≤ℤ from.y }
+    requires columns { part.left ≤ 2 ^ 29 }
+    requires rows { part.above ≤ 2 ^ 29 }
+    ensures { result ≡ record { at = part.at; left = part.left + near from.x; above = part.above + near from.y } }
+{
+    Part {
+        at: part.at,
+        left: later(part.left, from.x),
+        above: later(part.above, from.y),
+    }
+}
+
+// a place so much further to the right or downwards
+fn later(place: usize, by: i32) -> usize
+    requires by { pos 0 ≤ℤ by }
+    requires place { place ≤ 2 ^ 29 }
+    ensures { result ≡ place + near by }
+{
+    place + count(by)
+}
+
+// draws a part of an image row by row
+fn draw_part(surface: &mut [u8], width: usize, height: usize, image: &TileImage, part: Part)
+    requires size { length surface.old ≡ 4 * (width * height) }
+    requires inside { IsInside part.at width height }
+    requires columns { part.left + part.at.w ≤ near image.now.rect.w }
+    requires rows { part.above + part.at.h ≤ near image.now.rect.h }
+    ensures pixels { EachPixel width height (within part.at part.at.h (λ x y below. blend below (part_pixel image.now part x y))) surface.old surface.new }
+    ensures premultiplied { ArePremultiplied surface.old → ArePremultiplied surface.new }
+{
+    for row in 0..part.at.h {
+        draw_row(surface, width, height, image, part, row);
+    }
+}
+
+// draws one row of a part of an image
+fn draw_row(
+    surface: &mut [u8],
+    width: usize,
+    height: usize,
+    image: &TileImage,
+    part: Part,
+    row: usize,
+)
+    requires size { length surface.old ≡ 4 * (width * height) }
+    requires inside { IsInside part.at width height }
+    requires columns { part.left + part.at.w ≤ near image.now.rect.w }
+    requires rows { part.above + part.at.h ≤ near image.now.rect.h }
+    requires row { row < part.at.h }
+    ensures pixels { EachPixel width height (within (rows_from part.at row 1) 1 (λ x y below. blend below (part_pixel image.now part x y))) surface.old surface.new }
+    ensures premultiplied { ArePremultiplied surface.old → ArePremultiplied surface.new }
+{
+    let at = Area {
+        x: part.at.x,
+        y: part.at.y + row,
+        w: part.at.w,
+        h: 1,
+    };
+    let rect = image.rect();
+    let pixels = image.row((part.above + row) as u32);
+    image_over_area(
+        surface,
+        width,
+        height,
+        at,
+        pixels,
+        width_of(rect),
+        1,
+        part.left,
+        0,
+    );
+}
