@@ -23,4 +23,4 @@ unreachable-requires c =
     let taken : TakesAll p c.commands-own.result.now = subst R (sym c.commands-own.ensures) (subst Q same (takes_frame s c.is_accepted.ensures.accepted before.0 k)) in
     let P : EditError → Type 0 = λ e. TookCommands p c.commands-own.result.now c.apply_frame.new.tree (Err e) in
     let refused = subst P c.in-Err-Refused.field-0-is c.in-Err-Refused.ensures in
-    commands_taken p c.commands-own.result.now refused.0 c.in-Err-Refused.field-0-0 taken refused.1.0
+    commands_taken p c.commands-own.result.now refused.0 c.in-Err-Refused.field-0-0 taken refused.1
