@@ -1,6 +1,6 @@
 //! The held keys with their tiles.
 
-ghost use Rattle.std.specs.Prelude.{◌≡◌, ◌≤◌, ◌+◌, Some, None, IsSome, IfOk, OnOk, option_map};
+ghost use Rattle.std.specs.Prelude.{◌≡◌, ◌≤◌, ◌+◌, Some, None, IsSome, IfOk, OnOk, OnErr, option_map};
 ghost use Rattle.cc_geom.specs.declared.tile.TileKey.{TileKey};
 ghost use Rattle.std.specs.FinMap as fin;
 ghost use Rattle.cc_geom.specs.KeyLists.{has_key};
@@ -68,17 +68,24 @@ impl Shelf {
         self.held.len() as u32
     }
 
-    /// Makes room for one more key. An error is want of memory, or 2^32 - 1 keys.
+    /// Makes room for one more key. An error is want of memory, or 2^32 - 1 keys; there is then as much
+    /// room as before.
     pub(crate) fn reserve(&mut self) -> Result<(), AllocError>
         ensures room { OnOk result (1 ≤ self.new.spare) }
         ensures held { self.new.held ≡ self.old.held }
         ensures spare { self.old.spare ≤ self.new.spare }
+        ensures refused { OnErr result (self.new.spare ≡ self.old.spare) }
     {
         if self.held.len() >= MOST {
             return Err(AllocError);
         }
         self.held.reserve(1)?;
-        self.tiles.reserve(1)
+        match self.tiles.reserve(1) {
+            Ok(()) => Ok(()),
+            // The slab leaves open whether a refused call made room: where it did, there is room.
+            Err(_) if self.tiles.len() < self.tiles.capacity() => Ok(()),
+            Err(refused) => Err(refused),
+        }
     }
 
     /// The tile of a key.

@@ -1,6 +1,6 @@
 //! The tile store.
 
-ghost use Rattle.std.specs.Prelude.{◌≡◌, ◌≤◌, ◌+◌, true, if◌then◌else◌, is_ok, IfOk, OnOk, option_map};
+ghost use Rattle.std.specs.Prelude.{◌≡◌, ◌≤◌, ◌+◌, true, if◌then◌else◌, is_ok, IfOk, OnOk, OnErr, option_map};
 ghost use Rattle.std.specs.FinMap as map;
 ghost use Rattle.cc_store.specs.Stores.{image_of, is_in_flight, is_pinned, used, empty_store, pinned_to, MayStart, started, done_with, kept};
 
@@ -53,12 +53,13 @@ impl TileStore {
         }
     }
 
-    /// Makes room for one start and its end; all else stays. An error is want of memory. A store that
-    /// holds 2^32 - 1 keys has no more room.
+    /// Makes room for one start and its end; all else stays. An error is want of memory, and the store
+    /// is as it was. A store that holds 2^32 - 1 keys has no more room.
     pub fn reserve(&mut self) -> Result<(), AllocError>
         ensures room { OnOk result (1 ≤ self.new.spare) }
         ensures store { self.new ≡ record self.old { spare = self.new.spare } }
         ensures spare { self.old.spare ≤ self.new.spare }
+        ensures refused { OnErr result (self.new ≡ self.old) }
     {
         self.shelf.reserve()
     }
