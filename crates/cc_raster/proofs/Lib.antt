@@ -1,1 +1,2 @@
 pub mod RowBytes
+pub mod KeptRows

@@ -1,11 +1,14 @@
 //! The picture of one tile.
 
-ghost use Rattle.std.specs.Prelude.{◌≡◌, ◌<◌, IfOk, MatchOption};
+ghost use Rattle.std.specs.Prelude.{◌≡◌, ℕ, ◌+◌, ◌<◌, ◌≤◌, IfOk, MatchOption};
 ghost use Rattle.cc_geom.specs.Covers.{IsSound};
 ghost use Rattle.cc_display.specs.Pictures.{near};
 ghost use Rattle.cc_raster.specs.Images.{Image, IsRow, IsOneColour, HasTwoColours};
+ghost use Rattle.cc_raster.specs.Images.{AreSameRows};
 
-use crate::pixels::{kept_pixels, row_of};
+use crate::draw::equal_places_at;
+use crate::pixels::{one_colour, row_at, width_of};
+use crate::rows::{Rows, kept_rows};
 use cc_display::DisplayList;
 use cc_geom::{Rect, TileKey};
 use cc_pixel::Colour;
@@ -21,19 +24,20 @@ pub struct TileImage {
     list: Arc<DisplayList>,
     // the colour of all pixels, where they have one
     solid: Option<Colour>,
-    // bytes r, g, b, a of each pixel by row; of one row where all pixels have one colour
-    pixels: Vec<u8>,
+    // the rows, of which equal ones that follow one another are kept once
+    rows: Rows,
 }
 
 impl Model for TileImage {
     ghost use Rattle.cc_geom.specs.Covers.{IsSound};
-    ghost use Rattle.cc_raster.specs.Images.{Image, AreKept};
+    ghost use Rattle.cc_raster.specs.Images.{Image};
+    ghost use Rattle.cc_raster.specs.inner.Bands.{AreKept, IsSolid};
 
     ghost Value = { Image };
 
     ghost view = { λ i. record { key = i.key; rect = i.rect; list = i.list.value } };
 
-    ghost invariant = { λ i. IsSound i.rect × AreKept i.list.value i.rect i.solid i.pixels.items };
+    ghost invariant = { λ i. IsSound i.rect × AreKept i.list.value i.rect i.rows.places.items i.rows.bytes.items × IsSolid i.list.value i.rect i.solid };
 }
 
 impl TileImage {
@@ -47,13 +51,14 @@ impl TileImage {
         requires { IsSound rect }
         ensures { IfOk result (λ image. image ≡ record { key = key; rect = rect; list = list.value }) }
     {
-        let (solid, pixels) = kept_pixels(alloc, &list, rect)?;
+        let rows = kept_rows(alloc, &list, rect)?;
+        let solid = one_colour(&list, rect, &rows);
         Ok(TileImage {
             key,
             rect,
             list,
             solid,
-            pixels,
+            rows,
         })
     }
 
@@ -80,15 +85,22 @@ impl TileImage {
     }
 
     /// The bytes r, g, b, a of each pixel of row `y`, counted from the top of the rect and below its height.
-    #[tactic(auto, using(crate::proofs::RowBytes::row_is))]
     pub fn row(&self, y: u32) -> &[u8]
         requires { y < near self.now.rect.h }
         ensures { IsRow self.now.list self.now.rect y result.now }
     {
-        match self.solid {
-            Some(_) => &self.pixels,
-            None => row_of(&self.pixels, self.rect, y),
-        }
+        let place = self.rows.places[y as usize];
+        row_at(&self.rows.bytes, width_of(self.rect), place as usize)
+    }
+
+    /// How many rows from row `y` on are kept as that row: at least one, and all of them equal.
+    pub fn same(&self, y: u32) -> u32
+        requires { y < near self.now.rect.h }
+        ensures some { 1 ≤ result }
+        ensures inside { y + result ≤ near self.now.rect.h }
+        ensures equal { (k : ℕ) → k < result → AreSameRows self.now.list self.now.rect y (y + k) }
+    {
+        equal_places_at(&self.rows.places, y as usize) as u32
     }
 
     /// The colour of all pixels; None exactly where two of them differ. A picture without pixels answers

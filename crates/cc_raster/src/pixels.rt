@@ -1,79 +1,72 @@
-//! The bytes of a picture: whether its pixels have one colour, and its rows.
+//! The bytes of rows, and whether their pixels have one colour.
 
-ghost use Rattle.std.specs.Prelude.{◌≡◌, ◌↔◌, ◌<◌, ◌*◌, ◌≤ℤ◌, pos, length, IsTrue, IfOk, MatchOption};
+ghost use Rattle.std.specs.Prelude.{◌≡◌, ◌≢◌, ◌↔◌, ℕ, ◌<◌, ◌≤◌, ◌*◌, ◌+◌, ◌/◌, ◌≤ℤ◌, ◌^◌, pos, length, slice_index, IsTrue, MatchOption, IfOk};
 ghost use Rattle.cc_geom.specs.Covers.{IsSound};
-ghost use Rattle.cc_pixel.specs.Rows.{ArePremultiplied};
-ghost use Rattle.cc_display.specs.Pictures.{near, byte_count};
-ghost use Rattle.cc_raster.specs.Images.{AreKept, AreAlike, AreNotAlike, row_bytes};
+ghost use Rattle.cc_pixel.specs.Rows.{pixel, ArePremultiplied};
+ghost use Rattle.cc_display.specs.Pictures.{near};
+ghost use Rattle.cc_raster.specs.Images.{IsRow, row_bytes};
+ghost use Rattle.cc_raster.specs.inner.Bands.{AreKept, IsSolid};
 
+use crate::draw::equal_places_at;
+use crate::rows::Rows;
 use cc_display::DisplayList;
 use cc_geom::Rect;
 use cc_pixel::{Colour, colour_at};
-use std::alloc::{AllocError, Global};
+use std::alloc::Global;
 
-/// The colour of all pixels of what the list shows on the rect, if they have one, and the bytes to keep:
-/// then those of one row, else those of all rows.
-#[tactic(auto, using(crate::proofs::RowBytes::kept_all, crate::proofs::RowBytes::kept_one))]
-pub(crate) fn kept_pixels(
-    alloc: Global,
-    list: &DisplayList,
-    rect: Rect,
-) -> Result<(Option<Colour>, Vec<u8>), AllocError>
-    requires { IsSound rect }
-    ensures { IfOk result (λ kept. AreKept list.now rect kept.0 kept.1.items) }
+/// The bytes of the row at a place among rows of `width` pixels.
+pub(crate) fn row_at(bytes: &[u8], width: usize, place: usize) -> &[u8]
+    requires { 4 * (width * place) + 4 * width ≤ length bytes.now }
+    ensures { result.now ≡ row_bytes width place bytes.now }
 {
-    let bytes = list.raster(rect)?;
-    match one_colour(&bytes) {
-        Some(colour) => {
-            let row = first_row(alloc, &bytes, rect)?;
-            Ok((Some(colour), row))
-        }
-        None => Ok((None, bytes)),
-    }
-}
-
-/// The bytes of row `y`.
-#[tactic(auto, using(crate::proofs::RowBytes::row_end, crate::proofs::RowBytes::row_range))]
-pub(crate) fn row_of(bytes: &[u8], rect: Rect, y: u32) -> &[u8]
-    requires sound { IsSound rect }
-    requires size { length bytes.now ≡ byte_count rect.w rect.h }
-    requires inside { y < near rect.h }
-    ensures { result.now ≡ row_bytes (near rect.w) y bytes.now }
-{
-    let width = count(rect.w);
-    let start = 4 * (width * y as usize);
+    let start = 4 * (width * place);
     &bytes[start..start + 4 * width]
 }
 
-// a copy of the first row; what it is where there is no row is free
-fn first_row(alloc: Global, bytes: &[u8], rect: Rect) -> Result<Vec<u8>, AllocError>
+/// The colour of all pixels of a picture; None where two differ, and the transparent colour where there is no pixel.
+pub(crate) fn one_colour(list: &DisplayList, rect: Rect, rows: &Rows) -> Option<Colour>
     requires sound { IsSound rect }
-    requires size { length bytes.now ≡ byte_count rect.w rect.h }
-    ensures { IfOk result (λ row. 0 < near rect.h → row.items ≡ row_bytes (near rect.w) 0 bytes.now) }
+    requires kept { AreKept list.now rect rows.now.places.items rows.now.bytes.items }
+    ensures { IsSolid list.now rect result }
 {
-    if count(rect.h) == 0 {
-        return Ok(Vec::new(alloc));
-    }
-    Vec::from_slice(alloc, row_of(bytes, rect, 0))
-}
-
-// the colour of all pixels; None where two differ, and the transparent colour where there is no pixel
-#[tactic(auto, using(crate::proofs::RowBytes::not_alike))]
-fn one_colour(bytes: &[u8]) -> Option<Colour>
-    requires { ArePremultiplied bytes.now }
-    ensures { MatchOption result (AreNotAlike bytes.now) (λ c. AreAlike bytes.now c) }
-{
-    let pixels = bytes.len() / 4;
-    if pixels == 0 {
+    let places = rows.places.as_slice();
+    if width_of(rect) == 0 || places.is_empty() {
         return Some(Colour::CLEAR);
     }
-    let first = colour_at(bytes, 0);
-    for i in 1..pixels {
-        if !is_same(colour_at(bytes, i), first) {
+    let first = colour_at(row_of(list, rect, rows, 0), 0);
+    let mut y = 0;
+    while y < places.len() {
+        if let Some(_other) = first_other(row_of(list, rect, rows, y), first) {
             return None;
         }
+        y += equal_places_at(places, y);
     }
     Some(first)
+}
+
+// row y of the picture that shows this list on this rect
+fn row_of<'a>(_list: &DisplayList, rect: Rect, rows: &'a Rows, y: usize) -> &'a [u8]
+    requires sound { IsSound rect }
+    requires kept { AreKept _list.now rect rows.now.places.items rows.now.bytes.items }
+    requires inside { y < near rect.h }
+    ensures { IsRow _list.now rect y result.now }
+{
+    row_at(&rows.bytes, width_of(rect), rows.places[y] as usize)
+}
+
+// the first pixel of a row that has another colour
+fn first_other(row: &[u8], colour: Colour) -> Option<usize>
+    requires { ArePremultiplied row.now }
+    ensures { MatchOption result
+        ((k : ℕ) → k < length row.now / 4 → pixel row.now k ≡ colour)
+        (λ k. (k < length row.now / 4) × (pixel row.now k ≢ colour)) }
+{
+    for k in 0..row.len() / 4 {
+        if !is_same(colour_at(row, k), colour) {
+            return Some(k);
+        }
+    }
+    None
 }
 
 // whether two colours are equal
@@ -81,6 +74,22 @@ fn is_same(a: Colour, b: Colour) -> bool
     ensures { IsTrue result ↔ (a ≡ b) }
 {
     a == b
+}
+
+/// How many columns a rect has.
+pub(crate) fn width_of(rect: Rect) -> usize
+    requires { IsSound rect }
+    ensures { result ≡ near rect.w }
+{
+    count(rect.w)
+}
+
+/// How many rows a rect has.
+pub(crate) fn height_of(rect: Rect) -> usize
+    requires { IsSound rect }
+    ensures { result ≡ near rect.h }
+{
+    count(rect.h)
 }
 
 // a length as a count

@@ -1,6 +1,13 @@
-use Rattle.std.proofs.Common.{◌≡◌, ℕ, ◌<◌}
-use Rattle.cc_pixel.specs.Rows.{pixel}
-use Rattle.cc_raster.proofs.pixels.one_colour.Given as goal
+use Rattle.std.proofs.Common.{ℕ, ◌≡◌, ◌<◌, ◌≤◌, ◌-◌, length}
+use Rattle.cc_display.specs.Pictures.{near}
+use Rattle.cc_raster.specs.Images.{shown}
+use Rattle.cc_raster.proofs.pixels.one_colour.Given as given
 
-abbrev pub invariant-loop-i : goal.invariant-loop-i
-invariant-loop-i l = (k : ℕ) → k < l.i → pixel l.bytes k ≡ l.first
+abbrev pub invariant-loop-y : given.invariant-loop-y
+invariant-loop-y l = record {
+  inside : l.y ≤ length l.places;
+  colour : (x j : ℕ) → x < near l.fn.rect.w → j < l.y → shown l.list l.fn.rect x j ≡ l.first;
+}
+
+abbrev pub decreases-loop-y : given.decreases-loop-y
+decreases-loop-y l = length l.places - l.y
