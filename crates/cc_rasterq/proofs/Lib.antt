@@ -1,0 +1,9 @@
+pub mod Places
+pub mod Times
+pub mod Sorted
+pub mod RoomFor
+pub mod Forgotten
+pub mod VictimOrders
+pub mod GiveUp
+pub mod Picking
+pub mod Changes

@@ -1,0 +1,43 @@
+-- What holds of the lists of a queue.
+use Rattle.std.specs.Prelude.{◌≡◌, ℕ, ◌+◌, ◌<◌, ◌≤◌, ◌^◌, Bool, true, List, map, length, filter, ◌++◌}
+use Rattle.std.specs.List.{list_all}
+use Rattle.cc_geom.specs.declared.tile.TileKey.{TileKey}
+use Rattle.cc_geom.specs.KeyLists.{same_key}
+use Rattle.cc_priority.specs.declared.rank.Rank.{Rank}
+use Rattle.cc_priority.specs.Ranks.{rank_cmp}
+use Rattle.cc_priority.specs.Tiles.{Tile}
+use Rattle.cc_priority.specs.Ordered.{IsInOrder}
+use Rattle.cc_priority.specs.Choice.{Choice}
+use Rattle.cc_rasterq.specs.declared.victim.Victim.{Victim}
+use Rattle.cc_rasterq.specs.Queues.{rank_key, tile_key}
+use Rattle.cc_rasterq.specs.inner.Victims.{tile_of, key_of, victim_cmp}
+
+-- how often a key stands among these
+abbrev pub times : TileKey → List TileKey → ℕ
+times q ks = length (filter (λ k. same_key k q) ks)
+
+-- how often a key is wanted or ready
+abbrev pub standing : TileKey → List Rank → List Tile → List Victim → ℕ
+standing q wanted pinned victims = times q (map rank_key wanted) + (times q (map tile_key pinned) + times q (map key_of victims))
+
+-- how many keys are wanted, ready or in flight
+abbrev pub keys : List Rank → List Tile → List Victim → ℕ → ℕ
+keys wanted pinned victims in_flight = length wanted + (length pinned + (length victims + in_flight))
+
+abbrev pub is_pinned : Tile → Bool
+is_pinned t = t.pinned
+
+-- the ranks stand with the best first and the victims with the worst first, all other ready tiles are pinned, no key stands twice, and each list has room for all keys
+pub record IsQueue (wanted : List Rank) (pinned : List Tile) (victims : List Victim) (in_flight : ℕ) (ranks_room pinned_room victims_room : ℕ) : Type 0 where
+  pub best_first : IsInOrder rank_cmp wanted
+  pub worst_first : IsInOrder victim_cmp victims
+  pub all_pinned : list_all is_pinned pinned ≡ true
+  pub once : (q : TileKey) → standing q wanted pinned victims ≤ 1
+  pub fits_ranks : keys wanted pinned victims in_flight ≤ ranks_room
+  pub fits_pinned : keys wanted pinned victims in_flight ≤ pinned_room
+  pub fits_victims : keys wanted pinned victims in_flight ≤ victims_room
+  pub few : keys wanted pinned victims in_flight < 2 ^ 62
+
+-- the choice that the lists stand for
+abbrev pub choice_of : List Rank → List Tile → List Victim → ℕ → ℕ → Choice
+choice_of wanted pinned victims in_flight budget = record { wanted = wanted; ready = pinned ++ map tile_of victims; in_flight = in_flight; budget = budget }
