@@ -1,0 +1,10 @@
+pub mod Entering
+pub mod Visibles
+pub mod Counts
+pub mod TilesLeft
+pub mod Playing
+pub mod Wholes
+pub mod Fronts
+pub mod Falls
+pub mod Following
+pub mod Parts

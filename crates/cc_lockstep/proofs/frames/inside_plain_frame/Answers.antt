@@ -1,0 +1,18 @@
+use Rattle.cc_event.specs.Lockstep.{MainPart}
+use Rattle.cc_event.proofs.LockstepWords as words
+use Rattle.cc_lockstep.specs.Walks as ways
+use Rattle.cc_lockstep.proofs.Fronts as fronts
+use Rattle.cc_lockstep.proofs.Following.{rest, joined, left_in_first, left_in_rest, in_any_case, then_on_error, then_on_ok}
+use Rattle.cc_lockstep.proofs.frames.inside_plain_frame.Goals as goal
+
+pub returns-in_err-main_part-clause-err : goal.returns-in_err-main_part-clause-err
+returns-in_err-main_part-clause-err g c = in_any_case _ _ (left_in_first MainPart ways.frame_end _ _ words.main_part (fronts.ending) c.requires c.in_err-main_part.ensures.err)
+
+pub end_plain_frame-requires : goal.end_plain_frame-requires
+end_plain_frame-requires g c = rest MainPart ways.frame_end _ _ words.main_part c.requires c.in_ok-main_part.ensures.ok
+
+pub returns-clause-err : goal.returns-clause-err
+returns-clause-err g c = then_on_error _ _ _ c.end_plain_frame.ensures.err (λ w. left_in_rest MainPart ways.frame_end _ _ _ c.in_ok-main_part.ensures.ok w)
+
+pub returns-clause-ok : goal.returns-clause-ok
+returns-clause-ok g c = then_on_ok _ _ _ c.end_plain_frame.ensures.ok (λ f. joined MainPart ways.frame_end _ _ _ c.in_ok-main_part.ensures.ok f)

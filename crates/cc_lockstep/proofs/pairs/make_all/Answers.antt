@@ -1,0 +1,23 @@
+use Rattle.std.proofs.Common.{Bool, List, sym}
+use Rattle.cc_event.specs.declared.history.Entry.{Entry}
+use Rattle.cc_event.specs.Scripts.{ScriptModel}
+use Rattle.cc_event.specs.Lockstep.{has_first, Pair}
+use Rattle.cc_event.proofs.LockstepWords as words
+use Rattle.cc_lockstep.proofs.Parts as parts
+use Rattle.cc_lockstep.proofs.Following.{has_turn, turned, left_in_turn, in_any_case}
+use Rattle.cc_lockstep.proofs.pairs.make_all.Goals as goal
+
+abbrev test : ScriptModel → List Entry → Bool
+test s h = has_first s h
+
+pub pair-requires : goal.pair-requires
+pair-requires g c = has_turn test Pair _ _ (sym c.loop-core-test.ensures) c.loop-core.invariant
+
+pub loop-core-smaller : goal.loop-core-smaller
+loop-core-smaller g c = parts.fewer_tiles _ _ c.in_ok-pair.ensures.ok
+
+pub loop-core-preserved : goal.loop-core-preserved
+loop-core-preserved g c = turned test Pair _ _ _ words.pair (sym c.loop-core-test.ensures) c.loop-core.invariant c.in_ok-pair.ensures.ok
+
+pub returns-in_err-pair-clause-err : goal.returns-in_err-pair-clause-err
+returns-in_err-pair-clause-err g c = in_any_case _ _ (left_in_turn test Pair _ _ _ words.pair parts.all_grows (sym c.loop-core-test.ensures) c.loop-core.invariant c.in_err-pair.ensures.err)

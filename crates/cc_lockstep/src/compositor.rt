@@ -1,0 +1,67 @@
+//! A compositor as the loops of lockstep see it.
+
+ghost use Rattle.std.specs.Prelude.{◌≡◌, ℕ, Some, is_some};
+ghost use Rattle.cc_sched.specs.declared.kind.Kind.TheVariants as kind;
+ghost use Rattle.cc_event.specs.Matters.{sends};
+ghost use Rattle.cc_event.specs.Scans.{newest};
+ghost use Rattle.cc_event.specs.Frames.{active, changes as frame_changes, is_left as is_frame_left, pulls_of};
+ghost use Rattle.cc_event.specs.Lockstep.{has_first as is_tile_first, is_possible, waits as is_waiting};
+ghost use Rattle.cc_lockstep.specs.Walks.{Entered, Run};
+
+use cc_sched::Kind;
+use std::alloc::AllocError;
+
+/// Why no event was entered.
+#[derive(Debug, Drop)]
+pub enum EnterFault {
+    /// no event of this kind and actor is possible
+    NotNow,
+    /// memory was refused
+    Memory(AllocError),
+}
+
+/// A compositor that plays a script: it enters the events that it is asked for, where they are
+/// possible, and answers what is possible next.
+///
+/// For clauses it tells the script and what was played of it (`run`). Actor 1 is the main side, actor
+/// 2 a worker, and 0 the compositor itself.
+pub trait Compositor {
+    ghost run: { Self → Run };
+
+    /// Enters the event of this kind and actor. On an error nothing was entered; `NotNow` comes only
+    /// where none is possible.
+    fn enter(&mut self, kind: Kind, actor: u32) -> Result<(), EnterFault>
+        ensures { Entered kind actor (run self.old) (run self.new) result };
+
+    /// Whether the pending commit can be activated.
+    fn can_activate(&self) -> bool
+        ensures { result ≡ is_possible (run self.now).script kind.Activate 0 (run self.now).past };
+
+    /// Whether the next input is an await that is over.
+    fn can_await(&self) -> bool
+        ensures { result ≡ is_possible (run self.now).script kind.Await 0 (run self.now).past };
+
+    /// Whether a commit is pending.
+    fn waits(&self) -> bool
+        ensures { result ≡ is_waiting (run self.now).past };
+
+    /// Whether a tile may start.
+    fn has_first(&self) -> bool
+        ensures { result ≡ is_tile_first (run self.now).script (run self.now).past };
+
+    /// Whether a main frame is left to be sent.
+    fn is_left(&self) -> bool
+        ensures { result ≡ is_frame_left (run self.now).script (run self.now).past };
+
+    /// Whether a commit was activated.
+    fn is_active(&self) -> bool
+        ensures { result ≡ is_some (active (run self.now).past) };
+
+    /// How many tiles a draw makes at most.
+    fn raster_per_frame(&self) -> u32
+        ensures { result ≡ (run self.now).script.raster_per_frame };
+
+    /// Whether the main frame that was sent last changes something.
+    fn changes(&self) -> bool
+        ensures { (k : ℕ) → newest sends (run self.now).past ≡ Some k → result ≡ frame_changes (run self.now).script (pulls_of (run self.now).past) k };
+}

@@ -1,0 +1,13 @@
+//! Lockstep never sticks: every accepted script has a lockstep history.
+#![tactic(auto)]
+
+mod compositor;
+mod draws;
+mod frames;
+mod laws;
+mod pairs;
+mod play;
+
+pub use compositor::{Compositor, EnterFault};
+pub use laws::{lockstep_exists, pairs_make_fewer, required_tiles_start, rounds_are_few};
+pub use play::play_script;

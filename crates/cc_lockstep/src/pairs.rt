@@ -1,0 +1,70 @@
+//! Tiles are started and made, one after another.
+
+ghost use Rattle.std.specs.Prelude.{◌≡◌, OnOk, OnErr};
+ghost use Rattle.cc_event.specs.Lockstep.{Pair};
+ghost use Rattle.cc_lockstep.specs.Walks.{CanFollow, Follows, IsOnWay, entering, pairs_to_activation, pairs_at_most, all_pairs};
+
+use crate::compositor::{Compositor, EnterFault};
+use cc_sched::Kind;
+use std::alloc::AllocError;
+
+/// Enters the event of this kind and actor, which is possible.
+pub(crate) fn enter<C: Compositor>(core: &mut C, kind: Kind, actor: u32) -> Result<(), AllocError>
+    requires { CanFollow (entering kind actor) (C.run core.old) }
+    ensures ok { OnOk result (Follows (entering kind actor) (C.run core.old) (C.run core.new)) }
+    ensures err { OnErr result (C.run core.new ≡ C.run core.old) }
+{
+    match core.enter(kind, actor) {
+        Ok(()) => Ok(()),
+        Err(EnterFault::NotNow) => unreachable!(),
+        Err(EnterFault::Memory(error)) => Err(error),
+    }
+}
+
+/// Starts and makes the tile that is first.
+pub(crate) fn pair<C: Compositor>(core: &mut C) -> Result<(), AllocError>
+    requires { CanFollow Pair (C.run core.old) }
+    ensures ok { OnOk result (Follows Pair (C.run core.old) (C.run core.new)) }
+    ensures err { OnErr result (IsOnWay Pair (C.run core.old) (C.run core.new)) }
+{
+    enter(core, Kind::Start, 2)?;
+    enter(core, Kind::Done, 2)
+}
+
+/// Makes tiles until the pending commit can be activated.
+pub(crate) fn pairs_until_activation<C: Compositor>(core: &mut C) -> Result<(), AllocError>
+    requires { CanFollow pairs_to_activation (C.run core.old) }
+    ensures ok { OnOk result (Follows pairs_to_activation (C.run core.old) (C.run core.new)) }
+    ensures err { OnErr result (IsOnWay pairs_to_activation (C.run core.old) (C.run core.new)) }
+{
+    while !core.can_activate() {
+        pair(core)?;
+    }
+    Ok(())
+}
+
+/// Makes all tiles that may start.
+pub(crate) fn make_all<C: Compositor>(core: &mut C) -> Result<(), AllocError>
+    requires { CanFollow all_pairs (C.run core.old) }
+    ensures ok { OnOk result (Follows all_pairs (C.run core.old) (C.run core.new)) }
+    ensures err { OnErr result (IsOnWay all_pairs (C.run core.old) (C.run core.new)) }
+{
+    while core.has_first() {
+        pair(core)?;
+    }
+    Ok(())
+}
+
+/// Makes at most so many tiles.
+pub(crate) fn make_some<C: Compositor>(core: &mut C, most: u32) -> Result<(), AllocError>
+    requires { CanFollow (pairs_at_most most) (C.run core.old) }
+    ensures ok { OnOk result (Follows (pairs_at_most most) (C.run core.old) (C.run core.new)) }
+    ensures err { OnErr result (IsOnWay (pairs_at_most most) (C.run core.old) (C.run core.new)) }
+{
+    let mut left = most;
+    while left > 0 && core.has_first() {
+        pair(core)?;
+        left -= 1;
+    }
+    Ok(())
+}

@@ -1,0 +1,142 @@
+//! The whole run is played.
+
+ghost use Rattle.std.specs.Prelude.{◌≡◌, ◌||◌, [], reverse, OnOk, OnErr};
+ghost use Rattle.cc_event.specs.Accepted.{IsAccepted};
+ghost use Rattle.cc_event.specs.Frames.{is_left};
+ghost use Rattle.cc_event.specs.Lockstep.{IsLockstep, waits};
+ghost use Rattle.cc_lockstep.specs.Walks.{CanFollow, Follows, IsOnWay, BeginsLockstep, rounds_to_await, awaited, round_where, settled_rest, settled, input_played, inputs_from, last_rounds, run_end};
+
+use crate::compositor::Compositor;
+use crate::draws::draw_frame;
+use crate::frames::round;
+use crate::pairs::{enter, make_all};
+use cc_event::Input;
+use cc_sched::Kind;
+use std::alloc::AllocError;
+
+/// Plays rounds until the next await is over.
+fn rounds_until_await<C: Compositor>(core: &mut C) -> Result<(), AllocError>
+    requires { CanFollow rounds_to_await (C.run core.old) }
+    ensures ok { OnOk result (Follows rounds_to_await (C.run core.old) (C.run core.new)) }
+    ensures err { OnErr result (IsOnWay rounds_to_await (C.run core.old) (C.run core.new)) }
+{
+    while !core.can_await() {
+        round(core)?;
+    }
+    Ok(())
+}
+
+/// Plays what an await waits for.
+fn wait_for_frame<C: Compositor>(core: &mut C) -> Result<(), AllocError>
+    requires { CanFollow awaited (C.run core.old) }
+    ensures ok { OnOk result (Follows awaited (C.run core.old) (C.run core.new)) }
+    ensures err { OnErr result (IsOnWay awaited (C.run core.old) (C.run core.new)) }
+{
+    rounds_until_await(core)?;
+    enter(core, Kind::Await, 0)
+}
+
+/// Plays a round where a commit is pending.
+fn round_if_pending<C: Compositor>(core: &mut C) -> Result<(), AllocError>
+    requires { CanFollow round_where (C.run core.old) }
+    ensures ok { OnOk result (Follows round_where (C.run core.old) (C.run core.new)) }
+    ensures err { OnErr result (IsOnWay round_where (C.run core.old) (C.run core.new)) }
+{
+    if core.waits() { round(core) } else { Ok(()) }
+}
+
+/// Makes all tiles, and the settle is over.
+fn make_and_settle<C: Compositor>(core: &mut C) -> Result<(), AllocError>
+    requires { CanFollow settled_rest (C.run core.old) }
+    ensures ok { OnOk result (Follows settled_rest (C.run core.old) (C.run core.new)) }
+    ensures err { OnErr result (IsOnWay settled_rest (C.run core.old) (C.run core.new)) }
+{
+    make_all(core)?;
+    enter(core, Kind::Settle, 0)
+}
+
+/// Plays what a settle waits for.
+fn settle<C: Compositor>(core: &mut C) -> Result<(), AllocError>
+    requires { CanFollow settled (C.run core.old) }
+    ensures ok { OnOk result (Follows settled (C.run core.old) (C.run core.new)) }
+    ensures err { OnErr result (IsOnWay settled (C.run core.old) (C.run core.new)) }
+{
+    round_if_pending(core)?;
+    make_and_settle(core)
+}
+
+/// Plays what an input brings.
+fn play_input<C: Compositor>(core: &mut C, input: &Input) -> Result<(), AllocError>
+    requires { CanFollow (input_played input.now) (C.run core.old) }
+    ensures ok { OnOk result (Follows (input_played input.now) (C.run core.old) (C.run core.new)) }
+    ensures err { OnErr result (IsOnWay (input_played input.now) (C.run core.old) (C.run core.new)) }
+{
+    match input {
+        Input::Scroll { .. } => enter(core, Kind::Scroll, 0),
+        Input::Wheel { .. } => enter(core, Kind::Wheel, 0),
+        Input::Draw => draw_frame(core),
+        Input::Await { .. } => wait_for_frame(core),
+        Input::Settle => settle(core),
+    }
+}
+
+/// Plays what these inputs bring, one after another.
+fn play_inputs<C: Compositor>(core: &mut C, inputs: &[Input]) -> Result<(), AllocError>
+    requires { CanFollow (inputs_from inputs.now) (C.run core.old) }
+    ensures ok { OnOk result (Follows (inputs_from inputs.now) (C.run core.old) (C.run core.new)) }
+    ensures err { OnErr result (IsOnWay (inputs_from inputs.now) (C.run core.old) (C.run core.new)) }
+{
+    let mut rest = inputs;
+    while let Some((input, after)) = rest.split_first() {
+        play_input(core, input)?;
+        rest = after;
+    }
+    Ok(())
+}
+
+/// Whether a main frame is left or a commit is pending.
+fn goes_on<C: Compositor>(core: &C) -> bool
+    ensures { result ≡ (is_left (C.run core.now).script (C.run core.now).past || waits (C.run core.now).past) }
+{
+    let left = core.is_left();
+    let waits = core.waits();
+    left || waits
+}
+
+/// Plays rounds until no main frame is left and no commit is pending.
+fn rounds_until_end<C: Compositor>(core: &mut C) -> Result<(), AllocError>
+    requires { CanFollow last_rounds (C.run core.old) }
+    ensures ok { OnOk result (Follows last_rounds (C.run core.old) (C.run core.new)) }
+    ensures err { OnErr result (IsOnWay last_rounds (C.run core.old) (C.run core.new)) }
+{
+    while goes_on(core) {
+        round(core)?;
+    }
+    Ok(())
+}
+
+/// Plays the rounds that are left, and ends the run.
+fn end_run<C: Compositor>(core: &mut C) -> Result<(), AllocError>
+    requires { CanFollow run_end (C.run core.old) }
+    ensures ok { OnOk result (Follows run_end (C.run core.old) (C.run core.new)) }
+    ensures err { OnErr result (IsOnWay run_end (C.run core.old) (C.run core.new)) }
+{
+    rounds_until_end(core)?;
+    enter(core, Kind::End, 0)
+}
+
+/// Plays an accepted script, of which nothing was played yet, to its end.
+///
+/// What is played then is the script's lockstep history. On an error memory was refused, and what was
+/// played is a beginning of that history.
+pub fn play_script<C: Compositor>(core: &mut C, inputs: &[Input]) -> Result<(), AllocError>
+    requires script { IsAccepted (C.run core.old).script }
+    requires start { (C.run core.old).past ≡ [] }
+    requires inputs { inputs.now ≡ (C.run core.old).script.inputs }
+    ensures script { (C.run core.new).script ≡ (C.run core.old).script }
+    ensures ok { OnOk result (IsLockstep (C.run core.old).script (reverse (C.run core.new).past)) }
+    ensures err { OnErr result (BeginsLockstep (C.run core.old).script (reverse (C.run core.new).past)) }
+{
+    play_inputs(core, inputs)?;
+    end_run(core)
+}
