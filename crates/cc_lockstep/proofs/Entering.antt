@@ -15,9 +15,10 @@ use Rattle.cc_event.specs.declared.event.Event.{Event}
 use Rattle.cc_event.specs.declared.event.Event.TheVariants as event
 use Rattle.cc_event.specs.declared.history.Entry.{Entry}
 use Rattle.cc_event.specs.Scripts.{ScriptModel}
-use Rattle.cc_event.specs.Matters.{kind_of, sends, begins, starts, finishes, is_last}
+use Rattle.cc_event.specs.EventFields.{kind_of, sends, begins, starts, finishes, is_last}
 use Rattle.cc_event.specs.Scans.{newest, counted, held, has_ended}
-use Rattle.cc_event.specs.Tiles.{same_key, has_key, without, in_flight}
+use Rattle.cc_event.specs.Tiles.{without, in_flight}
+use Rattle.cc_geom.specs.KeyLists.{same_key, has_key}
 use Rattle.cc_event.specs.Ranking.{first, evicted_for}
 use Rattle.cc_event.specs.Due.{due, due_start, next_input}
 use Rattle.cc_event.specs.Legal.{sched, can, Legal}
@@ -26,7 +27,7 @@ use Rattle.cc_event.proofs.BoolFacts.{or_neither, by_test}
 use Rattle.cc_event.proofs.DueFacts.{entry}
 use Rattle.cc_event.proofs.DueRows.{MayAsk}
 use Rattle.cc_event.proofs.Course.{course}
-use Rattle.cc_event.proofs.KeyFacts.{key_itself}
+use Rattle.cc_geom.proofs.KeyLists.{key_itself}
 use Rattle.cc_event.proofs.TileCourse.{tile_course}
 use Rattle.cc_event.proofs.LockstepWords.{can_next}
 

@@ -8,8 +8,8 @@ use Rattle.cc_event.specs.declared.event.Event.{Event}
 use Rattle.cc_event.specs.declared.event.Event.TheVariants as event
 use Rattle.cc_event.specs.declared.history.Entry.{Entry}
 use Rattle.cc_event.specs.Scripts.{ScriptModel}
-use Rattle.cc_event.specs.Matters.{sends, commits, activates}
-use Rattle.cc_event.specs.Scans.{newest, counted, stands, held}
+use Rattle.cc_event.specs.EventFields.{sends, commits, activates}
+use Rattle.cc_event.specs.Scans.{newest, counted, was_named, held}
 use Rattle.cc_event.specs.Frames.{is_left, pending, unless_activated}
 use Rattle.cc_event.specs.Scrolls.{next_pulls, next_clamps}
 use Rattle.cc_event.specs.Tiles.{required, are_ready}
@@ -62,7 +62,7 @@ activated s h g (e, c, is_g) =
     let (k, p, is_e) = activate_is s h (pending h) e (can_due s h kind.Activate 0 e c).1 in
     let f : List Entry = entry 0 (event.Activate k (next_clamps s h)) ∷ h in
     let now : g ≡ f = is_g ∙ ap (λ (v : Event). entry 0 v ∷ h) is_e in
-    let on : stands activates f k ≡ true = or_left (k == k) (stands activates h k) (is_same k k refl) in
+    let on : was_named activates f k ≡ true = or_left (k == k) (was_named activates h k) (is_same k k refl) in
     let none : pending f ≡ None = ap (unless_activated f) (pending_last h (newest commits h) k p) ∙ ap (λ t. cond t None (Some k)) on in
     ap waits now ∙ ap is_some none
 

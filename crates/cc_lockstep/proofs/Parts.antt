@@ -11,7 +11,7 @@ use Rattle.cc_event.specs.declared.input.Input.TheVariants as input
 use Rattle.cc_event.specs.declared.history.Entry.{Entry}
 use Rattle.cc_event.specs.Scripts.{ScriptModel}
 use Rattle.cc_event.specs.Accepted.{IsAccepted}
-use Rattle.cc_event.specs.Matters.{sends}
+use Rattle.cc_event.specs.EventFields.{sends}
 use Rattle.cc_event.specs.Scans.{newest, counted}
 use Rattle.cc_event.specs.Frames.{active, changes, pulls_of, is_left}
 use Rattle.cc_event.specs.Scrolls.{next_pulls}

@@ -11,7 +11,7 @@ use Rattle.cc_event.specs.declared.event.Event.TheVariants as event
 use Rattle.cc_event.specs.declared.history.Entry.{Entry}
 use Rattle.cc_event.specs.Scripts.{ScriptModel}
 use Rattle.cc_event.specs.Accepted.{IsAccepted}
-use Rattle.cc_event.specs.Matters.{sends, begins}
+use Rattle.cc_event.specs.EventFields.{sends, begins}
 use Rattle.cc_event.specs.Scans.{newest, counted}
 use Rattle.cc_event.specs.Frames.{changes, pulls_of, is_left, active, pending}
 use Rattle.cc_event.specs.Scrolls.{next_pulls, next_clamps}
@@ -26,7 +26,7 @@ use Rattle.cc_lockstep.proofs.Entering.{Rests, at_rest, inside, Keeps, keeps_all
 use Rattle.cc_lockstep.proofs.Visibles.{required_first}
 use Rattle.cc_lockstep.proofs.TilesLeft.{fewer_left}
 
-some_if : (b : Bool) (e : Event) → is_some (on_if b e) ≡ b
+pub some_if : (b : Bool) (e : Event) → is_some (on_if b e) ≡ b
 some_if true e = refl
 some_if false e = refl
 
@@ -38,7 +38,7 @@ pub record MainEnds (s : ScriptModel) (h : List Entry) (b : Begun) : Type 0 wher
   pub reaches : Reaches s (MainPart s) h (inside waiting true b)
   pub one_sent : counted sends reaches.past ≡ suc (counted sends h)
 
-abbrev sent : ScriptModel → List Entry → List Entry
+abbrev pub sent : ScriptModel → List Entry → List Entry
 sent s h = entry 0 (event.Send (counted sends h) (next_pulls s h)) ∷ h
 
 abbrev is_sent : Begun → Sched
@@ -179,7 +179,7 @@ activate_where s h b false ok r = record { past = h; way = where_false waits (Ac
 abbrev closed : List Entry → List Entry
 closed h = entry 0 event.Finish ∷ entry 0 event.NoDraw ∷ h
 
-closes : (s : ScriptModel) (h : List Entry) → Rests s h (inside false true begun.Plain) → Then (Enters s kind.NoDraw 0) (Enters s kind.Finish 0) h (closed h) × Rests s (closed h) (at_rest false)
+pub closes : (s : ScriptModel) (h : List Entry) → Rests s h (inside false true begun.Plain) → Then (Enters s kind.NoDraw 0) (Enters s kind.Finish 0) h (closed h) × Rests s (closed h) (at_rest false)
 closes s h r =
     let y = enters s h (inside false true begun.Plain) kind.NoDraw 0 event.NoDraw r refl (omega arith) refl (record { kind = refl; goes_on = refl; starts_none = refl; finishes_none = refl }) refl in
     let z = enters s (entry 0 event.NoDraw ∷ h) (after (inside false true begun.Plain) kind.NoDraw) kind.Finish 0 event.Finish y.1 refl (omega arith) refl (record { kind = refl; goes_on = refl; starts_none = refl; finishes_none = refl }) refl in
@@ -190,7 +190,7 @@ pub record FrameEnds (s : ScriptModel) (h : List Entry) : Type 0 where
   pub reaches : Reaches s (PlainFrame s) h (at_rest false)
   pub more_sent : counted sends h < counted sends reaches.past
 
-abbrev begun_plain : List Entry → List Entry
+abbrev pub begun_plain : List Entry → List Entry
 begun_plain h = entry 0 event.BeginPlain ∷ h
 
 pub plain_frame : (s : ScriptModel) (h : List Entry) → IsAccepted s → Rests s h (at_rest false) → is_draw (input_now s h) ≡ false → is_left s h ≡ true → FrameEnds s h
@@ -320,10 +320,10 @@ activate_maybe s h true sent r = by_test (are_ready s h (required s h)) activate
           reaches = record { past = a.past; way = where_true (is_possible s kind.Activate 0) (Enters s kind.Activate 0) Stays h a.past (is ∙ t) a.way; rests = a.rests; keeps = a.keeps };
         }
 
-abbrev is_active : List Entry → Bool
+abbrev pub is_active : List Entry → Bool
 is_active h = is_some (active h)
 
-abbrev drawn : Bool → Bool → Sched
+abbrev pub drawn : Bool → Bool → Sched
 drawn w sent = after (inside w sent begun.ForDraw) kind.Draw
 
 draw_or_skip : (s : ScriptModel) (h : List Entry) (w sent : Bool) (i : ℕ) → Rests s h (inside w sent begun.ForDraw) → newest begins h ≡ Some i
@@ -355,7 +355,7 @@ draw_or_skip s h w sent i r e = by_test (is_active h) draws skips
         }
 
 -- an impl frame that was begun for a draw ends
-finishes : (s : ScriptModel) (h : List Entry) (w sent : Bool) → Rests s h (drawn w sent) → Enters s kind.Finish 0 h (entry 0 event.Finish ∷ h) × Rests s (entry 0 event.Finish ∷ h) (at_rest w)
+pub finishes : (s : ScriptModel) (h : List Entry) (w sent : Bool) → Rests s h (drawn w sent) → Enters s kind.Finish 0 h (entry 0 event.Finish ∷ h) × Rests s (entry 0 event.Finish ∷ h) (at_rest w)
 finishes s h w sent r = enters s h (drawn w sent) kind.Finish 0 event.Finish r refl (omega arith) refl (record { kind = refl; goes_on = refl; starts_none = refl; finishes_none = refl }) refl
 
 -- a step that uses the next input

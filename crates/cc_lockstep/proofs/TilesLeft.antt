@@ -11,10 +11,12 @@ use Rattle.cc_priority.proofs.InOrder.{in_map}
 use Rattle.cc_priority.proofs.Choosing.{first_is_one, evicted_give_way}
 use Rattle.cc_event.specs.declared.history.Entry.{Entry}
 use Rattle.cc_event.specs.Scripts.{ScriptModel}
-use Rattle.cc_event.specs.Tiles.{same_key, has_key, without, live_keys, made, ready}
+use Rattle.cc_geom.specs.KeyLists.{same_key, has_key}
+use Rattle.cc_geom.proofs.KeyLists.{key_itself}
+use Rattle.cc_event.specs.Tiles.{without, live_keys, made, ready}
 use Rattle.cc_event.specs.Ranking.{rank, is_unmade, ready_tile, choice, first, evicted_for}
 use Rattle.cc_event.proofs.BoolFacts.{and_left, and_right, and_both, or_left, or_right, is_false, not_both, not_true, same_number, is_same, is_below}
-use Rattle.cc_event.proofs.KeyFacts.{has_filter, has_without, has_in, in_has, key_itself}
+use Rattle.cc_event.proofs.KeyFacts.{has_filter, has_without, has_in, in_has}
 use Rattle.cc_event.proofs.RankFacts.{rank_key, key_of_rank, in_filter_map, first_unmade, key_of_victim}
 use Rattle.cc_lockstep.specs.Measures.{is_of_bin, is_to_make, to_make, tiles_left}
 use Rattle.cc_lockstep.proofs.Entering.{after_pair}

@@ -25,13 +25,14 @@ use Rattle.cc_edit.specs.Layers.{PageLayer, has_id}
 use Rattle.cc_edit.specs.Pages.{Page}
 use Rattle.cc_edit.specs.Refusals.{has_layer}
 use Rattle.cc_edit.specs.Sound.{AreDistinct}
-use Rattle.cc_event.specs.declared.moves.Move.{Move}
+use Rattle.cc_edit.specs.declared.moves.Move.{Move}
 use Rattle.cc_event.specs.declared.history.Entry.{Entry}
 use Rattle.cc_event.specs.Scripts.{ScriptModel}
 use Rattle.cc_event.specs.Accepted.{IsAccepted}
 use Rattle.cc_event.specs.Frames.{page, pulls_of, pending, up_to}
-use Rattle.cc_event.specs.Visible.{grid_of, seen, visible_places, visible_keys, put_layer, by_id, key_at}
-use Rattle.cc_event.specs.Tiles.{Tree, has_key, active_tree, pending_tree, keys_of, visible_in, live_keys, ready, in_flight, required, are_ready}
+use Rattle.cc_visible.specs.Visible.{viewport, grid_of, seen, visible_places, visible_keys, put_layer, by_id, key_at}
+use Rattle.cc_geom.specs.KeyLists.{has_key}
+use Rattle.cc_event.specs.Tiles.{Tree, active_tree, pending_tree, keys_of, visible_in, live_keys, ready, in_flight, required, are_ready}
 use Rattle.cc_event.specs.Ranking.{borders, place_named, rank_on, rank_in, rank as key_rank, is_unmade, wanted, choice, first}
 use Rattle.cc_event.specs.Scans.{has_ended}
 use Rattle.cc_event.specs.Scrolls.{next_clamps}
@@ -60,7 +61,7 @@ in_append {X = X} x (z ∷ xs) ys (inr i) = by_or (in_append x xs ys i)
     by_or (inl j) = inl (inr j)
     by_or (inr j) = inr j
 
-in_flat_map : {X Y : Type 0} (f : X → List Y) (y : Y) (xs : List X) → In y (flat_map f xs) → (x : X) × In x xs × In y (f x)
+pub in_flat_map : {X Y : Type 0} (f : X → List Y) (y : Y) (xs : List X) → In y (flat_map f xs) → (x : X) × In x xs × In y (f x)
 in_flat_map f y [] i = absurd i
 in_flat_map {X = X} f y (x ∷ xs) i = by_or (in_append y (f x) (flat_map f xs) i) (in_flat_map f y xs)
   where
@@ -68,7 +69,7 @@ in_flat_map {X = X} f y (x ∷ xs) i = by_or (in_append y (f x) (flat_map f xs) 
     by_or (inl j) r = (x, inl refl, j)
     by_or (inr j) r = let k = r j in (k.0, inr k.1, k.2)
 
-option_in : {Y : Type 0} (y : Y) (o : Option Y) (ys : List Y) → (o ≡ Some y) ⊎ In y ys → In y (cons_option o ys)
+pub option_in : {Y : Type 0} (y : Y) (o : Option Y) (ys : List Y) → (o ≡ Some y) ⊎ In y ys → In y (cons_option o ys)
 option_in y None ys (inl e) = absurd cc
 option_in y None ys (inr i) = i
 option_in y (Some x) ys (inl e) = inl cc
@@ -80,7 +81,7 @@ filter_map_in f x y (z ∷ xs) (inl j) e = option_in y (f z) (filter_map f xs) (
 filter_map_in f x y (z ∷ xs) (inr i) e = option_in y (f z) (filter_map f xs) (inr (filter_map_in f x y xs i e))
 
 -- a key of a list that fails a test, where not all pass
-not_all : (f : TileKey → Bool) (ks : List TileKey) → list_all f ks ≡ false → (q : TileKey) × In q ks × (f q ≡ false)
+pub not_all : (f : TileKey → Bool) (ks : List TileKey) → list_all f ks ≡ false → (q : TileKey) × In q ks × (f q ≡ false)
 not_all f [] e = absurd cc
 not_all f (k ∷ ks) e = by_head (f k) refl e (not_all f ks)
   where
@@ -115,7 +116,7 @@ in_by_id x (l ∷ ls) i = by_or (in_put x l (by_id ls) i) (in_by_id x ls)
     by_or (inr j) r = inr (r j)
 
 -- a layer of a list is there by its id
-has_its_id : (l : PageLayer) (ls : List PageLayer) → In l ls → has_layer l.id ls ≡ true
+pub has_its_id : (l : PageLayer) (ls : List PageLayer) → In l ls → has_layer l.id ls ≡ true
 has_its_id l [] i = absurd i
 has_its_id l (k ∷ ks) (inl e) = ap (λ (b : Bool). is_some (cond b (Some k) (find (has_id l.id) ks))) (eq-eqb k.id l.id (ap (λ (z : PageLayer). z.id) (sym e)))
 has_its_id l (k ∷ ks) (inr i) = by_test (k.id == l.id) (has_its_id l ks i)
@@ -149,14 +150,14 @@ now_rank : (b : Borders) (a : Side) (v : Seen) (q : TileKey) → is_visible v �
 now_rank b a v q t = ap (λ (t : Bool). option_map (λ bin. record { bin = bin; tree = tree_number b.priority a; distance = distance v.screen b.viewport; key = q }) (cond t (Some bin.Now) (bin_at b (distance v.screen b.viewport)))) t
 
 -- a visible key of a page is that of a visible place of one of its layers
-record Shown (p : Page) (offset : ℕ → Point) (stamp : ℕ → Place → ℕ) (q : TileKey) : Type 0 where
-  layer : PageLayer
-  place : Place
-  among : In layer p.layers
-  visible : is_visible (seen p offset layer place) ≡ true
-  key : key_at stamp layer.id place ≡ q
+pub record Shown (p : Page) (offset : ℕ → Point) (stamp : ℕ → Place → ℕ) (q : TileKey) : Type 0 where
+  pub layer : PageLayer
+  pub place : Place
+  pub among : In layer p.layers
+  pub visible : is_visible (seen p offset layer place) ≡ true
+  pub key : key_at stamp layer.id place ≡ q
 
-shown : (p : Page) (offset : ℕ → Point) (stamp : ℕ → Place → ℕ) (q : TileKey) → In q (visible_keys p offset stamp) → Shown p offset stamp q
+pub shown : (p : Page) (offset : ℕ → Point) (stamp : ℕ → Place → ℕ) (q : TileKey) → In q (visible_keys p offset stamp) → Shown p offset stamp q
 unfolding visible_keys visible_places
 shown p offset stamp q i =
     let (l, il, j) = in_flat_map (λ (l : PageLayer). map (key_at stamp l.id) (visible_places p offset l)) q (by_id p.layers) i in
@@ -164,19 +165,27 @@ shown p offset stamp q i =
     let v = in_filter (λ (z : Place). is_visible (seen p offset l z)) place (places (grid_of p l)) k in
     record { layer = l; place = place; among = in_by_id l p.layers il; visible = v.1; key = e }
 
-now_in_tree : (s : ScriptModel) (a : Side) (t : Tree) (q : TileKey) → AreDistinct t.page.layers → In q (visible_in t) → (r : Rank) × (rank_in s a t q ≡ Some r) × (r.bin ≡ bin.Now)
+-- the rank of a visible key in a tree
+abbrev pub seen_rank : ScriptModel → Side → Tree → PageLayer → Place → TileKey → Rank
+seen_rank s a t l place q =
+    record { bin = bin.Now; tree = tree_number s.priority a; distance = distance (seen t.page t.offset l place).screen (viewport t.page); key = q }
+
+pub rank_of_shown : (s : ScriptModel) (a : Side) (t : Tree) (q : TileKey) → AreDistinct t.page.layers → In q (visible_in t) → (x : Shown t.page t.offset t.stamp q) → rank_in s a t q ≡ Some (seen_rank s a t x.layer x.place q)
 unfolding rank_in
-now_in_tree s a t q d i =
-    let x = shown t.page t.offset t.stamp q i in
+rank_of_shown s a t q d i x =
     let b : Borders = borders s t.page in
     let v : Seen = seen t.page t.offset x.layer x.place in
-    let r : Rank = record { bin = bin.Now; tree = tree_number b.priority a; distance = distance v.screen b.viewport; key = q } in
     let has : has_key (keys_of t) q ≡ true = visible_is_key t.page t.offset t.stamp q (has_in (visible_in t) q i) in
     let is_layer : q.layer ≡ x.layer.id = ap (λ (k : TileKey). k.layer) (sym x.key) in
     let found : find (has_id q.layer) t.page.layers ≡ Some x.layer = ap (λ (n : ℕ). find (has_id n) t.page.layers) is_layer ∙ found_by_id x.layer t.page.layers d x.among in
     let is_place : place_named q ≡ x.place = ap (λ (k : TileKey). place_named k) (sym x.key) in
-    let now : rank_on s a t q (Some x.layer) ≡ Some r = ap (λ (z : Place). rank_of b a (seen t.page t.offset x.layer z) q) is_place ∙ now_rank b a v q x.visible in
-    (r, ap (λ (z : Bool). cond z (rank_on s a t q (find (has_id q.layer) t.page.layers)) None) has ∙ (ap (λ (o : Option PageLayer). rank_on s a t q o) found ∙ now), refl)
+    let now : rank_on s a t q (Some x.layer) ≡ Some (seen_rank s a t x.layer x.place q) = ap (λ (z : Place). rank_of b a (seen t.page t.offset x.layer z) q) is_place ∙ now_rank b a v q x.visible in
+    ap (λ (z : Bool). cond z (rank_on s a t q (find (has_id q.layer) t.page.layers)) None) has ∙ (ap (λ (o : Option PageLayer). rank_on s a t q o) found ∙ now)
+
+now_in_tree : (s : ScriptModel) (a : Side) (t : Tree) (q : TileKey) → AreDistinct t.page.layers → In q (visible_in t) → (r : Rank) × (rank_in s a t q ≡ Some r) × (r.bin ≡ bin.Now)
+now_in_tree s a t q d i =
+    let x = shown t.page t.offset t.stamp q i in
+    (seen_rank s a t x.layer x.place q, rank_of_shown s a t q d i x, refl)
 
 -- the better of two ranks is NOW where the second is
 better_now : (o : Option Rank) (r : Rank) → r.bin ≡ bin.Now → (z : Rank) × (least o (Some r) ≡ Some z) × (z.bin ≡ bin.Now)

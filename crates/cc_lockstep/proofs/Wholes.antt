@@ -13,16 +13,16 @@ use Rattle.cc_event.specs.declared.input.Input.{Input}
 use Rattle.cc_event.specs.declared.input.Input.TheVariants as input
 use Rattle.cc_event.specs.declared.history.Entry.{Entry}
 use Rattle.cc_event.specs.Scripts.{ScriptModel}
-use Rattle.cc_event.specs.Ranges.{is_whole, input_in_range, draw_count, head_in_range, main_in_range, inputs_in_range, is_in_ranges}
+use Rattle.cc_event.specs.Ranges.{is_u32, input_in_range, draw_count, head_in_range, main_in_range, inputs_in_range, is_in_ranges}
 use Rattle.cc_event.specs.Accepted.{IsAccepted}
-use Rattle.cc_event.specs.Matters.{sends}
+use Rattle.cc_event.specs.EventFields.{sends}
 use Rattle.cc_event.specs.Scans.{counted, newest}
-use Rattle.cc_event.specs.Axes.{across, down}
+use Rattle.cc_edit.specs.Axes.{across, down}
 use Rattle.cc_event.specs.Frames.{is_left, has_frame_ended, pending, is_empty, active_page}
 use Rattle.cc_event.specs.Scrolls.{accepted, active_offsets}
 use Rattle.cc_event.specs.Tiles.{in_flight}
 use Rattle.cc_event.specs.Ranking.{first}
-use Rattle.cc_event.specs.Wheels.{wheel_parts, wheel_rest}
+use Rattle.cc_edit.specs.Wheels.{wheel_parts, wheel_rest}
 use Rattle.cc_edit.specs.Hits.{target}
 use Rattle.cc_event.specs.Due.{on_if, due, due_scroll, due_wheel, due_await, due_settle, next_input, input_now, is_draw, is_pending_to, is_settled, is_over}
 use Rattle.cc_event.specs.Legal.{sched}
@@ -36,28 +36,28 @@ use Rattle.cc_lockstep.proofs.Playing.{all_pairs, Between, round, Uses, draw_fra
 
 -- ---- the inputs that are left
 
-at_front : {X : Type 0} (xs : List X) (n : ℕ) (x : X) (ys : List X) → drop n xs ≡ x ∷ ys → (slice_get xs n ≡ Some x) × (drop (suc n) xs ≡ ys)
+pub at_front : {X : Type 0} (xs : List X) (n : ℕ) (x : X) (ys : List X) → drop n xs ≡ x ∷ ys → (slice_get xs n ≡ Some x) × (drop (suc n) xs ≡ ys)
 at_front [] zero x ys e = absurd cc
 at_front [] (suc n) x ys e = absurd cc
 at_front (z ∷ xs) zero x ys e = (cc, cc)
 at_front (z ∷ xs) (suc n) x ys e = at_front xs n x ys e
 
-all_at : {X : Type 0} (f : X → Bool) (xs : List X) (n : ℕ) (x : X) → list_all f xs ≡ true → slice_get xs n ≡ Some x → f x ≡ true
+pub all_at : {X : Type 0} (f : X → Bool) (xs : List X) (n : ℕ) (x : X) → list_all f xs ≡ true → slice_get xs n ≡ Some x → f x ≡ true
 all_at f [] n x t e = absurd cc
 all_at {X = X} f (y ∷ xs) zero x t e = let same : y ≡ x = cc in ap f (sym same) ∙ and_left (f y) (list_all f xs) t
 all_at f (y ∷ xs) (suc n) x t e = all_at f xs n x (and_right (f y) (list_all f xs) t) e
 
-none_after : {X : Type 0} (xs : List X) (n : ℕ) → length xs ≤ n → slice_get xs n ≡ None
+pub none_after : {X : Type 0} (xs : List X) (n : ℕ) → length xs ≤ n → slice_get xs n ≡ None
 none_after [] n l = refl
 none_after (x ∷ xs) zero l = absurd (omega (arith, l))
 none_after (x ∷ xs) (suc n) l = none_after xs n (omega (arith, l))
 
 -- these inputs are left
-record IsLeft (s : ScriptModel) (h : List Entry) (is : List Input) : Type 0 where
-  rest : drop (next_input h) s.inputs ≡ is
-  count : next_input h + length is ≡ length s.inputs
+pub record IsLeft (s : ScriptModel) (h : List Entry) (is : List Input) : Type 0 where
+  pub rest : drop (next_input h) s.inputs ≡ is
+  pub count : next_input h + length is ≡ length s.inputs
 
-each_in_range : (s : ScriptModel) → IsAccepted s → list_all (input_in_range (length s.main)) s.inputs ≡ true
+pub each_in_range : (s : ScriptModel) → IsAccepted s → list_all (input_in_range (length s.main)) s.inputs ≡ true
 unfolding is_in_ranges
 each_in_range s a =
     let few : Bool = nat_le (length s.inputs) 65536 in
@@ -84,14 +84,14 @@ wheels s h w x y dx dy r e =
     record { past = entry 0 wheel ∷ h; way = z.0; waiting = w; rests = z.1; used = refl }
 
 -- an await is over where its frame has ended and no commit up to it is pending
-abbrev is_await_over : List Entry → ℕ → Bool
+abbrev pub is_await_over : List Entry → ℕ → Bool
 is_await_over h f = has_frame_ended h f && not (is_pending_to f (pending h))
 
 some_if : (b : Bool) (e : Event) → is_some (on_if b e) ≡ b
 some_if true e = refl
 some_if false e = refl
 
-await_possible : (s : ScriptModel) (h : List Entry) (w : Bool) (f : ℕ) → Rests s h (at_rest w) → input_now s h ≡ Some (input.Await f) → is_possible s kind.Await 0 h ≡ is_await_over h f
+pub await_possible : (s : ScriptModel) (h : List Entry) (w : Bool) (f : ℕ) → Rests s h (at_rest w) → input_now s h ≡ Some (input.Await f) → is_possible s kind.Await 0 h ≡ is_await_over h f
 await_possible s h w f r e =
     ap is_some (can_then s h (at_rest w) kind.Await 0 r refl ∙ ap (due_await h (next_input h)) e) ∙ some_if (is_await_over h f) (event.Await (next_input h))
 
@@ -121,7 +121,7 @@ round_left : (s : ScriptModel) (h : List Entry) (w : Bool) (f : ℕ) → Rests s
 round_left s h true f r l out = or_right (is_left s h) (waits h) (waits_as s h (at_rest true) r)
 round_left s h false f r l out = by_test (is_left s h) (or_left (is_left s h) (waits h)) (λ none. absurd (not_both (is_await_over h f) (await_over s h f r none l) out))
 
-no_draw : (o : Option Input) (f : ℕ) → o ≡ Some (input.Await f) → is_draw o ≡ false
+pub no_draw : (o : Option Input) (f : ℕ) → o ≡ Some (input.Await f) → is_draw o ≡ false
 no_draw o f e = ap is_draw e
 
 awaits : (s : ScriptModel) (h : List Entry) (w : Bool) (f : ℕ) → IsAccepted s → Rests s h (at_rest w) → input_now s h ≡ Some (input.Await f) → f < length s.main → Uses s (InputStep s (input.Await f)) h
@@ -163,8 +163,8 @@ settles s h w ok r e =
     let x = enters s g (at_rest false) kind.Settle 0 settle u.holds.rests refl (omega arith) refl (record { kind = refl; goes_on = refl; starts_none = refl; finishes_none = refl }) d in
     record { past = entry 0 settle ∷ g; way = (a.past, a.way, (g, u.way, x.0)); waiting = false; rests = x.1; used = ap suc used }
 
-frame_below : (n f : ℕ) → input_in_range n (input.Await f) ≡ true → f < n
-frame_below n f t = is_below f n (and_right (is_whole f) (nat_lt f n) t)
+pub frame_below : (n f : ℕ) → input_in_range n (input.Await f) ≡ true → f < n
+frame_below n f t = is_below f n (and_right (is_u32 f) (nat_lt f n) t)
 
 input_step : (s : ScriptModel) (h : List Entry) (w : Bool) (i : Input) → IsAccepted s → Rests s h (at_rest w) → input_now s h ≡ Some i → input_in_range (length s.main) i ≡ true → Uses s (InputStep s i) h
 input_step s h w (input.Scroll sc dx dy) ok r e t = scrolls s h w sc dx dy r e
@@ -193,7 +193,7 @@ input_steps s (i ∷ is) h w ok r l =
     let p = input_steps s is u.past u.waiting ok u.rests left in
     record { past = p.past; way = (u.past, u.way, p.way); waiting = p.waiting; rests = p.rests; used = p.used }
 
-abbrev goes_on : ScriptModel → List Entry → Bool
+abbrev pub goes_on : ScriptModel → List Entry → Bool
 goes_on s h = is_left s h || waits h
 
 last_rounds : (s : ScriptModel) (h : List Entry) (w : Bool) → IsAccepted s → Rests s h (at_rest w) → next_input h ≡ length s.inputs → Ends (goes_on s) (Round s) (Between s h) h
@@ -204,7 +204,7 @@ last_rounds s h w ok r used = while_ends (goes_on s) (Round s) (Between s h) (ro
         let all : next_input g ≡ length s.inputs = b.keeps.inputs ∙ used in
         round s h g ok b (ap is_draw (none_after s.inputs (next_input g) (omega (arith, all)))) t
 
-ends : (s : ScriptModel) (h : List Entry) (w : Bool) → Rests s h (at_rest w) → next_input h ≡ length s.inputs → goes_on s h ≡ false → Enters s kind.End 0 h (entry 0 event.End ∷ h)
+pub ends : (s : ScriptModel) (h : List Entry) (w : Bool) → Rests s h (at_rest w) → next_input h ≡ length s.inputs → goes_on s h ≡ false → Enters s kind.End 0 h (entry 0 event.End ∷ h)
 ends s h true r used over = absurd (not_both (waits h) (waits_as s h (at_rest true) r) (or_right_false (is_left s h) (waits h) over))
 ends s h false r used over =
     let all : (next_input h == length s.inputs) && not (is_left s h) ≡ true = and_both (next_input h == length s.inputs) (not (is_left s h)) (is_same (next_input h) (length s.inputs) used) (ap not (or_left_false (is_left s h) (waits h) over)) in

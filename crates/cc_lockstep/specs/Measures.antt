@@ -7,9 +7,10 @@ use Rattle.cc_priority.specs.declared.rank.Rank.{Rank}
 use Rattle.cc_priority.specs.Ranks.{bin_number}
 use Rattle.cc_event.specs.declared.history.Entry.{Entry}
 use Rattle.cc_event.specs.Scripts.{ScriptModel}
-use Rattle.cc_event.specs.Matters.{sends}
+use Rattle.cc_event.specs.EventFields.{sends}
 use Rattle.cc_event.specs.Scans.{counted}
-use Rattle.cc_event.specs.Tiles.{has_key, live_keys, ready}
+use Rattle.cc_geom.specs.KeyLists.{has_key}
+use Rattle.cc_event.specs.Tiles.{live_keys, ready}
 use Rattle.cc_event.specs.Ranking.{rank}
 use Rattle.cc_event.specs.Lockstep.{waits}
 

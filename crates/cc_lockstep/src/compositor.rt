@@ -2,7 +2,7 @@
 
 ghost use Rattle.std.specs.Prelude.{◌≡◌, ℕ, Some, is_some};
 ghost use Rattle.cc_sched.specs.declared.kind.Kind.TheVariants as kind;
-ghost use Rattle.cc_event.specs.Matters.{sends};
+ghost use Rattle.cc_event.specs.EventFields.{sends};
 ghost use Rattle.cc_event.specs.Scans.{newest};
 ghost use Rattle.cc_event.specs.Frames.{active, changes as frame_changes, is_left as is_frame_left, pulls_of};
 ghost use Rattle.cc_event.specs.Lockstep.{has_first as is_tile_first, is_possible, waits as is_waiting};

@@ -1,7 +1,7 @@
 //! Impl frames and main frames are played.
 
 ghost use Rattle.std.specs.Prelude.{◌≡◌, ℕ, Some, OnOk, OnErr};
-ghost use Rattle.cc_event.specs.Matters.{sends};
+ghost use Rattle.cc_event.specs.EventFields.{sends};
 ghost use Rattle.cc_event.specs.Scans.{newest};
 ghost use Rattle.cc_event.specs.Lockstep.{MainPart, ActivateNow, PlainFrame, Round};
 ghost use Rattle.cc_lockstep.specs.Walks.{CanFollow, Follows, IsOnWay, commit_made, main_answer, activation_where, no_draw, frame_end, frame_rest};
