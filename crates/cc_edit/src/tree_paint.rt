@@ -67,7 +67,11 @@ fn placed_layers(
 }
 
 // The samples of layers, with their groups, and without colour.
-fn samples_of(alloc: Global, props: &PropertyTrees, layers: &[Layer]) -> Result<Vec<LayerSample>, AllocError>
+fn samples_of(
+    alloc: Global,
+    props: &PropertyTrees,
+    layers: &[Layer],
+) -> Result<Vec<LayerSample>, AllocError>
     requires { IsTrees props.now }
     ensures groups { IfOk result (λ samples. map groups_of samples.items ≡ map (λ l. groups_in props.now.effects l.effect) layers.now) }
     ensures opacities { IfOk result (λ samples. HaveOpacities (opacity_in props.now.effects) samples.items) }

@@ -8,8 +8,8 @@ ghost use Rattle.cc_event.specs.Due as spec;
 ghost use Rattle.cc_event.specs.Due.{due};
 ghost use Rattle.cc_event.specs.Frames as frames;
 
-use crate::keys::in_flight;
 use crate::event_field::EventField;
+use crate::keys::in_flight;
 use crate::scans::{active, counted, has_frame_ended, held, names, newest, pending};
 use cc_event::{Entry, Input, Script};
 use cc_geom::TileKey;

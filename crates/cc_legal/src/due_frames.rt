@@ -11,12 +11,12 @@ ghost use Rattle.cc_event.specs.Tiles as tiles;
 ghost use Rattle.cc_legal.specs.inner.Pagings.{IsLegalPast};
 
 use crate::due::is_left;
-use crate::listing::{next_clamps, next_pulls};
 use crate::event_field::EventField;
+use crate::listing::{next_clamps, next_pulls};
 use crate::pages::pages;
+use crate::past_state::PastState;
 use crate::rows::same_moves;
 use crate::scans::{counted, names, newest, pending, pulls_of};
-use crate::past_state::PastState;
 use cc_event::{Entry, Moves, Script, changes_something};
 use std::alloc::{AllocError, Global};
 

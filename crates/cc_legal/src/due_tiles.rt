@@ -13,10 +13,10 @@ ghost use Rattle.cc_legal.specs.inner.Pagings.{IsLegalPast};
 
 use crate::choice::{evicted_for, first};
 use crate::due::{input_now, is_empty, next_input};
-use crate::keys::same_keys;
 use crate::event_field::EventField;
-use crate::scans::{active, held, names, newest};
+use crate::keys::same_keys;
 use crate::past_state::PastState;
+use crate::scans::{active, held, names, newest};
 use crate::tiles::TilesAt;
 use cc_event::{Entry, Input, Script};
 use cc_geom::{Keys, TileKey};

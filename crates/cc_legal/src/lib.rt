@@ -44,8 +44,8 @@ use due::{
 use due_frames::{is_due_abort, is_due_activate, is_due_ready, is_due_send};
 use due_inputs::{is_due_scroll, is_due_wheel};
 use due_tiles::{is_due_draw, is_due_settle, is_due_start};
-pub use first::first_illegal;
 use event_field::kind_of;
+pub use first::first_illegal;
 use scans::{has_ended, sched};
 use std::alloc::{AllocError, Global};
 

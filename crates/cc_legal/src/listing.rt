@@ -8,10 +8,10 @@ ghost use Rattle.cc_legal.specs.inner.Rows.{move_in};
 ghost use Rattle.cc_event.specs.Scrolls as spec;
 
 use crate::amounts::Axis;
-use crate::sum_filter::SumFilter;
 use crate::numbers::{scrollers_moved, scrollers_of};
 use crate::rows::{Row, push_moving};
 use crate::standing::{Stage, offset_then, page_in, pending_offset};
+use crate::sum_filter::SumFilter;
 use crate::sums::moved;
 use cc_edit::LayerTree;
 use cc_event::{Entry, Script};

@@ -8,7 +8,7 @@ ghost use Rattle.cc_legal.specs.inner.Stages.{stands_at, offsets_at, offsets_amo
 
 use crate::amounts::Axis;
 use crate::numbers::scrollers_of;
-use crate::standing::{Stage, page_in, offset_along};
+use crate::standing::{Stage, offset_along, page_in};
 use cc_edit::LayerTree;
 use cc_event::{Entry, Script};
 use cc_geom::Point;

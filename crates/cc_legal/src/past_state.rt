@@ -10,9 +10,9 @@ ghost use Rattle.cc_legal.specs.inner.Stages.{frame_at, page_of};
 ghost use Rattle.cc_legal.specs.inner.PastStates.{tree_of};
 ghost use Rattle.cc_event.specs.Frames.{up_to};
 
+use crate::event_field::EventField;
 use crate::frame_changes::all_changes;
 use crate::keys::{in_flight, made};
-use crate::event_field::EventField;
 use crate::offsets::offsets_of;
 use crate::pages::pages;
 use crate::scans::{active, counted, pending, up_to};

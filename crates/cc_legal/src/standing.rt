@@ -9,9 +9,9 @@ ghost use Rattle.cc_event.specs.Scrolls as spec;
 ghost use Rattle.cc_legal.specs.inner.Stages.{frame_at, page_of, stands_at};
 
 use crate::amounts::Axis;
-use crate::sum_filter::SumFilter;
 use crate::ranges::{clamp_to, most, taken};
 use crate::scans::{active, pending, up_to};
+use crate::sum_filter::SumFilter;
 use crate::sums::{base_of, moved, page_at};
 use cc_edit::{Command, LayerTree};
 use cc_event::{Entry, Script};

@@ -14,9 +14,9 @@ ghost use Rattle.cc_edit.specs.Scrollers as scrollers;
 ghost use Rattle.cc_event.specs.Scrolls as spec;
 
 use crate::amounts::{Axis, accepted_amount, amount_in};
-use crate::sum_filter::{SumFilter, carrier_from};
 use crate::event_field::EventField;
-use crate::scans::{pulls_of, was_named, up_to};
+use crate::scans::{pulls_of, up_to, was_named};
+use crate::sum_filter::{SumFilter, carrier_from};
 use cc_edit::LayerTree;
 use cc_event::{Entry, Event, Script};
 
@@ -60,15 +60,7 @@ pub(crate) fn moved(
     let mut carrier = None;
     let mut rest = past;
     while let Some((entry, older)) = rest.split_first() {
-        sum += counted_amount(
-            script,
-            past,
-            filter,
-            carrier,
-            scroller,
-            axis,
-            &entry.event,
-        );
+        sum += counted_amount(script, past, filter, carrier, scroller, axis, &entry.event);
         carrier = carrier_from(&entry.event, carrier);
         rest = older;
     }

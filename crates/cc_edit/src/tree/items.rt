@@ -21,7 +21,10 @@ impl LayerTree {
     {
         let count = display::item_count(self.layers.as_slice(), layer)?;
         require(at as usize <= count, EditFault::BadPlace)?;
-        require(count < MAX_ITEMS as usize, EditFault::TooMany { limit: MAX_ITEMS })?;
+        require(
+            count < MAX_ITEMS as usize,
+            EditFault::TooMany { limit: MAX_ITEMS },
+        )?;
         is_item_rect(item.rect())
     }
 

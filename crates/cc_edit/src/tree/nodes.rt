@@ -123,7 +123,10 @@ impl LayerTree {
         let transform_known = self.is_transform(transform);
         require(parent_known && transform_known, EditFault::UnknownId)?;
         require(self.props.clip(id).is_none(), EditFault::IdUsed)?;
-        require(self.props.clips() < MAX_NODES as usize, EditFault::TooMany { limit: MAX_NODES })?;
+        require(
+            self.props.clips() < MAX_NODES as usize,
+            EditFault::TooMany { limit: MAX_NODES },
+        )?;
         is_id(id)?;
         is_clip_rect(rect)
     }

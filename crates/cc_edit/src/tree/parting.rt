@@ -130,7 +130,10 @@ impl LayerTree {
         require(!self.was_used(id), EditFault::IdUsed)?;
         let count = self.count();
         require(at as usize <= count, EditFault::BadPlace)?;
-        require(count < MAX_LAYERS as usize, EditFault::TooMany { limit: MAX_LAYERS })?;
+        require(
+            count < MAX_LAYERS as usize,
+            EditFault::TooMany { limit: MAX_LAYERS },
+        )?;
         is_id(id)?;
         is_size(w, h)
     }

@@ -11,7 +11,7 @@ ghost use Rattle.cc_script.specs.Reading.{priority_named, priority_at, head_at, 
 ghost use Rattle.cc_script.specs.Causes.{PartsCause};
 
 use super::{commands, inputs};
-use crate::fault::{ShapeFault, PartsFault, Stop};
+use crate::fault::{PartsFault, ShapeFault, Stop};
 use crate::head::Head;
 use cc_event::ScriptParts;
 use cc_priority::TreePriority;
