@@ -1,0 +1,12 @@
+pub mod Lists
+pub mod DrawnPlaces
+pub mod OwnTiles
+pub mod LayerActs
+pub mod TileFits
+pub mod PageTiles
+pub mod Unseen
+pub mod Alike
+pub mod Built
+pub mod Whole
+pub mod MadeRight
+pub mod Rooms

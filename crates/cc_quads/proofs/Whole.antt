@@ -1,0 +1,122 @@
+-- The scene of a page shows the direct painting.
+use Rattle.std.proofs.Common.{ℕ, ℤ, ◌≡◌, ◌⊎◌, inl, inr, ◌+◌, ◌≤◌, ◌==◌, Bool, true, false, cond, Some, List, [], ◌∷◌, ◌++◌, length, map, find, All, refl, ap, sym, ◌∙◌, subst, arith}
+use Rattle.std.specs.List.{list_any}
+use Rattle.std.proofs.lemmas.List.{length-append}
+use Rattle.std.proofs.lemmas.Simd.{map-map}
+use Rattle.std.proofs.lemmas.List.Elements.{All-nil, All-cons, All-head, All-tail, All-map, All-same, All-weaker}
+use Rattle.cc_geom.specs.declared.rect.Point.{Point}
+use Rattle.cc_geom.specs.declared.rect.Rect.{Rect}
+use Rattle.cc_geom.specs.declared.tile.TileKey.{TileKey}
+use Rattle.cc_geom.specs.Covers.{covers}
+use Rattle.cc_geom.specs.Sides.{IsGrid}
+use Rattle.cc_pixel.specs.Colours.{Parts, clear}
+use Rattle.cc_tree.specs.Placement.{draws}
+use Rattle.cc_tree.specs.Trees.{AreEffects}
+use Rattle.cc_edit.specs.declared.view.View.{View}
+use Rattle.cc_edit.specs.Layers.{PageLayer, has_id}
+use Rattle.cc_edit.specs.Pages.{Page, IsView}
+use Rattle.cc_edit.specs.Sound.{IsPage}
+use Rattle.cc_edit.specs.Painting.{Items, folded, items_at}
+use Rattle.cc_edit.specs.TreePainting.{groups_in, opacity_in, colour_at, paint}
+use Rattle.cc_edit.proofs.SampleColours.{same_items}
+use Rattle.cc_visible.specs.Visible.{viewport, grid_of}
+use Rattle.cc_scene.specs.Views.{QuadView, SceneView}
+use Rattle.cc_scene.specs.Pixels.{quads_over, passes_at, scene_pixel}
+use Rattle.cc_scene.specs.Sound.{Fits, AreSound, IsScene}
+use Rattle.cc_scene.proofs.Steps.{scene_last, sound_append}
+use Rattle.cc_quads.specs.declared.parts.LayerParts.{LayerParts}
+use Rattle.cc_quads.specs.Shown.{Tile, missing_keys, AreRight}
+use Rattle.cc_quads.specs.inner.LayerQuads.{layer_quads}
+use Rattle.cc_quads.specs.inner.Passes.{groups_of, own_quads, own_colour, ActAsOne, IsLayer, HaveOpacities, AreBuilt}
+use Rattle.cc_quads.proofs.Lists.{all_mapped, both_all}
+use Rattle.cc_quads.proofs.LayerActs.{shown_colour, layer_as_one, layer_shows}
+use Rattle.cc_quads.proofs.TileFits.{layer_fits}
+use Rattle.cc_quads.proofs.PageTiles.{found_each, grids_sound}
+use Rattle.cc_quads.proofs.Unseen.{unseen}
+use Rattle.cc_quads.proofs.Alike.{AreAlike, alike_painted}
+
+module _ (p : Page) (offset : ℕ → Point) (ts : List Tile) (page : IsPage p) (right : AreRight p offset ts) where
+  -- each layer is found by its id, and its grid is sound
+  IsFound : PageLayer → Type 0
+  IsFound l = (find (has_id l.id) p.layers ≡ Some l) × IsGrid (grid_of p l)
+
+  each_found : All IsFound p.layers
+  unfolding IsFound
+  each_found = both_all (λ l. find (has_id l.id) p.layers ≡ Some l) (λ l. IsGrid (grid_of p l)) p.layers (found_each p.layers page.distinct) (grids_sound p page)
+
+  -- ---- the layers act as one
+
+  IsOne : List QuadView → Type 0
+  IsOne qs = ActAsOne (viewport p) qs × All (Fits p.view.w p.view.h 0) qs
+
+  one_each : All (λ l. IsOne (layer_quads p offset ts l)) p.layers
+  unfolding IsFound IsOne
+  one_each = All-weaker IsFound (λ l. IsOne (layer_quads p offset ts l)) (λ l f. (layer_as_one p offset ts l right page.distinct f.0 f.1, layer_fits p offset ts l right page.distinct f.0)) p.layers each_found
+
+  pub layers_of : (parts : List LayerParts) → map own_quads parts ≡ map (layer_quads p offset ts) p.layers → All (IsLayer p.view.w p.view.h (viewport p)) parts
+  unfolding IsOne
+  layers_of parts quads =
+      All-weaker (λ l. IsOne (own_quads l)) (IsLayer p.view.w p.view.h (viewport p)) (λ l one. record { acts = one.0; fit = one.1 }) parts
+      (all_mapped IsOne own_quads parts (All-same IsOne (map own_quads parts) (map (layer_quads p offset ts) p.layers) quads (All-map IsOne (layer_quads p offset ts) p.layers one_each)))
+
+  -- what was built of the layers, from no pass on
+  pub root_built : (slice parts : List LayerParts) (old new : List (List QuadView)) (root : List QuadView) → slice ≡ parts → old ≡ [] → map own_quads parts ≡ map (layer_quads p offset ts) p.layers
+      → ((w h : ℕ) (view : Rect) → All (IsLayer w h view) slice → AreBuilt w h view 0 slice old new root) → AreBuilt p.view.w p.view.h (viewport p) 0 parts [] new root
+  root_built slice parts old new root same none quads make =
+      subst (λ (ls : List LayerParts). AreBuilt p.view.w p.view.h (viewport p) 0 ls [] new root) same
+      (subst (λ (ps : List (List QuadView)). AreBuilt p.view.w p.view.h (viewport p) 0 slice ps new root) none
+      (make p.view.w p.view.h (viewport p) (All-same (IsLayer p.view.w p.view.h (viewport p)) slice parts same (layers_of parts quads))))
+
+  -- ---- their colours
+
+  map_where : {A B : Type 0} (f g : A → B) (xs : List A) → All (λ x. f x ≡ g x) xs → map f xs ≡ map g xs
+  map_where f g [] h = refl
+  map_where {A} {B} f g (x ∷ xs) h = ap (λ (y : B). y ∷ map f xs) (All-head (λ x. f x ≡ g x) x xs h) ∙ ap (λ (ys : List B). g x ∷ ys) (map_where f g xs (All-tail (λ x. f x ≡ g x) x xs h))
+
+  pub own_colours : (parts : List LayerParts) (x y : ℤ) → map own_quads parts ≡ map (layer_quads p offset ts) p.layers → covers (viewport p) x y ≡ true
+      → map (own_colour x y) parts ≡ map (shown_colour p offset (missing_keys ts) x y) p.layers
+  unfolding IsFound
+  own_colours parts x y quads seen =
+      sym (map-map (λ (qs : List QuadView). quads_over [] x y clear qs) own_quads parts)
+      ∙ ap (map (λ (qs : List QuadView). quads_over [] x y clear qs)) quads
+      ∙ map-map (λ (qs : List QuadView). quads_over [] x y clear qs) (layer_quads p offset ts) p.layers
+      ∙ map_where (λ l. quads_over [] x y clear (layer_quads p offset ts l)) (shown_colour p offset (missing_keys ts) x y) p.layers
+      (All-weaker IsFound (λ l. quads_over [] x y clear (layer_quads p offset ts l) ≡ shown_colour p offset (missing_keys ts) x y l) (λ l f. layer_shows p offset ts l right page.distinct f.0 x y f.1 seen) p.layers each_found)
+
+  -- ---- a layer that is not drawn makes no difference
+
+  alike_layers : (missing : List TileKey) (x y : ℤ) → AreEffects p.props.effects → (ls : List PageLayer)
+      → AreAlike (opacity_in p.props.effects) (λ l. groups_in p.props.effects l.effect) (shown_colour p offset missing x y) (colour_at p offset missing x y) ls
+  alike_layers missing x y effects [] = tt
+  alike_layers missing x y effects (l ∷ ls) = (one (draws p.props.effects l.effect) refl, alike_layers missing x y effects ls)
+    where
+      one : (b : Bool) → draws p.props.effects l.effect ≡ b → (cond b (colour_at p offset missing x y l) clear ≡ colour_at p offset missing x y l) ⊎ (list_any (λ e. opacity_in p.props.effects e == 0) (groups_in p.props.effects l.effect) ≡ true)
+      one true drawn = inl refl
+      one false hidden = inr (unseen p.props.effects effects l.effect hidden)
+
+  -- ---- the scene
+
+  pub scene_shown : (parts : List LayerParts) (passes : List (List QuadView)) (root : List QuadView) (background : Parts) (w h : ℕ) → AreEffects p.props.effects
+      → map groups_of parts ≡ map (λ l. groups_in p.props.effects l.effect) p.layers → HaveOpacities (opacity_in p.props.effects) parts
+      → map own_quads parts ≡ map (layer_quads p offset ts) p.layers
+      → AreBuilt p.view.w p.view.h (viewport p) 0 parts [] passes root
+      → (x y : ℤ) → covers (viewport p) x y ≡ true
+      → scene_pixel (record { w = w; h = h; background = background; passes = passes ++ root ∷ [] }) x y ≡ paint p offset (missing_keys ts) background x y
+  unfolding paint
+  scene_shown parts passes root background w h effects groups have quads built x y seen =
+      scene_last w h background passes root x y
+      ∙ built.painted (opacity_in p.props.effects) have x y seen background
+      ∙ ap (λ (items : Items). folded (opacity_in p.props.effects) items background)
+      (same_items groups_of (own_colour x y) (λ (l : PageLayer). groups_in p.props.effects l.effect) (shown_colour p offset (missing_keys ts) x y) 0 parts p.layers groups (own_colours parts x y quads seen))
+      ∙ alike_painted (opacity_in p.props.effects) (λ (l : PageLayer). groups_in p.props.effects l.effect) (shown_colour p offset (missing_keys ts) x y) (colour_at p offset (missing_keys ts) x y) p.layers background (alike_layers (missing_keys ts) x y effects p.layers)
+
+-- the passes that were built, and the root, are those of a scene
+pub is_scene : (p : Page) (parts : List LayerParts) (passes : List (List QuadView)) (root : List QuadView) (background : Parts) → IsView p.view → AreBuilt p.view.w p.view.h (viewport p) 0 parts [] passes root
+    → IsScene (record { w = p.view.w; h = p.view.h; background = background; passes = passes ++ root ∷ [] })
+is_scene p parts passes root background view built = record {
+  wide = record { low = view.w_low; high = view.w_high };
+  tall = record { low = view.h_low; high = view.h_high };
+  some = let e : length (passes ++ root ∷ []) ≡ length passes + 1 = length-append passes (root ∷ []) in omega (arith, e);
+  sound = let zero_more : length passes ≡ 0 + length passes = omega arith in
+      sound_append p.view.w p.view.h 0 passes (root ∷ []) (subst (λ (ps : List (List QuadView)). AreSound p.view.w p.view.h 0 ps) (sym built.grown) built.sound) (subst (λ (n : ℕ). AreSound p.view.w p.view.h n (root ∷ [])) zero_more (built.fit, tt));
+}

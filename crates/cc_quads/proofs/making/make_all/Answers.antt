@@ -1,0 +1,21 @@
+-- The tiles are those that the page shows, and each has its image.
+use Rattle.std.proofs.Common.{◌≡◌, [], List, ap, sym, ◌∙◌, subst, map, rules}
+use Rattle.cc_tree.specs.OffsetMap.{offset_at}
+use Rattle.cc_edit.proofs.KeptPages.{weaken}
+use Rattle.cc_quads.specs.Shown.{Tile, tile_of, missing_keys, AreRight}
+use Rattle.cc_quads.specs.Made.{all_made}
+use Rattle.cc_quads.proofs.MadeRight.{made_right, none_missing}
+use Rattle.cc_quads.proofs.making.make_all.Goals as goal
+
+pub returns-clause-tiles : goal.returns-clause-tiles
+returns-clause-tiles c = search rules
+
+pub returns-clause-right : goal.returns-clause-right
+returns-clause-right c =
+    let p = c.args.tree.now in
+    weaken c.made_in.result (λ tiles is. subst (λ (ts : List Tile). AreRight p (offset_at c.args.offsets.now) ts) (sym is) (made_right p (offset_at c.args.offsets.now) c.is_page.ensures.distinct)) (returns-clause-tiles c)
+
+pub returns-clause-whole : goal.returns-clause-whole
+returns-clause-whole c =
+    let p = c.args.tree.now in
+    weaken c.made_in.result (λ tiles is. ap missing_keys is ∙ none_missing p (offset_at c.args.offsets.now)) (returns-clause-tiles c)

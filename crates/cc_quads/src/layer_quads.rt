@@ -1,0 +1,129 @@
+//! The quads of one layer: one for each of its tiles that are shown.
+
+ghost use Rattle.std.specs.Prelude.{◌≡◌, ◌*◌, ◌-ℤ◌, FitsSigned, IsTrue, IfOk, All, map};
+ghost use mir.Syntax.{w32};
+ghost use Rattle.cc_geom.specs.Covers.{IsSound};
+ghost use Rattle.cc_geom.specs.Grids.{has};
+ghost use Rattle.cc_geom.specs.Sides.{IsSide};
+ghost use Rattle.cc_tree.specs.OffsetMap.{offset_at, AreOffsets};
+ghost use Rattle.cc_edit.specs.Layers.{parts_of};
+ghost use Rattle.cc_scene.specs.Views.{quad_view, quads_view};
+ghost use Rattle.cc_quads.specs.Shown.{tile_of, place_named};
+ghost use Rattle.cc_quads.specs.inner.LayerQuads as spec;
+
+use crate::shown::Shown;
+use cc_edit::{Layer, LayerTree};
+use cc_geom::{Grid, Place, Point, Rect};
+use cc_pixel::Colour;
+use cc_scene::Quad;
+use cc_tree::Offsets;
+use cc_visible::{clip_in, grid_of, moved_place};
+use std::alloc::{AllocError, Global};
+use std::marker::Model;
+use std::sync::Arc;
+
+/// Where a layer lies on the screen.
+#[derive(Drop)]
+pub(crate) struct LayerSpot {
+    // its tiles
+    grid: Grid,
+    // how far it is moved
+    by: Point,
+    // the part of the viewport that its clip lets through
+    clip: Rect,
+    // what is drawn where a tile is missing
+    colour: Colour,
+}
+
+impl Model for LayerSpot {
+    ghost use Rattle.std.specs.Prelude.{◌*◌};
+    ghost use Rattle.cc_geom.specs.Covers.{IsSound};
+    ghost use Rattle.cc_tree.specs.Placement.{IsWithin};
+    ghost use Rattle.cc_quads.specs.inner.LayerQuads.{Spot};
+
+    ghost Value = { Spot };
+
+    ghost view = { λ s. record { grid = s.grid; by = s.by; clip = s.clip; colour = s.colour } };
+
+    ghost invariant = { λ s. IsSound s.clip × IsWithin (256 * 1114112) s.by };
+}
+
+/// Where a layer of a tree lies at these offsets, each of which is from 0 to 1048576 on both axes. Both
+/// sides of the layer are 1 to 16384.
+pub(crate) fn spot_of(tree: &LayerTree, offsets: &Offsets, layer: &Layer) -> LayerSpot
+    requires offsets { AreOffsets (offset_at offsets.now) }
+    requires wide { IsSide layer.now.w }
+    requires tall { IsSide layer.now.h }
+    ensures { result ≡ spec.spot_of tree.now (offset_at offsets.now) (parts_of layer.now) }
+{
+    let by = tree.props().translation(layer.transform, offsets);
+    LayerSpot {
+        grid: grid_of(tree, layer),
+        by,
+        clip: clip_in(tree, offsets, layer),
+        colour: layer.colour,
+    }
+}
+
+// How far one coordinate lies from another.
+fn beyond(at: i32, start: i32) -> i32
+    requires { FitsSigned w32 (at -ℤ start) }
+    ensures { result ≡ at -ℤ start }
+{
+    at - start
+}
+
+// How far the corner of a part lies from that of the whole.
+fn corner(part: Rect, whole: Rect) -> Point
+    requires part { IsSound part }
+    requires whole { IsSound whole }
+    ensures { result ≡ spec.corner part whole }
+{
+    let x = beyond(part.x, whole.x);
+    let y = beyond(part.y, whole.y);
+    Point { x, y }
+}
+
+// The part of a tile that is drawn, or the layer's colour there where the tile is missing.
+fn quad_of(spot: &LayerSpot, shown: &Shown) -> Result<Quad, AllocError>
+    requires { IsTrue (has spot.now.grid (place_named (tile_of shown.now))) }
+    ensures { IfOk result (λ quad. quad_view quad ≡ spec.quad_of spot.now (tile_of shown.now)) }
+{
+    let place = Place {
+        x: shown.key.x,
+        y: shown.key.y,
+    };
+    let whole = moved_place(spot.grid, place, spot.by);
+    let at = whole.intersect(spot.clip);
+    match &shown.image {
+        None => Ok(Quad::Solid {
+            at,
+            colour: spot.colour,
+        }),
+        Some(image) => {
+            let image = Arc::try_clone(image)?;
+            let from = corner(at, whole);
+            Ok(Quad::Tile { image, at, from })
+        }
+    }
+}
+
+/// The quads of the layer with this id, which lies so, in the order of its tiles. The layer's grid is to
+/// have the places of its tiles. An error is want of memory.
+pub(crate) fn quads_on(
+    alloc: Global,
+    spot: &LayerSpot,
+    id: u32,
+    shown: &[Shown],
+) -> Result<Vec<Quad>, AllocError>
+    requires { All (λ s. s.key.layer ≡ id → IsTrue (has spot.now.grid (place_named (tile_of s)))) shown.now }
+    ensures { IfOk result (λ quads. quads_view quads.items ≡ spec.quads_on spot.now id (map tile_of shown.now)) }
+{
+    let mut quads = Vec::new(alloc);
+    for tile in shown {
+        if tile.key.layer == id {
+            quads.push(quad_of(spot, tile)?)?;
+        }
+    }
+    Ok(quads)
+}
