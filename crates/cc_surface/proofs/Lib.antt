@@ -1,0 +1,2 @@
+mod FourPixels
+mod Areas

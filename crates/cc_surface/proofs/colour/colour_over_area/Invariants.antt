@@ -1,0 +1,10 @@
+use Rattle.cc_pixel.specs.Colours.{blend}
+use Rattle.cc_pixel.specs.Rows.{ArePremultiplied}
+use Rattle.cc_pixel.specs.Surfaces.{EachPixel, within}
+use Rattle.cc_surface.proofs.colour.colour_over_area.Given as given
+
+abbrev pub invariant-loop-row : given.invariant-loop-row
+invariant-loop-row l = record {
+  pixels : EachPixel l.width l.height (within l.at l.row (λ x y below. blend below l.fn.colour)) l.initial.surface l.surface;
+  premultiplied : ArePremultiplied l.initial.surface → ArePremultiplied l.surface;
+}

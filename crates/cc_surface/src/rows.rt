@@ -1,0 +1,155 @@
+//! Laying one row over many.
+
+ghost use Rattle.std.specs.Prelude.{◌≡◌, ℕ, ◌+◌, ◌-◌, ◌*◌, ◌<◌, ◌≤◌, ◌^◌, length};
+ghost use Rattle.cc_pixel.specs.Colours.{blend};
+ghost use Rattle.cc_pixel.specs.Rows.{pixel, ArePremultiplied};
+ghost use Rattle.cc_pixel.specs.LaneBytes.{IsBytes};
+ghost use Rattle.cc_pixel.specs.Surfaces.{IsInside, EachPixel, within};
+ghost use Rattle.cc_surface.specs.inner.Columns.{columns_of};
+
+use crate::colour::colour_over_area;
+use crate::four::{four_at, lay_four, put_four};
+use crate::place::place_of;
+use cc_pixel::lanes::{are_clear, are_opaque};
+use cc_pixel::{Area, colour_at};
+use std::simd::prelude::*;
+
+/// Lays the pixels of a row, from its pixel `from` on, over each row of an area of a surface.
+pub fn rows_over_area(
+    surface: &mut [u8],
+    width: usize,
+    height: usize,
+    at: Area,
+    row: &[u8],
+    from: usize,
+)
+    requires size { length surface.old ≡ 4 * (width * height) }
+    requires inside { IsInside at width height }
+    requires columns { 4 * (from + at.w) ≤ length row.now }
+    requires premultiplied { ArePremultiplied row.now }
+    ensures pixels { EachPixel width height (within at at.h (λ x y below. blend below (pixel row.now (x - at.x + from)))) surface.old surface.new }
+    ensures premultiplied { ArePremultiplied surface.old → ArePremultiplied surface.new }
+{
+    let mut done = 0;
+    'fours: while done + 4 <= at.w {
+        row_over_four_columns(surface, width, height, at, row, from, done);
+        done += 4;
+    }
+    'ones: while done < at.w {
+        row_over_column(surface, width, height, at, row, from, done);
+        done += 1;
+    }
+}
+
+// lays four pixels of the row over each row of four columns of the area, from its column `first` on
+#[inline(always)]
+fn row_over_four_columns(
+    surface: &mut [u8],
+    width: usize,
+    height: usize,
+    at: Area,
+    row: &[u8],
+    from: usize,
+    first: usize,
+)
+    requires size { length surface.old ≡ 4 * (width * height) }
+    requires inside { IsInside at width height }
+    requires there { first + 4 ≤ at.w }
+    requires columns { 4 * (from + at.w) ≤ length row.now }
+    requires premultiplied { ArePremultiplied row.now }
+    ensures pixels { EachPixel width height (within (columns_of at first 4) at.h (λ x y below. blend below (pixel row.now (x - at.x + from)))) surface.old surface.new }
+    ensures premultiplied { ArePremultiplied surface.old → ArePremultiplied surface.new }
+{
+    let columns = columns(at, first, 4);
+    let pixels = four_at(row, from + first);
+    four_over_rows(surface, width, height, columns, pixels);
+}
+
+// lays a pixel of the row over each row of column `first` of the area
+fn row_over_column(
+    surface: &mut [u8],
+    width: usize,
+    height: usize,
+    at: Area,
+    row: &[u8],
+    from: usize,
+    first: usize,
+)
+    requires size { length surface.old ≡ 4 * (width * height) }
+    requires inside { IsInside at width height }
+    requires there { first < at.w }
+    requires columns { 4 * (from + at.w) ≤ length row.now }
+    requires premultiplied { ArePremultiplied row.now }
+    ensures pixels { EachPixel width height (within (columns_of at first 1) at.h (λ x y below. blend below (pixel row.now (x - at.x + from)))) surface.old surface.new }
+    ensures premultiplied { ArePremultiplied surface.old → ArePremultiplied surface.new }
+{
+    let column = columns(at, first, 1);
+    let colour = colour_at(row, from + first);
+    colour_over_area(surface, width, height, column, colour);
+}
+
+// `n` columns of an area, from its column `first` on
+fn columns(at: Area, first: usize, n: usize) -> Area
+    requires there { first + n ≤ at.w }
+    requires fits { at.x + at.w < 2 ^ 64 }
+    ensures { result ≡ columns_of at first n }
+{
+    Area {
+        x: at.x + first,
+        y: at.y,
+        w: n,
+        h: at.h,
+    }
+}
+
+// lays four pixels over each row of an area of four columns
+#[inline(always)]
+fn four_over_rows(surface: &mut [u8], width: usize, height: usize, at: Area, pixels: u8x16)
+    requires size { length surface.old ≡ 4 * (width * height) }
+    requires inside { IsInside at width height }
+    requires four { at.w ≡ 4 }
+    requires bytes { IsBytes pixels }
+    requires premultiplied { ArePremultiplied pixels }
+    ensures pixels { EachPixel width height (within at at.h (λ x y below. blend below (pixel pixels (x - at.x)))) surface.old surface.new }
+    ensures premultiplied { ArePremultiplied surface.old → ArePremultiplied surface.new }
+{
+    if are_opaque(pixels) {
+        put_four_in_rows(surface, width, height, at, pixels);
+    } else if !are_clear(pixels) {
+        lay_four_over_rows(surface, width, height, at, pixels);
+    }
+}
+
+// gives the pixels of each row of an area of four columns
+#[inline(always)]
+fn put_four_in_rows(surface: &mut [u8], width: usize, height: usize, at: Area, pixels: u8x16)
+    requires size { length surface.old ≡ 4 * (width * height) }
+    requires inside { IsInside at width height }
+    requires four { at.w ≡ 4 }
+    requires bytes { IsBytes pixels }
+    requires premultiplied { ArePremultiplied pixels }
+    ensures pixels { EachPixel width height (within at at.h (λ x y below. pixel pixels (x - at.x))) surface.old surface.new }
+    ensures premultiplied { ArePremultiplied surface.old → ArePremultiplied surface.new }
+{
+    for row in 0..at.h {
+        let place = place_of(width, height, at.x, at.y + row, 4);
+        put_four(surface, place, pixels);
+    }
+}
+
+// lays the pixels over each row of an area of four columns
+#[inline(always)]
+fn lay_four_over_rows(surface: &mut [u8], width: usize, height: usize, at: Area, pixels: u8x16)
+    requires size { length surface.old ≡ 4 * (width * height) }
+    requires inside { IsInside at width height }
+    requires four { at.w ≡ 4 }
+    requires bytes { IsBytes pixels }
+    requires premultiplied { ArePremultiplied pixels }
+    ensures pixels { EachPixel width height (within at at.h (λ x y below. blend below (pixel pixels (x - at.x)))) surface.old surface.new }
+    ensures premultiplied { ArePremultiplied surface.old → ArePremultiplied surface.new }
+{
+    for row in 0..at.h {
+        let place = place_of(width, height, at.x, at.y + row, 4);
+        lay_four(surface, place, pixels);
+    }
+}
