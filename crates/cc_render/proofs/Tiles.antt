@@ -1,5 +1,5 @@
 -- What drawing a part of an image shows.
-use Rattle.std.proofs.Common.{◌≡◌, ℕ, ◌+◌, ◌-◌, ◌*◌, ◌<◌, ◌≤◌, ℤ, pos, negsuc, ◌+ℤ◌, ◌-ℤ◌, ◌≤ℤ◌, Bool, true, false, cond, List, refl, sym, ◌∙◌, ap, arith, zero-mul, zero-add}
+use Rattle.std.proofs.Common.{◌≡◌, ℕ, ◌+◌, ◌-◌, ◌*◌, ◌<◌, ◌≤◌, ℤ, pos, negsuc, ◌+ℤ◌, ◌-ℤ◌, ◌≤ℤ◌, ◌<ℤ◌, Bool, true, false, cond, List, refl, sym, ◌∙◌, ap, arith, zero-mul, zero-add}
 use Rattle.std.proofs.lemmas.Int.{ints, clamps}
 use Rattle.std.proofs.lemmas.Bool.Decides.{nat_tests}
 use Rattle.cc_geom.specs.declared.Rect.{Rect}
@@ -14,7 +14,7 @@ use Rattle.cc_display.specs.Content.{content}
 use Rattle.cc_display.specs.Pictures.{near}
 use Rattle.cc_display.specs.Shared.{IsShared}
 use Rattle.cc_display.specs.declared.Part.{Part}
-use Rattle.cc_raster.specs.Images.{Image, IsRow, shown}
+use Rattle.cc_raster.specs.Images.{Image, IsRow, IsOneColour, shown}
 use Rattle.cc_scene.specs.Pixels.{placed_pixel}
 use Rattle.cc_scene.specs.Sound.{IsTaken}
 use Rattle.cc_render.specs.inner.Drawing.{rows_from, part_pixel, EachPoint, laid_on}
@@ -73,6 +73,39 @@ tile_shown image at area from part old new t shared each x y xw yh =
     ∙ where_held (holds part.at x y) (blend before (part_pixel image (taken part from) x y)) drawn before
     (λ h. ap (blend before) (pixel_taken image at area from part x y t shared xw yh h))
     ∙ ap (λ (b : Bool). cond b drawn before) (sym (shared.points x y xw yh))
+
+-- the number of a place of the image, on one axis
+place_at : (start from at len end point : ℤ) → pos 0 ≤ℤ from → (from +ℤ len) ≤ℤ end → at ≤ℤ point → point <ℤ (at +ℤ len)
+    → (near (from +ℤ (point -ℤ at)) < near end) × (start +ℤ pos (near (from +ℤ (point -ℤ at))) ≡ start +ℤ (from +ℤ (point -ℤ at)))
+place_at start from at len end point low fit le lt =
+    let n : pos (near (from +ℤ (point -ℤ at))) ≡ from +ℤ (point -ℤ at) = near_is (from +ℤ (point -ℤ at)) (omega (arith, ints)) in
+    let e : pos (near end) ≡ end = near_is end (omega (arith, ints)) in
+    (omega (arith, ints), omega (arith, ints))
+
+-- a part of an image of one colour has that colour
+solid_pixel : (image : Image) (at : Rect) (from : Point) (c : Parts) (x y : ℤ) → IsTaken image at from → IsOneColour image.list image.rect c
+    → covers at x y ≡ true → c ≡ placed_pixel image at from x y
+solid_pixel image at from c x y t one h =
+    let k = both _ _ h in
+    let across = inside at.x at.w x k.0 in
+    let down = inside at.y at.h y k.1 in
+    let column = place_at image.rect.x from.x at.x at.w image.rect.w x t.left t.right across.low across.high in
+    let row = place_at image.rect.y from.y at.y at.h image.rect.h y t.top t.bottom down.low down.high in
+    sym (one (near (from.x +ℤ (x -ℤ at.x))) (near (from.y +ℤ (y -ℤ at.y))) column.0 row.0)
+    ∙ ap (λ (z : ℤ). content image.list z (image.rect.y +ℤ pos (near (from.y +ℤ (y -ℤ at.y))))) column.1
+    ∙ ap (content image.list (image.rect.x +ℤ (from.x +ℤ (x -ℤ at.x)))) row.1
+
+-- an image of one colour is drawn as that colour
+pub solid_shown : (image : Image) (at area : Rect) (from : Point) (c : Parts) (old new : List ℕ) → IsTaken image at from
+    → IsOneColour image.list image.rect c → EachPoint area (laid_on at (λ x y. c)) old new
+    → EachPoint area (laid_on at (placed_pixel image at from)) old new
+solid_shown image at area from c old new t one each x y xw yh =
+    let px = area.x +ℤ pos x in
+    let py = area.y +ℤ pos y in
+    let before = pixel old (y * near area.w + x) in
+    each x y xw yh
+    ∙ where_held (covers at px py) (blend before c) (blend before (placed_pixel image at from px py)) before
+    (λ h. ap (blend before) (solid_pixel image at from c px py t one h))
 
 -- a place of one row of an area
 row_place : (at : Area) (row x y : ℕ) → in_rows (rows_from at row 1) 1 x y ≡ true → y ≡ at.y + row

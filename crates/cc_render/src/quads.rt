@@ -50,7 +50,7 @@ fn draw_quad(surface: &mut [u8], area: Rect, quad: &Quad, passes: &[Surface], sc
     ensures premultiplied { ArePremultiplied surface.old → ArePremultiplied surface.new }
 {
     match quad {
-        Quad::Tile { image, at, from } => draw_tile(surface, area, image, *at, *from),
+        Quad::Tile { image, at, from } => draw_tile(surface, area, image, *at, *from, scratch),
         Quad::Solid { at, colour } => draw_solid(surface, area, *at, *colour, scratch),
         Quad::Group { pass, opacity } => {
             let pass = &passes[*pass as usize];

@@ -11,20 +11,34 @@ ghost use Rattle.cc_scene.specs.Sound.{IsTaken};
 ghost use Rattle.cc_render.specs.inner.Drawing.{rows_from, part_pixel, EachPoint, laid_on};
 
 use crate::size::{count, height_of, width_of};
+use crate::solid::draw_solid;
 use cc_display::{Part, shared_part};
 use cc_geom::{Point, Rect};
 use cc_pixel::{Area, image_over_area};
 use cc_raster::TileImage;
 
-/// Draws the part of an image from `from` on where `at` lies in an area.
-pub(crate) fn draw_tile(surface: &mut [u8], area: Rect, image: &TileImage, at: Rect, from: Point)
+/// Draws the part of an image from `from` on where `at` lies in an area. What `scratch` holds afterwards is
+/// not said.
+pub(crate) fn draw_tile(
+    surface: &mut [u8],
+    area: Rect,
+    image: &TileImage,
+    at: Rect,
+    from: Point,
+    scratch: &mut [u8],
+)
     requires area { IsSound area }
     requires at { IsSound at }
     requires taken { IsTaken image.now at from }
     requires size { length surface.old ≡ byte_count area.w area.h }
+    requires room { 4 * near area.w ≤ length scratch.old }
     ensures pixels { EachPoint area (laid_on at (placed_pixel image.now at from)) surface.old surface.new }
     ensures premultiplied { ArePremultiplied surface.old → ArePremultiplied surface.new }
 {
+    if let Some(colour) = image.solid() {
+        draw_solid(surface, area, at, colour, scratch);
+        return;
+    }
     let Some(part) = shared_part(at, area) else {
         return;
     };

@@ -1,8 +1,13 @@
 -- The part that is drawn holds the points that the rect covers.
-use Rattle.cc_render.proofs.Tiles.{tile_shown}
+use Rattle.cc_render.proofs.Tiles.{tile_shown, solid_shown}
 use Rattle.cc_render.proofs.tile.draw_tile.Goals as goal
 
 pub returns-clause-pixels : goal.returns-clause-pixels
 returns-clause-pixels c =
     let each = rw (c.taken_part-part.ensures, c.width_of.ensures, c.height_of.ensures) at c.draw_part.ensures.pixels in
-    tile_shown c.args.image.now c.args.at c.args.area c.args.from c.in-Some.part c.args.surface.now c.draw_part.new.surface c.requires.taken c.in-Some.ensures each
+    tile_shown c.args.image.now c.args.at c.args.area c.args.from c.in-Some-shared_part.part c.args.surface.now c.draw_part.new.surface c.requires.taken c.in-Some-shared_part.ensures each
+
+pub returns-in-Some-clause-pixels : goal.returns-in-Some-clause-pixels
+returns-in-Some-clause-pixels c =
+    solid_shown c.args.image.now c.args.at c.args.area c.args.from c.in-Some.colour c.args.surface.now c.draw_solid.new.surface c.requires.taken c.in-Some.ensures
+    c.draw_solid.ensures.pixels
