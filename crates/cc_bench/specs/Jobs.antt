@@ -1,7 +1,10 @@
 -- Which jobs the program does.
-use Rattle.std.specs.Prelude.{ℕ, ◌≤◌}
+use Rattle.std.specs.Prelude.{ℕ, ◌≤◌, ◌≡◌, List, All}
+use Rattle.cc_scene.specs.declared.Quad.{Quad}
+use Rattle.cc_scene.specs.Views.{quads_view, SceneView}
+use Rattle.cc_scene.specs.Sound.{Fits}
 use Rattle.cc_bench.specs.declared.job.Job.{Job}
-use Rattle.cc_bench.specs.declared.job.Job.TheVariants.{Over, Scale, Fill, Raster}
+use Rattle.cc_bench.specs.declared.job.Job.TheVariants.{Over, Scale, Fill, Raster, Scene}
 
 -- a row of at most 65536 pixels, or a list of at most 256 items
 abbrev pub IsSmall : Job → Type 0
@@ -9,3 +12,12 @@ IsSmall (Over pixels times) = pixels ≤ 65536
 IsSmall (Scale pixels times) = pixels ≤ 65536
 IsSmall (Fill pixels times) = pixels ≤ 65536
 IsSmall (Raster kind items times) = items ≤ 256
+IsSmall (Scene in_groups items layers times) = items ≤ 256
+
+-- a scene of 1024 by 1024 pixels
+abbrev pub IsLarge : SceneView → Type 0
+IsLarge s = (s.w ≡ 1024) × (s.h ≡ 1024)
+
+-- quads that may stand in each pass of such a scene
+abbrev pub CanBeAnywhere : List Quad → Type 0
+CanBeAnywhere quads = (i : ℕ) → All (Fits 1024 1024 i) (quads_view quads)

@@ -44,6 +44,13 @@ pub(crate) enum Job {
         items: usize,
         times: u32,
     },
+    /// A scene of layers of so many items is drawn.
+    Scene {
+        in_groups: bool,
+        items: usize,
+        layers: u32,
+        times: u32,
+    },
 }
 
 /// A number up to a limit.
@@ -78,6 +85,18 @@ impl Job {
             [name, first, second, third] if name.as_str() == "raster" => Some(Job::Raster {
                 kind: kind_of(first.as_str())?,
                 items: number(second.as_str(), MOST_ITEMS)?,
+                times: times(third.as_str())?,
+            }),
+            [name, first, second, third] if name.as_str() == "scene" => Some(Job::Scene {
+                in_groups: false,
+                items: number(first.as_str(), MOST_ITEMS)?,
+                layers: times(second.as_str())?,
+                times: times(third.as_str())?,
+            }),
+            [name, first, second, third] if name.as_str() == "groups" => Some(Job::Scene {
+                in_groups: true,
+                items: number(first.as_str(), MOST_ITEMS)?,
+                layers: times(second.as_str())?,
                 times: times(third.as_str())?,
             }),
             _ => None,

@@ -4,13 +4,16 @@
 //!
 //! - `over PIXELS TIMES`, `scale PIXELS TIMES`, `fill PIXELS TIMES`: a row of so many pixels,
 //! - `raster KIND ITEMS TIMES`: a tile of 256 by 256 pixels under so many items that cover it, of the kind
-//!   `opaque`, `translucent` or `bitmap`.
+//!   `opaque`, `translucent` or `bitmap`,
+//! - `scene ITEMS LAYERS TIMES`, `groups ITEMS LAYERS TIMES`: a scene of 1024 by 1024 pixels in tiles of 256
+//!   by 256, of so many layers of so many translucent items; with `groups` each layer is in a group of its own.
 //!
 //! The script `bench/rows` times it.
 #![tactic(auto)]
 
 mod job;
 mod rows;
+mod scenes;
 mod tiles;
 
 use crate::job::Job;
@@ -25,6 +28,12 @@ fn main(rt: HostRuntime) -> io::Result<()> {
         Job::Over { pixels, times } => rows::over(rt.alloc(), pixels, times)?,
         Job::Scale { pixels, times } => rows::scale(rt.alloc(), pixels, times)?,
         Job::Fill { pixels, times } => rows::fill(rt.alloc(), pixels, times)?,
+        Job::Scene {
+            in_groups,
+            items,
+            layers,
+            times,
+        } => scenes::draw(rt.alloc(), in_groups, items, layers, times)?,
         Job::Raster { kind, items, times } => tiles::raster(rt.alloc(), kind, items, times)?,
     };
     println!(rt; "{sum}")?;
