@@ -1,6 +1,7 @@
 //! The line of an event.
 
-ghost use Rattle.std.specs.Prelude.{◌≡◌, ℕ, pos, List, [], ◌∷◌, ◌++◌, flat_map, codes, OnOk, IfOk};
+ghost use Rattle.std.specs.Prelude.{◌≡◌, ℕ, pos, List, [], ◌∷◌, ◌++◌, flat_map, codes, OnOk, OnErr, IfOk};
+ghost use Rattle.std.specs.Io.{StartsWith};
 ghost use Rattle.cc_event.specs.Texts.{field, field_text, fields_text, spaced, pair_fields, key_fields, move_fields, event_text, event_line as line_of};
 
 use cc_edit::Move;
@@ -11,7 +12,8 @@ use std::alloc::{AllocError, Global};
 
 /// Adds a byte and a number behind it.
 fn push_field(text: &mut Vec<u8>, before: u8, number: i64) -> Result<(), AllocError>
-    ensures { OnOk result (text.new.items ≡ text.old.items ++ field_text (field before number)) }
+    ensures text { OnOk result (text.new.items ≡ text.old.items ++ field_text (field before number)) }
+    ensures kept { OnErr result (StartsWith text.new.items text.old.items) }
 {
     text.push(before)?;
     let mut buffer = Buffer::new();
@@ -20,23 +22,26 @@ fn push_field(text: &mut Vec<u8>, before: u8, number: i64) -> Result<(), AllocEr
 
 /// Adds a word, a space and a number.
 fn push_numbered(text: &mut Vec<u8>, word: &[u8], number: u32) -> Result<(), AllocError>
-    ensures { OnOk result (text.new.items ≡ text.old.items ++ (word.now ++ fields_text (spaced number))) }
+    ensures text { OnOk result (text.new.items ≡ text.old.items ++ (word.now ++ fields_text (spaced number))) }
+    ensures kept { OnErr result (StartsWith text.new.items text.old.items) }
 {
     text.extend_from_slice(word)?;
     push_field(text, b' ', i64::from(number))
 }
 
 /// Adds a space and two numbers with a comma between them.
-fn push_pair(text: &mut Vec<u8>, x: i32, y: i32) -> Result<(), AllocError>
-    ensures { OnOk result (text.new.items ≡ text.old.items ++ fields_text (pair_fields x y)) }
+fn push_pair(text: &mut Vec<u8>, x: &i32, y: &i32) -> Result<(), AllocError>
+    ensures text { OnOk result (text.new.items ≡ text.old.items ++ fields_text (pair_fields x.now y.now)) }
+    ensures kept { OnErr result (StartsWith text.new.items text.old.items) }
 {
-    push_field(text, b' ', i64::from(x))?;
-    push_field(text, b',', i64::from(y))
+    push_field(text, b' ', i64::from(*x))?;
+    push_field(text, b',', i64::from(*y))
 }
 
 /// Adds a space and a tile's key.
 fn push_key(text: &mut Vec<u8>, key: &TileKey) -> Result<(), AllocError>
-    ensures { OnOk result (text.new.items ≡ text.old.items ++ fields_text (key_fields key.now)) }
+    ensures text { OnOk result (text.new.items ≡ text.old.items ++ fields_text (key_fields key.now)) }
+    ensures kept { OnErr result (StartsWith text.new.items text.old.items) }
 {
     push_field(text, b' ', i64::from(key.layer))?;
     push_field(text, b'/', i64::from(key.x))?;
@@ -45,8 +50,10 @@ fn push_key(text: &mut Vec<u8>, key: &TileKey) -> Result<(), AllocError>
 }
 
 /// Adds a list of keys, each with a space before it.
+#[tactic(auto, using(crate::proofs::Kept::kept_before))]
 fn push_keys(text: &mut Vec<u8>, keys: &Keys) -> Result<(), AllocError>
-    ensures { OnOk result (text.new.items ≡ text.old.items ++ fields_text (flat_map key_fields keys.now)) }
+    ensures text { OnOk result (text.new.items ≡ text.old.items ++ fields_text (flat_map key_fields keys.now)) }
+    ensures kept { OnErr result (StartsWith text.new.items text.old.items) }
 {
     for key in keys.as_slice() {
         push_key(text, key)?;
@@ -56,7 +63,8 @@ fn push_keys(text: &mut Vec<u8>, keys: &Keys) -> Result<(), AllocError>
 
 /// Adds a space and a move.
 fn push_move(text: &mut Vec<u8>, one: &Move) -> Result<(), AllocError>
-    ensures { OnOk result (text.new.items ≡ text.old.items ++ fields_text (move_fields one.now)) }
+    ensures text { OnOk result (text.new.items ≡ text.old.items ++ fields_text (move_fields one.now)) }
+    ensures kept { OnErr result (StartsWith text.new.items text.old.items) }
 {
     push_field(text, b' ', i64::from(one.scroller))?;
     push_field(text, b':', one.dx)?;
@@ -64,8 +72,10 @@ fn push_move(text: &mut Vec<u8>, one: &Move) -> Result<(), AllocError>
 }
 
 /// Adds a list of moves, each with a space before it.
+#[tactic(auto, using(crate::proofs::Kept::kept_before))]
 fn push_moves(text: &mut Vec<u8>, moves: &Moves) -> Result<(), AllocError>
-    ensures { OnOk result (text.new.items ≡ text.old.items ++ fields_text (flat_map move_fields moves.now)) }
+    ensures text { OnOk result (text.new.items ≡ text.old.items ++ fields_text (flat_map move_fields moves.now)) }
+    ensures kept { OnErr result (StartsWith text.new.items text.old.items) }
 {
     for one in moves.as_slice() {
         push_move(text, one)?;
@@ -75,7 +85,8 @@ fn push_moves(text: &mut Vec<u8>, moves: &Moves) -> Result<(), AllocError>
 
 /// Adds a word, a number and a list of moves.
 fn push_moved(text: &mut Vec<u8>, word: &[u8], number: u32, moves: &Moves) -> Result<(), AllocError>
-    ensures { OnOk result (text.new.items ≡ text.old.items ++ (word.now ++ fields_text (spaced number ++ flat_map move_fields moves.now))) }
+    ensures text { OnOk result (text.new.items ≡ text.old.items ++ (word.now ++ fields_text (spaced number ++ flat_map move_fields moves.now))) }
+    ensures kept { OnErr result (StartsWith text.new.items text.old.items) }
 {
     push_numbered(text, word, number)?;
     push_moves(text, moves)
@@ -83,18 +94,29 @@ fn push_moved(text: &mut Vec<u8>, word: &[u8], number: u32, moves: &Moves) -> Re
 
 /// Adds a word, a number and a list of keys.
 fn push_keyed(text: &mut Vec<u8>, word: &[u8], number: u32, keys: &Keys) -> Result<(), AllocError>
-    ensures { OnOk result (text.new.items ≡ text.old.items ++ (word.now ++ fields_text (spaced number ++ flat_map key_fields keys.now))) }
+    ensures text { OnOk result (text.new.items ≡ text.old.items ++ (word.now ++ fields_text (spaced number ++ flat_map key_fields keys.now))) }
+    ensures kept { OnErr result (StartsWith text.new.items text.old.items) }
 {
     push_numbered(text, word, number)?;
     push_keys(text, keys)
 }
 
 /// Adds the text of a scroll.
-fn push_scroll(text: &mut Vec<u8>, input: u32, dx: i32, dy: i32) -> Result<(), AllocError>
-    ensures { OnOk result (text.new.items ≡ text.old.items ++ (codes "scroll" ++ fields_text (spaced input ++ pair_fields dx dy))) }
+fn push_scroll(text: &mut Vec<u8>, input: u32, dx: &i32, dy: &i32) -> Result<(), AllocError>
+    ensures text { OnOk result (text.new.items ≡ text.old.items ++ (codes "scroll" ++ fields_text (spaced input ++ pair_fields dx.now dy.now))) }
+    ensures kept { OnErr result (StartsWith text.new.items text.old.items) }
 {
     push_numbered(text, b"scroll", input)?;
     push_pair(text, dx, dy)
+}
+
+/// Adds the number of a wheel and of its target.
+fn push_target(text: &mut Vec<u8>, input: u32, target: u32) -> Result<(), AllocError>
+    ensures text { OnOk result (text.new.items ≡ text.old.items ++ (codes "wheel" ++ fields_text (spaced input ++ spaced target))) }
+    ensures kept { OnErr result (StartsWith text.new.items text.old.items) }
+{
+    push_numbered(text, b"wheel", input)?;
+    push_field(text, b' ', i64::from(target))
 }
 
 /// Adds the number of a wheel and of its target, and what was left over.
@@ -102,19 +124,36 @@ fn push_turned(
     text: &mut Vec<u8>,
     input: u32,
     target: u32,
-    rest_x: i32,
-    rest_y: i32,
+    rest_x: &i32,
+    rest_y: &i32,
 ) -> Result<(), AllocError>
-    ensures { OnOk result (text.new.items ≡ text.old.items ++ (codes "wheel" ++ fields_text ((spaced input ++ spaced target) ++ pair_fields rest_x rest_y))) }
+    ensures text { OnOk result (text.new.items ≡ text.old.items ++ (codes "wheel" ++ fields_text ((spaced input ++ spaced target) ++ pair_fields rest_x.now rest_y.now))) }
+    ensures kept { OnErr result (StartsWith text.new.items text.old.items) }
 {
-    push_numbered(text, b"wheel", input)?;
-    push_field(text, b' ', i64::from(target))?;
+    push_target(text, input, target)?;
     push_pair(text, rest_x, rest_y)
+}
+
+/// Adds the text of a wheel.
+fn push_wheel(
+    text: &mut Vec<u8>,
+    input: u32,
+    target: u32,
+    rest_x: &i32,
+    rest_y: &i32,
+    moves: &Moves,
+) -> Result<(), AllocError>
+    ensures text { OnOk result (text.new.items ≡ text.old.items ++ (codes "wheel" ++ fields_text ((spaced input ++ spaced target) ++ pair_fields rest_x.now rest_y.now ++ flat_map move_fields moves.now))) }
+    ensures kept { OnErr result (StartsWith text.new.items text.old.items) }
+{
+    push_turned(text, input, target, rest_x, rest_y)?;
+    push_moves(text, moves)
 }
 
 /// Adds the text of a start or an end of a tile, up to its key.
 fn push_tile(text: &mut Vec<u8>, word: &[u8], worker: u32, key: &TileKey) -> Result<(), AllocError>
-    ensures { OnOk result (text.new.items ≡ text.old.items ++ (word.now ++ fields_text (spaced worker ++ key_fields key.now))) }
+    ensures text { OnOk result (text.new.items ≡ text.old.items ++ (word.now ++ fields_text (spaced worker ++ key_fields key.now))) }
+    ensures kept { OnErr result (StartsWith text.new.items text.old.items) }
 {
     push_numbered(text, word, worker)?;
     push_key(text, key)
@@ -123,7 +162,8 @@ fn push_tile(text: &mut Vec<u8>, word: &[u8], worker: u32, key: &TileKey) -> Res
 /// Adds the text of an event.
 #[tactic(auto, unfolding(cc_event::specs::Texts::event_text))]
 fn push_text(text: &mut Vec<u8>, event: &Event) -> Result<(), AllocError>
-    ensures { OnOk result (text.new.items ≡ text.old.items ++ event_text event.now) }
+    ensures text { OnOk result (text.new.items ≡ text.old.items ++ event_text event.now) }
+    ensures kept { OnErr result (StartsWith text.new.items text.old.items) }
 {
     match event {
         Event::Begin { input } => push_numbered(text, b"begin", *input),
@@ -133,17 +173,14 @@ fn push_text(text: &mut Vec<u8>, event: &Event) -> Result<(), AllocError>
         Event::Abort { frame } => push_numbered(text, b"abort", *frame),
         Event::Commit { frame } => push_numbered(text, b"commit", *frame),
         Event::Activate { frame, clamps } => push_moved(text, b"activate", *frame, clamps),
-        Event::Scroll { input, dx, dy } => push_scroll(text, *input, *dx, *dy),
+        Event::Scroll { input, dx, dy } => push_scroll(text, *input, dx, dy),
         Event::Wheel {
             input,
             target,
             rest_x,
             rest_y,
             moves,
-        } => {
-            push_turned(text, *input, *target, *rest_x, *rest_y)?;
-            push_moves(text, moves)
-        }
+        } => { push_wheel(text, *input, *target, rest_x, rest_y, moves) }
         Event::Start {
             worker,
             key,
@@ -164,14 +201,27 @@ fn push_text(text: &mut Vec<u8>, event: &Event) -> Result<(), AllocError>
     }
 }
 
-/// Adds the line of an event: its text and a newline. Where there is no memory, `text` may have gained
-/// a part of it.
+/// Adds the text of an event and a newline.
 #[tactic(auto, unfolding(cc_event::specs::Texts::event_line))]
-pub fn push_event(text: &mut Vec<u8>, event: &Event) -> Result<(), AllocError>
-    ensures { OnOk result (text.new.items ≡ text.old.items ++ line_of event.now) }
+fn push_line(text: &mut Vec<u8>, event: &Event) -> Result<(), AllocError>
+    ensures text { OnOk result (text.new.items ≡ text.old.items ++ line_of event.now) }
+    ensures kept { OnErr result (StartsWith text.new.items text.old.items) }
 {
     push_text(text, event)?;
     text.push(b'\n')?;
+    Ok(())
+}
+
+/// Adds the line of an event: its text and a newline. Where there is no memory, the text stays as it is.
+pub fn push_event(text: &mut Vec<u8>, event: &Event) -> Result<(), AllocError>
+    ensures text { OnOk result (text.new.items ≡ text.old.items ++ line_of event.now) }
+    ensures same { OnErr result (text.new.items ≡ text.old.items) }
+{
+    let before = text.len();
+    if let Err(refused) = push_line(text, event) {
+        text.truncate(before);
+        return Err(refused);
+    }
     Ok(())
 }
 

@@ -1,0 +1,10 @@
+pub mod Kept
+pub mod Binds
+pub mod DigitRuns
+pub mod FieldRuns
+pub mod ListSteps
+pub mod LineRuns
+pub mod ReadLines
+pub mod TakenLines
+pub mod EventFits
+pub mod ImageLaws

@@ -1,0 +1,11 @@
+-- The moves made, before those of the numbers left, are the moves of all.
+use Rattle.std.proofs.Common.{◌≡◌, length}
+use Rattle.cc_record.specs.Numbers.{moves_of}
+use Rattle.cc_record.specs.Gathering.{after}
+use Rattle.cc_record.proofs.numbers.to_moves.Given as goal
+
+abbrev pub invariant-loop-rest : goal.invariant-loop-rest
+invariant-loop-rest l = after l.moves (moves_of l.rest) ≡ moves_of l.numbers
+
+abbrev pub decreases-loop-rest : goal.decreases-loop-rest
+decreases-loop-rest l = length l.rest
