@@ -1,0 +1,5 @@
+pub mod ChainWalks
+pub mod TopmostSteps
+pub mod Turns
+pub mod ChainLists
+pub mod PartSteps

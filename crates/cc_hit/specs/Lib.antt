@@ -1,0 +1,3 @@
+pub mod Wheels
+pub mod Laws
+pub mod inner

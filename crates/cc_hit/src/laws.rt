@@ -1,0 +1,30 @@
+//! Laws of wheels and of chains, as contracts of functions that do nothing.
+
+ghost use Rattle.std.specs.Prelude.{◌≡◌, ℕ, ℤ, List, ◌+ℤ◌};
+ghost use Rattle.cc_geom.specs.declared.rect.Point.{Point as Place};
+ghost use Rattle.cc_edit.specs.Axes.{Axis, across, down};
+ghost use Rattle.cc_edit.specs.Layers.{PageLayer};
+ghost use Rattle.cc_edit.specs.Pages.{Page};
+ghost use Rattle.cc_edit.specs.Hits.{chain};
+ghost use Rattle.cc_edit.specs.Wheels.{wheel_parts, wheel_rest};
+ghost use Rattle.cc_tree.specs.Trees.{IsTrees};
+ghost use Rattle.cc_hit.specs.Wheels.{AreWithinRanges};
+ghost use Rattle.cc_hit.specs.Laws.{total, AreDistinct, AreScrollersOf, TakeInTurn};
+
+/// Along each axis the parts of a wheel and the rest add up to what was asked.
+pub fn parts_add_up()
+    ensures across { (p : Page) (offset : ℕ → Place) (x y dx dy : ℤ) → total across (wheel_parts p offset x y dx dy) +ℤ wheel_rest p offset x y across dx ≡ dx }
+    ensures down { (p : Page) (offset : ℕ → Place) (x y dx dy : ℤ) → total down (wheel_parts p offset x y dx dy) +ℤ wheel_rest p offset x y down dy ≡ dy }
+{}
+
+/// A scroller has a part along an axis only where every scroller before it in the chain is then at the
+/// end of its range in that direction.
+pub fn later_scrollers_take_what_is_left()
+    ensures { (p : Page) (offset : ℕ → Place) (ax : Axis) → AreWithinRanges p offset → TakeInTurn p offset ax }
+{}
+
+/// No scroller stands twice in a chain, and each of them is one of the tree's.
+pub fn chains_are_distinct()
+    ensures distinct { (p : Page) (l : PageLayer) → IsTrees p.props → AreDistinct (chain p l) }
+    ensures known { (p : Page) (l : PageLayer) → IsTrees p.props → AreScrollersOf p (chain p l) }
+{}

@@ -1,0 +1,18 @@
+//! Hit test and scroll chaining: which layer a point of the screen hits, which scrollers take a wheel
+//! there, and how much each of them takes.
+//!
+//! A wheel goes to the nearest scroller that can still move, as in Chromium: each scroller of the chain,
+//! from the layer outwards, takes what its range allows, and hands on the rest.
+#![tactic(auto)]
+
+mod chains;
+mod laws;
+mod parts;
+mod targets;
+mod wheels;
+
+pub use chains::chain;
+pub use laws::{chains_are_distinct, later_scrollers_take_what_is_left, parts_add_up};
+pub use parts::{Part, Parts};
+pub use targets::target;
+pub use wheels::{Wheel, wheel_parts};
