@@ -154,3 +154,21 @@ clear_laid v j below none lt =
 -- the pixel of a row that is laid over a column
 pub row_place : (x at_x first from m j : ℕ) → at_x + first ≤ x → x < at_x + first + m → from + first + (x - (at_x + first)) ≡ x - at_x + from
 row_place x at_x first from m j low high = omega arith
+
+-- no row, no pixel
+pub no_row : (w h : ℕ) (at : Area) (g : ℕ → ℕ → Parts → Parts) (old : List ℕ) → EachPixel w h (within at 0 g) old old
+no_row w h at g old x y xw yh =
+    let none : in_rows at 0 x y ≡ false = grind (arith, nat_tests) in
+    ap (λ (b : Bool). cond b (g x y (pixel old (y * w + x))) (pixel old (y * w + x))) (sym none)
+
+-- an area of one row
+pub one_row : (w h : ℕ) (at : Area) (place : ℕ) (g : ℕ → ℕ → Parts → Parts) (f : ℕ → Parts → Parts) (old new : List ℕ)
+    → IsInside at w h → at.h ≡ 1 → place ≡ at.y * w + at.x → IsPart place at.w f old new
+    → ((j : ℕ) (below : Parts) → j < at.w → f j below ≡ g (at.x + j) (at.y + 0) below)
+    → EachPixel w h (within at at.h g) old new
+one_row w h at place g f old new inside one there part same =
+    let e : at.y ≡ at.y + 0 = omega arith in
+    let step =
+    area_step w h at 0 place at.w g f old old new inside (omega (arith, one)) refl (there ∙ ap (λ (y : ℕ). y * w + at.x) e)
+    (no_row w h at g old) part same in
+    subst (λ (n : ℕ). EachPixel w h (within at n g) old new) (sym one) step

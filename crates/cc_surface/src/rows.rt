@@ -4,18 +4,68 @@ ghost use Rattle.std.specs.Prelude.{◌≡◌, ℕ, ◌+◌, ◌-◌, ◌*◌, �
 ghost use Rattle.cc_pixel.specs.Colours.{blend};
 ghost use Rattle.cc_pixel.specs.Rows.{pixel, ArePremultiplied};
 ghost use Rattle.cc_pixel.specs.LaneBytes.{IsBytes};
-ghost use Rattle.cc_pixel.specs.Surfaces.{IsInside, EachPixel, within};
+ghost use Rattle.cc_pixel.specs.Surfaces.{IsPart, IsInside, EachPixel, within};
 ghost use Rattle.cc_surface.specs.inner.Columns.{columns_of};
 
 use crate::colour::colour_over_area;
 use crate::four::{four_at, lay_four, put_four};
 use crate::place::place_of;
 use cc_pixel::lanes::{are_clear, are_opaque};
-use cc_pixel::{Area, colour_at};
+use cc_pixel::{Area, colour_at, over_row};
 use std::simd::prelude::*;
 
 /// Lays the pixels of a row, from its pixel `from` on, over each row of an area of a surface.
 pub fn rows_over_area(
+    surface: &mut [u8],
+    width: usize,
+    height: usize,
+    at: Area,
+    row: &[u8],
+    from: usize,
+)
+    requires size { length surface.old ≡ 4 * (width * height) }
+    requires inside { IsInside at width height }
+    requires columns { 4 * (from + at.w) ≤ length row.now }
+    requires premultiplied { ArePremultiplied row.now }
+    ensures pixels { EachPixel width height (within at at.h (λ x y below. blend below (pixel row.now (x - at.x + from)))) surface.old surface.new }
+    ensures premultiplied { ArePremultiplied surface.old → ArePremultiplied surface.new }
+{
+    if at.h == 1 {
+        row_over_row(surface, width, height, at, row, from);
+    } else {
+        row_over_columns(surface, width, height, at, row, from);
+    }
+}
+
+// lays the pixels of the row over those of an area of one row
+fn row_over_row(surface: &mut [u8], width: usize, height: usize, at: Area, row: &[u8], from: usize)
+    requires size { length surface.old ≡ 4 * (width * height) }
+    requires inside { IsInside at width height }
+    requires one { at.h ≡ 1 }
+    requires columns { 4 * (from + at.w) ≤ length row.now }
+    requires premultiplied { ArePremultiplied row.now }
+    ensures pixels { EachPixel width height (within at at.h (λ x y below. blend below (pixel row.now (x - at.x + from)))) surface.old surface.new }
+    ensures premultiplied { ArePremultiplied surface.old → ArePremultiplied surface.new }
+{
+    let place = place_of(width, height, at.x, at.y, at.w);
+    row_over_run(surface, place, at.w, row, from);
+}
+
+// lays `n` pixels of the row, from its pixel `from` on, over those from pixel `k` on
+fn row_over_run(surface: &mut [u8], k: usize, n: usize, row: &[u8], from: usize)
+    requires there { 4 * (k + n) ≤ length surface.old }
+    requires given { 4 * (from + n) ≤ length row.now }
+    requires premultiplied { ArePremultiplied row.now }
+    ensures { IsPart k n (λ j below. blend below (pixel row.now (from + j))) surface.old surface.new }
+{
+    over_row(
+        &mut surface[4 * k..4 * (k + n)],
+        &row[4 * from..4 * (from + n)],
+    );
+}
+
+// lays the pixels of the row over each row of an area, some columns at a time
+fn row_over_columns(
     surface: &mut [u8],
     width: usize,
     height: usize,

@@ -3,7 +3,7 @@ use Rattle.cc_pixel.specs.Colours.{blend}
 use Rattle.cc_pixel.specs.Rows.{pixel, ArePremultiplied}
 use Rattle.cc_pixel.specs.Surfaces.{EachPixel, within}
 use Rattle.cc_surface.specs.inner.Columns.{columns_of}
-use Rattle.cc_surface.proofs.rows.rows_over_area.Given as given
+use Rattle.cc_surface.proofs.rows.row_over_columns.Given as given
 
 abbrev pub invariant-fours : given.invariant-fours
 invariant-fours l = record {

@@ -5,7 +5,7 @@ use Rattle.cc_pixel.specs.Rows.{pixel}
 use Rattle.cc_pixel.specs.Surfaces.{EachPixel, within}
 use Rattle.cc_surface.specs.inner.Columns.{columns_of}
 use Rattle.cc_surface.proofs.Areas.{columns_more, all_columns}
-use Rattle.cc_surface.proofs.rows.rows_over_area.Goals as goal
+use Rattle.cc_surface.proofs.rows.row_over_columns.Goals as goal
 
 pub fours-preserved : goal.fours-preserved
 fours-preserved c =
