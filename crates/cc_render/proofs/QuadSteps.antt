@@ -58,17 +58,3 @@ group_shown area surfaces pass opacity surface old new lt e size each x y xw yh 
     let room : 4 * (y * near area.w + x) + 4 ≤ 4 * (near area.w * near area.h) = place_below (near area.w) (near area.h) x y xw yh in
     each (y * near area.w + x) (omega arith)
     ∙ ap (λ (c : Parts). blend (pixel old k) (scaled c opacity)) (sym (pass_colour surfaces pass surface k lt e))
-
--- a row whose bytes were faded
-pub faded_pixel : (n opacity : ℕ) (old new : List ℕ) → ((i : ℕ) → i < n → slice_index new i ≡ times_255 (slice_index old i) opacity)
-    → (k : ℕ) → 4 * k + 4 ≤ n → pixel new k ≡ scaled (pixel old k) opacity
-faded_pixel n opacity old new bytes k le =
-    same_parts (pixel new k) (scaled (pixel old k) opacity)
-    (bytes (4 * k) (omega arith)) (bytes (4 * k + 1) (omega arith)) (bytes (4 * k + 2) (omega arith)) (bytes (4 * k + 3) (omega arith))
-
--- a pixel of the first bytes
-pub pixel_front : (n : ℕ) (bytes : List ℕ) (k : ℕ) → 4 * k + 4 ≤ n → pixel (take n bytes) k ≡ pixel bytes k
-pixel_front n bytes k le =
-    same_parts (pixel (take n bytes) k) (pixel bytes k)
-    (get_or-take n bytes (4 * k) 0 (omega arith)) (get_or-take n bytes (4 * k + 1) 0 (omega arith))
-    (get_or-take n bytes (4 * k + 2) 0 (omega arith)) (get_or-take n bytes (4 * k + 3) 0 (omega arith))

@@ -14,7 +14,7 @@ use Rattle.cc_display.specs.Content.{content}
 use Rattle.cc_display.specs.Pictures.{near}
 use Rattle.cc_display.specs.Shared.{IsShared}
 use Rattle.cc_display.specs.declared.Part.{Part}
-use Rattle.cc_raster.specs.Images.{Image, IsRow, IsOneColour, shown}
+use Rattle.cc_raster.specs.Images.{Image, IsRow, AreSameRows, IsOneColour, shown}
 use Rattle.cc_scene.specs.Pixels.{placed_pixel}
 use Rattle.cc_scene.specs.Sound.{IsTaken}
 use Rattle.cc_render.specs.inner.Drawing.{rows_from, part_pixel, EachPoint, laid_on}
@@ -107,42 +107,45 @@ solid_shown image at area from c old new t one each x y xw yh =
     ∙ where_held (covers at px py) (blend before c) (blend before (placed_pixel image at from px py)) before
     (λ h. ap (blend before) (solid_pixel image at from c px py t one h))
 
--- a place of one row of an area
-row_place : (at : Area) (row x y : ℕ) → in_rows (rows_from at row 1) 1 x y ≡ true → y ≡ at.y + row
-row_place at row x y h = grind (arith, nat_tests)
+-- a place of some rows of an area
+row_low : (at : Area) (row rows x y : ℕ) → in_rows (rows_from at row rows) rows x y ≡ true → at.y + row ≤ y
+row_low at row rows x y h = grind (arith, nat_tests)
 
-column_low : (at : Area) (row x y : ℕ) → in_rows (rows_from at row 1) 1 x y ≡ true → at.x ≤ x
-column_low at row x y h = grind (arith, nat_tests)
+row_high : (at : Area) (row rows x y : ℕ) → in_rows (rows_from at row rows) rows x y ≡ true → y < at.y + row + rows
+row_high at row rows x y h = grind (arith, nat_tests)
 
-column_high : (at : Area) (row x y : ℕ) → in_rows (rows_from at row 1) 1 x y ≡ true → x < at.x + at.w
-column_high at row x y h = grind (arith, nat_tests)
+column_low : (at : Area) (row rows x y : ℕ) → in_rows (rows_from at row rows) rows x y ≡ true → at.x ≤ x
+column_low at row rows x y h = grind (arith, nat_tests)
 
--- the pixel of a row of the image
-row_pixel : (image : Image) (part : Part) (row w : ℕ) (bytes : List ℕ) (x y : ℕ) → IsRow image.list image.rect (part.above + row) bytes
-    → part.left + part.at.w ≤ near image.rect.w → in_rows (rows_from part.at row 1) 1 x y ≡ true
-    → pixel bytes ((y - (part.at.y + row) + 0) * w + (x - part.at.x + part.left)) ≡ part_pixel image part x y
-row_pixel image part row w bytes x y is fit h =
-    let at_row : y ≡ part.at.y + row = row_place part.at row x y h in
-    let low : part.at.x ≤ x = column_low part.at row x y h in
-    let high : x < part.at.x + part.at.w = column_high part.at row x y h in
-    let first : y - (part.at.y + row) + 0 ≡ 0 = omega arith in
-    let below : part.above + row ≡ y - part.at.y + part.above = omega arith in
-    ap (λ (n : ℕ). pixel bytes (n * w + (x - part.at.x + part.left))) first
-    ∙ ap (pixel bytes) (nothing w (x - part.at.x + part.left))
-    ∙ is.pixels (x - part.at.x + part.left) (omega arith)
+column_high : (at : Area) (row rows x y : ℕ) → in_rows (rows_from at row rows) rows x y ≡ true → x < at.x + at.w
+column_high at row rows x y h = grind (arith, nat_tests)
+
+-- the pixel of a row of the image, and of the rows that are equal to it
+band_pixel : (image : Image) (part : Part) (row rows : ℕ) (bytes : List ℕ) (x y : ℕ) → IsRow image.list image.rect (part.above + row) bytes
+    → ((k : ℕ) → k < rows → AreSameRows image.list image.rect (part.above + row) (part.above + row + k))
+    → part.left + part.at.w ≤ near image.rect.w → in_rows (rows_from part.at row rows) rows x y ≡ true
+    → pixel bytes (x - part.at.x + part.left) ≡ part_pixel image part x y
+band_pixel image part row rows bytes x y is equal fit h =
+    let low = row_low part.at row rows x y h in
+    let high = row_high part.at row rows x y h in
+    let left = column_low part.at row rows x y h in
+    let right = column_high part.at row rows x y h in
+    let column : x - part.at.x + part.left < near image.rect.w = omega arith in
+    let below : part.above + row + (y - (part.at.y + row)) ≡ y - part.at.y + part.above = omega arith in
+    is.pixels (x - part.at.x + part.left) column
+    ∙ equal (y - (part.at.y + row)) (omega arith) (x - part.at.x + part.left) column
     ∙ ap (λ (n : ℕ). shown image.list image.rect (x - part.at.x + part.left) n) below
-  where
-    nothing : (w k : ℕ) → 0 * w + k ≡ k
-    nothing w k = omega arith
 
--- a row of the image, drawn in a row of the part
-pub row_shown : (w h : ℕ) (image : Image) (part : Part) (row width : ℕ) (bytes old new : List ℕ)
-    → IsRow image.list image.rect (part.above + row) bytes → part.left + part.at.w ≤ near image.rect.w
-    → EachPixel w h (within (rows_from part.at row 1) 1 (λ x y below. blend below (pixel bytes ((y - (part.at.y + row) + 0) * width + (x - part.at.x + part.left))))) old new
-    → EachPixel w h (within (rows_from part.at row 1) 1 (λ x y below. blend below (part_pixel image part x y))) old new
-row_shown w h image part row width bytes old new is fit each x y xw yh =
+-- a row of the image, drawn in the rows of the part that are equal to it
+pub band_shown : (w h : ℕ) (image : Image) (part : Part) (row rows : ℕ) (bytes old new : List ℕ)
+    → IsRow image.list image.rect (part.above + row) bytes
+    → ((k : ℕ) → k < rows → AreSameRows image.list image.rect (part.above + row) (part.above + row + k))
+    → part.left + part.at.w ≤ near image.rect.w
+    → EachPixel w h (within (rows_from part.at row rows) rows (λ x y below. blend below (pixel bytes (x - part.at.x + part.left)))) old new
+    → EachPixel w h (within (rows_from part.at row rows) rows (λ x y below. blend below (part_pixel image part x y))) old new
+band_shown w h image part row rows bytes old new is equal fit each x y xw yh =
     let before = pixel old (y * w + x) in
     each x y xw yh
-    ∙ where_held (in_rows (rows_from part.at row 1) 1 x y)
-    (blend before (pixel bytes ((y - (part.at.y + row) + 0) * width + (x - part.at.x + part.left)))) (blend before (part_pixel image part x y)) before
-    (λ t. ap (blend before) (row_pixel image part row width bytes x y is fit t))
+    ∙ where_held (in_rows (rows_from part.at row rows) rows x y) (blend before (pixel bytes (x - part.at.x + part.left)))
+    (blend before (part_pixel image part x y)) before
+    (λ t. ap (blend before) (band_pixel image part row rows bytes x y is equal fit t))

@@ -8,7 +8,6 @@
 mod copy;
 mod drawing;
 mod frame;
-mod group;
 mod passes;
 mod quads;
 mod size;

@@ -16,31 +16,17 @@ use cc_pixel::{Colour, fill_row};
 use cc_scene::{Quad, RenderPass};
 
 /// Draws the pixels of an area of each pass into its surface, inner passes first.
-pub(crate) fn draw_passes(
-    passes: &[RenderPass],
-    area: Rect,
-    surfaces: &mut [Surface],
-    scratch: &mut [u8],
-)
+pub(crate) fn draw_passes(passes: &[RenderPass], area: Rect, surfaces: &mut [Surface])
     requires area { IsSound area }
     requires each { length surfaces.old ≡ length passes.now }
     requires quads { PassesCanBeDrawn (passes_view passes.now) }
     requires room { AreRoomy (byte_count area.w area.h) surfaces.old }
-    requires scratch { byte_count area.w area.h ≤ length scratch.old }
-    requires scratch_row { 4 * near area.w ≤ length scratch.old }
     ensures pixels { ShowPasses area (passes_view passes.now) surfaces.new }
     ensures room { (n : ℕ) → AreRoomy n surfaces.old → AreRoomy n surfaces.new }
 {
     for (i, pass) in passes.iter().enumerate() {
         let (before, rest) = surfaces.split_at_mut(i);
-        draw_pass(
-            &mut rest[0],
-            Colour::CLEAR,
-            area,
-            &pass.quads,
-            before,
-            scratch,
-        );
+        draw_pass(&mut rest[0], Colour::CLEAR, area, &pass.quads, before);
     }
 }
 
@@ -51,47 +37,28 @@ pub(crate) fn draw_pass(
     area: Rect,
     quads: &[Quad],
     passes: &[Surface],
-    scratch: &mut [u8],
 )
     requires area { IsSound area }
     requires quads { All (CanBeDrawn (length passes.now)) (quads_view quads.now) }
     requires room { byte_count area.w area.h ≤ length surface.old }
     requires passes { AreRoomy (byte_count area.w area.h) passes.now }
-    requires scratch { byte_count area.w area.h ≤ length scratch.old }
-    requires scratch_row { 4 * near area.w ≤ length scratch.old }
     ensures pixels { ShowsQuads area passes.now below (quads_view quads.now) surface.new }
     ensures size { length surface.new ≡ length surface.old }
 {
-    draw_over(
-        surface.bytes.as_mut_slice(),
-        below,
-        area,
-        quads,
-        passes,
-        scratch,
-    );
+    draw_over(surface.bytes.as_mut_slice(), below, area, quads, passes);
 }
 
 // draws quads over a colour into the first of some bytes
-fn draw_over(
-    bytes: &mut [u8],
-    below: Colour,
-    area: Rect,
-    quads: &[Quad],
-    passes: &[Surface],
-    scratch: &mut [u8],
-)
+fn draw_over(bytes: &mut [u8], below: Colour, area: Rect, quads: &[Quad], passes: &[Surface])
     requires area { IsSound area }
     requires quads { All (CanBeDrawn (length passes.now)) (quads_view quads.now) }
     requires room { byte_count area.w area.h ≤ length bytes.old }
     requires passes { AreRoomy (byte_count area.w area.h) passes.now }
-    requires scratch { byte_count area.w area.h ≤ length scratch.old }
-    requires scratch_row { 4 * near area.w ≤ length scratch.old }
     ensures pixels { ShowsQuads area passes.now below (quads_view quads.now) bytes.new }
     ensures premultiplied { ArePremultiplied bytes.old → ArePremultiplied bytes.new }
 {
     let size = 4 * (width_of(area) * height_of(area));
     let surface = &mut bytes[..size];
     fill_row(surface, below);
-    draw_quads(surface, area, quads, passes, scratch);
+    draw_quads(surface, area, quads, passes);
 }

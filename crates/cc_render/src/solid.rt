@@ -10,20 +10,14 @@ ghost use Rattle.cc_render.specs.inner.Drawing.{EachPoint, laid_on};
 use crate::size::{height_of, width_of};
 use cc_display::shared_part;
 use cc_geom::Rect;
-use cc_pixel::{Colour, colour_over_area, fill_area};
+use cc_pixel::{Colour, fill_area};
+use cc_surface::colour_over_area;
 
-/// Draws one colour where `at` lies in an area. What `scratch` holds afterwards is not said.
-pub(crate) fn draw_solid(
-    surface: &mut [u8],
-    area: Rect,
-    at: Rect,
-    colour: Colour,
-    scratch: &mut [u8],
-)
+/// Draws one colour where `at` lies in an area.
+pub(crate) fn draw_solid(surface: &mut [u8], area: Rect, at: Rect, colour: Colour)
     requires area { IsSound area }
     requires at { IsSound at }
     requires size { length surface.old ≡ byte_count area.w area.h }
-    requires room { 4 * near area.w ≤ length scratch.old }
     ensures pixels { EachPoint area (laid_on at (λ x y. colour)) surface.old surface.new }
     ensures premultiplied { ArePremultiplied surface.old → ArePremultiplied surface.new }
 {
@@ -38,7 +32,7 @@ pub(crate) fn draw_solid(
     if colour.a() == 255 {
         fill_area(surface, width, height, part.at, colour);
     } else {
-        colour_over_area(surface, width, height, part.at, colour, scratch);
+        colour_over_area(surface, width, height, part.at, colour);
     }
 }
 

@@ -27,8 +27,6 @@ pub(crate) struct Surfaces {
     // those of the passes before the root
     passes: Vec<Surface>,
     root: Surface,
-    // a group of which is faded before it is drawn
-    scratch: Vec<u8>,
 }
 
 impl Surfaces {
@@ -41,7 +39,6 @@ impl Surfaces {
         Ok(Surfaces {
             passes: inner_surfaces(alloc, inner, pixels)?,
             root: Surface::new(alloc, pixels)?,
-            scratch: vec![in alloc; 0u8; 4 * pixels]?,
         })
     }
 }
@@ -87,7 +84,6 @@ pub(crate) fn draw_area(scene: &Scene, bytes: &mut [u8], at: Area, surfaces: &mu
 fn draw_strip(scene: &Scene, bytes: &mut [u8], at: Area, surfaces: &mut Surfaces)
     requires size { length bytes.old ≡ 4 * (scene.now.w * scene.now.h) }
     requires inside { IsInside at scene.now.w scene.now.h }
-    requires some { 1 ≤ at.h }
     requires low { at.h ≤ STRIP }
     requires room { HasRoom (4 * (scene.now.w * STRIP)) (length scene.now.passes) surfaces.old }
     ensures pixels { EachPixel scene.now.w scene.now.h (within at at.h (λ x y below. scene_pixel scene.now (pos x) (pos y))) bytes.old bytes.new }
@@ -116,7 +112,6 @@ fn rect_of(at: Area) -> Rect
 // draws the pixels of an area of all passes of a scene; those of the root are the scene's
 fn draw_scene(scene: &Scene, area: Rect, surfaces: &mut Surfaces)
     requires area { IsSound area }
-    requires some { 1 ≤ near area.h }
     requires room { HasRoom (byte_count area.w area.h) (length scene.now.passes) surfaces.old }
     ensures pixels { ShowsScene scene.now area surfaces.new.root }
     ensures room { (n : ℕ) → HasRoom n (length scene.now.passes) surfaces.old → HasRoom n (length scene.now.passes) surfaces.new }
@@ -124,34 +119,25 @@ fn draw_scene(scene: &Scene, area: Rect, surfaces: &mut Surfaces)
     let Some((root, inner)) = scene.passes().split_last() else {
         return;
     };
-    draw_inner(inner, area, &mut surfaces.passes, &mut surfaces.scratch);
+    draw_inner(inner, area, &mut surfaces.passes);
     draw_pass(
         &mut surfaces.root,
         scene.background(),
         area,
         &root.quads,
         &surfaces.passes,
-        surfaces.scratch.as_mut_slice(),
     );
 }
 
 // draws the pixels of an area of the passes before the root
-fn draw_inner(passes: &[RenderPass], area: Rect, surfaces: &mut Vec<Surface>, scratch: &mut Vec<u8>)
+fn draw_inner(passes: &[RenderPass], area: Rect, surfaces: &mut Vec<Surface>)
     requires area { IsSound area }
-    requires some { 1 ≤ near area.h }
     requires each { length surfaces.old.items ≡ length passes.now }
     requires quads { PassesCanBeDrawn (passes_view passes.now) }
     requires room { AreRoomy (byte_count area.w area.h) surfaces.old.items }
-    requires scratch { byte_count area.w area.h ≤ length scratch.old.items }
     ensures pixels { ShowPasses area (passes_view passes.now) surfaces.new.items }
     ensures count { length surfaces.new.items ≡ length surfaces.old.items }
     ensures room { (n : ℕ) → AreRoomy n surfaces.old.items → AreRoomy n surfaces.new.items }
-    ensures scratch { length scratch.new.items ≡ length scratch.old.items }
 {
-    draw_passes(
-        passes,
-        area,
-        surfaces.as_mut_slice(),
-        scratch.as_mut_slice(),
-    );
+    draw_passes(passes, area, surfaces.as_mut_slice());
 }

@@ -8,35 +8,28 @@ ghost use Rattle.cc_pixel.specs.Surfaces.{IsInside, EachPixel, within};
 ghost use Rattle.cc_display.specs.Pictures.{near, byte_count};
 ghost use Rattle.cc_scene.specs.Pixels.{placed_pixel};
 ghost use Rattle.cc_scene.specs.Sound.{IsTaken};
+ghost use Rattle.cc_raster.specs.Images.{AreSameRows};
 ghost use Rattle.cc_render.specs.inner.Drawing.{rows_from, part_pixel, EachPoint, laid_on};
 
 use crate::size::{count, height_of, width_of};
 use crate::solid::draw_solid;
 use cc_display::{Part, shared_part};
 use cc_geom::{Point, Rect};
-use cc_pixel::{Area, image_over_area};
+use cc_pixel::Area;
 use cc_raster::TileImage;
+use cc_surface::rows_over_area;
 
-/// Draws the part of an image from `from` on where `at` lies in an area. What `scratch` holds afterwards is
-/// not said.
-pub(crate) fn draw_tile(
-    surface: &mut [u8],
-    area: Rect,
-    image: &TileImage,
-    at: Rect,
-    from: Point,
-    scratch: &mut [u8],
-)
+/// Draws the part of an image from `from` on where `at` lies in an area.
+pub(crate) fn draw_tile(surface: &mut [u8], area: Rect, image: &TileImage, at: Rect, from: Point)
     requires area { IsSound area }
     requires at { IsSound at }
     requires taken { IsTaken image.now at from }
     requires size { length surface.old ≡ byte_count area.w area.h }
-    requires room { 4 * near area.w ≤ length scratch.old }
     ensures pixels { EachPoint area (laid_on at (placed_pixel image.now at from)) surface.old surface.new }
     ensures premultiplied { ArePremultiplied surface.old → ArePremultiplied surface.new }
 {
     if let Some(colour) = image.solid() {
-        draw_solid(surface, area, at, colour, scratch);
+        draw_solid(surface, area, at, colour);
         return;
     }
     let Some(part) = shared_part(at, area) else {
@@ -70,7 +63,7 @@ fn later(place: usize, by: i32) -> usize
     place + count(by)
 }
 
-// draws a part of an image row by row
+// draws a part of an image, each row that it keeps over all rows that are equal to it
 fn draw_part(surface: &mut [u8], width: usize, height: usize, image: &TileImage, part: Part)
     requires size { length surface.old ≡ 4 * (width * height) }
     requires inside { IsInside part.at width height }
@@ -79,45 +72,65 @@ fn draw_part(surface: &mut [u8], width: usize, height: usize, image: &TileImage,
     ensures pixels { EachPixel width height (within part.at part.at.h (λ x y below. blend below (part_pixel image.now part x y))) surface.old surface.new }
     ensures premultiplied { ArePremultiplied surface.old → ArePremultiplied surface.new }
 {
-    for row in 0..part.at.h {
-        draw_row(surface, width, height, image, part, row);
+    let mut done = 0;
+    while done < part.at.h {
+        let row = row_number(image, part, done);
+        let rows = equal_rows_at(image, row, part.at.h - done);
+        draw_band(surface, width, height, image, part, done, rows);
+        done += rows;
     }
 }
 
-// draws one row of a part of an image
-fn draw_row(
+// the row of an image that belongs to a row of a part of it
+fn row_number(image: &TileImage, part: Part, row: usize) -> u32
+    requires rows { part.above + part.at.h ≤ near image.now.rect.h }
+    requires there { row < part.at.h }
+    ensures { result ≡ part.above + row }
+{
+    // The rect of an image is sound, so the number fits.
+    let _rect = image.rect();
+    (part.above + row) as u32
+}
+
+// how many rows of an image, from a row on, are kept as that row, at most so many
+fn equal_rows_at(image: &TileImage, row: u32, most: usize) -> usize
+    requires row { row < near image.now.rect.h }
+    requires some { 1 ≤ most }
+    ensures some { 1 ≤ result }
+    ensures most { result ≤ most }
+    ensures equal { (k : ℕ) → k < result → AreSameRows image.now.list image.now.rect row (row + k) }
+{
+    let equal = image.same(row) as usize;
+    equal.min(most)
+}
+
+// draws so many rows of a part of an image, from its row `row` on, which are all equal
+fn draw_band(
     surface: &mut [u8],
     width: usize,
     height: usize,
     image: &TileImage,
     part: Part,
     row: usize,
+    rows: usize,
 )
     requires size { length surface.old ≡ 4 * (width * height) }
     requires inside { IsInside part.at width height }
     requires columns { part.left + part.at.w ≤ near image.now.rect.w }
-    requires rows { part.above + part.at.h ≤ near image.now.rect.h }
-    requires row { row < part.at.h }
-    ensures pixels { EachPixel width height (within (rows_from part.at row 1) 1 (λ x y below. blend below (part_pixel image.now part x y))) surface.old surface.new }
+    requires below { part.above + part.at.h ≤ near image.now.rect.h }
+    requires some { 1 ≤ rows }
+    requires there { row + rows ≤ part.at.h }
+    requires equal { (k : ℕ) → k < rows → AreSameRows image.now.list image.now.rect (part.above + row) (part.above + row + k) }
+    ensures pixels { EachPixel width height (within (rows_from part.at row rows) rows (λ x y below. blend below (part_pixel image.now part x y))) surface.old surface.new }
     ensures premultiplied { ArePremultiplied surface.old → ArePremultiplied surface.new }
 {
     let at = Area {
         x: part.at.x,
         y: part.at.y + row,
         w: part.at.w,
-        h: 1,
+        h: rows,
     };
-    let rect = image.rect();
-    let pixels = image.row((part.above + row) as u32);
-    image_over_area(
-        surface,
-        width,
-        height,
-        at,
-        pixels,
-        width_of(rect),
-        1,
-        part.left,
-        0,
-    );
+    let number = row_number(image, part, row);
+    let pixels = image.row(number);
+    rows_over_area(surface, width, height, at, pixels, part.left);
 }

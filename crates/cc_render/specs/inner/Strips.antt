@@ -13,7 +13,6 @@ pub record HasRoom (n passes : ℕ) (s : Surfaces) : Type 0 where
   pub count : length s.passes.items + 1 ≡ passes
   pub inner : AreRoomy n s.passes.items
   pub root : n ≤ length s.root
-  pub scratch : n ≤ length s.scratch.items
 
 -- the pixels of a surface are those of a scene in an area
 abbrev pub ShowsScene : SceneView → Rect → List ℕ → Type 0

@@ -12,7 +12,6 @@ less_room n m passes s le r = record {
   count = r.count;
   inner = All-weaker (λ (b : List ℕ). m ≤ length b) (λ (b : List ℕ). n ≤ length b) (λ b h. omega arith) s.passes.items r.inner;
   root = let h = r.root in omega arith;
-  scratch = let h = r.scratch in omega arith;
 }
 
 pub draw_scene-requires-clause-room : goal.draw_scene-requires-clause-room

@@ -1,8 +1,12 @@
--- The row of the image belongs to the row of the part.
-use Rattle.cc_render.proofs.Tiles.{row_shown}
-use Rattle.cc_render.proofs.tile.draw_row.Goals as goal
+-- The row of the image belongs to each of the rows.
+use Rattle.std.proofs.Common.{ℕ, subst}
+use Rattle.cc_raster.specs.Images.{IsRow}
+use Rattle.cc_render.proofs.Tiles.{band_shown}
+use Rattle.cc_render.proofs.tile.draw_band.Goals as goal
 
 pub returns-clause-pixels : goal.returns-clause-pixels
 returns-clause-pixels c =
-    row_shown c.args.width c.args.height c.args.image.now c.args.part c.args.row c.width_of.result c.row-pixels.result.now c.args.surface.now
-    c.image_over_area.new.surface c.row-pixels.ensures c.requires.columns c.image_over_area.ensures.pixels
+    band_shown c.args.width c.args.height c.args.image.now c.args.part c.args.row c.args.rows c.row-pixels.result.now c.args.surface.now
+    c.rows_over_area.new.surface
+    (subst (λ (n : ℕ). IsRow c.args.image.now.list c.args.image.now.rect n c.row-pixels.result.now) c.row_number-number.ensures c.row-pixels.ensures)
+    c.requires.equal c.requires.columns c.rows_over_area.ensures.pixels

@@ -1,11 +1,16 @@
+use Rattle.std.proofs.Common.{◌≤◌, ◌-◌}
 use Rattle.cc_pixel.specs.Colours.{blend}
 use Rattle.cc_pixel.specs.Rows.{ArePremultiplied}
 use Rattle.cc_pixel.specs.Surfaces.{EachPixel, within}
 use Rattle.cc_render.specs.inner.Drawing.{part_pixel}
 use Rattle.cc_render.proofs.tile.draw_part.Given as given
 
-abbrev pub invariant-loop-row : given.invariant-loop-row
-invariant-loop-row l = record {
-  pixels : EachPixel l.width l.height (within l.part.at l.row (λ x y below. blend below (part_pixel l.image l.part x y))) l.initial.surface l.surface;
-  premultiplied : ArePremultiplied l.initial.surface → ArePremultiplied l.surface;
+abbrev pub invariant-loop-done : given.invariant-loop-done
+invariant-loop-done l = record {
+  inside : l.done ≤ l.part.at.h;
+  pixels : EachPixel l.width l.height (within l.part.at l.done (λ x y below. blend below (part_pixel l.image l.part x y))) l.fn.surface l.surface;
+  premultiplied : ArePremultiplied l.fn.surface → ArePremultiplied l.surface;
 }
+
+abbrev pub decreases-loop-done : given.decreases-loop-done
+decreases-loop-done l = l.part.at.h - l.done
