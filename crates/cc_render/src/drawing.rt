@@ -5,10 +5,10 @@ ghost use Rattle.cc_geom.specs.Covers.{covers, IsSound};
 ghost use Rattle.cc_region.specs.Points.{covered};
 ghost use Rattle.cc_scene.specs.Pixels.{scene_pixel};
 ghost use Rattle.cc_render.specs.Frames.{IsOfSize, EachIs, frame_pixel, Shows, ShowsIn};
-ghost use Rattle.cc_render.specs.inner.Strips.{HasRoom};
+ghost use Rattle.cc_render.specs.inner.Strips.{AreReady};
 
 use crate::frame::Frame;
-use crate::strip::{STRIP, Surfaces, draw_area};
+use crate::strip::{Surfaces, draw_area};
 use cc_display::shared_part;
 use cc_geom::Rect;
 use cc_region::Region;
@@ -45,7 +45,7 @@ pub fn render_region(scene: &Scene, frame: &mut Frame, region: &Region) -> Resul
 fn draw_rects(scene: &Scene, frame: &mut Frame, rects: &[Rect], surfaces: &mut Surfaces)
     requires rects { All IsSound rects.now }
     requires same { IsOfSize scene.now.w scene.now.h frame.old }
-    requires room { HasRoom (4 * (scene.now.w * STRIP)) (length scene.now.passes) surfaces.old }
+    requires ready { AreReady scene.now surfaces.old }
     ensures size { IsOfSize scene.now.w scene.now.h frame.new }
     ensures pixels { ShowsIn scene.now rects.now frame.old frame.new }
 {
@@ -58,10 +58,10 @@ fn draw_rects(scene: &Scene, frame: &mut Frame, rects: &[Rect], surfaces: &mut S
 fn draw_rect(scene: &Scene, frame: &mut Frame, rect: Rect, surfaces: &mut Surfaces)
     requires rect { IsSound rect }
     requires same { IsOfSize scene.now.w scene.now.h frame.old }
-    requires room { HasRoom (4 * (scene.now.w * STRIP)) (length scene.now.passes) surfaces.old }
+    requires ready { AreReady scene.now surfaces.old }
     ensures size { IsOfSize scene.now.w scene.now.h frame.new }
     ensures pixels { EachIs (λ x y. cond (covers rect (pos x) (pos y)) (scene_pixel scene.now (pos x) (pos y)) (frame_pixel frame.old x y)) frame.new }
-    ensures room { HasRoom (4 * (scene.now.w * STRIP)) (length scene.now.passes) surfaces.new }
+    ensures ready { AreReady scene.now surfaces.new }
 {
     if let Some(part) = shared_part(rect, screen_of(scene)) {
         draw_area(scene, frame.bytes.as_mut_slice(), part.at, surfaces);

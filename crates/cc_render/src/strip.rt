@@ -8,7 +8,7 @@ ghost use Rattle.cc_display.specs.Pictures.{near, byte_count};
 ghost use Rattle.cc_scene.specs.Views.{passes_view};
 ghost use Rattle.cc_scene.specs.Pixels.{scene_pixel};
 ghost use Rattle.cc_render.specs.inner.Drawing.{AreRoomy, PassesCanBeDrawn, ShowPasses};
-ghost use Rattle.cc_render.specs.inner.Strips.{HasRoom, ShowsScene};
+ghost use Rattle.cc_render.specs.inner.Strips.{HasRoom, AreReady, ShowsScene};
 
 use crate::copy::copy_area;
 use crate::passes::{draw_pass, draw_passes};
@@ -19,7 +19,13 @@ use cc_scene::{RenderPass, Scene};
 use std::alloc::{AllocError, Global};
 
 /// The most rows of a strip.
-pub(crate) const STRIP: usize = 16;
+const MOST_ROWS: usize = 32;
+
+/// The least rows of a strip.
+const LEAST_ROWS: usize = 4;
+
+/// How many bytes the surfaces of one strip are to have together, so that they stay in a processor's cache.
+const CACHED: usize = 786432;
 
 /// The pixels that the passes of a scene are drawn into, one strip at a time.
 #[derive(Drop)]
@@ -27,20 +33,37 @@ pub(crate) struct Surfaces {
     // those of the passes before the root
     passes: Vec<Surface>,
     root: Surface,
+    // the most rows of a strip
+    rows: usize,
 }
 
 impl Surfaces {
     /// Takes the memory for strips of a scene.
     pub(crate) fn new(alloc: Global, scene: &Scene) -> Result<Surfaces, AllocError>
-        ensures { IfOk result (λ surfaces. HasRoom (4 * (scene.now.w * STRIP)) (length scene.now.passes) surfaces) }
+        ensures { IfOk result (λ surfaces. AreReady scene.now surfaces) }
     {
-        let pixels = scene.w() as usize * STRIP;
+        let width = scene.w() as usize;
         let inner = scene.passes().len() - 1;
+        let rows = rows_of_strip(width, inner + 1);
+        let pixels = width * rows;
         Ok(Surfaces {
             passes: inner_surfaces(alloc, inner, pixels)?,
             root: Surface::new(alloc, pixels)?,
+            rows,
         })
     }
+}
+
+// how many rows a strip has where so many surfaces of this width are drawn
+fn rows_of_strip(width: usize, surfaces: usize) -> usize
+    requires width { 1 ≤ width }
+    requires narrow { width ≤ 2048 }
+    requires surfaces { 1 ≤ surfaces }
+    ensures some { 1 ≤ result }
+    ensures few { result ≤ MOST_ROWS }
+{
+    let rows = CACHED / (4 * width) / surfaces;
+    rows.max(LEAST_ROWS).min(MOST_ROWS)
 }
 
 // so many surfaces of so many pixels
@@ -61,14 +84,14 @@ pub(crate) fn draw_area(scene: &Scene, bytes: &mut [u8], at: Area, surfaces: &mu
     requires size { length bytes.old ≡ 4 * (scene.now.w * scene.now.h) }
     requires inside { IsInside at scene.now.w scene.now.h }
     requires end { at.y + at.h ≤ 2048 }
-    requires room { HasRoom (4 * (scene.now.w * STRIP)) (length scene.now.passes) surfaces.old }
+    requires ready { AreReady scene.now surfaces.old }
     ensures pixels { EachPixel scene.now.w scene.now.h (within at at.h (λ x y below. scene_pixel scene.now (pos x) (pos y))) bytes.old bytes.new }
     ensures premultiplied { ArePremultiplied bytes.old → ArePremultiplied bytes.new }
-    ensures room { HasRoom (4 * (scene.now.w * STRIP)) (length scene.now.passes) surfaces.new }
+    ensures ready { AreReady scene.now surfaces.new }
 {
     let mut done = 0;
     while done < at.h {
-        let rows = STRIP.min(at.h - done);
+        let rows = surfaces.rows.min(at.h - done);
         let strip = Area {
             x: at.x,
             y: at.y + done,
@@ -84,11 +107,11 @@ pub(crate) fn draw_area(scene: &Scene, bytes: &mut [u8], at: Area, surfaces: &mu
 fn draw_strip(scene: &Scene, bytes: &mut [u8], at: Area, surfaces: &mut Surfaces)
     requires size { length bytes.old ≡ 4 * (scene.now.w * scene.now.h) }
     requires inside { IsInside at scene.now.w scene.now.h }
-    requires low { at.h ≤ STRIP }
-    requires room { HasRoom (4 * (scene.now.w * STRIP)) (length scene.now.passes) surfaces.old }
+    requires low { at.h ≤ surfaces.old.rows }
+    requires ready { AreReady scene.now surfaces.old }
     ensures pixels { EachPixel scene.now.w scene.now.h (within at at.h (λ x y below. scene_pixel scene.now (pos x) (pos y))) bytes.old bytes.new }
     ensures premultiplied { ArePremultiplied bytes.old → ArePremultiplied bytes.new }
-    ensures room { HasRoom (4 * (scene.now.w * STRIP)) (length scene.now.passes) surfaces.new }
+    ensures ready { AreReady scene.now surfaces.new }
 {
     let width = scene.w() as usize;
     let height = scene.h() as usize;
@@ -115,6 +138,7 @@ fn draw_scene(scene: &Scene, area: Rect, surfaces: &mut Surfaces)
     requires room { HasRoom (byte_count area.w area.h) (length scene.now.passes) surfaces.old }
     ensures pixels { ShowsScene scene.now area surfaces.new.root }
     ensures room { (n : ℕ) → HasRoom n (length scene.now.passes) surfaces.old → HasRoom n (length scene.now.passes) surfaces.new }
+    ensures rows { surfaces.new.rows ≡ surfaces.old.rows }
 {
     let Some((root, inner)) = scene.passes().split_last() else {
         return;

@@ -12,7 +12,7 @@ loop-rect-preserved c = record {
   pixels =
       region_more c.args.scene.now c.args.rects.now c.loop-rect.rect-index nothing c.args.frame.now c.loop-rect.frame c.draw_rect.new.frame
       c.loop-rect-test.true c.loop-rect.invariant.size c.draw_rect.ensures.size c.loop-rect.invariant.pixels c.draw_rect.ensures.pixels;
-  room = c.draw_rect.ensures.room;
+  ready = c.draw_rect.ensures.ready;
 }
 
 pub returns-clause-pixels : goal.returns-clause-pixels

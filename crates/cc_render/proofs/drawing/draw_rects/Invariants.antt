@@ -1,12 +1,12 @@
 -- The rects so far are drawn.
-use Rattle.std.specs.Prelude.{◌*◌, take, length}
+use Rattle.std.specs.Prelude.{take}
 use Rattle.cc_render.specs.Frames.{IsOfSize, ShowsIn}
-use Rattle.cc_render.specs.inner.Strips.{HasRoom}
+use Rattle.cc_render.specs.inner.Strips.{AreReady}
 use Rattle.cc_render.proofs.drawing.draw_rects.Given as given
 
 abbrev pub invariant-loop-rect : given.invariant-loop-rect
 invariant-loop-rect l = record {
   size : IsOfSize l.scene.w l.scene.h l.frame;
   pixels : ShowsIn l.scene (take l.rect-index l.rects) l.initial.frame l.frame;
-  room : HasRoom (4 * (l.scene.w * 16)) (length l.scene.passes) l.surfaces;
+  ready : AreReady l.scene l.surfaces;
 }

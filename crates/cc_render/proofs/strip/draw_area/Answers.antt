@@ -12,5 +12,5 @@ loop-done-preserved c = record {
       rows_more c.args.scene.now.w c.args.scene.now.h c.args.at c.loop-done.done c.min-rows.result (λ x y below. scene_pixel c.args.scene.now (pos x) (pos y))
       c.args.bytes.now c.loop-done.bytes c.draw_strip.new.bytes c.loop-done.invariant.pixels c.draw_strip.ensures.pixels;
   premultiplied = λ old. c.draw_strip.ensures.premultiplied (c.loop-done.invariant.premultiplied old);
-  room = c.draw_strip.ensures.room;
+  ready = c.draw_strip.ensures.ready;
 }

@@ -1,9 +1,9 @@
 -- The rows so far are drawn.
-use Rattle.std.specs.Prelude.{◌≤◌, ◌-◌, ◌*◌, pos, length}
+use Rattle.std.specs.Prelude.{◌≤◌, ◌-◌, pos}
 use Rattle.cc_pixel.specs.Rows.{ArePremultiplied}
 use Rattle.cc_pixel.specs.Surfaces.{EachPixel, within}
 use Rattle.cc_scene.specs.Pixels.{scene_pixel}
-use Rattle.cc_render.specs.inner.Strips.{HasRoom}
+use Rattle.cc_render.specs.inner.Strips.{AreReady}
 use Rattle.cc_render.proofs.strip.draw_area.Given as given
 
 abbrev pub invariant-loop-done : given.invariant-loop-done
@@ -11,7 +11,7 @@ invariant-loop-done l = record {
   rows : l.done ≤ l.at.h;
   pixels : EachPixel l.scene.w l.scene.h (within l.at l.done (λ x y below. scene_pixel l.scene (pos x) (pos y))) l.initial.bytes l.bytes;
   premultiplied : ArePremultiplied l.initial.bytes → ArePremultiplied l.bytes;
-  room : HasRoom (4 * (l.scene.w * 16)) (length l.scene.passes) l.surfaces;
+  ready : AreReady l.scene l.surfaces;
 }
 
 abbrev pub decreases-loop-done : given.decreases-loop-done

@@ -18,13 +18,13 @@ pub draw_scene-requires-clause-room : goal.draw_scene-requires-clause-room
 draw_scene-requires-clause-room c =
     let low : c.args.at.w ≤ c.args.scene.now.w = omega arith in
     rw (c.rect_of.ensures)
-    (less_room _ _ _ _ (strip_size c.args.at.w c.args.at.h c.args.scene.now.w 16 low c.requires.low) c.requires.room)
+    (less_room _ _ _ _ (strip_size c.args.at.w c.args.at.h c.args.scene.now.w c.args.surfaces.now.rows low c.requires.low) c.requires.ready.room)
 
 pub copy_area-requires-clause-given : goal.copy_area-requires-clause-given
 copy_area-requires-clause-given c =
     let low : c.args.at.w ≤ c.args.scene.now.w = omega arith in
-    let fit = strip_size c.args.at.w c.args.at.h c.args.scene.now.w 16 low c.requires.low in
-    let room = c.draw_scene.ensures.room _ c.requires.room in
+    let fit = strip_size c.args.at.w c.args.at.h c.args.scene.now.w c.args.surfaces.now.rows low c.requires.low in
+    let room = c.draw_scene.ensures.room _ c.requires.ready.room in
     let had = room.root in
     rw (c.bytes.ensures.value) (omega arith)
 
@@ -34,5 +34,13 @@ returns-clause-pixels c =
     let each = rw (c.bytes.ensures.value, c.w-width.ensures.value, c.h-height.ensures.value) at c.copy_area.ensures.pixels in
     strip_shown c.args.scene.now c.args.scene.now.w c.args.scene.now.h c.args.at c.draw_scene.new.surfaces.root c.args.bytes.now c.copy_area.new.surface shown each
 
-pub returns-clause-room : goal.returns-clause-room
-returns-clause-room c = c.draw_scene.ensures.room _ c.requires.room
+-- strips of as many rows are as large
+same_size : (w a b : ℕ) → a ≡ b → 4 * (w * a) ≤ 4 * (w * b)
+same_size w a b e = rw e (omega arith)
+
+pub returns-clause-ready : goal.returns-clause-ready
+returns-clause-ready c = record {
+  some = rw (c.draw_scene.ensures.rows) (c.requires.ready.some);
+  room =
+      less_room _ _ _ _ (same_size c.args.scene.now.w _ _ c.draw_scene.ensures.rows) (c.draw_scene.ensures.room _ c.requires.ready.room);
+}
