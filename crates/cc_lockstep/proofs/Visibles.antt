@@ -145,9 +145,9 @@ layers_distinct s a ps n = subst (λ (p : Page). AreDistinct p.layers) (sym (pag
 -- ---- ranks of visible tiles
 
 -- a visible tile is NOW
-now_rank : (b : Borders) (a : Side) (v : Seen) (q : TileKey) → is_visible v ≡ true
+rank_where_visible : (b : Borders) (a : Side) (v : Seen) (q : TileKey) → is_visible v ≡ true
     → rank_of b a v q ≡ Some (record { bin = bin.Now; tree = tree_number b.priority a; distance = distance v.screen b.viewport; key = q })
-now_rank b a v q t = ap (λ (t : Bool). option_map (λ bin. record { bin = bin; tree = tree_number b.priority a; distance = distance v.screen b.viewport; key = q }) (cond t (Some bin.Now) (bin_at b (distance v.screen b.viewport)))) t
+rank_where_visible b a v q t = ap (λ (t : Bool). option_map (λ bin. record { bin = bin; tree = tree_number b.priority a; distance = distance v.screen b.viewport; key = q }) (cond t (Some bin.Now) (bin_at b (distance v.screen b.viewport)))) t
 
 -- a visible key of a page is that of a visible place of one of its layers
 pub record Shown (p : Page) (offset : ℕ → Point) (stamp : ℕ → Place → ℕ) (q : TileKey) : Type 0 where
@@ -179,7 +179,7 @@ rank_of_shown s a t q d i x =
     let is_layer : q.layer ≡ x.layer.id = ap (λ (k : TileKey). k.layer) (sym x.key) in
     let found : find (has_id q.layer) t.page.layers ≡ Some x.layer = ap (λ (n : ℕ). find (has_id n) t.page.layers) is_layer ∙ found_by_id x.layer t.page.layers d x.among in
     let is_place : place_named q ≡ x.place = ap (λ (k : TileKey). place_named k) (sym x.key) in
-    let now : rank_on s a t q (Some x.layer) ≡ Some (seen_rank s a t x.layer x.place q) = ap (λ (z : Place). rank_of b a (seen t.page t.offset x.layer z) q) is_place ∙ now_rank b a v q x.visible in
+    let now : rank_on s a t q (Some x.layer) ≡ Some (seen_rank s a t x.layer x.place q) = ap (λ (z : Place). rank_of b a (seen t.page t.offset x.layer z) q) is_place ∙ rank_where_visible b a v q x.visible in
     ap (λ (z : Bool). cond z (rank_on s a t q (find (has_id q.layer) t.page.layers)) None) has ∙ (ap (λ (o : Option PageLayer). rank_on s a t q o) found ∙ now)
 
 now_in_tree : (s : ScriptModel) (a : Side) (t : Tree) (q : TileKey) → AreDistinct t.page.layers → In q (visible_in t) → (r : Rank) × (rank_in s a t q ≡ Some r) × (r.bin ≡ bin.Now)

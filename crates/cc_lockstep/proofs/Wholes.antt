@@ -32,7 +32,7 @@ use Rattle.cc_event.proofs.DueFacts.{entry}
 use Rattle.cc_event.proofs.Course.{course, ended_or_in_flight}
 use Rattle.cc_lockstep.specs.Measures.{rounds_left}
 use Rattle.cc_lockstep.proofs.Entering.{Rests, at_rest, keeps_all, Reaches, can_then, enters, waits_as, where_true, where_false, Turn, Ends, while_ends}
-use Rattle.cc_lockstep.proofs.Playing.{all_pairs, Between, round, Uses, draw_frame, activate_now}
+use Rattle.cc_lockstep.proofs.Playing.{some_if, all_pairs, Between, round, Uses, draw_frame, activate_now}
 
 -- ---- the inputs that are left
 
@@ -86,10 +86,6 @@ wheels s h w x y dx dy r e =
 -- an await is over where its frame has ended and no commit up to it is pending
 abbrev pub is_await_over : List Entry → ℕ → Bool
 is_await_over h f = has_frame_ended h f && not (is_pending_to f (pending h))
-
-some_if : (b : Bool) (e : Event) → is_some (on_if b e) ≡ b
-some_if true e = refl
-some_if false e = refl
 
 pub await_possible : (s : ScriptModel) (h : List Entry) (w : Bool) (f : ℕ) → Rests s h (at_rest w) → input_now s h ≡ Some (input.Await f) → is_possible s kind.Await 0 h ≡ is_await_over h f
 await_possible s h w f r e =
