@@ -1,0 +1,173 @@
+//! A case of the table.
+
+use crate::fault::RowFault;
+use crate::numbers::{Numbers, number, number_32, status};
+use crate::output::{Output, bytes_of};
+use crate::texts::Texts;
+use std::alloc::{AllocError, Global};
+
+/// What goes wrong around the runs of a case. There is one run for each number.
+#[derive(Clone, Copy)]
+pub enum Trouble {
+    /// Nothing.
+    Nothing,
+    /// The read of this number fails, counted from 0.
+    ReadFails,
+    /// The put of this number fails, counted from 0.
+    PutFails,
+    /// The sink takes so many bytes.
+    Room,
+}
+
+/// A case of the table.
+#[derive(Drop)]
+pub struct Case {
+    alloc: Global,
+    /// The line where it begins.
+    pub line: usize,
+    pub title: String,
+    pub words: Vec<String>,
+    /// What the source holds; none where the case does not say it.
+    pub input: Option<Vec<u8>>,
+    /// The most bytes of one read.
+    pub step: u32,
+    pub trouble: Trouble,
+    /// The numbers of its runs.
+    pub numbers: Numbers,
+    /// The most bytes of the notes, where there is a limit.
+    pub notes_room: Option<u64>,
+    pub status: u8,
+    /// The line in the notes.
+    pub note: Option<String>,
+    pub output: Output,
+}
+
+/// The words of a text, `""` for an empty one.
+fn words_of(alloc: Global, text: &str) -> Result<Vec<String>, AllocError> {
+    let mut words = Vec::new(alloc);
+    for word in text.split_whitespace() {
+        let word = if word == "\"\"" { "" } else { word };
+        words.push(word.to_string(alloc)?)?;
+    }
+    Ok(words)
+}
+
+/// The text with one part, which stands in it once, changed.
+fn changed(alloc: Global, text: &str, old: &str, new: &str) -> Result<String, RowFault> {
+    let (before, after) = text.split_once(old).ok_or(RowFault::NotOnce)?;
+    if after.contains(old) {
+        return Err(RowFault::NotOnce);
+    }
+    let mut whole = String::new(alloc);
+    whole.push_str(before)?;
+    whole.push_str(new)?;
+    whole.push_str(after)?;
+    Ok(whole)
+}
+
+impl Case {
+    /// A case that says nothing yet.
+    pub fn new(alloc: Global, line: usize, title: &str) -> Result<Case, AllocError> {
+        Ok(Case {
+            alloc,
+            line,
+            title: title.to_string(alloc)?,
+            words: words_of(alloc, "step 1")?,
+            input: None,
+            step: 4096,
+            trouble: Trouble::Nothing,
+            numbers: Numbers::ZERO,
+            notes_room: None,
+            status: 0,
+            note: None,
+            output: Output::new(alloc),
+        })
+    }
+
+    /// Sets the trouble and its numbers.
+    fn set_trouble(&mut self, trouble: Trouble, value: &str) -> Result<(), RowFault> {
+        self.numbers = Numbers::of_text(value)?;
+        self.trouble = trouble;
+        Ok(())
+    }
+
+    /// Sets the input to a text.
+    pub fn set_input(&mut self, text: &str) -> Result<(), RowFault> {
+        self.input = Some(Vec::from_slice(self.alloc, text.as_bytes())?);
+        Ok(())
+    }
+
+    /// Changes the input as `OLD => NEW` says.
+    pub fn change(&mut self, texts: &Texts, value: &str) -> Result<(), RowFault> {
+        let (old, new) = value.split_once(" => ").ok_or(RowFault::NoChange)?;
+        let old = texts.built(old)?;
+        let new = texts.built(new)?;
+        let Some(input) = &self.input else {
+            return Err(RowFault::NoInput);
+        };
+        let Ok(text) = str::from_utf8(input.as_slice()) else {
+            return Err(RowFault::NotOnce);
+        };
+        let text = changed(self.alloc, text, old.as_str(), new.as_str())?;
+        self.set_input(text.as_str())
+    }
+
+    /// Leaves so many bytes of the input.
+    fn cut(&mut self, count: u64) -> Result<(), RowFault> {
+        let Some(input) = &mut self.input else {
+            return Err(RowFault::NoInput);
+        };
+        input.truncate(count as usize);
+        Ok(())
+    }
+
+    /// Sets the status and the line in the notes, `STATUS NOTE` or the status alone.
+    pub fn set_end(&mut self, text: &str) -> Result<(), RowFault> {
+        match text.split_once(' ') {
+            Some((number, note)) => {
+                self.status = status(number)?;
+                self.note = Some(note.to_string(self.alloc)?);
+            }
+            None => self.status = status(text)?,
+        }
+        Ok(())
+    }
+
+    /// Takes a line of the table that says how the run is made.
+    fn take_setting(&mut self, texts: &Texts, key: &str, value: &str) -> Result<(), RowFault> {
+        match key {
+            "words" => self.words = words_of(self.alloc, value)?,
+            "input" => {
+                let text = texts.built(value)?;
+                self.set_input(text.as_str())?;
+            }
+            "input hex" => self.input = Some(bytes_of(self.alloc, value)?),
+            "change" => self.change(texts, value)?,
+            "cut" => self.cut(number(value)?)?,
+            "step" => self.step = number_32(value)?,
+            "room" => self.set_trouble(Trouble::Room, value)?,
+            "reads fail" => self.set_trouble(Trouble::ReadFails, value)?,
+            "puts fail" => self.set_trouble(Trouble::PutFails, value)?,
+            "notes room" => self.notes_room = Some(number(value)?),
+            _ => return Err(RowFault::UnknownKey),
+        }
+        Ok(())
+    }
+
+    /// Takes a line of the table.
+    pub fn take(&mut self, texts: &Texts, key: &str, value: &str) -> Result<(), RowFault> {
+        match key {
+            "status" => self.status = status(value)?,
+            "note" => self.note = Some(value.to_string(self.alloc)?),
+            "out" => {
+                let line = texts.built(value)?;
+                self.output.add_line(line.as_str())?;
+            }
+            "image" => self.output.add_image(self.alloc, value)?,
+            "out hex" => self.output.add_hex(self.alloc, value)?,
+            "out sum" => self.output.set_sum(value)?,
+            _ => self.take_setting(texts, key, value)?,
+        }
+        Ok(())
+    }
+}

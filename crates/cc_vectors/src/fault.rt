@@ -1,0 +1,48 @@
+//! Why a line of the table can't be read.
+
+use std::alloc::AllocError;
+use thiserror::Error;
+
+/// Why a line of the table can't be read.
+#[derive(Clone, Copy, Debug, Error)]
+pub enum RowFault {
+    /// There was no memory.
+    #[error("memory ran out")]
+    Memory(AllocError),
+    /// The line is none of the forms of a line.
+    #[error("a line is `key: value`")]
+    NoKey,
+    /// The key is none of those that are known.
+    #[error("there is no such key")]
+    UnknownKey,
+    /// The line belongs to a case, and none was begun.
+    #[error("no case stands above this line")]
+    NoCase,
+    /// The case is played, and has no input.
+    #[error("the case has no input")]
+    NoInput,
+    /// A number is none, or too large.
+    #[error("this is no number, or it is too large")]
+    NoNumber,
+    /// The value names a text that was not given above.
+    #[error("there is no text of this name")]
+    UnknownText,
+    /// The change is not `OLD => NEW`, or of a table not `OLD => NEW | STATUS NOTE`.
+    #[error("a change is `OLD => NEW`, and `| STATUS NOTE` behind it in a table of changes")]
+    NoChange,
+    /// What is to be changed does not stand in the input exactly once.
+    #[error("what is changed does not stand in the input once")]
+    NotOnce,
+    /// The bytes are not written as pairs of hexadecimal digits.
+    #[error("these are no bytes in hexadecimal digits")]
+    NoHex,
+    /// The picture has not one colour for each pixel.
+    #[error("a picture is its width, its height and a colour for each pixel")]
+    NoImage,
+}
+
+impl From<AllocError> for RowFault {
+    fn from(error: AllocError) -> RowFault {
+        RowFault::Memory(error)
+    }
+}

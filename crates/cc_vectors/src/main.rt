@@ -1,0 +1,71 @@
+//! Plays a table of cases through the program and compares what comes out with what the table says.
+//!
+//! The table is read from standard input. It has lines `key: value`; a line that begins with `#` and an
+//! empty one say nothing. Standard output tells how many cases and runs there were, so that none gets
+//! lost, and each wrong case with its line. A wrong case, or a line that can't be read, ends in status 1
+//! and one line on standard error.
+//!
+//! | Key | What it says |
+//! |---|---|
+//! | `text NAME` | a text that later values name as `<NAME>` |
+//! | `case` | begins a case of this title |
+//! | `words` | the words, `""` for an empty one; `step 1` where it is left out |
+//! | `input`, `input hex` | what the source holds |
+//! | `change` | `OLD => NEW`: a part of the input, which stands there once, becomes another |
+//! | `cut` | only so many bytes of the input are given |
+//! | `step` | how many bytes one read gives at most; 4096 where it is left out |
+//! | `room`, `reads fail`, `puts fail` | how many bytes the sink takes; which read or put fails. `0..515` is one run for each number below 515 |
+//! | `notes room` | how many bytes the notes take |
+//! | `status`, `note` | how the run ends, and the line in the notes; 0 and none where they are left out |
+//! | `out` | a line of the output; `...` as the first says that anything may stand before the next |
+//! | `image` | a picture in the output: width, height, and the colour of each pixel, `N*COLOUR` for so many of it |
+//! | `out hex` | bytes of the output |
+//! | `out sum` | the output's length in bytes and its 64-bit FNV-1a sum |
+//! | `changes of` | an input. Below it each line that is indented is a case of its own: `OLD => NEW \| STATUS NOTE` |
+//!
+//! A value `N of TEXT` or `A..B of TEXT` repeats the text with commas between, with `{i}` as the number of
+//! the copy and `{i-1}` as the number before it; `N blanks` is so many blanks. A case that says nothing of
+//! its output leaves it open where the status is 0, and wants none otherwise.
+#![tactic(auto)]
+
+mod case;
+mod fault;
+mod numbers;
+mod output;
+mod play;
+mod table;
+mod texts;
+
+use crate::table::{Tally, play_table};
+use std::io;
+use std::process::ExitCode;
+
+/// Tells how many cases there were, and which were wrong.
+fn tell(rt: &HostRuntime, tally: &Tally) -> io::Result<bool> {
+    println!(rt; "{} cases, {} runs", tally.cases, tally.runs)?;
+    if let Some(line) = tally.first_wrong {
+        eprintln!(rt;
+            "{} of {} cases are wrong, the first at line {line}",
+            tally.wrong, tally.cases
+        )?;
+        return Ok(false);
+    }
+    Ok(true)
+}
+
+fn main(rt: HostRuntime) -> ExitCode {
+    let Ok(text) = io::read_to_string(rt.alloc(), rt.reader()) else {
+        let _ = rt.eprintln("the table could not be read");
+        return ExitCode::from(1);
+    };
+    match play_table(&rt, rt.alloc(), text.as_str()) {
+        Ok(tally) => match tell(&rt, &tally) {
+            Ok(true) => ExitCode::from(0),
+            _ => ExitCode::from(1),
+        },
+        Err((line, fault)) => {
+            let _ = rt.eprintln(format_args!("line {line}: {fault}"));
+            ExitCode::from(1)
+        }
+    }
+}

@@ -1,0 +1,47 @@
+//! Numbers and ranges of numbers as the table writes them.
+
+use crate::fault::RowFault;
+
+/// The numbers from `start` on and below `end`.
+#[derive(Clone, Copy)]
+pub struct Numbers {
+    pub start: u64,
+    pub end: u64,
+}
+
+impl Numbers {
+    /// The number 0 alone.
+    pub const ZERO: Numbers = Numbers { start: 0, end: 1 };
+
+    /// `A..B`, or one number alone.
+    pub fn of_text(text: &str) -> Result<Numbers, RowFault> {
+        match text.split_once("..") {
+            Some((start, end)) => Ok(Numbers {
+                start: number(start)?,
+                end: number(end)?,
+            }),
+            None => {
+                let start = number(text)?;
+                Ok(Numbers {
+                    start,
+                    end: start.saturating_add(1),
+                })
+            }
+        }
+    }
+}
+
+/// A number in digits.
+pub fn number(text: &str) -> Result<u64, RowFault> {
+    text.parse::<u64>().map_err(|_| RowFault::NoNumber)
+}
+
+/// A number of 32 bits in digits.
+pub fn number_32(text: &str) -> Result<u32, RowFault> {
+    text.parse::<u32>().map_err(|_| RowFault::NoNumber)
+}
+
+/// A status.
+pub fn status(text: &str) -> Result<u8, RowFault> {
+    text.parse::<u8>().map_err(|_| RowFault::NoNumber)
+}

@@ -1,0 +1,152 @@
+//! What a case says of the output.
+
+use crate::fault::RowFault;
+use crate::numbers::{number, number_32};
+use std::alloc::{AllocError, Global};
+
+/// How much of the output the bytes of a case are.
+#[derive(Clone, Copy, PartialEq)]
+enum Extent {
+    /// The case says nothing of the output.
+    Unsaid,
+    /// All of it.
+    Whole,
+    /// Its end.
+    End,
+    /// Nothing but its length and its sum are told.
+    Sum { length: u64, sum: u64 },
+}
+
+/// What cuts the output short.
+#[derive(Clone, Copy, PartialEq)]
+pub enum Short {
+    /// Nothing.
+    Never,
+    /// The sink takes no more than so many bytes.
+    Room(u64),
+    /// A put fails.
+    Put,
+}
+
+/// What a case says of the output.
+#[derive(Drop)]
+pub struct Output {
+    extent: Extent,
+    bytes: Vec<u8>,
+}
+
+/// The 64-bit FNV-1a sum of bytes.
+fn fnv(bytes: &[u8]) -> u64 {
+    let mut sum = 0xcbf29ce484222325u64;
+    for byte in bytes {
+        sum = (sum ^ u64::from(*byte)).wrapping_mul(0x100000001b3);
+    }
+    sum
+}
+
+/// The bytes of hexadecimal digits, in groups with blanks between.
+pub fn bytes_of(alloc: Global, text: &str) -> Result<Vec<u8>, RowFault> {
+    let mut bytes = Vec::new(alloc);
+    for group in text.split_whitespace() {
+        match hex::decode(alloc, group) {
+            Ok(more) => bytes.extend_from_slice(more.as_slice())?,
+            Err(_) => return Err(RowFault::NoHex),
+        }
+    }
+    Ok(bytes)
+}
+
+/// The bytes of a picture's pixels: six digits a pixel, `N*COLOUR` for so many of a colour.
+fn pixels_of(alloc: Global, text: &str) -> Result<Vec<u8>, RowFault> {
+    let mut pixels = Vec::new(alloc);
+    for group in text.split_whitespace() {
+        let (count, colour) = group.split_once('*').unwrap_or(("1", group));
+        let colour = bytes_of(alloc, colour)?;
+        for _ in 0..number_32(count)? {
+            pixels.extend_from_slice(colour.as_slice())?;
+        }
+    }
+    Ok(pixels)
+}
+
+impl Output {
+    /// Nothing is said.
+    pub fn new(alloc: Global) -> Output {
+        Output {
+            extent: Extent::Unsaid,
+            bytes: Vec::new(alloc),
+        }
+    }
+
+    /// These bytes come next.
+    fn add(&mut self, bytes: &[u8]) -> Result<(), AllocError> {
+        if self.extent == Extent::Unsaid {
+            self.extent = Extent::Whole;
+        }
+        self.bytes.extend_from_slice(bytes)
+    }
+
+    /// This line comes next; before the first, `...` stands for anything.
+    pub fn add_line(&mut self, line: &str) -> Result<(), RowFault> {
+        if line == "..." && self.extent == Extent::Unsaid {
+            self.extent = Extent::End;
+            return Ok(());
+        }
+        self.add(line.as_bytes())?;
+        self.add(b"\n")?;
+        Ok(())
+    }
+
+    /// These bytes come next, in hexadecimal digits.
+    pub fn add_hex(&mut self, alloc: Global, text: &str) -> Result<(), RowFault> {
+        let bytes = bytes_of(alloc, text)?;
+        Ok(self.add(bytes.as_slice())?)
+    }
+
+    /// A picture comes next: its width, its height, and the colours of its pixels.
+    pub fn add_image(&mut self, alloc: Global, text: &str) -> Result<(), RowFault> {
+        let (width, rest) = text.split_once(' ').ok_or(RowFault::NoImage)?;
+        let (height, colours) = rest.split_once(' ').ok_or(RowFault::NoImage)?;
+        let across = u64::from(number_32(width)?);
+        let down = u64::from(number_32(height)?);
+        let pixels = pixels_of(alloc, colours)?;
+        if pixels.len() as u64 != across.saturating_mul(down).saturating_mul(3) {
+            return Err(RowFault::NoImage);
+        }
+        let head = format!(in alloc; "P6\n{across} {down}\n255\n")?;
+        self.add(head.as_bytes())?;
+        Ok(self.add(pixels.as_slice())?)
+    }
+
+    /// The output has this length and this sum: `N SUM`, the sum in hexadecimal digits.
+    pub fn set_sum(&mut self, text: &str) -> Result<(), RowFault> {
+        let (length, sum) = text.split_once(' ').ok_or(RowFault::NoNumber)?;
+        let length = number(length)?;
+        let sum = u64::from_str_radix(sum, 16).map_err(|_| RowFault::NoNumber)?;
+        self.extent = Extent::Sum { length, sum };
+        Ok(())
+    }
+
+    /// Whether the whole output was cut in this way to what the sink holds.
+    fn is_cut_to(&self, held: &[u8], short: Short) -> bool {
+        let whole = self.bytes.as_slice();
+        match short {
+            Short::Never => held == whole,
+            Short::Room(room) => {
+                let taken = whole.len() as u64;
+                whole.starts_with(held) && held.len() as u64 == taken.min(room)
+            }
+            Short::Put => whole.starts_with(held) && held.len() < whole.len(),
+        }
+    }
+
+    /// Whether the sink of a run with this status may hold these bytes.
+    pub fn fits(&self, status: u8, held: &[u8], short: Short) -> bool {
+        match self.extent {
+            Extent::Unsaid => status == 0 || held.is_empty(),
+            Extent::Whole => self.is_cut_to(held, short),
+            Extent::End => held.ends_with(self.bytes.as_slice()),
+            Extent::Sum { length, sum } => held.len() as u64 == length && fnv(held) == sum,
+        }
+    }
+}

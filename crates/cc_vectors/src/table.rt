@@ -1,0 +1,185 @@
+//! The lines of the table, one after another.
+
+use crate::case::Case;
+use crate::fault::RowFault;
+use crate::play::play;
+use crate::texts::Texts;
+use std::alloc::Global;
+use std::thread::Threads;
+
+/// What was counted.
+#[derive(Clone, Copy)]
+pub struct Tally {
+    pub cases: usize,
+    pub runs: u64,
+    /// How many cases are wrong.
+    pub wrong: usize,
+    /// The line of the first wrong case.
+    pub first_wrong: Option<usize>,
+}
+
+/// What was read of the table so far.
+#[derive(Drop)]
+struct Table {
+    alloc: Global,
+    texts: Texts,
+    /// The input of a table of changes.
+    base: Option<String>,
+    /// The case whose lines are being read.
+    case: Option<Case>,
+    tally: Tally,
+}
+
+impl Tally {
+    /// Nothing was counted.
+    const NONE: Tally = Tally {
+        cases: 0,
+        runs: 0,
+        wrong: 0,
+        first_wrong: None,
+    };
+
+    /// Counts a wrong case that begins at this line.
+    fn count_wrong(&mut self, line: usize) {
+        self.wrong = self.wrong.saturating_add(1);
+        if self.first_wrong.is_none() {
+            self.first_wrong = Some(line);
+        }
+    }
+}
+
+/// Plays the runs of a case up to the first that is wrong, which is printed. Answers whether all are right.
+fn play_case<R: Threads + Sync + Print>(
+    rt: &R,
+    alloc: Global,
+    case: &Case,
+    tally: &mut Tally,
+) -> Result<bool, RowFault> {
+    let Some(input) = &case.input else {
+        return Err(RowFault::NoInput);
+    };
+    for number in case.numbers.start..case.numbers.end {
+        let played = play(rt, alloc, case, input.as_slice(), number)?;
+        tally.runs = tally.runs.saturating_add(1);
+        if let Some(difference) = played.difference(case, number) {
+            let line = case.line;
+            let title = case.title.as_str();
+            let _ = rt.println(format_args!(
+                "line {line}: {title}: run {number}: {difference:?}: {played}"
+            ));
+            return Ok(false);
+        }
+    }
+    Ok(true)
+}
+
+impl Table {
+    /// Plays the case whose lines were read.
+    fn close<R: Threads + Sync + Print>(&mut self, rt: &R) -> Result<(), RowFault> {
+        let Some(case) = self.case.take() else {
+            return Ok(());
+        };
+        self.tally.cases = self.tally.cases.saturating_add(1);
+        if !play_case(rt, self.alloc, &case, &mut self.tally)? {
+            self.tally.count_wrong(case.line);
+        }
+        Ok(())
+    }
+
+    /// Takes a line of a table of changes: `OLD => NEW | STATUS NOTE`.
+    fn take_change<R: Threads + Sync + Print>(
+        &mut self,
+        rt: &R,
+        line: usize,
+        row: &str,
+    ) -> Result<(), RowFault> {
+        self.close(rt)?;
+        let (change, end) = row.rsplit_once(" | ").ok_or(RowFault::NoChange)?;
+        let change = change.trim_end();
+        let Some(base) = &self.base else {
+            return Err(RowFault::NoCase);
+        };
+        let mut case = Case::new(self.alloc, line, change)?;
+        case.set_input(base.as_str())?;
+        case.change(&self.texts, change)?;
+        case.set_end(end)?;
+        self.case = Some(case);
+        Ok(())
+    }
+
+    /// Takes a line with a key.
+    fn take_key<R: Threads + Sync + Print>(
+        &mut self,
+        rt: &R,
+        line: usize,
+        key: &str,
+        value: &str,
+    ) -> Result<(), RowFault> {
+        if let Some(name) = key.strip_prefix("text ") {
+            return self.texts.add(name, value);
+        }
+        match key {
+            "case" => {
+                self.close(rt)?;
+                self.case = Some(Case::new(self.alloc, line, value)?);
+            }
+            "changes of" => {
+                self.close(rt)?;
+                self.base = Some(self.texts.built(value)?);
+            }
+            _ => match &mut self.case {
+                Some(case) => case.take(&self.texts, key, value)?,
+                None => return Err(RowFault::NoCase),
+            },
+        }
+        Ok(())
+    }
+
+    /// Takes a line.
+    fn take<R: Threads + Sync + Print>(
+        &mut self,
+        rt: &R,
+        line: usize,
+        text: &str,
+    ) -> Result<(), RowFault> {
+        if text.is_empty() || text.starts_with('#') {
+            return Ok(());
+        }
+        if let Some(row) = text.strip_prefix("    ") {
+            return self.take_change(rt, line, row);
+        }
+        if let Some((key, value)) = text.split_once(": ") {
+            return self.take_key(rt, line, key, value);
+        }
+        match text.strip_suffix(':') {
+            Some(key) => self.take_key(rt, line, key, ""),
+            None => Err(RowFault::NoKey),
+        }
+    }
+}
+
+/// Plays the cases of a table. An error tells the line that can't be read.
+pub fn play_table<R: Threads + Sync + Print>(
+    rt: &R,
+    alloc: Global,
+    text: &str,
+) -> Result<Tally, (usize, RowFault)> {
+    let mut table = Table {
+        alloc,
+        texts: Texts::new(alloc),
+        base: None,
+        case: None,
+        tally: Tally::NONE,
+    };
+    let mut last = 0usize;
+    for (index, line) in text.lines().enumerate() {
+        last = index.saturating_add(1);
+        if let Err(fault) = table.take(rt, last, line) {
+            return Err((last, fault));
+        }
+    }
+    match table.close(rt) {
+        Ok(()) => Ok(table.tally),
+        Err(fault) => Err((last, fault)),
+    }
+}
