@@ -1,5 +1,6 @@
 pub mod Gains
 pub mod Rows
+pub mod Frames
 pub mod Told
 pub mod Completeness
 pub mod Prepared

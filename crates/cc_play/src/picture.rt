@@ -1,69 +1,100 @@
-//! The image of a page.
+//! The picture of a page, and its image.
 
-ghost use Rattle.std.specs.Prelude.{◌≡◌, ℕ, ◌<◌, ◌≤◌, ◌^◌, ◌++◌, List, IfOk, OnOk};
-ghost use Rattle.cc_geom.specs.declared.rect.Point.{Point as At};
-ghost use Rattle.cc_geom.specs.declared.tile.TileKey.{TileKey as Key};
-ghost use Rattle.cc_edit.specs.Pages.{Page};
-ghost use Rattle.cc_edit.specs.Paintings.{Shows};
-ghost use Rattle.cc_event.specs.Recordings.{image, image_row};
+ghost use Rattle.std.specs.Prelude.{◌≡◌, ◌+◌, ◌*◌, ◌≤◌, [], ◌++◌, length, IfOk, OnOk};
+ghost use Rattle.cc_pixel.specs.Rows.{pixel};
+ghost use Rattle.cc_tree.specs.OffsetMap.{offset_at, AreOffsets};
+ghost use Rattle.cc_event.specs.Recordings.{image, image_row, rgb};
+ghost use Rattle.cc_render.specs.Frames.{EachIs, IsOfSize, frame_pixel};
 ghost use Rattle.cc_play.specs.Pictures.{picture};
 
-use cc_edit::Painting;
+use cc_edit::LayerTree;
 use cc_pixel::Colour;
-use cc_record::{push_image_head, push_rgb};
+use cc_quads::{make_all, quads_of};
+use cc_record::push_image_head;
+use cc_render::{Frame, render};
+use cc_tree::Offsets;
 use std::alloc::{AllocError, Global};
 
-/// The colour of a pixel of the picture.
-fn pixel(painting: &mut Painting, background: Colour, x: u32, y: u32) -> Colour
-    requires across { x < 2048 }
-    requires down { y < 2048 }
-    ensures value { (p : Page) (offset : ℕ → At) (missing : List Key) → Shows p offset missing painting.old → result ≡ picture p offset missing background x y }
-    ensures same { painting.new ≡ painting.old }
+/// The picture of a page at these offsets, with no tile missing: the tiles that the page shows are made, and
+/// the scene of them is drawn.
+#[tactic(auto, using(crate::proofs::Frames::frame_shows))]
+fn frame_of(
+    alloc: Global,
+    tree: &LayerTree,
+    offsets: &Offsets,
+    background: Colour,
+) -> Result<Frame, AllocError>
+    requires { AreOffsets (offset_at offsets.now) }
+    ensures size { IfOk result (λ frame. IsOfSize tree.now.view.w tree.now.view.h frame) }
+    ensures pixels { IfOk result (λ frame. EachIs (picture tree.now (offset_at offsets.now) [] background) frame) }
 {
-    painting.pixel(background, x as i32, y as i32)
+    tree.is_page();
+    let view = tree.view();
+    let tiles = make_all(alloc, tree, offsets)?;
+    let scene = quads_of(
+        alloc,
+        tree,
+        offsets,
+        view.w,
+        view.h,
+        view.tile,
+        background,
+        tiles.as_slice(),
+    )?;
+    let mut frame = Frame::new(alloc, view.w, view.h)?;
+    render(&scene, &mut frame)?;
+    Ok(frame)
 }
 
-/// Adds a row of the picture, from the left.
-#[tactic(auto, unfolding(cc_event::specs::Recordings::image_row, cc_event::specs::Recordings::first))]
-fn push_row(
-    text: &mut Vec<u8>,
-    painting: &mut Painting,
-    background: Colour,
-    w: u32,
-    y: u32,
-) -> Result<(), AllocError>
-    requires across { w ≤ 2048 }
-    requires down { y < 2048 }
-    ensures same { painting.new ≡ painting.old }
-    ensures row { (p : Page) (offset : ℕ → At) (missing : List Key) → Shows p offset missing painting.old →
-        OnOk result (text.new.items ≡ text.old.items ++ image_row (picture p offset missing background) w y) }
+/// Adds red, green and blue of the pixel at a place of some bytes.
+fn push_pixel(text: &mut Vec<u8>, bytes: &[u8], place: usize) -> Result<(), AllocError>
+    requires { 4 * place + 4 ≤ length bytes.now }
+    ensures { OnOk result (text.new.items ≡ text.old.items ++ rgb (pixel bytes.now place)) }
 {
+    let at = 4 * place;
+    text.extend_from_slice(&[bytes[at], bytes[at + 1], bytes[at + 2]])
+}
+
+/// Adds row `y` of a picture of width `w`, from the left.
+#[tactic(auto, unfolding(cc_event::specs::Recordings::image_row, cc_event::specs::Recordings::first))]
+fn push_row(text: &mut Vec<u8>, bytes: &[u8], w: u32, y: u32) -> Result<(), AllocError>
+    requires { 4 * (y * w + w) ≤ length bytes.now }
+    ensures { OnOk result (text.new.items ≡ text.old.items ++ image_row (λ column row. pixel bytes.now (row * w + column)) w y) }
+{
+    let start = y as usize * w as usize;
     for x in 0..w {
-        push_rgb(text, pixel(painting, background, x, y))?;
+        push_pixel(text, bytes, start + x as usize)?;
     }
     Ok(())
 }
 
-/// The image of a page that was made ready to be painted: the painting of each point of a viewport of
-/// `w` by `h` pixels.
-#[tactic(auto, unfolding(cc_event::specs::Recordings::image, cc_event::specs::Recordings::first))]
-pub fn image_of(
-    alloc: Global,
-    painting: &mut Painting,
-    background: Colour,
-    w: u32,
-    h: u32,
-) -> Result<Vec<u8>, AllocError>
-    requires across { w ≤ 2048 }
-    requires down { h ≤ 2048 }
-    ensures { (p : Page) (offset : ℕ → At) (missing : List Key) → Shows p offset missing painting.old →
-        IfOk result (λ text. text.items ≡ image (picture p offset missing background) w h) }
+/// The image of a picture.
+#[tactic(auto, using(crate::proofs::Rows::first_more, crate::proofs::Rows::row_end), unfolding(cc_event::specs::Recordings::image, cc_event::specs::Recordings::first))]
+fn image_of(alloc: Global, frame: &Frame) -> Result<Vec<u8>, AllocError>
+    ensures { IfOk result (λ text. text.items ≡ image (frame_pixel frame.now) frame.now.w frame.now.h) }
 {
-    let bytes = 3 * w as usize * h as usize;
-    let mut text = Vec::with_capacity(alloc, bytes + 32)?;
+    let (w, h) = (frame.w(), frame.h());
+    let bytes = frame.bytes();
+    let mut text = Vec::with_capacity(alloc, 3 * w as usize * h as usize + 32)?;
     push_image_head(&mut text, w, h)?;
     for y in 0..h {
-        push_row(&mut text, painting, background, w, y)?;
+        push_row(&mut text, bytes, w, y)?;
     }
     Ok(text)
+}
+
+/// The image of a page at these offsets, with no tile missing. Each offset is from 0 to 1048576 on both
+/// axes. An error is want of memory.
+#[tactic(auto, using(crate::proofs::Rows::image_alike))]
+pub fn image_at(
+    alloc: Global,
+    tree: &LayerTree,
+    offsets: &Offsets,
+    background: Colour,
+) -> Result<Vec<u8>, AllocError>
+    requires { AreOffsets (offset_at offsets.now) }
+    ensures { IfOk result (λ text. text.items ≡ image (picture tree.now (offset_at offsets.now) [] background) tree.now.view.w tree.now.view.h) }
+{
+    let frame = frame_of(alloc, tree, offsets, background)?;
+    image_of(alloc, &frame)
 }

@@ -2,10 +2,8 @@
 
 ghost use Rattle.std.specs.Prelude.{◌≡◌, ℕ, ◌≤◌, true, false, [], Option, None, Some, IfSome, IfOk, MatchOption, length, map, string_bytes};
 ghost use Rattle.cc_tree.specs.OffsetMap.{offset_at, AreOffsets};
-ghost use Rattle.cc_event.specs.Recordings.{image};
 ghost use Rattle.cc_edit.specs.Effects.{value_of};
 ghost use Rattle.cc_play.specs.Forms.{is_played, page_of};
-ghost use Rattle.cc_play.specs.Pictures.{picture};
 ghost use Rattle.cc_play.specs.Words.{usage_of};
 ghost use Rattle.cc_play.specs.Outcomes.{line_of, Told};
 ghost use Rattle.cc_play.specs.Runs.{script_limit, TellsMisfit, CauseOf, ReadToEnd, Writes, Causes, IsComplete};
@@ -16,13 +14,12 @@ use crate::history::history_of;
 use crate::input::{ReadStop, read_all};
 use crate::notes::tell;
 use crate::outcome::{Outcome, ScriptFault};
-use crate::picture::image_of;
+use crate::picture::image_at;
 use crate::recorder::{WriteStop, write_recording};
 use crate::words::misfit;
-use cc_edit::{LayerTree, Painting, View, main_offsets};
+use cc_edit::{LayerTree, main_offsets};
 use cc_event::{Event, Script};
 use cc_io::{Sink, Source};
-use cc_pixel::Colour;
 use cc_script::{TextFault, print_script, read_script};
 use cc_tree::Offsets;
 use cc_visible::visible_keys;
@@ -118,23 +115,6 @@ fn page_in(alloc: Global, bytes: &[u8]) -> Result<Played, Outcome>
     }
 }
 
-/// The image of a page at these offsets, with no tile missing.
-fn image_at(
-    alloc: Global,
-    tree: &LayerTree,
-    offsets: &Offsets,
-    background: Colour,
-    view: View,
-) -> Result<Vec<u8>, AllocError>
-    requires offsets { AreOffsets (offset_at offsets.now) }
-    requires across { view.w ≤ 2048 }
-    requires down { view.h ≤ 2048 }
-    ensures { IfOk result (λ text. text.items ≡ image (picture tree.now (offset_at offsets.now) [] background) view.w view.h) }
-{
-    let mut painting = Painting::new(alloc, tree, offsets, &[])?;
-    image_of(alloc, &mut painting, background, view.w, view.h)
-}
-
 /// What is to be written of a page.
 fn prepare(alloc: Global, page: &Played) -> Result<Show, AllocError>
     requires { IsReady page.now }
@@ -146,7 +126,7 @@ fn prepare(alloc: Global, page: &Played) -> Result<Show, AllocError>
     let keys = visible_keys(alloc, tree, &offsets, 0)?;
     let events = history_of(alloc, keys.as_slice(), page.script.inputs())?;
     let background = page.script.background();
-    let image = image_at(alloc, tree, &offsets, background, tree.view())?;
+    let image = image_at(alloc, tree, &offsets, background)?;
     let script = print_script(alloc, &page.script)?;
     Ok(Show {
         script,
