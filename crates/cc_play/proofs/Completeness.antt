@@ -13,7 +13,7 @@ use Rattle.cc_script.specs.Reading.{parts_at}
 use Rattle.cc_play.specs.declared.outcome.Outcome.{Outcome}
 use Rattle.cc_play.specs.declared.outcome.ScriptFault.TheVariants.{Edit, NotBuilt}
 use Rattle.cc_play.specs.declared.outcome.Outcome.TheVariants.{Done, Usage, Json, Shape, Script, ReadFault, WriteFault, TooLong, Memory}
-use Rattle.cc_play.specs.Forms.{is_played}
+use Rattle.cc_oneframe.specs.Forms.{is_played}
 use Rattle.cc_play.specs.Runs.{script_limit, TellsMisfit, CauseOf, Causes, IsComplete, IsPlayedText, IsPlayed}
 
 -- a text has one reading

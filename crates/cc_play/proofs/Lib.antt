@@ -4,6 +4,7 @@ pub mod Frames
 pub mod Told
 pub mod Completeness
 pub mod Prepared
+pub mod Written
 pub mod Counts
 pub mod FewInputs
 pub mod LayersLeft

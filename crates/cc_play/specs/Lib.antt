@@ -4,8 +4,6 @@ pub mod Parts
 pub mod Writing
 pub mod Pieces
 pub mod Outcomes
-pub mod Forms
-pub mod Histories
 pub mod Pictures
 pub mod Runs
 pub mod Pages

@@ -10,9 +10,10 @@ use Rattle.cc_play.specs.declared.outcome.Outcome.{Outcome}
 use Rattle.cc_play.specs.declared.outcome.Outcome.TheVariants.{Done, Usage, Json, Shape, Script, ReadFault, WriteFault, Memory}
 use Rattle.cc_play.specs.declared.program.Played.{Played}
 use Rattle.cc_play.specs.declared.program.Show.{Show}
-use Rattle.cc_play.specs.Forms.{is_played, page_of}
-use Rattle.cc_play.specs.Histories.{history}
-use Rattle.cc_play.specs.Pictures.{script_text, shown_image, shown_keys, recording_of}
+use Rattle.cc_oneframe.specs.Forms.{is_played, page_of}
+use Rattle.cc_oneframe.specs.Histories.{history, shown_keys, page_image}
+use Rattle.cc_script.specs.Recordings.{script_text}
+use Rattle.cc_play.specs.Pictures.{IsRecordingOf}
 use Rattle.cc_play.specs.Runs.{script_limit, IsPlayedScript, CauseOf, ReadToEnd}
 
 -- a script that is played, and its page
@@ -61,12 +62,12 @@ RefusedBy old new (Err _) = ⊤
 -- what is written is the recording of the script
 pub record IsPrepared (s : ScriptModel) (show : Show) : Type 0 where
   pub line : show.script.items ≡ script_text s
-  pub picture : show.image.items ≡ shown_image (page_of s) s.background
+  pub picture : show.image.items ≡ page_image (page_of s) s.background
   pub steps : show.events.items ≡ history (shown_keys (page_of s)) s.inputs
 
 -- the recording of a script was written; or a front of it; or nothing
 abbrev pub Plays : ScriptModel → Option (List ℕ) → Option (List ℕ) → Outcome → Type 0
-Plays s old new Done = Appends old new (recording_of s)
-Plays s old new WriteFault = GainsPrefix old new (recording_of s)
-Plays s old new Memory = (new ≡ old) ⊎ GainsPrefix old new (recording_of s)
+Plays s old new Done = (whole : List ℕ) × IsRecordingOf s whole × Appends old new whole
+Plays s old new WriteFault = (whole : List ℕ) × IsRecordingOf s whole × GainsPrefix old new whole
+Plays s old new Memory = (new ≡ old) ⊎ ((whole : List ℕ) × IsRecordingOf s whole × GainsPrefix old new whole)
 Plays s old new _ = ⊥

@@ -15,8 +15,8 @@ use Rattle.cc_script.specs.Reading.{parts_at}
 use Rattle.cc_play.specs.declared.outcome.ScriptFault.TheVariants.{Edit, NotBuilt}
 use Rattle.cc_play.specs.declared.outcome.Outcome.{Outcome}
 use Rattle.cc_play.specs.declared.outcome.Outcome.TheVariants.{Done, Usage, Json, Shape, Script, ReadFault, WriteFault, TooLong, Memory}
-use Rattle.cc_play.specs.Forms.{is_played}
-use Rattle.cc_play.specs.Pictures.{recording_of}
+use Rattle.cc_oneframe.specs.Forms.{is_played}
+use Rattle.cc_play.specs.Pictures.{IsRecordingOf}
 
 -- the greatest number of bytes of a script
 abbrev pub script_limit : ℕ
@@ -66,11 +66,15 @@ ReadToEnd left _ = ⊤
 abbrev pub IsPlayedFrom : Option (List ℕ) → ScriptModel → Type 0
 IsPlayedFrom source s = IsPlayedScript s × IfSome source (λ bytes. IsScriptText bytes s)
 
+-- what is written in all: the recording of a script that is played, and that the source had
+abbrev pub IsOutput : Option (List ℕ) → List ℕ → Type 0
+IsOutput source whole = (s : ScriptModel) × IsPlayedFrom source s × IsRecordingOf s whole
+
 -- what the sink gained: the recording; a front of it; or nothing
 abbrev pub Writes : Option (List ℕ) → Option (List ℕ) → Option (List ℕ) → Outcome → Type 0
-Writes source old new Done = (s : ScriptModel) × IsPlayedFrom source s × Appends old new (recording_of s)
-Writes source old new WriteFault = (s : ScriptModel) × IsPlayedFrom source s × GainsPrefix old new (recording_of s)
-Writes source old new Memory = (new ≡ old) ⊎ ((s : ScriptModel) × IsPlayedFrom source s × GainsPrefix old new (recording_of s))
+Writes source old new Done = (whole : List ℕ) × IsOutput source whole × Appends old new whole
+Writes source old new WriteFault = (whole : List ℕ) × IsOutput source whole × GainsPrefix old new whole
+Writes source old new Memory = (new ≡ old) ⊎ ((whole : List ℕ) × IsOutput source whole × GainsPrefix old new whole)
 Writes source old new _ = new ≡ old
 
 -- a fault of the source or of the sink is answered only where that one's count of faults rose

@@ -9,7 +9,7 @@ ghost use Rattle.cc_edit.specs.Effects.{value_of};
 ghost use Rattle.std.specs.Prelude.{length, true, ◌&&◌};
 ghost use Rattle.cc_geom.specs.Grids.{places};
 ghost use Rattle.cc_visible.specs.Visible.{grid_of};
-ghost use Rattle.cc_play.specs.Forms as forms;
+ghost use Rattle.cc_oneframe.specs.Forms as forms;
 
 use cc_edit::{Command, Layer, LayerTree};
 use cc_event::{Input, Script};

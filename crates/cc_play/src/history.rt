@@ -1,7 +1,7 @@
 //! The history in lockstep of a script of one main frame.
 
 ghost use Rattle.std.specs.Prelude.{◌≡◌, ℕ, ◌+◌, ◌<◌, ◌^◌, ◌++◌, List, length, IfOk, OnOk, flat_map};
-ghost use Rattle.cc_play.specs.Histories.{opening, making, activation, answer, answers, history};
+ghost use Rattle.cc_oneframe.specs.Histories.{opening, making, activation, answer, answers, history};
 
 use cc_event::{Event, Input, Moves};
 use cc_geom::{Keys, TileKey};
@@ -100,7 +100,7 @@ fn push_answers(alloc: Global, events: &mut Vec<Event>, inputs: &[Input]) -> Res
 }
 
 /// The history of a page with these visible tiles, in key order, and these inputs.
-#[tactic(auto, unfolding(crate::specs::Histories::history))]
+#[tactic(auto, unfolding(cc_oneframe::specs::Histories::history))]
 pub fn history_of(
     alloc: Global,
     keys: &[TileKey],

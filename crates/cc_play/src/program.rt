@@ -3,7 +3,7 @@
 ghost use Rattle.std.specs.Prelude.{◌≡◌, ℕ, ◌≤◌, true, false, [], Option, None, Some, IfSome, IfOk, MatchOption, length, map, string_bytes};
 ghost use Rattle.cc_tree.specs.OffsetMap.{offset_at, AreOffsets};
 ghost use Rattle.cc_edit.specs.Effects.{value_of};
-ghost use Rattle.cc_play.specs.Forms.{is_played, page_of};
+ghost use Rattle.cc_oneframe.specs.Forms.{is_played, page_of};
 ghost use Rattle.cc_play.specs.Words.{usage_of};
 ghost use Rattle.cc_play.specs.Outcomes.{line_of, Told};
 ghost use Rattle.cc_play.specs.Runs.{script_limit, TellsMisfit, CauseOf, ReadToEnd, Writes, Causes, IsComplete};
@@ -64,7 +64,7 @@ fn main_values(alloc: Global, tree: &LayerTree) -> Result<Offsets, AllocError>
 }
 
 /// The page of a script that is played; None where it is not.
-#[tactic(auto, unfolding(crate::specs::Forms::is_played))]
+#[tactic(auto, unfolding(cc_oneframe::specs::Forms::is_played))]
 fn tree_of(alloc: Global, script: &Script) -> Result<Option<LayerTree>, AllocError>
     ensures { IfOk result (λ page. MatchOption page (is_played script.now ≡ false) (λ tree. (is_played script.now ≡ true) × (tree ≡ page_of script.now))) }
 {
@@ -173,6 +173,7 @@ fn read_page<S: Source>(alloc: Global, source: &mut S) -> Result<Played, Outcome
 }
 
 /// Plays the script of the source into the sink.
+#[tactic(auto, using(crate::proofs::Written::plays_page))]
 fn run_script<S: Source, K: Sink>(alloc: Global, source: &mut S, out: &mut K) -> Outcome
     ensures words { TellsMisfit None result }
     ensures input { IfSome (S.left source.old) (λ bytes. CauseOf bytes result) }

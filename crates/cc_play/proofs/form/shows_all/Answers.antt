@@ -3,7 +3,7 @@ use Rattle.std.proofs.Common.{sym, ◌∙◌}
 use Rattle.cc_geom.specs.Sides.{IsSide}
 use Rattle.cc_tree.specs.OffsetMap.{offset_at}
 use Rattle.cc_edit.specs.declared.layer.Layer.{Layer}
-use Rattle.cc_play.specs.Forms.{shows_whole, shows_all}
+use Rattle.cc_oneframe.specs.Forms.{shows_whole, shows_all}
 use Rattle.cc_play.proofs.LayersLeft.{left_pass, left_hold}
 use Rattle.cc_play.proofs.form.shows_all.Goals as goal
 

@@ -5,7 +5,7 @@ use Rattle.std.specs.List.{list_all}
 use Rattle.cc_geom.specs.Sides.{IsSide}
 use Rattle.cc_tree.specs.OffsetMap.{offset_at, AreOffsets}
 use Rattle.cc_edit.specs.Layers.{parts_of}
-use Rattle.cc_play.specs.Forms.{shows_whole, shows_all}
+use Rattle.cc_oneframe.specs.Forms.{shows_whole, shows_all}
 use Rattle.cc_play.proofs.form.shows_all.Given as goal
 
 abbrev pub invariant-loop-layer : goal.invariant-loop-layer

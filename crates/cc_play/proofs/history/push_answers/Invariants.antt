@@ -1,6 +1,6 @@
 -- What was added and what the inputs left will add are all.
 use Rattle.std.proofs.Common.{◌≡◌, ◌++◌, ◌+◌, length}
-use Rattle.cc_play.specs.Histories.{answers}
+use Rattle.cc_oneframe.specs.Histories.{answers}
 use Rattle.cc_play.proofs.history.push_answers.Given as goal
 
 abbrev pub invariant-loop-input : goal.invariant-loop-input

@@ -1,7 +1,7 @@
 -- The tiles so far were added.
 use Rattle.std.proofs.Common.{◌≡◌, ◌++◌, take}
 use Rattle.std.specs.List.{flat_map}
-use Rattle.cc_play.specs.Histories.{making}
+use Rattle.cc_oneframe.specs.Histories.{making}
 use Rattle.cc_play.proofs.history.push_tiles.Given as goal
 
 abbrev pub invariant-loop-key : goal.invariant-loop-key
