@@ -11,8 +11,8 @@ use Rattle.cc_event.specs.Recordings.{header}
 use Rattle.cc_play.specs.Pieces.{piece, pieces, recording, image_behind}
 use Rattle.cc_event.specs.Texts.{event_line}
 use Rattle.cc_play.specs.declared.recorder.WriteStop.{WriteStop}
-use Rattle.cc_play.specs.Writing.{WritesPart}
-use Rattle.cc_play.specs.Parts.{PutsAll}
+use Rattle.cc_play.specs.inner.Writing.{WritesPart}
+use Rattle.cc_play.specs.inner.Fragments.{PutsAll}
 
 -- a piece and then another are both together
 pub gains_both : (old mid new : Option (List ℕ)) (a b : List ℕ) → Appends old mid a → Appends mid new b → Appends old new (a ++ b)

@@ -14,7 +14,7 @@ use Rattle.cc_oneframe.proofs.WholeRuns.{is_lockstep, are_listed}
 use Rattle.cc_play.specs.Pieces.{piece, pieces, recording, image_behind}
 use Rattle.cc_play.specs.declared.program.Show.{Show}
 use Rattle.cc_play.specs.Pictures.{IsRecordingOf}
-use Rattle.cc_play.specs.Pages.{IsPrepared}
+use Rattle.cc_play.specs.inner.Pages.{IsPrepared}
 use Rattle.cc_play.specs.Runs.{IsPlayedScript}
 use Rattle.cc_play.proofs.Gains.{pieces_alike}
 
@@ -32,7 +32,7 @@ unfolding recording recorded script.recording
 written_is s p =
     let image : List ℕ = page_image (page_of s) s.background in
     let added : pieces (λ _. image) [] (events_of s) ≡ model.pieces s [] (map entered (events_of s)) =
-        pieces_alike image [] (events_of s) ∙ ((λ i. flat_map (λ e. piece_alike image e i) (events_of s)) ∙ sym (are_listed s p.accepted p.played)) in
+    pieces_alike image [] (events_of s) ∙ ((λ i. flat_map (λ e. piece_alike image e i) (events_of s)) ∙ sym (are_listed s p.accepted p.played)) in
     ap (λ (w : List ℕ). header (script_text s) ++ w) added
 
 prepared_is : (s : ScriptModel) (show : Show) (prepared : IsPrepared s show) (script image : List ℕ) (events : List Event) → script ≡ show.script.items → image ≡ show.image.items → events ≡ show.events.items

@@ -1,7 +1,7 @@
 -- What a source gave is what it had.
 use Rattle.std.proofs.Common.{◌≡◌, ℕ, ◌+◌, ◌<◌, List, [], ◌++◌, length, None, Some, ap, sym, ◌∙◌, arith, subst, append-nil, length-append}
 use Rattle.std.specs.Prelude.{Option, IfSome}
-use Rattle.cc_play.specs.Inputs.{GaveAll, GaveMore}
+use Rattle.cc_play.specs.inner.Inputs.{GaveAll, GaveMore}
 
 -- what holds of the bytes that a source gave to its end holds of those that it had
 pub told_of : (P : List ℕ → Type 0) (old new : Option (List ℕ)) (bytes : List ℕ) → GaveAll old new bytes → P bytes → IfSome old P

@@ -6,7 +6,7 @@ use Rattle.cc_script.specs.Causes.{IsScriptText}
 use Rattle.cc_play.specs.declared.outcome.Outcome.{Outcome}
 use Rattle.cc_play.specs.declared.outcome.Outcome.TheVariants.{Done, Usage, Json, Shape, Script, ReadFault, WriteFault, TooLong, Memory}
 use Rattle.cc_play.specs.declared.program.Played.{Played}
-use Rattle.cc_play.specs.Pages.{IsReady, Plays}
+use Rattle.cc_play.specs.inner.Pages.{IsReady, Plays}
 use Rattle.cc_play.specs.Runs.{script_limit, IsPlayedFrom, Writes}
 
 text_of : (source : Option (List ℕ)) (s : ScriptModel) → IfSome source (λ bytes. (length bytes ≤ script_limit) × IsScriptText bytes s) → IfSome source (λ bytes. IsScriptText bytes s)

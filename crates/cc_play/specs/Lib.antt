@@ -1,9 +1,6 @@
-pub mod Inputs
 pub mod Words
-pub mod Parts
-pub mod Writing
 pub mod Pieces
 pub mod Outcomes
 pub mod Pictures
 pub mod Runs
-pub mod Pages
+pub mod inner

@@ -46,7 +46,11 @@ why_text NotBuilt = codes "not built" ∷ []
 abbrev pub place_text : ℕ → ℕ → List (List ℕ)
 place_text frame command = codes "cc: script: frame " ∷ decimal frame ∷ codes " command " ∷ decimal command ∷ codes ": " ∷ []
 
--- the place of the first fault of a value that is no script
+-- the line of a refused script
+abbrev pub refused_text : ℕ → ℕ → ScriptFault → List (List ℕ)
+refused_text frame command why = place_text frame command ++ why_text why ++ codes "\n" ∷ []
+
+-- the line of a value that is no script
 abbrev pub shape_text : ShapeFault → List (List ℕ)
 shape_text f = codes "cc: shape: list " ∷ decimal f.list ∷ codes " index " ∷ decimal f.index ∷ codes " field " ∷ decimal f.field ∷ codes "\n" ∷ []
 
@@ -54,13 +58,13 @@ shape_text f = codes "cc: shape: list " ∷ decimal f.list ∷ codes " index " �
 abbrev pub line_of : Outcome → List ℕ
 line_of Done = []
 line_of (Usage word) = joined (codes "cc: usage: word " ∷ decimal word ∷ codes "\n" ∷ [])
-line_of Json = codes "cc: not JSON\n"
+line_of Json = joined (codes "cc: not JSON\n" ∷ [])
 line_of (Shape fault) = joined (shape_text fault)
-line_of (Script frame command why) = (joined (place_text frame command) ++ joined (why_text why)) ++ codes "\n"
-line_of ReadFault = codes "cc: read fault\n"
-line_of WriteFault = codes "cc: write fault\n"
+line_of (Script frame command why) = joined (refused_text frame command why)
+line_of ReadFault = joined (codes "cc: read fault\n" ∷ [])
+line_of WriteFault = joined (codes "cc: write fault\n" ∷ [])
 line_of (TooLong limit) = joined (codes "cc: too long, limit " ∷ decimal limit ∷ codes "\n" ∷ [])
-line_of Memory = codes "cc: out of memory\n"
+line_of Memory = joined (codes "cc: out of memory\n" ∷ [])
 
 -- the notes gained the line; or a front of it, and one of their two counts rose
 abbrev pub Told : Option (List ℕ) → Option (List ℕ) → ℕ → ℕ → ℕ → ℕ → List ℕ → Type 0

@@ -18,21 +18,21 @@ use cc_tree::Offsets;
 use cc_visible::visible_places;
 use std::alloc::{AllocError, Global};
 
-/// Whether an input is an await or a draw.
+// Whether an input is an await or a draw.
 fn is_plain(input: &Input) -> bool
     ensures { result ≡ forms.is_plain input.now }
 {
     matches!(input, Input::Await { .. } | Input::Draw)
 }
 
-/// Whether all of these inputs are awaits and draws.
+// Whether all of these inputs are awaits and draws.
 fn all_plain(inputs: &[Input]) -> bool
     ensures { result ≡ list_all forms.is_plain inputs.now }
 {
     inputs.iter().all(|input| is_plain(input))
 }
 
-/// Whether the inputs are none, or an await first, and then awaits and draws alone.
+// Whether the inputs are none, or an await first, and then awaits and draws alone.
 fn are_plain(inputs: &[Input]) -> bool
     ensures { result ≡ forms.are_plain inputs.now }
 {
@@ -43,7 +43,7 @@ fn are_plain(inputs: &[Input]) -> bool
     }
 }
 
-/// Whether there is one main frame, of one command at least.
+// Whether there is one main frame, of one command at least.
 fn has_one_frame(frames: &[Vec<Command>]) -> bool
     ensures { result ≡ forms.has_one_frame (map (λ frame. frame.items) frames.now) }
 {
@@ -62,7 +62,7 @@ pub fn is_plain_script(script: &Script) -> bool
     framed && plain
 }
 
-/// How many tiles a layer has.
+// How many tiles a layer has.
 #[tactic(auto, using(crate::proofs::Counts::place_count))]
 fn tile_count(tree: &LayerTree, layer: &Layer) -> usize
     requires { IsSide layer.now.w × IsSide layer.now.h }
@@ -77,7 +77,7 @@ fn tile_count(tree: &LayerTree, layer: &Layer) -> usize
     grid.rows() as usize * grid.columns() as usize
 }
 
-/// Whether each tile of a layer is visible at these offsets.
+// Whether each tile of a layer is visible at these offsets.
 fn shows_whole(
     alloc: Global,
     tree: &LayerTree,
@@ -93,7 +93,7 @@ fn shows_whole(
     Ok(seen.len() == tile_count(tree, layer))
 }
 
-/// Whether each tile of each layer is visible at these offsets.
+// Whether each tile of each layer is visible at these offsets.
 fn shows_all(alloc: Global, tree: &LayerTree, offsets: &Offsets) -> Result<bool, AllocError>
     requires { AreOffsets (offset_at offsets.now) }
     ensures { IfOk result (λ all. all ≡ forms.shows_all tree.now (offset_at offsets.now)) }

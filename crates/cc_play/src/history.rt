@@ -7,7 +7,7 @@ use cc_event::{Event, Input, Moves};
 use cc_geom::{Keys, TileKey};
 use std::alloc::{AllocError, Global};
 
-/// Adds the steps up to the commit of main frame 0.
+// Adds the steps up to the commit of main frame 0.
 fn push_opening(alloc: Global, events: &mut Vec<Event>) -> Result<(), AllocError>
     ensures { OnOk result (events.new.items ≡ events.old.items ++ opening) }
 {
@@ -21,7 +21,7 @@ fn push_opening(alloc: Global, events: &mut Vec<Event>) -> Result<(), AllocError
     Ok(())
 }
 
-/// Adds the start and the end of a tile.
+// Adds the start and the end of a tile.
 fn push_making(alloc: Global, events: &mut Vec<Event>, key: TileKey) -> Result<(), AllocError>
     ensures { OnOk result (events.new.items ≡ events.old.items ++ making key) }
 {
@@ -34,7 +34,7 @@ fn push_making(alloc: Global, events: &mut Vec<Event>, key: TileKey) -> Result<(
     Ok(())
 }
 
-/// Adds the starts and the ends of these tiles.
+// Adds the starts and the ends of these tiles.
 fn push_tiles(alloc: Global, events: &mut Vec<Event>, keys: &[TileKey]) -> Result<(), AllocError>
     ensures { OnOk result (events.new.items ≡ events.old.items ++ flat_map making keys.now) }
 {
@@ -44,7 +44,7 @@ fn push_tiles(alloc: Global, events: &mut Vec<Event>, keys: &[TileKey]) -> Resul
     Ok(())
 }
 
-/// Adds the activation and the end of its impl frame.
+// Adds the activation and the end of its impl frame.
 fn push_activation(alloc: Global, events: &mut Vec<Event>) -> Result<(), AllocError>
     ensures { OnOk result (events.new.items ≡ events.old.items ++ activation) }
 {
@@ -57,7 +57,7 @@ fn push_activation(alloc: Global, events: &mut Vec<Event>) -> Result<(), AllocEr
     Ok(())
 }
 
-/// Adds what an input at this place makes.
+// Adds what an input at this place makes.
 fn push_answer(
     alloc: Global,
     events: &mut Vec<Event>,
@@ -84,7 +84,7 @@ fn push_answer(
     }
 }
 
-/// Adds what the inputs make, in order.
+// Adds what the inputs make, in order.
 fn push_answers(alloc: Global, events: &mut Vec<Event>, inputs: &[Input]) -> Result<(), AllocError>
     requires { length inputs.now < 2 ^ 32 }
     ensures { OnOk result (events.new.items ≡ events.old.items ++ answers 0 inputs.now) }

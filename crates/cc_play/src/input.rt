@@ -2,12 +2,12 @@
 
 ghost use Rattle.std.specs.Prelude.{◌≡◌, ℕ, ◌+◌, ◌-◌, ◌<◌, ◌≤◌, ◌^◌, ◌++◌, List, length, vec_len, IfOk, MatchResult};
 ghost use Rattle.std.specs.Io.KnownBytes.{Consumes, IsAtEnd};
-ghost use Rattle.cc_play.specs.Inputs.{ReadWhole, StoppedAt, ReadCause, ReadMore, NotTooLong};
+ghost use Rattle.cc_play.specs.inner.Inputs.{ReadWhole, StoppedAt, ReadCause, ReadMore, NotTooLong};
 
 use cc_io::Source;
 use std::alloc::{AllocError, Global};
 
-/// How many bytes one call of the source is asked for at most.
+// How many bytes one call of the source is asked for at most.
 const PIECE: usize = 65536;
 
 /// Why the source was not read to its end.
@@ -21,14 +21,14 @@ pub enum ReadStop {
     Memory,
 }
 
-/// A buffer of this many bytes.
+// A buffer of this many bytes.
 fn blank(alloc: Global, length: usize) -> Result<Vec<u8>, AllocError>
     ensures { IfOk result (λ buffer. vec_len buffer ≡ length) }
 {
     vec![in alloc; 0u8; length]
 }
 
-/// Reads one piece, at most as long as the buffer, and adds it to the bytes; answers its length.
+// Reads one piece, at most as long as the buffer, and adds it to the bytes; answers its length.
 fn read_piece<S: Source>(
     source: &mut S,
     buffer: &mut [u8],

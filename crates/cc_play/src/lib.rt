@@ -5,11 +5,11 @@
 #![tactic(auto)]
 
 mod form;
+mod fragments;
 mod history;
 mod input;
 mod notes;
 mod outcome;
-mod parts;
 mod picture;
 mod program;
 mod recorder;

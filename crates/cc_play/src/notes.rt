@@ -1,186 +1,143 @@
 //! The line that tells of an outcome.
 
-ghost use Rattle.std.specs.Prelude.{◌≡◌, ℕ, ◌≤◌, ◌++◌, List, flat_map, codes};
+ghost use Rattle.std.specs.Prelude.{◌≡◌, ◌≤◌, ◌∷◌, [], flat_map};
 ghost use Rattle.cc_io.specs.Pieces.{PutCause};
-ghost use Rattle.cc_play.specs.Parts.{part_text, PutsAll};
-ghost use Rattle.cc_play.specs.Outcomes.{joined, fault_text, why_text, place_text, line_of, Told};
+ghost use Rattle.cc_play.specs.inner.Fragments.{fragment_text, PutsAll};
+ghost use Rattle.cc_play.specs.Outcomes.{joined, fault_text, why_text, refused_text, shape_text, line_of, Told};
 
+use crate::fragments::{Fragment, put_fragments};
 use crate::outcome::{Outcome, ScriptFault};
-use crate::parts::{Part, put_parts};
 use cc_edit::EditFault;
 use cc_io::{PutFault, Sink};
 use cc_script::ShapeFault;
 
-/// Puts the place of a refused command.
-fn put_place<E: Sink>(notes: &mut E, frame: u32, command: u32) -> Result<(), PutFault>
-    ensures bytes { PutsAll (E.held notes.old) (E.held notes.new) (joined (place_text frame command)) result }
-    ensures grows { E.faults notes.old ≤ E.faults notes.new }
-    ensures refused { E.refusals notes.old ≤ E.refusals notes.new }
-    ensures cause { PutCause (E.faults notes.old) (E.faults notes.new) (E.refusals notes.old) (E.refusals notes.new) result }
+// The end of a line.
+const NEWLINE: Fragment = Fragment::Text(b"\n");
+
+// A place of a line that stays empty.
+const NOTHING: Fragment = Fragment::Text(b"");
+
+// A line of at most three fragments.
+fn short_line(first: Fragment, second: Fragment, third: Fragment) -> [Fragment; 9]
+    ensures { flat_map fragment_text result ≡ flat_map fragment_text (first ∷ second ∷ third ∷ []) }
 {
-    put_parts(
-        notes,
-        &[
-            Part::Text(b"cc: script: frame "),
-            Part::Count(u64::from(frame)),
-            Part::Text(b" command "),
-            Part::Count(u64::from(command)),
-            Part::Text(b": "),
-        ],
-    )
+    [
+        first, second, third, NOTHING, NOTHING, NOTHING, NOTHING, NOTHING, NOTHING,
+    ]
 }
 
-/// Puts how many there may be at most.
-fn put_limit<E: Sink>(notes: &mut E, limit: u32) -> Result<(), PutFault>
-    ensures bytes { PutsAll (E.held notes.old) (E.held notes.new) (joined (fault_text (EditFault.TooMany limit))) result }
-    ensures grows { E.faults notes.old ≤ E.faults notes.new }
-    ensures refused { E.refusals notes.old ≤ E.refusals notes.new }
-    ensures cause { PutCause (E.faults notes.old) (E.faults notes.new) (E.refusals notes.old) (E.refusals notes.new) result }
-{
-    put_parts(
-        notes,
-        &[
-            Part::Text(b"too many, limit "),
-            Part::Count(u64::from(limit)),
-        ],
-    )
-}
-
-/// Puts a value and the end of the range that it passes.
-fn put_range<E: Sink>(notes: &mut E, value: i64, limit: i64) -> Result<(), PutFault>
-    ensures bytes { PutsAll (E.held notes.old) (E.held notes.new) (joined (fault_text (EditFault.OutOfRange value limit))) result }
-    ensures grows { E.faults notes.old ≤ E.faults notes.new }
-    ensures refused { E.refusals notes.old ≤ E.refusals notes.new }
-    ensures cause { PutCause (E.faults notes.old) (E.faults notes.new) (E.refusals notes.old) (E.refusals notes.new) result }
-{
-    put_parts(
-        notes,
-        &[
-            Part::Number(value),
-            Part::Text(b" out of range, limit "),
-            Part::Number(limit),
-        ],
-    )
-}
-
-/// Puts why a command was refused.
-fn put_fault<E: Sink>(notes: &mut E, fault: EditFault) -> Result<(), PutFault>
-    ensures bytes { PutsAll (E.held notes.old) (E.held notes.new) (joined (fault_text fault)) result }
-    ensures grows { E.faults notes.old ≤ E.faults notes.new }
-    ensures refused { E.refusals notes.old ≤ E.refusals notes.new }
-    ensures cause { PutCause (E.faults notes.old) (E.faults notes.new) (E.refusals notes.old) (E.refusals notes.new) result }
+// Why a command was refused.
+fn fault_fragments(fault: EditFault) -> [Fragment; 3]
+    ensures { flat_map fragment_text result ≡ joined (fault_text fault) }
 {
     match fault {
-        EditFault::UnknownId => put_parts(notes, &[Part::Text(b"unknown id")]),
-        EditFault::IdUsed => put_parts(notes, &[Part::Text(b"id used")]),
-        EditFault::BadPlace => put_parts(notes, &[Part::Text(b"bad place")]),
-        EditFault::TooMany { limit } => put_limit(notes, limit),
-        EditFault::OutOfRange { value, limit } => put_range(notes, value, limit),
-        EditFault::NotNested => put_parts(notes, &[Part::Text(b"not nested")]),
+        EditFault::UnknownId => [Fragment::Text(b"unknown id"), NOTHING, NOTHING],
+        EditFault::IdUsed => [Fragment::Text(b"id used"), NOTHING, NOTHING],
+        EditFault::BadPlace => [Fragment::Text(b"bad place"), NOTHING, NOTHING],
+        EditFault::TooMany { limit } => [
+            Fragment::Text(b"too many, limit "),
+            Fragment::Count(u64::from(limit)),
+            NOTHING,
+        ],
+        EditFault::OutOfRange { value, limit } => [
+            Fragment::Number(value),
+            Fragment::Text(b" out of range, limit "),
+            Fragment::Number(limit),
+        ],
+        EditFault::NotNested => [Fragment::Text(b"not nested"), NOTHING, NOTHING],
     }
 }
 
-/// Puts why a script is not played.
-fn put_why<E: Sink>(notes: &mut E, why: ScriptFault) -> Result<(), PutFault>
-    ensures bytes { PutsAll (E.held notes.old) (E.held notes.new) (joined (why_text why)) result }
-    ensures grows { E.faults notes.old ≤ E.faults notes.new }
-    ensures refused { E.refusals notes.old ≤ E.refusals notes.new }
-    ensures cause { PutCause (E.faults notes.old) (E.faults notes.new) (E.refusals notes.old) (E.refusals notes.new) result }
+// Why a script is not played.
+fn why_fragments(why: ScriptFault) -> [Fragment; 3]
+    ensures { flat_map fragment_text result ≡ joined (why_text why) }
 {
     match why {
-        ScriptFault::Edit(fault) => put_fault(notes, fault),
-        ScriptFault::NotBuilt => put_parts(notes, &[Part::Text(b"not built")]),
+        ScriptFault::Edit(fault) => fault_fragments(fault),
+        ScriptFault::NotBuilt => [Fragment::Text(b"not built"), NOTHING, NOTHING],
     }
 }
 
-/// Puts the line of a refused command.
-fn put_script<E: Sink>(
-    notes: &mut E,
-    frame: u32,
-    command: u32,
-    why: ScriptFault,
-) -> Result<(), PutFault>
-    ensures bytes { PutsAll (E.held notes.old) (E.held notes.new) ((joined (place_text frame command) ++ joined (why_text why)) ++ codes "\n") result }
-    ensures grows { E.faults notes.old ≤ E.faults notes.new }
-    ensures refused { E.refusals notes.old ≤ E.refusals notes.new }
-    ensures cause { PutCause (E.faults notes.old) (E.faults notes.new) (E.refusals notes.old) (E.refusals notes.new) result }
+// The line of a refused script.
+fn refused_line(frame: u32, command: u32, why: ScriptFault) -> [Fragment; 9]
+    ensures { flat_map fragment_text result ≡ joined (refused_text frame command why) }
 {
-    if let Err(refused) = put_place(notes, frame, command) {
-        return Err(refused);
+    let [first, second, third] = why_fragments(why);
+    [
+        Fragment::Text(b"cc: script: frame "),
+        Fragment::Count(u64::from(frame)),
+        Fragment::Text(b" command "),
+        Fragment::Count(u64::from(command)),
+        Fragment::Text(b": "),
+        first,
+        second,
+        third,
+        NEWLINE,
+    ]
+}
+
+// The line of a value that is no script.
+fn shape_line(fault: ShapeFault) -> [Fragment; 9]
+    ensures { flat_map fragment_text result ≡ joined (shape_text fault) }
+{
+    [
+        Fragment::Text(b"cc: shape: list "),
+        Fragment::Count(u64::from(fault.list)),
+        Fragment::Text(b" index "),
+        Fragment::Count(u64::from(fault.index)),
+        Fragment::Text(b" field "),
+        Fragment::Count(u64::from(fault.field)),
+        NEWLINE,
+        NOTHING,
+        NOTHING,
+    ]
+}
+
+// A line that is one text.
+fn text_line(text: &'static [u8]) -> [Fragment; 9]
+    ensures { flat_map fragment_text result ≡ joined (text.now ∷ []) }
+{
+    short_line(Fragment::Text(text), NOTHING, NOTHING)
+}
+
+// The line of an outcome.
+fn line(outcome: Outcome) -> [Fragment; 9]
+    ensures { flat_map fragment_text result ≡ line_of outcome }
+{
+    match outcome {
+        Outcome::Done => short_line(NOTHING, NOTHING, NOTHING),
+        Outcome::Usage { word } => short_line(
+            Fragment::Text(b"cc: usage: word "),
+            Fragment::Count(u64::from(word)),
+            NEWLINE,
+        ),
+        Outcome::Json => text_line(b"cc: not JSON\n"),
+        Outcome::Shape(fault) => shape_line(fault),
+        Outcome::Script {
+            frame,
+            command,
+            fault,
+        } => refused_line(frame, command, fault),
+        Outcome::ReadFault => text_line(b"cc: read fault\n"),
+        Outcome::WriteFault => text_line(b"cc: write fault\n"),
+        Outcome::TooLong { limit } => short_line(
+            Fragment::Text(b"cc: too long, limit "),
+            Fragment::Count(limit),
+            NEWLINE,
+        ),
+        Outcome::Memory => text_line(b"cc: out of memory\n"),
     }
-    if let Err(refused) = put_why(notes, why) {
-        return Err(refused);
-    }
-    notes.put(b"\n")
 }
 
-/// Puts which word does not fit.
-fn put_usage<E: Sink>(notes: &mut E, word: u32) -> Result<(), PutFault>
-    ensures bytes { PutsAll (E.held notes.old) (E.held notes.new) (line_of (Outcome.Usage word)) result }
-    ensures grows { E.faults notes.old ≤ E.faults notes.new }
-    ensures refused { E.refusals notes.old ≤ E.refusals notes.new }
-    ensures cause { PutCause (E.faults notes.old) (E.faults notes.new) (E.refusals notes.old) (E.refusals notes.new) result }
-{
-    put_parts(
-        notes,
-        &[
-            Part::Text(b"cc: usage: word "),
-            Part::Count(u64::from(word)),
-            Part::Text(b"\n"),
-        ],
-    )
-}
-
-/// Puts the place of the first fault of a value that is no script.
-fn put_shape<E: Sink>(notes: &mut E, fault: ShapeFault) -> Result<(), PutFault>
-    ensures bytes { PutsAll (E.held notes.old) (E.held notes.new) (line_of (Outcome.Shape fault)) result }
-    ensures grows { E.faults notes.old ≤ E.faults notes.new }
-    ensures refused { E.refusals notes.old ≤ E.refusals notes.new }
-    ensures cause { PutCause (E.faults notes.old) (E.faults notes.new) (E.refusals notes.old) (E.refusals notes.new) result }
-{
-    put_parts(
-        notes,
-        &[
-            Part::Text(b"cc: shape: list "),
-            Part::Count(u64::from(fault.list)),
-            Part::Text(b" index "),
-            Part::Count(u64::from(fault.index)),
-            Part::Text(b" field "),
-            Part::Count(u64::from(fault.field)),
-            Part::Text(b"\n"),
-        ],
-    )
-}
-
-/// Puts the line of an outcome.
+// Puts the line of an outcome.
 fn put_line<E: Sink>(notes: &mut E, outcome: Outcome) -> Result<(), PutFault>
     ensures bytes { PutsAll (E.held notes.old) (E.held notes.new) (line_of outcome) result }
     ensures grows { E.faults notes.old ≤ E.faults notes.new }
     ensures refused { E.refusals notes.old ≤ E.refusals notes.new }
     ensures cause { PutCause (E.faults notes.old) (E.faults notes.new) (E.refusals notes.old) (E.refusals notes.new) result }
 {
-    match outcome {
-        Outcome::Done => put_parts(notes, &[]),
-        Outcome::Usage { word } => put_usage(notes, word),
-        Outcome::Json => notes.put(b"cc: not JSON\n"),
-        Outcome::Shape(fault) => put_shape(notes, fault),
-        Outcome::Script {
-            frame,
-            command,
-            fault,
-        } => put_script(notes, frame, command, fault),
-        Outcome::ReadFault => notes.put(b"cc: read fault\n"),
-        Outcome::WriteFault => notes.put(b"cc: write fault\n"),
-        Outcome::TooLong { limit } => put_parts(
-            notes,
-            &[
-                Part::Text(b"cc: too long, limit "),
-                Part::Count(limit),
-                Part::Text(b"\n"),
-            ],
-        ),
-        Outcome::Memory => notes.put(b"cc: out of memory\n"),
-    }
+    let fragments = line(outcome);
+    put_fragments(notes, &fragments)
 }
 
 /// Tells the notes of an outcome. What the notes answer changes nothing.

@@ -7,7 +7,7 @@ ghost use Rattle.cc_oneframe.specs.Forms.{is_played, page_of};
 ghost use Rattle.cc_play.specs.Words.{usage_of};
 ghost use Rattle.cc_play.specs.Outcomes.{line_of, Told};
 ghost use Rattle.cc_play.specs.Runs.{script_limit, TellsMisfit, CauseOf, ReadToEnd, Writes, Causes, IsComplete};
-ghost use Rattle.cc_play.specs.Pages.{IsReady, IsPrepared, PageIn, PageOf, PageFrom, RefusedBy, Plays};
+ghost use Rattle.cc_play.specs.inner.Pages.{IsReady, IsPrepared, PageIn, PageOf, PageFrom, RefusedBy, Plays};
 
 use crate::form::{is_plain_script, is_still};
 use crate::history::history_of;
@@ -26,17 +26,17 @@ use cc_visible::visible_keys;
 use std::alloc::{AllocError, Global};
 use std::thread::Threads;
 
-/// The greatest number of bytes of a script.
+// The greatest number of bytes of a script.
 const SCRIPT_LIMIT: usize = 16777216;
 
-/// A script that is played, and its page.
+// A script that is played, and its page.
 #[derive(Drop)]
 struct Played {
     script: Script,
     tree: LayerTree,
 }
 
-/// What is written of a page: the script's line, the image of its picture, and its events.
+// What is written of a page: the script's line, the image of its picture, and its events.
 #[derive(Drop)]
 struct Show {
     script: Vec<u8>,
@@ -44,7 +44,7 @@ struct Show {
     events: Vec<Event>,
 }
 
-/// The answer for a script of a form that is not played.
+// The answer for a script of a form that is not played.
 fn not_built() -> Outcome
     ensures { result ≡ Outcome.Script 0 0 ScriptFault.NotBuilt }
 {
@@ -55,7 +55,7 @@ fn not_built() -> Outcome
     }
 }
 
-/// The main scroll values of a page as offsets.
+// The main scroll values of a page as offsets.
 fn main_values(alloc: Global, tree: &LayerTree) -> Result<Offsets, AllocError>
     ensures values { IfOk result (λ offsets. offset_at offsets ≡ value_of tree.now) }
     ensures in_range { IfOk result (λ offsets. AreOffsets (offset_at offsets)) }
@@ -79,7 +79,7 @@ fn tree_of(alloc: Global, script: &Script) -> Result<Option<LayerTree>, AllocErr
     Ok(Some(tree))
 }
 
-/// The page of a script, or why it is not played.
+// The page of a script, or why it is not played.
 fn page_of_script(alloc: Global, script: Script) -> Result<Played, Outcome>
     ensures { PageOf script result }
 {
@@ -91,7 +91,7 @@ fn page_of_script(alloc: Global, script: Script) -> Result<Played, Outcome>
     }
 }
 
-/// The page of a text's script, or why there is none.
+// The page of a text's script, or why there is none.
 fn page_in(alloc: Global, bytes: &[u8]) -> Result<Played, Outcome>
     requires { length bytes.now ≤ script_limit }
     ensures { PageIn bytes.now result }
@@ -135,7 +135,7 @@ fn prepare(alloc: Global, page: &Played) -> Result<Show, AllocError>
     })
 }
 
-/// Writes the recording of a page.
+// Writes the recording of a page.
 fn play<K: Sink>(alloc: Global, out: &mut K, page: &Played) -> Outcome
     requires { IsReady page.now }
     ensures plays { Plays page.now.script (K.held out.old) (K.held out.new) result }
@@ -158,7 +158,7 @@ fn play<K: Sink>(alloc: Global, out: &mut K, page: &Played) -> Outcome
     }
 }
 
-/// Reads the source to its end, and the script in it.
+// Reads the source to its end, and the script in it.
 fn read_page<S: Source>(alloc: Global, source: &mut S) -> Result<Played, Outcome>
     ensures page { PageFrom (S.left source.old) (S.left source.new) result }
     ensures grows { S.faults source.old ≤ S.faults source.new }
@@ -187,7 +187,7 @@ fn run_script<S: Source, K: Sink>(alloc: Global, source: &mut S, out: &mut K) ->
     }
 }
 
-/// What the words ask for, but for the line to the notes.
+// What the words ask for, but for the line to the notes.
 fn run_words<S: Source, K: Sink>(
     alloc: Global,
     words: &[String],

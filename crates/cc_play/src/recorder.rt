@@ -3,15 +3,15 @@
 ghost use Rattle.std.specs.Prelude.{◌≡◌, ℕ, ◌≤◌, ◌++◌, List, [], flat_map, IfOk, OnOk};
 ghost use Rattle.cc_event.specs.Recordings.{header};
 ghost use Rattle.cc_play.specs.Pieces.{is_draw as is_draw_of, image_behind, piece, recording};
-ghost use Rattle.cc_play.specs.Parts.{PutsAll};
-ghost use Rattle.cc_play.specs.Writing.{WritesPart, WriteCause};
+ghost use Rattle.cc_play.specs.inner.Fragments.{PutsAll};
+ghost use Rattle.cc_play.specs.inner.Writing.{WritesPart, WriteCause};
 
 use cc_event::Event;
 use cc_io::{PutFault, Sink};
 use cc_record::push_event;
 use std::alloc::{AllocError, Global};
 
-/// How many bytes of lines are gathered before they are put.
+// How many bytes of lines are gathered before they are put.
 const BATCH: usize = 65536;
 
 /// Why a recording was not written to its end.
@@ -23,7 +23,7 @@ pub enum WriteStop {
     Memory,
 }
 
-/// Puts a whole piece.
+// Puts a whole piece.
 fn put_all<K: Sink>(out: &mut K, bytes: &[u8]) -> Result<(), WriteStop>
     ensures bytes { PutsAll (K.held out.old) (K.held out.new) bytes.now result }
     ensures grows { K.faults out.old ≤ K.faults out.new }
@@ -36,7 +36,7 @@ fn put_all<K: Sink>(out: &mut K, bytes: &[u8]) -> Result<(), WriteStop>
     }
 }
 
-/// Puts the lines that were gathered, and begins to gather anew.
+// Puts the lines that were gathered, and begins to gather anew.
 fn flush<K: Sink>(out: &mut K, lines: &mut Vec<u8>) -> Result<(), WriteStop>
     ensures bytes { PutsAll (K.held out.old) (K.held out.new) lines.old.items result }
     ensures empty { OnOk result (lines.new.items ≡ []) }
@@ -50,14 +50,14 @@ fn flush<K: Sink>(out: &mut K, lines: &mut Vec<u8>) -> Result<(), WriteStop>
     Ok(())
 }
 
-/// Whether the event shows a picture.
+// Whether the event shows a picture.
 fn is_draw(event: &Event) -> bool
     ensures { result ≡ is_draw_of event.now }
 {
     matches!(event, Event::Draw { .. })
 }
 
-/// Puts the lines that were gathered, and an image behind them.
+// Puts the lines that were gathered, and an image behind them.
 fn write_image<K: Sink>(out: &mut K, lines: &mut Vec<u8>, image: &[u8]) -> Result<(), WriteStop>
     ensures bytes { WritesPart (K.held out.old) (K.held out.new) (lines.old.items ++ image.now) lines.new.items result }
     ensures grows { K.faults out.old ≤ K.faults out.new }
@@ -69,8 +69,8 @@ fn write_image<K: Sink>(out: &mut K, lines: &mut Vec<u8>, image: &[u8]) -> Resul
     put_all(out, image)
 }
 
-/// Puts what stands behind the line of an event: an image where it is a draw. Lines are put where many
-/// were gathered.
+// Puts what stands behind the line of an event: an image where it is a draw. Lines are put where many
+// were gathered.
 fn write_behind<K: Sink>(
     out: &mut K,
     lines: &mut Vec<u8>,
@@ -88,7 +88,7 @@ fn write_behind<K: Sink>(
     }
 }
 
-/// Puts the lines that were gathered where they are many.
+// Puts the lines that were gathered where they are many.
 fn write_batch<K: Sink>(out: &mut K, lines: &mut Vec<u8>) -> Result<(), WriteStop>
     ensures bytes { WritesPart (K.held out.old) (K.held out.new) lines.old.items lines.new.items result }
     ensures grows { K.faults out.old ≤ K.faults out.new }
@@ -101,7 +101,7 @@ fn write_batch<K: Sink>(out: &mut K, lines: &mut Vec<u8>) -> Result<(), WriteSto
     }
 }
 
-/// Adds the line of an event to those gathered, and the image behind it where it is a draw.
+// Adds the line of an event to those gathered, and the image behind it where it is a draw.
 fn write_event<K: Sink>(
     out: &mut K,
     lines: &mut Vec<u8>,
@@ -118,7 +118,7 @@ fn write_event<K: Sink>(
     }
 }
 
-/// Adds the lines of these events to those gathered, and puts the image behind each draw.
+// Adds the lines of these events to those gathered, and puts the image behind each draw.
 fn write_events<K: Sink>(
     out: &mut K,
     lines: &mut Vec<u8>,
@@ -139,7 +139,7 @@ fn write_events<K: Sink>(
     Ok(())
 }
 
-/// The two lines before the events.
+// The two lines before the events.
 #[tactic(auto, unfolding(cc_event::specs::Recordings::header))]
 fn header_of(alloc: Global, script: &[u8]) -> Result<Vec<u8>, AllocError>
     ensures { IfOk result (λ lines. lines.items ≡ header script.now) }

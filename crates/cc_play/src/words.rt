@@ -4,14 +4,14 @@ ghost use Rattle.std.specs.Prelude.{◌≡◌, ℕ, List, Option, map, string_by
 ghost use Rattle.std.specs.Str.{bytes_eq};
 ghost use Rattle.cc_play.specs.Words.{usage_of, after_step, after_count};
 
-/// Whether two texts are the same.
+// Whether two texts are the same.
 fn is_same(a: &str, b: &str) -> bool
     ensures { result ≡ bytes_eq a.now b.now }
 {
     a == b
 }
 
-/// The first word that does not fit behind `step` and its count; None where all is there.
+// The first word that does not fit behind `step` and its count; None where all is there.
 fn after_count_of(rest: &[String]) -> Option<u32>
     ensures { result ≡ after_count (map string_bytes rest.now) }
 {
@@ -21,7 +21,7 @@ fn after_count_of(rest: &[String]) -> Option<u32>
     }
 }
 
-/// The first word that does not fit behind `step`; None where all is there.
+// The first word that does not fit behind `step`; None where all is there.
 fn after_step_of(rest: &[String]) -> Option<u32>
     ensures { result ≡ after_step (map string_bytes rest.now) }
 {

@@ -7,7 +7,7 @@ use std::alloc::{AllocError, Global};
 use std::env::{Env, FillError};
 use std::process::ExitCode;
 
-/// What `--help` prints.
+// What `--help` prints.
 const HELP: &str = "\
 cc_player: plays scripts of page changes and inputs
 
@@ -32,13 +32,13 @@ status:
 example: cc_player step 1 < examples/first.json > first.rec
 ";
 
-/// What `--version` prints.
+// What `--version` prints.
 const VERSION: &str = "cc_player 0.1.0\n";
 
-/// How long a word may be in bytes. All words that the program knows are shorter.
+// How long a word may be in bytes. All words that the program knows are shorter.
 const LONGEST: usize = 256;
 
-/// A word as text; the empty text where it is none.
+// A word as text; the empty text where it is none.
 fn word_of(alloc: Global, bytes: &[u8]) -> Result<String, AllocError> {
     match str::from_utf8(bytes) {
         Ok(text) => text.to_string(alloc),
@@ -46,8 +46,8 @@ fn word_of(alloc: Global, bytes: &[u8]) -> Result<String, AllocError> {
     }
 }
 
-/// The words behind the program's name. One that is no text, or longer than any word that the program
-/// knows, is the empty text, which fits no use.
+// The words behind the program's name. One that is no text, or longer than any word that the program
+// knows, is the empty text, which fits no use.
 fn words_of<E: Env>(env: &E, alloc: Global) -> Result<Vec<String>, AllocError> {
     let mut words = Vec::new(alloc);
     let mut buffer = [0u8; LONGEST];
@@ -62,7 +62,7 @@ fn words_of<E: Env>(env: &E, alloc: Global) -> Result<Vec<String>, AllocError> {
     Ok(words)
 }
 
-/// The text that the only word asks for, if it asks for one.
+// The text that the only word asks for, if it asks for one.
 fn told(words: &[String]) -> Option<&'static str> {
     match words {
         [word] if word.as_str() == "--help" => Some(HELP),

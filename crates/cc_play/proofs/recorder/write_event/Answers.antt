@@ -1,6 +1,6 @@
 -- The line, and then what stands behind it.
 use Rattle.std.proofs.Common.{ℕ, List, subst}
-use Rattle.cc_play.specs.Writing.{WritesPart}
+use Rattle.cc_play.specs.inner.Writing.{WritesPart}
 use Rattle.cc_play.proofs.Gains.{piece_parts}
 use Rattle.cc_play.proofs.recorder.write_event.Goals as goal
 

@@ -1,0 +1,4 @@
+pub mod Fragments
+pub mod Inputs
+pub mod Pages
+pub mod Writing
