@@ -1,7 +1,10 @@
 # The compositor core: look, build, check. `make help` lists the targets.
 PLAYER := build/cc_player
+# The example that `make film` and `make view` show.
+FILM := page
+VIEWER := file://$(CURDIR)/tools/viewer.html
 
-.PHONY: build help demo pictures bench check clean kit python
+.PHONY: build help demo pictures film view bench check clean kit python
 
 build: $(PLAYER)
 
@@ -9,6 +12,8 @@ help:
 	@echo 'make           proves and builds the program: $(PLAYER) (the first time about half an hour)'
 	@echo 'make demo      plays examples/first.json without the proofs, and leaves its picture in build/ (a minute)'
 	@echo 'make pictures  plays every script in examples/ and leaves each picture in build/ as .ppm and .png'
+	@echo 'make film      plays an example (FILM=page) into build/ as an animated PNG, and names the viewer'"'"'s address'
+	@echo 'make view      opens the viewer in a browser'
 	@echo 'make bench     times step 1 on large pages'
 	@echo 'make check     the gate: all proofs, edits, tests and programs, and our own checks'
 	@echo 'make clean     removes build/'
@@ -39,6 +44,16 @@ pictures: python $(PLAYER)
 			&& python3 tools/recording.py pictures build/$$name.rec build/$$name \
 			|| { echo "$$script: no picture" >&2; exit 1; }; \
 	done
+
+film: python $(PLAYER)
+	@$(PLAYER) step 1 < examples/$(FILM).json > build/$(FILM).rec
+	@python3 tools/recording.py film build/$(FILM).rec build/$(FILM).png
+	@echo 'the viewer: $(VIEWER) (drop build/$(FILM).rec on it)'
+
+view: film
+	@for browser in xdg-open chromium firefox; do \
+		if command -v $$browser > /dev/null; then $$browser '$(VIEWER)' > /dev/null 2>&1 & exit 0; fi; \
+	done; echo 'no browser is here (xdg-open, chromium, firefox)' >&2; exit 1
 
 bench: python $(PLAYER)
 	bench/step $(PLAYER)
