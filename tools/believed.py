@@ -1,0 +1,217 @@
+#!/usr/bin/env python3
+"""Lists the definitions that the contract of `run` rests on: what a reader has to believe.
+
+usage: tools/believed.py [--words] [--of CRATE/FILE:FUNCTION]
+
+It begins with the names in the `ensures` clauses of the function (cc_play/program.rt:run if none is named) and
+follows each to its definition, by the `ghost use` lines of the source and the `use` lines of the specs, and so on
+through the names in those definitions. It prints each file of specs/ with the lines of it that count, and the whole
+in lines and in pages of 50 lines; with --words each word too. It fails where a word that the clauses themselves name
+does not stand in docs/DEFINITIONS.md, or where a name leads nowhere.
+"""
+import argparse
+import collections
+import pathlib
+import re
+import sys
+
+ROOT = pathlib.Path(__file__).resolve().parent.parent
+CRATES, DEFINITIONS = ROOT / "crates", ROOT / "docs" / "DEFINITIONS.md"
+PAGE = 50
+
+USE = re.compile(r"^(?:ghost )?(?:pub )?use Rattle\.(\w+)\.(\w+)\.([\w.]+?)(?:\.\{([^}]*)\}| as (\w+))?;?$")
+HEAD = re.compile(r"^(?:(?:abbrev|unfoldable|unfolding|irreducible|strict|pub|priv)\s+)*(?:(record|data)\s+)?(?:pub\s+)?([^\s:(){}]+)\s*(?=[:(\s{])")
+TOKEN = re.compile(r"[^\s(),{};\[\]λ]+")
+
+Item = collections.namedtuple("Item", "crate module name first last text")
+
+
+class Module:
+    """A file of specs/: its definitions by name, what it brings in, and the short names of whole modules."""
+
+    def __init__(self, crate, path):
+        self.crate, self.path, self.items, self.names, self.short, self.cases = crate, path, {}, {}, {}, {}
+        self.name = ".".join(path.relative_to(CRATES / crate / "specs").with_suffix("").parts)
+        lines = path.read_text().split("\n")
+        self.read_uses(lines)
+        self.read_items(list(outdented(lines)))
+
+    def holds(self, name):
+        """The definition of this name, or of the data type that has this case."""
+        return self.items.get(self.cases.get(name, name))
+
+    def read_uses(self, lines):
+        """The names that the file's `use` lines bring in."""
+        for line in joined(lines):
+            found = USE.match(line)
+            if found:
+                note_use(found, self.names, self.short)
+
+    def read_items(self, lines):
+        """The definitions: each runs from its head to the next one's comment."""
+        heads = [(at, name_of(line)) for at, line in enumerate(lines) if name_of(line)]
+        starts = [at for at, (_, name) in enumerate(heads) if at == 0 or heads[at - 1][1] != name]
+        for k, at in enumerate(starts):
+            first, name = heads[at]
+            last = heads[starts[k + 1]][0] if k + 1 < len(starts) else len(lines)
+            while last > first + 1 and (not lines[last - 1].strip() or lines[last - 1].startswith(("--", "infix", "use ", "module "))):
+                last -= 1
+            own = first
+            while own > 0 and lines[own - 1].startswith("--"):
+                own -= 1
+            self.items[name] = Item(self.crate, self.name, name, own, last, "\n".join(lines[first:last]))
+            if lines[first].startswith("pub data "):
+                self.cases.update({line.split(":")[0].strip(): name for line in lines[first + 1:last] if ":" in line})
+
+
+def joined(lines):
+    """Lines, where a `use` that goes on over several is one."""
+    whole = ""
+    for line in lines:
+        whole = f"{whole} {line.strip()}" if whole else line
+        if whole.startswith(("use ", "ghost use ", "pub use ")) and whole.count("{") > whole.count("}"):
+            continue
+        yield re.sub(r"\s+", " ", whole).strip()
+        whole = ""
+
+
+def outdented(lines):
+    """The lines, where those of a module inside a file stand as far left as the others."""
+    is_inside = False
+    for line in lines:
+        if line.startswith("module "):
+            is_inside = True
+        elif line and line[0] not in " -":
+            is_inside = False
+        yield line[2:] if is_inside and line.startswith("  ") else line
+
+
+def note_use(found, names, short):
+    """Notes one `use` line: where each name of it stands."""
+    crate, part, path, listed, alias = found.groups()
+    place = (crate, part, path)
+    if alias:
+        short[alias] = place
+    elif listed is not None:
+        for name in filter(None, (it.strip() for it in listed.split(","))):
+            names[name.split(" as ")[-1]] = (place, name.split(" as ")[0])
+
+
+def name_of(line):
+    """The name that a line begins to define or goes on to define, if it does: a definition's lines begin with it."""
+    if not line or line[0] in " -})" or line.startswith(("use ", "mod ", "pub mod ", "module ", "where", "infix", "syntax", "ruleset")):
+        return None
+    found = HEAD.match(line)
+    return found.group(2) if found else None
+
+
+def variants_of(name):
+    """How a name may stand in a text: an infix one by its middle."""
+    middle = name.strip("◌")
+    return {name, *(middle.split("◌") if "◌" in name else ())} - {""}
+
+
+class World:
+    """All definitions of the repository."""
+
+    def __init__(self):
+        self.modules = {}
+        for path in sorted(CRATES.glob("*/specs/**/*.antt")):
+            if path.name != "Lib.antt":
+                crate = path.relative_to(CRATES).parts[0]
+                module = Module(crate, path)
+                self.modules[crate, module.name] = module
+        self.found, self.lost, self.kit, self.types = {}, set(), set(), set()
+
+    def lead(self, place, name):
+        """Goes to the definition of a name that was brought in from a place."""
+        crate, part, path = place
+        if not (CRATES / crate).is_dir():
+            self.kit.add((crate, name))
+        elif part != "specs" or path.startswith("declared"):
+            self.types.add((crate, path.removeprefix("declared.").split(".TheVariants")[0]))
+        elif (crate, path) in self.modules and self.modules[crate, path].holds(name):
+            self.follow(self.modules[crate, path].holds(name))
+        else:
+            self.lost.add((crate, path, name))
+
+    def names_in(self, text, names, short, own):
+        """Follows each name in a text."""
+        tokens = set(TOKEN.findall(text))
+        parts = {part for token in tokens for part in token.split(".")} | tokens
+        for name, (place, real) in names.items():
+            if variants_of(name) & parts:
+                self.lead(place, real)
+        for alias, place in short.items():
+            for token in tokens:
+                if token.startswith(alias + "."):
+                    self.lead(place, token.split(".")[1])
+        for name, item in own.items():
+            if variants_of(name) & parts:
+                self.follow(item)
+
+    def follow(self, item):
+        """Takes in a definition and those that it names."""
+        if (item.crate, item.module, item.name) in self.found:
+            return
+        self.found[item.crate, item.module, item.name] = item
+        module = self.modules[item.crate, item.module]
+        text = re.sub(r"--.*", "", item.text)
+        self.names_in(text, module.names, module.short, module.items)
+
+
+def clauses_of(path, function):
+    """The `ensures` and `requires` clauses of a function, and the names that its file's `ghost use` lines bring in."""
+    lines = path.read_text().split("\n")
+    names, short = {}, {}
+    for line in joined(lines):
+        found = USE.match(line)
+        if found:
+            note_use(found, names, short)
+    first = next((at for at, line in enumerate(lines) if re.match(rf"\s*pub fn {function}\b", line)), None)
+    if first is None:
+        sys.exit(f"believed: {path} has no public function {function}")
+    last = next((at for at in range(first, len(lines)) if lines[at].strip() == "{" or lines[at].rstrip().endswith(("{}", ") {"))), first)
+    text = "\n".join(line for line in lines[first:last + 1] if re.match(r"\s*(ensures|requires)", line))
+    return text, names, short
+
+
+def told_words(text, names):
+    """The names of this repository that the clauses themselves have."""
+    parts = {part for token in TOKEN.findall(text) for part in token.split(".")}
+    return sorted(name for name, (place, _) in names.items() if variants_of(name) & parts and (CRATES / place[0]).is_dir())
+
+
+def main():
+    words = argparse.ArgumentParser(description=__doc__, formatter_class=argparse.RawDescriptionHelpFormatter)
+    words.add_argument("--words", action="store_true", help="each word too")
+    words.add_argument("--of", default="cc_play/program.rt:run", help="CRATE/FILE:FUNCTION, the file below src/")
+    words = words.parse_args()
+    file, function = words.of.rsplit(":", 1)
+    crate, rest = file.split("/", 1)
+    world = World()
+    text, names, short = clauses_of(CRATES / crate / "src" / rest, function)
+    world.names_in(text, names, short, {})
+    by_file = collections.defaultdict(list)
+    for item in world.found.values():
+        by_file[f"crates/{item.crate}/specs/{item.module.replace('.', '/')}.antt"].append(item)
+    whole = 0
+    for path, items in sorted(by_file.items()):
+        lines = sum(it.last - it.first for it in items)
+        whole += lines
+        print(f"{lines:5}  {path}")
+        if words.words:
+            print("       " + ", ".join(sorted(it.name for it in items)))
+    told = told_words(text, names)
+    print(f"believed: {len(told)} words in the clauses of `{function}`, {len(world.found)} definitions in {len(by_file)} files, "
+          f"{whole} lines, {-(-whole // PAGE)} pages; beside them {len(world.types)} types of the sources")
+    wrong = [f"a name that leads nowhere: {'.'.join(it)}" for it in sorted(world.lost)]
+    page = DEFINITIONS.read_text()
+    wrong += [f"docs/DEFINITIONS.md lacks `{name}`" for name in told if not re.search(rf"`(?:\w+\.)*{re.escape(name)}[`( ]", page)]
+    for line in wrong:
+        print(f"believed: {line}", file=sys.stderr)
+    return 1 if wrong else 0
+
+
+if __name__ == "__main__":
+    sys.exit(main())
