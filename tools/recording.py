@@ -262,7 +262,7 @@ class Film:
     def __init__(self, sizes, delay):
         self.width, self.height = max(w for w, _ in sizes), max(h for _, h in sizes)
         self.is_even, self.delay = len(set(sizes)) == 1, delay
-        self.count, self.number, self.before, self.same = 0, 0, None, len(sizes)
+        self.count, self.number, self.before, self.total = 0, 0, None, len(sizes)
 
     def control(self, box):
         """The chunk before a frame's data: its box, its delay; it takes the place of what is there."""
@@ -297,7 +297,7 @@ class Film:
     def pieces(self, pictures):
         """The whole file."""
         yield head(self.width, self.height, 3 if self.is_even else 4)
-        yield chunk(b"acTL", struct.pack(">II", self.same, 0))
+        yield chunk(b"acTL", struct.pack(">II", self.total, 0))
         for picture in pictures:
             yield self.frame(picture)
         yield chunk(b"IEND", b"")
