@@ -7,7 +7,7 @@ use Rattle.std.specs.Prelude.{length, fold}
 use Rattle.cc_pixel.specs.Colours.{Parts, blend, clear}
 use Rattle.cc_pixel.specs.Rows.{pixel, ArePremultiplied}
 use Rattle.cc_pixel.specs.Surfaces.{EachPixel, holds, within}
-use Rattle.cc_display.specs.Pictures.{near, byte_count, Picture, picture_pixel}
+use Rattle.cc_display.specs.Bitmaps.{near, byte_count, BitmapModel, bitmap_pixel}
 use Rattle.cc_display.specs.Content.{painted, IsRaster}
 use Rattle.cc_display.specs.declared.item.Item.{Item}
 use Rattle.cc_display.specs.Shared.{IsShared}
@@ -30,10 +30,10 @@ from_top : (part : Part) (x y : ℕ) → holds part.at x y ≡ true → part.at.
 from_top part x y h = grind (arith, nat_tests)
 
 -- the pixel of a picture that is drawn at a place of the area
-shown_pixel : (p : Picture) (area : Rect) (part : Part) (x y : ℕ) → IsShared p.rect area part → holds part.at x y ≡ true
+shown_pixel : (p : BitmapModel) (area : Rect) (part : Part) (x y : ℕ) → IsShared p.rect area part → holds part.at x y ≡ true
     → pixel p.pixels ((y - part.at.y + part.above) * near p.rect.w + (x - part.at.x + part.left))
-    ≡ picture_pixel p (area.x +ℤ pos x) (area.y +ℤ pos y)
-unfolding picture_pixel
+    ≡ bitmap_pixel p (area.x +ℤ pos x) (area.y +ℤ pos y)
+unfolding bitmap_pixel
 shown_pixel p area part x y shared h =
     let column = shared.column x (from_left part x y h) in
     let row = shared.row y (from_top part x y h) in
@@ -46,16 +46,16 @@ where_held true c d below h = h refl
 where_held false c d below h = refl
 
 -- a bitmap
-pub picture_shown : (p : Picture) (area : Rect) (part : Part) (old new : List ℕ) → IsShared p.rect area part
+pub picture_shown : (p : BitmapModel) (area : Rect) (part : Part) (old new : List ℕ) → IsShared p.rect area part
     → EachPixel (near area.w) (near area.h)
     (within part.at part.at.h (λ x y below. blend below
     (pixel p.pixels ((y - part.at.y + part.above) * near p.rect.w + (x - part.at.x + part.left))))) old new
     → EachPixel (near area.w) (near area.h)
     (λ x y below. cond (covers p.rect (area.x +ℤ pos x) (area.y +ℤ pos y))
-    (blend below (picture_pixel p (area.x +ℤ pos x) (area.y +ℤ pos y))) below) old new
+    (blend below (bitmap_pixel p (area.x +ℤ pos x) (area.y +ℤ pos y))) below) old new
 picture_shown p area part old new shared each x y xw yh =
     let before = pixel old (y * near area.w + x) in
-    let shown = blend before (picture_pixel p (area.x +ℤ pos x) (area.y +ℤ pos y)) in
+    let shown = blend before (bitmap_pixel p (area.x +ℤ pos x) (area.y +ℤ pos y)) in
     each x y xw yh
     ∙ where_held (holds part.at x y)
     (blend before (pixel p.pixels ((y - part.at.y + part.above) * near p.rect.w + (x - part.at.x + part.left)))) shown before

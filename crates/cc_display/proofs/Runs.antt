@@ -6,7 +6,7 @@ use Rattle.std.proofs.lemmas.Bool.Decides.{nat_tests}
 use Rattle.cc_geom.specs.declared.Rect.{Rect}
 use Rattle.cc_geom.specs.Covers.{within, IsSpan, IsSound}
 use Rattle.cc_geom.proofs.Spans.{inside, is_within_of, same_test}
-use Rattle.cc_display.specs.Pictures.{near}
+use Rattle.cc_display.specs.Bitmaps.{near}
 use Rattle.cc_display.specs.Shared.{IsRun, IsApart, IsOutside, IsShared}
 use Rattle.cc_display.specs.declared.part.Run.{Run}
 

@@ -2,7 +2,7 @@
 use Rattle.std.specs.Prelude.{ℕ, List, length, true, false, ◌≡◌, ◌≢◌}
 use Rattle.cc_geom.specs.declared.Rect.{Rect}
 use Rattle.cc_pixel.specs.Rows.{IsFirstWrong}
-use Rattle.cc_display.specs.Pictures.{has_sides, byte_count}
+use Rattle.cc_display.specs.Bitmaps.{has_sides, byte_count}
 use Rattle.cc_display.specs.declared.bitmap.BitmapCause.{BitmapCause}
 use Rattle.cc_display.specs.declared.bitmap.BitmapCause.TheVariants.{Side, Length, Pixel}
 

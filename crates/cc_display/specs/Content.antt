@@ -4,7 +4,7 @@ use Rattle.cc_geom.specs.declared.Rect.{Rect}
 use Rattle.cc_geom.specs.Covers.{covers, IsSound}
 use Rattle.cc_pixel.specs.Colours.{Parts, blend, clear}
 use Rattle.cc_pixel.specs.Rows.{pixel, ArePremultiplied}
-use Rattle.cc_display.specs.Pictures.{near, picture_pixel, byte_count}
+use Rattle.cc_display.specs.Bitmaps.{near, bitmap_pixel, byte_count}
 use Rattle.cc_display.specs.declared.item.Item.{Item}
 use Rattle.cc_display.specs.declared.item.Item.TheVariants as kind
 
@@ -16,7 +16,7 @@ rect_of (kind.Bitmap picture) = picture.rect
 -- the colour of an item at a point that its rect covers
 abbrev pub colour_of : Item → ℤ → ℤ → Parts
 colour_of (kind.Rect rect colour) x y = colour
-colour_of (kind.Bitmap picture) x y = picture_pixel picture x y
+colour_of (kind.Bitmap picture) x y = bitmap_pixel picture x y
 
 -- an item laid over a colour at a point: nothing where its rect does not cover the point
 abbrev pub painted : ℤ → ℤ → Parts → Item → Parts

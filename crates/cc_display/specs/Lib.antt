@@ -1,4 +1,4 @@
-pub mod Pictures
+pub mod Bitmaps
 pub mod Causes
 pub mod Content
 pub mod Shared

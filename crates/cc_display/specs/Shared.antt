@@ -4,7 +4,7 @@ use Rattle.std.specs.Int.{int_max, int_min}
 use Rattle.cc_geom.specs.declared.Rect.{Rect}
 use Rattle.cc_geom.specs.Covers.{covers}
 use Rattle.cc_pixel.specs.Surfaces.{holds, IsInside}
-use Rattle.cc_display.specs.Pictures.{near}
+use Rattle.cc_display.specs.Bitmaps.{near}
 use Rattle.cc_display.specs.declared.part.Run.{Run}
 use Rattle.cc_display.specs.declared.part.Part.{Part}
 

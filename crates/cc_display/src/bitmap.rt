@@ -2,7 +2,7 @@
 
 ghost use Rattle.std.specs.Prelude.{◌≡◌, ℕ, ◌+◌, ◌*◌, ◌<◌, ◌-ℤ◌, Bool, true, false, MatchOption, MatchResult, IfOk};
 ghost use Rattle.cc_geom.specs.Covers.{covers, within, IsSound, IsSpan};
-ghost use Rattle.cc_display.specs.Pictures.{Picture, IsPicture, picture_pixel, has_sides, byte_count, near};
+ghost use Rattle.cc_display.specs.Bitmaps.{BitmapModel, IsBitmap, bitmap_pixel, has_sides, byte_count, near};
 ghost use Rattle.cc_display.specs.Causes.{CauseOf};
 
 use cc_geom::Rect;
@@ -18,13 +18,13 @@ pub struct Bitmap {
 }
 
 impl Model for Bitmap {
-    ghost use Rattle.cc_display.specs.Pictures.{Picture, IsPicture};
+    ghost use Rattle.cc_display.specs.Bitmaps.{BitmapModel, IsBitmap};
 
-    ghost Value = { Picture };
+    ghost Value = { BitmapModel };
 
     ghost view = { λ b. record { rect = b.rect; pixels = b.pixels.items } };
 
-    ghost invariant = { λ b. IsPicture (record { rect = b.rect; pixels = b.pixels.items }) };
+    ghost invariant = { λ b. IsBitmap (record { rect = b.rect; pixels = b.pixels.items }) };
 }
 
 /// What is wrong with the bytes of a bitmap: the first cause that applies, in this order.
@@ -56,7 +56,7 @@ pub struct BadBitmap {
 }
 
 /// How many bytes the pixels of a bitmap of these sides take; `None` where a side is not 1 to 256.
-#[tactic(auto, unfolding(crate::specs::Pictures::has_sides))]
+#[tactic(auto, unfolding(crate::specs::Bitmaps::has_sides))]
 fn bytes_of(w: i32, h: i32) -> Option<usize>
     ensures { MatchOption result (has_sides w h ≡ false) (λ n. (has_sides w h ≡ true) × (n ≡ byte_count w h)) }
 {
@@ -95,7 +95,7 @@ impl Bitmap {
     /// The bitmap of these bytes, or the bytes with the first cause that applies.
     pub(crate) fn new(rect: Rect, pixels: Vec<u8>) -> Result<Bitmap, BadBitmap>
         ensures { MatchResult result
-            (λ b. (b ≡ record { rect = rect; pixels = pixels.items }) × IsPicture b)
+            (λ b. (b ≡ record { rect = rect; pixels = pixels.items }) × IsBitmap b)
             (λ e. (e.pixels ≡ pixels) × CauseOf rect pixels.items e.cause) }
     {
         let Some(wanted) = bytes_of(rect.w, rect.h) else {
@@ -131,13 +131,13 @@ impl Bitmap {
     /// The pixels, row by row from the top, each row from the left: red, green, blue and alpha.
     pub fn pixels(&self) -> &[u8]
         ensures value { result.now ≡ self.now.pixels }
-        ensures right { IsPicture self.now }
+        ensures right { IsBitmap self.now }
     {
         self.pixels.as_slice()
     }
 
     /// How many pixels a row of the bitmap has.
-    #[tactic(auto, unfolding(crate::specs::Pictures::has_sides))]
+    #[tactic(auto, unfolding(crate::specs::Bitmaps::has_sides))]
     pub(crate) fn width(&self) -> usize
         ensures { result ≡ near self.now.rect.w }
     {
@@ -146,7 +146,7 @@ impl Bitmap {
     }
 
     /// How many rows the bitmap has.
-    #[tactic(auto, unfolding(crate::specs::Pictures::has_sides))]
+    #[tactic(auto, unfolding(crate::specs::Bitmaps::has_sides))]
     pub(crate) fn height(&self) -> usize
         ensures { result ≡ near self.now.rect.h }
     {
@@ -166,11 +166,11 @@ impl Bitmap {
     }
 
     /// The pixel at a point that the rect covers.
-    #[tactic(auto, unfolding(crate::specs::Pictures::picture_pixel))]
+    #[tactic(auto, unfolding(crate::specs::Bitmaps::bitmap_pixel))]
     pub(crate) fn colour_at(&self, x: i32, y: i32) -> Colour
         requires sound { IsSound self.now.rect }
         requires covered { covers self.now.rect x y ≡ true }
-        ensures { result ≡ picture_pixel self.now x y }
+        ensures { result ≡ bitmap_pixel self.now x y }
     {
         let rect = self.rect;
         let column = distance_in(rect.x, rect.w, x);

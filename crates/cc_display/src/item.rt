@@ -1,7 +1,7 @@
 //! The items of a display list.
 
 ghost use Rattle.std.specs.Prelude.{◌≡◌, MatchResult, IfOk};
-ghost use Rattle.cc_display.specs.Pictures.{Picture, IsPicture};
+ghost use Rattle.cc_display.specs.Bitmaps.{BitmapModel, IsBitmap};
 ghost use Rattle.cc_display.specs.Causes.{CauseOf};
 ghost use Rattle.cc_display.specs.Content.{rect_of, painted, IsSoundItem};
 
@@ -31,7 +31,7 @@ impl Item {
     /// a wrong count of bytes, a pixel that is not premultiplied.
     pub fn bitmap(rect: Rect, pixels: Vec<u8>) -> Result<Item, BadBitmap>
         ensures { MatchResult result
-            (λ item. let picture : Picture = record { rect = rect; pixels = pixels.items } in (item ≡ Item.Bitmap picture) × IsPicture picture)
+            (λ item. let picture : BitmapModel = record { rect = rect; pixels = pixels.items } in (item ≡ Item.Bitmap picture) × IsBitmap picture)
             (λ e. (e.pixels ≡ pixels) × CauseOf rect pixels.items e.cause) }
     {
         match Bitmap::new(rect, pixels) {

@@ -2,7 +2,7 @@
 
 ghost use Rattle.std.specs.Prelude.{◌≡◌, ℕ, ◌*◌, ◌<◌, ◌≤◌, List, [], length, insert, remove, slice_set, slice_index_or, All, MatchOption, IfErr, IfOk, OnOk, Option, Some, None};
 ghost use Rattle.cc_geom.specs.Covers.{IsSound};
-ghost use Rattle.cc_display.specs.Pictures.{near, byte_count};
+ghost use Rattle.cc_display.specs.Bitmaps.{near, byte_count};
 ghost use Rattle.cc_display.specs.Content.{content, IsSoundItem, IsRaster};
 
 use crate::item::Item;

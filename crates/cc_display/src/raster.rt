@@ -5,7 +5,7 @@ ghost use Rattle.cc_geom.specs.Covers.{IsSound};
 ghost use Rattle.cc_pixel.specs.Colours.{Parts, blend, clear};
 ghost use Rattle.cc_pixel.specs.Rows.{pixel, ArePremultiplied};
 ghost use Rattle.cc_pixel.specs.Surfaces.{IsInside, EachPixel, within};
-ghost use Rattle.cc_display.specs.Pictures.{near, byte_count};
+ghost use Rattle.cc_display.specs.Bitmaps.{near, byte_count};
 ghost use Rattle.cc_display.specs.Content.{painted, IsSoundItem};
 
 use crate::bitmap::Bitmap;

@@ -4,7 +4,7 @@ use Rattle.std.specs.List.{list_all}
 use Rattle.cc_geom.specs.declared.rect.Rect.{Rect}
 use Rattle.cc_geom.specs.Limits.{max_id, max_viewport, max_first_viewport, min_tile, max_tile, max_scroll, max_frames, max_inputs, max_draws, max_budget, max_distance}
 use Rattle.cc_pixel.specs.Colours.{is_colour}
-use Rattle.cc_display.specs.Pictures.{has_sides, byte_count}
+use Rattle.cc_display.specs.Bitmaps.{has_sides, byte_count}
 use Rattle.cc_display.specs.declared.item.Item.{Item}
 use Rattle.cc_display.specs.declared.item.Item.TheVariants as item
 use Rattle.cc_edit.specs.declared.command.Command.{Command}

@@ -11,10 +11,10 @@ use Rattle.cc_event.specs.Scripts.{ScriptModel}
 use Rattle.cc_event.specs.Frames.{active_page}
 use Rattle.cc_event.specs.Scrolls.{active_offsets}
 
--- f 0, f 1, .., f (n - 1), one after another
-unfoldable pub first : {X : Type 0} → ℕ → (ℕ → List X) → List X
-first zero f = []
-first (suc n) f = first n f ++ f n
+-- f 0, f 1, .., f (n - 1), joined one after another
+unfoldable pub joined : {X : Type 0} → ℕ → (ℕ → List X) → List X
+joined zero f = []
+joined (suc n) f = joined n f ++ f n
 
 -- the head of a raw portable pixmap
 unfoldable pub image_head : ℕ → ℕ → List ℕ
@@ -26,11 +26,11 @@ rgb c = c.r ∷ c.g ∷ c.b ∷ []
 
 -- a row of a picture, from the left
 unfoldable pub image_row : (ℕ → ℕ → Parts) → ℕ → ℕ → List ℕ
-image_row pixel w y = first w (λ x. rgb (pixel x y))
+image_row pixel w y = joined w (λ x. rgb (pixel x y))
 
 -- a picture of w by h whose pixel at column x and row y is `pixel x y`, rows from the top
 unfoldable pub image : (ℕ → ℕ → Parts) → ℕ → ℕ → List ℕ
-image pixel w h = image_head w h ++ first h (image_row pixel w)
+image pixel w h = image_head w h ++ joined h (image_row pixel w)
 
 -- what the screen shows at column x and row y after a past, where these tiles are missing: the painting of the active page at the offsets of its scrollers
 abbrev pub shown : ScriptModel → List Entry → List TileKey → ℕ → ℕ → Parts

@@ -2,35 +2,35 @@
 use Rattle.std.proofs.Common.{◌≡◌, ℕ, zero, suc, ◌+◌, ◌*◌, ◌<◌, ◌≤◌, List, ◌++◌, refl, ap, sym, ◌∙◌, append_assoc, add-one, arith}
 use Rattle.std.proofs.lemmas.Nat.{mul-le}
 use Rattle.cc_pixel.specs.Colours.{Parts}
-use Rattle.cc_event.specs.Recordings.{first, rgb, image_head, image_row, image}
+use Rattle.cc_event.specs.Recordings.{joined, rgb, image_head, image_row, image}
 
 -- one more is the last
-pub first_more : {X : Type 0} (n : ℕ) (f : ℕ → List X) → first (n + 1) f ≡ first n f ++ f n
-unfolding first
+pub first_more : {X : Type 0} (n : ℕ) (f : ℕ → List X) → joined (n + 1) f ≡ joined n f ++ f n
+unfolding joined
 first_more n f = rw (add-one) refl
 
 -- one more behind what was there
-pub first_behind : {X : Type 0} (n : ℕ) (f : ℕ → List X) (before old new : List X) → old ≡ before ++ first n f → new ≡ old ++ f n → new ≡ before ++ first (n + 1) f
+pub first_behind : {X : Type 0} (n : ℕ) (f : ℕ → List X) (before old new : List X) → old ≡ before ++ joined n f → new ≡ old ++ f n → new ≡ before ++ joined (n + 1) f
 first_behind {X} n f before old new was made =
     made
     ∙ ap (λ (xs : List X). xs ++ f n) was
-    ∙ append_assoc before (first n f) (f n)
+    ∙ append_assoc before (joined n f) (f n)
     ∙ ap (λ (xs : List X). before ++ xs) (sym (first_more n f))
 
 -- equal pieces
-first_alike : {X : Type 0} (n : ℕ) (f g : ℕ → List X) → ((k : ℕ) → k < n → f k ≡ g k) → first n f ≡ first n g
-unfolding first
+first_alike : {X : Type 0} (n : ℕ) (f g : ℕ → List X) → ((k : ℕ) → k < n → f k ≡ g k) → joined n f ≡ joined n g
+unfolding joined
 first_alike zero f g same = refl
 first_alike {X} (suc n) f g same =
     ap (λ (xs : List X). xs ++ f n) (first_alike n f g (λ k lt. same k (omega (arith, lt))))
-    ∙ ap (λ (xs : List X). first n g ++ xs) (same n (omega arith))
+    ∙ ap (λ (xs : List X). joined n g ++ xs) (same n (omega arith))
 
 -- pictures with equal pixels have equal images
 pub image_alike : (w h : ℕ) (c d : ℕ → ℕ → Parts) → ((x y : ℕ) → x < w → y < h → c x y ≡ d x y) → image c w h ≡ image d w h
 unfolding image image_row
 image_alike w h c d same =
     ap (λ (rows : List ℕ). image_head w h ++ rows)
-    (first_alike h (λ y. first w (λ x. rgb (c x y))) (λ y. first w (λ x. rgb (d x y)))
+    (first_alike h (λ y. joined w (λ x. rgb (c x y))) (λ y. joined w (λ x. rgb (d x y)))
     (λ y down. first_alike w (λ x. rgb (c x y)) (λ x. rgb (d x y)) (λ x across. ap rgb (same x y across down))))
 
 -- a row ends within the picture

@@ -56,7 +56,7 @@ fn push_pixel(text: &mut Vec<u8>, bytes: &[u8], place: usize) -> Result<(), Allo
 }
 
 /// Adds row `y` of a picture of width `w`, from the left.
-#[tactic(auto, unfolding(cc_event::specs::Recordings::image_row, cc_event::specs::Recordings::first))]
+#[tactic(auto, unfolding(cc_event::specs::Recordings::image_row, cc_event::specs::Recordings::joined))]
 fn push_row(text: &mut Vec<u8>, bytes: &[u8], w: u32, y: u32) -> Result<(), AllocError>
     requires { 4 * (y * w + w) ≤ length bytes.now }
     ensures { OnOk result (text.new.items ≡ text.old.items ++ image_row (λ column row. pixel bytes.now (row * w + column)) w y) }
@@ -69,7 +69,7 @@ fn push_row(text: &mut Vec<u8>, bytes: &[u8], w: u32, y: u32) -> Result<(), Allo
 }
 
 /// The image of a picture.
-#[tactic(auto, using(crate::proofs::Rows::first_more, crate::proofs::Rows::row_end), unfolding(cc_event::specs::Recordings::image, cc_event::specs::Recordings::first))]
+#[tactic(auto, using(crate::proofs::Rows::first_more, crate::proofs::Rows::row_end), unfolding(cc_event::specs::Recordings::image, cc_event::specs::Recordings::joined))]
 fn image_of(alloc: Global, frame: &Frame) -> Result<Vec<u8>, AllocError>
     ensures { IfOk result (λ text. text.items ≡ image (frame_pixel frame.now) frame.now.w frame.now.h) }
 {

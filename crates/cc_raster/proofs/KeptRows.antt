@@ -11,7 +11,7 @@ use Rattle.cc_geom.specs.declared.Rect.{Rect}
 use Rattle.cc_geom.specs.Covers.{IsSound}
 use Rattle.cc_pixel.specs.Colours.{Parts}
 use Rattle.cc_display.specs.declared.Item.{Item}
-use Rattle.cc_display.specs.Pictures.{near}
+use Rattle.cc_display.specs.Bitmaps.{near}
 use Rattle.cc_display.specs.Content.{content, IsRaster}
 use Rattle.cc_pixel.specs.Rows.{pixel}
 use Rattle.cc_raster.specs.Images.{shown, IsRow, HasTwoColours, row_bytes}

@@ -5,7 +5,7 @@ use Rattle.std.proofs.lemmas.List.{length-take, length-drop, get_or-take, get_or
 use Rattle.cc_geom.specs.declared.Rect.{Rect}
 use Rattle.cc_pixel.specs.Rows.{pixel, alpha_place, ArePremultiplied}
 use Rattle.cc_display.specs.declared.Item.{Item}
-use Rattle.cc_display.specs.Pictures.{near}
+use Rattle.cc_display.specs.Bitmaps.{near}
 use Rattle.cc_display.specs.Content.{IsRaster}
 use Rattle.cc_raster.specs.Images.{IsRow, row_bytes}
 

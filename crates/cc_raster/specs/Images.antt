@@ -5,7 +5,7 @@ use Rattle.cc_geom.specs.declared.TileKey.{TileKey}
 use Rattle.cc_pixel.specs.Colours.{Parts}
 use Rattle.cc_pixel.specs.Rows.{pixel, ArePremultiplied}
 use Rattle.cc_display.specs.declared.Item.{Item}
-use Rattle.cc_display.specs.Pictures.{near}
+use Rattle.cc_display.specs.Bitmaps.{near}
 use Rattle.cc_display.specs.Content.{content}
 
 -- the picture of a tile: its key, its rect, and the display list that it shows there

@@ -2,7 +2,7 @@
 
 ghost use Rattle.std.specs.Prelude.{◌≡◌, ℕ, ◌+◌, ◌<◌, ◌≤◌, ◌⊎◌, true, false, length, slice_index_or, IfOk};
 ghost use Rattle.cc_geom.specs.Covers.{IsSound};
-ghost use Rattle.cc_display.specs.Pictures.{near};
+ghost use Rattle.cc_display.specs.Bitmaps.{near};
 ghost use Rattle.cc_display.specs.Content.{IsSoundItem};
 ghost use Rattle.cc_raster.specs.Images.{AreSameRows};
 ghost use Rattle.cc_raster.specs.inner.Bands.{IsSteady};

@@ -2,7 +2,7 @@
 
 ghost use Rattle.std.specs.Prelude.{◌≡◌, ◌≢◌, ℕ, ◌+◌, ◌*◌, ◌<◌, ◌≤◌, pos, ◌+ℤ◌, ◌≤ℤ◌, ◌^◌, length, slice_index};
 ghost use Rattle.cc_geom.specs.Covers.{IsSound};
-ghost use Rattle.cc_display.specs.Pictures.{near};
+ghost use Rattle.cc_display.specs.Bitmaps.{near};
 ghost use Rattle.cc_raster.specs.Images.{IsRow, row_bytes};
 ghost use Rattle.cc_raster.specs.inner.Bands.{AreSteps, AreKept};
 

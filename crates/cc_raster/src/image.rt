@@ -2,7 +2,7 @@
 
 ghost use Rattle.std.specs.Prelude.{◌≡◌, ℕ, ◌+◌, ◌<◌, ◌≤◌, IfOk, MatchOption};
 ghost use Rattle.cc_geom.specs.Covers.{IsSound};
-ghost use Rattle.cc_display.specs.Pictures.{near};
+ghost use Rattle.cc_display.specs.Bitmaps.{near};
 ghost use Rattle.cc_raster.specs.Images.{Image, IsRow, IsOneColour, HasTwoColours};
 ghost use Rattle.cc_raster.specs.Images.{AreSameRows};
 

@@ -3,7 +3,7 @@
 ghost use Rattle.std.specs.Prelude.{◌≡◌, ◌≢◌, ◌↔◌, ℕ, ◌<◌, ◌≤◌, ◌*◌, ◌+◌, ◌/◌, ◌≤ℤ◌, ◌^◌, pos, length, slice_index, IsTrue, MatchOption, IfOk};
 ghost use Rattle.cc_geom.specs.Covers.{IsSound};
 ghost use Rattle.cc_pixel.specs.Rows.{pixel, ArePremultiplied};
-ghost use Rattle.cc_display.specs.Pictures.{near};
+ghost use Rattle.cc_display.specs.Bitmaps.{near};
 ghost use Rattle.cc_raster.specs.Images.{IsRow, row_bytes};
 ghost use Rattle.cc_raster.specs.inner.Bands.{AreKept, IsSolid};
 

@@ -2,7 +2,7 @@
 
 ghost use Rattle.std.specs.Prelude.{◌≡◌, ◌≢◌, ℕ, ◌+◌, ◌*◌, ◌<◌, ◌≤◌, pos, ◌+ℤ◌, ◌≤ℤ◌, ◌^◌, length, true, false, cond, int_lt, slice_index, slice_index_or, IfOk};
 ghost use Rattle.cc_geom.specs.Covers.{IsSound, IsSpan};
-ghost use Rattle.cc_display.specs.Pictures.{near};
+ghost use Rattle.cc_display.specs.Bitmaps.{near};
 ghost use Rattle.cc_raster.specs.Images.{IsRow, row_bytes};
 ghost use Rattle.cc_raster.specs.Images.{AreSameRows};
 ghost use Rattle.cc_raster.specs.inner.Bands.{AreSteps, AreKept};

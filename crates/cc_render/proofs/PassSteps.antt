@@ -9,7 +9,7 @@ use Rattle.cc_geom.specs.declared.Rect.{Rect}
 use Rattle.cc_pixel.specs.Colours.{Parts, clear}
 use Rattle.cc_pixel.specs.Rows.{pixel, ArePremultiplied, alpha_place}
 use Rattle.cc_pixel.proofs.Fills.{same_parts}
-use Rattle.cc_display.specs.Pictures.{near, byte_count}
+use Rattle.cc_display.specs.Bitmaps.{near, byte_count}
 use Rattle.cc_scene.specs.declared.RenderPass.{RenderPass}
 use Rattle.cc_scene.specs.Views.{QuadView, quads_view, pass_view, passes_view}
 use Rattle.cc_scene.specs.Pixels.{quads_over, passes_at}

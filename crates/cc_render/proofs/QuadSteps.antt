@@ -8,7 +8,7 @@ use Rattle.cc_geom.specs.declared.Rect.{Rect}
 use Rattle.cc_pixel.specs.Colours.{Parts, blend, scaled, clear, times_255}
 use Rattle.cc_pixel.specs.Rows.{pixel}
 use Rattle.cc_pixel.proofs.Fills.{same_parts}
-use Rattle.cc_display.specs.Pictures.{near, byte_count}
+use Rattle.cc_display.specs.Bitmaps.{near, byte_count}
 use Rattle.cc_scene.specs.declared.Quad.{Quad}
 use Rattle.cc_scene.specs.Views.{quad_view, quads_view, grouped}
 use Rattle.cc_scene.specs.Pixels.{quad_over, quads_over}

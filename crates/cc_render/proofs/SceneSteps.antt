@@ -12,7 +12,7 @@ use Rattle.cc_pixel.specs.Colours.{Parts}
 use Rattle.cc_pixel.specs.Rows.{pixel}
 use Rattle.cc_pixel.specs.Surfaces.{EachPixel, within, in_rows}
 use Rattle.cc_pixel.specs.declared.Area.{Area}
-use Rattle.cc_display.specs.Pictures.{near}
+use Rattle.cc_display.specs.Bitmaps.{near}
 use Rattle.cc_scene.specs.declared.RenderPass.{RenderPass}
 use Rattle.cc_scene.specs.Views.{QuadView, tiled, plain, grouped, pass_view, passes_view, SceneView}
 use Rattle.cc_scene.specs.Pixels.{quads_over, passes_at, scene_pixel}

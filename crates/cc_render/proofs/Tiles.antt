@@ -11,7 +11,7 @@ use Rattle.cc_pixel.specs.Rows.{pixel}
 use Rattle.cc_pixel.specs.Surfaces.{EachPixel, within, in_rows, holds}
 use Rattle.cc_pixel.specs.declared.Area.{Area}
 use Rattle.cc_display.specs.Content.{content}
-use Rattle.cc_display.specs.Pictures.{near}
+use Rattle.cc_display.specs.Bitmaps.{near}
 use Rattle.cc_display.specs.Shared.{IsShared}
 use Rattle.cc_display.specs.declared.Part.{Part}
 use Rattle.cc_raster.specs.Images.{Image, IsRow, AreSameRows, IsOneColour, shown}

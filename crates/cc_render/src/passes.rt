@@ -4,7 +4,7 @@ ghost use Rattle.std.specs.Prelude.{◌≡◌, ℕ, ◌+◌, ◌*◌, ◌<◌, �
 ghost use Rattle.cc_geom.specs.Covers.{IsSound};
 ghost use Rattle.cc_pixel.specs.Colours.{clear};
 ghost use Rattle.cc_pixel.specs.Rows.{ArePremultiplied};
-ghost use Rattle.cc_display.specs.Pictures.{near, byte_count};
+ghost use Rattle.cc_display.specs.Bitmaps.{near, byte_count};
 ghost use Rattle.cc_scene.specs.Views.{quads_view, pass_view, passes_view};
 ghost use Rattle.cc_render.specs.inner.Drawing.{CanBeDrawn, AreRoomy, PassesCanBeDrawn, ShowsQuads, ShowPasses};
 

@@ -3,7 +3,7 @@
 ghost use Rattle.std.specs.Prelude.{◌≡◌, ℕ, ◌+◌, ◌*◌, ◌<◌, ◌≤◌, ℤ, pos, ◌+ℤ◌, List, length, All, slice_index_or, []};
 ghost use Rattle.cc_geom.specs.Covers.{IsSound};
 ghost use Rattle.cc_pixel.specs.Rows.{ArePremultiplied};
-ghost use Rattle.cc_display.specs.Pictures.{near, byte_count};
+ghost use Rattle.cc_display.specs.Bitmaps.{near, byte_count};
 ghost use Rattle.cc_scene.specs.Views.{quad_view, quads_view};
 ghost use Rattle.cc_scene.specs.Pixels.{quad_over, quads_over};
 ghost use Rattle.cc_render.specs.inner.Drawing.{colours, CanBeDrawn, EachQuadPixel, AreRoomy};

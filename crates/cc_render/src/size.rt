@@ -2,7 +2,7 @@
 
 ghost use Rattle.std.specs.Prelude.{◌≡◌, pos, ◌≤ℤ◌};
 ghost use Rattle.cc_geom.specs.Covers.{IsSound};
-ghost use Rattle.cc_display.specs.Pictures.{near};
+ghost use Rattle.cc_display.specs.Bitmaps.{near};
 
 use cc_geom::Rect;
 

@@ -4,7 +4,7 @@ ghost use Rattle.std.specs.Prelude.{◌≡◌, ℕ, ◌+◌, ◌*◌, ◌<◌, �
 ghost use Rattle.cc_geom.specs.Covers.{covers, IsSound};
 ghost use Rattle.cc_pixel.specs.Rows.{pixel, ArePremultiplied};
 ghost use Rattle.cc_pixel.specs.Surfaces.{IsInside, EachPixel, within};
-ghost use Rattle.cc_display.specs.Pictures.{near, byte_count};
+ghost use Rattle.cc_display.specs.Bitmaps.{near, byte_count};
 ghost use Rattle.cc_scene.specs.Views.{passes_view};
 ghost use Rattle.cc_scene.specs.Pixels.{scene_pixel};
 ghost use Rattle.cc_render.specs.inner.Drawing.{AreRoomy, PassesCanBeDrawn, ShowPasses};

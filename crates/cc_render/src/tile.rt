@@ -5,7 +5,7 @@ ghost use Rattle.cc_geom.specs.Covers.{IsSound};
 ghost use Rattle.cc_pixel.specs.Colours.{blend};
 ghost use Rattle.cc_pixel.specs.Rows.{ArePremultiplied};
 ghost use Rattle.cc_pixel.specs.Surfaces.{IsInside, EachPixel, within};
-ghost use Rattle.cc_display.specs.Pictures.{near, byte_count};
+ghost use Rattle.cc_display.specs.Bitmaps.{near, byte_count};
 ghost use Rattle.cc_scene.specs.Pixels.{placed_pixel};
 ghost use Rattle.cc_scene.specs.Sound.{IsTaken};
 ghost use Rattle.cc_raster.specs.Images.{AreSameRows};

@@ -4,7 +4,7 @@ use Rattle.serde_json.specs.Data.{Data}
 use Rattle.serde_json.specs.Find.{get}
 use Rattle.cc_geom.specs.declared.rect.Rect.{Rect}
 use Rattle.cc_pixel.specs.Colours.{Parts, is_colour}
-use Rattle.cc_display.specs.Pictures.{Picture}
+use Rattle.cc_display.specs.Bitmaps.{BitmapModel}
 use Rattle.cc_display.specs.declared.item.Item.TheVariants as item
 use Rattle.cc_edit.specs.declared.command.Command.TheVariants.{InsertItem, ReplaceItem}
 use Rattle.cc_event.specs.Ranges.{command_in_range, item_in_range, is_u32, is_rect, is_picture, are_pixels}
@@ -54,7 +54,7 @@ insert_rect_again version layer place rect colour all =
     (rw (rect_again rect h2)
     (rw (colour_again colour h3) refl)))
 
-pub insert_bitmap_again : (version layer place : ℕ) (picture : Picture)
+pub insert_bitmap_again : (version layer place : ℕ) (picture : BitmapModel)
     → (is_u32 layer && is_u32 place && (is_rect picture.rect && is_picture picture.rect picture.pixels)) ≡ true
     → command_at version (bitmap_data (codes "insert_item") layer place picture) ≡ Ok (InsertItem layer place (item.Bitmap picture))
 unfolding command_at object_at op_at op_named layer_op_named insert_item_at bitmap_data no_more number_at whole_at rect_at paint_at
@@ -84,7 +84,7 @@ replace_rect_again version layer place rect colour all =
     (rw (rect_again rect h2)
     (rw (colour_again colour h3) refl)))
 
-pub replace_bitmap_again : (version layer place : ℕ) (picture : Picture)
+pub replace_bitmap_again : (version layer place : ℕ) (picture : BitmapModel)
     → (is_u32 layer && is_u32 place && (is_rect picture.rect && is_picture picture.rect picture.pixels)) ≡ true
     → command_at version (bitmap_data (codes "replace_item") layer place picture) ≡ Ok (ReplaceItem layer place (item.Bitmap picture))
 unfolding command_at object_at op_at op_named layer_op_named replace_item_at bitmap_data no_more number_at whole_at rect_at paint_at

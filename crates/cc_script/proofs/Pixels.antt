@@ -4,7 +4,7 @@ use Rattle.std.proofs.lemmas.Bool.Decides.{nat_tests}
 use Rattle.cc_pixel.specs.Colours.{is_colour}
 use Rattle.cc_pixel.specs.Rows.{pixel, alpha_place, ArePremultiplied}
 use Rattle.cc_geom.specs.declared.rect.Rect.{Rect}
-use Rattle.cc_display.specs.Pictures.{IsPicture, near, byte_count}
+use Rattle.cc_display.specs.Bitmaps.{IsBitmap, near, byte_count}
 use Rattle.cc_display.specs.Causes.{CauseOf}
 use Rattle.cc_display.specs.declared.bitmap.BitmapCause.{BitmapCause}
 use Rattle.cc_display.specs.declared.bitmap.BitmapCause.TheVariants.{Side, Length, Pixel}
@@ -65,7 +65,7 @@ wrong_pixels (r ∷ g ∷ b ∷ a ∷ rest) (suc k) lt wrong =
     second_false _ _ (wrong_pixels rest k (omega arith) (sym (ap is_colour (next_pixel r g b a rest k)) ∙ wrong))
 
 pub picture_is : (rect : Rect) (bytes : List ℕ) → ((i : ℕ) → i < length bytes → get_or bytes i 0 < 256)
-    → IsPicture (record { rect = rect; pixels = bytes }) → is_picture rect bytes ≡ true
+    → IsBitmap (record { rect = rect; pixels = bytes }) → is_picture rect bytes ≡ true
 unfolding is_picture
 picture_is rect bytes fits h =
     both _ _ (both _ _ h.sides (eq-eqb _ _ h.size)) (right_pixels bytes (near rect.w * near rect.h) h.size fits h.premultiplied)

@@ -6,7 +6,7 @@ use Rattle.serde_json.specs.View.{items_of}
 use Rattle.serde_json.specs.Written.{has_float, items_have_float}
 use Rattle.cc_geom.specs.declared.rect.Rect.{Rect}
 use Rattle.cc_pixel.specs.Colours.{Parts}
-use Rattle.cc_display.specs.Pictures.{Picture}
+use Rattle.cc_display.specs.Bitmaps.{BitmapModel}
 use Rattle.cc_display.specs.declared.item.Item.{Item}
 use Rattle.cc_display.specs.declared.item.Item.TheVariants as kind
 use Rattle.cc_edit.specs.declared.command.Command.{Command}
@@ -180,11 +180,11 @@ nests_rect_item : (op : List ℕ) (layer place : ℕ) (rect : Rect) (colour : Pa
 unfolding rect_item_data number_data colour_data rect_data int_data
 nests_rect_item op layer place rect colour = lit≤ tt
 
-whole_bitmap : (op : List ℕ) (layer place : ℕ) (picture : Picture) → has_float (bitmap_data op layer place picture) ≡ false
+whole_bitmap : (op : List ℕ) (layer place : ℕ) (picture : BitmapModel) → has_float (bitmap_data op layer place picture) ≡ false
 unfolding bitmap_data number_data bytes_data
 whole_bitmap op layer place picture = rw (whole_rect picture.rect) refl
 
-nests_bitmap : (op : List ℕ) (layer place : ℕ) (picture : Picture) → depth (bitmap_data op layer place picture) ≤ 2
+nests_bitmap : (op : List ℕ) (layer place : ℕ) (picture : BitmapModel) → depth (bitmap_data op layer place picture) ≤ 2
 unfolding bitmap_data number_data bytes_data rect_data int_data
 nests_bitmap op layer place picture = lit≤ tt
 

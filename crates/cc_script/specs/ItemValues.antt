@@ -3,7 +3,7 @@ use Rattle.std.specs.Prelude.{ℕ, List, codes}
 use Rattle.serde_json.specs.Data.{Data, string, object, member, no_members}
 use Rattle.cc_geom.specs.declared.rect.Rect.{Rect}
 use Rattle.cc_pixel.specs.Colours.{Parts}
-use Rattle.cc_display.specs.Pictures.{Picture}
+use Rattle.cc_display.specs.Bitmaps.{BitmapModel}
 use Rattle.cc_display.specs.declared.item.Item.{Item}
 use Rattle.cc_display.specs.declared.item.Item.TheVariants as item
 use Rattle.cc_shape.specs.Values.{number_data, rect_data, colour_data, bytes_data}
@@ -19,7 +19,7 @@ rect_item_data op layer place rect colour =
     no_members)))))
 
 -- a bitmap in a command of this name
-unfoldable pub bitmap_data : List ℕ → ℕ → ℕ → Picture → Data
+unfoldable pub bitmap_data : List ℕ → ℕ → ℕ → BitmapModel → Data
 bitmap_data op layer place picture =
     object (member (codes "at") (number_data place)
     (member (codes "layer") (number_data layer)

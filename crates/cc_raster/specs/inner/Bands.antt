@@ -3,7 +3,7 @@ use Rattle.std.specs.Prelude.{◌≡◌, ◌<◌, ◌≤◌, ◌⊎◌, ℕ, ◌
 use Rattle.cc_geom.specs.declared.Rect.{Rect}
 use Rattle.cc_pixel.specs.Colours.{Parts}
 use Rattle.cc_display.specs.declared.Item.{Item}
-use Rattle.cc_display.specs.Pictures.{near}
+use Rattle.cc_display.specs.Bitmaps.{near}
 use Rattle.cc_display.specs.Content.{painted}
 use Rattle.cc_raster.specs.Images.{IsRow, AreSameRows, IsOneColour, HasTwoColours, row_bytes}
 

@@ -7,7 +7,7 @@ use Rattle.cc_pixel.specs.Rows.{pixel}
 use Rattle.cc_pixel.specs.Surfaces.{EachPixel}
 use Rattle.cc_pixel.specs.declared.Area.{Area}
 use Rattle.cc_display.specs.declared.Part.{Part}
-use Rattle.cc_display.specs.Pictures.{near, byte_count}
+use Rattle.cc_display.specs.Bitmaps.{near, byte_count}
 use Rattle.cc_raster.specs.Images.{Image, shown}
 use Rattle.cc_scene.specs.Views.{QuadView, tiled, plain, grouped}
 use Rattle.cc_scene.specs.Pixels.{quads_over, passes_at}

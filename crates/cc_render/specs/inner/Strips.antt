@@ -2,7 +2,7 @@
 use Rattle.std.specs.Prelude.{ℕ, ◌+◌, ◌*◌, ◌<◌, ◌≤◌, ◌≡◌, pos, ◌+ℤ◌, List, length}
 use Rattle.cc_geom.specs.declared.Rect.{Rect}
 use Rattle.cc_pixel.specs.Rows.{pixel}
-use Rattle.cc_display.specs.Pictures.{near}
+use Rattle.cc_display.specs.Bitmaps.{near}
 use Rattle.cc_scene.specs.Views.{SceneView}
 use Rattle.cc_scene.specs.Pixels.{scene_pixel}
 use Rattle.cc_render.specs.declared.strip.Surfaces.{Surfaces}

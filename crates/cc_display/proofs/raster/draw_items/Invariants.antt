@@ -1,7 +1,7 @@
 use Rattle.std.specs.Prelude.{pos, ◌+ℤ◌, fold, take}
 use Rattle.cc_pixel.specs.Rows.{ArePremultiplied}
 use Rattle.cc_pixel.specs.Surfaces.{EachPixel}
-use Rattle.cc_display.specs.Pictures.{near}
+use Rattle.cc_display.specs.Bitmaps.{near}
 use Rattle.cc_display.specs.Content.{painted}
 use Rattle.cc_display.proofs.raster.draw_items.Given as given
 

@@ -1,7 +1,7 @@
 -- One pixel more was added.
 use Rattle.std.proofs.Common.{◌≡◌, ℕ, ◌+◌, ◌*◌, ◌++◌, List, ap, ◌∙◌, arith}
 use Rattle.cc_pixel.specs.Rows.{pixel}
-use Rattle.cc_event.specs.Recordings.{first, rgb, image_row}
+use Rattle.cc_event.specs.Recordings.{joined, rgb, image_row}
 use Rattle.cc_play.proofs.Rows.{first_behind}
 use Rattle.cc_play.proofs.picture.push_row.Goals as goal
 
@@ -13,4 +13,4 @@ pub returns : goal.returns
 unfolding image_row
 returns c =
     let whole : c.loop-x.x ≡ c.args.w = omega (arith, c.loop-x.auto.x-end, c.loop-x-test.false) in
-    c.loop-x.invariant ∙ ap (λ (n : ℕ). c.args.text.now.items ++ first n (λ x. rgb (pixel c.args.bytes.now (c.args.y * c.args.w + x)))) whole
+    c.loop-x.invariant ∙ ap (λ (n : ℕ). c.args.text.now.items ++ joined n (λ x. rgb (pixel c.args.bytes.now (c.args.y * c.args.w + x)))) whole

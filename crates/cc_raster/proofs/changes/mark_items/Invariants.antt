@@ -1,6 +1,6 @@
 use Rattle.std.proofs.Common.{ℕ, ◌≡◌, ◌<◌, ◌+◌, true, false, take}
 use Rattle.std.specs.Prelude.{slice_index_or, length}
-use Rattle.cc_display.specs.Pictures.{near}
+use Rattle.cc_display.specs.Bitmaps.{near}
 use Rattle.cc_raster.specs.Images.{AreSameRows}
 use Rattle.cc_raster.proofs.changes.mark_items.Given as given
 

@@ -1,6 +1,6 @@
 -- A run of rows is drawn, and the rows that are equal to its last are kept with it.
 use Rattle.std.proofs.Common.{◌≡◌, ◌+◌, ◌-◌, length, arith}
-use Rattle.cc_display.specs.Pictures.{near}
+use Rattle.cc_display.specs.Bitmaps.{near}
 use Rattle.cc_raster.proofs.KeptRows.{run_room, rows_and_run, rows_and_equal, fresh_place}
 use Rattle.cc_raster.proofs.draw.draw_rows.Goals as goal
 

@@ -1,6 +1,6 @@
 -- The run of rows stands in place of the bytes before.
 use Rattle.std.proofs.Common.{subst}
-use Rattle.cc_display.specs.Pictures.{near}
+use Rattle.cc_display.specs.Bitmaps.{near}
 use Rattle.cc_display.specs.Content.{IsRaster}
 use Rattle.cc_raster.proofs.KeptRows.{lower, run_drawn, row_left}
 use Rattle.cc_raster.proofs.draw.draw_run.Goals as goal

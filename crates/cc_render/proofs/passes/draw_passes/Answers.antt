@@ -2,7 +2,7 @@
 use Rattle.std.proofs.Common.{◌≡◌, ◌≤◌, ◌++◌, length, take, drop, set, ◌∙◌, ap, sym, subst, arith}
 use Rattle.std.specs.Prelude.{All}
 use Rattle.std.proofs.lemmas.List.Elements.{All-set, All-take}
-use Rattle.cc_display.specs.Pictures.{byte_count}
+use Rattle.cc_display.specs.Bitmaps.{byte_count}
 use Rattle.cc_scene.specs.Views.{passes_view, quads_view}
 use Rattle.cc_render.specs.inner.Drawing.{ShowPasses, AreRoomy, ShowsQuads, CanBeDrawn}
 use Rattle.cc_render.proofs.PassSteps.{joined_set, room_behind, passes_more, passes_all, pass_drawable}

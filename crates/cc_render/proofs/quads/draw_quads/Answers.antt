@@ -2,7 +2,7 @@
 use Rattle.std.proofs.Common.{◌+◌, ◌*◌, pos, ◌+ℤ◌, ◌∙◌, ap, arith}
 use Rattle.cc_pixel.specs.Colours.{Parts}
 use Rattle.cc_pixel.specs.Rows.{pixel}
-use Rattle.cc_display.specs.Pictures.{near}
+use Rattle.cc_display.specs.Bitmaps.{near}
 use Rattle.cc_scene.specs.Views.{quad_view}
 use Rattle.cc_scene.specs.Pixels.{quad_over}
 use Rattle.std.specs.Prelude.{length}

@@ -1,7 +1,7 @@
 -- The items are drawn over transparent pixels.
 use Rattle.std.proofs.Common.{◌++◌, ◌≡◌, length, drop, take, arith}
 use Rattle.std.proofs.lemmas.List.{take_at}
-use Rattle.cc_display.specs.Pictures.{byte_count}
+use Rattle.cc_display.specs.Bitmaps.{byte_count}
 use Rattle.cc_display.proofs.Draws.{raster_made}
 use Rattle.cc_display.proofs.list.DisplayList.raster.Goals as goal
 

@@ -1,6 +1,6 @@
 -- The rows that share a place are equal.
 use Rattle.std.proofs.Common.{ℕ, ◌≡◌, ◌<◌, ◌+◌, List, length, slice_index, sym, ap, subst, arith}
-use Rattle.cc_display.specs.Pictures.{near}
+use Rattle.cc_display.specs.Bitmaps.{near}
 use Rattle.cc_raster.specs.Images.{Image}
 use Rattle.cc_raster.specs.Images.{AreSameRows}
 use Rattle.cc_raster.proofs.KeptRows.{kept_agree}

@@ -5,7 +5,7 @@ use Rattle.cc_pixel.specs.Colours.{Parts}
 use Rattle.cc_pixel.specs.Rows.{pixel, ArePremultiplied}
 
 -- the pixels of a rect as bytes, row by row from the top, each row from the left
-pub record Picture : Type 0 where
+pub record BitmapModel : Type 0 where
   pub rect : Rect
   pub pixels : List ℕ
 
@@ -27,11 +27,11 @@ abbrev pub byte_count : ℤ → ℤ → ℕ
 byte_count w h = 4 * (near w * near h)
 
 -- the pixels are right for the rect: its sides fit, the bytes are its pixels, and each is premultiplied
-pub record IsPicture (p : Picture) : Type 0 where
+pub record IsBitmap (p : BitmapModel) : Type 0 where
   pub sides : has_sides p.rect.w p.rect.h ≡ true
   pub size : length p.pixels ≡ byte_count p.rect.w p.rect.h
   pub premultiplied : ArePremultiplied p.pixels
 
 -- the pixel of a picture at a point that its rect covers
-unfoldable pub picture_pixel : Picture → ℤ → ℤ → Parts
-picture_pixel p x y = pixel p.pixels (near (y -ℤ p.rect.y) * near p.rect.w + near (x -ℤ p.rect.x))
+unfoldable pub bitmap_pixel : BitmapModel → ℤ → ℤ → Parts
+bitmap_pixel p x y = pixel p.pixels (near (y -ℤ p.rect.y) * near p.rect.w + near (x -ℤ p.rect.x))
