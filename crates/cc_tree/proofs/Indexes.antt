@@ -3,8 +3,9 @@ use Rattle.std.proofs.Common.{◌≡◌, ℕ, zero, suc, ◌+◌, ◌<◌, ◌�
 use Rattle.std.proofs.lemmas.Bool.Decides.{nat_tests}
 use Rattle.std.proofs.lemmas.Bool.{cases_lt, cases_order}
 use Rattle.std.proofs.lemmas.List.{reverse-append, reverse-reverse, length-reverse, length-map, set-append_left, set_at}
-use Rattle.std.proofs.lemmas.List.Sums.{prefix_len-le-length, prefix_len_passes}
+use Rattle.std.proofs.lemmas.List.Sums.{prefix_len-le-length}
 use Rattle.std.specs.List.{prefix_len, insert}
+use Rattle.std.specs.List.Sorted.{IsPartitionedBy, IsPartitionPoint}
 use Rattle.cc_tree.specs.declared.index.IndexEntry.{IndexEntry}
 use Rattle.cc_tree.specs.inner.Index.{put, index_of, place_of, listed_place, front, AreAbove, AreRising, IsIndex, IsEntryOf}
 use Rattle.cc_tree.specs.Entries.{ids, find, knows, changed, AreDistinct}
@@ -14,27 +15,30 @@ above_at id [] k d a h = absurd (omega arith)
 above_at id (s ∷ ss) zero d a h = a.0
 above_at id (s ∷ ss) (suc k) d a h = above_at id ss k d a.1 (omega arith)
 
--- a entry with a smaller id is in the front
-pub in_front : (id : ℕ) (entries : List IndexEntry) (k : ℕ) (d : IndexEntry) → AreRising entries → k < length entries → (get_or entries k d).id < id
-    → k < front id entries
-unfolding front
-in_front id [] k d r h l = absurd (omega arith)
-in_front id (s ∷ ss) zero d r h l = let t : nat_lt s.id id ≡ true = grind (arith, nat_tests) in rw t (omega arith)
-in_front id (s ∷ ss) (suc k) d r h l =
-    let a = above_at s.id ss k d r.0 (omega arith) in
-    let t : nat_lt s.id id ≡ true = grind (arith, nat_tests) in
-    let i = in_front id ss k d r.1 (omega arith) l in rw t (omega arith)
+-- where an entry has a smaller id, those before it have smaller ones
+pub smaller_first : (id : ℕ) (entries : List IndexEntry) → AreRising entries → IsPartitionedBy (λ s. nat_lt s.id id) entries
+smaller_first id [] r i j d le lt e = absurd (omega arith)
+smaller_first id (s ∷ ss) r zero zero d le lt e = e
+smaller_first id (s ∷ ss) r zero (suc j) d le lt e =
+    let a = above_at s.id ss j d r.0 (omega arith) in grind (arith, nat_tests)
+smaller_first id (s ∷ ss) r (suc i) zero d le lt e = absurd (omega arith)
+smaller_first id (s ∷ ss) r (suc i) (suc j) d le lt e = smaller_first id ss r.1 i j d (omega arith) (omega arith) e
 
-upto_by : (id : ℕ) (entries : List IndexEntry) (k : ℕ) (d : IndexEntry) → id ≤ (get_or entries k d).id
-    → (k < prefix_len (λ s. nat_lt s.id id) entries) ⊎ (prefix_len (λ s. nat_lt s.id id) entries ≤ k) → prefix_len (λ s. nat_lt s.id id) entries ≤ k
-upto_by id entries k d h (inl l) =
-    let t : nat_lt (get_or entries k d).id id ≡ true = prefix_len_passes (λ s. nat_lt s.id id) entries k d l in absurd (grind (arith, nat_tests))
-upto_by id entries k d h (inr m) = m
+-- the place between those that pass and those that fail is the length of the front that passes
+point_is : (p : IndexEntry → Bool) (entries : List IndexEntry) (i : ℕ) → IsPartitionPoint (λ s. p s ≡ true) (λ s. p s ≡ false) entries i → i ≤ length entries
+    → i ≡ prefix_len p entries
+point_is p [] zero s h = refl
+point_is p [] (suc i) s h = absurd (omega arith)
+point_is p (x ∷ xs) zero s h = let f : p x ≡ false = s.1 0 x (omega arith) (omega arith) in rw f refl
+point_is p (x ∷ xs) (suc i) s h =
+    let t : p x ≡ true = s.0 0 x (omega arith) (omega arith) in
+    let e = point_is p xs i ((λ k d l u. s.0 (suc k) d (omega arith) (omega arith)), (λ k d l u. s.1 (suc k) d (omega arith) (omega arith))) (omega arith) in
+    rw t (omega (arith, e))
 
--- no entry without a smaller id is in it
-pub front_upto : (id : ℕ) (entries : List IndexEntry) (k : ℕ) (d : IndexEntry) → id ≤ (get_or entries k d).id → front id entries ≤ k
+pub point_is_front : (id : ℕ) (entries : List IndexEntry) (i : ℕ) → IsPartitionPoint (λ s. nat_lt s.id id ≡ true) (λ s. nat_lt s.id id ≡ false) entries i → i ≤ length entries
+    → i ≡ front id entries
 unfolding front
-front_upto id entries k d h = upto_by id entries k d h (cases_lt k (prefix_len (λ s. nat_lt s.id id) entries))
+point_is_front id entries i s h = point_is (λ s. nat_lt s.id id) entries i s h
 
 pub front_le : (id : ℕ) (entries : List IndexEntry) → front id entries ≤ length entries
 unfolding front

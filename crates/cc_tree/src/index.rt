@@ -13,23 +13,12 @@ pub struct IndexEntry {
 }
 
 /// How many entries have a smaller id. The work grows with the logarithm of their number.
-#[tactic(auto, using(crate::proofs::Indexes::in_front, crate::proofs::Indexes::front_upto, crate::proofs::Indexes::front_le))]
 pub fn count_below(entries: &[IndexEntry], id: u32) -> usize
     requires { AreRising entries.now }
     ensures value { result ≡ front id entries.now }
     ensures within { result ≤ length entries.now }
 {
-    let mut low = 0;
-    let mut high = entries.len();
-    while low < high {
-        let middle = low + (high - low) / 2;
-        if entries[middle].id < id {
-            low = middle + 1;
-        } else {
-            high = middle;
-        }
-    }
-    low
+    entries.partition_point(|entry| entry.id < id)
 }
 
 /// The place of an id; None where no entry has it.
