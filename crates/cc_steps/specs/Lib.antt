@@ -1,1 +1,4 @@
 pub mod Events
+pub mod Standing
+pub mod Choices
+pub mod ShownKeys

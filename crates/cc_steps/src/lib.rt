@@ -5,5 +5,16 @@
 #![tactic(auto)]
 
 mod laws;
+mod laws_choice;
+mod laws_tiles;
+mod laws_values;
 
 pub use laws::{dones_change_the_choice, starts_change_the_choice};
+pub use laws_choice::{
+    aborts_leave_the_choice, activations_keep_the_pending_tree, commits_leave_the_ready_keys,
+    sends_leave_the_choice, trees_and_keys_make_the_choice,
+};
+pub use laws_tiles::{layers_show_their_keys, ready_keys_were_ready};
+pub use laws_values::{
+    activations_list_the_clamps, sends_list_what_is_unheard, values_tell_the_offsets,
+};
