@@ -6,3 +6,4 @@ pub mod TreesAfter
 pub mod ListedMoves
 pub mod KeysShown
 pub mod ReadyAfter
+pub mod SameKeys

@@ -1,8 +1,12 @@
 //! What sends, aborts, commits and activations do to the two trees and to the choice of tiles. They are
 //! contracts of functions that do nothing, over pasts, which list the newest entry first.
 
-ghost use Rattle.std.specs.Prelude.{◌≡◌, ℕ, false, List, ◌∷◌, ◌++◌, filter, length, Some, None};
-ghost use Rattle.cc_geom.specs.KeyLists.{has_key};
+ghost use Rattle.std.specs.Prelude.{◌≡◌, ℕ, false, List, ◌∷◌, ◌++◌, map, filter, filter_map, length, Some, None};
+ghost use Rattle.cc_geom.specs.declared.tile.TileKey.{TileKey as Key};
+ghost use Rattle.cc_geom.specs.KeyLists.{has_key, AreDistinct};
+ghost use Rattle.cc_priority.specs.declared.rank.Rank.{Rank};
+ghost use Rattle.cc_priority.specs.Ordered.{SameMembers};
+ghost use Rattle.cc_priority.specs.Alike.{Alike};
 ghost use Rattle.cc_edit.specs.declared.moves.Move.{Move};
 ghost use Rattle.cc_event.specs.declared.history.Entry.{Entry};
 ghost use Rattle.cc_event.specs.Scripts.{ScriptModel};
@@ -10,10 +14,10 @@ ghost use Rattle.cc_event.specs.Frames.{pending};
 ghost use Rattle.cc_event.specs.Scrolls.{clobbers};
 ghost use Rattle.cc_event.specs.Accepted.{IsAccepted};
 ghost use Rattle.cc_event.specs.Legal.{Legal};
-ghost use Rattle.cc_event.specs.Tiles.{active_tree, pending_tree, keys_of, live_keys, in_flight, ready, pinned};
+ghost use Rattle.cc_event.specs.Tiles.{Tree, active_tree, pending_tree, keys_of, live_keys, in_flight, ready, pinned};
 ghost use Rattle.cc_event.specs.Ranking.{choice};
 ghost use Rattle.cc_steps.specs.Events.{send, abort, commit, activate};
-ghost use Rattle.cc_steps.specs.Choices.{choice_of};
+ghost use Rattle.cc_steps.specs.Choices.{rank_in_both, is_missing, tile_in_both, choice_of};
 
 /// The choice of tiles is made from the two trees and the ready, the pinned and the keys in flight.
 pub fn trees_and_keys_make_the_choice()
@@ -50,4 +54,10 @@ pub fn activations_keep_the_pending_tree()
     ensures active { (s : ScriptModel) (workers : ℕ) (h : List Entry) (actor k : ℕ) (clamps : List Move) → Legal s workers (activate actor k clamps ∷ h) → active_tree s (activate actor k clamps ∷ h) ≡ pending_tree s h }
     ensures live { (s : ScriptModel) (workers : ℕ) (h : List Entry) (actor k : ℕ) (clamps : List Move) → Legal s workers (activate actor k clamps ∷ h) → live_keys s (activate actor k clamps ∷ h) ≡ keys_of (pending_tree s h) }
     ensures ready { (s : ScriptModel) (workers : ℕ) (h : List Entry) (actor k : ℕ) (clamps : List Move) → IsAccepted s → Legal s workers (activate actor k clamps ∷ h) → ready s (activate actor k clamps ∷ h) ≡ filter (has_key (keys_of (pending_tree s h))) (ready s h) }
+{}
+
+/// A choice is that of two trees, but for the order of its lists, where its ranks are those of the keys
+/// that are neither ready nor in flight, and its tiles those of the ready keys, each once.
+pub fn rebuilt_choices_are_alike()
+    ensures { (s : ScriptModel) (a p : Tree) (ready in_flight pinned kept : List Key) (ranks : List Rank) → SameMembers ranks (filter_map (rank_in_both s a p) (filter (is_missing ready in_flight) (keys_of a ++ keys_of p))) → AreDistinct kept → AreDistinct ready → ((q : Key) → has_key kept q ≡ has_key ready q) → Alike (record { wanted = ranks; ready = map (tile_in_both s a p pinned) kept; in_flight = length in_flight; budget = s.budget }) (choice_of s a p ready in_flight pinned) }
 {}

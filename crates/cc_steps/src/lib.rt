@@ -12,7 +12,7 @@ mod laws_values;
 pub use laws::{dones_change_the_choice, starts_change_the_choice};
 pub use laws_choice::{
     aborts_leave_the_choice, activations_keep_the_pending_tree, commits_leave_the_ready_keys,
-    sends_leave_the_choice, trees_and_keys_make_the_choice,
+    rebuilt_choices_are_alike, sends_leave_the_choice, trees_and_keys_make_the_choice,
 };
 pub use laws_tiles::{layers_show_their_keys, ready_keys_were_ready};
 pub use laws_values::{
