@@ -1,0 +1,4 @@
+pub mod Inputs
+pub mod ShortRuns
+pub mod ProgressSteps
+pub mod LogSteps

@@ -1,0 +1,3 @@
+pub mod Runs
+pub mod Progress
+pub mod inner
