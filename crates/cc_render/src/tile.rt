@@ -28,13 +28,13 @@ pub(crate) fn draw_tile(surface: &mut [u8], area: Rect, image: &TileImage, at: R
     ensures pixels { EachPoint area (laid_on at (placed_pixel image.now at from)) surface.old surface.new }
     ensures premultiplied { ArePremultiplied surface.old → ArePremultiplied surface.new }
 {
+    let Some(part) = shared_part(at, area) else {
+        return;
+    };
     if let Some(colour) = image.solid() {
         draw_solid(surface, area, at, colour);
         return;
     }
-    let Some(part) = shared_part(at, area) else {
-        return;
-    };
     let part = taken_part(part, from);
     draw_part(surface, width_of(area), height_of(area), image, part);
 }
