@@ -30,12 +30,20 @@ module _ (s : ScriptModel) (n : ℕ) (h : List Entry) (actor w : ℕ) (q : TileK
   abbrev next : List Entry
   next = done actor w q ∷ h
 
-  flies : has_key (in_flight h) q ≡ true
+  pub flies : has_key (in_flight h) q ≡ true
   flies = (tile_course s n h legal.0).held_in_flight w q (at_done s n h actor w q legal.1)
 
   -- one fewer is in flight
   one_fewer : length (in_flight h) - 1 ≡ length (in_flight next)
   one_fewer = let e = shorter (in_flight h) q (tile_course s n h legal.0).in_flight_once flies in omega arith
+
+  -- the key is ready then where it is live
+  pub ready_done : (k : TileKey) → has_key (ready s next) k ≡ ((has_key (live_keys s h) q && same_key q k) || has_key (ready s h) k)
+  ready_done k = by_live (has_key (live_keys s h) q)
+    where
+      by_live : (b : Bool) → has_key (cond b (q ∷ ready s h) (ready s h)) k ≡ ((b && same_key q k) || has_key (ready s h) k)
+      by_live true = refl
+      by_live false = refl
 
   -- which keys are unmade stays the same among the live ones
   same_unmade : (k : TileKey) → In k (live_keys s h) → is_unmade s next k ≡ is_unmade s h k
@@ -44,22 +52,15 @@ module _ (s : ScriptModel) (n : ℕ) (h : List Entry) (actor w : ℕ) (q : TileK
       live : has_key (live_keys s h) k ≡ true
       live = has_in (live_keys s h) k i
 
-      ready_then : (b : Bool) → has_key (live_keys s h) q ≡ b → has_key (cond b (q ∷ ready s h) (ready s h)) k ≡ ((b && same_key q k) || has_key (ready s h) k)
-      ready_then true e = refl
-      ready_then false e = refl
-
-      is_ready : has_key (ready s next) k ≡ ((has_key (live_keys s h) q && same_key q k) || has_key (ready s h) k)
-      is_ready = ready_then (has_key (live_keys s h) q) refl
-
       by_key : (b : Bool) → same_key q k ≡ b → is_unmade s next k ≡ is_unmade s h k
       by_key true e =
           let d : q ≡ k = one_key q k e in
           let l : has_key (live_keys s h) q ≡ true = ap (has_key (live_keys s h)) d ∙ live in
           let f : has_key (in_flight h) k ≡ true = ap (has_key (in_flight h)) (sym d) ∙ flies in
-          let r : has_key (ready s next) k ≡ true = is_ready ∙ (λ j. (l j && e j) || has_key (ready s h) k) in
+          let r : has_key (ready s next) k ≡ true = ready_done k ∙ (λ j. (l j && e j) || has_key (ready s h) k) in
           ap (λ b. not b && not (has_key (in_flight next) k)) r ∙ sym (ap (λ b. not (has_key (ready s h) k) && not b) f ∙ and_false (not (has_key (ready s h) k)))
       by_key false e =
-          let r : has_key (ready s next) k ≡ has_key (ready s h) k = is_ready ∙ ap (λ b. (has_key (live_keys s h) q && b) || has_key (ready s h) k) e ∙ ap (λ b. b || has_key (ready s h) k) (and_false (has_key (live_keys s h) q)) in
+          let r : has_key (ready s next) k ≡ has_key (ready s h) k = ready_done k ∙ ap (λ b. (has_key (live_keys s h) q && b) || has_key (ready s h) k) e ∙ ap (λ b. b || has_key (ready s h) k) (and_false (has_key (live_keys s h) q)) in
           let f : has_key (in_flight next) k ≡ has_key (in_flight h) k = has_without (in_flight h) (q ∷ []) k ∙ ap (λ b. has_key (in_flight h) k && not (b || false)) e ∙ and_true (has_key (in_flight h) k) in
           λ j. not (r j) && not (f j)
 

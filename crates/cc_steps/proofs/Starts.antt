@@ -34,17 +34,17 @@ module _ (s : ScriptModel) (n : ℕ) (h : List Entry) (actor w : ℕ) (q : TileK
   tiles_next : filter (λ t. not (is_among evicted t)) (map (ready_tile s h) (ready s h)) ≡ map (ready_tile s next) (ready s next)
   tiles_next = filter_map_test (ready_tile s h) (λ t. not (is_among evicted t)) (ready s h) ∙ ap (map (ready_tile s h)) (sym ready_next)
 
-  has_ready_next : (k : TileKey) → has_key (ready s next) k ≡ (has_key (ready s h) k && not (has_key evicted k))
+  pub has_ready_next : (k : TileKey) → has_key (ready s next) k ≡ (has_key (ready s h) k && not (has_key evicted k))
   has_ready_next k = ap (λ ks. has_key ks k) ready_next ∙ has_filter (λ k. not (has_key evicted k)) (ready s h) k
 
   -- what starts is neither ready nor in flight, and what is given up is ready and not in flight
-  new_key : (has_key (ready s h) q ≡ false) × (has_key (in_flight h) q ≡ false)
+  pub new_key : (has_key (ready s h) q ≡ false) × (has_key (in_flight h) q ≡ false)
   new_key =
       let d = at_start s n h actor w q evicted legal.1 in
       let u = first_unmade s h d.rank d.is_first in
       (ap (has_key (ready s h)) d.key ∙ u.not_ready, ap (has_key (in_flight h)) d.key ∙ u.not_in_flight)
 
-  gone_ready : (k : TileKey) → has_key evicted k ≡ true → has_key (ready s h) k ≡ true
+  pub gone_ready : (k : TileKey) → has_key evicted k ≡ true → has_key (ready s h) k ≡ true
   gone_ready k t =
       let d = at_start s n h actor w q evicted legal.1 in
       (evicted_may_go s h d.rank k (ap (λ ks. has_key ks k) (sym d.gives_up) ∙ t)).is_ready

@@ -20,7 +20,7 @@ use Rattle.cc_event.specs.Scans.{newest, counted}
 use Rattle.cc_event.specs.Frames.{page, pulls_of, active, pending, up_to, active_page, pending_page}
 use Rattle.cc_event.specs.Scrolls.{offset, offset_then, pending_offset, clobbers, active_offsets, pending_offsets}
 use Rattle.cc_event.specs.Stamps.{stamp_in}
-use Rattle.cc_event.specs.Tiles.{Tree, active_tree, pending_tree, keys_of, made, in_flight, pinned}
+use Rattle.cc_event.specs.Tiles.{Tree, active_tree, pending_tree, keys_of, made, in_flight, ready, pinned}
 use Rattle.cc_event.specs.Ranking.{choice}
 use Rattle.cc_event.specs.Values.{values}
 use Rattle.cc_event.specs.Legal.{Legal}
@@ -49,6 +49,10 @@ same_tree p q f g st su e o t = λ i. tree_of (e i) (o i) (λ layer place. t lay
 pub same_choice : (s : ScriptModel) (h g : List Entry) → active_tree s g ≡ active_tree s h → pending_tree s g ≡ pending_tree s h
     → made g ≡ made h → in_flight g ≡ in_flight h → pinned s g ≡ pinned s h → choice s g ≡ choice s h
 same_choice s h g a p m f q = λ i. choice_of s (a i) (p i) (filter (has_key (keys_of (a i) ++ keys_of (p i))) (m i)) (f i) (q i)
+
+-- and so are the ready keys
+pub same_ready : (s : ScriptModel) (h g : List Entry) → active_tree s g ≡ active_tree s h → pending_tree s g ≡ pending_tree s h → made g ≡ made h → ready s g ≡ ready s h
+same_ready s h g a p m = λ i. filter (has_key (keys_of (a i) ++ keys_of (p i))) (m i)
 
 -- a send
 
@@ -79,6 +83,9 @@ module _ (s : ScriptModel) (n : ℕ) (h : List Entry) (a k : ℕ) (ms : List Mov
       same_tree (pending_page s sent) (pending_page s h) (pending_offsets s sent) (pending_offsets s h) (stamp_in s (pulls_of sent) (up_to (pending h))) (stamp_in s (pulls_of h) (up_to (pending h))) p
       (same_offsets (pending_page s sent) (pending_page s h) (pending_offset s sent) (pending_offset s h) p o)
       (stamps_stay (up_to (pending h)) l)
+
+  pub send_ready : ready s sent ≡ ready s h
+  send_ready = same_ready s h sent send_active send_pending refl
 
   pub send_choice : choice s sent ≡ choice s h
   send_choice = same_choice s h sent send_active send_pending refl refl refl
@@ -114,6 +121,9 @@ module _ (s : ScriptModel) (n : ℕ) (h : List Entry) (a k : ℕ) (legal : Legal
       (same_offsets (pending_page s h) (pending_page s h) (pending_offset s ended) (pending_offset s h) refl (λ sc ax t.
       pending_is s n ended legal sc ax ∙ (brought_kept (clobbers s (pending h) sc) (most (pending_page s h) sc ax) (values s sc ax h) (none sc) ∙ sym (pending_is s n h legal.0 sc ax))))
       (λ layer place. refl)
+
+  pub abort_ready : ((sc : ℕ) → clobbers s (pending h) sc ≡ false) → ready s ended ≡ ready s h
+  abort_ready none = same_ready s h ended abort_active (abort_pending none) refl
 
   pub abort_choice : ((sc : ℕ) → clobbers s (pending h) sc ≡ false) → choice s ended ≡ choice s h
   abort_choice none = same_choice s h ended abort_active (abort_pending none) refl refl refl
