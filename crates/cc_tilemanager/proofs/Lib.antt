@@ -1,0 +1,5 @@
+pub mod Bools
+pub mod StartTiles
+pub mod DoneTiles
+pub mod OtherTiles
+pub mod PinFacts

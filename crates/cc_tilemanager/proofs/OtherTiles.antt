@@ -1,0 +1,102 @@
+-- A manager at the beginning, with another queue, after an activation and after a send.
+use Rattle.std.proofs.Common.{◌≡◌, ℕ, true, ◌&&◌, Some, None, is_some, List, [], ◌∷◌, refl, sym, ◌∙◌, ap, subst}
+use Rattle.std.specs.FinMap.{get-empty}
+use Rattle.std.specs.FinSet.{contains-empty}
+use Rattle.cc_geom.specs.declared.tile.TileKey.{TileKey}
+use Rattle.cc_geom.specs.KeyOrder.{key_cmp}
+use Rattle.cc_geom.specs.KeyLists.{has_key}
+use Rattle.cc_priority.specs.Choice.{Choice}
+use Rattle.cc_priority.specs.Alike.{Alike}
+use Rattle.cc_edit.specs.declared.moves.Move.{Move}
+use Rattle.cc_raster.specs.Images.{Image}
+use Rattle.cc_store.specs.Stores.{image_of, empty_store, kept}
+use Rattle.cc_store.proofs.StoreWords.{image_of-kept}
+use Rattle.cc_event.specs.declared.history.Entry.{Entry}
+use Rattle.cc_event.specs.Scripts.{ScriptModel}
+use Rattle.cc_event.specs.Accepted.{IsAccepted}
+use Rattle.cc_event.specs.Legal.{Legal}
+use Rattle.cc_event.specs.Tiles.{page_keys, pending_tree, keys_of, ready, required}
+use Rattle.cc_event.specs.Ranking.{choice}
+use Rattle.cc_event.proofs.KeyFacts.{has_filter}
+use Rattle.cc_steps.specs.Events.{send, activate}
+use Rattle.cc_steps.proofs.TreesAfter.{send_ready, send_choice}
+use Rattle.cc_steps.proofs.ReadyAfter.{activate_ready}
+use Rattle.cc_tilemanager.specs.Managers.{Managed, Manages, HaveSameTiles}
+use Rattle.cc_tilemanager.proofs.Bools.{some_left, left_some, asked_where}
+
+-- at the beginning
+
+no_choice : (s : ScriptModel) (budget : ℕ) → s.budget ≡ budget → record { wanted = []; ready = []; in_flight = 0; budget = budget } ≡ choice s []
+unfolding page_keys
+no_choice s budget e = λ i. record { wanted = []; ready = []; in_flight = 0; budget = sym e i }
+
+none_there : (q : TileKey) (i : Image) → None ≡ Some i → (i.key ≡ q) × ⊥
+none_there q i e = absurd cc
+
+pub begins_empty : (s : ScriptModel) (budget spare : ℕ) (queue : Choice) → s.budget ≡ budget → Alike queue (record { wanted = []; ready = []; in_flight = 0; budget = budget })
+    → Manages s [] (record { store = empty_store spare; pinned = []; queue = queue })
+begins_empty s budget spare queue e same = record {
+  ready = λ q. ap is_some (get-empty key_cmp q);
+  in_flight = λ q. contains-empty key_cmp q;
+  pinned = λ q. refl;
+  unpinned = λ q. contains-empty key_cmp q;
+  images = λ q i f. absurd ((none_there q i (sym (get-empty key_cmp q) ∙ f)).1);
+  queue = subst (Alike queue) (no_choice s budget e) same;
+}
+
+-- with another queue
+
+pub requeued : (s : ScriptModel) (h g : List Entry) (m : Managed) (queue : Choice) → Manages s h m → HaveSameTiles s h g → Alike queue (choice s g)
+    → Manages s g (record { store = m.store; pinned = m.pinned; queue = queue })
+requeued s h g m queue holds same q = record {
+  ready = λ k. holds.ready k ∙ sym (same.ready k);
+  in_flight = λ k. holds.in_flight k ∙ sym (same.in_flight k);
+  pinned = λ k. holds.pinned k ∙ sym (same.pinned k);
+  unpinned = holds.unpinned;
+  images = holds.images;
+  queue = q;
+}
+
+-- after an activation
+
+pub activate_holds : (s : ScriptModel) (n : ℕ) (h : List Entry) (a k : ℕ) (ms : List Move) (m : Managed) (pins live : List TileKey) (spare : ℕ) (queue : Choice)
+    → IsAccepted s → Legal s n (activate a k ms ∷ h) → Manages s h m → ((q : TileKey) → has_key pins q ≡ has_key (required s h) q)
+    → ((q : TileKey) → has_key (ready s h) q ≡ true → has_key live q ≡ has_key (keys_of (pending_tree s h)) q) → Alike queue (choice s (activate a k ms ∷ h))
+    → Manages s (activate a k ms ∷ h) (record { store = kept m.store live spare; pinned = pins; queue = queue })
+activate_holds s n h a k ms m pins live spare queue acc legal holds needed lives same = record {
+  ready = λ q.
+      ap is_some (image_of-kept m.store spare q live)
+      ∙ (some_left (has_key live q) (image_of m.store q)
+      ∙ (ap (λ b. b && has_key live q) (holds.ready q)
+      ∙ (asked_where (has_key (ready s h) q) (has_key live q) (has_key (keys_of (pending_tree s h)) q) (lives q)
+      ∙ (sym (has_filter (has_key (keys_of (pending_tree s h))) (ready s h) q) ∙ sym (ap (λ ks. has_key ks q) (activate_ready s n h a k ms acc legal))))));
+  in_flight = holds.in_flight;
+  pinned = needed;
+  unpinned = holds.unpinned;
+  images = λ q i e. holds.images q i (left_some (has_key live q) (image_of m.store q) i (sym (image_of-kept m.store spare q live) ∙ e));
+  queue = same;
+}
+
+-- after a send
+
+pub send_holds : (s : ScriptModel) (n : ℕ) (h : List Entry) (m : Managed) (a k : ℕ) (ms : List Move) → Legal s n (send a k ms ∷ h) → Manages s h m → Manages s (send a k ms ∷ h) m
+send_holds s n h m a k ms legal holds = record {
+  ready = λ q. holds.ready q ∙ sym (ap (λ ks. has_key ks q) (send_ready s n h a k ms legal));
+  in_flight = holds.in_flight;
+  pinned = holds.pinned;
+  unpinned = holds.unpinned;
+  images = holds.images;
+  queue = subst (Alike m.queue) (sym (send_choice s n h a k ms legal)) holds.queue;
+}
+
+-- with more room
+
+pub roomier : (s : ScriptModel) (h : List Entry) (m : Managed) (spare : ℕ) → Manages s h m → Manages s h (record { store = record m.store { spare = spare }; pinned = m.pinned; queue = m.queue })
+roomier s h m spare holds = record {
+  ready = holds.ready;
+  in_flight = holds.in_flight;
+  pinned = holds.pinned;
+  unpinned = holds.unpinned;
+  images = holds.images;
+  queue = holds.queue;
+}

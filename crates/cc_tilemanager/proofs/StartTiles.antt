@@ -1,0 +1,60 @@
+-- A manager starts a tile.
+use Rattle.std.proofs.Common.{ℕ, ◌≤◌, not, ◌&&◌, ◌||◌, is_some, List, ◌∷◌, map, sym, ◌∙◌, ap}
+use Rattle.cc_geom.specs.declared.tile.TileKey.{TileKey}
+use Rattle.cc_geom.specs.KeyLists.{has_key}
+use Rattle.cc_geom.proofs.KeyLists.{same_ties}
+use Rattle.cc_priority.specs.Choice.{Choice, victim_key}
+use Rattle.cc_priority.specs.Alike.{Alike}
+use Rattle.cc_priority.specs.Alike as alike
+use Rattle.cc_priority.proofs.Choosing.{first_is_one, order_is_free}
+use Rattle.cc_priority.proofs.StayAlike.{alike_stay}
+use Rattle.cc_rasterq.specs.Queues.{MayStartWith}
+use Rattle.cc_store.specs.Stores.{MayStart, is_ready, image_of}
+use Rattle.cc_store.specs.Stores as stores
+use Rattle.cc_store.proofs.StoreWords.{image_of-started, is_in_flight-started}
+use Rattle.cc_event.specs.declared.history.Entry.{Entry}
+use Rattle.cc_event.specs.Scripts.{ScriptModel}
+use Rattle.cc_event.specs.Legal.{Legal}
+use Rattle.cc_event.specs.Ranking.{choice}
+use Rattle.cc_event.proofs.DueFacts.{AtStart, at_start}
+use Rattle.cc_steps.specs.Events.{start}
+use Rattle.cc_steps.proofs.Starts.{new_key, gone_ready, has_ready_next, start_alike}
+use Rattle.cc_tilemanager.specs.Managers.{Managed, Manages}
+use Rattle.cc_tilemanager.proofs.Bools.{some_left, left_some}
+
+module _ (s : ScriptModel) (n : ℕ) (h : List Entry) (a w : ℕ) (q : TileKey) (ks : List TileKey) (legal : Legal s n (start a w q ks ∷ h)) (m : Managed) (holds : Manages s h m) where
+  d : AtStart s h w q ks
+  d = at_start s n h a w q ks legal.1
+
+  pub may_start : 1 ≤ m.store.spare → MayStart m.store q ks
+  may_start room = record {
+    room = room;
+    not_ready = holds.ready q ∙ (new_key s n h a w q ks legal).0;
+    not_in_flight = holds.in_flight q ∙ (new_key s n h a w q ks legal).1;
+    evicted_ready = λ k t. holds.ready k ∙ gone_ready s n h a w q ks legal k t;
+    evicted_not_pinned = λ k t. holds.unpinned k;
+  }
+
+  pub may_start_with : MayStartWith m.queue q ks
+  may_start_with = record {
+    rank = d.rank;
+    wanted = holds.queue.wanted.back d.rank (first_is_one.there (choice s h) d.rank d.is_first).wanted;
+    key = sym d.key;
+    evicted = d.gives_up ∙ ap (map victim_key) (sym (order_is_free.evicted m.queue (choice s h) d.rank (alike_stay.same_choice m.queue (choice s h) holds.queue)));
+  }
+
+  pub start_holds : (spare : ℕ) (queue : Choice) → Alike queue (alike.started m.queue q ks) → Manages s (start a w q ks ∷ h) (record { store = stores.started m.store q ks spare; pinned = m.pinned; queue = queue })
+  start_holds spare queue same = record {
+    ready = λ k.
+        ap is_some (image_of-started m.store spare k q ks)
+        ∙ (some_left (not (has_key ks k)) (image_of m.store k)
+        ∙ (ap (λ b. b && not (has_key ks k)) (holds.ready k) ∙ sym (has_ready_next s n h a w q ks legal k)));
+    in_flight = λ k. is_in_flight-started m.store spare k q ks ∙ (λ i. sym (same_ties q k) i || holds.in_flight k i);
+    pinned = holds.pinned;
+    unpinned = holds.unpinned;
+    images = λ k i e. holds.images k i (left_some (not (has_key ks k)) (image_of m.store k) i (sym (image_of-started m.store spare k q ks) ∙ e));
+    queue =
+        alike_stay.through queue (alike.started m.queue q ks) (choice s (start a w q ks ∷ h)) same
+        (alike_stay.through (alike.started m.queue q ks) (alike.started (choice s h) q ks) (choice s (start a w q ks ∷ h))
+        (alike_stay.started m.queue (choice s h) q ks holds.queue) (start_alike s n h a w q ks legal));
+  }

@@ -1,0 +1,77 @@
+-- What contracts see of a tile manager, and when it stands for the tiles of a run.
+use Rattle.std.specs.Prelude.{◌≡◌, ℕ, false, cond, Option, Some, None, List, ◌∷◌, refl}
+use Rattle.std.specs.Coded.{Coded, code_by, coded×}
+use Rattle.cc_geom.specs.declared.tile.TileKey.{TileKey}
+use Rattle.cc_geom.specs.KeyLists.{has_key}
+use Rattle.cc_priority.specs.Tiles.{Tile}
+use Rattle.cc_priority.specs.Choice.{Choice}
+use Rattle.cc_priority.specs.Alike.{Alike}
+use Rattle.cc_raster.specs.Images.{Image}
+use Rattle.cc_store.specs.Stores.{Store, image_of, is_ready, is_in_flight, is_pinned}
+use Rattle.cc_event.specs.declared.history.Entry.{Entry}
+use Rattle.cc_event.specs.Scripts.{ScriptModel}
+use Rattle.cc_event.specs.Legal.{Legal}
+use Rattle.cc_event.specs.Tiles.{live_keys, in_flight, ready, pinned}
+use Rattle.cc_event.specs.Ranking.{choice, ready_tile}
+use Rattle.cc_steps.specs.Events.{start, done}
+use Rattle.cc_steps.specs.ShownKeys.{Shows}
+
+-- the store of the tiles, the pinned keys, and what the raster queue stands for
+pub record Managed : Type 0 where
+  pub store : Store
+  pub pinned : List TileKey
+  pub queue : Choice
+
+-- it is coded as the tuple of its fields
+abbrev pub managed_code : Coded Store → Coded (List TileKey) → Coded Choice → Coded Managed
+managed_code store pinned queue =
+    code_by
+    (Store × (List TileKey × Choice))
+    (coded× store (coded× pinned queue))
+    (λ m. (m.store, (m.pinned, m.queue)))
+    (λ p. record { store = p.0; pinned = p.1.0; queue = p.1.1 })
+    (λ _. refl)
+
+-- the manager has an image that shows it for each of the ready keys, these keys in flight and pinned, and a queue for this choice
+pub record HoldsTiles (s : ScriptModel) (m : Managed) (made flying pins : List TileKey) (c : Choice) : Type 0 where
+  pub ready : (q : TileKey) → is_ready m.store q ≡ has_key made q
+  pub in_flight : (q : TileKey) → is_in_flight m.store q ≡ has_key flying q
+  pub pinned : (q : TileKey) → has_key m.pinned q ≡ has_key pins q
+  pub unpinned : (q : TileKey) → is_pinned m.store q ≡ false
+  pub images : (q : TileKey) (i : Image) → image_of m.store q ≡ Some i → (i.key ≡ q) × Shows s q i.rect i.list
+  pub queue : Alike m.queue c
+
+-- it stands for the tiles of a run of the script after this past
+abbrev pub Manages : ScriptModel → List Entry → Managed → Type 0
+Manages s h m = HoldsTiles s m (ready s h) (in_flight h) (pinned s h) (choice s h)
+
+-- the manager stands for a run in which a worker may start the key now, for which these keys are given up
+pub record StartsNow (m : Managed) (q : TileKey) (evicted : List TileKey) : Type 0 where
+  pub script : ScriptModel
+  pub workers : ℕ
+  pub past : List Entry
+  pub actor : ℕ
+  pub worker : ℕ
+  pub manages : Manages script past m
+  pub legal : Legal script workers (start actor worker q evicted ∷ past)
+
+-- the tile of a key that a worker has made: none where the key is no longer live
+abbrev pub tile_made : ScriptModel → List Entry → TileKey → Option Tile
+tile_made s h q = cond (has_key (live_keys s h) q) (Some (ready_tile s h q)) None
+
+-- the manager stands for a run in which a worker may be done with this image now, which shows its key, and whose tile is this
+pub record DoneNow (m : Managed) (i : Image) (tile : Option Tile) : Type 0 where
+  pub script : ScriptModel
+  pub workers : ℕ
+  pub past : List Entry
+  pub actor : ℕ
+  pub worker : ℕ
+  pub manages : Manages script past m
+  pub legal : Legal script workers (done actor worker i.key ∷ past)
+  pub is_tile : tile ≡ tile_made script past i.key
+
+-- after both pasts the same keys are ready, in flight and pinned
+pub record HaveSameTiles (s : ScriptModel) (h g : List Entry) : Type 0 where
+  pub ready : (q : TileKey) → has_key (ready s g) q ≡ has_key (ready s h) q
+  pub in_flight : (q : TileKey) → has_key (in_flight g) q ≡ has_key (in_flight h) q
+  pub pinned : (q : TileKey) → has_key (pinned s g) q ≡ has_key (pinned s h) q

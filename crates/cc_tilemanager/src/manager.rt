@@ -1,0 +1,160 @@
+//! The tile manager.
+
+ghost use Rattle.std.specs.Prelude.{◌≡◌, ℕ, ◌≤◌, true, List, [], ◌∷◌, Some, take, option_map, IfOk, OnOk, OnErr};
+ghost use Rattle.cc_geom.specs.declared.tile.TileKey.{TileKey as Key};
+ghost use Rattle.cc_geom.specs.KeyLists.{has_key};
+ghost use Rattle.cc_priority.specs.declared.rank.Rank.{Rank as Ranking};
+ghost use Rattle.cc_priority.specs.Ranks.{rank_cmp};
+ghost use Rattle.cc_priority.specs.Ordered.{in_order};
+ghost use Rattle.cc_priority.specs.Alike.{Alike};
+ghost use Rattle.cc_edit.specs.declared.moves.Move.{Move};
+ghost use Rattle.cc_rasterq.specs.Queues.{rank_key};
+ghost use Rattle.cc_store.specs.Stores.{image_of, is_ready, is_in_flight};
+ghost use Rattle.cc_event.specs.declared.history.Entry.{Entry};
+ghost use Rattle.cc_event.specs.Scripts.{ScriptModel};
+ghost use Rattle.cc_event.specs.Accepted.{IsAccepted};
+ghost use Rattle.cc_event.specs.Legal.{Legal};
+ghost use Rattle.cc_event.specs.Tiles.{pending_tree, keys_of, ready, required};
+ghost use Rattle.cc_event.specs.Ranking.{choice, first, evicted_for, wanted};
+ghost use Rattle.cc_steps.specs.Events.{start, done, activate};
+ghost use Rattle.cc_steps.specs.ShownKeys.{Shows};
+ghost use Rattle.cc_tilemanager.specs.Managers.{Manages, StartsNow, DoneNow, HaveSameTiles, tile_made};
+
+use crate::pins::Pins;
+use cc_geom::{Keys, TileKey};
+use cc_priority::{Rank, ReadyTile};
+use cc_raster::TileImage;
+use cc_rasterq::RasterQueue;
+use cc_store::TileStore;
+use std::alloc::{AllocError, Global};
+use std::marker::Model;
+use std::sync::Arc;
+
+/// The tiles of a run: the ready keys with their images, the keys in flight, the pinned keys, and the raster
+/// queue, which tells the next tile and what is given up for it.
+///
+/// Contracts say for which runs it stands, by the script and the past: `Manages`.
+#[derive(Drop)]
+pub struct TileManager {
+    store: TileStore,
+    pins: Pins,
+    queue: RasterQueue,
+}
+
+impl Model for TileManager {
+    ghost use Rattle.cc_store.specs.contracts.store.TileStore as the_store;
+    ghost use Rattle.cc_rasterq.specs.contracts.queue.RasterQueue as the_queue;
+    ghost use Rattle.cc_tilemanager.specs.contracts.pins.Pins as the_pins;
+    ghost use Rattle.cc_tilemanager.specs.Managers.{Managed, managed_code};
+
+    ghost Value = { Managed };
+
+    ghost coded = { managed_code the_store.the_row.coded the_pins.the_row.coded the_queue.the_row.coded };
+
+    ghost view = { λ m. record { store = m.store; pinned = m.pins; queue = m.queue } };
+}
+
+impl TileManager {
+    /// The tiles of a run in which nothing has come yet, with this budget. An error is want of memory.
+    pub fn new(alloc: Global, budget: u32) -> Result<TileManager, AllocError>
+        ensures { (s : ScriptModel) → s.budget ≡ budget → IfOk result (λ manager. Manages s [] manager) }
+    {
+        let mut queue = RasterQueue::new(alloc);
+        queue.rebuild(&[], &[], 0, budget)?;
+        Ok(TileManager {
+            store: TileStore::new(alloc),
+            pins: Pins::new(alloc),
+            queue,
+        })
+    }
+
+    /// The key that starts next; None exactly where none may start.
+    pub fn next_start(&self) -> Option<TileKey>
+        ensures { (s : ScriptModel) (h : List Entry) → Manages s h self.now → result ≡ option_map rank_key (first s h) }
+    {
+        self.queue.first()
+    }
+
+    /// The keys that are given up for the next one, the worst first. An error is want of memory.
+    pub fn evicted(&self, key: TileKey) -> Result<Keys, AllocError>
+        ensures { (s : ScriptModel) (h : List Entry) (r : Ranking) → Manages s h self.now → first s h ≡ Some r → r.key ≡ key → IfOk result (λ keys. keys ≡ evicted_for s h r) }
+    {
+        self.queue.evicted(key)
+    }
+
+    /// The first ranks that are wanted, at most so many, in rising order. An error is want of memory.
+    pub fn upcoming(&self, most: u32) -> Result<Vec<Rank>, AllocError>
+        ensures { (s : ScriptModel) (h : List Entry) → Manages s h self.now → IfOk result (λ ranks. ranks.items ≡ take most (in_order rank_cmp (wanted s h))) }
+    {
+        self.queue.wanted(most)
+    }
+
+    /// The image of a key; None exactly where the key is not ready.
+    pub fn image(&self, key: TileKey) -> Option<&Arc<TileImage>>
+        ensures { option_map (λ image. image.now.value) result ≡ image_of self.now.store key }
+    {
+        self.store.ready(key)
+    }
+
+    /// Whether the key is being made.
+    pub fn in_flight(&self, key: TileKey) -> bool
+        ensures { result ≡ is_in_flight self.now.store key }
+    {
+        self.store.in_flight(key)
+    }
+
+    /// Whether the key is not to be given up.
+    pub fn pinned(&self, key: TileKey) -> bool
+        ensures { result ≡ has_key self.now.pinned key }
+    {
+        self.pins.has(key)
+    }
+
+    /// Makes room for one start and its end. An error is want of memory, and the manager is as it was.
+    pub fn reserve(&mut self) -> Result<(), AllocError>
+        ensures room { OnOk result (1 ≤ self.new.store.spare) }
+        ensures same { (s : ScriptModel) (h : List Entry) → Manages s h self.old → Manages s h self.new }
+        ensures refused { OnErr result (self.new ≡ self.old) }
+    {
+        self.store.reserve()
+    }
+
+    /// A worker starts the next key, and its evicted keys are given up for it. There must be room. Takes no
+    /// memory.
+    pub fn start(&mut self, key: TileKey, evicted: &Keys)
+        requires room { 1 ≤ self.old.store.spare }
+        requires next { StartsNow self.old key evicted.now }
+        ensures { (s : ScriptModel) (workers : ℕ) (h : List Entry) (actor w : ℕ) → Manages s h self.old → Legal s workers (start actor w key evicted.now ∷ h) → Manages s (start actor w key evicted.now ∷ h) self.new }
+    {
+        self.store.start(key, evicted);
+        self.queue.started(key, evicted);
+    }
+
+    /// A worker is done with an image. `tile` is its tile, or None where its key is no longer live; then the
+    /// image is dropped. Takes no memory.
+    pub fn done(&mut self, image: Arc<TileImage>, tile: Option<ReadyTile>)
+        requires { DoneNow self.old image.value tile }
+        ensures { (s : ScriptModel) (workers : ℕ) (h : List Entry) (actor w : ℕ) → Manages s h self.old → Legal s workers (done actor w image.value.key ∷ h) → tile ≡ tile_made s h image.value.key → Shows s image.value.key image.value.rect image.value.list → Manages s (done actor w image.value.key ∷ h) self.new }
+    {
+        self.store.done(image, tile.is_some());
+        self.queue.finished(tile);
+    }
+
+    /// Takes another queue, for a past after which the same keys are ready, in flight and pinned. Takes no
+    /// memory.
+    pub fn requeue(&mut self, queue: RasterQueue)
+        ensures { (s : ScriptModel) (h g : List Entry) → Manages s h self.old → HaveSameTiles s h g → Alike queue (choice s g) → Manages s g self.new }
+    {
+        self.queue = queue;
+    }
+
+    /// The pending tree becomes the active one: the keys that it needs are pinned, the ready keys that are
+    /// not in `live` are dropped, and the queue is the one for what is then to choose from. Takes no memory.
+    pub fn activate(&mut self, pins: Pins, live: &Keys, queue: RasterQueue)
+        ensures { (s : ScriptModel) (workers : ℕ) (h : List Entry) (actor k : ℕ) (clamps : List Move) → IsAccepted s → Legal s workers (activate actor k clamps ∷ h) → Manages s h self.old → ((q : Key) → has_key pins q ≡ has_key (required s h) q) → ((q : Key) → has_key (ready s h) q ≡ true → has_key live.now q ≡ has_key (keys_of (pending_tree s h)) q) → Alike queue (choice s (activate actor k clamps ∷ h)) → Manages s (activate actor k clamps ∷ h) self.new }
+    {
+        self.store.keep(live);
+        self.pins = pins;
+        self.queue = queue;
+    }
+}
