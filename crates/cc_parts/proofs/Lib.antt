@@ -1,0 +1,9 @@
+pub mod BodySteps
+pub mod BodyRuns
+pub mod PieceParts
+pub mod PieceRuns
+pub mod SpanRuns
+pub mod PageViews
+pub mod OnePieces
+pub mod BadRuns
+pub mod BodyReads

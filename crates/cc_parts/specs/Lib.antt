@@ -1,0 +1,7 @@
+pub mod Views
+pub mod Pieces
+pub mod Places
+pub mod Spans
+pub mod BadParts
+pub mod Bodies
+pub mod inner

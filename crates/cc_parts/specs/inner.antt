@@ -1,0 +1,4 @@
+pub mod Parts
+pub mod Within
+pub mod Steps
+pub mod Walks
