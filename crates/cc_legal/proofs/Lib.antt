@@ -4,7 +4,6 @@ pub mod JudgeSums
 pub mod JudgeBounds
 pub mod JudgeLists
 pub mod JudgeOffsets
-pub mod JudgeHits
 pub mod JudgeWheels
 pub mod JudgeInputs
 pub mod Worst

@@ -17,7 +17,6 @@ ghost use Rattle.cc_legal.specs.inner.Pagings.{IsLegalPast};
 
 use crate::amounts::Axis;
 use crate::due::{input_now, next_input};
-use crate::hits::target;
 use crate::past_state::PastState;
 use crate::rows::same_moves;
 use crate::standing::{Stage, accepted};
@@ -25,6 +24,7 @@ use crate::wheels::{wheel_parts, wheel_rest};
 use cc_edit::LayerTree;
 use cc_event::{Entry, Input, Moves, Script};
 use cc_geom::Point;
+use cc_hit::target;
 use cc_tree::Offsets;
 use std::alloc::{AllocError, Global};
 
@@ -131,7 +131,7 @@ fn does_on_page(
     requires screen { IsOnScreen at.x at.y }
     ensures { IfOk result (λ yes. Decides yes (WheelIs page.now (offset_at offsets.now) at asked.0 asked.1 layer rest.0 rest.1 moves.now)) }
 {
-    if target(page, offsets, at.x, at.y) != layer {
+    if target(page, offsets, at) != layer {
         return Ok(false);
     }
     if !leaves(alloc, page, offsets, at, Axis::Across, asked.0, rest.0)? {

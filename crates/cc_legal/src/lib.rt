@@ -17,7 +17,6 @@ mod due_tiles;
 mod event_field;
 mod first;
 mod frame_changes;
-mod hits;
 mod keys;
 mod listing;
 mod numbers;

@@ -1,21 +1,19 @@
 //! What the scrollers under a point take of a wheel, and what they leave.
 
-ghost use Rattle.std.specs.Prelude.{◌≡◌, ◌≤◌, ◌^◌, ℤ, pos, neg_ℤ, ◌≤ℤ◌, map, slice_get, Some, IfOk};
+ghost use Rattle.std.specs.Prelude.{◌≡◌, ◌≤◌, ◌^◌, ℤ, pos, neg_ℤ, ◌≤ℤ◌, map, IfOk};
 ghost use Rattle.cc_tree.specs.OffsetMap.{offset_at, AreOffsets};
 ghost use Rattle.cc_edit.specs.Paintings.{IsOnScreen};
 ghost use Rattle.cc_legal.specs.inner.SumFilters.{axis_of};
 ghost use Rattle.cc_edit.specs.Axes.{across, down, along};
 ghost use Rattle.cc_legal.specs.inner.Rows.{move_in};
 ghost use Rattle.cc_edit.specs.Wheels as spec;
-ghost use Rattle.cc_event.specs.declared.input.Input.TheVariants as input;
 
 use crate::amounts::Axis;
-use crate::hits::{chain_at, target};
 use crate::ranges::taken;
 use crate::rows::{Row, push_moving};
 use cc_edit::LayerTree;
-use cc_event::Script;
 use cc_geom::Point;
+use cc_hit::{chain, target};
 use cc_tree::Offsets;
 use std::alloc::{AllocError, Global};
 
@@ -121,7 +119,7 @@ pub(crate) fn wheel_parts(
     requires screen { IsOnScreen at.x at.y }
     ensures { IfOk result (λ rows. map move_in rows.items ≡ spec.wheel_parts tree.now (offset_at offsets.now) at.x at.y dx dy) }
 {
-    let chain = chain_at(alloc, tree, target(tree, offsets, at.x, at.y))?;
+    let chain = chain(alloc, tree, target(tree, offsets, at))?;
     parts_of_chain(alloc, tree, offsets, chain.as_slice(), dx, dy)
 }
 
@@ -138,27 +136,6 @@ pub(crate) fn wheel_rest(
     requires screen { IsOnScreen at.x at.y }
     ensures { IfOk result (λ rest. rest ≡ spec.wheel_rest tree.now (offset_at offsets.now) at.x at.y (axis_of axis) asked) }
 {
-    let chain = chain_at(alloc, tree, target(tree, offsets, at.x, at.y))?;
+    let chain = chain(alloc, tree, target(tree, offsets, at))?;
     Ok(left_of(tree, offsets, axis, chain.as_slice(), asked))
-}
-
-/// The point of a wheel, which stands at a place of the script's inputs. Both coordinates are 0 to 2047.
-pub(crate) fn wheel_point(script: &Script, place: u32, x: u32, y: u32, dx: i32, dy: i32) -> Point
-    requires { slice_get script.now.inputs place ≡ Some (input.Wheel x y dx dy) }
-    ensures value { result ≡ record { x = pos x; y = pos y } }
-    ensures on_screen { IsOnScreen result.x result.y }
-{
-    script.is_accepted();
-    screen_point(x, y)
-}
-
-// A point of the screen.
-fn screen_point(x: u32, y: u32) -> Point
-    requires { IsOnScreen (pos x) (pos y) }
-    ensures { result ≡ record { x = pos x; y = pos y } }
-{
-    Point {
-        x: x as i32,
-        y: y as i32,
-    }
 }
