@@ -62,26 +62,6 @@ chain_law nodes j id n h = gathered_law (λ (m : ScrollNode). m.parent) IsRange 
 pub chain_none : (nodes : List (ℕ × ScrollNode)) (id : ℕ) → find id nodes ≡ None → scrollers_from nodes id ≡ []
 chain_none nodes id h = gathered_none (λ (m : ScrollNode). m.parent) IsRange [] (λ e above. e.0 ∷ above) nodes id h
 
--- the layer that the rest has, else the one that was found
-abbrev pub or_found : ℕ → ℕ → ℕ
-or_found found n = cond (n == 0) found n
-
--- one layer more
-pub found_more : (p : PageLayer → Bool) (l : PageLayer) (ls : List PageLayer) (found own : ℕ) → own ≡ cond (p l) l.id 0
-    → or_found (or_found found own) (last_covering p ls) ≡ or_found found (last_covering p (l ∷ ls))
-found_more p l ls found own e = ap (λ (n : ℕ). or_found (or_found found n) (last_covering p ls)) e ∙ go (last_covering p ls == 0) refl
-  where
-    go : (b : Bool) → (last_covering p ls == 0) ≡ b → cond b (or_found found (cond (p l) l.id 0)) (last_covering p ls) ≡ or_found found (cond b (cond (p l) l.id 0) (last_covering p ls))
-    go true t = refl
-    go false t = sym (ap (λ (c : Bool). cond c found (last_covering p ls)) t)
-
-pub found_all : (id : ℕ) → or_found 0 id ≡ id
-found_all id = go (id == 0) refl
-  where
-    go : (b : Bool) → (id == 0) ≡ b → cond b 0 id ≡ id
-    go true e = let z : id ≡ 0 = grind (arith, nat_tests) in sym z
-    go false e = refl
-
 -- the chain of a layer, by its transform
 pub chain_found : (p : Page) (o : Option PageLayer) (t : ℕ) → option_map (λ (l : PageLayer). l.transform) o ≡ Some t → scrollers_from p.props.scrollers (nearest_scroller p.props.transforms t) ≡ chain_or_none p o
 unfolding chain

@@ -1,5 +1,6 @@
 pub mod ChainWalks
 pub mod TopmostSteps
+pub mod MainValues
 pub mod Turns
 pub mod ChainLists
 pub mod PartSteps

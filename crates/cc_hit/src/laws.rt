@@ -6,6 +6,8 @@ ghost use Rattle.cc_edit.specs.Axes.{Axis, across, down};
 ghost use Rattle.cc_edit.specs.Layers.{PageLayer};
 ghost use Rattle.cc_edit.specs.Pages.{Page};
 ghost use Rattle.cc_edit.specs.Hits.{chain};
+ghost use Rattle.cc_edit.specs.Effects.{value_of};
+ghost use Rattle.cc_edit.specs.Sound.{IsPage};
 ghost use Rattle.cc_edit.specs.Wheels.{wheel_parts, wheel_rest};
 ghost use Rattle.cc_tree.specs.Trees.{IsTrees};
 ghost use Rattle.cc_hit.specs.Wheels.{AreWithinRanges};
@@ -27,4 +29,9 @@ pub fn later_scrollers_take_what_is_left()
 pub fn chains_are_distinct()
     ensures distinct { (p : Page) (l : PageLayer) → IsTrees p.props → AreDistinct (chain p l) }
     ensures known { (p : Page) (l : PageLayer) → IsTrees p.props → AreScrollersOf p (chain p l) }
+{}
+
+/// The main values of the scrollers of a page are in their ranges, so a wheel may be asked for there.
+pub fn main_values_are_within_ranges()
+    ensures { (p : Page) → IsPage p → AreWithinRanges p (value_of p) }
 {}

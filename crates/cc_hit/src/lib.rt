@@ -12,7 +12,10 @@ mod targets;
 mod wheels;
 
 pub use chains::chain;
-pub use laws::{chains_are_distinct, later_scrollers_take_what_is_left, parts_add_up};
+pub use laws::{
+    chains_are_distinct, later_scrollers_take_what_is_left, main_values_are_within_ranges,
+    parts_add_up,
+};
 pub use parts::{Part, Parts};
 pub use targets::target;
 pub use wheels::{Wheel, wheel_parts};
