@@ -1,0 +1,5 @@
+pub mod Pairs
+pub mod Standing
+pub mod ListedOnce
+pub mod Twins
+pub mod Pushing

@@ -1,0 +1,28 @@
+//! The trees of the compositor side: the pending, the active and the recycled one, each with the tilings of
+//! its layers.
+//!
+//! A commit brings a page and what changed in it. The pending tree takes the page as it comes, and the stamps
+//! of its tiles are those of the last pushed tree, stepped by the commit. The tilings of the recycled tree are
+//! used again for this: they lack one commit more, which is carried first. So a push costs what the last two
+//! commits changed and a word a layer, not the places of the page. A layer that the recycled tree lacks, or
+//! has in another size, gets a copy of its tiling in the active tree; one that changed whole is cut anew.
+//!
+//! ```text
+//!            push                activate
+//! recycled ------->  pending  ------------->  active
+//!     ^                 | take_back             |
+//!     |                 v                       | activate
+//!     +-----------------+-----------------------+
+//! ```
+#![tactic(auto)]
+
+mod listed;
+mod making;
+mod places;
+mod recycled;
+mod spare;
+mod state;
+mod trees;
+
+pub use state::TreeState;
+pub use trees::Trees;
