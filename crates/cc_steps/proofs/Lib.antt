@@ -7,3 +7,5 @@ pub mod ListedMoves
 pub mod KeysShown
 pub mod ReadyAfter
 pub mod SameKeys
+pub mod FrameLists
+pub mod QuietFrames

@@ -2,3 +2,4 @@ pub mod Events
 pub mod Standing
 pub mod Choices
 pub mod ShownKeys
+pub mod Pages
