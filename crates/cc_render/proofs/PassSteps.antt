@@ -1,21 +1,23 @@
 -- Passes, one more at a time.
-use Rattle.std.proofs.Common.{◌≡◌, ℕ, zero, suc, ◌+◌, ◌*◌, ◌/◌, ◌-◌, ◌<◌, ◌≤◌, ℤ, pos, ◌+ℤ◌, List, [], ◌∷◌, ◌++◌, length, take, drop, set, get_or, refl, sym, ◌∙◌, ap, subst, arith, inl, inr}
-use Rattle.std.specs.Prelude.{map, All, slice_index, slice_index_or}
+use Rattle.std.proofs.Common.{◌≡◌, ℕ, zero, suc, ◌+◌, ◌*◌, ◌/◌, ◌<◌, ◌≤◌, ℤ, pos, ◌+ℤ◌, ◌-ℤ◌, Bool, true, false, cond, List, [], ◌∷◌, ◌++◌, length, take, drop, set, get_or, refl, sym, ◌∙◌, ap, subst, arith, inl, inr}
+use Rattle.std.specs.Prelude.{All, slice_index}
 use Rattle.std.proofs.lemmas.Bool.{cases_lt}
 use Rattle.std.proofs.lemmas.List.{get_or-map, get_or-drop, get_or_append_left, length-append, length-drop, length-map, take_more, take_more_set, take_all, map-append}
-use Rattle.std.proofs.lemmas.List.Elements.{All-set, All-take}
 use Rattle.std.proofs.lemmas.Grind.{common_steps}
 use Rattle.cc_geom.specs.declared.Rect.{Rect}
+use Rattle.cc_geom.specs.Covers.{covers}
+use Rattle.cc_geom.proofs.Spans.{both}
 use Rattle.cc_pixel.specs.Colours.{Parts, clear}
 use Rattle.cc_pixel.specs.Rows.{pixel, ArePremultiplied, alpha_place}
 use Rattle.cc_pixel.proofs.Fills.{same_parts}
 use Rattle.cc_display.specs.Bitmaps.{near, byte_count}
 use Rattle.cc_scene.specs.declared.RenderPass.{RenderPass}
-use Rattle.cc_scene.specs.Views.{QuadView, quads_view, pass_view, passes_view}
+use Rattle.cc_scene.specs.Views.{QuadView, pass_view, passes_view}
 use Rattle.cc_scene.specs.Pixels.{quads_over, passes_at}
 use Rattle.cc_scene.proofs.Steps.{passes_push}
-use Rattle.cc_render.specs.inner.Drawing.{colours, CanBeDrawn, AreRoomy, PassesCanBeDrawn, EachQuadPixel, ShowsQuads, ShowPasses}
+use Rattle.cc_render.specs.inner.Drawing.{SurfaceView, colour_of, colours, CanBeDrawn, AreRoomy, PassesCanBeDrawn, EachPoint, ShowsQuads, ShowsPass, ShowPasses}
 use Rattle.cc_render.proofs.QuadSteps.{place_below}
+use Rattle.cc_render.proofs.Hulls.{place_in}
 
 -- the first bytes, with other bytes behind them
 byte_front : (xs ys : List ℕ) (i : ℕ) → i < length xs → slice_index (xs ++ ys) i ≡ slice_index xs i
@@ -49,53 +51,75 @@ front_premultiplied n new old len fit front whole i lt =
     ]
 
 -- quads drawn over pixels of one colour
-pub shows_quads : (area : Rect) (passes : List (List ℕ)) (below : Parts) (quads : List QuadView) (blank new rest : List ℕ)
+pub shows_quads : (area : Rect) (passes : List SurfaceView) (below : Parts) (quads : List QuadView) (blank new rest : List ℕ)
     → length blank ≡ byte_count area.w area.h → length new ≡ length blank
     → ((k : ℕ) → k < length blank / 4 → pixel blank k ≡ below)
-    → EachQuadPixel area (λ k x y below. quads_over (colours passes k) x y below quads) blank new
+    → EachPoint area (λ x y below. quads_over (colours passes x y) x y below quads) blank new
     → ShowsQuads area passes below quads (new ++ rest)
 shows_quads area passes below quads blank new rest size same filled each x y xw yh =
     let k = y * near area.w + x in
+    let px = area.x +ℤ pos x in
+    let py = area.y +ℤ pos y in
     let room : 4 * (y * near area.w + x) + 4 ≤ 4 * (near area.w * near area.h) = place_below (near area.w) (near area.h) x y xw yh in
     pixel_of_front new rest k (omega arith)
     ∙ each x y xw yh
-    ∙ ap (λ (c : Parts). quads_over (colours passes k) (area.x +ℤ pos x) (area.y +ℤ pos y) c quads) (filled k (omega arith))
+    ∙ ap (λ (c : Parts). quads_over (colours passes px py) px py c quads) (filled k (omega arith))
+
+-- quads drawn on a rect outside of which they draw nothing
+pub pass_shown : (area hull : Rect) (passes : List SurfaceView) (quads : List QuadView) (s : SurfaceView) → s.rect ≡ hull
+    → ShowsQuads hull passes clear quads s.bytes
+    → ((x y : ℤ) → covers area x y ≡ true → covers hull x y ≡ false → quads_over (colours passes x y) x y clear quads ≡ clear)
+    → ShowsPass area passes quads s
+unfolding colour_of
+pass_shown area hull passes quads s is drawn none x y on =
+    at_point area s.rect passes quads s.bytes (subst (λ (r : Rect). ShowsQuads r passes clear quads s.bytes) (sym is) drawn) x y
+    (λ off. none x y on (ap (λ (r : Rect). covers r x y) (sym is) ∙ off)) (covers s.rect x y) refl
+  where
+    at_point : (area rect : Rect) (passes : List SurfaceView) (quads : List QuadView) (bytes : List ℕ) → ShowsQuads rect passes clear quads bytes
+        → (x y : ℤ) → (covers rect x y ≡ false → quads_over (colours passes x y) x y clear quads ≡ clear) → (t : Bool) → covers rect x y ≡ t
+        → cond t (pixel bytes (near (y -ℤ rect.y) * near rect.w + near (x -ℤ rect.x))) clear ≡ quads_over (colours passes x y) x y clear quads
+    at_point area rect passes quads bytes drawn x y none true h =
+        let k = both _ _ h in
+        let across = place_in rect.x rect.w x k.0 in
+        let down = place_in rect.y rect.h y k.1 in
+        let row = rect.y +ℤ pos (near (y -ℤ rect.y)) in
+        drawn (near (x -ℤ rect.x)) (near (y -ℤ rect.y)) across.0 down.0
+        ∙ ap (λ (z : ℤ). quads_over (colours passes z row) z row clear quads) across.1
+        ∙ ap (λ (z : ℤ). quads_over (colours passes x z) x z clear quads) down.1
+    at_point area rect passes quads bytes drawn x y none false h = sym (none h)
 
 -- a list in two parts, with another first element of the second
-pub joined_set : (xs : List (List ℕ)) (i : ℕ) (y : List ℕ) → i < length xs → take i xs ++ set (drop i xs) 0 y ≡ set xs i y
+pub joined_set : (xs : List SurfaceView) (i : ℕ) (y : SurfaceView) → i < length xs → take i xs ++ set (drop i xs) 0 y ≡ set xs i y
 joined_set [] i y lt = absurd (omega arith)
 joined_set (x ∷ xs) zero y lt = refl
-joined_set (x ∷ xs) (suc i) y lt = ap (λ (ys : List (List ℕ)). x ∷ ys) (joined_set xs i y (omega arith))
+joined_set (x ∷ xs) (suc i) y lt = ap (λ (ys : List SurfaceView). x ∷ ys) (joined_set xs i y (omega arith))
 
 -- one more pass
-pub passes_more : (area : Rect) (passes : List RenderPass) (surfaces : List (List ℕ)) (i : ℕ) (pass : RenderPass) (own : List ℕ)
+pub passes_more : (area : Rect) (passes : List RenderPass) (surfaces : List SurfaceView) (i : ℕ) (pass : RenderPass) (own : SurfaceView)
     → i < length passes → length surfaces ≡ length passes → pass ≡ get_or passes i pass
     → ShowPasses area (passes_view (take i passes)) (take i surfaces)
-    → ShowsQuads area (take i surfaces) clear (pass_view pass) own
+    → ShowsPass area (take i surfaces) (pass_view pass) own
     → ShowPasses area (passes_view (take (i + 1) passes)) (take (i + 1) (set surfaces i own))
-passes_more area passes surfaces i pass own lt same e before drawn x y xw yh =
-    let k = y * near area.w + x in
-    let px = area.x +ℤ pos x in
-    let py = area.y +ℤ pos y in
-    let shown : List Parts = passes_at px py [] (passes_view (take i passes)) in
+passes_more area passes surfaces i pass own lt same e before drawn x y on =
+    let shown : List Parts = passes_at x y [] (passes_view (take i passes)) in
     let more : take (i + 1) passes ≡ take i passes ++ pass ∷ [] =
     take_more passes i pass lt ∙ ap (λ (p : RenderPass). take i passes ++ p ∷ []) (sym e) in
     let views : passes_view (take (i + 1) passes) ≡ passes_view (take i passes) ++ pass_view pass ∷ [] =
     ap passes_view more ∙ map-append pass_view (take i passes) (pass ∷ []) in
-    ap (λ (ss : List (List ℕ)). colours ss k) (take_more_set surfaces i own (omega arith))
-    ∙ map-append (λ (s : List ℕ). pixel s k) (take i surfaces) (own ∷ [])
-    ∙ ap (λ (cs : List Parts). cs ++ pixel own k ∷ []) (before x y xw yh)
+    ap (λ (ss : List SurfaceView). colours ss x y) (take_more_set surfaces i own (omega arith))
+    ∙ map-append (λ (s : SurfaceView). colour_of s x y) (take i surfaces) (own ∷ [])
+    ∙ ap (λ (cs : List Parts). cs ++ colour_of own x y ∷ []) (before x y on)
     ∙ ap (λ (c : Parts). shown ++ c ∷ [])
-    (drawn x y xw yh ∙ ap (λ (cs : List Parts). quads_over cs px py clear (pass_view pass)) (before x y xw yh))
-    ∙ sym (passes_push px py [] (passes_view (take i passes)) (pass_view pass))
-    ∙ ap (passes_at px py []) (sym views)
+    (drawn x y on ∙ ap (λ (cs : List Parts). quads_over cs x y clear (pass_view pass)) (before x y on))
+    ∙ sym (passes_push x y [] (passes_view (take i passes)) (pass_view pass))
+    ∙ ap (passes_at x y []) (sym views)
 
 -- all passes
-pub passes_all : (area : Rect) (passes : List RenderPass) (surfaces : List (List ℕ)) (i : ℕ)
+pub passes_all : (area : Rect) (passes : List RenderPass) (surfaces : List SurfaceView) (i : ℕ)
     → length passes ≤ i → length surfaces ≡ length passes
     → ShowPasses area (passes_view (take i passes)) (take i surfaces) → ShowPasses area (passes_view passes) surfaces
 passes_all area passes surfaces i le same shown =
-    subst (λ (ss : List (List ℕ)). ShowPasses area (passes_view passes) ss) (take_all i surfaces (omega arith))
+    subst (λ (ss : List SurfaceView). ShowPasses area (passes_view passes) ss) (take_all i surfaces (omega arith))
     (subst (λ (ps : List RenderPass). ShowPasses area (passes_view ps) (take i surfaces)) (take_all i passes le) shown)
 
 -- the quads of a pass can be drawn
@@ -107,8 +131,8 @@ pass_drawable passes i pass can lt e =
     subst (All (CanBeDrawn i)) here (can i (omega arith))
 
 -- the first surface behind those of the passes before has room
-pub room_behind : (n : ℕ) (surfaces rest : List (List ℕ)) (i : ℕ) (d : List ℕ) → AreRoomy n surfaces → i < length surfaces → rest ≡ drop i surfaces
-    → n ≤ length (get_or rest 0 d)
+pub room_behind : (n : ℕ) (surfaces rest : List SurfaceView) (i : ℕ) (d : SurfaceView) → AreRoomy n surfaces → i < length surfaces → rest ≡ drop i surfaces
+    → n ≤ length (get_or rest 0 d).bytes
 room_behind n surfaces rest i d room lt e =
-    let here : get_or rest 0 d ≡ get_or surfaces (i + 0) d = ap (λ (ss : List (List ℕ)). get_or ss 0 d) e ∙ get_or-drop i surfaces 0 d in
-    subst (λ (s : List ℕ). n ≤ length s) (sym here) (room (i + 0) d (omega arith))
+    let here : get_or rest 0 d ≡ get_or surfaces (i + 0) d = ap (λ (ss : List SurfaceView). get_or ss 0 d) e ∙ get_or-drop i surfaces 0 d in
+    subst (λ (s : SurfaceView). n ≤ length s.bytes) (sym here) (room (i + 0) d (omega arith))

@@ -1,18 +1,17 @@
 -- Quads, one more at a time, and groups.
-use Rattle.std.proofs.Common.{◌≡◌, ℕ, ◌+◌, ◌*◌, ◌<◌, ◌≤◌, ℤ, pos, ◌+ℤ◌, List, length, take, get_or, refl, sym, ◌∙◌, ap, arith, subst}
-use Rattle.std.specs.Prelude.{map, All, fold, slice_index, slice_index_or}
-use Rattle.std.proofs.lemmas.List.{get_or-map, get_or_default, get_or-take, take_all, length-map}
+use Rattle.std.proofs.Common.{◌≡◌, ℕ, ◌+◌, ◌*◌, ◌<◌, ◌≤◌, ℤ, pos, ◌+ℤ◌, List, length, take, get_or, sym, ◌∙◌, ap, arith, subst}
+use Rattle.std.specs.Prelude.{All, fold, slice_index_or}
+use Rattle.std.proofs.lemmas.List.{get_or-map, take_all, length-map}
 use Rattle.std.proofs.lemmas.List.Sums.{fold_more}
 use Rattle.std.proofs.lemmas.List.Folds.{fold-map}
 use Rattle.cc_geom.specs.declared.Rect.{Rect}
-use Rattle.cc_pixel.specs.Colours.{Parts, blend, scaled, clear, times_255}
+use Rattle.cc_pixel.specs.Colours.{Parts, blend, scaled, clear}
 use Rattle.cc_pixel.specs.Rows.{pixel}
-use Rattle.cc_pixel.proofs.Fills.{same_parts}
-use Rattle.cc_display.specs.Bitmaps.{near, byte_count}
+use Rattle.cc_display.specs.Bitmaps.{near}
 use Rattle.cc_scene.specs.declared.Quad.{Quad}
 use Rattle.cc_scene.specs.Views.{quad_view, quads_view, grouped}
 use Rattle.cc_scene.specs.Pixels.{quad_over, quads_over}
-use Rattle.cc_render.specs.inner.Drawing.{colours, CanBeDrawn, EachQuadPixel}
+use Rattle.cc_render.specs.inner.Drawing.{SurfaceView, colour_of, colours, CanBeDrawn, EachPoint}
 
 -- one more quad over those before it
 pub drawn_more : (passes : List Parts) (x y : ℤ) (below : Parts) (quads : List Quad) (i : ℕ) (q : Quad) → i < length quads → q ≡ get_or quads i q
@@ -43,18 +42,17 @@ pub place_below : (w h x y : ℕ) → x < w → y < h → 4 * (y * w + x) + 4 �
 place_below w h x y xw yh = grind arith
 
 -- the colour of a pass
-pub pass_colour : (surfaces : List (List ℕ)) (pass : ℕ) (surface : List ℕ) (k : ℕ) → pass < length surfaces → surface ≡ get_or surfaces pass surface
-    → slice_index_or (colours surfaces k) pass clear ≡ pixel surface k
-pass_colour surfaces pass surface k lt e =
-    get_or-map (λ (s : List ℕ). pixel s k) surfaces pass surface clear lt ∙ ap (λ (s : List ℕ). pixel s k) (sym e)
+pub pass_colour : (surfaces : List SurfaceView) (pass : ℕ) (surface : SurfaceView) (x y : ℤ) → pass < length surfaces → surface ≡ get_or surfaces pass surface
+    → slice_index_or (colours surfaces x y) pass clear ≡ colour_of surface x y
+pass_colour surfaces pass surface x y lt e =
+    get_or-map (λ (s : SurfaceView). colour_of s x y) surfaces pass surface clear lt ∙ ap (λ (s : SurfaceView). colour_of s x y) (sym e)
 
 -- a group, drawn from the surface of its pass
-pub group_shown : (area : Rect) (surfaces : List (List ℕ)) (pass opacity : ℕ) (surface old new : List ℕ)
-    → pass < length surfaces → surface ≡ get_or surfaces pass surface → length old ≡ byte_count area.w area.h
-    → ((k : ℕ) → 4 * k + 4 ≤ length old → pixel new k ≡ blend (pixel old k) (scaled (pixel surface k) opacity))
-    → EachQuadPixel area (λ k x y below. quad_over (colours surfaces k) x y below (grouped pass opacity)) old new
-group_shown area surfaces pass opacity surface old new lt e size each x y xw yh =
+pub group_shown : (area : Rect) (surfaces : List SurfaceView) (pass opacity : ℕ) (surface : SurfaceView) (old new : List ℕ)
+    → pass < length surfaces → surface ≡ get_or surfaces pass surface
+    → EachPoint area (λ x y below. blend below (scaled (colour_of surface x y) opacity)) old new
+    → EachPoint area (λ x y below. quad_over (colours surfaces x y) x y below (grouped pass opacity)) old new
+group_shown area surfaces pass opacity surface old new lt e each x y xw yh =
     let k = y * near area.w + x in
-    let room : 4 * (y * near area.w + x) + 4 ≤ 4 * (near area.w * near area.h) = place_below (near area.w) (near area.h) x y xw yh in
-    each (y * near area.w + x) (omega arith)
-    ∙ ap (λ (c : Parts). blend (pixel old k) (scaled c opacity)) (sym (pass_colour surfaces pass surface k lt e))
+    each x y xw yh
+    ∙ ap (λ (c : Parts). blend (pixel old k) (scaled c opacity)) (sym (pass_colour surfaces pass surface (area.x +ℤ pos x) (area.y +ℤ pos y) lt e))

@@ -1,6 +1,6 @@
 -- A scene, drawn strip by strip.
-use Rattle.std.proofs.Common.{◌≡◌, ℕ, ◌+◌, ◌-◌, ◌*◌, ◌<◌, ◌≤◌, ℤ, pos, ◌+ℤ◌, Bool, true, cond, List, [], ◌∷◌, ◌++◌, length, get_or, refl, sym, ◌∙◌, ap, subst, arith}
-use Rattle.std.specs.Prelude.{map, All, slice_index_or}
+use Rattle.std.proofs.Common.{◌≡◌, ℕ, ◌+◌, ◌-◌, ◌*◌, ◌<◌, ◌≤◌, ℤ, pos, ◌+ℤ◌, true, List, [], ◌∷◌, ◌++◌, length, sym, ◌∙◌, ap, subst, arith}
+use Rattle.std.specs.Prelude.{All, slice_index_or}
 use Rattle.std.proofs.Math.Nat.{mul-le-mul_left}
 use Rattle.std.proofs.lemmas.Int.{ints}
 use Rattle.std.proofs.lemmas.Bool.Decides.{nat_tests}
@@ -12,18 +12,19 @@ use Rattle.cc_pixel.specs.Colours.{Parts}
 use Rattle.cc_pixel.specs.Rows.{pixel}
 use Rattle.cc_pixel.specs.Surfaces.{EachPixel, within, in_rows}
 use Rattle.cc_pixel.specs.declared.Area.{Area}
-use Rattle.cc_display.specs.Bitmaps.{near}
 use Rattle.cc_scene.specs.declared.RenderPass.{RenderPass}
 use Rattle.cc_scene.specs.Views.{QuadView, tiled, plain, grouped, pass_view, passes_view, SceneView}
 use Rattle.cc_scene.specs.Pixels.{quads_over, passes_at, scene_pixel}
-use Rattle.cc_scene.specs.Sound.{IsIn, IsTaken, Fits, IsSide, IsScene}
+use Rattle.cc_scene.specs.Sound.{IsIn, Fits, IsSide, IsScene}
 use Rattle.cc_scene.proofs.Steps.{sound_at, scene_last}
-use Rattle.cc_render.specs.inner.Drawing.{colours, CanBeDrawn, PassesCanBeDrawn, ShowsQuads, ShowPasses}
+use Rattle.cc_render.specs.inner.Drawing.{SurfaceView, CanBeDrawn, PassesCanBeDrawn, ShowsQuads, ShowPasses}
 use Rattle.cc_render.specs.inner.Strips.{ShowsScene}
+use Rattle.cc_geom.proofs.Spans.{both_of}
 use Rattle.cc_render.proofs.Tiles.{where_held}
+use Rattle.cc_render.proofs.Hulls.{in_place}
 
 -- a rect on a screen is sound
-sound_in : (w h : ℕ) (at : Rect) → IsSide w → IsSide h → IsIn w h at → IsSound at
+pub sound_in : (w h : ℕ) (at : Rect) → IsSide w → IsSide h → IsIn w h at → IsSound at
 sound_in w h at wide tall i = record {
   across = record { from_low = omega (arith, ints); from_high = omega (arith, ints); length_low = omega (arith, ints); length_high = omega (arith, ints) };
   down = record { from_low = omega (arith, ints); from_high = omega (arith, ints); length_low = omega (arith, ints); length_high = omega (arith, ints) };
@@ -74,7 +75,7 @@ passes_count s all inner root e f =
     ap length (passes_split s all inner root e f) ∙ length-append (passes_view inner) (pass_view root ∷ []) ∙ ap (λ (n : ℕ). n + 1) (length-map inner pass_view)
 
 -- the root over the background, where the passes before it are drawn
-pub scene_shown : (s : SceneView) (area : Rect) (all inner : List RenderPass) (root : RenderPass) (surfaces : List (List ℕ)) (surface : List ℕ)
+pub scene_shown : (s : SceneView) (area : Rect) (all inner : List RenderPass) (root : RenderPass) (surfaces : List SurfaceView) (surface : List ℕ)
     → passes_view all ≡ s.passes → all ≡ inner ++ root ∷ []
     → ShowPasses area (passes_view inner) surfaces → ShowsQuads area surfaces s.background (pass_view root) surface → ShowsScene s area surface
 scene_shown s area all inner root surfaces surface e f before drawn x y xw yh =
@@ -86,7 +87,7 @@ scene_shown s area all inner root surfaces surface e f before drawn x y xw yh =
     let whole : scene_pixel s px py ≡ scene_pixel (record { w = s.w; h = s.h; background = s.background; passes = passes_view inner ++ pass_view root ∷ [] }) px py =
     ap (λ (ps : List (List QuadView)). scene_pixel (record { w = s.w; h = s.h; background = s.background; passes = ps }) px py) (passes_split s all inner root e f) in
     drawn x y xw yh
-    ∙ ap (λ (cs : List Parts). quads_over cs px py s.background (pass_view root)) (before x y xw yh)
+    ∙ ap (λ (cs : List Parts). quads_over cs px py s.background (pass_view root)) (before px py (both_of _ _ (in_place area.x area.w x xw) (in_place area.y area.h y yh)))
     ∙ sym (whole ∙ last)
 
 -- a strip is no larger than the surfaces

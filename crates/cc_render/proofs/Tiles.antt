@@ -1,10 +1,10 @@
 -- What drawing a part of an image shows.
-use Rattle.std.proofs.Common.{◌≡◌, ℕ, ◌+◌, ◌-◌, ◌*◌, ◌<◌, ◌≤◌, ℤ, pos, negsuc, ◌+ℤ◌, ◌-ℤ◌, ◌≤ℤ◌, ◌<ℤ◌, Bool, true, false, cond, List, refl, sym, ◌∙◌, ap, arith, zero-mul, zero-add}
-use Rattle.std.proofs.lemmas.Int.{ints, clamps}
+use Rattle.std.proofs.Common.{◌≡◌, ℕ, ◌+◌, ◌-◌, ◌*◌, ◌<◌, ◌≤◌, ℤ, pos, negsuc, ◌+ℤ◌, ◌-ℤ◌, ◌≤ℤ◌, ◌<ℤ◌, Bool, true, false, cond, List, refl, sym, ◌∙◌, ap, arith}
+use Rattle.std.proofs.lemmas.Int.{ints}
 use Rattle.std.proofs.lemmas.Bool.Decides.{nat_tests}
 use Rattle.cc_geom.specs.declared.Rect.{Rect}
 use Rattle.cc_geom.specs.declared.Point.{Point}
-use Rattle.cc_geom.specs.Covers.{covers, within as in_span, IsSound}
+use Rattle.cc_geom.specs.Covers.{covers}
 use Rattle.cc_geom.proofs.Spans.{inside, both}
 use Rattle.cc_pixel.specs.Colours.{Parts, blend}
 use Rattle.cc_pixel.specs.Rows.{pixel}
@@ -25,7 +25,7 @@ where_held true c d below h = h refl
 where_held false c d below h = refl
 
 -- a count that is not negative
-near_is : (z : ℤ) → pos 0 ≤ℤ z → pos (near z) ≡ z
+pub near_is : (z : ℤ) → pos 0 ≤ℤ z → pos (near z) ≡ z
 near_is (pos n) h = refl
 near_is (negsuc n) h = absurd (omega (arith, ints))
 
@@ -42,10 +42,10 @@ place_in start from at point x first skipped low le e =
 abbrev pub taken : Part → Point → Part
 taken part from = record { at = part.at; left = part.left + near from.x; above = part.above + near from.y }
 
-from_left : (part : Part) (x y : ℕ) → holds part.at x y ≡ true → part.at.x ≤ x
+pub from_left : (part : Part) (x y : ℕ) → holds part.at x y ≡ true → part.at.x ≤ x
 from_left part x y h = grind (arith, nat_tests)
 
-from_top : (part : Part) (x y : ℕ) → holds part.at x y ≡ true → part.at.y ≤ y
+pub from_top : (part : Part) (x y : ℕ) → holds part.at x y ≡ true → part.at.y ≤ y
 from_top part x y h = grind (arith, nat_tests)
 
 -- a pixel of the part

@@ -22,8 +22,8 @@ pub(crate) fn copy_area(surface: &mut [u8], width: usize, height: usize, at: Are
     }
 }
 
-// the place of a run of `run` pixels, from column `x` of row `y` on, in a surface of `width` by `height`
-fn place_of(width: usize, height: usize, x: usize, y: usize, run: usize) -> usize
+/// The place of a run of `run` pixels, from column `x` of row `y` on, in a surface of `width` by `height`.
+pub(crate) fn place_of(width: usize, height: usize, x: usize, y: usize, run: usize) -> usize
     requires across { x + run ≤ width }
     requires down { y < height }
     requires small { 4 * (width * height) < 2 ^ 64 }

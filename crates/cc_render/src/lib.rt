@@ -1,13 +1,16 @@
 //! Drawing scenes into frames.
 //!
-//! A scene is drawn strip by strip, from its first pass to the root: each pass has a surface as large as a
+//! A scene is drawn strip by strip, from its first pass to the root: each pass has a surface with room for a
 //! strip, which serves for every strip, so the memory grows with the number of passes and the width, and not
-//! with the height. All of it is taken before the frame is changed.
+//! with the height. All of it is taken before the frame is changed. Of a strip a pass before the root draws
+//! only the part that its quads lie in; elsewhere it is transparent, and costs nothing.
 #![tactic(auto)]
 
 mod copy;
 mod drawing;
 mod frame;
+mod group;
+mod hull;
 mod passes;
 mod quads;
 mod size;

@@ -1,13 +1,14 @@
 //! Drawing the passes of a scene into the pixels of an area.
 
-ghost use Rattle.std.specs.Prelude.{◌≡◌, ℕ, ◌+◌, ◌*◌, ◌<◌, ◌≤◌, ℤ, pos, ◌+ℤ◌, List, length, All, []};
+ghost use Rattle.std.specs.Prelude.{◌≡◌, ℕ, ◌≤◌, length, All};
 ghost use Rattle.cc_geom.specs.Covers.{IsSound};
-ghost use Rattle.cc_pixel.specs.Colours.{clear};
 ghost use Rattle.cc_pixel.specs.Rows.{ArePremultiplied};
-ghost use Rattle.cc_display.specs.Bitmaps.{near, byte_count};
-ghost use Rattle.cc_scene.specs.Views.{quads_view, pass_view, passes_view};
-ghost use Rattle.cc_render.specs.inner.Drawing.{CanBeDrawn, AreRoomy, PassesCanBeDrawn, ShowsQuads, ShowPasses};
+ghost use Rattle.cc_display.specs.Bitmaps.{byte_count};
+ghost use Rattle.cc_scene.specs.Views.{quads_view, passes_view};
+ghost use Rattle.cc_scene.specs.Sound.{IsIn};
+ghost use Rattle.cc_render.specs.inner.Drawing.{CanBeDrawn, AreRoomy, PassesCanBeDrawn, ShowsQuads, ShowsPass, ShowPasses};
 
+use crate::hull::hull_of;
 use crate::quads::draw_quads;
 use crate::size::{height_of, width_of};
 use crate::surface::Surface;
@@ -17,7 +18,7 @@ use cc_scene::{Quad, RenderPass};
 
 /// Draws the pixels of an area of each pass into its surface, inner passes first.
 pub(crate) fn draw_passes(passes: &[RenderPass], area: Rect, surfaces: &mut [Surface])
-    requires area { IsSound area }
+    requires area { IsIn 2048 2048 area }
     requires each { length surfaces.old ≡ length passes.now }
     requires quads { PassesCanBeDrawn (passes_view passes.now) }
     requires room { AreRoomy (byte_count area.w area.h) surfaces.old }
@@ -26,11 +27,23 @@ pub(crate) fn draw_passes(passes: &[RenderPass], area: Rect, surfaces: &mut [Sur
 {
     for (i, pass) in passes.iter().enumerate() {
         let (before, rest) = surfaces.split_at_mut(i);
-        draw_pass(&mut rest[0], Colour::CLEAR, area, &pass.quads, before);
+        draw_inner_pass(&mut rest[0], area, &pass.quads, before);
     }
 }
 
-/// Draws the pixels of an area of one pass over a colour. The passes before it have surfaces with theirs.
+// draws the pixels of an area of one pass before the root: only where its quads draw
+fn draw_inner_pass(surface: &mut Surface, area: Rect, quads: &[Quad], passes: &[Surface])
+    requires area { IsIn 2048 2048 area }
+    requires quads { All (CanBeDrawn (length passes.now)) (quads_view quads.now) }
+    requires room { byte_count area.w area.h ≤ length surface.old.bytes }
+    ensures pixels { ShowsPass area passes.now (quads_view quads.now) surface.new }
+    ensures size { length surface.new.bytes ≡ length surface.old.bytes }
+{
+    let hull = hull_of(quads, area, passes);
+    draw_pass(surface, Colour::CLEAR, hull, quads, passes);
+}
+
+/// Draws the pixels of a pass on a rect over a colour. The passes before it have surfaces.
 pub(crate) fn draw_pass(
     surface: &mut Surface,
     below: Colour,
@@ -40,12 +53,13 @@ pub(crate) fn draw_pass(
 )
     requires area { IsSound area }
     requires quads { All (CanBeDrawn (length passes.now)) (quads_view quads.now) }
-    requires room { byte_count area.w area.h ≤ length surface.old }
-    requires passes { AreRoomy (byte_count area.w area.h) passes.now }
-    ensures pixels { ShowsQuads area passes.now below (quads_view quads.now) surface.new }
-    ensures size { length surface.new ≡ length surface.old }
+    requires room { byte_count area.w area.h ≤ length surface.old.bytes }
+    ensures rect { surface.new.rect ≡ area }
+    ensures pixels { ShowsQuads area passes.now below (quads_view quads.now) surface.new.bytes }
+    ensures size { length surface.new.bytes ≡ length surface.old.bytes }
 {
     draw_over(surface.bytes.as_mut_slice(), below, area, quads, passes);
+    surface.rect = area;
 }
 
 // draws quads over a colour into the first of some bytes
@@ -53,7 +67,6 @@ fn draw_over(bytes: &mut [u8], below: Colour, area: Rect, quads: &[Quad], passes
     requires area { IsSound area }
     requires quads { All (CanBeDrawn (length passes.now)) (quads_view quads.now) }
     requires room { byte_count area.w area.h ≤ length bytes.old }
-    requires passes { AreRoomy (byte_count area.w area.h) passes.now }
     ensures pixels { ShowsQuads area passes.now below (quads_view quads.now) bytes.new }
     ensures premultiplied { ArePremultiplied bytes.old → ArePremultiplied bytes.new }
 {

@@ -7,6 +7,7 @@ ghost use Rattle.cc_pixel.specs.Surfaces.{IsInside, EachPixel, within};
 ghost use Rattle.cc_display.specs.Bitmaps.{near, byte_count};
 ghost use Rattle.cc_scene.specs.Views.{passes_view};
 ghost use Rattle.cc_scene.specs.Pixels.{scene_pixel};
+ghost use Rattle.cc_scene.specs.Sound.{IsIn};
 ghost use Rattle.cc_render.specs.inner.Drawing.{AreRoomy, PassesCanBeDrawn, ShowPasses};
 ghost use Rattle.cc_render.specs.inner.Strips.{HasRoom, AreReady, ShowsScene};
 
@@ -134,9 +135,9 @@ fn rect_of(at: Area) -> Rect
 
 // draws the pixels of an area of all passes of a scene; those of the root are the scene's
 fn draw_scene(scene: &Scene, area: Rect, surfaces: &mut Surfaces)
-    requires area { IsSound area }
+    requires area { IsIn 2048 2048 area }
     requires room { HasRoom (byte_count area.w area.h) (length scene.now.passes) surfaces.old }
-    ensures pixels { ShowsScene scene.now area surfaces.new.root }
+    ensures pixels { ShowsScene scene.now area surfaces.new.root.bytes }
     ensures room { (n : ℕ) → HasRoom n (length scene.now.passes) surfaces.old → HasRoom n (length scene.now.passes) surfaces.new }
     ensures rows { surfaces.new.rows ≡ surfaces.old.rows }
 {
@@ -155,7 +156,7 @@ fn draw_scene(scene: &Scene, area: Rect, surfaces: &mut Surfaces)
 
 // draws the pixels of an area of the passes before the root
 fn draw_inner(passes: &[RenderPass], area: Rect, surfaces: &mut Vec<Surface>)
-    requires area { IsSound area }
+    requires area { IsIn 2048 2048 area }
     requires each { length surfaces.old.items ≡ length passes.now }
     requires quads { PassesCanBeDrawn (passes_view passes.now) }
     requires room { AreRoomy (byte_count area.w area.h) surfaces.old.items }

@@ -1,9 +1,9 @@
 -- What drawing into the pixels of an area is said in.
-use Rattle.std.specs.Prelude.{ℕ, ◌+◌, ◌-◌, ◌*◌, ◌<◌, ℤ, pos, ◌+ℤ◌, cond, List, length, map, All, ◌≤◌, ◌≡◌, slice_index_or, []}
+use Rattle.std.specs.Prelude.{ℕ, ◌+◌, ◌-◌, ◌*◌, ◌<◌, ℤ, pos, ◌+ℤ◌, ◌-ℤ◌, true, cond, List, length, map, All, ◌≤◌, ◌≡◌, slice_index_or, []}
 use Rattle.cc_geom.specs.declared.Rect.{Rect}
 use Rattle.cc_geom.specs.Covers.{covers, IsSound}
-use Rattle.cc_pixel.specs.Colours.{Parts, blend}
-use Rattle.cc_pixel.specs.Rows.{pixel}
+use Rattle.cc_pixel.specs.Colours.{Parts, blend, clear}
+use Rattle.cc_pixel.specs.Rows.{pixel, ArePremultiplied}
 use Rattle.cc_pixel.specs.Surfaces.{EachPixel}
 use Rattle.cc_pixel.specs.declared.Area.{Area}
 use Rattle.cc_display.specs.declared.Part.{Part}
@@ -29,9 +29,24 @@ EachPoint area f old new = EachPixel (near area.w) (near area.h) (λ x y below. 
 abbrev pub laid_on : Rect → (ℤ → ℤ → Parts) → ℤ → ℤ → Parts → Parts
 laid_on at c x y below = cond (covers at x y) (blend below (c x y)) below
 
--- the colours of surfaces at a pixel
-abbrev pub colours : List (List ℕ) → ℕ → List Parts
-colours surfaces k = map (λ (s : List ℕ). pixel s k) surfaces
+-- the pixels of a pass on a rect of the screen, as bytes row by row from the top; the bytes behind them say nothing
+pub record SurfaceView : Type 0 where
+  pub rect : Rect
+  pub bytes : List ℕ
+
+-- what each surface keeps
+pub record IsSurface (s : SurfaceView) : Type 0 where
+  pub sound : IsSound s.rect
+  pub room : byte_count s.rect.w s.rect.h ≤ length s.bytes
+  pub premultiplied : ArePremultiplied s.bytes
+
+-- the colour of a pass at a point: transparent where it has no pixel
+unfoldable pub colour_of : SurfaceView → ℤ → ℤ → Parts
+colour_of s x y = cond (covers s.rect x y) (pixel s.bytes (near (y -ℤ s.rect.y) * near s.rect.w + near (x -ℤ s.rect.x))) clear
+
+-- the colours of passes at a point
+abbrev pub colours : List SurfaceView → ℤ → ℤ → List Parts
+colours surfaces x y = map (λ (s : SurfaceView). colour_of s x y) surfaces
 
 -- a quad that can be drawn where there are surfaces of so many passes
 abbrev pub CanBeDrawn : ℕ → QuadView → Type 0
@@ -39,27 +54,25 @@ CanBeDrawn n (tiled image at from) = IsSound at × IsTaken image at from
 CanBeDrawn n (plain at colour) = IsSound at
 CanBeDrawn n (grouped pass opacity) = pass < n
 
--- each pixel of an area was changed by `f`, which is told its number, the point of the screen and what was there
-abbrev pub EachQuadPixel : Rect → (ℕ → ℤ → ℤ → Parts → Parts) → List ℕ → List ℕ → Type 0
-EachQuadPixel area f old new =
-    EachPixel (near area.w) (near area.h) (λ x y below. f (y * near area.w + x) (area.x +ℤ pos x) (area.y +ℤ pos y) below) old new
-
 -- each surface has so many bytes at least
-abbrev pub AreRoomy : ℕ → List (List ℕ) → Type 0
-AreRoomy n surfaces = All (λ (s : List ℕ). n ≤ length s) surfaces
+abbrev pub AreRoomy : ℕ → List SurfaceView → Type 0
+AreRoomy n surfaces = All (λ (s : SurfaceView). n ≤ length s.bytes) surfaces
 
 -- each quad of each pass can be drawn once the passes before its own are
 abbrev pub PassesCanBeDrawn : List (List QuadView) → Type 0
 PassesCanBeDrawn passes = (i : ℕ) → i < length passes → All (CanBeDrawn i) (slice_index_or passes i [])
 
--- the pixels of a surface are quads over a colour, where the passes have surfaces of their own
-abbrev pub ShowsQuads : Rect → List (List ℕ) → Parts → List QuadView → List ℕ → Type 0
-ShowsQuads area passes below quads surface =
+-- the pixels of an area are quads over a colour, where the passes have surfaces of their own
+abbrev pub ShowsQuads : Rect → List SurfaceView → Parts → List QuadView → List ℕ → Type 0
+ShowsQuads area passes below quads bytes =
     (x y : ℕ) → x < near area.w → y < near area.h
-    → pixel surface (y * near area.w + x) ≡ quads_over (colours passes (y * near area.w + x)) (area.x +ℤ pos x) (area.y +ℤ pos y) below quads
+    → pixel bytes (y * near area.w + x) ≡ quads_over (colours passes (area.x +ℤ pos x) (area.y +ℤ pos y)) (area.x +ℤ pos x) (area.y +ℤ pos y) below quads
 
--- the colours of surfaces are those of passes
-abbrev pub ShowPasses : Rect → List (List QuadView) → List (List ℕ) → Type 0
-ShowPasses area passes surfaces =
-    (x y : ℕ) → x < near area.w → y < near area.h
-    → colours surfaces (y * near area.w + x) ≡ passes_at (area.x +ℤ pos x) (area.y +ℤ pos y) [] passes
+-- the colours of a surface on an area are those of a pass of these quads
+abbrev pub ShowsPass : Rect → List SurfaceView → List QuadView → SurfaceView → Type 0
+ShowsPass area passes quads surface =
+    (x y : ℤ) → covers area x y ≡ true → colour_of surface x y ≡ quads_over (colours passes x y) x y clear quads
+
+-- the colours of surfaces on an area are those of passes
+abbrev pub ShowPasses : Rect → List (List QuadView) → List SurfaceView → Type 0
+ShowPasses area passes surfaces = (x y : ℤ) → covers area x y ≡ true → colours surfaces x y ≡ passes_at x y [] passes

@@ -12,7 +12,7 @@ use Rattle.cc_render.specs.inner.Drawing.{AreRoomy}
 pub record HasRoom (n passes : ℕ) (s : Surfaces) : Type 0 where
   pub count : length s.passes.items + 1 ≡ passes
   pub inner : AreRoomy n s.passes.items
-  pub root : n ≤ length s.root
+  pub root : n ≤ length s.root.bytes
 
 -- the surfaces have room for a strip of a scene of as many rows as they say
 pub record AreReady (s : SceneView) (r : Surfaces) : Type 0 where

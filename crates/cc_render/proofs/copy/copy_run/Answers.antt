@@ -1,5 +1,5 @@
 -- The run of the picture stands in place of the run before.
-use Rattle.std.proofs.Common.{◌+◌, ◌-◌, ◌*◌, length, arith, ap, ◌∙◌}
+use Rattle.std.proofs.Common.{◌+◌, ◌-◌, ◌*◌, arith}
 use Rattle.cc_pixel.specs.Rows.{pixel}
 use Rattle.cc_pixel.proofs.Parts.{part_made, run_length, pixel_taken, run_premultiplied}
 use Rattle.cc_render.proofs.copy.copy_run.Goals as goal

@@ -1,7 +1,6 @@
 -- The frame holds what was drawn into its bytes.
-use Rattle.std.proofs.Common.{◌≡◌, ◌++◌, ◌*◌, length, drop, take, arith, ap, ◌∙◌, subst, sym}
+use Rattle.std.proofs.Common.{◌≡◌, ◌++◌, length, drop, take, arith, ap}
 use Rattle.std.proofs.lemmas.List.{take_at}
-use Rattle.cc_render.specs.Frames.{FrameView}
 use Rattle.cc_render.proofs.FrameSteps.{rect_drawn, rect_outside}
 use Rattle.cc_render.proofs.drawing.draw_rect.Goals as goal
 

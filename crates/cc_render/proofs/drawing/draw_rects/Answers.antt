@@ -1,5 +1,5 @@
 -- Each rect is drawn beside those before it.
-use Rattle.std.proofs.Common.{◌≡◌, length, take, subst}
+use Rattle.std.proofs.Common.{subst}
 use Rattle.std.proofs.lemmas.List.{take_all}
 use Rattle.cc_geom.specs.Common.{nothing}
 use Rattle.cc_render.specs.Frames.{ShowsIn}

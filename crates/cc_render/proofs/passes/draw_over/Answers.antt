@@ -1,8 +1,8 @@
 -- The quads are drawn over the colour, and the bytes behind them stay.
-use Rattle.std.proofs.Common.{◌≡◌, ◌*◌, length, drop, take, arith, refl, ◌∙◌, ap}
+use Rattle.std.proofs.Common.{◌≡◌, ◌*◌, drop, arith, refl}
 use Rattle.std.proofs.lemmas.List.{length-take}
 use Rattle.std.proofs.lemmas.Int.{clamps}
-use Rattle.cc_display.specs.Bitmaps.{near, byte_count}
+use Rattle.cc_display.specs.Bitmaps.{near}
 use Rattle.cc_scene.specs.Views.{quads_view}
 use Rattle.cc_render.proofs.PassSteps.{shows_quads, front_premultiplied}
 use Rattle.cc_render.proofs.passes.draw_over.Goals as goal

@@ -1,5 +1,5 @@
 -- The passes so far are drawn.
-use Rattle.std.specs.Prelude.{ℕ, ◌≡◌, length, take}
+use Rattle.std.specs.Prelude.{ℕ, take}
 use Rattle.cc_scene.specs.Views.{passes_view}
 use Rattle.cc_render.specs.inner.Drawing.{AreRoomy, ShowPasses}
 use Rattle.cc_render.proofs.passes.draw_passes.Given as given

@@ -1,5 +1,5 @@
 -- Each strip adds its rows.
-use Rattle.std.proofs.Common.{◌≡◌, ◌≤◌, ◌+◌, pos, arith, subst, sym}
+use Rattle.std.proofs.Common.{pos, arith}
 use Rattle.std.proofs.lemmas.Int.{clamps}
 use Rattle.cc_scene.specs.Pixels.{scene_pixel}
 use Rattle.cc_render.proofs.Rows.{rows_more}

@@ -1,6 +1,5 @@
 -- The passes before the root are drawn, and then the root over the background.
-use Rattle.std.proofs.Common.{◌≡◌, ◌∙◌, ap, length, arith}
-use Rattle.cc_scene.specs.Views.{passes_view, pass_view}
+use Rattle.std.proofs.Common.{ap, length, arith}
 use Rattle.cc_render.proofs.SceneSteps.{inner_drawable, root_drawable, passes_count, scene_shown}
 use Rattle.cc_render.proofs.strip.draw_scene.Goals as goal
 
@@ -27,5 +26,5 @@ draw_pass-requires-clause-quads c =
 pub returns-clause-pixels : goal.returns-clause-pixels
 returns-clause-pixels c =
     let drawn = rw (c.deref-2.ensures.value, c.deref.ensures.value, c.background.ensures) at c.draw_pass.ensures.pixels in
-    scene_shown c.args.scene.now c.args.area c.passes.result.now c.in-Some.inner.now c.in-Some.root.now c.draw_inner.new.surfaces.items c.draw_pass.new.surface
+    scene_shown c.args.scene.now c.args.area c.passes.result.now c.in-Some.inner.now c.in-Some.root.now c.draw_inner.new.surfaces.items c.draw_pass.new.surface.bytes
     c.passes.ensures.value c.in-Some.ensures.cases.0 c.draw_inner.ensures.pixels drawn

@@ -1,6 +1,7 @@
 -- The strip is drawn and copied.
-use Rattle.std.proofs.Common.{◌≡◌, ◌+◌, ◌*◌, ◌≤◌, List, ℕ, length, arith, refl}
+use Rattle.std.proofs.Common.{◌≡◌, ◌*◌, ◌≤◌, ℕ, length, arith}
 use Rattle.std.proofs.lemmas.List.Elements.{All-weaker}
+use Rattle.cc_render.specs.inner.Drawing.{SurfaceView}
 use Rattle.cc_render.specs.inner.Strips.{HasRoom}
 use Rattle.cc_render.specs.declared.strip.Surfaces.{Surfaces}
 use Rattle.cc_render.proofs.SceneSteps.{strip_size, strip_shown}
@@ -10,7 +11,7 @@ use Rattle.cc_render.proofs.strip.draw_strip.Goals as goal
 less_room : (n m passes : ℕ) (s : Surfaces) → n ≤ m → HasRoom m passes s → HasRoom n passes s
 less_room n m passes s le r = record {
   count = r.count;
-  inner = All-weaker (λ (b : List ℕ). m ≤ length b) (λ (b : List ℕ). n ≤ length b) (λ b h. omega arith) s.passes.items r.inner;
+  inner = All-weaker (λ (b : SurfaceView). m ≤ length b.bytes) (λ (b : SurfaceView). n ≤ length b.bytes) (λ b h. omega arith) s.passes.items r.inner;
   root = let h = r.root in omega arith;
 }
 
@@ -32,7 +33,7 @@ pub returns-clause-pixels : goal.returns-clause-pixels
 returns-clause-pixels c =
     let shown = rw (c.rect_of.ensures) at c.draw_scene.ensures.pixels in
     let each = rw (c.bytes.ensures.value, c.w-width.ensures.value, c.h-height.ensures.value) at c.copy_area.ensures.pixels in
-    strip_shown c.args.scene.now c.args.scene.now.w c.args.scene.now.h c.args.at c.draw_scene.new.surfaces.root c.args.bytes.now c.copy_area.new.surface shown each
+    strip_shown c.args.scene.now c.args.scene.now.w c.args.scene.now.h c.args.at c.draw_scene.new.surfaces.root.bytes c.args.bytes.now c.copy_area.new.surface shown each
 
 -- strips of as many rows are as large
 same_size : (w a b : ℕ) → a ≡ b → 4 * (w * a) ≤ 4 * (w * b)

@@ -1,0 +1,85 @@
+//! Drawing another pass, faded.
+
+ghost use Rattle.std.specs.Prelude.{◌≡◌, ℕ, ◌+◌, ◌-◌, ◌*◌, ◌<◌, ◌≤◌, ◌^◌, length};
+ghost use Rattle.cc_geom.specs.Covers.{IsSound};
+ghost use Rattle.cc_pixel.specs.Colours.{blend, scaled};
+ghost use Rattle.cc_pixel.specs.Rows.{pixel, ArePremultiplied};
+ghost use Rattle.cc_pixel.specs.Surfaces.{IsPart, IsInside, EachPixel, within};
+ghost use Rattle.cc_display.specs.Bitmaps.{near, byte_count};
+ghost use Rattle.cc_render.specs.inner.Drawing.{colour_of, EachPoint};
+
+use crate::copy::place_of;
+use crate::size::{height_of, width_of};
+use crate::surface::Surface;
+use cc_display::{Part, shared_part};
+use cc_geom::Rect;
+use cc_surface::faded_over;
+
+/// Lays the colours of a pass, faded to an opacity, over the pixels of an area.
+pub(crate) fn draw_group(surface: &mut [u8], area: Rect, pass: &Surface, opacity: u8)
+    requires area { IsSound area }
+    requires size { length surface.old ≡ byte_count area.w area.h }
+    ensures pixels { EachPoint area (λ x y below. blend below (scaled (colour_of pass.now x y) opacity)) surface.old surface.new }
+    ensures premultiplied { ArePremultiplied surface.old → ArePremultiplied surface.new }
+{
+    let rect = pass.rect();
+    if let Some(part) = shared_part(rect, area) {
+        fade_part(
+            surface,
+            width_of(area),
+            height_of(area),
+            pass,
+            part,
+            opacity,
+        );
+    }
+}
+
+// lays the pixels of a part of a pass, faded, over those of the part's area
+fn fade_part(
+    surface: &mut [u8],
+    width: usize,
+    height: usize,
+    pass: &Surface,
+    part: Part,
+    opacity: u8,
+)
+    requires size { length surface.old ≡ 4 * (width * height) }
+    requires inside { IsInside part.at width height }
+    requires columns { part.left + part.at.w ≤ near pass.now.rect.w }
+    requires rows { part.above + part.at.h ≤ near pass.now.rect.h }
+    ensures pixels { EachPixel width height
+        (within part.at part.at.h (λ x y below. blend below (scaled (pixel pass.now.bytes ((y - part.at.y + part.above) * near pass.now.rect.w + (x - part.at.x + part.left))) opacity)))
+        surface.old surface.new }
+    ensures premultiplied { ArePremultiplied surface.old → ArePremultiplied surface.new }
+{
+    let rect = pass.rect();
+    let pass_width = width_of(rect);
+    let pass_height = height_of(rect);
+    let bytes = pass.bytes();
+    for row in 0..part.at.h {
+        let place = place_of(width, height, part.at.x, part.at.y + row, part.at.w);
+        let from = place_of(
+            pass_width,
+            pass_height,
+            part.left,
+            part.above + row,
+            part.at.w,
+        );
+        fade_run(surface, place, part.at.w, bytes, from, opacity);
+    }
+}
+
+// lays `n` pixels of a pass from its pixel `from` on, faded, over those from pixel `k` on
+fn fade_run(surface: &mut [u8], k: usize, n: usize, pass: &[u8], from: usize, opacity: u8)
+    requires there { 4 * (k + n) ≤ length surface.old }
+    requires given { 4 * (from + n) ≤ length pass.now }
+    requires premultiplied { ArePremultiplied pass.now }
+    ensures { IsPart k n (λ j below. blend below (scaled (pixel pass.now (from + j)) opacity)) surface.old surface.new }
+{
+    faded_over(
+        &mut surface[4 * k..4 * (k + n)],
+        &pass[4 * from..4 * (from + n)],
+        opacity,
+    );
+}
