@@ -1,0 +1,4 @@
+pub mod Openings
+pub mod Recordings
+pub mod Answers
+pub mod Painted
