@@ -1,0 +1,4 @@
+pub mod AreaSteps
+pub mod QuadSteps
+pub mod ListSteps
+pub mod PassSteps

@@ -1,0 +1,71 @@
+//! The few rects that damage is kept as.
+
+ghost use Rattle.std.specs.Prelude.{◌<◌, ◌∷◌, All, length, IfSome, OnOk};
+ghost use Rattle.cc_areas.specs.Areas.{IsOnScreen};
+ghost use Rattle.cc_damage.specs.inner.Areas.{HoldAll};
+
+use cc_areas::{hull, is_empty};
+use cc_geom::Rect;
+use std::alloc::AllocError;
+
+// how many rects damage is kept as at most
+const MOST_RECTS: usize = 16;
+
+/// Adds an area to damage. It is joined with what it costs least to join with, as long as that costs nothing
+/// or there are too many rects.
+pub(crate) fn add_area(damage: &mut Vec<Rect>, area: Rect) -> Result<(), AllocError>
+    requires damage { All IsOnScreen damage.old.items }
+    requires area { IsOnScreen area }
+    ensures held { OnOk result (HoldAll damage.new.items (area ∷ damage.old.items)) }
+    ensures damage { All IsOnScreen damage.new.items }
+{
+    if is_empty(area) {
+        return Ok(());
+    }
+    let mut whole = area;
+    while let Some(place) = partner_of(damage, whole) {
+        let other = damage.remove(place);
+        whole = hull(whole, other);
+    }
+    damage.push(whole)?;
+    Ok(())
+}
+
+// the rect that an area is to be joined with
+fn partner_of(rects: &[Rect], area: Rect) -> Option<usize>
+    ensures { IfSome result (λ place. place < length rects.now) }
+{
+    let mut best = None;
+    let mut least = i32::MAX;
+    for place in 0..rects.len() {
+        let waste = waste_of(area, rects[place]);
+        if waste <= least {
+            least = waste;
+            best = Some(place);
+        }
+    }
+    if least <= 0 || rects.len() >= MOST_RECTS {
+        best
+    } else {
+        None
+    }
+}
+
+// how many more pixels the rect of both has than they have one by one
+fn waste_of(a: Rect, b: Rect) -> i32 {
+    let across = reach_end(a.x, a.w)
+        .max(reach_end(b.x, b.w))
+        .saturating_sub(a.x.min(b.x));
+    let down = reach_end(a.y, a.h)
+        .max(reach_end(b.y, b.h))
+        .saturating_sub(a.y.min(b.y));
+    across
+        .saturating_mul(down)
+        .saturating_sub(a.w.saturating_mul(a.h))
+        .saturating_sub(b.w.saturating_mul(b.h))
+}
+
+// the number behind a span
+fn reach_end(at: i32, len: i32) -> i32 {
+    at.saturating_add(len)
+}
