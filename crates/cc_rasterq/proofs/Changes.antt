@@ -1,11 +1,11 @@
--- What a start, the end of one and a new choice do to the lists of a queue.
-use Rattle.std.proofs.Common.{◌≡◌, ◌⊎◌, inl, inr, ℕ, ◌+◌, ◌-◌, ◌<◌, ◌≤◌, suc, min, Bool, true, false, cond, not, ◌&&◌, Option, Some, None, List, [], ◌∷◌, ◌++◌, length, filter, map, take, drop, refl, sym, ◌∙◌, ap, subst, arith, append_assoc, append-nil, length-append, ◌^◌}
+-- What a start and the end of one do to the lists of a queue.
+use Rattle.std.proofs.Common.{◌≡◌, ◌⊎◌, inl, inr, ℕ, ◌+◌, ◌-◌, ◌≤◌, suc, min, Bool, true, false, cond, not, ◌&&◌, Option, Some, None, List, [], ◌∷◌, ◌++◌, length, filter, map, take, drop, refl, sym, ◌∙◌, ap, subst, arith, append_assoc, append-nil, length-append}
 use Rattle.std.specs.Prelude.{filter_map}
 use Rattle.std.specs.List.{list_all, cons_option}
 use Rattle.std.specs.List.Sorted.{IsPermutation, IsPartitionedBy}
 use Rattle.std.proofs.lemmas.List.{take-append-drop, length-take, length-map, map-append, take_min}
 use Rattle.std.proofs.lemmas.List.Elements.{filter-append}
-use Rattle.std.proofs.lemmas.List.Sorted.{IsPermutation-trans, IsPermutation-sym, IsPermutation-map, IsPermutation-append_right, IsPermutation-filter_both, IsPermutation-middle, length_permutation}
+use Rattle.std.proofs.lemmas.List.Sorted.{IsPermutation-trans, IsPermutation-sym, IsPermutation-map, IsPermutation-append_right, IsPermutation-middle}
 use Rattle.cc_geom.specs.declared.tile.TileKey.{TileKey}
 use Rattle.cc_geom.specs.KeyLists.{same_key, has_key}
 use Rattle.cc_geom.proofs.KeyLists.{one_key, same_from}
@@ -20,11 +20,11 @@ use Rattle.cc_priority.proofs.Members.{in_append, in_append_left, in_append_righ
 use Rattle.cc_priority.proofs.RankOrders.{rank_order}
 use Rattle.cc_rasterq.specs.declared.victim.Victim.{Victim}
 use Rattle.cc_rasterq.specs.declared.victim.Victim.TheVariants.{Unranked, Ranked}
-use Rattle.cc_rasterq.specs.Queues.{rank_key, tile_key, EachKeyOnce, IsNew, MayStartWith}
-use Rattle.cc_rasterq.specs.inner.Orders.{times, standing, keys, is_pinned, IsQueue, choice_of}
+use Rattle.cc_rasterq.specs.Queues.{rank_key, tile_key, IsNew, MayStartWith}
+use Rattle.cc_rasterq.specs.inner.Orders.{times, standing, keys, stays, IsQueue, choice_of}
 use Rattle.cc_rasterq.specs.inner.Victims.{tile_of, key_of, victim_cmp, is_worse_than, again, wanted_again}
 use Rattle.cc_rasterq.proofs.Places.{order_filter, order_drop, at_in}
-use Rattle.cc_rasterq.proofs.Times.{one_if, times_cons, times_append, times_in, times_none, times_distinct, times_permutation, times_filter, times_parts, times_with, has_some}
+use Rattle.cc_rasterq.proofs.Times.{one_if, times_cons, times_append, times_in, times_none, times_filter, times_parts, times_with, has_some}
 use Rattle.cc_rasterq.proofs.Sorted.{permutation_members, permutation_many, with_new}
 use Rattle.cc_rasterq.proofs.Forgotten.{none_out}
 use Rattle.cc_rasterq.proofs.GiveUp.{all_again_order, all_again_few, length_with}
@@ -142,11 +142,11 @@ in_keys t vs i = subst (In t.key) (keys_of_tiles vs) (map_in tile_key t (map til
 gone_among : (vs : List Victim) (t : Tile) → In t (map tile_of vs) → is_among (map key_of vs) t ≡ true
 gone_among vs t i = has_in t.key (map key_of vs) (in_keys t vs i)
 
-module _ (wanted : List Rank) (pinned : List Tile) (vs : List Victim) (once : (q : TileKey) → standing q wanted pinned vs ≤ 1) (n : ℕ) where
-  pinned_not_among : (t : Tile) → In t pinned → is_among (map key_of (take n vs)) t ≡ false
-  pinned_not_among t i =
+module _ (wanted : List Rank) (staying : List Tile) (vs : List Victim) (once : (q : TileKey) → standing q wanted staying vs ≤ 1) (n : ℕ) where
+  staying_not_among : (t : Tile) → In t staying → is_among (map key_of (take n vs)) t ≡ false
+  staying_not_among t i =
       has_not t.key (map key_of (take n vs)) (λ h.
-      let a = times_in t.key (map tile_key pinned) (map_in tile_key t pinned i) in
+      let a = times_in t.key (map tile_key staying) (map_in tile_key t staying i) in
       let b = times_parts key_of t.key n vs in
       let o = once t.key in
       omega arith)
@@ -166,32 +166,32 @@ module _ (wanted : List Rank) (pinned : List Tile) (vs : List Victim) (once : (q
   tiles_parts = ap (map tile_of) (sym (take-append-drop n vs)) ∙ map-append tile_of (take n vs) (drop n vs)
 
   -- the ready tiles that are given up, and those that stay
-  gone_ready : filter (is_among gone) (pinned ++ map tile_of vs) ≡ map tile_of (take n vs)
+  gone_ready : filter (is_among gone) (staying ++ map tile_of vs) ≡ map tile_of (take n vs)
   gone_ready =
-      filter-append (is_among gone) pinned (map tile_of vs)
-      ∙ ap (λ ts. ts ++ filter (is_among gone) (map tile_of vs)) (none_in (is_among gone) pinned pinned_not_among)
+      filter-append (is_among gone) staying (map tile_of vs)
+      ∙ ap (λ ts. ts ++ filter (is_among gone) (map tile_of vs)) (none_in (is_among gone) staying staying_not_among)
       ∙ ap (filter (is_among gone)) tiles_parts
       ∙ filter-append (is_among gone) (map tile_of (take n vs)) (map tile_of (drop n vs))
       ∙ ap (λ ts. ts ++ filter (is_among gone) (map tile_of (drop n vs))) (all_in (is_among gone) (map tile_of (take n vs)) (gone_among (take n vs)))
       ∙ ap (λ ts. map tile_of (take n vs) ++ ts) (none_in (is_among gone) (map tile_of (drop n vs)) left_not_among)
       ∙ append-nil (map tile_of (take n vs))
 
-  left_ready : filter (λ t. not (is_among gone t)) (pinned ++ map tile_of vs) ≡ pinned ++ map tile_of (drop n vs)
+  left_ready : filter (λ t. not (is_among gone t)) (staying ++ map tile_of vs) ≡ staying ++ map tile_of (drop n vs)
   left_ready =
-      filter-append (λ t. not (is_among gone t)) pinned (map tile_of vs)
-      ∙ ap (λ ts. ts ++ filter (λ t. not (is_among gone t)) (map tile_of vs)) (none_out (is_among gone) pinned pinned_not_among)
-      ∙ ap (λ ts. pinned ++ filter (λ t. not (is_among gone t)) ts) tiles_parts
-      ∙ ap (λ ts. pinned ++ ts) (filter-append (λ t. not (is_among gone t)) (map tile_of (take n vs)) (map tile_of (drop n vs)))
-      ∙ ap (λ ts. pinned ++ (ts ++ filter (λ t. not (is_among gone t)) (map tile_of (drop n vs)))) (none_left (is_among gone) (map tile_of (take n vs)) (gone_among (take n vs)))
-      ∙ ap (λ ts. pinned ++ ts) (none_out (is_among gone) (map tile_of (drop n vs)) left_not_among)
+      filter-append (λ t. not (is_among gone t)) staying (map tile_of vs)
+      ∙ ap (λ ts. ts ++ filter (λ t. not (is_among gone t)) (map tile_of vs)) (none_out (is_among gone) staying staying_not_among)
+      ∙ ap (λ ts. staying ++ filter (λ t. not (is_among gone t)) ts) tiles_parts
+      ∙ ap (λ ts. staying ++ ts) (filter-append (λ t. not (is_among gone t)) (map tile_of (take n vs)) (map tile_of (drop n vs)))
+      ∙ ap (λ ts. staying ++ (ts ++ filter (λ t. not (is_among gone t)) (map tile_of (drop n vs)))) (none_left (is_among gone) (map tile_of (take n vs)) (gone_among (take n vs)))
+      ∙ ap (λ ts. staying ++ ts) (none_out (is_among gone) (map tile_of (drop n vs)) left_not_among)
 
   pub start_alike : (in_flight budget : ℕ) (q : TileKey) (rest : List Rank) → rest ≡ filter (λ r. not (is_of q r)) wanted
-      → Alike (choice_of (wanted_again (take n vs) rest) pinned (drop n vs) (in_flight + 1) budget) (started (choice_of wanted pinned vs in_flight budget) q gone)
+      → Alike (choice_of (wanted_again (take n vs) rest) staying (drop n vs) (in_flight + 1) budget) (started (choice_of wanted staying vs in_flight budget) q gone)
   start_alike in_flight budget q rest e = record {
     wanted = subst (λ rs. SameMembers (wanted_again (take n vs) rest) rs)
-        (ap (λ ts. rest ++ filter_map tile_rank ts) (sym gone_ready) ∙ ap (λ rs. rs ++ filter_map tile_rank (filter (is_among gone) (pinned ++ map tile_of vs))) e)
+        (ap (λ ts. rest ++ filter_map tile_rank ts) (sym gone_ready) ∙ ap (λ rs. rs ++ filter_map tile_rank (filter (is_among gone) (staying ++ map tile_of vs))) e)
         (again_members (take n vs) rest);
-    ready = subst (SameMembers (pinned ++ map tile_of (drop n vs))) (sym left_ready) (same_itself (pinned ++ map tile_of (drop n vs)));
+    ready = subst (SameMembers (staying ++ map tile_of (drop n vs))) (sym left_ready) (same_itself (staying ++ map tile_of (drop n vs)));
     as_many = λ f. ap (λ ts. length (filter f ts)) (sym left_ready);
     in_flight = refl;
     budget = refl;
@@ -232,15 +232,15 @@ start_few wanted rest vs n q r e i t =
     let d : length rest + 1 ≤ length wanted = subst (λ (rs : List Rank). length rs + 1 ≤ length wanted) (sym e) (one_fewer q wanted r i t) in
     omega arith
 
-pub start_queue : (wanted rest : List Rank) (pinned : List Tile) (vs : List Victim) (f a b d a' d' n : ℕ) (q : TileKey) (r : Rank)
-    → IsQueue wanted pinned vs f a b d → rest ≡ filter (λ r. not (is_of q r)) wanted → In r wanted → is_of q r ≡ true → a ≤ a' → d ≤ d'
-    → IsQueue (wanted_again (take n vs) rest) pinned (drop n vs) (f + 1) a' b d'
-start_queue wanted rest pinned vs f a b d a' d' n q r s e i t la ld =
+pub start_queue : (wanted rest : List Rank) (staying : List Tile) (vs : List Victim) (f a b d a' d' n : ℕ) (q : TileKey) (r : Rank)
+    → IsQueue wanted staying vs f a b d → rest ≡ filter (λ r. not (is_of q r)) wanted → In r wanted → is_of q r ≡ true → a ≤ a' → d ≤ d'
+    → IsQueue (wanted_again (take n vs) rest) staying (drop n vs) (f + 1) a' b d'
+start_queue wanted rest staying vs f a b d a' d' n q r s e i t la ld =
     let few : (length (wanted_again (take n vs) rest) + length (drop n vs)) + 1 ≤ length wanted + length vs = start_few wanted rest vs n q r e i t in
     record {
       best_first = all_again_order (take n vs) rest (subst (IsInOrder rank_cmp) (sym e) (order_filter rank_cmp (λ r. not (is_of q r)) wanted s.best_first));
       worst_first = order_drop victim_cmp n vs s.worst_first;
-      all_pinned = s.all_pinned;
+      all_stay = s.all_stay;
       once = λ k.
           let x = times_all_again k (take n vs) rest in
           let y = times_parts key_of k n vs in
@@ -248,7 +248,7 @@ start_queue wanted rest pinned vs f a b d a' d' n q r s e i t la ld =
           let o = s.once k in
           omega arith;
       fits_ranks = let o = s.fits_ranks in omega arith;
-      fits_pinned = let o = s.fits_pinned in omega arith;
+      fits_kept = let o = s.fits_kept in omega arith;
       fits_victims = let o = s.fits_victims in omega arith;
       few = let o = s.few in omega arith;
     }
@@ -270,20 +270,20 @@ prefix_passes p (x ∷ xs) h = by_test (p x) refl (prefix_passes p xs (λ i j d 
             let g : p x ≡ true = h 0 (suc j) x (omega arith) (omega arith) (ap p (f x) ∙ k) in
             absurd cc
 
-pub gone_are : (wanted : List Rank) (pinned : List Tile) (vs : List Victim) (f budget : ℕ) → list_all is_pinned pinned ≡ true → IsInOrder victim_cmp vs → (r : Rank) (ks : List TileKey)
-    → ks ≡ map victim_key (evicted (choice_of wanted pinned vs f budget) r) → ks ≡ map key_of (take (length ks) vs)
-gone_are wanted pinned vs f budget p o r ks e =
+pub gone_are : (wanted : List Rank) (staying : List Tile) (vs : List Victim) (f budget : ℕ) → list_all stays staying ≡ true → IsInOrder victim_cmp vs → (r : Rank) (ks : List TileKey)
+    → ks ≡ map victim_key (evicted (choice_of wanted staying vs f budget) r) → ks ≡ map key_of (take (length ks) vs)
+gone_are wanted staying vs f budget p o r ks e =
     let n : ℕ = length (filter (is_worse_than r.bin) vs) in
-    let over : ℕ = (used (choice_of wanted pinned vs f budget) + 1) - budget in
+    let over : ℕ = (used (choice_of wanted staying vs f budget) + 1) - budget in
     let m : ℕ = min over n in
     let d : ks ≡ map key_of (take m vs) =
-    e ∙ ap (map victim_key) (evicted_is wanted pinned vs f budget p o r n over (prefix_passes (is_worse_than r.bin) vs (worse_first r.bin vs o)) refl) ∙ given_keys (take m vs) in
+    e ∙ ap (map victim_key) (evicted_is wanted staying vs f budget p o r n over (prefix_passes (is_worse_than r.bin) vs (worse_first r.bin vs o)) refl) ∙ given_keys (take m vs) in
     let l : length ks ≡ min m (length vs) = ap length d ∙ length-map (take m vs) key_of ∙ length-take m vs in
     d ∙ ap (map key_of) (sym (take_min m vs)) ∙ ap (λ k. map key_of (take k vs)) (sym l)
 
-pub start_room : (wanted rest : List Rank) (pinned : List Tile) (vs : List Victim) (f a b d n : ℕ) (q : TileKey) (ks : List TileKey) → IsQueue wanted pinned vs f a b d
+pub start_room : (wanted rest : List Rank) (staying : List Tile) (vs : List Victim) (f a b d n : ℕ) (q : TileKey) (ks : List TileKey) → IsQueue wanted staying vs f a b d
     → rest ≡ filter (λ r. not (is_of q r)) wanted → ks ≡ map key_of (take (length ks) vs) → n ≡ length ks → length rest + n ≤ a
-start_room wanted rest pinned vs f a b d n q ks s e g l =
+start_room wanted rest staying vs f a b d n q ks s e g l =
     let x : length rest ≤ length wanted = subst (λ (rs : List Rank). length rs ≤ length wanted) (sym e) (no_more (λ r. not (is_of q r)) wanted) in
     let y : length ks ≡ length (take (length ks) vs) = ap length g ∙ length-map (take (length ks) vs) key_of in
     let z = length_parts (length ks) vs in
@@ -291,47 +291,47 @@ start_room wanted rest pinned vs f a b d n q ks s e g l =
     omega arith
 
 -- what the lists are after a start, and what they stand for
-pub record IsStarted (wanted : List Rank) (pinned : List Tile) (vs : List Victim) (f budget a b d : ℕ) (q : TileKey) (ks : List TileKey) (wanted' : List Rank) (vs' : List Victim) : Type 0 where
-  pub queue : IsQueue wanted' pinned vs' (f + 1) a b d
-  pub alike : Alike (choice_of wanted' pinned vs' (f + 1) budget) (started (choice_of wanted pinned vs f budget) q ks)
+pub record IsStarted (wanted : List Rank) (staying : List Tile) (vs : List Victim) (f budget a b d : ℕ) (q : TileKey) (ks : List TileKey) (wanted' : List Rank) (vs' : List Victim) : Type 0 where
+  pub queue : IsQueue wanted' staying vs' (f + 1) a b d
+  pub alike : Alike (choice_of wanted' staying vs' (f + 1) budget) (started (choice_of wanted staying vs f budget) q ks)
 
-pub start_all : (wanted rest wanted' : List Rank) (pinned : List Tile) (vs vs' : List Victim) (f budget a b d a' d' n : ℕ) (q : TileKey) (ks : List TileKey)
-    → IsQueue wanted pinned vs f a b d → MayStartWith (choice_of wanted pinned vs f budget) q ks
+pub start_all : (wanted rest wanted' : List Rank) (staying : List Tile) (vs vs' : List Victim) (f budget a b d a' d' n : ℕ) (q : TileKey) (ks : List TileKey)
+    → IsQueue wanted staying vs f a b d → MayStartWith (choice_of wanted staying vs f budget) q ks
     → rest ≡ filter (λ r. not (is_of q r)) wanted → n ≡ length ks → vs' ≡ drop n vs → wanted' ≡ wanted_again (take n vs) rest → a ≤ a' → d ≤ d'
-    → IsStarted wanted pinned vs f budget a' b d' q ks wanted' vs'
-start_all wanted rest wanted' pinned vs vs' f budget a b d a' d' n q ks s m e l ev ew la ld =
-    let g : ks ≡ map key_of (take (length ks) vs) = gone_are wanted pinned vs f budget s.all_pinned s.worst_first m.rank ks m.evicted in
+    → IsStarted wanted staying vs f budget a' b d' q ks wanted' vs'
+start_all wanted rest wanted' staying vs vs' f budget a b d a' d' n q ks s m e l ev ew la ld =
+    let g : ks ≡ map key_of (take (length ks) vs) = gone_are wanted staying vs f budget s.all_stay s.worst_first m.rank ks m.evicted in
     let h : ks ≡ map key_of (take n vs) = g ∙ ap (λ k. map key_of (take k vs)) (sym l) in
     let t : is_of q m.rank ≡ true = same_from m.rank.key q m.key in
-    let x : IsQueue (wanted_again (take n vs) rest) pinned (drop n vs) (f + 1) a' b d' = start_queue wanted rest pinned vs f a b d a' d' n q m.rank s e m.wanted t la ld in
-    let y : Alike (choice_of (wanted_again (take n vs) rest) pinned (drop n vs) (f + 1) budget) (started (choice_of wanted pinned vs f budget) q (map key_of (take n vs))) = start_alike wanted pinned vs s.once n f budget q rest e in
+    let x : IsQueue (wanted_again (take n vs) rest) staying (drop n vs) (f + 1) a' b d' = start_queue wanted rest staying vs f a b d a' d' n q m.rank s e m.wanted t la ld in
+    let y : Alike (choice_of (wanted_again (take n vs) rest) staying (drop n vs) (f + 1) budget) (started (choice_of wanted staying vs f budget) q (map key_of (take n vs))) = start_alike wanted staying vs s.once n f budget q rest e in
     record {
-      queue = subst (λ (rs : List Rank). IsQueue rs pinned vs' (f + 1) a' b d') (sym ew) (subst (λ (us : List Victim). IsQueue (wanted_again (take n vs) rest) pinned us (f + 1) a' b d') (sym ev) x);
-      alike = subst (λ (rs : List Rank). Alike (choice_of rs pinned vs' (f + 1) budget) (started (choice_of wanted pinned vs f budget) q ks)) (sym ew)
-          (subst (λ (us : List Victim). Alike (choice_of (wanted_again (take n vs) rest) pinned us (f + 1) budget) (started (choice_of wanted pinned vs f budget) q ks)) (sym ev)
-          (subst (λ (js : List TileKey). Alike (choice_of (wanted_again (take n vs) rest) pinned (drop n vs) (f + 1) budget) (started (choice_of wanted pinned vs f budget) q js)) (sym h) y));
+      queue = subst (λ (rs : List Rank). IsQueue rs staying vs' (f + 1) a' b d') (sym ew) (subst (λ (us : List Victim). IsQueue (wanted_again (take n vs) rest) staying us (f + 1) a' b d') (sym ev) x);
+      alike = subst (λ (rs : List Rank). Alike (choice_of rs staying vs' (f + 1) budget) (started (choice_of wanted staying vs f budget) q ks)) (sym ew)
+          (subst (λ (us : List Victim). Alike (choice_of (wanted_again (take n vs) rest) staying us (f + 1) budget) (started (choice_of wanted staying vs f budget) q ks)) (sym ev)
+          (subst (λ (js : List TileKey). Alike (choice_of (wanted_again (take n vs) rest) staying (drop n vs) (f + 1) budget) (started (choice_of wanted staying vs f budget) q js)) (sym h) y));
     }
 
 -- the end of a start
 
-pub finish_none : (wanted : List Rank) (pinned : List Tile) (vs : List Victim) (f a b d : ℕ) → IsQueue wanted pinned vs f a b d → IsQueue wanted pinned vs (f - 1) a b d
-finish_none wanted pinned vs f a b d s = record {
+pub finish_none : (wanted : List Rank) (staying : List Tile) (vs : List Victim) (f a b d : ℕ) → IsQueue wanted staying vs f a b d → IsQueue wanted staying vs (f - 1) a b d
+finish_none wanted staying vs f a b d s = record {
   best_first = s.best_first;
   worst_first = s.worst_first;
-  all_pinned = s.all_pinned;
+  all_stay = s.all_stay;
   once = s.once;
   fits_ranks = let o = s.fits_ranks in omega arith;
-  fits_pinned = let o = s.fits_pinned in omega arith;
+  fits_kept = let o = s.fits_kept in omega arith;
   fits_victims = let o = s.fits_victims in omega arith;
   few = let o = s.few in omega arith;
 }
 
-stands_nowhere : (wanted : List Rank) (pinned : List Tile) (vs : List Victim) (f budget : ℕ) (k : TileKey) → IsNew (choice_of wanted pinned vs f budget) k → standing k wanted pinned vs ≡ 0
-stands_nowhere wanted pinned vs f budget k n =
+stands_nowhere : (wanted : List Rank) (staying : List Tile) (vs : List Victim) (f budget : ℕ) (k : TileKey) → IsNew (choice_of wanted staying vs f budget) k → standing k wanted staying vs ≡ 0
+stands_nowhere wanted staying vs f budget k n =
     let a = times_none k (map rank_key wanted) n.not_wanted in
-    let b : times k (map tile_key pinned ++ map key_of vs) ≡ 0 =
-    ap (times k) (ap (λ ks. map tile_key pinned ++ ks) (sym (keys_of_tiles vs)) ∙ sym (map-append tile_key pinned (map tile_of vs))) ∙ times_none k (map tile_key (pinned ++ map tile_of vs)) n.not_ready in
-    let e = times_append k (map tile_key pinned) (map key_of vs) in
+    let b : times k (map tile_key staying ++ map key_of vs) ≡ 0 =
+    ap (times k) (ap (λ ks. map tile_key staying ++ ks) (sym (keys_of_tiles vs)) ∙ sym (map-append tile_key staying (map tile_of vs))) ∙ times_none k (map tile_key (staying ++ map tile_of vs)) n.not_ready in
+    let e = times_append k (map tile_key staying) (map key_of vs) in
     omega arith
 
 one_more : (k q : TileKey) (s : TileKey → ℕ) → s k ≡ 0 → s q ≤ 1 → one_if (same_key k q) + s q ≤ 1
@@ -341,47 +341,47 @@ one_more k q s z l = by_test (same_key k q) refl
     by_test true e = let d : s q ≡ 0 = ap s (sym (one_key k q e)) ∙ z in omega arith
     by_test false e = omega arith
 
-all_append : (ts : List Tile) (t : Tile) → list_all is_pinned ts ≡ true → t.pinned ≡ true → list_all is_pinned (ts ++ t ∷ []) ≡ true
+all_append : (ts : List Tile) (t : Tile) → list_all stays ts ≡ true → stays t ≡ true → list_all stays (ts ++ t ∷ []) ≡ true
 all_append [] t h e = rw e refl
-all_append (u ∷ us) t h e = by_pin u.pinned h (λ k. all_append us t k e)
+all_append (u ∷ us) t h e = by_pin (stays u) h (λ k. all_append us t k e)
   where
-    by_pin : (p : Bool) → p && list_all is_pinned us ≡ true → (list_all is_pinned us ≡ true → list_all is_pinned (us ++ t ∷ []) ≡ true) → p && list_all is_pinned (us ++ t ∷ []) ≡ true
+    by_pin : (p : Bool) → p && list_all stays us ≡ true → (list_all stays us ≡ true → list_all stays (us ++ t ∷ []) ≡ true) → p && list_all stays (us ++ t ∷ []) ≡ true
     by_pin true h f = f h
     by_pin false h f = h
 
-pub finish_pinned : (wanted : List Rank) (pinned : List Tile) (vs : List Victim) (f a b d b' budget : ℕ) (t : Tile) → IsQueue wanted pinned vs f a b d
-    → IsNew (choice_of wanted pinned vs f budget) t.key → t.pinned ≡ true → 1 ≤ f → b ≤ b' → IsQueue wanted (pinned ++ t ∷ []) vs (f - 1) a b' d
-finish_pinned wanted pinned vs f a b d b' budget t s n e l lb =
-    let g : length (pinned ++ t ∷ []) ≡ length pinned + 1 = length-append pinned (t ∷ []) in
+pub finish_staying : (wanted : List Rank) (staying : List Tile) (vs : List Victim) (f a b d b' budget : ℕ) (t : Tile) → IsQueue wanted staying vs f a b d
+    → IsNew (choice_of wanted staying vs f budget) t.key → stays t ≡ true → 1 ≤ f → b ≤ b' → IsQueue wanted (staying ++ t ∷ []) vs (f - 1) a b' d
+finish_staying wanted staying vs f a b d b' budget t s n e l lb =
+    let g : length (staying ++ t ∷ []) ≡ length staying + 1 = length-append staying (t ∷ []) in
     record {
       best_first = s.best_first;
       worst_first = s.worst_first;
-      all_pinned = all_append pinned t s.all_pinned e;
+      all_stay = all_append staying t s.all_stay e;
       once = λ q.
-          let x : times q (map tile_key (pinned ++ t ∷ [])) ≡ times q (map tile_key pinned) + times q (t.key ∷ []) = ap (times q) (map-append tile_key pinned (t ∷ [])) ∙ times_append q (map tile_key pinned) (t.key ∷ []) in
+          let x : times q (map tile_key (staying ++ t ∷ [])) ≡ times q (map tile_key staying) + times q (t.key ∷ []) = ap (times q) (map-append tile_key staying (t ∷ [])) ∙ times_append q (map tile_key staying) (t.key ∷ []) in
           let y = times_cons q t.key [] in
-          let z = one_more t.key q (λ k. standing k wanted pinned vs) (stands_nowhere wanted pinned vs f budget t.key n) (s.once q) in
+          let z = one_more t.key q (λ k. standing k wanted staying vs) (stands_nowhere wanted staying vs f budget t.key n) (s.once q) in
           omega arith;
       fits_ranks = let o = s.fits_ranks in omega arith;
-      fits_pinned = let o = s.fits_pinned in omega arith;
+      fits_kept = let o = s.fits_kept in omega arith;
       fits_victims = let o = s.fits_victims in omega arith;
       few = let o = s.few in omega arith;
     }
 
-pub finish_victim : (wanted : List Rank) (pinned : List Tile) (vs : List Victim) (f a b d d' budget : ℕ) (v : Victim) → IsQueue wanted pinned vs f a b d
-    → IsNew (choice_of wanted pinned vs f budget) (key_of v) → 1 ≤ f → d ≤ d' → IsQueue wanted pinned (with_member victim_cmp v vs) (f - 1) a b d'
-finish_victim wanted pinned vs f a b d d' budget v s n l ld =
+pub finish_victim : (wanted : List Rank) (staying : List Tile) (vs : List Victim) (f a b d d' budget : ℕ) (v : Victim) → IsQueue wanted staying vs f a b d
+    → IsNew (choice_of wanted staying vs f budget) (key_of v) → 1 ≤ f → d ≤ d' → IsQueue wanted staying (with_member victim_cmp v vs) (f - 1) a b d'
+finish_victim wanted staying vs f a b d d' budget v s n l ld =
     let g = length_with victim_cmp v vs in
     record {
       best_first = s.best_first;
       worst_first = with_order victim_cmp victim_order v vs s.worst_first;
-      all_pinned = s.all_pinned;
+      all_stay = s.all_stay;
       once = λ q.
           let x = times_with key_of q victim_cmp v vs in
-          let z = one_more (key_of v) q (λ k. standing k wanted pinned vs) (stands_nowhere wanted pinned vs f budget (key_of v) n) (s.once q) in
+          let z = one_more (key_of v) q (λ k. standing k wanted staying vs) (stands_nowhere wanted staying vs f budget (key_of v) n) (s.once q) in
           omega arith;
       fits_ranks = let o = s.fits_ranks in omega arith;
-      fits_pinned = let o = s.fits_pinned in omega arith;
+      fits_kept = let o = s.fits_kept in omega arith;
       fits_victims = let o = s.fits_victims in omega arith;
       few = let o = s.few in omega arith;
     }
@@ -390,114 +390,50 @@ alike_by : (wanted : List Rank) (ts us : List Tile) (f g budget : ℕ) → IsPer
     → Alike (record { wanted = wanted; ready = ts; in_flight = f; budget = budget }) (record { wanted = wanted; ready = us; in_flight = g; budget = budget })
 alike_by wanted ts us f g budget p e = record { wanted = same_itself wanted; ready = permutation_members ts us p; as_many = permutation_many ts us p; in_flight = e; budget = refl }
 
-pub pinned_alike : (wanted : List Rank) (pinned : List Tile) (vs : List Victim) (f budget : ℕ) (t : Tile)
-    → Alike (choice_of wanted (pinned ++ t ∷ []) vs (f - 1) budget) (finished (choice_of wanted pinned vs f budget) (Some t))
-pinned_alike wanted pinned vs f budget t =
-    alike_by wanted ((pinned ++ t ∷ []) ++ map tile_of vs) (t ∷ (pinned ++ map tile_of vs)) (f - 1) (f - 1) budget
-    (subst (λ ts. IsPermutation ts (t ∷ (pinned ++ map tile_of vs))) (sym (append_assoc pinned (t ∷ []) (map tile_of vs))) (IsPermutation-middle pinned t (map tile_of vs))) refl
+pub staying_alike : (wanted : List Rank) (staying : List Tile) (vs : List Victim) (f budget : ℕ) (t : Tile)
+    → Alike (choice_of wanted (staying ++ t ∷ []) vs (f - 1) budget) (finished (choice_of wanted staying vs f budget) (Some t))
+staying_alike wanted staying vs f budget t =
+    alike_by wanted ((staying ++ t ∷ []) ++ map tile_of vs) (t ∷ (staying ++ map tile_of vs)) (f - 1) (f - 1) budget
+    (subst (λ ts. IsPermutation ts (t ∷ (staying ++ map tile_of vs))) (sym (append_assoc staying (t ∷ []) (map tile_of vs))) (IsPermutation-middle staying t (map tile_of vs))) refl
 
 not_in : (v : Victim) (vs : List Victim) → times (key_of v) (map key_of vs) ≡ 0 → In v vs → ⊥
 not_in v vs z i = let o = times_in (key_of v) (map key_of vs) (map_in key_of v vs i) in omega arith
 
-pub victim_alike : (wanted : List Rank) (pinned : List Tile) (vs : List Victim) (f budget : ℕ) (v : Victim) → IsNew (choice_of wanted pinned vs f budget) (key_of v)
-    → Alike (choice_of wanted pinned (with_member victim_cmp v vs) (f - 1) budget) (finished (choice_of wanted pinned vs f budget) (Some (tile_of v)))
-victim_alike wanted pinned vs f budget v n =
-    let z = stands_nowhere wanted pinned vs f budget (key_of v) n in
+pub victim_alike : (wanted : List Rank) (staying : List Tile) (vs : List Victim) (f budget : ℕ) (v : Victim) → IsNew (choice_of wanted staying vs f budget) (key_of v)
+    → Alike (choice_of wanted staying (with_member victim_cmp v vs) (f - 1) budget) (finished (choice_of wanted staying vs f budget) (Some (tile_of v)))
+victim_alike wanted staying vs f budget v n =
+    let z = stands_nowhere wanted staying vs f budget (key_of v) n in
     let p : IsPermutation (v ∷ vs) (with_member victim_cmp v vs) = with_new victim_cmp victim_order v vs (not_in v vs (omega arith)) in
-    alike_by wanted (pinned ++ map tile_of (with_member victim_cmp v vs)) (tile_of v ∷ (pinned ++ map tile_of vs)) (f - 1) (f - 1) budget
-    (IsPermutation-trans (pinned ++ map tile_of (with_member victim_cmp v vs)) (pinned ++ tile_of v ∷ map tile_of vs) (tile_of v ∷ (pinned ++ map tile_of vs))
-    (IsPermutation-append_right pinned (map tile_of (with_member victim_cmp v vs)) (tile_of v ∷ map tile_of vs)
+    alike_by wanted (staying ++ map tile_of (with_member victim_cmp v vs)) (tile_of v ∷ (staying ++ map tile_of vs)) (f - 1) (f - 1) budget
+    (IsPermutation-trans (staying ++ map tile_of (with_member victim_cmp v vs)) (staying ++ tile_of v ∷ map tile_of vs) (tile_of v ∷ (staying ++ map tile_of vs))
+    (IsPermutation-append_right staying (map tile_of (with_member victim_cmp v vs)) (tile_of v ∷ map tile_of vs)
     (IsPermutation-map tile_of (with_member victim_cmp v vs) (v ∷ vs) (IsPermutation-sym (v ∷ vs) (with_member victim_cmp v vs) p)))
-    (IsPermutation-middle pinned (tile_of v) (map tile_of vs)))
+    (IsPermutation-middle staying (tile_of v) (map tile_of vs)))
     refl
 
 -- what the lists are after the end of a start whose tile is ready, and what they stand for
-pub record IsFinished (wanted : List Rank) (pinned : List Tile) (vs : List Victim) (f budget a b d : ℕ) (t : Tile) (pinned' : List Tile) (vs' : List Victim) : Type 0 where
-  pub queue : IsQueue wanted pinned' vs' (f - 1) a b d
-  pub alike : Alike (choice_of wanted pinned' vs' (f - 1) budget) (finished (choice_of wanted pinned vs f budget) (Some t))
+pub record IsFinished (wanted : List Rank) (staying : List Tile) (vs : List Victim) (f budget a b d : ℕ) (t : Tile) (staying' : List Tile) (vs' : List Victim) : Type 0 where
+  pub queue : IsQueue wanted staying' vs' (f - 1) a b d
+  pub alike : Alike (choice_of wanted staying' vs' (f - 1) budget) (finished (choice_of wanted staying vs f budget) (Some t))
 
-pub finish_all : (wanted : List Rank) (pinned pinned' : List Tile) (vs vs' : List Victim) (f budget a b d b' d' : ℕ) (t : Tile)
-    → IsQueue wanted pinned vs f a b d → IsNew (choice_of wanted pinned vs f budget) t.key → 1 ≤ f → b ≤ b' → d ≤ d'
-    → (t.pinned ≡ true → (pinned' ≡ pinned ++ t ∷ []) × (vs' ≡ vs))
-    → (t.pinned ≡ false → (pinned' ≡ pinned) × ((v : Victim) × (tile_of v ≡ t) × (vs' ≡ with_member victim_cmp v vs)))
-    → IsFinished wanted pinned vs f budget a b' d' t pinned' vs'
-finish_all wanted pinned pinned' vs vs' f budget a b d b' d' t s n l lb ld there else = by_pin t.pinned refl
+pub finish_all : (wanted : List Rank) (staying staying' : List Tile) (vs vs' : List Victim) (f budget a b d b' d' : ℕ) (t : Tile)
+    → IsQueue wanted staying vs f a b d → IsNew (choice_of wanted staying vs f budget) t.key → 1 ≤ f → b ≤ b' → d ≤ d'
+    → (stays t ≡ true → (staying' ≡ staying ++ t ∷ []) × (vs' ≡ vs))
+    → (stays t ≡ false → (staying' ≡ staying) × ((v : Victim) × (tile_of v ≡ t) × (vs' ≡ with_member victim_cmp v vs)))
+    → IsFinished wanted staying vs f budget a b' d' t staying' vs'
+finish_all wanted staying staying' vs vs' f budget a b d b' d' t s n l lb ld there else = by_pin (stays t) refl
   where
-    by_pin : (p : Bool) → t.pinned ≡ p → IsFinished wanted pinned vs f budget a b' d' t pinned' vs'
+    by_pin : (p : Bool) → stays t ≡ p → IsFinished wanted staying vs f budget a b' d' t staying' vs'
     by_pin true e =
         let (ep, ev) = there e in
-        let s' : IsQueue wanted pinned vs f a b d' = record { best_first = s.best_first; worst_first = s.worst_first; all_pinned = s.all_pinned; once = s.once; fits_ranks = s.fits_ranks; fits_pinned = s.fits_pinned; fits_victims = (let o = s.fits_victims in omega arith); few = s.few } in
-        let x : IsFinished wanted pinned vs f budget a b' d' t (pinned ++ t ∷ []) vs = record { queue = finish_pinned wanted pinned vs f a b d' b' budget t s' n e l lb; alike = pinned_alike wanted pinned vs f budget t } in
-        subst (λ (ts : List Tile). IsFinished wanted pinned vs f budget a b' d' t ts vs') (sym ep) (subst (IsFinished wanted pinned vs f budget a b' d' t (pinned ++ t ∷ [])) (sym ev) x)
+        let s' : IsQueue wanted staying vs f a b d' = record { best_first = s.best_first; worst_first = s.worst_first; all_stay = s.all_stay; once = s.once; fits_ranks = s.fits_ranks; fits_kept = s.fits_kept; fits_victims = (let o = s.fits_victims in omega arith); few = s.few } in
+        let x : IsFinished wanted staying vs f budget a b' d' t (staying ++ t ∷ []) vs = record { queue = finish_staying wanted staying vs f a b d' b' budget t s' n e l lb; alike = staying_alike wanted staying vs f budget t } in
+        subst (λ (ts : List Tile). IsFinished wanted staying vs f budget a b' d' t ts vs') (sym ep) (subst (IsFinished wanted staying vs f budget a b' d' t (staying ++ t ∷ [])) (sym ev) x)
     by_pin false e =
         let (ep, rest) = else e in
         let (v, ev, es) = rest in
-        let s' : IsQueue wanted pinned vs f a b' d = record { best_first = s.best_first; worst_first = s.worst_first; all_pinned = s.all_pinned; once = s.once; fits_ranks = s.fits_ranks; fits_pinned = (let o = s.fits_pinned in omega arith); fits_victims = s.fits_victims; few = s.few } in
-        let n' : IsNew (choice_of wanted pinned vs f budget) (key_of v) = subst (IsNew (choice_of wanted pinned vs f budget)) (ap tile_key (sym ev) ∙ key_of_tile v) n in
-        let x : IsFinished wanted pinned vs f budget a b' d' (tile_of v) pinned (with_member victim_cmp v vs) = record { queue = finish_victim wanted pinned vs f a b' d d' budget v s' n' l ld; alike = victim_alike wanted pinned vs f budget v n' } in
-        subst (λ (u : Tile). IsFinished wanted pinned vs f budget a b' d' u pinned' vs') ev
-        (subst (λ (ts : List Tile). IsFinished wanted pinned vs f budget a b' d' (tile_of v) ts vs') (sym ep) (subst (IsFinished wanted pinned vs f budget a b' d' (tile_of v) pinned) (sym es) x))
-
--- a new choice
-
-module _ (ranks wanted : List Rank) (ready pinned : List Tile) (vs : List Victim) (same : IsPermutation ranks wanted) (kept : pinned ≡ filter is_pinned ready) (others : IsPermutation (filter (λ t. not (is_pinned t)) ready) (map tile_of vs)) where
-  all_ready : IsPermutation ready (pinned ++ map tile_of vs)
-  all_ready =
-      IsPermutation-trans ready (filter is_pinned ready ++ filter (λ t. not (is_pinned t)) ready) (pinned ++ map tile_of vs)
-      (IsPermutation-filter_both is_pinned (λ t. not (is_pinned t)) (λ t. refl) ready)
-      (subst (λ ts. IsPermutation (filter is_pinned ready ++ filter (λ t. not (is_pinned t)) ready) (ts ++ map tile_of vs)) (sym kept)
-      (IsPermutation-append_right (filter is_pinned ready) (filter (λ t. not (is_pinned t)) ready) (map tile_of vs) others))
-
-  all_pass : (ts : List Tile) → list_all is_pinned (filter is_pinned ts) ≡ true
-  all_pass [] = refl
-  all_pass (t ∷ ts) = by_pin t.pinned refl (all_pass ts)
-    where
-      by_pin : (p : Bool) → t.pinned ≡ p → list_all is_pinned (filter is_pinned ts) ≡ true → list_all is_pinned (cond p (t ∷ filter is_pinned ts) (filter is_pinned ts)) ≡ true
-      by_pin true e r = rw e r
-      by_pin false e r = r
-
-  pub new_length : (f : ℕ) → keys wanted pinned vs f ≡ length ranks + (length ready + f)
-  new_length f =
-      let a : length wanted ≡ length ranks = length_permutation ranks wanted same in
-      let b : length (pinned ++ map tile_of vs) ≡ length ready = length_permutation ready (pinned ++ map tile_of vs) all_ready in
-      let d = length-append pinned (map tile_of vs) in
-      let e = length-map vs tile_of in
-      omega arith
-
-  new_once : EachKeyOnce ranks ready → (q : TileKey) → standing q wanted pinned vs ≤ 1
-  new_once o q =
-      let a = times_permutation q (map rank_key ranks) (map rank_key wanted) (IsPermutation-map rank_key ranks wanted same) in
-      let b = times_permutation q (map tile_key ready) (map tile_key (pinned ++ map tile_of vs)) (IsPermutation-map tile_key ready (pinned ++ map tile_of vs) all_ready) in
-      let d : times q (map tile_key (pinned ++ map tile_of vs)) ≡ times q (map tile_key pinned) + times q (map key_of vs) =
-      ap (times q) (map-append tile_key pinned (map tile_of vs) ∙ ap (λ ks. map tile_key pinned ++ ks) (keys_of_tiles vs)) ∙ times_append q (map tile_key pinned) (map key_of vs) in
-      let e = apart (has_key (map rank_key ranks) q) refl in
-      omega arith
-    where
-      apart : (t : Bool) → has_key (map rank_key ranks) q ≡ t → times q (map rank_key ranks) + times q (map tile_key ready) ≤ 1
-      apart true h = let x = times_distinct q (map rank_key ranks) o.wanted_once in let y = times_none q (map tile_key ready) (o.apart q h) in omega arith
-      apart false h = let x = times_none q (map rank_key ranks) h in let y = times_distinct q (map tile_key ready) o.ready_once in omega arith
-
-  pub new_queue : (f a b d : ℕ) → EachKeyOnce ranks ready → IsInOrder rank_cmp wanted → IsInOrder victim_cmp vs
-      → length ranks + (length ready + f) ≤ a → length ranks + (length ready + f) ≤ b → length ranks + (length ready + f) ≤ d → length ranks + (length ready + f) < 2 ^ 62
-      → IsQueue wanted pinned vs f a b d
-  new_queue f a b d o ow ov la lb ld few =
-      let l = new_length f in
-      record {
-        best_first = ow;
-        worst_first = ov;
-        all_pinned = subst (λ ts. list_all is_pinned ts ≡ true) (sym kept) (all_pass ready);
-        once = new_once o;
-        fits_ranks = omega arith;
-        fits_pinned = omega arith;
-        fits_victims = omega arith;
-        few = omega arith;
-      }
-
-  pub new_alike : (f budget : ℕ) → Alike (choice_of wanted pinned vs f budget) (record { wanted = ranks; ready = ready; in_flight = f; budget = budget })
-  new_alike f budget = record {
-    wanted = permutation_members wanted ranks (IsPermutation-sym ranks wanted same);
-    ready = permutation_members (pinned ++ map tile_of vs) ready (IsPermutation-sym ready (pinned ++ map tile_of vs) all_ready);
-    as_many = permutation_many (pinned ++ map tile_of vs) ready (IsPermutation-sym ready (pinned ++ map tile_of vs) all_ready);
-    in_flight = refl;
-    budget = refl;
-  }
+        let s' : IsQueue wanted staying vs f a b' d = record { best_first = s.best_first; worst_first = s.worst_first; all_stay = s.all_stay; once = s.once; fits_ranks = s.fits_ranks; fits_kept = (let o = s.fits_kept in omega arith); fits_victims = s.fits_victims; few = s.few } in
+        let n' : IsNew (choice_of wanted staying vs f budget) (key_of v) = subst (IsNew (choice_of wanted staying vs f budget)) (ap tile_key (sym ev) ∙ key_of_tile v) n in
+        let x : IsFinished wanted staying vs f budget a b' d' (tile_of v) staying (with_member victim_cmp v vs) = record { queue = finish_victim wanted staying vs f a b' d d' budget v s' n' l ld; alike = victim_alike wanted staying vs f budget v n' } in
+        subst (λ (u : Tile). IsFinished wanted staying vs f budget a b' d' u staying' vs') ev
+        (subst (λ (ts : List Tile). IsFinished wanted staying vs f budget a b' d' (tile_of v) ts vs') (sym ep) (subst (IsFinished wanted staying vs f budget a b' d' (tile_of v) staying) (sym es) x))

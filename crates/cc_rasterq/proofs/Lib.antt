@@ -7,3 +7,4 @@ pub mod VictimOrders
 pub mod GiveUp
 pub mod Picking
 pub mod Changes
+pub mod NewChoice

@@ -1,5 +1,5 @@
 -- What the choice takes from the lists of a queue.
-use Rattle.std.proofs.Common.{◌≡◌, ◌⊎◌, inl, inr, ◌↔◌, ℕ, ◌+◌, ◌-◌, ◌<◌, ◌≤◌, zero, suc, nat_le, min, Bool, true, false, cond, not, ◌&&◌, Option, Some, None, List, [], ◌∷◌, ◌++◌, length, filter, map, take, drop, get_or, refl, sym, ◌∙◌, ap, subst, arith}
+use Rattle.std.proofs.Common.{◌≡◌, ◌⊎◌, inl, inr, ◌↔◌, ℕ, ◌+◌, ◌-◌, ◌<◌, ◌≤◌, zero, suc, nat_le, nat_lt, min, Bool, true, false, cond, not, ◌&&◌, ◌||◌, Option, Some, None, List, [], ◌∷◌, ◌++◌, length, filter, map, take, drop, get_or, refl, sym, ◌∙◌, ap, subst, arith}
 use Rattle.std.specs.Prelude.{option_map, IsNone}
 use Rattle.std.specs.List.{list_all}
 use Rattle.std.proofs.lemmas.Bool.Decides.{nat_tests}
@@ -10,7 +10,7 @@ use Rattle.cc_geom.specs.declared.tile.TileKey.{TileKey}
 use Rattle.cc_priority.specs.declared.rank.Bin.{Bin}
 use Rattle.cc_priority.specs.declared.rank.Bin.TheVariants as bin
 use Rattle.cc_priority.specs.declared.rank.Rank.{Rank}
-use Rattle.cc_priority.specs.Ranks.{rank_cmp}
+use Rattle.cc_priority.specs.Ranks.{bin_number, rank_cmp}
 use Rattle.cc_priority.specs.Tiles.{Tile}
 use Rattle.cc_priority.specs.Ordered.{SameMembers, BeforeAll, IsInOrder}
 use Rattle.cc_priority.specs.Choice.{Choice, used, victim_of, victim_key, gives_way, is_worse, is_enough, is_now, worst_cmp, worst_first, victims, may_start, first, NoneStarts, evicted}
@@ -21,7 +21,7 @@ use Rattle.cc_priority.proofs.LeastFirst.{least_is_first}
 use Rattle.cc_rasterq.specs.declared.victim.Victim.{Victim}
 use Rattle.cc_rasterq.specs.declared.victim.Victim.TheVariants.{Unranked, Ranked}
 use Rattle.cc_rasterq.specs.Queues.{tile_key}
-use Rattle.cc_rasterq.specs.inner.Orders.{is_pinned, choice_of}
+use Rattle.cc_rasterq.specs.inner.Orders.{is_visible, stays, choice_of}
 use Rattle.cc_rasterq.specs.inner.Victims.{given, tile_of, key_of, victim_cmp, is_worse_than}
 use Rattle.cc_rasterq.proofs.Places.{order_filter, least_is_head}
 
@@ -68,14 +68,27 @@ filter_tiles b (v ∷ vs) =
     by_test true e = ap (λ ts. tile_of v ∷ ts) e
     by_test false e = e
 
-pinned_stay : (b : Bin) (ts : List Tile) → list_all is_pinned ts ≡ true → filter (gives_way b) ts ≡ []
-pinned_stay b [] h = refl
-pinned_stay b (t ∷ ts) h = by_pin t.pinned h (pinned_stay b ts)
+staying_are_no_victims : (b : Bin) (ts : List Tile) → list_all stays ts ≡ true → filter (gives_way b) ts ≡ []
+staying_are_no_victims b [] h = refl
+staying_are_no_victims b (t ∷ ts) h = by_pin t.pinned t.rank h (staying_are_no_victims b ts)
   where
-    by_pin : (p : Bool) → p && list_all is_pinned ts ≡ true → (list_all is_pinned ts ≡ true → filter (gives_way b) ts ≡ [])
-        → cond (not p && is_worse t.rank b) (t ∷ filter (gives_way b) ts) (filter (gives_way b) ts) ≡ []
-    by_pin true h f = f h
-    by_pin false h f = absurd cc
+    never_below : (n : ℕ) → nat_lt n 0 ≡ false
+    never_below n = by_test (nat_lt n 0) refl
+      where
+        by_test : (t : Bool) → nat_lt n 0 ≡ t → t ≡ false
+        by_test true e = absurd (grind (arith, nat_tests))
+        by_test false e = refl
+
+    by_pin : (p : Bool) (r : Option Rank) → (p || is_visible r) && list_all stays ts ≡ true → (list_all stays ts ≡ true → filter (gives_way b) ts ≡ [])
+        → cond (not p && is_worse r b) (t ∷ filter (gives_way b) ts) (filter (gives_way b) ts) ≡ []
+    by_pin true r h f = f h
+    by_pin false None h f = absurd cc
+    by_pin false (Some r) h f = by_bin r.bin h
+      where
+        by_bin : (a : Bin) → is_now a && list_all stays ts ≡ true → cond (nat_lt (bin_number b) (bin_number a)) (t ∷ filter (gives_way b) ts) (filter (gives_way b) ts) ≡ []
+        by_bin bin.Now h = rw (never_below (bin_number b)) (f h)
+        by_bin bin.Soon h = absurd cc
+        by_bin bin.Eventually h = absurd cc
 
 order_given : (vs : List Victim) → IsInOrder victim_cmp vs → IsInOrder worst_cmp (map given vs)
 order_given [] o = tt
@@ -85,14 +98,14 @@ order_given (v ∷ vs) o = (before v vs o.0, order_given vs o.1)
     before v [] b = tt
     before v (u ∷ us) b = (b.0, before v us b.1)
 
-module _ (wanted : List Rank) (pinned : List Tile) (vs : List Victim) (in_flight budget : ℕ) (all_pinned : list_all is_pinned pinned ≡ true) (order : IsInOrder victim_cmp vs) where
+module _ (wanted : List Rank) (staying : List Tile) (vs : List Victim) (in_flight budget : ℕ) (all_stay : list_all stays staying ≡ true) (order : IsInOrder victim_cmp vs) where
   abbrev c : Choice
-  c = choice_of wanted pinned vs in_flight budget
+  c = choice_of wanted staying vs in_flight budget
 
   victims_are : (q : Rank) → victims c q ≡ map given (filter (is_worse_than q.bin) vs)
   victims_are q =
-      ap (map victim_of) (filter-append (gives_way q.bin) pinned (map tile_of vs))
-      ∙ ap (λ ts. map victim_of (ts ++ filter (gives_way q.bin) (map tile_of vs))) (pinned_stay q.bin pinned all_pinned)
+      ap (map victim_of) (filter-append (gives_way q.bin) staying (map tile_of vs))
+      ∙ ap (λ ts. map victim_of (ts ++ filter (gives_way q.bin) (map tile_of vs))) (staying_are_no_victims q.bin staying all_stay)
       ∙ ap (map victim_of) (filter_tiles q.bin vs)
       ∙ given_tiles (filter (is_worse_than q.bin) vs)
 

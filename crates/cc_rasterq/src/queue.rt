@@ -11,7 +11,7 @@ ghost use Rattle.cc_priority.specs.Alike.{Alike, started, finished};
 ghost use Rattle.cc_rasterq.specs.Queues.{rank_key, EachKeyOnce, IsNew, AreEvictedFor, MayStartWith};
 
 use crate::victim::Victim;
-use crate::victims::{count_for, give_up, keep, pinned, worst};
+use crate::victims::{count_for, give_up, keep, staying, worst};
 use crate::wanted::{best, forget, place_of};
 use crate::{victims, wanted};
 use cc_geom::{Keys, TileKey};
@@ -25,8 +25,8 @@ use std::marker::Model;
 pub struct RasterQueue {
     // The best first.
     wanted: VecDeque<Rank>,
-    // The ready tiles that must stay.
-    pinned: Vec<ReadyTile>,
+    // The ready tiles that are never given up: the pinned ones and the visible ones.
+    staying: Vec<ReadyTile>,
     // All other ready tiles, the worst first.
     victims: VecDeque<Victim>,
     in_flight: usize,
@@ -42,9 +42,9 @@ impl Model for RasterQueue {
 
     ghost Value = { Choice };
 
-    ghost view = { λ q. choice_of q.wanted.items q.pinned.items q.victims.items q.in_flight q.budget };
+    ghost view = { λ q. choice_of q.wanted.items q.staying.items q.victims.items q.in_flight q.budget };
 
-    ghost invariant = { λ q. IsQueue q.wanted.items q.pinned.items q.victims.items q.in_flight (deque_capacity q.wanted) (vec_capacity q.pinned) (deque_capacity q.victims) };
+    ghost invariant = { λ q. IsQueue q.wanted.items q.staying.items q.victims.items q.in_flight (deque_capacity q.wanted) (vec_capacity q.staying) (deque_capacity q.victims) };
 }
 
 impl RasterQueue {
@@ -54,7 +54,7 @@ impl RasterQueue {
     {
         RasterQueue {
             wanted: VecDeque::new(alloc),
-            pinned: Vec::new(alloc),
+            staying: Vec::new(alloc),
             victims: VecDeque::new(alloc),
             in_flight: 0,
             budget: 0,
@@ -78,10 +78,10 @@ impl RasterQueue {
     {
         let room = wanted.len() + ready.len() + in_flight as usize;
         let ranks = wanted::sorted(self.alloc, wanted, room)?;
-        let kept = pinned(self.alloc, ready, room)?;
+        let kept = staying(self.alloc, ready, room)?;
         let others = victims::sorted(self.alloc, ready, room)?;
         self.wanted = ranks;
-        self.pinned = kept;
+        self.staying = kept;
         self.victims = others;
         self.in_flight = in_flight as usize;
         self.budget = budget;
@@ -145,7 +145,7 @@ impl RasterQueue {
     {
         self.in_flight -= 1;
         if let Some(tile) = tile {
-            keep(&mut self.pinned, &mut self.victims, tile);
+            keep(&mut self.staying, &mut self.victims, tile);
         }
     }
 
@@ -153,7 +153,7 @@ impl RasterQueue {
     fn over_budget(&self) -> usize
         ensures { result ≡ (used self.now + 1) - self.now.budget }
     {
-        let used = self.pinned.len() + self.victims.len() + self.in_flight;
+        let used = self.staying.len() + self.victims.len() + self.in_flight;
         (used + 1).saturating_sub(self.budget as usize)
     }
 

@@ -1,13 +1,14 @@
 //! The ready tiles that may be given up, the worst first.
 
 ghost use Rattle.std.specs.Prelude.{◌≡◌, false};
+ghost use Rattle.cc_rasterq.specs.inner.Orders.{stays};
 ghost use Rattle.cc_rasterq.specs.inner.Victims.{tile_of, key_of, is_worse_than};
 
 use cc_geom::TileKey;
 use cc_priority::{Bin, Rank, ReadyTile};
 use std::cmp::Reverse;
 
-/// A ready tile that is not pinned, by what orders it: the worst comes first. Tiles without a rank come
+/// A ready tile that may be given up, by what orders it: the worst comes first. Tiles without a rank come
 /// before the others, by falling key; those follow by falling rank.
 #[derive(Clone, Copy, PartialEq, Eq, PartialOrd, Ord, Debug)]
 pub(crate) enum Victim {
@@ -18,9 +19,9 @@ pub(crate) enum Victim {
 }
 
 impl Victim {
-    /// A ready tile that is not pinned, as a victim.
+    /// A ready tile that may be given up, as a victim.
     pub(crate) fn of(tile: &ReadyTile) -> Victim
-        ensures { tile.now.pinned ≡ false → tile_of result ≡ tile.now }
+        ensures { stays tile.now ≡ false → tile_of result ≡ tile.now }
     {
         match tile.rank {
             None => Victim::Unranked(Reverse(tile.key)),

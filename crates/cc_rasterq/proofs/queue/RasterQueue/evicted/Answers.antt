@@ -36,12 +36,12 @@ returns-in-Some-clause-wanted c =
     let (there, of_key) = placed c in
     let once : times c.args.key (map rank_key c.self.inside.wanted.items) ≤ 1 = let o = c.self.invariant.once c.args.key in omega arith in
     let same : c.index.result.now ≡ r = one_rank c.args.key c.self.inside.wanted.items once c.index.result.now r there (subst (λ (z : Choice). In r z.wanted) (sym c.self.view_is) i) of_key k in
-    let over : c.over_budget.result ≡ (used (choice_of c.self.inside.wanted.items c.self.inside.pinned.items c.self.inside.victims.items c.self.inside.in_flight c.self.inside.budget) + 1) - c.self.inside.budget =
+    let over : c.over_budget.result ≡ (used (choice_of c.self.inside.wanted.items c.self.inside.staying.items c.self.inside.victims.items c.self.inside.in_flight c.self.inside.budget) + 1) - c.self.inside.budget =
     subst (λ (z : Choice). c.over_budget.result ≡ (used z + 1) - z.budget) (sym c.self.view_is) c.over_budget.ensures in
-    let e = evicted_is c.self.inside.wanted.items c.self.inside.pinned.items c.self.inside.victims.items c.self.inside.in_flight c.self.inside.budget c.self.invariant.all_pinned c.self.invariant.worst_first c.index.result.now c.count_for-most.result c.over_budget.result c.count_for-most.ensures.those over in
-    let f : keys ≡ map victim_key (evicted (choice_of c.self.inside.wanted.items c.self.inside.pinned.items c.self.inside.victims.items c.self.inside.in_flight c.self.inside.budget) c.index.result.now) =
+    let e = evicted_is c.self.inside.wanted.items c.self.inside.staying.items c.self.inside.victims.items c.self.inside.in_flight c.self.inside.budget c.self.invariant.all_stay c.self.invariant.worst_first c.index.result.now c.count_for-most.result c.over_budget.result c.count_for-most.ensures.those over in
+    let f : keys ≡ map victim_key (evicted (choice_of c.self.inside.wanted.items c.self.inside.staying.items c.self.inside.victims.items c.self.inside.in_flight c.self.inside.budget) c.index.result.now) =
     is ∙ ap (λ n. map key_of (take n c.self.inside.victims.items)) c.min.ensures ∙ sym (ap (map victim_key) e ∙ given_keys (take (min c.over_budget.result c.count_for-most.result) c.self.inside.victims.items)) in
-    subst (λ (z : Choice). keys ≡ map victim_key (evicted z r)) c.self.view_is (subst (λ (z : Rank). keys ≡ map victim_key (evicted (choice_of c.self.inside.wanted.items c.self.inside.pinned.items c.self.inside.victims.items c.self.inside.in_flight c.self.inside.budget) z)) same f))
+    subst (λ (z : Choice). keys ≡ map victim_key (evicted z r)) c.self.view_is (subst (λ (z : Rank). keys ≡ map victim_key (evicted (choice_of c.self.inside.wanted.items c.self.inside.staying.items c.self.inside.victims.items c.self.inside.in_flight c.self.inside.budget) z)) same f))
     c.worst.ensures
 
 pub returns-in-Some-clause-unwanted : goal.returns-in-Some-clause-unwanted

@@ -1,5 +1,5 @@
 use Rattle.std.proofs.Common.{arith}
-use Rattle.cc_rasterq.proofs.Changes.{new_queue, new_alike}
+use Rattle.cc_rasterq.proofs.NewChoice.{new_queue, new_alike}
 use Rattle.cc_rasterq.proofs.queue.RasterQueue.rebuild.Goals as goal
 
 pub invariant_of-self : goal.invariant_of-self

@@ -15,16 +15,16 @@ give_up-requires-clause-order c =
 
 pub give_up-requires-clause-room : goal.give_up-requires-clause-room
 give_up-requires-clause-room c =
-    let m : MayStartWith (choice_of c.self.inside.wanted.items c.self.inside.pinned.items c.self.inside.victims.items c.self.inside.in_flight c.self.inside.budget) c.args.key c.args.evicted.now =
+    let m : MayStartWith (choice_of c.self.inside.wanted.items c.self.inside.staying.items c.self.inside.victims.items c.self.inside.in_flight c.self.inside.budget) c.args.key c.args.evicted.now =
     subst (λ (z : Choice). MayStartWith z c.args.key c.args.evicted.now) (sym c.self.view_is) c.requires in
-    let g = gone_are c.self.inside.wanted.items c.self.inside.pinned.items c.self.inside.victims.items c.self.inside.in_flight c.self.inside.budget c.self.invariant.all_pinned c.self.invariant.worst_first m.rank c.args.evicted.now m.evicted in
-    let r = start_room c.self.inside.wanted.items c.forget.new.wanted.items c.self.inside.pinned.items c.self.inside.victims.items c.self.inside.in_flight _ _ _ c.len.result c.args.key c.args.evicted.now c.self.invariant c.forget.ensures.items g c.len.ensures in
+    let g = gone_are c.self.inside.wanted.items c.self.inside.staying.items c.self.inside.victims.items c.self.inside.in_flight c.self.inside.budget c.self.invariant.all_stay c.self.invariant.worst_first m.rank c.args.evicted.now m.evicted in
+    let r = start_room c.self.inside.wanted.items c.forget.new.wanted.items c.self.inside.staying.items c.self.inside.victims.items c.self.inside.in_flight _ _ _ c.len.result c.args.key c.args.evicted.now c.self.invariant c.forget.ensures.items g c.len.ensures in
     omega (arith, r, c.forget.ensures.capacity)
 
-begun : (c : goal.After-self-1) → IsStarted c.self.inside.wanted.items c.self.inside.pinned.items c.self.inside.victims.items c.self.inside.in_flight c.self.inside.budget (deque_capacity c.give_up.new.wanted) (vec_capacity c.self.inside.pinned) (deque_capacity c.give_up.new.victims) c.args.key c.args.evicted.now c.give_up.new.wanted.items c.give_up.new.victims.items
+begun : (c : goal.After-self-1) → IsStarted c.self.inside.wanted.items c.self.inside.staying.items c.self.inside.victims.items c.self.inside.in_flight c.self.inside.budget (deque_capacity c.give_up.new.wanted) (vec_capacity c.self.inside.staying) (deque_capacity c.give_up.new.victims) c.args.key c.args.evicted.now c.give_up.new.wanted.items c.give_up.new.victims.items
 begun c =
-    start_all c.self.inside.wanted.items c.forget.new.wanted.items c.give_up.new.wanted.items c.self.inside.pinned.items c.self.inside.victims.items c.give_up.new.victims.items c.self.inside.in_flight c.self.inside.budget
-    (deque_capacity c.self.inside.wanted) (vec_capacity c.self.inside.pinned) (deque_capacity c.self.inside.victims) (deque_capacity c.give_up.new.wanted) (deque_capacity c.give_up.new.victims) c.len.result c.args.key c.args.evicted.now c.self.invariant (subst (λ (z : Choice). MayStartWith z c.args.key c.args.evicted.now) (sym c.self.view_is) c.requires)
+    start_all c.self.inside.wanted.items c.forget.new.wanted.items c.give_up.new.wanted.items c.self.inside.staying.items c.self.inside.victims.items c.give_up.new.victims.items c.self.inside.in_flight c.self.inside.budget
+    (deque_capacity c.self.inside.wanted) (vec_capacity c.self.inside.staying) (deque_capacity c.self.inside.victims) (deque_capacity c.give_up.new.wanted) (deque_capacity c.give_up.new.victims) c.len.result c.args.key c.args.evicted.now c.self.invariant (subst (λ (z : Choice). MayStartWith z c.args.key c.args.evicted.now) (sym c.self.view_is) c.requires)
     c.forget.ensures.items c.len.ensures c.give_up.ensures.victims c.give_up.ensures.wanted (omega (arith, c.forget.ensures.capacity, c.give_up.ensures.wanted_capacity)) c.give_up.ensures.victims_capacity
 
 pub invariant_of-self : goal.invariant_of-self
@@ -32,4 +32,4 @@ invariant_of-self c = (begun c).queue
 
 pub returns : goal.returns
 returns c =
-    subst (λ (z : Choice). Alike (choice_of c.give_up.new.wanted.items c.self.inside.pinned.items c.give_up.new.victims.items (c.self.inside.in_flight + 1) c.self.inside.budget) (started z c.args.key c.args.evicted.now)) c.self.view_is (begun c).alike
+    subst (λ (z : Choice). Alike (choice_of c.give_up.new.wanted.items c.self.inside.staying.items c.give_up.new.victims.items (c.self.inside.in_flight + 1) c.self.inside.budget) (started z c.args.key c.args.evicted.now)) c.self.view_is (begun c).alike

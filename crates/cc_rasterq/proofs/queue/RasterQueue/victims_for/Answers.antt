@@ -7,5 +7,5 @@ pub returns : goal.returns
 returns c =
     λ q e.
     subst (λ z. c.count_for.result ≡ length (worst_first z q)) c.self.view_is
-    (count_is c.self.inside.wanted.items c.self.inside.pinned.items c.self.inside.victims.items c.self.inside.in_flight c.self.inside.budget
-    c.self.invariant.all_pinned c.self.invariant.worst_first c.args.bin c.count_for.result c.count_for.ensures.those c.count_for.ensures.bound q e)
+    (count_is c.self.inside.wanted.items c.self.inside.staying.items c.self.inside.victims.items c.self.inside.in_flight c.self.inside.budget
+    c.self.invariant.all_stay c.self.invariant.worst_first c.args.bin c.count_for.result c.count_for.ensures.those c.count_for.ensures.bound q e)
