@@ -1,0 +1,9 @@
+pub mod LoopFacts
+pub mod NoBin
+pub mod SoundAreas
+pub mod GridPlaces
+pub mod SeenLayers
+pub mod VisibleKeys
+pub mod SeenRanks
+pub mod BothTrees
+pub mod NearTiles

@@ -1,0 +1,11 @@
+-- What was found, and what the rest gives, are all that is wanted.
+use Rattle.std.proofs.Common.{◌≡◌, ◌++◌, length, filter_map}
+use Rattle.std.specs.Prelude.{option_copied}
+use Rattle.cc_ranks.specs.inner.Lists.{alone}
+use Rattle.cc_ranks.proofs.both.with_alone.Given as goal
+
+abbrev pub invariant-loop-rank : goal.invariant-loop-rank
+invariant-loop-rank l = l.all.items ++ filter_map (alone l.script (option_copied l.active)) l.rest ≡ l.fn.before.items ++ filter_map (alone l.script (option_copied l.active)) l.ranks
+
+abbrev pub decreases-loop-rank : goal.decreases-loop-rank
+decreases-loop-rank l = length l.rest

@@ -1,0 +1,3 @@
+pub mod SeenTrees
+pub mod Areas
+pub mod inner

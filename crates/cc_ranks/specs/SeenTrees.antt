@@ -1,0 +1,78 @@
+-- A tree as its tiles are seen: where each layer stands on the screen, and the stamps of its places.
+use Rattle.std.specs.Prelude.{◌≡◌, ℕ, ◌==◌, Bool, true, false, ◌&&◌, cond, List, [], ◌∷◌, length, slice_get, Option, Some, None}
+use Rattle.std.specs.List.{find}
+use Rattle.cc_geom.specs.declared.rect.Point.{Point}
+use Rattle.cc_geom.specs.declared.rect.Rect.{Rect}
+use Rattle.cc_geom.specs.declared.tile.Place.{Place}
+use Rattle.cc_geom.specs.declared.tile.TileKey.{TileKey}
+use Rattle.cc_geom.specs.Grids.{has, rect_of}
+use Rattle.cc_geom.specs.Gaps.{shifted}
+use Rattle.cc_geom.specs.Sides.{Sides}
+use Rattle.cc_tree.specs.Placement.{translation, clip_of, draws}
+use Rattle.cc_tiling.specs.Tiles.{Tiled, stamp_at}
+use Rattle.cc_priority.specs.declared.rank.Rank.{Rank}
+use Rattle.cc_priority.specs.declared.rank.Side.{Side}
+use Rattle.cc_priority.specs.declared.tile.Borders.{Borders}
+use Rattle.cc_priority.specs.declared.tile.Seen.{Seen}
+use Rattle.cc_priority.specs.Bins.{rank_of}
+use Rattle.cc_edit.specs.Layers.{PageLayer}
+use Rattle.cc_edit.specs.Pages.{Page}
+use Rattle.cc_visible.specs.Visible.{viewport, grid_of, cut_by}
+use Rattle.cc_event.specs.Tiles.{Tree}
+use Rattle.cc_event.specs.Ranking.{place_named}
+
+-- a tiling for each layer, in the order of the layers, cut as the layer is
+pub record AreCut (p : Page) (tilings : List Tiled) : Type 0 where
+  pub each_one : length tilings ≡ length p.layers
+  pub grids : (i : ℕ) (l : PageLayer) (u : Tiled) → slice_get p.layers i ≡ Some l → slice_get tilings i ≡ Some u → u.grid ≡ grid_of p l
+
+-- a page, the offsets of its scrollers and the tilings of its layers are those of a tree
+pub record IsTiled (t : Tree) (p : Page) (offset : ℕ → Point) (tilings : List Tiled) : Type 0 where
+  pub page : p ≡ t.page
+  pub offsets : (sc : ℕ) → offset sc ≡ t.offset sc
+  pub stamps : (i : ℕ) (l : PageLayer) (u : Tiled) → slice_get t.page.layers i ≡ Some l → slice_get tilings i ≡ Some u
+      → (place : Place) → has (grid_of t.page l) place ≡ true → stamp_at u place ≡ t.stamp l.id place
+
+-- a layer as its tiles are seen: how it is cut, how far it is moved, its clip cut by the viewport, whether it is drawn, and the stamps of its places
+pub record SeenLayerModel : Type 0 where
+  pub id : ℕ
+  pub grid : Sides
+  pub by : Point
+  pub clip : Rect
+  pub draws : Bool
+  pub stamps : Tiled
+
+-- it is a layer of a page at these offsets
+pub record IsSeenIn (p : Page) (offset : ℕ → Point) (l : PageLayer) (v : SeenLayerModel) : Type 0 where
+  pub id : v.id ≡ l.id
+  pub grid : v.grid ≡ grid_of p l
+  pub by : v.by ≡ translation offset p.props.transforms l.transform
+  pub clip : v.clip ≡ cut_by (viewport p) (clip_of offset p.props.transforms p.props.clips l.clip)
+  pub draws : v.draws ≡ draws p.props.effects l.effect
+
+-- it is a layer of a tree
+pub record IsLayerOf (t : Tree) (l : PageLayer) (v : SeenLayerModel) : Type 0 where
+  pub seen : IsSeenIn t.page t.offset l v
+  pub stamps : (place : Place) → has (grid_of t.page l) place ≡ true → stamp_at v.stamps place ≡ t.stamp l.id place
+
+-- they are layers of a tree, in their order
+abbrev pub AreLayersOf : Tree → List PageLayer → List SeenLayerModel → Type 0
+AreLayersOf t [] [] = Unit {0}
+AreLayersOf t [] (v ∷ vs) = ⊥
+AreLayersOf t (l ∷ ls) [] = ⊥
+AreLayersOf t (l ∷ ls) (v ∷ vs) = IsLayerOf t l v × AreLayersOf t ls vs
+
+-- a page and its layers as their tiles are seen
+pub record SeenTreeModel : Type 0 where
+  pub page : Page
+  pub layers : List SeenLayerModel
+
+-- it is a tree
+pub record IsSeenTree (t : Tree) (r : SeenTreeModel) : Type 0 where
+  pub page : r.page ≡ t.page
+  pub layers : AreLayersOf t t.page.layers r.layers
+
+-- it is a tree; where there is none, the tree has no layer
+abbrev pub IsSeenWhere : Tree → Option SeenTreeModel → Type 0
+IsSeenWhere t None = t.page.layers ≡ []
+IsSeenWhere t (Some r) = IsSeenTree t r
