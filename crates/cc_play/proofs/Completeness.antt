@@ -1,6 +1,6 @@
--- A script that is played is played.
-use Rattle.std.proofs.Common.{◌≡◌, ℕ, ◌≤◌, true, false, List, length, None, Some, Ok, Err, ap, sym, ◌∙◌, arith, subst}
-use Rattle.std.specs.Prelude.{Option, IfSome}
+-- What a use takes is not refused.
+use Rattle.std.proofs.Common.{◌≡◌, ℕ, ◌<◌, ◌≤◌, true, false, List, length, None, Some, Ok, Err, ap, sym, ◌∙◌, arith, subst}
+use Rattle.std.specs.Prelude.{Option, IfSome, Result, IfOk}
 use Rattle.cc_io.specs.Counts.{Rose}
 use Rattle.serde_json.specs.Data.{Data}
 use Rattle.serde_json.specs.Read.{read}
@@ -10,18 +10,15 @@ use Rattle.cc_event.specs.Accepted.{TakesFrames}
 use Rattle.cc_event.proofs.Exclusion.{frames_taken}
 use Rattle.cc_script.specs.Causes.{IsTextOf, IsScriptText}
 use Rattle.cc_script.specs.Reading.{parts_at}
+use Rattle.cc_script.proofs.ScriptLaws.{one_script}
+use Rattle.cc_check.proofs.OneReading.{not_bad}
+use Rattle.cc_oneframe.specs.Forms.{is_played}
 use Rattle.cc_play.specs.declared.outcome.Outcome.{Outcome}
 use Rattle.cc_play.specs.declared.outcome.ScriptFault.TheVariants.{Edit, NotBuilt}
-use Rattle.cc_play.specs.declared.outcome.Outcome.TheVariants.{Done, Usage, Json, Shape, Script, ReadFault, WriteFault, TooLong, Memory}
-use Rattle.cc_oneframe.specs.Forms.{is_played}
-use Rattle.cc_play.specs.Runs.{script_limit, TellsMisfit, CauseOf, Causes, IsComplete, IsPlayedText, IsPlayed}
-
--- a text has one reading
-one_script : (bytes : List ℕ) (s t : ScriptModel) → IsScriptText bytes s → IsScriptText bytes t → s ≡ t
-one_script bytes s t a b =
-    let same : a.0 ≡ b.0 = cc (a.1.1, b.1.1) in
-    let reading : parts_at a.0 ≡ Ok t = ap parts_at same ∙ b.2 in
-    cc (reading, a.2)
+use Rattle.cc_play.specs.declared.outcome.Outcome.TheVariants.{Done, Usage, Json, Shape, Script, ReadFault, WriteFault, TooLong, BadRecording, Memory}
+use Rattle.cc_play.specs.declared.words.Use.{Use}
+use Rattle.cc_play.specs.declared.words.Use.TheVariants.{Step, Frames}
+use Rattle.cc_play.specs.Runs.{script_limit, recording_limit, TellsMisfit, IsPlayedText, Takes, RefusedScript, RefusedRecording, Refused, CauseOf, Causes, IsComplete, IsDone}
 
 -- a text of a script has no first fault
 not_at_fault : (bytes : List ℕ) → IsPlayedText bytes → (d : Data) → IsTextOf bytes d → (place : _) → parts_at d ≡ Err place → ⊥
@@ -30,29 +27,60 @@ not_at_fault bytes good d text place fault =
     let reading : parts_at d ≡ Ok good.0 = ap parts_at same ∙ good.1.2 in
     cc (reading, fault)
 
-pub played : (bytes : List ℕ) (source_old source_new out_old out_new : ℕ) (result : Outcome) → TellsMisfit None result → CauseOf bytes result → Causes source_old source_new out_old out_new result
-    → length bytes ≤ script_limit → IsPlayedText bytes → (Rose source_old source_new → ⊥) → (Rose out_old out_new → ⊥) → IsPlayed result
-played bytes a b c e Done fits cause faults few good calm_source calm_out = tt
-played bytes a b c e (Usage word) fits cause faults few good calm_source calm_out = absurd fits
-played bytes a b c e Json fits cause faults few good calm_source calm_out =
-    let none : read bytes ≡ None = cause.1 good.1.1.0 in
-    absurd (cc (none, good.1.1.1))
-played bytes a b c e (Shape fault) fits cause faults few good calm_source calm_out = absurd (not_at_fault bytes good cause.1 cause.2 _ cause.3)
-played bytes a b c e (Script frame command (Edit fault)) fits cause faults few good calm_source calm_out =
-    let same : cause.1 ≡ good.0 = one_script bytes cause.1 good.0 cause.2 good.1 in
-    let taken : TakesFrames (blank cause.1) cause.1.main = subst (λ (s : ScriptModel). TakesFrames (blank s) s.main) (sym same) good.2.accepted.commands in
-    absurd (frames_taken (blank cause.1) cause.1.main frame command fault taken cause.3)
-played bytes a b c e (Script frame command NotBuilt) fits cause faults few good calm_source calm_out =
-    let same : cause.3 ≡ good.0 = one_script bytes cause.3 good.0 cause.4 good.1 in
-    let not : is_played good.0 ≡ false = ap is_played (sym same) ∙ cause.6 in
+-- a script that is played is not refused
+script_taken : (bytes : List ℕ) (result : Outcome) → Takes Step bytes → RefusedScript bytes result → ⊥
+script_taken bytes Json (few, good) (short, none) = let nothing : read bytes ≡ None = none good.1.1.0 in absurd (cc (nothing, good.1.1.1))
+script_taken bytes (Shape place) (few, good) (short, d, text, fault) = not_at_fault bytes good d text place fault
+script_taken bytes (Script frame command (Edit fault)) (few, good) (short, s, text, refused) =
+    let same : s ≡ good.0 = one_script bytes s good.0 text good.1 in
+    let taken : TakesFrames (blank s) s.main = subst (λ (t : ScriptModel). TakesFrames (blank t) t.main) (sym same) good.2.accepted.commands in
+    frames_taken (blank s) s.main frame command fault taken refused
+script_taken bytes (Script frame command NotBuilt) (few, good) (short, first, begins, s, text, accepted, other) =
+    let same : s ≡ good.0 = one_script bytes s good.0 text good.1 in
+    let not : is_played good.0 ≡ false = ap is_played (sym same) ∙ other in
     let is : is_played good.0 ≡ true = good.2.played in
     absurd (cc (not, is))
-played bytes a b c e ReadFault fits cause faults few good calm_source calm_out = absurd (calm_source faults)
-played bytes a b c e WriteFault fits cause faults few good calm_source calm_out = absurd (calm_out faults)
-played bytes a b c e (TooLong limit) fits cause faults few good calm_source calm_out = absurd (omega (arith, few, cause.1))
-played bytes a b c e Memory fits cause faults few good calm_source calm_out = tt
+script_taken bytes (TooLong limit) (few, good) (is, long) = omega (arith, few, long)
+script_taken bytes Done takes refused = refused
+script_taken bytes (Usage word) takes refused = refused
+script_taken bytes ReadFault takes refused = refused
+script_taken bytes WriteFault takes refused = refused
+script_taken bytes (BadRecording place) takes refused = refused
+script_taken bytes Memory takes refused = refused
 
-pub complete : (usage : Option ℕ) (source : Option (List ℕ)) (source_old source_new out_old out_new : ℕ) (result : Outcome) → TellsMisfit usage result → IfSome source (λ bytes. CauseOf bytes result) → Causes source_old source_new out_old out_new result → IsComplete usage source source_old source_new out_old out_new result
-complete (Some word) source a b c e result fits cause faults no_misfit = absurd (cc (no_misfit))
-complete None None a b c e result fits cause faults no_misfit = tt
-complete None (Some bytes) a b c e result fits cause faults no_misfit = λ few good calm_source calm_out. played bytes a b c e result fits cause faults few good calm_source calm_out
+-- nor is a recording
+recording_taken : (bytes : List ℕ) (result : Outcome) → Takes Frames bytes → RefusedRecording bytes result → ⊥
+recording_taken bytes (BadRecording place) (few, (s, ps, is)) (short, bad) = not_bad bytes s ps place is bad
+recording_taken bytes (TooLong limit) (few, good) (is, long) = omega (arith, few, long)
+recording_taken bytes Done takes refused = refused
+recording_taken bytes (Usage word) takes refused = refused
+recording_taken bytes Json takes refused = refused
+recording_taken bytes (Shape place) takes refused = refused
+recording_taken bytes (Script frame command why) takes refused = refused
+recording_taken bytes ReadFault takes refused = refused
+recording_taken bytes WriteFault takes refused = refused
+recording_taken bytes Memory takes refused = refused
+
+-- nor is what a use takes
+not_refused : (wanted : Use) (bytes : List ℕ) (result : Outcome) → Takes wanted bytes → Refused wanted bytes result → ⊥
+not_refused Step bytes result takes refused = script_taken bytes result takes refused
+not_refused Frames bytes result takes refused = recording_taken bytes result takes refused
+
+done : (wanted : Use) (bytes : List ℕ) (source_old source_new out_old out_new : ℕ) (result : Outcome) → TellsMisfit (Ok wanted) result → CauseOf wanted bytes result → Causes source_old source_new out_old out_new result
+    → Takes wanted bytes → (Rose source_old source_new → ⊥) → (Rose out_old out_new → ⊥) → IsDone result
+done wanted bytes a b c e Done fits cause faults takes calm_source calm_out = tt
+done wanted bytes a b c e (Usage word) fits cause faults takes calm_source calm_out = absurd fits
+done wanted bytes a b c e Json fits cause faults takes calm_source calm_out = absurd (not_refused wanted bytes Json takes cause)
+done wanted bytes a b c e (Shape fault) fits cause faults takes calm_source calm_out = absurd (not_refused wanted bytes (Shape fault) takes cause)
+done wanted bytes a b c e (Script frame command why) fits cause faults takes calm_source calm_out = absurd (not_refused wanted bytes (Script frame command why) takes cause)
+done wanted bytes a b c e ReadFault fits cause faults takes calm_source calm_out = absurd (calm_source faults)
+done wanted bytes a b c e WriteFault fits cause faults takes calm_source calm_out = absurd (calm_out faults)
+done wanted bytes a b c e (TooLong limit) fits cause faults takes calm_source calm_out = absurd (not_refused wanted bytes (TooLong limit) takes cause)
+done wanted bytes a b c e (BadRecording place) fits cause faults takes calm_source calm_out = absurd (not_refused wanted bytes (BadRecording place) takes cause)
+done wanted bytes a b c e Memory fits cause faults takes calm_source calm_out = tt
+
+pub complete : (asked : Result Use ℕ) (source : Option (List ℕ)) (source_old source_new out_old out_new : ℕ) (result : Outcome) → TellsMisfit asked result → IfOk asked (λ wanted. IfSome source (λ bytes. CauseOf wanted bytes result)) → Causes source_old source_new out_old out_new result
+    → IfOk asked (λ wanted. IsComplete wanted source source_old source_new out_old out_new result)
+complete (Err word) source a b c e result fits cause faults = tt
+complete (Ok wanted) None a b c e result fits cause faults = tt
+complete (Ok wanted) (Some bytes) a b c e result fits cause faults = λ takes calm_source calm_out. done wanted bytes a b c e result fits cause faults takes calm_source calm_out

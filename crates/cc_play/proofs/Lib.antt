@@ -5,6 +5,7 @@ pub mod Told
 pub mod Completeness
 pub mod Prepared
 pub mod Written
+pub mod ImagesWritten
 pub mod Counts
 pub mod FewInputs
 pub mod LayersLeft

@@ -1,7 +1,7 @@
 -- What a run of the program does with its words, its input and its output.
-use Rattle.std.specs.Prelude.{◌≡◌, ℕ, ◌<◌, ◌≤◌, ◌⊎◌, true, false, List, length, ⊤, Option, Some, None, IfSome, Err}
+use Rattle.std.specs.Prelude.{◌≡◌, ℕ, ◌<◌, ◌≤◌, ◌+◌, ◌⊎◌, true, false, List, length, ⊤, Option, None, IfSome, Result, Ok, Err}
 use Rattle.std.specs.Str.{IsUtf8}
-use Rattle.std.specs.Io.KnownBytes.{Appends, IsAtEnd}
+use Rattle.std.specs.Io.KnownBytes.{Consumes, Appends, IsAtEnd}
 use Rattle.serde_json.specs.Data.{Data}
 use Rattle.serde_json.specs.Read.{read}
 use Rattle.cc_io.specs.Counts.{Rose}
@@ -12,21 +12,29 @@ use Rattle.cc_event.specs.Accepted.{IsAccepted}
 use Rattle.cc_event.specs.Judging.{RefusedAt}
 use Rattle.cc_script.specs.Causes.{IsTextOf, IsScriptText}
 use Rattle.cc_script.specs.Reading.{parts_at}
+use Rattle.cc_parts.specs.Pieces.{Piece, images_text}
+use Rattle.cc_check.specs.Recordings.{IsRecording, IsBadAt}
+use Rattle.cc_oneframe.specs.Forms.{is_played}
 use Rattle.cc_play.specs.declared.outcome.ScriptFault.TheVariants.{Edit, NotBuilt}
 use Rattle.cc_play.specs.declared.outcome.Outcome.{Outcome}
-use Rattle.cc_play.specs.declared.outcome.Outcome.TheVariants.{Done, Usage, Json, Shape, Script, ReadFault, WriteFault, TooLong, Memory}
-use Rattle.cc_oneframe.specs.Forms.{is_played}
+use Rattle.cc_play.specs.declared.outcome.Outcome.TheVariants.{Done, Usage, Json, Shape, Script, ReadFault, WriteFault, TooLong, BadRecording, Memory}
+use Rattle.cc_play.specs.declared.words.Use.{Use}
+use Rattle.cc_play.specs.declared.words.Use.TheVariants.{Step, Frames}
 use Rattle.cc_play.specs.Pictures.{IsRecordingOf}
 
 -- the greatest number of bytes of a script
 abbrev pub script_limit : ℕ
 script_limit = 16777216
 
+-- the greatest number of bytes of a recording
+abbrev pub recording_limit : ℕ
+recording_limit = 268435456
+
 -- the answer is Usage exactly where some word does not fit, and tells which
-abbrev pub TellsMisfit : Option ℕ → Outcome → Type 0
-TellsMisfit (Some word) result = result ≡ Usage word
-TellsMisfit None (Usage word) = ⊥
-TellsMisfit None _ = ⊤
+abbrev pub TellsMisfit : Result Use ℕ → Outcome → Type 0
+TellsMisfit (Err word) result = result ≡ Usage word
+TellsMisfit (Ok wanted) (Usage word) = ⊥
+TellsMisfit (Ok wanted) _ = ⊤
 
 -- a script that is accepted and of the form that is played
 pub record IsPlayedScript (s : ScriptModel) : Type 0 where
@@ -37,45 +45,89 @@ pub record IsPlayedScript (s : ScriptModel) : Type 0 where
 abbrev pub IsPlayedText : List ℕ → Type 0
 IsPlayedText bytes = (s : ScriptModel) × IsScriptText bytes s × IsPlayedScript s
 
--- why this is the answer where the words fit and the source has these bytes: a value that is no script is told by its first fault; a script of which a command is refused by the first such command; and only a script that is accepted can be of a form that is not played
-abbrev pub CauseOf : List ℕ → Outcome → Type 0
-CauseOf bytes Done = (length bytes ≤ script_limit) × IsPlayedText bytes
-CauseOf bytes (Usage word) = ⊤
-CauseOf bytes Json = (length bytes ≤ script_limit) × (IsUtf8 bytes → read bytes ≡ None)
-CauseOf bytes (Shape fault) =
-    (length bytes ≤ script_limit) × (d : Data) × IsTextOf bytes d × (parts_at d ≡ Err fault)
-CauseOf bytes (Script frame command (Edit fault)) =
-    (length bytes ≤ script_limit) × (s : ScriptModel) × IsScriptText bytes s × RefusedAt (blank s) s.main frame command fault
-CauseOf bytes (Script frame command NotBuilt) =
-    (length bytes ≤ script_limit) × (frame ≡ 0) × (command ≡ 0) × (s : ScriptModel) × IsScriptText bytes s × IsAccepted s × (is_played s ≡ false)
-CauseOf bytes ReadFault = ⊤
-CauseOf bytes WriteFault = (length bytes ≤ script_limit) × IsPlayedText bytes
-CauseOf bytes (TooLong limit) = (limit ≡ script_limit) × (script_limit < length bytes)
-CauseOf bytes Memory = ⊤
+-- the bytes are a recording
+abbrev pub IsRecordingText : List ℕ → Type 0
+IsRecordingText bytes = (s : ScriptModel) × (ps : List Piece) × IsRecording bytes s ps
 
--- the source was read to its end
-abbrev pub ReadToEnd : Option (List ℕ) → Outcome → Type 0
-ReadToEnd left Done = IsAtEnd left
-ReadToEnd left Json = IsAtEnd left
-ReadToEnd left (Shape fault) = IsAtEnd left
-ReadToEnd left (Script frame command why) = IsAtEnd left
-ReadToEnd left WriteFault = IsAtEnd left
-ReadToEnd left _ = ⊤
+-- what a use takes: the text of a script that is played; a recording
+abbrev pub Takes : Use → List ℕ → Type 0
+Takes Step bytes = (length bytes ≤ script_limit) × IsPlayedText bytes
+Takes Frames bytes = (length bytes ≤ recording_limit) × IsRecordingText bytes
+
+-- why bytes are refused as a script: a value that is no script is told by its first fault; a script of which a command is refused by the first such command; and only a script that is accepted can be of a form that is not played
+abbrev pub RefusedScript : List ℕ → Outcome → Type 0
+RefusedScript bytes Json = (length bytes ≤ script_limit) × (IsUtf8 bytes → read bytes ≡ None)
+RefusedScript bytes (Shape fault) =
+    (length bytes ≤ script_limit) × (d : Data) × IsTextOf bytes d × (parts_at d ≡ Err fault)
+RefusedScript bytes (Script frame command (Edit fault)) =
+    (length bytes ≤ script_limit) × (s : ScriptModel) × IsScriptText bytes s × RefusedAt (blank s) s.main frame command fault
+RefusedScript bytes (Script frame command NotBuilt) =
+    (length bytes ≤ script_limit) × (frame ≡ 0) × (command ≡ 0) × (s : ScriptModel) × IsScriptText bytes s × IsAccepted s × (is_played s ≡ false)
+RefusedScript bytes (TooLong limit) = (limit ≡ script_limit) × (script_limit < length bytes)
+RefusedScript bytes _ = ⊥
+
+-- why bytes are refused as a recording: the first part that is not of its form begins there
+abbrev pub RefusedRecording : List ℕ → Outcome → Type 0
+RefusedRecording bytes (TooLong limit) = (limit ≡ recording_limit) × (recording_limit < length bytes)
+RefusedRecording bytes (BadRecording place) = (length bytes ≤ recording_limit) × IsBadAt bytes place
+RefusedRecording bytes _ = ⊥
+
+-- why a use refuses bytes
+abbrev pub Refused : Use → List ℕ → Outcome → Type 0
+Refused Step bytes result = RefusedScript bytes result
+Refused Frames bytes result = RefusedRecording bytes result
+
+-- why this is the answer of a use where the source has these bytes
+abbrev pub CauseOf : Use → List ℕ → Outcome → Type 0
+CauseOf wanted bytes Done = Takes wanted bytes
+CauseOf wanted bytes WriteFault = Takes wanted bytes
+CauseOf wanted bytes (Usage word) = ⊤
+CauseOf wanted bytes ReadFault = ⊤
+CauseOf wanted bytes Memory = ⊤
+CauseOf wanted bytes result = Refused wanted bytes result
+
+-- at most so many bytes were taken of a source
+abbrev pub TakenAtMost : ℕ → Option (List ℕ) → Option (List ℕ) → Type 0
+TakenAtMost most old new = (bytes : List ℕ) × Consumes old new bytes × (length bytes ≤ most)
+
+-- how much a use reads: one byte beyond the limit at most
+abbrev pub Reads : Use → Option (List ℕ) → Option (List ℕ) → Type 0
+Reads Step old new = TakenAtMost (script_limit + 1) old new
+Reads Frames old new = TakenAtMost (recording_limit + 1) old new
+
+-- bytes are judged only where the source was read to its end
+abbrev pub IsJudgedWhole : Option (List ℕ) → Outcome → Type 0
+IsJudgedWhole left (Usage word) = ⊤
+IsJudgedWhole left ReadFault = ⊤
+IsJudgedWhole left (TooLong limit) = ⊤
+IsJudgedWhole left Memory = ⊤
+IsJudgedWhole left _ = IsAtEnd left
+
+-- where a use reads its source to the end
+abbrev pub ReadToEnd : Use → Option (List ℕ) → Outcome → Type 0
+ReadToEnd Step left result = IsJudgedWhole left result
+ReadToEnd Frames left result = IsJudgedWhole left result
 
 -- a script that is played, and that the source had, where it tells its bytes
 abbrev pub IsPlayedFrom : Option (List ℕ) → ScriptModel → Type 0
 IsPlayedFrom source s = IsPlayedScript s × IfSome source (λ bytes. IsScriptText bytes s)
 
--- what is written in all: the recording of a script that is played, and that the source had
-abbrev pub IsOutput : Option (List ℕ) → List ℕ → Type 0
-IsOutput source whole = (s : ScriptModel) × IsPlayedFrom source s × IsRecordingOf s whole
+-- the images of a recording, in order, and the source had that recording, where it tells its bytes
+abbrev pub AreImagesFrom : Option (List ℕ) → List ℕ → Type 0
+AreImagesFrom source whole =
+    (bytes : List ℕ) × IfSome source (λ had. had ≡ bytes) × (s : ScriptModel) × (ps : List Piece) × IsRecording bytes s ps × (whole ≡ images_text ps)
 
--- what the sink gained: the recording; a front of it; or nothing
-abbrev pub Writes : Option (List ℕ) → Option (List ℕ) → Option (List ℕ) → Outcome → Type 0
-Writes source old new Done = (whole : List ℕ) × IsOutput source whole × Appends old new whole
-Writes source old new WriteFault = (whole : List ℕ) × IsOutput source whole × GainsPrefix old new whole
-Writes source old new Memory = (new ≡ old) ⊎ ((whole : List ℕ) × IsOutput source whole × GainsPrefix old new whole)
-Writes source old new _ = new ≡ old
+-- what a use writes in all: the recording of the script; the images of the recording
+abbrev pub IsOutput : Use → Option (List ℕ) → List ℕ → Type 0
+IsOutput Step source whole = (s : ScriptModel) × IsPlayedFrom source s × IsRecordingOf s whole
+IsOutput Frames source whole = AreImagesFrom source whole
+
+-- what the sink gained: all that the use writes; a front of it; or nothing
+abbrev pub Writes : Use → Option (List ℕ) → Option (List ℕ) → Option (List ℕ) → Outcome → Type 0
+Writes wanted source old new Done = (whole : List ℕ) × IsOutput wanted source whole × Appends old new whole
+Writes wanted source old new WriteFault = (whole : List ℕ) × IsOutput wanted source whole × GainsPrefix old new whole
+Writes wanted source old new Memory = (new ≡ old) ⊎ ((whole : List ℕ) × IsOutput wanted source whole × GainsPrefix old new whole)
+Writes wanted source old new _ = new ≡ old
 
 -- a fault of the source or of the sink is answered only where that one's count of faults rose
 abbrev pub Causes : ℕ → ℕ → ℕ → ℕ → Outcome → Type 0
@@ -84,13 +136,12 @@ Causes source_old source_new out_old out_new WriteFault = Rose out_old out_new
 Causes source_old source_new out_old out_new _ = ⊤
 
 -- all was done, or there was no memory
-abbrev pub IsPlayed : Outcome → Type 0
-IsPlayed Done = ⊤
-IsPlayed Memory = ⊤
-IsPlayed _ = ⊥
+abbrev pub IsDone : Outcome → Type 0
+IsDone Done = ⊤
+IsDone Memory = ⊤
+IsDone _ = ⊥
 
--- where the words fit, the bytes are the text of a script that is played, at most as many as the
--- limit, and neither count of faults rose, all is done or there was no memory
-abbrev pub IsComplete : Option ℕ → Option (List ℕ) → ℕ → ℕ → ℕ → ℕ → Outcome → Type 0
-IsComplete usage source source_old source_new out_old out_new result =
-    usage ≡ None → IfSome source (λ bytes. length bytes ≤ script_limit → IsPlayedText bytes → (Rose source_old source_new → ⊥) → (Rose out_old out_new → ⊥) → IsPlayed result)
+-- where the bytes are what the use takes, and neither count of faults rose, all is done or there was no memory
+abbrev pub IsComplete : Use → Option (List ℕ) → ℕ → ℕ → ℕ → ℕ → Outcome → Type 0
+IsComplete wanted source source_old source_new out_old out_new result =
+    IfSome source (λ bytes. Takes wanted bytes → (Rose source_old source_new → ⊥) → (Rose out_old out_new → ⊥) → IsDone result)

@@ -1,4 +1,5 @@
 pub mod Fragments
 pub mod Inputs
 pub mod Pages
+pub mod Recordings
 pub mod Writing

@@ -2,6 +2,7 @@
 
 ghost use Rattle.std.specs.Prelude.{◌≡◌, ℕ, ◌+◌, ◌-◌, ◌<◌, ◌≤◌, ◌^◌, ◌++◌, List, length, vec_len, IfOk, MatchResult};
 ghost use Rattle.std.specs.Io.KnownBytes.{Consumes, IsAtEnd};
+ghost use Rattle.cc_play.specs.Runs.{TakenAtMost};
 ghost use Rattle.cc_play.specs.inner.Inputs.{ReadWhole, StoppedAt, ReadCause, ReadMore, NotTooLong};
 
 use cc_io::Source;
@@ -29,12 +30,14 @@ fn blank(alloc: Global, length: usize) -> Result<Vec<u8>, AllocError>
 }
 
 // Reads one piece, at most as long as the buffer, and adds it to the bytes; answers its length.
+#[tactic(auto, using(crate::proofs::Told::took_nothing, crate::proofs::Told::took_front))]
 fn read_piece<S: Source>(
     source: &mut S,
     buffer: &mut [u8],
     bytes: &mut Vec<u8>,
 ) -> Result<usize, ReadStop>
     ensures bytes { MatchResult result (ReadMore (S.left source.old) (S.left source.new) (length buffer.old) bytes.old.items bytes.new.items) (λ stop. NotTooLong stop) }
+    ensures reads { TakenAtMost (length buffer.old) (S.left source.old) (S.left source.new) }
     ensures grows { S.faults source.old ≤ S.faults source.new }
     ensures cause { ReadCause (S.faults source.old) (S.faults source.new) result }
 {
@@ -51,9 +54,11 @@ fn read_piece<S: Source>(
 /// All bytes that a source has, read to its end.
 ///
 /// At most one byte more than `limit` is read, and after a failed read the source is not called again.
+#[tactic(auto, using(crate::proofs::Told::took_nothing, crate::proofs::Told::took_more))]
 pub fn read_all<S: Source>(alloc: Global, source: &mut S, limit: usize) -> Result<Vec<u8>, ReadStop>
     requires { limit < 2 ^ 32 }
     ensures bytes { MatchResult result (λ v. ReadWhole limit (S.left source.old) (S.left source.new) v.items) (StoppedAt limit (S.left source.old) (S.left source.new)) }
+    ensures reads { TakenAtMost (limit + 1) (S.left source.old) (S.left source.new) }
     ensures grows { S.faults source.old ≤ S.faults source.new }
     ensures cause { ReadCause (S.faults source.old) (S.faults source.new) result }
 {

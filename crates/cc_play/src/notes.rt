@@ -125,6 +125,11 @@ fn line(outcome: Outcome) -> [Fragment; 9]
             Fragment::Count(limit),
             NEWLINE,
         ),
+        Outcome::BadRecording { place } => short_line(
+            Fragment::Text(b"cc: bad recording at "),
+            Fragment::Count(place),
+            NEWLINE,
+        ),
         Outcome::Memory => text_line(b"cc: out of memory\n"),
     }
 }

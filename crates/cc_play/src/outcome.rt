@@ -49,6 +49,11 @@ pub enum Outcome {
         /// The greatest number of bytes that are read.
         limit: u64,
     },
+    /// The bytes are no recording.
+    BadRecording {
+        /// The offset at which the first part begins that is not of its form.
+        place: u64,
+    },
     /// There was no memory.
     Memory,
 }
@@ -67,6 +72,7 @@ impl Outcome {
             Outcome::ReadFault => 6,
             Outcome::WriteFault => 7,
             Outcome::TooLong { .. } => 8,
+            Outcome::BadRecording { .. } => 9,
             Outcome::Memory => 11,
         }
     }

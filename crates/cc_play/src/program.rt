@@ -1,22 +1,23 @@
 //! The words, the input and the output of one run.
 
-ghost use Rattle.std.specs.Prelude.{◌≡◌, ℕ, ◌≤◌, true, false, [], Option, None, Some, IfSome, IfOk, MatchOption, length, map, string_bytes};
+ghost use Rattle.std.specs.Prelude.{◌≡◌, ℕ, ◌≤◌, true, false, [], Option, None, Some, IfSome, Ok, IfOk, OnErr, MatchOption, length, map, string_bytes};
 ghost use Rattle.cc_tree.specs.OffsetMap.{offset_at, AreOffsets};
 ghost use Rattle.cc_edit.specs.Effects.{value_of};
 ghost use Rattle.cc_oneframe.specs.Forms.{is_played, page_of};
-ghost use Rattle.cc_play.specs.Words.{usage_of};
+ghost use Rattle.cc_play.specs.Words.{use_of as use_in};
 ghost use Rattle.cc_play.specs.Outcomes.{line_of, Told};
-ghost use Rattle.cc_play.specs.Runs.{script_limit, TellsMisfit, CauseOf, ReadToEnd, Writes, Causes, IsComplete};
+ghost use Rattle.cc_play.specs.Runs.{script_limit, TellsMisfit, CauseOf, Reads, ReadToEnd, Writes, Causes, IsComplete};
 ghost use Rattle.cc_play.specs.inner.Pages.{IsReady, IsPrepared, PageIn, PageOf, PageFrom, RefusedBy, Plays};
 
 use crate::form::{is_plain_script, is_still};
 use crate::history::history_of;
+use crate::images::run_frames;
 use crate::input::{ReadStop, read_all};
 use crate::notes::tell;
 use crate::outcome::{Outcome, ScriptFault};
 use crate::picture::image_at;
 use crate::recorder::{WriteStop, write_recording};
-use crate::words::misfit;
+use crate::words::{Use, use_of};
 use cc_edit::{LayerTree, main_offsets};
 use cc_event::{Event, Script};
 use cc_io::{Sink, Source};
@@ -161,6 +162,7 @@ fn play<K: Sink>(alloc: Global, out: &mut K, page: &Played) -> Outcome
 // Reads the source to its end, and the script in it.
 fn read_page<S: Source>(alloc: Global, source: &mut S) -> Result<Played, Outcome>
     ensures page { PageFrom (S.left source.old) (S.left source.new) result }
+    ensures reads { Reads Use.Step (S.left source.old) (S.left source.new) }
     ensures grows { S.faults source.old ≤ S.faults source.new }
     ensures cause { RefusedBy (S.faults source.old) (S.faults source.new) result }
 {
@@ -172,13 +174,14 @@ fn read_page<S: Source>(alloc: Global, source: &mut S) -> Result<Played, Outcome
     }
 }
 
-/// Plays the script of the source into the sink.
+// Plays the script of the source into the sink.
 #[tactic(auto, using(crate::proofs::Written::plays_page))]
-fn run_script<S: Source, K: Sink>(alloc: Global, source: &mut S, out: &mut K) -> Outcome
-    ensures words { TellsMisfit None result }
-    ensures input { IfSome (S.left source.old) (λ bytes. CauseOf bytes result) }
-    ensures end { ReadToEnd (S.left source.new) result }
-    ensures output { Writes (S.left source.old) (K.held out.old) (K.held out.new) result }
+fn run_step<S: Source, K: Sink>(alloc: Global, source: &mut S, out: &mut K) -> Outcome
+    ensures words { TellsMisfit (Ok Use.Step) result }
+    ensures input { IfSome (S.left source.old) (λ bytes. CauseOf Use.Step bytes result) }
+    ensures reads { Reads Use.Step (S.left source.old) (S.left source.new) }
+    ensures end { ReadToEnd Use.Step (S.left source.new) result }
+    ensures output { Writes Use.Step (S.left source.old) (K.held out.old) (K.held out.new) result }
     ensures cause { Causes (S.faults source.old) (S.faults source.new) (K.faults out.old) (K.faults out.new) result }
 {
     match read_page(alloc, source) {
@@ -187,32 +190,51 @@ fn run_script<S: Source, K: Sink>(alloc: Global, source: &mut S, out: &mut K) ->
     }
 }
 
-// What the words ask for, but for the line to the notes.
+// Does what a use asks for, but for the line to the notes.
+fn run_use<S: Source, K: Sink>(alloc: Global, wanted: Use, source: &mut S, out: &mut K) -> Outcome
+    ensures words { TellsMisfit (Ok wanted) result }
+    ensures input { IfSome (S.left source.old) (λ bytes. CauseOf wanted bytes result) }
+    ensures reads { Reads wanted (S.left source.old) (S.left source.new) }
+    ensures end { ReadToEnd wanted (S.left source.new) result }
+    ensures output { Writes wanted (S.left source.old) (K.held out.old) (K.held out.new) result }
+    ensures cause { Causes (S.faults source.old) (S.faults source.new) (K.faults out.old) (K.faults out.new) result }
+{
+    match wanted {
+        Use::Step => run_step(alloc, source, out),
+        Use::Frames => run_frames(alloc, source, out),
+    }
+}
+
+// Does what the words ask for, but for the line to the notes.
 fn run_words<S: Source, K: Sink>(
     alloc: Global,
     words: &[String],
     source: &mut S,
     out: &mut K,
 ) -> Outcome
-    ensures words { TellsMisfit (usage_of (map string_bytes words.now)) result }
-    ensures input { IfSome (S.left source.old) (λ bytes. CauseOf bytes result) }
-    ensures end { ReadToEnd (S.left source.new) result }
-    ensures output { Writes (S.left source.old) (K.held out.old) (K.held out.new) result }
+    ensures words { TellsMisfit (use_in (map string_bytes words.now)) result }
+    ensures untouched { OnErr (use_in (map string_bytes words.now)) ((source.new ≡ source.old) × (out.new ≡ out.old)) }
+    ensures input { IfOk (use_in (map string_bytes words.now)) (λ wanted. IfSome (S.left source.old) (λ bytes. CauseOf wanted bytes result)) }
+    ensures reads { IfOk (use_in (map string_bytes words.now)) (λ wanted. Reads wanted (S.left source.old) (S.left source.new)) }
+    ensures end { IfOk (use_in (map string_bytes words.now)) (λ wanted. ReadToEnd wanted (S.left source.new) result) }
+    ensures output { IfOk (use_in (map string_bytes words.now)) (λ wanted. Writes wanted (S.left source.old) (K.held out.old) (K.held out.new) result) }
     ensures cause { Causes (S.faults source.old) (S.faults source.new) (K.faults out.old) (K.faults out.new) result }
 {
-    match misfit(words) {
-        Some(word) => Outcome::Usage { word },
-        None => run_script(alloc, source, out),
+    match use_of(words) {
+        Ok(wanted) => run_use(alloc, wanted, source, out),
+        Err(word) => Outcome::Usage { word },
     }
 }
 
 /// Runs the program: does what the words ask with the bytes of the source, writes to `out`, and tells
 /// the notes how it ended.
 ///
-/// The words are those behind the program's name. `step 1` reads a script to its end and writes its
-/// recording. Refusals come in this order: the words, the source, the limit of 16,777,216 bytes, JSON,
-/// and the script. Before any of them nothing is written to `out`. The outcome's line goes to `notes`;
-/// what `notes` answers changes no outcome.
+/// The words are those behind the program's name. `step 1` reads a script and writes its recording;
+/// `frames` reads a recording and writes its images, one behind the other. The source is read to its
+/// end, or to one byte beyond the limit: 16,777,216 bytes of a script, 268,435,456 of a recording.
+/// Refusals come in this order: the words (nothing is read then), the source, the limit, and what the
+/// bytes are: JSON, a script, one that is played; or a recording. Before any of them nothing is written
+/// to `out`. The outcome's line goes to `notes`; what `notes` answers changes no outcome.
 #[tactic(auto, using(crate::proofs::Completeness::complete))]
 pub fn run<R: Threads + Sync, S: Source, K: Sink, E: Sink>(
     rt: &R,
@@ -222,12 +244,14 @@ pub fn run<R: Threads + Sync, S: Source, K: Sink, E: Sink>(
     out: &mut K,
     notes: &mut E,
 ) -> Outcome
-    ensures words { TellsMisfit (usage_of (map string_bytes words.now)) result }
-    ensures input { IfSome (S.left source.old) (λ bytes. CauseOf bytes result) }
-    ensures end { ReadToEnd (S.left source.new) result }
-    ensures output { Writes (S.left source.old) (K.held out.old) (K.held out.new) result }
+    ensures words { TellsMisfit (use_in (map string_bytes words.now)) result }
+    ensures untouched { OnErr (use_in (map string_bytes words.now)) ((source.new ≡ source.old) × (out.new ≡ out.old)) }
+    ensures input { IfOk (use_in (map string_bytes words.now)) (λ wanted. IfSome (S.left source.old) (λ bytes. CauseOf wanted bytes result)) }
+    ensures reads { IfOk (use_in (map string_bytes words.now)) (λ wanted. Reads wanted (S.left source.old) (S.left source.new)) }
+    ensures end { IfOk (use_in (map string_bytes words.now)) (λ wanted. ReadToEnd wanted (S.left source.new) result) }
+    ensures output { IfOk (use_in (map string_bytes words.now)) (λ wanted. Writes wanted (S.left source.old) (K.held out.old) (K.held out.new) result) }
     ensures cause { Causes (S.faults source.old) (S.faults source.new) (K.faults out.old) (K.faults out.new) result }
-    ensures complete { IsComplete (usage_of (map string_bytes words.now)) (S.left source.old) (S.faults source.old) (S.faults source.new) (K.faults out.old) (K.faults out.new) result }
+    ensures complete { IfOk (use_in (map string_bytes words.now)) (λ wanted. IsComplete wanted (S.left source.old) (S.faults source.old) (S.faults source.new) (K.faults out.old) (K.faults out.new) result) }
     ensures told { Told (E.held notes.old) (E.held notes.new) (E.faults notes.old) (E.faults notes.new) (E.refusals notes.old) (E.refusals notes.new) (line_of result) }
 {
     let _ = rt;

@@ -23,8 +23,8 @@ pub enum WriteStop {
     Memory,
 }
 
-// Puts a whole piece.
-fn put_all<K: Sink>(out: &mut K, bytes: &[u8]) -> Result<(), WriteStop>
+/// Puts a whole piece.
+pub fn put_all<K: Sink>(out: &mut K, bytes: &[u8]) -> Result<(), WriteStop>
     ensures bytes { PutsAll (K.held out.old) (K.held out.new) bytes.now result }
     ensures grows { K.faults out.old ≤ K.faults out.new }
     ensures cause { WriteCause (K.faults out.old) (K.faults out.new) result }

@@ -1,8 +1,17 @@
 //! The words of the command line.
 
-ghost use Rattle.std.specs.Prelude.{◌≡◌, ℕ, List, Option, map, string_bytes};
+ghost use Rattle.std.specs.Prelude.{◌≡◌, ℕ, List, Result, map, string_bytes};
 ghost use Rattle.std.specs.Str.{bytes_eq};
-ghost use Rattle.cc_play.specs.Words.{usage_of, after_step, after_count};
+ghost use Rattle.cc_play.specs.Words as words;
+
+/// What the words ask for.
+#[derive(Clone, Copy, Debug, Drop, PartialEq)]
+pub enum Use {
+    /// `step 1`: plays a script in lockstep and writes its recording.
+    Step,
+    /// `frames`: writes the images of a recording.
+    Frames,
+}
 
 // Whether two texts are the same.
 fn is_same(a: &str, b: &str) -> bool
@@ -11,33 +20,34 @@ fn is_same(a: &str, b: &str) -> bool
     a == b
 }
 
-// The first word that does not fit behind `step` and its count; None where all is there.
-fn after_count_of(rest: &[String]) -> Option<u32>
-    ensures { result ≡ after_count (map string_bytes rest.now) }
+// The use, where no word is left; else the index of the next one.
+fn no_more(wanted: Use, index: u32, rest: &[String]) -> Result<Use, u32>
+    ensures { result ≡ words.no_more wanted index (map string_bytes rest.now) }
 {
     match rest {
-        [] => None,
-        [_, ..] => Some(2),
+        [] => Ok(wanted),
+        [_, ..] => Err(index),
     }
 }
 
-// The first word that does not fit behind `step`; None where all is there.
-fn after_step_of(rest: &[String]) -> Option<u32>
-    ensures { result ≡ after_step (map string_bytes rest.now) }
+// What the words behind `step` ask for, or the index of the first that does not fit.
+fn after_step(rest: &[String]) -> Result<Use, u32>
+    ensures { result ≡ words.after_step (map string_bytes rest.now) }
 {
     match rest {
-        [count, more @ ..] if is_same(count.as_str(), "1") => after_count_of(more),
-        _ => Some(1),
+        [count, more @ ..] if is_same(count.as_str(), "1") => no_more(Use::Step, 2, more),
+        _ => Err(1),
     }
 }
 
-/// The index of the first word that, with those before it, begins no use of the program; where there is
-/// no such word but more words are needed, their count; None where the words are a use.
-pub fn misfit(words: &[String]) -> Option<u32>
-    ensures { result ≡ usage_of (map string_bytes words.now) }
+/// What the words ask for; or the index of the first word that, with those before it, begins no use of
+/// the program. Where there is no such word but more words are needed, it is their count.
+pub fn use_of(given: &[String]) -> Result<Use, u32>
+    ensures { result ≡ words.use_of (map string_bytes given.now) }
 {
-    match words {
-        [first, rest @ ..] if is_same(first.as_str(), "step") => after_step_of(rest),
-        _ => Some(0),
+    match given {
+        [first, rest @ ..] if is_same(first.as_str(), "step") => after_step(rest),
+        [first, rest @ ..] if is_same(first.as_str(), "frames") => no_more(Use::Frames, 1, rest),
+        _ => Err(0),
     }
 }

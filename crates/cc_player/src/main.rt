@@ -1,4 +1,5 @@
-//! The program: a script on standard input, its recording on standard output.
+//! The program: a script on standard input, its recording on standard output; or a recording, and its
+//! pictures.
 #![tactic(auto)]
 
 use cc_io::{Sink, StdSink, StdSource};
@@ -12,9 +13,12 @@ const HELP: &str = "\
 cc_player: plays scripts of page changes and inputs
 
 usage: cc_player step 1 < SCRIPT > RECORDING
+       cc_player frames < RECORDING > PICTURES
 
   step 1      reads a script (JSON) from standard input and writes its recording to standard
               output: every event, and after each draw the picture as a raw portable pixmap (P6)
+  frames      reads a recording from standard input and writes its pictures to standard output, one
+              behind the other, each a raw portable pixmap (P6)
   --help      prints this text
   --version   prints the version
 
@@ -26,10 +30,12 @@ status:
    5  a command is refused, or the script is of a form that is not played
    6  standard input could not be read
    7  standard output could not be written
-   8  the script is longer than 16777216 bytes
+   8  the script is longer than 16777216 bytes, or the recording longer than 268435456
+   9  the input is no recording: the place of its first bad part is told, as an offset in bytes
   11  out of memory
 
 example: cc_player step 1 < examples/first.json > first.rec
+         cc_player frames < first.rec > first.ppm
 ";
 
 // What `--version` prints.

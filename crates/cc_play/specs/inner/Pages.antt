@@ -8,6 +8,7 @@ use Rattle.cc_script.specs.Causes.{IsScriptText}
 use Rattle.cc_play.specs.declared.outcome.ScriptFault.TheVariants.{NotBuilt}
 use Rattle.cc_play.specs.declared.outcome.Outcome.{Outcome}
 use Rattle.cc_play.specs.declared.outcome.Outcome.TheVariants.{Done, Usage, Json, Shape, Script, ReadFault, WriteFault, Memory}
+use Rattle.cc_play.specs.declared.words.Use.TheVariants.{Step}
 use Rattle.cc_play.specs.declared.program.Played.{Played}
 use Rattle.cc_play.specs.declared.program.Show.{Show}
 use Rattle.cc_oneframe.specs.Forms.{is_played, page_of}
@@ -39,7 +40,7 @@ IsRefusal _ = ⊥
 -- the page in a text, or why there is none
 abbrev pub PageIn : List ℕ → Result Played Outcome → Type 0
 PageIn bytes (Ok p) = IsScriptText bytes p.script × IsReady p
-PageIn bytes (Err o) = IsRefusal o × CauseOf bytes o
+PageIn bytes (Err o) = IsRefusal o × CauseOf Step bytes o
 
 -- no page was read from a source
 abbrev pub IsStopped : Outcome → Type 0
@@ -51,7 +52,7 @@ IsStopped _ = ⊤
 -- the page in the bytes of a source, or why there is none
 abbrev pub PageFrom : Option (List ℕ) → Option (List ℕ) → Result Played Outcome → Type 0
 PageFrom old new (Ok p) = IfSome old (λ bytes. (length bytes ≤ script_limit) × IsScriptText bytes p.script) × IsAtEnd new × IsReady p
-PageFrom old new (Err o) = IfSome old (λ bytes. CauseOf bytes o) × ReadToEnd new o × IsStopped o
+PageFrom old new (Err o) = IfSome old (λ bytes. CauseOf Step bytes o) × ReadToEnd Step new o × IsStopped o
 
 -- a fault of the source is answered only where its count rose
 abbrev pub RefusedBy : {X : Type 0} → ℕ → ℕ → Result X Outcome → Type 0

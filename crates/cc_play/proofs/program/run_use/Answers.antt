@@ -1,0 +1,13 @@
+-- What was written is what the use writes.
+use Rattle.std.proofs.Common.{sym, subst}
+use Rattle.cc_play.specs.declared.words.Use.{Use}
+use Rattle.cc_play.specs.Runs.{Writes}
+use Rattle.cc_play.proofs.program.run_use.Goals as goal
+
+pub returns-in-Step-clause-output : goal.returns-in-Step-clause-output
+returns-in-Step-clause-output g c =
+    subst (λ (u : Use). Writes u (g.S.Source.left c.args.source.now) (g.K.Sink.held c.args.out.now) (g.K.Sink.held c.run_step.new.out) c.run_step.result) (sym c.in-Step.is) c.run_step.ensures.output
+
+pub returns-in-Frames-clause-output : goal.returns-in-Frames-clause-output
+returns-in-Frames-clause-output g c =
+    subst (λ (u : Use). Writes u (g.S.Source.left c.args.source.now) (g.K.Sink.held c.args.out.now) (g.K.Sink.held c.run_frames.new.out) c.run_frames.result) (sym c.in-Frames.is) c.run_frames.ensures.output
