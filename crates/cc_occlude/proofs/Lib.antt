@@ -1,0 +1,3 @@
+pub mod AlphaSteps
+pub mod CoverSteps
+pub mod KeptSteps

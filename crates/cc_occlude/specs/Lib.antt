@@ -1,0 +1,2 @@
+pub mod Culled
+pub mod inner
