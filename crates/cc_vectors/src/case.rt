@@ -1,9 +1,10 @@
 //! A case of the table.
 
+use crate::bytes::{bytes_of, changed};
 use crate::fault::RowFault;
+use crate::names::Names;
 use crate::numbers::{Numbers, number, number_32, status};
-use crate::output::{Output, bytes_of};
-use crate::texts::Texts;
+use crate::output::Output;
 use std::alloc::{AllocError, Global};
 
 /// What goes wrong around the runs of a case. There is one run for each number.
@@ -17,6 +18,8 @@ pub enum Trouble {
     PutFails,
     /// The sink takes so many bytes.
     Room,
+    /// The source holds only so many bytes of the input.
+    Cut,
 }
 
 /// A case of the table.
@@ -52,19 +55,6 @@ fn words_of(alloc: Global, text: &str) -> Result<Vec<String>, AllocError> {
     Ok(words)
 }
 
-/// The text with one part, which stands in it once, changed.
-fn changed(alloc: Global, text: &str, old: &str, new: &str) -> Result<String, RowFault> {
-    let (before, after) = text.split_once(old).ok_or(RowFault::NotOnce)?;
-    if after.contains(old) {
-        return Err(RowFault::NotOnce);
-    }
-    let mut whole = String::new(alloc);
-    whole.push_str(before)?;
-    whole.push_str(new)?;
-    whole.push_str(after)?;
-    Ok(whole)
-}
-
 impl Case {
     /// A case that says nothing yet.
     pub fn new(alloc: Global, line: usize, title: &str) -> Result<Case, AllocError> {
@@ -97,28 +87,30 @@ impl Case {
         Ok(())
     }
 
-    /// Changes the input as `OLD => NEW` says.
-    pub fn change(&mut self, texts: &Texts, value: &str) -> Result<(), RowFault> {
-        let (old, new) = value.split_once(" => ").ok_or(RowFault::NoChange)?;
-        let old = texts.built(old)?;
-        let new = texts.built(new)?;
+    /// Changes a part of the input, which stands in it once.
+    fn change_bytes(&mut self, old: &[u8], new: &[u8]) -> Result<(), RowFault> {
         let Some(input) = &self.input else {
             return Err(RowFault::NoInput);
         };
-        let Ok(text) = str::from_utf8(input.as_slice()) else {
-            return Err(RowFault::NotOnce);
-        };
-        let text = changed(self.alloc, text, old.as_str(), new.as_str())?;
-        self.set_input(text.as_str())
+        let input = changed(self.alloc, input.as_slice(), old, new)?;
+        self.input = Some(input);
+        Ok(())
     }
 
-    /// Leaves so many bytes of the input.
-    fn cut(&mut self, count: u64) -> Result<(), RowFault> {
-        let Some(input) = &mut self.input else {
-            return Err(RowFault::NoInput);
-        };
-        input.truncate(count as usize);
-        Ok(())
+    /// Changes the input as `OLD => NEW` says.
+    pub fn change(&mut self, names: &Names, value: &str) -> Result<(), RowFault> {
+        let (old, new) = value.split_once(" => ").ok_or(RowFault::NoChange)?;
+        let old = names.built(old)?;
+        let new = names.built(new)?;
+        self.change_bytes(old.as_bytes(), new.as_bytes())
+    }
+
+    /// Changes the input as `OLD => NEW` says, both in hexadecimal digits.
+    fn change_hex(&mut self, value: &str) -> Result<(), RowFault> {
+        let (old, new) = value.split_once(" => ").ok_or(RowFault::NoChange)?;
+        let old = bytes_of(self.alloc, old)?;
+        let new = bytes_of(self.alloc, new)?;
+        self.change_bytes(old.as_slice(), new.as_slice())
     }
 
     /// Sets the status and the line in the notes, `STATUS NOTE` or the status alone.
@@ -134,16 +126,18 @@ impl Case {
     }
 
     /// Takes a line of the table that says how the run is made.
-    fn take_setting(&mut self, texts: &Texts, key: &str, value: &str) -> Result<(), RowFault> {
+    fn take_setting(&mut self, names: &Names, key: &str, value: &str) -> Result<(), RowFault> {
         match key {
             "words" => self.words = words_of(self.alloc, value)?,
             "input" => {
-                let text = texts.built(value)?;
+                let text = names.built(value)?;
                 self.set_input(text.as_str())?;
             }
             "input hex" => self.input = Some(bytes_of(self.alloc, value)?),
-            "change" => self.change(texts, value)?,
-            "cut" => self.cut(number(value)?)?,
+            "input file" => self.input = Some(names.file(value)?),
+            "change" => self.change(names, value)?,
+            "change hex" => self.change_hex(value)?,
+            "cut" => self.set_trouble(Trouble::Cut, value)?,
             "step" => self.step = number_32(value)?,
             "room" => self.set_trouble(Trouble::Room, value)?,
             "reads fail" => self.set_trouble(Trouble::ReadFails, value)?,
@@ -155,18 +149,18 @@ impl Case {
     }
 
     /// Takes a line of the table.
-    pub fn take(&mut self, texts: &Texts, key: &str, value: &str) -> Result<(), RowFault> {
+    pub fn take(&mut self, names: &Names, key: &str, value: &str) -> Result<(), RowFault> {
         match key {
             "status" => self.status = status(value)?,
             "note" => self.note = Some(value.to_string(self.alloc)?),
             "out" => {
-                let line = texts.built(value)?;
+                let line = names.built(value)?;
                 self.output.add_line(line.as_str())?;
             }
             "image" => self.output.add_image(self.alloc, value)?,
             "out hex" => self.output.add_hex(self.alloc, value)?,
             "out sum" => self.output.set_sum(value)?,
-            _ => self.take_setting(texts, key, value)?,
+            _ => self.take_setting(names, key, value)?,
         }
         Ok(())
     }

@@ -27,6 +27,12 @@ pub enum RowFault {
     /// The value names a text that was not given above.
     #[error("there is no text of this name")]
     UnknownText,
+    /// The value names a file that was not given above.
+    #[error("there is no file of this name")]
+    UnknownFile,
+    /// A line or a picture belongs to a file, and none was begun.
+    #[error("no file was begun above this line")]
+    NoFile,
     /// The change is not `OLD => NEW`, or of a table not `OLD => NEW | STATUS NOTE`.
     #[error("a change is `OLD => NEW`, and `| STATUS NOTE` behind it in a table of changes")]
     NoChange,

@@ -8,17 +8,19 @@
 //! | Key | What it says |
 //! |---|---|
 //! | `text NAME` | a text that later values name as `<NAME>` |
+//! | `file NAME` | begins a file that later cases name as their input; its lines and pictures come next |
+//! | `line`, `picture` | the next line of the file; its next picture: width, height, and the colour of each pixel, `N*COLOUR` for so many of it |
 //! | `case` | begins a case of this title |
 //! | `words` | the words, `""` for an empty one; `step 1` where it is left out |
-//! | `input`, `input hex` | what the source holds |
-//! | `change` | `OLD => NEW`: a part of the input, which stands there once, becomes another |
-//! | `cut` | only so many bytes of the input are given |
+//! | `input`, `input hex`, `input file` | what the source holds: a text, bytes in hexadecimal digits, a file that was named |
+//! | `change`, `change hex` | `OLD => NEW`: a part of the input, which stands there once, becomes another |
+//! | `cut` | only so many bytes of the input are given; `0..515` is one run for each number below 515 |
 //! | `step` | how many bytes one read gives at most; 4096 where it is left out |
 //! | `room`, `reads fail`, `puts fail` | how many bytes the sink takes; which read or put fails. `0..515` is one run for each number below 515 |
 //! | `notes room` | how many bytes the notes take |
 //! | `status`, `note` | how the run ends, and the line in the notes; 0 and none where they are left out |
 //! | `out` | a line of the output; `...` as the first says that anything may stand before the next |
-//! | `image` | a picture in the output: width, height, and the colour of each pixel, `N*COLOUR` for so many of it |
+//! | `image` | a picture in the output, as `picture` |
 //! | `out hex` | bytes of the output |
 //! | `out sum` | the output's length in bytes and its 64-bit FNV-1a sum |
 //! | `changes of` | an input. Below it each line that is indented is a case of its own: `OLD => NEW \| STATUS NOTE` |
@@ -28,13 +30,14 @@
 //! its output leaves it open where the status is 0, and wants none otherwise.
 #![tactic(auto)]
 
+mod bytes;
 mod case;
 mod fault;
+mod names;
 mod numbers;
 mod output;
 mod play;
 mod table;
-mod texts;
 
 use crate::table::{Tally, play_table};
 use std::io;

@@ -1,7 +1,8 @@
 //! What a case says of the output.
 
+use crate::bytes::{bytes_of, image_of};
 use crate::fault::RowFault;
-use crate::numbers::{number, number_32};
+use crate::numbers::number;
 use std::alloc::{AllocError, Global};
 
 /// How much of the output the bytes of a case are.
@@ -44,31 +45,6 @@ fn fnv(bytes: &[u8]) -> u64 {
     sum
 }
 
-/// The bytes of hexadecimal digits, in groups with blanks between.
-pub fn bytes_of(alloc: Global, text: &str) -> Result<Vec<u8>, RowFault> {
-    let mut bytes = Vec::new(alloc);
-    for group in text.split_whitespace() {
-        match hex::decode(alloc, group) {
-            Ok(more) => bytes.extend_from_slice(more.as_slice())?,
-            Err(_) => return Err(RowFault::NoHex),
-        }
-    }
-    Ok(bytes)
-}
-
-/// The bytes of a picture's pixels: six digits a pixel, `N*COLOUR` for so many of a colour.
-fn pixels_of(alloc: Global, text: &str) -> Result<Vec<u8>, RowFault> {
-    let mut pixels = Vec::new(alloc);
-    for group in text.split_whitespace() {
-        let (count, colour) = group.split_once('*').unwrap_or(("1", group));
-        let colour = bytes_of(alloc, colour)?;
-        for _ in 0..number_32(count)? {
-            pixels.extend_from_slice(colour.as_slice())?;
-        }
-    }
-    Ok(pixels)
-}
-
 impl Output {
     /// Nothing is said.
     pub fn new(alloc: Global) -> Output {
@@ -105,17 +81,8 @@ impl Output {
 
     /// A picture comes next: its width, its height, and the colours of its pixels.
     pub fn add_image(&mut self, alloc: Global, text: &str) -> Result<(), RowFault> {
-        let (width, rest) = text.split_once(' ').ok_or(RowFault::NoImage)?;
-        let (height, colours) = rest.split_once(' ').ok_or(RowFault::NoImage)?;
-        let across = u64::from(number_32(width)?);
-        let down = u64::from(number_32(height)?);
-        let pixels = pixels_of(alloc, colours)?;
-        if pixels.len() as u64 != across.saturating_mul(down).saturating_mul(3) {
-            return Err(RowFault::NoImage);
-        }
-        let head = format!(in alloc; "P6\n{across} {down}\n255\n")?;
-        self.add(head.as_bytes())?;
-        Ok(self.add(pixels.as_slice())?)
+        let image = image_of(alloc, text)?;
+        Ok(self.add(image.as_slice())?)
     }
 
     /// The output has this length and this sum: `N SUM`, the sum in hexadecimal digits.

@@ -33,6 +33,14 @@ fn failing(alloc: Global, call: Option<u64>) -> Result<Vec<u64>, AllocError> {
     Ok(calls)
 }
 
+/// The bytes that the source of the run of this number holds.
+fn given<'a>(case: &Case, input: &'a [u8], number: u64) -> &'a [u8] {
+    match case.trouble {
+        Trouble::Cut => &input[..input.len().min(number as usize)],
+        _ => input,
+    }
+}
+
 /// The source of the run of this number.
 fn source_of(
     alloc: Global,
@@ -44,7 +52,7 @@ fn source_of(
         Trouble::ReadFails => Some(number),
         _ => None,
     };
-    let bytes = Vec::from_slice(alloc, input)?;
+    let bytes = Vec::from_slice(alloc, given(case, input, number))?;
     Ok(MemSource::new(bytes, case.step.max(1), failing(alloc, fails)?))
 }
 

@@ -2,8 +2,8 @@
 
 use crate::case::Case;
 use crate::fault::RowFault;
+use crate::names::Names;
 use crate::play::play;
-use crate::texts::Texts;
 use std::alloc::Global;
 use std::thread::Threads;
 
@@ -22,7 +22,7 @@ pub struct Tally {
 #[derive(Drop)]
 struct Table {
     alloc: Global,
-    texts: Texts,
+    names: Names,
     /// The input of a table of changes.
     base: Option<String>,
     /// The case whose lines are being read.
@@ -101,7 +101,7 @@ impl Table {
         };
         let mut case = Case::new(self.alloc, line, change)?;
         case.set_input(base.as_str())?;
-        case.change(&self.texts, change)?;
+        case.change(&self.names, change)?;
         case.set_end(end)?;
         self.case = Some(case);
         Ok(())
@@ -116,19 +116,25 @@ impl Table {
         value: &str,
     ) -> Result<(), RowFault> {
         if let Some(name) = key.strip_prefix("text ") {
-            return self.texts.add(name, value);
+            return self.names.add_text(name, value);
+        }
+        if let Some(name) = key.strip_prefix("file ") {
+            self.close(rt)?;
+            return self.names.begin_file(name);
         }
         match key {
             "case" => {
                 self.close(rt)?;
                 self.case = Some(Case::new(self.alloc, line, value)?);
             }
+            "line" => self.names.add_line(value)?,
+            "picture" => self.names.add_image(value)?,
             "changes of" => {
                 self.close(rt)?;
-                self.base = Some(self.texts.built(value)?);
+                self.base = Some(self.names.built(value)?);
             }
             _ => match &mut self.case {
-                Some(case) => case.take(&self.texts, key, value)?,
+                Some(case) => case.take(&self.names, key, value)?,
                 None => return Err(RowFault::NoCase),
             },
         }
@@ -166,7 +172,7 @@ pub fn play_table<R: Threads + Sync + Print>(
 ) -> Result<Tally, (usize, RowFault)> {
     let mut table = Table {
         alloc,
-        texts: Texts::new(alloc),
+        names: Names::new(alloc),
         base: None,
         case: None,
         tally: Tally::NONE,

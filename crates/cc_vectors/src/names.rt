@@ -1,5 +1,6 @@
-//! The texts that a table names, and values that are built of them.
+//! The texts and files that a table names, and values that are built of the texts.
 
+use crate::bytes::image_of;
 use crate::fault::RowFault;
 use crate::numbers::{Numbers, number};
 use std::alloc::{AllocError, Global};
@@ -11,11 +12,19 @@ struct NamedText {
     text: String,
 }
 
-/// The texts that the table has named so far.
+/// A file with its name.
 #[derive(Drop)]
-pub struct Texts {
+struct NamedFile {
+    name: String,
+    bytes: Vec<u8>,
+}
+
+/// What the table has named so far.
+#[derive(Drop)]
+pub struct Names {
     alloc: Global,
     texts: Vec<NamedText>,
+    files: Vec<NamedFile>,
 }
 
 /// The numbers of the copies and the text to be repeated, where a value is `N of TEXT` or `A..B of TEXT`.
@@ -48,17 +57,18 @@ fn repeated(alloc: Global, numbers: Numbers, text: &str) -> Result<String, Alloc
     Ok(whole)
 }
 
-impl Texts {
-    /// No texts.
-    pub fn new(alloc: Global) -> Texts {
-        Texts {
+impl Names {
+    /// Nothing is named.
+    pub fn new(alloc: Global) -> Names {
+        Names {
             alloc,
             texts: Vec::new(alloc),
+            files: Vec::new(alloc),
         }
     }
 
     /// Adds the text that a value says.
-    pub fn add(&mut self, name: &str, value: &str) -> Result<(), RowFault> {
+    pub fn add_text(&mut self, name: &str, value: &str) -> Result<(), RowFault> {
         let text = self.built(value)?;
         let name = name.to_string(self.alloc)?;
         self.texts
@@ -107,5 +117,48 @@ impl Texts {
             }
             None => self.filled(value),
         }
+    }
+
+    /// Begins a file of this name.
+    pub fn begin_file(&mut self, name: &str) -> Result<(), RowFault> {
+        let name = name.to_string(self.alloc)?;
+        let bytes = Vec::new(self.alloc);
+        self.files
+            .push(NamedFile { name, bytes })
+            .map_err(AllocError::from)?;
+        Ok(())
+    }
+
+    /// These bytes come next in the file that was begun last.
+    fn add(&mut self, bytes: &[u8]) -> Result<(), RowFault> {
+        let Some(file) = self.files.last_mut() else {
+            return Err(RowFault::NoFile);
+        };
+        Ok(file.bytes.extend_from_slice(bytes)?)
+    }
+
+    /// A line comes next in the file that was begun last.
+    pub fn add_line(&mut self, value: &str) -> Result<(), RowFault> {
+        let line = self.built(value)?;
+        self.add(line.as_bytes())?;
+        self.add(b"\n")
+    }
+
+    /// A picture comes next in it.
+    pub fn add_image(&mut self, value: &str) -> Result<(), RowFault> {
+        let image = image_of(self.alloc, value)?;
+        self.add(image.as_slice())
+    }
+
+    /// The bytes of the file of this name that was begun last.
+    pub fn file(&self, name: &str) -> Result<Vec<u8>, RowFault> {
+        let mut found = None;
+        for one in self.files.iter() {
+            if one.name.as_str() == name {
+                found = Some(one.bytes.as_slice());
+            }
+        }
+        let bytes = found.ok_or(RowFault::UnknownFile)?;
+        Ok(Vec::from_slice(self.alloc, bytes)?)
     }
 }
