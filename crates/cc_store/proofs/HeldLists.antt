@@ -7,7 +7,7 @@ use Rattle.std.specs.FinMap.Entries.{where_key, below_all}
 use Rattle.cc_geom.specs.declared.tile.TileKey.{TileKey}
 use Rattle.cc_geom.specs.KeyOrder.{key_cmp}
 use Rattle.cc_store.specs.declared.held.Held.{Held}
-use Rattle.cc_store.specs.Shelves.{Before, After, Rises}
+use Rattle.cc_store.specs.inner.TileTables.{Before, After, Rises}
 use Rattle.cc_geom.proofs.KeyOrders.{key_total}
 use Rattle.cc_store.proofs.KeyOrders.{ties_itself, flips}
 

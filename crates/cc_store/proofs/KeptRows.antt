@@ -12,8 +12,8 @@ use Rattle.cc_geom.specs.KeyOrder.{key_cmp}
 use Rattle.cc_store.specs.declared.held.Held.{Held}
 use Rattle.cc_store.specs.declared.held.Tile.{Tile}
 use Rattle.cc_geom.specs.KeyLists.{has_key}
-use Rattle.cc_store.specs.Rows.{if_live}
-use Rattle.cc_store.specs.Shelves.{shown, rows, After, Rises, AreKept, AreSame, is_made, stays, marked}
+use Rattle.cc_store.specs.inner.Rows.{if_live}
+use Rattle.cc_store.specs.inner.TileTables.{shown, rows, After, Rises, AreKept, AreSame, is_made, stays, marked}
 use Rattle.cc_store.proofs.KeyOrders.{tied}
 use Rattle.cc_store.proofs.HeldLists.{split_before, split_after, find_after}
 use Rattle.cc_store.proofs.SlabRows.{Away, away_before, away_after, image_at, kept_parts}

@@ -3,11 +3,11 @@ pub mod HeldLists
 pub mod Searches
 pub mod PinLists
 pub mod SlabRows
-pub mod ShelfSteps
+pub mod TableSteps
 pub mod Dropped
 pub mod Marks
 pub mod KeptRows
-pub mod KeptShelf
+pub mod KeptTables
 pub mod Parts
 pub mod MadeKeys
 pub mod StoreSteps

@@ -5,7 +5,7 @@ use Rattle.std.specs.Ordering.{eq_by_cmp, is_eq}
 use Rattle.cc_geom.specs.declared.tile.TileKey.{TileKey}
 use Rattle.cc_geom.specs.KeyOrder.{key_cmp}
 use Rattle.cc_store.specs.declared.held.Held.{Held}
-use Rattle.cc_store.specs.Shelves.{Before, After, Rises, StandsAt, IsGapFor, marked, also_marked}
+use Rattle.cc_store.specs.inner.TileTables.{Before, After, Rises, StandsAt, IsGapFor, marked, also_marked}
 use Rattle.cc_store.proofs.KeyOrders.{flips, tie}
 use Rattle.cc_geom.proofs.KeyLists.{has_key_more}
 

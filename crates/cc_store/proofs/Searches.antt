@@ -9,7 +9,7 @@ use Rattle.std.proofs.lemmas.List.Sorted.{searchable_from_sorted}
 use Rattle.cc_geom.specs.declared.tile.TileKey.{TileKey}
 use Rattle.cc_geom.specs.KeyOrder.{key_cmp}
 use Rattle.cc_store.specs.declared.held.Held.{Held}
-use Rattle.cc_store.specs.Shelves.{Before, After, Rises, StandsAt, IsGapFor}
+use Rattle.cc_store.specs.inner.TileTables.{Before, After, Rises, StandsAt, IsGapFor}
 use Rattle.cc_geom.proofs.KeyOrders.{key_total, key_ties}
 use Rattle.cc_store.proofs.KeyOrders.{flips, flips_back}
 use Rattle.cc_store.proofs.HeldLists.{split_before, split_after}

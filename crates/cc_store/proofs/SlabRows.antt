@@ -11,7 +11,7 @@ use Rattle.cc_geom.specs.KeyOrder.{key_cmp}
 use Rattle.cc_raster.specs.Images.{Image}
 use Rattle.cc_store.specs.declared.held.Held.{Held}
 use Rattle.cc_store.specs.declared.held.Tile.{Tile}
-use Rattle.cc_store.specs.Shelves.{shown, rows, Before, After, AreKept}
+use Rattle.cc_store.specs.inner.TileTables.{shown, rows, Before, After, AreKept}
 use Rattle.cc_geom.proofs.KeyOrders.{key_total, key_ties}
 use Rattle.cc_store.proofs.KeyOrders.{ties_itself, apart}
 use Rattle.cc_store.proofs.HeldLists.{row, put_before, put_after, put_here, others_before, others_after, find_before, find_after, find_here}

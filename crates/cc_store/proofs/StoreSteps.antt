@@ -9,7 +9,7 @@ use Rattle.std.specs.FinSet.{contains-insert, contains-remove, contains-empty, s
 use Rattle.cc_geom.specs.declared.tile.TileKey.{TileKey}
 use Rattle.cc_geom.specs.KeyOrder.{key_cmp}
 use Rattle.cc_geom.specs.KeyLists.{has_key}
-use Rattle.cc_store.specs.Rows.{ready_of, flying_of, is_flying, if_live, if_not_named}
+use Rattle.cc_store.specs.inner.Rows.{ready_of, flying_of, is_flying, if_live, if_not_named}
 use Rattle.cc_geom.proofs.KeyOrders.{key_total, key_ties}
 use Rattle.cc_store.proofs.KeyOrders.{tied}
 use Rattle.cc_store.proofs.Parts.{get_ready, contains_flying}

@@ -9,10 +9,10 @@
 mod held;
 mod pins;
 mod search;
-mod shelf;
 mod store;
 #[cfg(test)]
 mod tests;
+mod tile_table;
 mod tiles;
 mod walks;
 

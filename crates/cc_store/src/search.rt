@@ -1,7 +1,7 @@
 //! Where a key stands in a list of held keys.
 
 ghost use Rattle.std.specs.Prelude.{IfOk, IfErr};
-ghost use Rattle.cc_store.specs.Shelves.{Rises, StandsAt, IsGapFor};
+ghost use Rattle.cc_store.specs.inner.TileTables.{Rises, StandsAt, IsGapFor};
 
 use crate::held::Held;
 use cc_geom::TileKey;

@@ -5,7 +5,7 @@ ghost use Rattle.std.specs.FinMap as map;
 ghost use Rattle.cc_store.specs.Stores.{image_of, is_in_flight, is_pinned, used, empty_store, pinned_to, MayStart, started, done_with, kept};
 
 use crate::pins::Pins;
-use crate::shelf::Shelf;
+use crate::tile_table::TileTable;
 use cc_geom::{Keys, TileKey};
 use cc_raster::TileImage;
 use std::alloc::{AllocError, Global};
@@ -18,7 +18,7 @@ use std::sync::Arc;
 /// Contracts also see a number, `spare`: so many starts need no memory.
 #[derive(Drop)]
 pub struct TileStore {
-    shelf: Shelf,
+    table: TileTable,
     pins: Pins,
     alloc: Global,
 }
@@ -26,7 +26,7 @@ pub struct TileStore {
 impl Model for TileStore {
     ghost use Rattle.cc_geom.specs.contracts.tile.TileKey as the_key;
     ghost use Rattle.cc_raster.specs.contracts.image.TileImage as the_image;
-    ghost use Rattle.cc_store.specs.Rows.{ready_of, flying_of};
+    ghost use Rattle.cc_store.specs.inner.Rows.{ready_of, flying_of};
     ghost use Rattle.cc_store.specs.Stores.{Store, store_code};
 
     ghost Value = { Store };
@@ -34,10 +34,10 @@ impl Model for TileStore {
     ghost coded = { store_code the_key.the_row.coded the_image.the_row.coded };
 
     ghost view = { λ s. record {
-      ready = ready_of s.shelf.held;
-      in_flight = flying_of s.shelf.held;
+      ready = ready_of s.table.held;
+      in_flight = flying_of s.table.held;
       pinned = s.pins;
-      spare = s.shelf.spare;
+      spare = s.table.spare;
     } };
 }
 
@@ -47,7 +47,7 @@ impl TileStore {
         ensures { result ≡ empty_store result.spare }
     {
         TileStore {
-            shelf: Shelf::new(alloc),
+            table: TileTable::new(alloc),
             pins: Pins::new(alloc),
             alloc,
         }
@@ -61,7 +61,7 @@ impl TileStore {
         ensures spare { self.old.spare ≤ self.new.spare }
         ensures refused { OnErr result (self.new ≡ self.old) }
     {
-        self.shelf.reserve()
+        self.table.reserve()
     }
 
     /// Pins exactly these keys, in whatever order they stand. An error is want of memory: the store is as
@@ -77,7 +77,7 @@ impl TileStore {
     pub fn ready_keys(&self) -> Result<Keys, AllocError>
         ensures { IfOk result (λ keys. keys ≡ map.keys self.now.ready) }
     {
-        self.shelf.ready_keys(self.alloc)
+        self.table.ready_keys(self.alloc)
     }
 
     /// Starts `key`: it is in flight, and the evicted keys are not ready. There must be room, the key must
@@ -87,8 +87,8 @@ impl TileStore {
         ensures store { self.new ≡ started self.old key evicted.now self.new.spare }
         ensures spare { self.old.spare ≤ self.new.spare + 1 }
     {
-        self.shelf.remove_all(evicted.as_slice());
-        self.shelf.put(key);
+        self.table.remove_all(evicted.as_slice());
+        self.table.put(key);
     }
 
     /// Ends the making of an image, whose key must be in flight. The key is ready exactly where it is
@@ -99,9 +99,9 @@ impl TileStore {
         ensures spare { self.old.spare ≤ self.new.spare }
     {
         if live {
-            self.shelf.set(image);
+            self.table.set(image);
         } else {
-            self.shelf.remove(image.key());
+            self.table.remove(image.key());
         }
     }
 
@@ -111,7 +111,7 @@ impl TileStore {
         ensures store { self.new ≡ kept self.old live.now self.new.spare }
         ensures spare { self.old.spare ≤ self.new.spare }
     {
-        self.shelf.keep(live.as_slice());
+        self.table.keep(live.as_slice());
     }
 
     /// The image of a key; None exactly where it is not ready. To have the image for longer, take a second
@@ -119,7 +119,7 @@ impl TileStore {
     pub fn ready(&self, key: TileKey) -> Option<&Arc<TileImage>>
         ensures { option_map (λ image. image.now.value) result ≡ image_of self.now key }
     {
-        match self.shelf.get(key) {
+        match self.table.get(key) {
             Some(tile) => tile.image.as_ref(),
             None => None,
         }
@@ -129,7 +129,7 @@ impl TileStore {
     pub fn in_flight(&self, key: TileKey) -> bool
         ensures { result ≡ is_in_flight self.now key }
     {
-        match self.shelf.get(key) {
+        match self.table.get(key) {
             Some(tile) => tile.image.is_none(),
             None => false,
         }
@@ -146,6 +146,6 @@ impl TileStore {
     pub fn used(&self) -> u32
         ensures { result ≡ used self.now }
     {
-        self.shelf.len()
+        self.table.len()
     }
 }

@@ -1,7 +1,5 @@
-ghost use Rattle.std.specs.Prelude.{◌≡◌, ◌≤◌, true, false, pos, IfOk};
-ghost use Rattle.cc_geom.specs.Covers.{IsSound};
+ghost use Rattle.std.specs.Prelude.{◌≡◌, true, false, IfOk};
 ghost use Rattle.cc_geom.specs.declared.tile.TileKey.{TileKey};
-ghost use Rattle.cc_store.specs.Stores.{is_ready, is_in_flight, is_pinned};
 
 use crate::TileStore;
 use cc_display::DisplayList;

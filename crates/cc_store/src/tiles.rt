@@ -2,7 +2,7 @@
 
 ghost use Rattle.std.specs.Prelude.{◌≡◌, Some};
 ghost use Rattle.slab.specs.Slab.{get, slab_len, Updates};
-ghost use Rattle.cc_store.specs.Shelves.{is_made, HasTileOf};
+ghost use Rattle.cc_store.specs.inner.TileTables.{is_made, HasTileOf};
 
 use crate::held::Tile;
 use cc_geom::TileKey;

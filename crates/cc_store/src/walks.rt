@@ -2,7 +2,7 @@
 
 ghost use Rattle.std.specs.Prelude.{◌≡◌, ◌≤◌, [], map, filter, take, length};
 ghost use Rattle.slab.specs.Slab.{get, slab_len};
-ghost use Rattle.cc_store.specs.Shelves.{Rises, AreKept, AreSame, marked, also_marked, stays};
+ghost use Rattle.cc_store.specs.inner.TileTables.{Rises, AreKept, AreSame, marked, also_marked, stays};
 
 use crate::held::{Held, Tile};
 use crate::search::search;

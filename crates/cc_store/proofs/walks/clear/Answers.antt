@@ -3,7 +3,7 @@ use Rattle.std.proofs.Common.{◌<◌, [], false, length, get_or, arith}
 use Rattle.std.proofs.lemmas.List.{get_or_default}
 use Rattle.std.proofs.lemmas.List.Edits.{map_over_more}
 use Rattle.cc_store.specs.declared.held.Held.{Held}
-use Rattle.cc_store.specs.Shelves.{marked}
+use Rattle.cc_store.specs.inner.TileTables.{marked}
 use Rattle.cc_store.proofs.walks.clear.Goals as goal
 
 pub loop-one-preserved : goal.loop-one-preserved

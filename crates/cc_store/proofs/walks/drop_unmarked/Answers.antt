@@ -4,7 +4,7 @@ use Rattle.std.proofs.lemmas.List.{get_or_default}
 use Rattle.slab.specs.Slab.{Slab, get, slab_len}
 use Rattle.cc_store.specs.declared.held.Held.{Held}
 use Rattle.cc_store.specs.declared.held.Tile.{Tile}
-use Rattle.cc_store.specs.Shelves.{stays}
+use Rattle.cc_store.specs.inner.TileTables.{stays}
 use Rattle.cc_store.proofs.KeptRows.{Walked, walked_yes, walked_no, same_itself, stays_now}
 use Rattle.cc_store.proofs.walks.drop_unmarked.Goals as goal
 use Rattle.cc_store.proofs.walks.drop_unmarked.Goals.{then-stays, else-stays}

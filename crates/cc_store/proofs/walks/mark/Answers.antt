@@ -1,6 +1,6 @@
 -- One key more is marked.
 use Rattle.std.proofs.Common.{map, sym, subst, ap, ◌∙◌, take, rules}
-use Rattle.cc_store.specs.Shelves.{Rises, also_marked}
+use Rattle.cc_store.specs.inner.TileTables.{Rises, also_marked}
 use Rattle.cc_store.proofs.Marks.{rises_marked, marked_more}
 use Rattle.cc_store.proofs.walks.mark.Goals as goal
 

@@ -1,7 +1,7 @@
 -- The key is marked where it stands.
 use Rattle.std.proofs.Common.{set, true, ap, ◌∙◌}
 use Rattle.cc_store.proofs.Marks.{mark_here, mark_nowhere}
-use Rattle.cc_store.proofs.ShelfSteps.{one_is}
+use Rattle.cc_store.proofs.TableSteps.{one_is}
 use Rattle.cc_store.proofs.walks.mark_one.Goals as goal
 
 pub returns-in-Ok : goal.returns-in-Ok

@@ -4,13 +4,13 @@ use Rattle.std.specs.FinMap as fin
 use Rattle.cc_geom.specs.declared.tile.TileKey.{TileKey}
 use Rattle.cc_store.specs.Stores.{Store, kept}
 use Rattle.cc_geom.specs.KeyLists.{has_key}
-use Rattle.cc_store.specs.Rows.{ready_of, flying_of, if_live}
+use Rattle.cc_store.specs.inner.Rows.{ready_of, flying_of, if_live}
 use Rattle.cc_store.proofs.StoreSteps.{kept_ready, kept_flying}
 use Rattle.cc_store.proofs.store.TileStore.keep.Goals as goal
 
 pub returns-clause-store : goal.returns-clause-store
 returns-clause-store c =
-    let m = c.self.inside.shelf.held in
+    let m = c.self.inside.table.held in
     let new = c.keep.new.self.held in
     let live = c.args.live.now in
     let spare = c.keep.new.self.spare in

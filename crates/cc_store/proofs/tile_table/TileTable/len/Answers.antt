@@ -1,8 +1,8 @@
 -- There is one entry for each held key.
 use Rattle.std.proofs.Common.{◌≡◌, length, ap, sym, ◌∙◌, rules}
 use Rattle.std.specs.FinMap as fin
-use Rattle.cc_store.proofs.ShelfSteps.{len_held}
-use Rattle.cc_store.proofs.shelf.Shelf.len.Goals as goal
+use Rattle.cc_store.proofs.TableSteps.{len_held}
+use Rattle.cc_store.proofs.tile_table.TileTable.len.Goals as goal
 
 pub returns : goal.returns
 returns c =

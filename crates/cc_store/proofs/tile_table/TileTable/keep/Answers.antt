@@ -3,11 +3,11 @@ use Rattle.std.proofs.Common.{◌≡◌, map, take, length, filter, sym, ◌∙�
 use Rattle.std.specs.FinMap as fin
 use Rattle.slab.specs.Slab.{get}
 use Rattle.cc_geom.specs.KeyLists.{has_key}
-use Rattle.cc_store.specs.Rows.{if_live}
-use Rattle.cc_store.specs.Shelves.{Rises, AreKept, AreSame, marked, stays}
+use Rattle.cc_store.specs.inner.Rows.{if_live}
+use Rattle.cc_store.specs.inner.TileTables.{Rises, AreKept, AreSame, marked, stays}
 use Rattle.cc_store.proofs.Marks.{rises_marked}
-use Rattle.cc_store.proofs.KeptShelf.{kept_marked, kept_shelf, kept_map, lent, marked_back}
-use Rattle.cc_store.proofs.shelf.Shelf.keep.Goals as goal
+use Rattle.cc_store.proofs.KeptTables.{kept_marked, kept_table, kept_map, lent, marked_back}
+use Rattle.cc_store.proofs.tile_table.TileTable.keep.Goals as goal
 
 pub drop_unmarked-kept-requires-clause-rises : goal.drop_unmarked-kept-requires-clause-rises
 drop_unmarked-kept-requires-clause-rises c = subst Rises (sym (marked_back c.args.live.now c.self.inside.held.items c.deref_mut.result.now c.mark.new.held c.deref_mut-2.result.now _ c.self.inside.held.len c.mark.ensures c.deref_mut.ensures.value c.deref_mut.ensures.len c.deref_mut-2.ensures.value)) (rises_marked c.args.live.now c.self.inside.held.items c.self.invariant.rises)
@@ -28,7 +28,7 @@ same c = subst (AreSame (get c.self.inside.tiles) (get c.drop_unmarked-kept.new.
 
 pub invariant_of-self : goal.invariant_of-self
 invariant_of-self c =
-    kept_shelf c.self.inside.tiles c.drop_unmarked-kept.new.tiles c.self.inside.held.items c.truncate.new.self.items c.args.live.now c.self.invariant (left c) (same c)
+    kept_table c.self.inside.tiles c.drop_unmarked-kept.new.tiles c.self.inside.held.items c.truncate.new.self.items c.args.live.now c.self.invariant (left c) (same c)
 
 pub returns-clause-held : goal.returns-clause-held
 returns-clause-held c = λ q.

@@ -5,11 +5,11 @@ use Rattle.std.specs.FinMap as fin
 use Rattle.slab.specs.Slab.{slab_len}
 use Rattle.cc_store.specs.declared.held.Held.{Held}
 use Rattle.cc_store.specs.declared.held.Tile.{Tile}
-use Rattle.cc_store.specs.Shelves.{StandsAt, IsGapFor, IsShelf, room}
-use Rattle.cc_store.proofs.ShelfSteps.{held_map, put, found_at, inserted}
-use Rattle.cc_store.proofs.shelf.Shelf.put.Goals as goal
+use Rattle.cc_store.specs.inner.TileTables.{StandsAt, IsGapFor, IsTileTable, room}
+use Rattle.cc_store.proofs.TableSteps.{held_map, put, found_at, inserted}
+use Rattle.cc_store.proofs.tile_table.TileTable.put.Goals as goal
 
-made : (c : goal.After-drop) → IsShelf c.insert_reserved-place.new.self c.insert.new.self.items
+made : (c : goal.After-drop) → IsTileTable c.insert_reserved-place.new.self c.insert.new.self.items
     × (held_map c.insert_reserved-place.new.self c.insert.new.self.items ≡ fin.insert (held_map c.self.inside.tiles c.self.inside.held.items) c.args.key None)
 made c =
     let tiles = c.self.inside.tiles in
@@ -25,7 +25,7 @@ made c =
     let ok : is_ok c.insert.result ≡ true = c.insert.ensures.succeeds fits in
     let items : c.insert.new.self.items ≡ insert held c.in-Err.at one = inserted (is_ok c.insert.result) _ _ _ c.insert.ensures.items ok in
     let step = put tiles new held c.in-Err.at one tile c.self.invariant gap few c.insert_reserved-place.ensures.was_vacant c.insert_reserved-place.ensures.updates (search rules) in
-    (subst (IsShelf new) (sym items) step.0, ap (held_map new) items ∙ step.1)
+    (subst (IsTileTable new) (sym items) step.0, ap (held_map new) items ∙ step.1)
 
 pub invariant_of-self : goal.invariant_of-self
 invariant_of-self c = (made c).0

@@ -4,8 +4,8 @@ ghost use Rattle.std.specs.Prelude.{◌≡◌, ◌≤◌, ◌+◌, Some, None, I
 ghost use Rattle.cc_geom.specs.declared.tile.TileKey.{TileKey};
 ghost use Rattle.std.specs.FinMap as fin;
 ghost use Rattle.cc_geom.specs.KeyLists.{has_key};
-ghost use Rattle.cc_store.specs.Rows.{ready_of, if_live, if_not_named};
-ghost use Rattle.cc_store.specs.Shelves.{shown};
+ghost use Rattle.cc_store.specs.inner.Rows.{ready_of, if_live, if_not_named};
+ghost use Rattle.cc_store.specs.inner.TileTables.{shown};
 
 use crate::held::{Held, Tile};
 use crate::search::search;
@@ -24,38 +24,38 @@ const MOST: usize = u32::MAX as usize;
 /// Keys with their tiles, which contracts see as a map from each key to its image, or to none while that is
 /// being made.
 #[derive(Drop)]
-pub(crate) struct Shelf {
+pub(crate) struct TileTable {
     // in the order of the keys
     held: Vec<Held>,
     tiles: Slab<Tile>,
 }
 
-impl Model for Shelf {
+impl Model for TileTable {
     ghost use Rattle.std.specs.Prelude.{vec_len, vec_capacity};
     ghost use Rattle.std.specs.FinMap as fin;
     ghost use Rattle.slab.specs.Slab.{get, slab_len};
     ghost use Rattle.cc_geom.specs.contracts.tile.TileKey as the_key;
     ghost use Rattle.cc_raster.specs.contracts.image.TileImage as the_image;
-    ghost use Rattle.cc_store.specs.Shelves.{Shelf as Shelved, shelf_code, rows, room, IsShelf};
+    ghost use Rattle.cc_store.specs.inner.TileTables.{TileTableModel, table_code, rows, room, IsTileTable};
 
-    ghost Value = { Shelved };
+    ghost Value = { TileTableModel };
 
-    ghost coded = { shelf_code the_key.the_row.coded the_image.the_row.coded };
+    ghost coded = { table_code the_key.the_row.coded the_image.the_row.coded };
 
     ghost view = { λ s. record {
       held = fin.from_sorted (rows (get s.tiles) s.held.items);
       spare = room (vec_capacity s.held) (vec_len s.held) s.tiles.capacity (slab_len s.tiles);
     } };
 
-    ghost invariant = { λ s. IsShelf s.tiles s.held.items };
+    ghost invariant = { λ s. IsTileTable s.tiles s.held.items };
 }
 
-impl Shelf {
+impl TileTable {
     /// No key, and memory from `alloc` later.
-    pub(crate) fn new(alloc: Global) -> Shelf
+    pub(crate) fn new(alloc: Global) -> TileTable
         ensures { result.held ≡ fin.empty }
     {
-        Shelf {
+        TileTable {
             held: Vec::new(alloc),
             tiles: Slab::new(alloc),
         }

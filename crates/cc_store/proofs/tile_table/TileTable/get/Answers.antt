@@ -2,9 +2,9 @@
 use Rattle.std.proofs.Common.{◌≡◌, ap, sym, ◌∙◌, subst}
 use Rattle.std.specs.FinMap as fin
 use Rattle.slab.specs.Slab.{get}
-use Rattle.cc_store.specs.Shelves.{StandsAt, IsGapFor}
-use Rattle.cc_store.proofs.ShelfSteps.{found_at, not_found, one_is, tile_at, gotten}
-use Rattle.cc_store.proofs.shelf.Shelf.get.Goals as goal
+use Rattle.cc_store.specs.inner.TileTables.{StandsAt, IsGapFor}
+use Rattle.cc_store.proofs.TableSteps.{found_at, not_found, one_is, tile_at, gotten}
+use Rattle.cc_store.proofs.tile_table.TileTable.get.Goals as goal
 
 pub returns-in-Ok : goal.returns-in-Ok
 returns-in-Ok c =

@@ -2,7 +2,7 @@
 use Rattle.std.proofs.Common.{◌≡◌, take}
 use Rattle.slab.specs.Slab.{get}
 use Rattle.cc_store.proofs.MadeKeys.{made_keys}
-use Rattle.cc_store.proofs.shelf.Shelf.ready_keys.Given as goal
+use Rattle.cc_store.proofs.tile_table.TileTable.ready_keys.Given as goal
 
 abbrev pub invariant-loop-one : goal.invariant-loop-one
 invariant-loop-one l = l.keys ≡ made_keys (get l.self-inside.tiles) (take l.one-index l.one-items)

@@ -1,4 +1,4 @@
--- What the steps of a shelf make of what it holds.
+-- What the steps of a tile table make of what it holds.
 use Rattle.std.proofs.Common.{◌≡◌, ℕ, suc, ◌<◌, List, [], ◌∷◌, ◌++◌, length, take, drop, Option, Some, None, is_some, Bool, false, cond, get_or, Bor, option_map, option_copied, true, refl, sym, ◌∙◌, ap, subst, T, arith}
 use Rattle.std.proofs.lemmas.List.{take-append-drop, length-map, get_or-drop}
 use Rattle.std.proofs.lemmas.List.Edits.{length-insert, length-remove}
@@ -13,7 +13,7 @@ use Rattle.cc_geom.specs.KeyOrder.{key_cmp}
 use Rattle.cc_raster.specs.Images.{Image}
 use Rattle.cc_store.specs.declared.held.Held.{Held}
 use Rattle.cc_store.specs.declared.held.Tile.{Tile}
-use Rattle.cc_store.specs.Shelves.{shown, rows, Before, After, Rises, AreKept, HasTileOf, StandsAt, IsGapFor, IsShelf}
+use Rattle.cc_store.specs.inner.TileTables.{shown, rows, Before, After, Rises, AreKept, HasTileOf, StandsAt, IsGapFor, IsTileTable}
 use Rattle.cc_geom.proofs.KeyOrders.{key_total, key_ties}
 use Rattle.cc_store.proofs.KeyOrders.{tied}
 use Rattle.cc_store.proofs.HeldLists.{sorted_rows, rises_with, rises_without}
@@ -52,15 +52,15 @@ not_found tiles held key at gap r =
 
 -- a key comes to an empty place
 pub put : (old new : Slab Tile) (held : List Held) (at : ℕ) (one : Held) (tile : Tile)
-    → IsShelf old held → IsGapFor held one.key at → length held < 4294967295
+    → IsTileTable old held → IsGapFor held one.key at → length held < 4294967295
     → get old one.place ≡ None → Updates old new one.place (Some tile) → tile.key ≡ one.key
-    → IsShelf new (insert held at one) × (held_map new (insert held at one) ≡ fin.insert (held_map old held) one.key (shown tile))
-put old new held at one tile shelf gap few vacant up is_key =
+    → IsTileTable new (insert held at one) × (held_map new (insert held at one) ≡ fin.insert (held_map old held) one.key (shown tile))
+put old new held at one tile table gap few vacant up is_key =
     let front : List Held = take at held in
     let back : List Held = drop at held in
     let whole : front ++ back ≡ held = take-append-drop at held in
-    let rises = subst Rises (sym whole) shelf.rises in
-    let kept = subst (AreKept (get old)) (sym whole) shelf.kept in
+    let rises = subst Rises (sym whole) table.rises in
+    let kept = subst (AreKept (get old)) (sym whole) table.kept in
     let here : option_map (λ (t : Tile). t.key) (get new one.place) ≡ Some one.key = ap (option_map (λ (t : Tile). t.key)) up.changed ∙ ap (λ k. Some k) is_key in
     let list : rows (get new) (insert held at one) ≡ fin.put key_cmp one.key (image_at (get new) one) (rows (get old) (front ++ back)) =
     rows_put (get old) (get new) front back one up.others gap.before gap.after vacant kept in (
@@ -75,15 +75,15 @@ put old new held at one tile shelf gap few vacant up is_key =
           ∙ ap (λ x. fin.insert (held_map old held) one.key (option_and_then shown x)) up.changed,
     )
 
-module _ (old new : Slab Tile) (held : List Held) (key : TileKey) (at : ℕ) (shelf : IsShelf old held) (here : StandsAt held key at) where
+module _ (old new : Slab Tile) (held : List Held) (key : TileKey) (at : ℕ) (table : IsTileTable old held) (here : StandsAt held key at) where
   whole : take at held ++ here.one ∷ drop (suc at) held ≡ held
   whole = ap (λ l. take at held ++ l) (sym here.here) ∙ take-append-drop at held
 
   rises : Rises (take at held ++ here.one ∷ drop (suc at) held)
-  rises = subst Rises (sym whole) shelf.rises
+  rises = subst Rises (sym whole) table.rises
 
   kept : AreKept (get old) (take at held ++ here.one ∷ drop (suc at) held)
-  kept = subst (AreKept (get old)) (sym whole) shelf.kept
+  kept = subst (AreKept (get old)) (sym whole) table.kept
 
   before : Before here.one.key (take at held)
   before = subst (λ k. Before k (take at held)) (sym here.is_key) here.before
@@ -93,7 +93,7 @@ module _ (old new : Slab Tile) (held : List Held) (key : TileKey) (at : ℕ) (sh
 
   -- the tile of a key changes
   pub set : (tile : Tile) → Updates old new here.one.place (Some tile) → tile.key ≡ key
-      → IsShelf new held × (held_map new held ≡ fin.insert (held_map old held) key (shown tile))
+      → IsTileTable new held × (held_map new held ≡ fin.insert (held_map old held) key (shown tile))
   set tile up is_key =
       let front : List Held = take at held in
       let back : List Held = drop (suc at) held in
@@ -101,9 +101,9 @@ module _ (old new : Slab Tile) (held : List Held) (key : TileKey) (at : ℕ) (sh
       let named : option_map (λ (t : Tile). t.key) (get new one.place) ≡ Some one.key = ap (option_map (λ (t : Tile). t.key)) up.changed ∙ ap (λ k. Some k) (is_key ∙ sym here.is_key) in
       let list = rows_set (get old) (get new) front back one up.others before after kept in (
         record {
-          rises = shelf.rises;
+          rises = table.rises;
           kept = subst (AreKept (get new)) whole (kept_set (get old) (get new) front back one up.others before after named kept);
-          few = shelf.few;
+          few = table.few;
         },
         ap (held_map new) (sym whole)
             ∙ ap (from_sorted {R = key_cmp}) list
@@ -115,7 +115,7 @@ module _ (old new : Slab Tile) (held : List Held) (key : TileKey) (at : ℕ) (sh
 
   -- a key is taken out, and its place is empty
   pub drop_one : Updates old new here.one.place None
-      → IsShelf new (remove held at) × (held_map new (remove held at) ≡ fin.remove (held_map old held) key)
+      → IsTileTable new (remove held at) × (held_map new (remove held at) ≡ fin.remove (held_map old held) key)
   drop_one up =
       let front : List Held = take at held in
       let back : List Held = drop (suc at) held in
@@ -124,7 +124,7 @@ module _ (old new : Slab Tile) (held : List Held) (key : TileKey) (at : ℕ) (sh
         record {
           rises = rises_without front back one rises;
           kept = kept_drop (get old) (get new) front back one up.others before after kept;
-          few = omega (arith, shelf.few, length-remove held at here.in_range);
+          few = omega (arith, table.few, length-remove held at here.in_range);
         },
         ap (from_sorted {R = key_cmp}) list
             ∙ from_sorted_drop one.key (rows (get old) (front ++ one ∷ back)) (sorted old (front ++ one ∷ back) rises)
@@ -137,10 +137,10 @@ pub one_is : (held : List Held) (key : TileKey) (at : ℕ) (here : StandsAt held
 one_is held key at here d = sym (get_or-drop at held 0 d ∙ ap (λ n. get_or held n d) (omega arith)) ∙ ap (λ l. get_or l 0 d) here.here
 
 -- its place has its tile
-pub tile_at : (tiles : Slab Tile) (held : List Held) (key : TileKey) (at : ℕ) → IsShelf tiles held → (here : StandsAt held key at) → HasTileOf (get tiles) here.one.place key
-tile_at tiles held key at shelf here =
+pub tile_at : (tiles : Slab Tile) (held : List Held) (key : TileKey) (at : ℕ) → IsTileTable tiles held → (here : StandsAt held key at) → HasTileOf (get tiles) here.one.place key
+tile_at tiles held key at table here =
     let whole : held ≡ take at held ++ here.one ∷ drop (suc at) held = sym (take-append-drop at held) ∙ ap (λ l. take at held ++ l) here.here in
-    (kept_parts (get tiles) (take at held) (here.one ∷ drop (suc at) held) (subst (AreKept (get tiles)) whole shelf.kept)).1.0 ∙ ap (λ k. Some k) here.is_key
+    (kept_parts (get tiles) (take at held) (here.one ∷ drop (suc at) held) (subst (AreKept (get tiles)) whole table.kept)).1.0 ∙ ap (λ k. Some k) here.is_key
 
 -- a tile that is looked up shows the image of its place
 pub gotten : (r : Option (Bor Tile)) (x : Option Tile) (key : TileKey) → option_copied r ≡ x → option_map (λ t. t.key) x ≡ Some key

@@ -14,13 +14,13 @@ use Rattle.cc_store.specs.declared.held.Tile.{Tile}
 use Rattle.cc_geom.specs.KeyLists.{has_key}
 
 -- the held keys, each with its image or with none while that is being made, and for how many more there is room
-pub record Shelf : Type 0 where
+pub record TileTableModel : Type 0 where
   pub held : fin.FinMap key_cmp (Option Image)
   pub spare : ℕ
 
--- a shelf is coded as the pair of its fields
-abbrev pub shelf_code : Coded TileKey → Coded Image → Coded Shelf
-shelf_code key image =
+-- a table is coded as the pair of its fields
+abbrev pub table_code : Coded TileKey → Coded Image → Coded TileTableModel
+table_code key image =
     code_by
     (fin.FinMap key_cmp (Option Image) × ℕ)
     (coded× (fin.code key (coded_option image)) coded_ℕ)
@@ -81,7 +81,7 @@ room list_capacity count slab_capacity tiles =
     min (list_capacity - count) (min (slab_capacity - tiles) (4294967295 - count))
 
 -- the keys rise, each has its tile, and they are fewer than 2^32
-pub record IsShelf (tiles : Slab Tile) (held : List Held) : Type 0 where
+pub record IsTileTable (tiles : Slab Tile) (held : List Held) : Type 0 where
   pub rises : Rises held
   pub kept : AreKept (get tiles) held
   pub few : length held ≤ 4294967295

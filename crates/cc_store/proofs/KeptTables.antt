@@ -1,4 +1,4 @@
--- A shelf after the walk that keeps the live keys.
+-- A tile table after the walk that keeps the live keys.
 use Rattle.std.proofs.Common.{◌≡◌, ◌≤◌, ℕ, Bool, true, false, cond, List, [], ◌∷◌, ◌++◌, map, filter, length, take, Option, option_map, suc, refl, sym, ◌∙◌, ap, subst, arith}
 use Rattle.std.proofs.lemmas.List.{length-map, take-append-le, take_all}
 use Rattle.std.specs.declared.cmp.Ordering.TheVariants.{Less}
@@ -11,10 +11,10 @@ use Rattle.cc_geom.specs.KeyOrder.{key_cmp}
 use Rattle.cc_store.specs.declared.held.Held.{Held}
 use Rattle.cc_store.specs.declared.held.Tile.{Tile}
 use Rattle.cc_geom.specs.KeyLists.{has_key}
-use Rattle.cc_store.specs.Rows.{if_live}
-use Rattle.cc_store.specs.Shelves.{shown, rows, After, Rises, AreKept, AreSame, HasTileOf, IsShelf, stays, marked}
+use Rattle.cc_store.specs.inner.Rows.{if_live}
+use Rattle.cc_store.specs.inner.TileTables.{shown, rows, After, Rises, AreKept, AreSame, HasTileOf, IsTileTable, stays, marked}
 use Rattle.cc_store.proofs.Marks.{rises_marked}
-use Rattle.cc_store.proofs.ShelfSteps.{held_map, sorted}
+use Rattle.cc_store.proofs.TableSteps.{held_map, sorted}
 use Rattle.cc_store.proofs.KeptRows.{find_walked}
 
 module _ (test : Held → Bool) where
@@ -63,26 +63,26 @@ rows_same : (g new : ℕ → Option Tile) (hs : List Held) → AreSame g new hs 
 rows_same g new [] s = refl
 rows_same g new (h ∷ hs) s = λ i. (h.key, option_and_then shown (s.0 i)) ∷ rows_same g new hs s.1 i
 
-module _ (first new : Slab Tile) (held now : List Held) (live : List TileKey) (shelf : IsShelf first held)
+module _ (first new : Slab Tile) (held now : List Held) (live : List TileKey) (table : IsTileTable first held)
     (is : now ≡ filter (stays (get first)) (map (marked live) held)) (same : AreSame (get first) (get new) now) where
-  pub kept_shelf : IsShelf new now
-  kept_shelf =
+  pub kept_table : IsTileTable new now
+  kept_table =
       let test = stays (get first) in
       let marks : List Held = map (marked live) held in
-      let rises = subst Rises (sym is) (rises_filter test marks (rises_marked live held shelf.rises)) in
-      let kept = subst (AreKept (get first)) (sym is) (kept_filter test (get first) marks (kept_marked (get first) live held shelf.kept)) in
+      let rises = subst Rises (sym is) (rises_filter test marks (rises_marked live held table.rises)) in
+      let kept = subst (AreKept (get first)) (sym is) (kept_filter test (get first) marks (kept_marked (get first) live held table.kept)) in
       record {
         rises = rises;
         kept = kept_same (get first) (get new) now same kept;
-        few = omega (arith, shelf.few, ap length is, length_filter test marks, length-map held (marked live));
+        few = omega (arith, table.few, ap length is, length_filter test marks, length-map held (marked live));
       }
 
   pub kept_map : (q : TileKey) → fin.get (held_map new now) q ≡ if_live (has_key live q) (fin.get (held_map first held) q)
   kept_map q =
-      get-from_sorted key_cmp (rows (get new) now) q (sorted new now kept_shelf.rises)
+      get-from_sorted key_cmp (rows (get new) now) q (sorted new now kept_table.rises)
       ∙ ap (fin.find key_cmp q) (rows_same (get first) (get new) now same ∙ ap (rows (get first)) is)
-      ∙ find_walked (get first) live q held shelf.rises
-      ∙ ap (if_live (has_key live q)) (sym (get-from_sorted key_cmp (rows (get first) held) q (sorted first held shelf.rises)))
+      ∙ find_walked (get first) live q held table.rises
+      ∙ ap (if_live (has_key live q)) (sym (get-from_sorted key_cmp (rows (get first) held) q (sorted first held table.rises)))
 
 -- a list that was lent whole, as it comes back
 pub lent : (n : ℕ) (new rest : List Held) → length new ≡ n → take n (new ++ rest) ≡ new

@@ -2,11 +2,11 @@
 use Rattle.std.proofs.Common.{◌≡◌, None, ap, sym, ◌∙◌, subst}
 use Rattle.std.specs.FinMap as fin
 use Rattle.slab.specs.Slab.{Updates}
-use Rattle.cc_store.specs.Shelves.{StandsAt, IsGapFor, IsShelf}
-use Rattle.cc_store.proofs.ShelfSteps.{held_map, drop_one, not_found, one_is, remove_absent}
-use Rattle.cc_store.proofs.shelf.Shelf.remove.Goals as goal
+use Rattle.cc_store.specs.inner.TileTables.{StandsAt, IsGapFor, IsTileTable}
+use Rattle.cc_store.proofs.TableSteps.{held_map, drop_one, not_found, one_is, remove_absent}
+use Rattle.cc_store.proofs.tile_table.TileTable.remove.Goals as goal
 
-made : (c : goal.After-drop) → IsShelf c.try_remove.new.self c.remove-one.new.self.items
+made : (c : goal.After-drop) → IsTileTable c.try_remove.new.self c.remove-one.new.self.items
     × (held_map c.try_remove.new.self c.remove-one.new.self.items ≡ fin.remove (held_map c.self.inside.tiles c.self.inside.held.items) c.args.key)
 made c =
     let tiles = c.self.inside.tiles in
@@ -16,7 +16,7 @@ made c =
     let place : c.remove-one.result.place ≡ here.one.place = ap (λ h. h.place) (c.remove-one.ensures.value ∙ one_is held c.args.key c.in-Ok.at here c.remove-one.result) in
     let up = subst (λ p. Updates tiles new p None) place c.try_remove.ensures.updates in
     let step = drop_one tiles new held c.args.key c.in-Ok.at c.self.invariant here up in
-    (subst (IsShelf new) (sym c.remove-one.ensures.items) step.0, ap (held_map new) c.remove-one.ensures.items ∙ step.1)
+    (subst (IsTileTable new) (sym c.remove-one.ensures.items) step.0, ap (held_map new) c.remove-one.ensures.items ∙ step.1)
 
 pub invariant_of-self : goal.invariant_of-self
 invariant_of-self c = (made c).0

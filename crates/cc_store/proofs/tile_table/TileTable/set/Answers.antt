@@ -3,9 +3,9 @@ use Rattle.std.proofs.Common.{◌≡◌, Some, None, ap, sym, ◌∙◌, subst, 
 use Rattle.std.specs.FinMap as fin
 use Rattle.slab.specs.Slab.{get, Updates}
 use Rattle.cc_store.specs.declared.held.Tile.{Tile}
-use Rattle.cc_store.specs.Shelves.{HasTileOf, StandsAt, IsGapFor, IsShelf}
-use Rattle.cc_store.proofs.ShelfSteps.{held_map, set, not_found, one_is, tile_at, not_none}
-use Rattle.cc_store.proofs.shelf.Shelf.set.Goals as goal
+use Rattle.cc_store.specs.inner.TileTables.{HasTileOf, StandsAt, IsGapFor, IsTileTable}
+use Rattle.cc_store.proofs.TableSteps.{held_map, set, not_found, one_is, tile_at, not_none}
+use Rattle.cc_store.proofs.tile_table.TileTable.set.Goals as goal
 
 here : (c : goal.After-index) → StandsAt c.self.inside.held.items c.key-key.result c.in-Ok.at
 here c = subst (λ l. StandsAt l c.key-key.result c.in-Ok.at) c.deref-2.ensures.value c.in-Ok.ensures.found
@@ -17,7 +17,7 @@ pub give-requires : goal.give-requires
 give-requires c =
     subst (λ p. HasTileOf (get c.self.inside.tiles) p c.key-key.result) (sym (place c)) (tile_at c.self.inside.tiles c.self.inside.held.items c.key-key.result c.in-Ok.at c.self.invariant (here c))
 
-made : (c : goal.After-give) → IsShelf c.give.new.tiles c.self.inside.held.items
+made : (c : goal.After-give) → IsTileTable c.give.new.tiles c.self.inside.held.items
     × (held_map c.give.new.tiles c.self.inside.held.items ≡ fin.insert (held_map c.self.inside.tiles c.self.inside.held.items) c.key-key.result (Some c.args.image.value))
 made c =
     let tiles = c.self.inside.tiles in

@@ -3,10 +3,10 @@ use Rattle.std.proofs.Common.{◌≡◌, ◌<◌, ◌∷◌, [], ◌++◌, true,
 use Rattle.std.specs.FinMap as fin
 use Rattle.slab.specs.Slab.{get}
 use Rattle.cc_store.specs.declared.held.Held.{Held}
-use Rattle.cc_store.specs.Rows.{ready_of}
+use Rattle.cc_store.specs.inner.Rows.{ready_of}
 use Rattle.cc_store.proofs.MadeKeys.{made_more, made_all}
-use Rattle.cc_store.proofs.shelf.Shelf.ready_keys.Goals as goal
-use Rattle.cc_store.proofs.shelf.Shelf.ready_keys.Goals.{then-is_made+in_default, else-is_made}
+use Rattle.cc_store.proofs.tile_table.TileTable.ready_keys.Goals as goal
+use Rattle.cc_store.proofs.tile_table.TileTable.ready_keys.Goals.{then-is_made+in_default, else-is_made}
 
 pub loop-one-preserved : goal.loop-one-preserved
 loop-one-preserved c =
