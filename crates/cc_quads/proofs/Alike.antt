@@ -1,5 +1,5 @@
 -- Items that differ only inside groups of opacity 0 are folded to the same colour.
-use Rattle.std.proofs.Common.{ℕ, ◌≡◌, ◌==◌, ◌⊎◌, inl, inr, Bool, true, false, cond, ◌||◌, List, [], ◌∷◌, drop, refl, ap, sym, ◌∙◌, eqb-true, arith}
+use Rattle.std.proofs.Common.{ℕ, ◌≡◌, ◌==◌, ◌⊎◌, inl, inr, Bool, true, false, cond, ◌||◌, List, [], ◌∷◌, refl, ap, sym, ◌∙◌, eqb-true, arith}
 use Rattle.std.specs.List.{list_any}
 use Rattle.cc_pixel.specs.Colours.{Parts, blend, scaled, clear, times_255}
 use Rattle.cc_edit.specs.Painting.{Items, none, layer, group, folded, inside, after, with_layer, items_at}

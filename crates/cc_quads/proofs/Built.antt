@@ -1,5 +1,5 @@
 -- Passes built layer by layer, and group by group.
-use Rattle.std.proofs.Common.{ℕ, ℤ, zero, suc, ◌≡◌, ◌+◌, ◌<◌, ◌≤◌, ◌==◌, true, List, [], ◌∷◌, ◌++◌, length, map, take, drop, get_or, All, refl, ap, sym, ◌∙◌, subst, append-nil, append_assoc, arith}
+use Rattle.std.proofs.Common.{ℕ, ℤ, suc, ◌≡◌, ◌+◌, ◌<◌, ◌≤◌, ◌==◌, true, List, [], ◌∷◌, ◌++◌, length, take, drop, get_or, All, refl, ap, sym, ◌∙◌, subst, append-nil, append_assoc, arith}
 use Rattle.std.specs.Prelude.{slice_index_or}
 use Rattle.std.specs.List.{prefix_len}
 use Rattle.std.proofs.lemmas.Bool.Decides.{nat_tests}
@@ -11,13 +11,13 @@ use Rattle.cc_pixel.specs.Colours.{Parts, blend, scaled, clear}
 use Rattle.cc_edit.specs.declared.paint.Group.{Group}
 use Rattle.cc_edit.specs.Painting.{folded, items_at}
 use Rattle.cc_edit.specs.inner.Runs.{lies_in}
-use Rattle.cc_edit.proofs.PaintSteps.{first_here, first_past, drop_past, group_step, layer_step, run_some}
+use Rattle.cc_edit.proofs.PaintSteps.{first_here, drop_past, group_step, layer_step, run_some}
 use Rattle.cc_scene.specs.Views.{QuadView, tiled, plain, grouped}
 use Rattle.cc_scene.specs.Pixels.{quad_over, quads_over, passes_at}
 use Rattle.cc_scene.specs.Sound.{Fits, AreSound}
 use Rattle.cc_scene.proofs.Steps.{quads_append, passes_append, passes_push, length-passes_at, fits_later, sound_append}
 use Rattle.cc_quads.specs.declared.parts.LayerParts.{LayerParts}
-use Rattle.cc_quads.specs.inner.Passes.{groups_of, own_quads, own_colour, ActAsOne, IsLayer, HaveOpacities, AreBuilt}
+use Rattle.cc_quads.specs.inner.Passes.{groups_of, own_quads, own_colour, IsLayer, HaveOpacities, AreBuilt}
 use Rattle.cc_quads.proofs.Lists.{index_front, index_last}
 
 -- ---- passes that are added behind do not change what quads show

@@ -1,23 +1,22 @@
 -- Of the places that a layer shows, the one that is drawn at a point.
-use Rattle.std.proofs.Common.{ℕ, ℤ, pos, ◌≡◌, ◌-ℤ◌, Bool, true, false, cond, ◌&&◌, Option, Some, None, List, [], ◌∷◌, filter, refl, ap, sym, ◌∙◌}
+use Rattle.std.proofs.Common.{ℕ, ℤ, ◌≡◌, ◌-ℤ◌, Bool, true, false, cond, ◌&&◌, Option, Some, None, List, [], ◌∷◌, filter, refl, ap, sym, ◌∙◌}
 use Rattle.std.proofs.lemmas.List.Elements.{filter_agree}
 use Rattle.cc_geom.specs.declared.rect.Point.{Point}
 use Rattle.cc_geom.specs.declared.rect.Rect.{Rect}
 use Rattle.cc_geom.specs.declared.tile.Place.{Place}
 use Rattle.cc_geom.specs.Common.{common, meets}
 use Rattle.cc_geom.specs.Covers.{covers}
-use Rattle.cc_geom.specs.Gaps.{shifted}
 use Rattle.cc_geom.specs.Grids.{rect_of, places, bounds, place_of}
-use Rattle.cc_geom.specs.Sides.{Sides, IsGrid}
+use Rattle.cc_geom.specs.Sides.{IsGrid}
 use Rattle.cc_geom.proofs.Spans.{both, common_points}
 use Rattle.cc_geom.proofs.Meets.{points_meet}
 use Rattle.cc_geom.proofs.Covering.{covering, covering_none}
-use Rattle.cc_tree.specs.Placement.{translation, clip_of, draws}
+use Rattle.cc_tree.specs.Placement.{clip_of, draws}
 use Rattle.cc_edit.specs.Layers.{PageLayer}
 use Rattle.cc_edit.specs.Pages.{Page}
 use Rattle.cc_edit.specs.TreePainting.{lets_through, lies_at, point_in, place_at}
 use Rattle.cc_edit.proofs.Placing.{covers_back}
-use Rattle.cc_visible.specs.Visible.{viewport, grid_of, cut_by, screen_rect, seen, visible_places}
+use Rattle.cc_visible.specs.Visible.{viewport, grid_of, cut_by, seen, visible_places}
 use Rattle.cc_priority.specs.Bins.{is_visible}
 use Rattle.cc_quads.specs.inner.LayerQuads.{Spot, spot_of, screen_of, drawn_part}
 

@@ -1,5 +1,5 @@
 -- The quads of a layer are laid over what stands below them as the colour of the layer.
-use Rattle.std.proofs.Common.{ℕ, ℤ, pos, ◌≡◌, ◌==◌, ◌+ℤ◌, ◌-ℤ◌, Bool, true, false, cond, ◌&&◌, ◌||◌, Option, Some, None, List, [], ◌∷◌, map, filter, find, All, refl, ap, sym, ◌∙◌, subst, eqb-true, arith}
+use Rattle.std.proofs.Common.{ℕ, ℤ, ◌≡◌, ◌==◌, ◌+ℤ◌, ◌-ℤ◌, Bool, true, false, cond, ◌&&◌, ◌||◌, Option, Some, None, List, [], ◌∷◌, map, filter, find, All, refl, ap, sym, ◌∙◌, eqb-true, arith}
 use Rattle.std.specs.Prelude.{is_none, IfSome}
 use Rattle.std.specs.List.{list_any}
 use Rattle.std.proofs.lemmas.Int.{ints}
@@ -24,7 +24,6 @@ use Rattle.cc_edit.specs.Sound.{AreDistinct}
 use Rattle.cc_edit.specs.TreePainting.{lies_at, point_in, place_at, is_missing, colour_inside, colour_at}
 use Rattle.cc_visible.specs.Visible.{viewport, grid_of, visible_places}
 use Rattle.cc_visible.proofs.SeenPlaces.{none_seen}
-use Rattle.cc_scene.specs.Views.{QuadView, tiled, plain}
 use Rattle.cc_scene.specs.Pixels.{placed_pixel, quad_over, quads_over}
 use Rattle.cc_quads.specs.Shown.{Tile, place_named, own_tiles, missing_keys, IsImageOf, MayStand, AreRight}
 use Rattle.cc_quads.specs.inner.LayerQuads.{Spot, spot_of, screen_of, drawn_part, corner, quad_for, quad_of, layer_quads}

@@ -1,5 +1,5 @@
 -- The tiles of one layer among those of a page, which stand in key order.
-use Rattle.std.proofs.Common.{ℕ, ◌≡◌, ◌==◌, nat_lt, Bool, true, false, cond, Option, Some, None, List, [], ◌∷◌, ◌++◌, map, filter, find, refl, ap, sym, ◌∙◌, append-nil, eqb-true, arith}
+use Rattle.std.proofs.Common.{ℕ, ◌≡◌, ◌==◌, nat_lt, Bool, true, false, cond, Some, List, [], ◌∷◌, ◌++◌, map, filter, find, refl, ap, sym, ◌∙◌, append-nil, eqb-true, arith}
 use Rattle.std.specs.Prelude.{is_some}
 use Rattle.std.specs.List.{flat_map}
 use Rattle.std.proofs.lemmas.List.{map-append}
@@ -12,7 +12,6 @@ use Rattle.cc_edit.specs.Layers.{PageLayer, has_id}
 use Rattle.cc_edit.specs.Pages.{Page}
 use Rattle.cc_edit.specs.Refusals.{has_layer}
 use Rattle.cc_edit.specs.Sound.{AreDistinct}
-use Rattle.cc_edit.proofs.LayerKeeps.{found_id}
 use Rattle.cc_visible.specs.Visible.{put_layer, by_id, key_at, visible_places, visible_keys}
 use Rattle.cc_quads.specs.Shown.{Tile, place_named, own_tiles}
 

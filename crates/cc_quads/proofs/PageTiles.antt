@@ -1,5 +1,5 @@
 -- The layers of a page are found by their ids, their grids are sound, and the places that they show are in their grids.
-use Rattle.std.proofs.Common.{ℕ, zero, suc, ◌≡◌, ◌+◌, ◌<◌, ◌≤◌, ◌==◌, nat_lt, Bool, true, false, cond, ◌&&◌, Option, Some, None, List, [], ◌∷◌, ◌++◌, map, filter, find, All, refl, ap, sym, ◌∙◌, subst, eqb-true, arith, Ok}
+use Rattle.std.proofs.Common.{ℕ, zero, suc, ◌≡◌, ◌+◌, ◌<◌, ◌==◌, nat_lt, Bool, true, false, cond, Some, List, [], ◌∷◌, map, find, All, refl, ap, ◌∙◌, eqb-true, arith}
 use Rattle.std.specs.Prelude.{is_some, IsTrue}
 use Rattle.std.specs.List.{flat_map, range_with_len, AllByRecursion}
 use Rattle.std.proofs.lemmas.Bool.Decides.{nat_tests}

@@ -1,5 +1,5 @@
 -- The quads of a layer lie on the screen, and show parts of their images.
-use Rattle.std.proofs.Common.{ℕ, ℤ, pos, ◌≡◌, ◌+◌, ◌≤◌, ◌<ℤ◌, ◌≤ℤ◌, ◌+ℤ◌, ◌-ℤ◌, int_lt, Bool, true, false, cond, ◌&&◌, Option, Some, None, List, [], ◌∷◌, map, filter, find, All, refl, ap, sym, ◌∙◌, subst, arith, ◌==◌, eqb-true}
+use Rattle.std.proofs.Common.{ℕ, ℤ, pos, ◌≡◌, ◌+◌, ◌≤◌, ◌<ℤ◌, ◌≤ℤ◌, ◌+ℤ◌, ◌-ℤ◌, int_lt, Bool, true, false, cond, Option, Some, None, List, [], ◌∷◌, map, find, All, refl, ap, sym, ◌∙◌, subst, arith, ◌==◌, eqb-true}
 use Rattle.std.specs.Prelude.{IfSome}
 use Rattle.std.specs.Int.{int_max, int_min}
 use Rattle.std.proofs.lemmas.Int.{ints, clamps}
@@ -10,7 +10,6 @@ use Rattle.cc_geom.specs.declared.span.Span.{Span}
 use Rattle.cc_geom.specs.declared.tile.Place.{Place}
 use Rattle.cc_geom.specs.Common.{common_span, rect_of_spans, spans_meet, meets, common}
 use Rattle.cc_geom.specs.Grids.{rect_of, places}
-use Rattle.cc_geom.specs.Sides.{IsGrid}
 use Rattle.cc_geom.proofs.Spans.{both}
 use Rattle.cc_tree.specs.Placement.{clip_of, draws}
 use Rattle.cc_raster.specs.Images.{Image}
@@ -19,7 +18,6 @@ use Rattle.cc_edit.specs.Pages.{Page}
 use Rattle.cc_edit.specs.Sound.{AreDistinct}
 use Rattle.cc_visible.specs.Visible.{viewport, grid_of, cut_by, seen, visible_places}
 use Rattle.cc_priority.specs.Bins.{is_visible}
-use Rattle.cc_scene.specs.Views.{QuadView, tiled, plain}
 use Rattle.cc_scene.specs.Sound.{IsIn, IsTaken, Fits}
 use Rattle.cc_quads.specs.Shown.{Tile, place_named, own_tiles, IsImageOf, MayStand, AreRight}
 use Rattle.cc_quads.specs.inner.LayerQuads.{Spot, spot_of, screen_of, drawn_part, corner, quad_for, quad_of, layer_quads}

@@ -1,12 +1,12 @@
 -- A layer that is not drawn lies in a group of opacity 0.
-use Rattle.std.proofs.Common.{ℕ, ◌≡◌, ◌==◌, Bool, true, false, cond, not, ◌&&◌, ◌||◌, Option, Some, None, List, [], ◌∷◌, ◌++◌, refl, ap, sym, ◌∙◌, eqb-true, arith}
+use Rattle.std.proofs.Common.{ℕ, ◌≡◌, ◌==◌, Bool, true, false, cond, not, ◌&&◌, ◌||◌, Some, List, [], ◌∷◌, ◌++◌, refl, ap, ◌∙◌, eqb-true, arith}
 use Rattle.std.specs.Prelude.{is_some}
 use Rattle.std.specs.List.{list_any}
 use Rattle.std.proofs.lemmas.Bool.Decides.{nat_tests}
 use Rattle.cc_tree.specs.declared.nodes.EffectNode.{EffectNode}
 use Rattle.cc_tree.specs.Entries.{find, knows}
 use Rattle.cc_tree.specs.Placement.{draws}
-use Rattle.cc_tree.specs.Trees.{AreEffects, IsEffect}
+use Rattle.cc_tree.specs.Trees.{AreEffects}
 use Rattle.cc_edit.specs.TreePainting.{groups_in, opacity_in, opacity_or_255}
 
 -- each node's effect has the opacity of the node

@@ -1,9 +1,9 @@
 -- The scene of a page shows the direct painting.
-use Rattle.std.proofs.Common.{ℕ, ℤ, ◌≡◌, ◌⊎◌, inl, inr, ◌+◌, ◌≤◌, ◌==◌, Bool, true, false, cond, Some, List, [], ◌∷◌, ◌++◌, length, map, find, All, refl, ap, sym, ◌∙◌, subst, arith}
+use Rattle.std.proofs.Common.{ℕ, ℤ, ◌≡◌, ◌⊎◌, inl, inr, ◌+◌, ◌==◌, Bool, true, false, cond, Some, List, [], ◌∷◌, ◌++◌, length, map, find, All, refl, ap, sym, ◌∙◌, subst, arith}
 use Rattle.std.specs.List.{list_any}
 use Rattle.std.proofs.lemmas.List.{length-append}
 use Rattle.std.proofs.lemmas.Simd.{map-map}
-use Rattle.std.proofs.lemmas.List.Elements.{All-nil, All-cons, All-head, All-tail, All-map, All-same, All-weaker}
+use Rattle.std.proofs.lemmas.List.Elements.{All-head, All-tail, All-map, All-same, All-weaker}
 use Rattle.cc_geom.specs.declared.rect.Point.{Point}
 use Rattle.cc_geom.specs.declared.rect.Rect.{Rect}
 use Rattle.cc_geom.specs.declared.tile.TileKey.{TileKey}
@@ -12,16 +12,15 @@ use Rattle.cc_geom.specs.Sides.{IsGrid}
 use Rattle.cc_pixel.specs.Colours.{Parts, clear}
 use Rattle.cc_tree.specs.Placement.{draws}
 use Rattle.cc_tree.specs.Trees.{AreEffects}
-use Rattle.cc_edit.specs.declared.view.View.{View}
 use Rattle.cc_edit.specs.Layers.{PageLayer, has_id}
 use Rattle.cc_edit.specs.Pages.{Page, IsView}
 use Rattle.cc_edit.specs.Sound.{IsPage}
-use Rattle.cc_edit.specs.Painting.{Items, folded, items_at}
+use Rattle.cc_edit.specs.Painting.{Items, folded}
 use Rattle.cc_edit.specs.TreePainting.{groups_in, opacity_in, colour_at, paint}
 use Rattle.cc_edit.proofs.SampleColours.{same_items}
 use Rattle.cc_visible.specs.Visible.{viewport, grid_of}
-use Rattle.cc_scene.specs.Views.{QuadView, SceneView}
-use Rattle.cc_scene.specs.Pixels.{quads_over, passes_at, scene_pixel}
+use Rattle.cc_scene.specs.Views.{QuadView}
+use Rattle.cc_scene.specs.Pixels.{quads_over, scene_pixel}
 use Rattle.cc_scene.specs.Sound.{Fits, AreSound, IsScene}
 use Rattle.cc_scene.proofs.Steps.{scene_last, sound_append}
 use Rattle.cc_quads.specs.declared.parts.LayerParts.{LayerParts}

@@ -1,6 +1,6 @@
 //! The layers of a page, each with its groups and its own quads.
 
-ghost use Rattle.std.specs.Prelude.{◌≡◌, ◌≤◌, ◌*◌, Some, find, map, length, All, IfOk};
+ghost use Rattle.std.specs.Prelude.{◌≡◌, ◌≤◌, Some, find, map, length, All, IfOk};
 ghost use Rattle.cc_geom.specs.Sides.{IsSide};
 ghost use Rattle.cc_tree.specs.OffsetMap.{offset_at, AreOffsets};
 ghost use Rattle.cc_edit.specs.Layers.{parts_of, has_id};

@@ -1,5 +1,5 @@
 -- The passes that layers in nested groups make.
-use Rattle.std.specs.Prelude.{◌≡◌, ◌≤◌, ℕ, ℤ, true, List, [], ◌++◌, length, map, All}
+use Rattle.std.specs.Prelude.{◌≡◌, ℕ, ℤ, true, List, [], ◌++◌, length, map, All}
 use Rattle.cc_geom.specs.declared.rect.Rect.{Rect}
 use Rattle.cc_geom.specs.Covers.{covers}
 use Rattle.cc_pixel.specs.Colours.{Parts, blend, clear}

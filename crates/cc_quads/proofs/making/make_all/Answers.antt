@@ -1,9 +1,8 @@
 -- The tiles are those that the page shows, and each has its image.
-use Rattle.std.proofs.Common.{◌≡◌, [], List, ap, sym, ◌∙◌, subst, map, rules}
+use Rattle.std.proofs.Common.{List, ap, sym, ◌∙◌, subst, rules}
 use Rattle.cc_tree.specs.OffsetMap.{offset_at}
 use Rattle.cc_edit.proofs.KeptPages.{weaken}
-use Rattle.cc_quads.specs.Shown.{Tile, tile_of, missing_keys, AreRight}
-use Rattle.cc_quads.specs.Made.{all_made}
+use Rattle.cc_quads.specs.Shown.{Tile, missing_keys, AreRight}
 use Rattle.cc_quads.proofs.MadeRight.{made_right, none_missing}
 use Rattle.cc_quads.proofs.making.make_all.Goals as goal
 

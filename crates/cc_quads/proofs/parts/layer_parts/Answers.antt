@@ -1,7 +1,7 @@
 -- One layer more has its share, and in the end all have.
-use Rattle.std.proofs.Common.{ℕ, ◌≡◌, ◌≤◌, Some, List, find, map, length, take, All, refl, ap, sym, ◌∙◌, subst, arith}
+use Rattle.std.proofs.Common.{◌≡◌, ◌≤◌, Some, List, find, map, length, All, ap, sym, ◌∙◌, subst, arith}
 use Rattle.std.proofs.lemmas.List.{take_all}
-use Rattle.std.proofs.lemmas.List.Elements.{All-push, All-same, All-get_or}
+use Rattle.std.proofs.lemmas.List.Elements.{All-push, All-same}
 use Rattle.std.proofs.lemmas.Simd.{map-map}
 use Rattle.cc_tree.specs.OffsetMap.{offset_at}
 use Rattle.cc_edit.specs.declared.layer.Layer.{Layer}
@@ -11,7 +11,7 @@ use Rattle.cc_scene.specs.Views.{QuadView}
 use Rattle.cc_quads.specs.declared.parts.LayerParts.{LayerParts}
 use Rattle.cc_quads.specs.Shown.{tile_of}
 use Rattle.cc_quads.specs.inner.LayerQuads.{layer_quads}
-use Rattle.cc_quads.specs.inner.Passes.{groups_of, own_quads, HaveOpacities}
+use Rattle.cc_quads.specs.inner.Passes.{groups_of, own_quads}
 use Rattle.cc_quads.proofs.Lists.{alike_more, all_mapped}
 use Rattle.cc_quads.proofs.PageTiles.{found_each}
 use Rattle.cc_quads.proofs.parts.layer_parts.Goals as goal

@@ -1,7 +1,6 @@
 -- The tiles of the layer name places of its grid.
-use Rattle.std.proofs.Common.{ap, sym, subst, map, IsTrue, ◌≡◌, All}
+use Rattle.std.proofs.Common.{sym, subst, IsTrue, ◌≡◌, All}
 use Rattle.cc_geom.specs.Grids.{has}
-use Rattle.cc_geom.specs.Sides.{Sides}
 use Rattle.cc_tree.specs.OffsetMap.{offset_at}
 use Rattle.cc_edit.specs.Layers.{parts_of}
 use Rattle.cc_quads.specs.Shown.{tile_of, place_named}

@@ -1,10 +1,10 @@
 -- A layer, or the run of layers in a group, is added to what was built.
-use Rattle.std.proofs.Common.{ℕ, ◌≡◌, ◌+◌, ◌-◌, ◌*◌, ◌≤◌, ◌<◌, suc, List, [], ◌∷◌, ◌++◌, All, length, take, drop, refl, ap, sym, ◌∙◌, subst, arith, add-one}
-use Rattle.std.proofs.lemmas.List.{length-map, length-append, length-drop, length-take}
+use Rattle.std.proofs.Common.{ℕ, ◌≡◌, ◌+◌, ◌-◌, ◌*◌, ◌≤◌, suc, List, [], ◌∷◌, ◌++◌, All, length, take, drop, ap, sym, ◌∙◌, subst, arith, add-one}
+use Rattle.std.proofs.lemmas.List.{length-map, length-append}
 use Rattle.std.proofs.lemmas.List.Elements.{All-drop, All-head, All-rest, All-same, All-take}
 use Rattle.cc_scene.specs.Views.{QuadView, grouped, pass_view, passes_view, quads_view}
 use Rattle.cc_quads.specs.declared.parts.LayerParts.{LayerParts}
-use Rattle.cc_quads.specs.inner.Passes.{groups_of, own_quads, IsLayer, AreBuilt}
+use Rattle.cc_quads.specs.inner.Passes.{AreBuilt}
 use Rattle.cc_quads.proofs.Built.{Building, begun, finished, layer_turn, group_turn, run_not_empty}
 use Rattle.cc_quads.proofs.Rooms.{room_run, room_after, room_layer}
 use Rattle.cc_quads.proofs.passes.+quads_from.Goals as goal

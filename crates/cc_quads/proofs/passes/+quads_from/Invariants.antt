@@ -1,5 +1,5 @@
 -- What was built shows the layers before the rest.
-use Rattle.std.proofs.Common.{ℕ, ◌≡◌, ◌+◌, ◌-◌, ◌*◌, ◌≤◌, All, length}
+use Rattle.std.proofs.Common.{ℕ, ◌+◌, ◌-◌, ◌*◌, ◌≤◌, All, length}
 use Rattle.cc_geom.specs.declared.rect.Rect.{Rect}
 use Rattle.cc_scene.specs.Views.{passes_view, quads_view}
 use Rattle.cc_quads.specs.inner.Passes.{IsLayer}

@@ -4,7 +4,6 @@ use Rattle.std.proofs.lemmas.List.{map-append}
 use Rattle.cc_tree.specs.OffsetMap.{offset_at}
 use Rattle.cc_tree.specs.Trees.{Trees as Props, AreEffects}
 use Rattle.cc_edit.specs.declared.view.View.{View}
-use Rattle.cc_edit.specs.TreePainting.{groups_in, opacity_in}
 use Rattle.cc_scene.specs.Views.{QuadView, SceneView, pass_view, passes_view, quads_view}
 use Rattle.cc_scene.specs.Pixels.{scene_pixel}
 use Rattle.cc_scene.specs.Sound.{IsScene}
