@@ -1,26 +1,22 @@
 -- After the first activation awaits are over at once, and each draw shows the page whole.
-use Rattle.std.proofs.Common.{ℕ, zero, suc, ◌≡◌, ◌⊎◌, inl, inr, ◌<◌, ◌+◌, ◌==◌, Bool, true, false, cond, not, ◌&&◌, ◌||◌, Some, None, Option, is_some, List, [], ◌∷◌, ◌++◌, filter, length, drop, add-one, refl, ap, sym, ◌∙◌, subst, arith}
-use Rattle.std.specs.Prelude.{pos, slice_get}
+use Rattle.std.proofs.Common.{ℕ, zero, suc, ◌≡◌, ◌⊎◌, inl, inr, ◌+◌, Bool, true, false, not, ◌&&◌, Some, None, Option, is_some, List, [], ◌∷◌, ◌++◌, filter, length, drop, refl, ap, sym, ◌∙◌, subst, arith}
+use Rattle.std.specs.Prelude.{pos}
 use Rattle.std.specs.List.{list_all}
-use Rattle.cc_geom.specs.declared.rect.Point.{Point}
 use Rattle.cc_geom.specs.declared.tile.Place.{Place}
 use Rattle.cc_geom.specs.declared.tile.TileKey.{TileKey}
 use Rattle.cc_geom.specs.KeyLists.{has_key}
 use Rattle.cc_geom.specs.Grids.{places}
 use Rattle.cc_sched.specs.declared.kind.Kind.TheVariants as kind
 use Rattle.cc_sched.specs.declared.states.Begun.TheVariants as begun
-use Rattle.cc_sched.specs.Kinds.{after}
 use Rattle.cc_priority.specs.declared.rank.Rank.{Rank}
 use Rattle.cc_priority.specs.Ordered.{In}
 use Rattle.cc_priority.specs.Bins.{is_visible}
-use Rattle.cc_priority.specs.Choice.{may_start}
 use Rattle.cc_priority.proofs.InOrder.{in_filter}
 use Rattle.cc_priority.proofs.Choosing.{first_is_one}
-use Rattle.cc_edit.specs.Layers.{PageLayer}
 use Rattle.cc_edit.specs.Pages.{Page}
 use Rattle.cc_edit.specs.Sound.{AreDistinct}
 use Rattle.cc_edit.specs.Effects.{value_of}
-use Rattle.cc_visible.specs.Visible.{grid_of, seen, visible_keys}
+use Rattle.cc_visible.specs.Visible.{grid_of, seen}
 use Rattle.cc_event.specs.declared.event.Event.{Event}
 use Rattle.cc_event.specs.declared.event.Event.TheVariants as event
 use Rattle.cc_event.specs.declared.input.Input.{Input}
@@ -29,27 +25,25 @@ use Rattle.cc_event.specs.declared.history.Entry.{Entry}
 use Rattle.cc_event.specs.Scripts.{ScriptModel}
 use Rattle.cc_event.specs.Ranges.{input_in_range}
 use Rattle.cc_event.specs.Accepted.{IsAccepted}
-use Rattle.cc_event.specs.EventFields.{begins}
-use Rattle.cc_event.specs.Scans.{newest}
 use Rattle.cc_event.specs.Frames.{page, pulls_of, is_left, has_frame_ended, active, pending, up_to, active_page}
 use Rattle.cc_event.specs.Scrolls.{active_offsets}
 use Rattle.cc_event.specs.Stamps.{stamp_in}
-use Rattle.cc_event.specs.Tiles.{Tree, page_keys, keys_of, visible_in, active_tree, pending_tree, live_keys, ready, in_flight, pinned, missing}
+use Rattle.cc_event.specs.Tiles.{Tree, page_keys, keys_of, visible_in, active_tree, pending_tree, live_keys, ready, in_flight, missing}
 use Rattle.cc_event.specs.TileLaws.{is_at_rest}
 use Rattle.cc_event.specs.Ranking.{rank, is_unmade, wanted, choice, first, place_named}
-use Rattle.cc_event.specs.Due.{on_if, due, due_await, due_draw, next_input, input_now, is_draw, is_pending_to}
-use Rattle.cc_event.specs.Lockstep.{Enters, Stays, Then, Where, AtMost, waits, may_send, has_first, is_possible, Pair, MainPart, Round, InputStep, InputSteps}
+use Rattle.cc_event.specs.Due.{on_if, due, due_await, next_input, input_now, is_draw, is_pending_to}
+use Rattle.cc_event.specs.Lockstep.{Enters, Stays, Then, AtMost, waits, may_send, has_first, is_possible, Pair, MainPart, InputStep, InputSteps}
 use Rattle.cc_event.proofs.BoolFacts.{and_left, and_right, and_both, or_either, not_true}
 use Rattle.cc_event.proofs.DueFacts.{entry}
-use Rattle.cc_event.proofs.KeyFacts.{has_append, has_in, in_has}
+use Rattle.cc_event.proofs.KeyFacts.{has_append, has_in}
 use Rattle.cc_event.proofs.RankFacts.{in_filter_map}
 use Rattle.cc_event.proofs.Pins.{pinned_ready}
 use Rattle.cc_event.proofs.Rests.{visible_at_rest, nothing_missing}
-use Rattle.cc_lockstep.proofs.Entering.{Rests, at_rest, inside, can_then, never, IsPlain, enters, where_true, where_false}
+use Rattle.cc_lockstep.proofs.Entering.{Rests, at_rest, inside, never, enters, where_true, where_false}
 use Rattle.cc_lockstep.proofs.Visibles.{layers_distinct}
-use Rattle.cc_lockstep.proofs.Playing.{is_active, drawn, finishes}
+use Rattle.cc_lockstep.proofs.Playing.{is_active, finishes}
 use Rattle.cc_lockstep.proofs.Wholes.{at_front, all_at, IsLeft, each_in_range, is_await_over, await_possible, frame_below}
-use Rattle.cc_oneframe.specs.Forms.{is_plain, page_of, shows_whole, shows_all}
+use Rattle.cc_oneframe.specs.Forms.{is_plain, last_page, shows_whole, shows_all}
 use Rattle.cc_oneframe.specs.Histories.{answer, answers, entered, page_image, shown_behind}
 use Rattle.cc_event.specs.Recordings.{image, shown_image, image_behind}
 use Rattle.cc_edit.specs.TreePainting.{paint}
@@ -59,8 +53,8 @@ use Rattle.cc_oneframe.proofs.Making.{enter_all}
 -- the first commit is active, no other main frame is left, and nothing has scrolled
 pub record Shows (s : ScriptModel) (h : List Entry) : Type 0 where
   pub rests : Rests s h (at_rest false)
-  pub is_page : active_page s h ≡ page_of s
-  pub at_values : (sc : ℕ) → active_offsets s h sc ≡ value_of (page_of s) sc
+  pub is_page : active_page s h ≡ last_page s
+  pub at_values : (sc : ℕ) → active_offsets s h sc ≡ value_of (last_page s) sc
   pub still : is_at_rest h ≡ true
   pub all_sent : is_left s h ≡ false
   pub active : is_some (active h) ≡ true
@@ -69,7 +63,7 @@ pub record Shows (s : ScriptModel) (h : List Entry) : Type 0 where
 
 -- no draw makes a tile: none is asked for, or each tile of the page is visible
 abbrev pub MakesNone : ScriptModel → Type 0
-MakesNone s = (s.raster_per_frame ≡ 0) ⊎ (shows_all (page_of s) (value_of (page_of s)) ≡ true)
+MakesNone s = (s.raster_per_frame ≡ 0) ⊎ (shows_all (last_page s) (value_of (last_page s)) ≡ true)
 
 -- ---- where each tile is visible none is left to make
 
@@ -81,33 +75,33 @@ all_in f x (y ∷ ys) t (inr i) = all_in f x ys (and_right (f y) (list_all f ys)
 module _ (s : ScriptModel) (h : List Entry) (a : IsAccepted s) (v : Shows s h) where
   -- the active tree
   abbrev tree : Tree
-  tree = record { page = page_of s; offset = value_of (page_of s); stamp = stamp_in s (pulls_of h) (up_to (active h)) }
+  tree = record { page = last_page s; offset = value_of (last_page s); stamp = stamp_in s (pulls_of h) (up_to (active h)) }
 
   tree_is : active_tree s h ≡ tree
   tree_is = λ i. record { page = v.is_page i; offset = λ sc. v.at_values sc i; stamp = stamp_in s (pulls_of h) (up_to (active h)) }
 
-  all_visible : (q : TileKey) → shows_all (page_of s) (value_of (page_of s)) ≡ true → has_key (keys_of (active_tree s h)) q ≡ true → has_key (visible_in (active_tree s h)) q ≡ true
+  all_visible : (q : TileKey) → shows_all (last_page s) (value_of (last_page s)) ≡ true → has_key (keys_of (active_tree s h)) q ≡ true → has_key (visible_in (active_tree s h)) q ≡ true
   all_visible q all t =
       let u : has_key (keys_of tree) q ≡ true = ap (λ (z : Tree). has_key (keys_of z) q) (sym tree_is) ∙ t in
-      let x = key_stands (page_of s) tree.stamp q (subst (λ (p : Page). AreDistinct p.layers) v.is_page (layers_distinct s a (pulls_of h) (up_to (active h)))) u in
-      let whole : shows_whole (page_of s) (value_of (page_of s)) x.layer ≡ true = all_in (shows_whole (page_of s) (value_of (page_of s))) x.layer (page_of s).layers all x.among in
-      let seen_there : is_visible (seen (page_of s) (value_of (page_of s)) x.layer (place_named q)) ≡ true =
-      all_in (λ (z : Place). is_visible (seen (page_of s) (value_of (page_of s)) x.layer z)) (place_named q) (places (grid_of (page_of s) x.layer)) whole x.place in
+      let x = key_stands (last_page s) tree.stamp q (subst (λ (p : Page). AreDistinct p.layers) v.is_page (layers_distinct s a (pulls_of h) (up_to (active h)))) u in
+      let whole : shows_whole (last_page s) (value_of (last_page s)) x.layer ≡ true = all_in (shows_whole (last_page s) (value_of (last_page s))) x.layer (last_page s).layers all x.among in
+      let seen_there : is_visible (seen (last_page s) (value_of (last_page s)) x.layer (place_named q)) ≡ true =
+      all_in (λ (z : Place). is_visible (seen (last_page s) (value_of (last_page s)) x.layer z)) (place_named q) (places (grid_of (last_page s) x.layer)) whole x.place in
       ap (λ (z : Tree). has_key (visible_in z) q) tree_is
-      ∙ has_in (visible_in tree) q (place_key_visible (page_of s) (value_of (page_of s)) tree.stamp q x.layer (place_named q) x.among x.place seen_there x.key)
+      ∙ has_in (visible_in tree) q (place_key_visible (last_page s) (value_of (last_page s)) tree.stamp q x.layer (place_named q) x.among x.place seen_there x.key)
 
   no_pending_key : (q : TileKey) → has_key (keys_of (pending_tree s h)) q ≡ false
   unfolding page_keys
   no_pending_key q = ap (λ (o : Option ℕ). has_key (page_keys (page s (pulls_of h) (up_to o)) (stamp_in s (pulls_of h) (up_to o))) q) v.none_waits
 
-  all_ready : (q : TileKey) → shows_all (page_of s) (value_of (page_of s)) ≡ true → has_key (live_keys s h) q ≡ true → has_key (ready s h) q ≡ true
+  all_ready : (q : TileKey) → shows_all (last_page s) (value_of (last_page s)) ≡ true → has_key (live_keys s h) q ≡ true → has_key (ready s h) q ≡ true
   all_ready q all t = by_tree (or_either (has_key (keys_of (active_tree s h)) q) (has_key (keys_of (pending_tree s h)) q) (sym (has_append (keys_of (active_tree s h)) (keys_of (pending_tree s h)) q) ∙ t))
     where
       by_tree : (has_key (keys_of (active_tree s h)) q ≡ true) ⊎ (has_key (keys_of (pending_tree s h)) q ≡ true) → has_key (ready s h) q ≡ true
       by_tree (inl u) = pinned_ready s 1 h v.rests.legal q (ap (λ (ks : List TileKey). has_key ks q) (sym (visible_at_rest s 1 h v.rests.legal v.still)) ∙ all_visible q all u)
       by_tree (inr u) = let f = no_pending_key q in absurd cc
 
-  none_wanted : shows_all (page_of s) (value_of (page_of s)) ≡ true → (p : Rank) → In p (wanted s h) → ⊥
+  none_wanted : shows_all (last_page s) (value_of (last_page s)) ≡ true → (p : Rank) → In p (wanted s h) → ⊥
   none_wanted all p i =
       let (q, j, e) = in_filter_map (rank s h) p (filter (is_unmade s h) (live_keys s h)) i in
       let m = in_filter (is_unmade s h) q (live_keys s h) j in
@@ -115,14 +109,14 @@ module _ (s : ScriptModel) (h : List Entry) (a : IsAccepted s) (v : Shows s h) w
       let is : has_key (ready s h) q ≡ true = all_ready q all (has_in (live_keys s h) q m.0) in
       absurd cc
 
-  pub none_first : shows_all (page_of s) (value_of (page_of s)) ≡ true → has_first s h ≡ false
+  pub none_first : shows_all (last_page s) (value_of (last_page s)) ≡ true → has_first s h ≡ false
   none_first all = ap is_some (first_is_one.none_only (choice s h) (λ p i. absurd (none_wanted all p i)))
 
 -- ---- pictures
 
 -- the image of the page
 abbrev pub image_of : ScriptModel → List ℕ
-image_of s = page_image (page_of s) s.background
+image_of s = page_image (last_page s) s.background
 
 -- each event has behind it what is listed
 abbrev pub AreShown : ScriptModel → List Entry → List Event → Type 0
@@ -130,7 +124,7 @@ AreShown s h [] = Unit {0}
 AreShown s h (e ∷ es) = (image_behind s h e ≡ shown_behind (image_of s) e) × AreShown s (entered e ∷ h) es
 
 -- a draw shows the page
-pub draw_shows : (s : ScriptModel) (h : List Entry) → active_page s h ≡ page_of s → ((sc : ℕ) → active_offsets s h sc ≡ value_of (page_of s) sc) → shown_image s h [] ≡ image_of s
+pub draw_shows : (s : ScriptModel) (h : List Entry) → active_page s h ≡ last_page s → ((sc : ℕ) → active_offsets s h sc ≡ value_of (last_page s) sc) → shown_image s h [] ≡ image_of s
 unfolding shown_image
 draw_shows s h p o = λ i. image (λ x y. paint (p i) (λ sc. o sc i) [] s.background (pos x) (pos y)) (p i).view.w (p i).view.h
 

@@ -1,5 +1,5 @@
 -- While the first commit is pending: its tree is the page after the frame, at its main scroll values.
-use Rattle.std.proofs.Common.{ℕ, zero, suc, ℤ, pos, ◌+ℤ◌, ◌-ℤ◌, ◌≡◌, Bool, true, false, cond, not, ◌||◌, Some, None, Option, List, [], ◌∷◌, find, refl, ap, sym, ◌∙◌, subst, arith}
+use Rattle.std.proofs.Common.{ℕ, ℤ, pos, ◌+ℤ◌, ◌-ℤ◌, ◌≡◌, Bool, true, false, cond, Some, None, Option, List, [], ◌∷◌, find, refl, ap, sym, ◌∙◌, subst, arith}
 use Rattle.std.specs.Prelude.{slice_index_or, unwrap_or}
 use Rattle.std.proofs.lemmas.Int.{ints}
 use Rattle.cc_geom.specs.declared.rect.Point.{Point}
@@ -11,30 +11,28 @@ use Rattle.cc_sched.specs.declared.Sched.{Sched}
 use Rattle.cc_sched.specs.declared.states.Begun.TheVariants as begun
 use Rattle.cc_priority.specs.declared.rank.Rank.{Rank}
 use Rattle.cc_priority.specs.declared.rank.Side.TheVariants as side
-use Rattle.cc_priority.specs.Ordered.{In}
 use Rattle.cc_priority.specs.Ranks.{least}
-use Rattle.cc_tiling.specs.Stamps.{Commit, stamp_of, changes_in}
+use Rattle.cc_tiling.specs.Stamps.{changes_in}
 use Rattle.cc_edit.specs.declared.command.Command.{Command}
 use Rattle.cc_edit.specs.declared.moves.Move.{Move}
-use Rattle.cc_edit.specs.Axes.{Axis, across, down, move_of, with_move, listed}
+use Rattle.cc_edit.specs.Axes.{Axis, across, down, with_move, listed}
 use Rattle.cc_edit.specs.Scrollers.{has_scroller, main_value, most, offsets_in, scrollers}
 use Rattle.cc_edit.specs.Scrolls.{clamp_to, origin}
 use Rattle.cc_edit.specs.Pages.{Page}
 use Rattle.cc_edit.specs.Layers.{has_id}
 use Rattle.cc_edit.specs.Sound.{AreDistinct}
 use Rattle.cc_edit.specs.Effects.{value_of}
-use Rattle.cc_visible.specs.Visible.{visible_keys}
 use Rattle.cc_event.specs.declared.history.Entry.{Entry}
 use Rattle.cc_event.specs.Scripts.{ScriptModel}
 use Rattle.cc_event.specs.Accepted.{IsAccepted}
 use Rattle.cc_event.specs.EventFields.{sends, commits}
 use Rattle.cc_event.specs.Scans.{was_named, counted}
 use Rattle.cc_event.specs.Judging.{framed}
-use Rattle.cc_event.specs.Frames.{blank, commands_of, pulled, commanded, page, pulls_of, active, pending, up_to, pending_page}
+use Rattle.cc_event.specs.Frames.{blank, pulled, commanded, page, pulls_of, active, pending, up_to, pending_page}
 use Rattle.cc_event.specs.Scrolls.{pending_base, pending_offset, pending_offsets, offset_then, settled_then, in_delta, clobbers, clamp_move, next_clamps}
 use Rattle.cc_event.specs.ScrollLaws.{frame_in_flight}
 use Rattle.cc_event.specs.Stamps.{place_rect, frame_changes, stamp_in}
-use Rattle.cc_event.specs.Tiles.{Tree, page_keys, keys_of, active_tree, pending_tree, visible_in, made}
+use Rattle.cc_event.specs.Tiles.{Tree, page_keys, keys_of, active_tree, pending_tree, made}
 use Rattle.cc_event.specs.Ranking.{rank_on, rank_in, rank}
 use Rattle.cc_event.specs.Legal.{sched}
 use Rattle.cc_event.proofs.BoolFacts.{by_test}
@@ -48,8 +46,7 @@ use Rattle.cc_event.proofs.Offsets.{before}
 use Rattle.cc_event.proofs.BarePages.{no_pulls}
 use Rattle.cc_lockstep.proofs.Entering.{Rests, inside}
 use Rattle.cc_lockstep.proofs.Visibles.{layers_distinct}
-use Rattle.cc_oneframe.specs.Forms.{page_of}
-use Rattle.cc_oneframe.proofs.NowRanks.{now_rank, visible_rank, now_visible}
+use Rattle.cc_oneframe.specs.Forms.{last_page}
 
 -- the script has one main frame, of one command at least
 pub record HasOneFrame (s : ScriptModel) : Type 0 where
@@ -59,14 +56,14 @@ pub record HasOneFrame (s : ScriptModel) : Type 0 where
 
 -- the page after it, at its main values, with the stamps of the first commit
 abbrev pub shown_tree : ScriptModel → Tree
-shown_tree s = record { page = page_of s; offset = value_of (page_of s); stamp = λ layer place. 0 }
+shown_tree s = record { page = last_page s; offset = value_of (last_page s); stamp = λ layer place. 0 }
 
-pub first_page : (s : ScriptModel) (ps : ℕ → List Move) → HasOneFrame s → ps 0 ≡ [] → page s ps 1 ≡ page_of s
+pub first_page : (s : ScriptModel) (ps : ℕ → List Move) → HasOneFrame s → ps 0 ≡ [] → page s ps 1 ≡ last_page s
 first_page s ps o e =
     (λ i. commanded (slice_index_or (o.main i) 0 []) (pulled (e i) (blank s)))
     ∙ sym (ap (λ (m : List (List Command)). framed m (blank s)) o.main)
 
-pub page_distinct : (s : ScriptModel) → IsAccepted s → HasOneFrame s → AreDistinct (page_of s).layers
+pub page_distinct : (s : ScriptModel) → IsAccepted s → HasOneFrame s → AreDistinct (last_page s).layers
 page_distinct s a o = subst (λ (p : Page). AreDistinct p.layers) (first_page s no_pulls o refl) (layers_distinct s a no_pulls 1)
 
 -- the scrollers of a page at its main values
@@ -151,14 +148,14 @@ module _ (s : ScriptModel) (h : List Entry) (done : List TileKey) where
   -- the pending tree
   pub builds_tree : HasOneFrame s → Builds s h done → pending_tree s h ≡ shown_tree s
   builds_tree o b =
-      let first : page s (pulls_of h) 1 ≡ page_of s = first_page s (pulls_of h) o b.pulls in
-      let at : (sc : ℕ) → pending_offsets s h sc ≡ value_of (page_of s) sc =
+      let first : page s (pulls_of h) 1 ≡ last_page s = first_page s (pulls_of h) o b.pulls in
+      let at : (sc : ℕ) → pending_offsets s h sc ≡ value_of (last_page s) sc =
       λ sc. ap (λ (w : Option ℕ). offsets_in (page s (pulls_of h) (up_to w)) (pending_offset s h) sc) b.waits
       ∙ (offsets_are_values s (pulls_of h) 1 (pending_offset s h) sc (λ ax t. pending_value b sc ax)
       ∙ ap (λ (p : Page). value_of p sc) first) in
       let stamp : (layer : ℕ) (place : Place) → stamp_in s (pulls_of h) (up_to (pending h)) layer place ≡ 0 =
       λ layer place. ap (λ (w : Option ℕ). stamp_in s (pulls_of h) (up_to w) layer place) b.waits ∙ stamp_first s (pulls_of h) layer place in
-      let is_page : pending_page s h ≡ page_of s = ap (λ (w : Option ℕ). page s (pulls_of h) (up_to w)) b.waits ∙ first in
+      let is_page : pending_page s h ≡ last_page s = ap (λ (w : Option ℕ). page s (pulls_of h) (up_to w)) b.waits ∙ first in
       λ i. record { page = is_page i; offset = λ sc. at sc i; stamp = λ layer place. stamp layer place i }
 
   -- the active tree has no key

@@ -1,9 +1,7 @@
 -- The tiles that the page shows are made in key order, and nothing is given up for them.
-use Rattle.std.proofs.Common.{ℕ, zero, suc, ◌≡◌, ◌⊎◌, inl, inr, ◌<◌, ◌+◌, ◌-◌, Bool, true, false, cond, not, ◌&&◌, ◌||◌, Some, None, Option, List, [], ◌∷◌, ◌++◌, map, filter, flat_map, length, take, refl, ap, sym, ◌∙◌, subst, arith}
+use Rattle.std.proofs.Common.{ℕ, ◌≡◌, ◌⊎◌, inl, inr, ◌+◌, ◌-◌, Bool, true, false, cond, not, ◌&&◌, Some, Option, List, [], ◌∷◌, map, filter, flat_map, length, take, refl, ap, sym, ◌∙◌, subst}
 use Rattle.std.specs.List.{list_all}
-use Rattle.std.specs.Ordering.{nat_cmp}
-use Rattle.std.specs.declared.cmp.Ordering.TheVariants.{Less, Equal, Greater}
-use Rattle.std.proofs.lemmas.Bool.Decides.{nat_tests}
+use Rattle.std.specs.declared.cmp.Ordering.TheVariants.{Less, Greater}
 use lib.Seq.{take-nil}
 use Rattle.cc_geom.specs.declared.tile.TileKey.{TileKey}
 use Rattle.cc_geom.specs.KeyLists.{same_key, has_key}
@@ -29,17 +27,17 @@ use Rattle.cc_event.specs.declared.history.Entry.{Entry}
 use Rattle.cc_event.specs.Scripts.{ScriptModel}
 use Rattle.cc_event.specs.Accepted.{IsAccepted}
 use Rattle.cc_event.specs.Tiles.{Tree, keys_of, visible_in, active_tree, pending_tree, live_keys, made, ready, in_flight, required, are_ready}
-use Rattle.cc_event.specs.Ranking.{rank_in, rank, is_unmade, wanted, ready_tile, choice, first, evicted_for}
+use Rattle.cc_event.specs.Ranking.{rank, is_unmade, wanted, ready_tile, choice, first, evicted_for}
 use Rattle.cc_event.specs.Lockstep.{Pair, Times, is_possible}
-use Rattle.cc_event.proofs.BoolFacts.{and_left, and_right, and_both, or_left, or_right, or_either, or_neither, is_false, not_true}
+use Rattle.cc_event.proofs.BoolFacts.{and_left, and_both, or_left, or_right, or_either, or_neither, is_false, not_true}
 use Rattle.cc_event.proofs.DueFacts.{entry}
 use Rattle.cc_event.proofs.KeyFacts.{has_append, has_filter, has_in, in_has}
 use Rattle.cc_event.proofs.StampFacts.{visible_is_key}
-use Rattle.cc_event.proofs.RankFacts.{rank_key, key_of_rank, in_filter_map}
-use Rattle.cc_lockstep.proofs.Entering.{Rests, inside, after_pair, pair}
+use Rattle.cc_event.proofs.RankFacts.{in_filter_map}
+use Rattle.cc_lockstep.proofs.Entering.{Rests, inside, pair}
 use Rattle.cc_lockstep.proofs.Visibles.{filter_map_in}
 use Rattle.cc_lockstep.proofs.Playing.{activatable}
-use Rattle.cc_oneframe.specs.Forms.{page_of}
+use Rattle.cc_oneframe.specs.Forms.{last_page}
 use Rattle.cc_oneframe.specs.Histories.{making, shown_keys, entered}
 use Rattle.cc_oneframe.proofs.Ascending.{Asc, Before, equal}
 use Rattle.cc_oneframe.proofs.NowRanks.{now_rank, visible_rank, now_visible}
@@ -52,9 +50,9 @@ enter_all (e ∷ es) h = enter_all es (entered e ∷ h)
 
 -- of the keys that the page shows these are left to make, and the others were made
 pub record Left (s : ScriptModel) (done ks : List TileKey) : Type 0 where
-  pub shown : (q : TileKey) → In q ks → In q (shown_keys (page_of s))
-  pub each : (q : TileKey) → In q (shown_keys (page_of s)) → (has_key done q ≡ true) ⊎ In q ks
-  pub made : (q : TileKey) → has_key done q ≡ true → In q (shown_keys (page_of s))
+  pub shown : (q : TileKey) → In q ks → In q (shown_keys (last_page s))
+  pub each : (q : TileKey) → In q (shown_keys (last_page s)) → (has_key done q ≡ true) ⊎ In q ks
+  pub made : (q : TileKey) → has_key done q ≡ true → In q (shown_keys (last_page s))
   pub new : (q : TileKey) → In q ks → has_key done q ≡ false
   pub order : Asc Before ks
 
@@ -91,10 +89,10 @@ worse_later p r e f l = let g : rank_cmp p r ≡ Greater = rw (e, f) refl in abs
 
 module _ (s : ScriptModel) (h : List Entry) (done : List TileKey) (a : IsAccepted s) (o : HasOneFrame s) (b : Builds s h done) where
   -- a key that the page shows is live, is ready where it was made, and is NOW
-  shown_live : (q : TileKey) → In q (shown_keys (page_of s)) → has_key (live_keys s h) q ≡ true
+  shown_live : (q : TileKey) → In q (shown_keys (last_page s)) → has_key (live_keys s h) q ≡ true
   shown_live q i =
       let key : has_key (keys_of (pending_tree s h)) q ≡ true =
-      ap (λ (t : Tree). has_key (keys_of t) q) (builds_tree s h done o b) ∙ visible_is_key (shown_tree s).page (shown_tree s).offset (shown_tree s).stamp q (has_in (shown_keys (page_of s)) q i) in
+      ap (λ (t : Tree). has_key (keys_of t) q) (builds_tree s h done o b) ∙ visible_is_key (shown_tree s).page (shown_tree s).offset (shown_tree s).stamp q (has_in (shown_keys (last_page s)) q i) in
       has_append (keys_of (active_tree s h)) (keys_of (pending_tree s h)) q ∙ or_right (has_key (keys_of (active_tree s h)) q) (has_key (keys_of (pending_tree s h)) q) key
 
   ready_as : (q : TileKey) → has_key (ready s h) q ≡ (has_key done q && has_key (live_keys s h) q)
@@ -104,16 +102,16 @@ module _ (s : ScriptModel) (h : List Entry) (done : List TileKey) (a : IsAccepte
   with_true true y e = e
   with_true false y e = refl
 
-  pub ready_done : (q : TileKey) → In q (shown_keys (page_of s)) → has_key (ready s h) q ≡ has_key done q
+  pub ready_done : (q : TileKey) → In q (shown_keys (last_page s)) → has_key (ready s h) q ≡ has_key done q
   ready_done q i = ready_as q ∙ with_true (has_key done q) (has_key (live_keys s h) q) (shown_live q i)
 
-  shown_now : (q : TileKey) → In q (shown_keys (page_of s)) → rank s h q ≡ Some (now_rank s q)
+  shown_now : (q : TileKey) → In q (shown_keys (last_page s)) → rank s h q ≡ Some (now_rank s q)
   shown_now q i = rank_then s h done o b q ∙ visible_rank s (shown_tree s) q (page_distinct s a o) i
 
-  now_shown : (q : TileKey) (p : Rank) → rank s h q ≡ Some p → p.bin ≡ bin.Now → In q (shown_keys (page_of s))
+  now_shown : (q : TileKey) (p : Rank) → rank s h q ≡ Some p → p.bin ≡ bin.Now → In q (shown_keys (last_page s))
   now_shown q p e n = now_visible s (shown_tree s) q p (page_distinct s a o) (sym (rank_then s h done o b q) ∙ e) n
 
-  pub required_shown : required s h ≡ shown_keys (page_of s)
+  pub required_shown : required s h ≡ shown_keys (last_page s)
   required_shown = ap (λ (t : Tree). visible_in t) (builds_tree s h done o b)
 
   module _ (k : TileKey) (ks : List TileKey) (l : Left s done (k ∷ ks)) where
@@ -126,7 +124,7 @@ module _ (s : ScriptModel) (h : List Entry) (done : List TileKey) (a : IsAccepte
         filter_map_in (rank s h) k (now_rank s k) (filter (is_unmade s h) (live_keys s h)) (filter_in (is_unmade s h) k (live_keys s h) (in_has (live_keys s h) k (shown_live k i)) unmade) (shown_now k i)
 
     -- a key that is shown and not ready is not before it
-    none_before : (q : TileKey) → In q (shown_keys (page_of s)) → has_key (ready s h) q ≡ false → rank_cmp (now_rank s q) (now_rank s k) ≡ Less → ⊥
+    none_before : (q : TileKey) → In q (shown_keys (last_page s)) → has_key (ready s h) q ≡ false → rank_cmp (now_rank s q) (now_rank s k) ≡ Less → ⊥
     none_before q i out less = by_left (l.each q i)
       where
         by_left : (has_key done q ≡ true) ⊎ In q (k ∷ ks) → ⊥
@@ -178,11 +176,11 @@ module _ (s : ScriptModel) (h : List Entry) (done : List TileKey) (a : IsAccepte
     pub not_yet : is_possible s kind.Activate 0 h ≡ false
     not_yet =
         activatable s h (inside true true begun.Plain) b.rests refl
-        ∙ (ap (are_ready s h) required_shown ∙ some_fails (has_key (ready s h)) (shown_keys (page_of s)) k (l.shown k (inl refl)) (ready_done k (l.shown k (inl refl)) ∙ l.new k (inl refl)))
+        ∙ (ap (are_ready s h) required_shown ∙ some_fails (has_key (ready s h)) (shown_keys (last_page s)) k (l.shown k (inl refl)) (ready_done k (l.shown k (inl refl)) ∙ l.new k (inl refl)))
 
   -- where all are made the commit can be activated
   pub all_ready : Left s done [] → are_ready s h (required s h) ≡ true
-  all_ready l = ap (are_ready s h) required_shown ∙ all_pass (has_key (ready s h)) (shown_keys (page_of s)) (λ q i. ready_done q i ∙ none_left q (l.each q i))
+  all_ready l = ap (are_ready s h) required_shown ∙ all_pass (has_key (ready s h)) (shown_keys (last_page s)) (λ q i. ready_done q i ∙ none_left q (l.each q i))
     where
       none_left : (q : TileKey) → (has_key done q ≡ true) ⊎ In q [] → has_key done q ≡ true
       none_left q (inl t) = t
@@ -204,8 +202,8 @@ left_on s done k ks l = record {
     each q (inr (inl e)) = inl (or_left (same_key k q) (has_key done q) (same_from k q (sym e)))
     each q (inr (inr i)) = inr i
 
-    made' : (q : TileKey) → (same_key k q ≡ true) ⊎ (has_key done q ≡ true) → In q (shown_keys (page_of s))
-    made' q (inl t) = subst (λ (z : TileKey). In z (shown_keys (page_of s))) (one_key k q t) (l.shown k (inl refl))
+    made' : (q : TileKey) → (same_key k q ≡ true) ⊎ (has_key done q ≡ true) → In q (shown_keys (last_page s))
+    made' q (inl t) = subst (λ (z : TileKey). In z (shown_keys (last_page s))) (one_key k q t) (l.shown k (inl refl))
     made' q (inr t) = l.made q t
 
     other : (q : TileKey) → In q ks → k ≡ q → ⊥

@@ -1,13 +1,13 @@
 -- The ranks of the keys of the pending tree that are visible, and that no other key is NOW.
-use Rattle.std.proofs.Common.{ℕ, ℤ, pos, ◌+ℤ◌, ◌-ℤ◌, ◌≡◌, ◌⊎◌, inl, inr, ◌==◌, Bool, true, false, cond, not, ◌&&◌, ◌||◌, Some, None, Option, List, [], ◌∷◌, ◌++◌, map, filter, flat_map, find, option_map, max, nat_abs, refl, ap, sym, ◌∙◌, subst, eqb-true, arith}
+use Rattle.std.proofs.Common.{ℕ, ℤ, pos, ◌+ℤ◌, ◌-ℤ◌, ◌≡◌, ◌⊎◌, inl, inr, ◌==◌, Bool, true, false, cond, not, ◌&&◌, Some, None, Option, List, [], ◌∷◌, ◌++◌, map, filter, flat_map, find, option_map, max, nat_abs, refl, ap, sym, ◌∙◌, subst, eqb-true, arith}
 use Rattle.std.specs.Prelude.{nat_lt, nat_le}
-use Rattle.std.specs.Int.{int_max, int_min}
+use Rattle.std.specs.Int.{int_max}
 use Rattle.std.proofs.lemmas.Int.{ints, clamps}
 use Rattle.cc_geom.specs.declared.rect.Rect.{Rect}
 use Rattle.cc_geom.specs.declared.rect.Point.{Point}
 use Rattle.cc_geom.specs.declared.tile.Place.{Place}
 use Rattle.cc_geom.specs.declared.tile.TileKey.{TileKey}
-use Rattle.cc_geom.specs.Common.{common, meets, Meet}
+use Rattle.cc_geom.specs.Common.{meets, Meet}
 use Rattle.cc_geom.specs.Covers.{within, covers}
 use Rattle.cc_geom.specs.Gaps.{span_gap, distance}
 use Rattle.cc_geom.specs.Grids.{places}
@@ -23,7 +23,7 @@ use Rattle.cc_priority.specs.declared.rank.Side.TheVariants as side
 use Rattle.cc_priority.specs.declared.tile.Borders.{Borders}
 use Rattle.cc_priority.specs.declared.tile.Seen.{Seen}
 use Rattle.cc_priority.specs.Ordered.{In}
-use Rattle.cc_priority.specs.Bins.{is_visible, bin_at, bin_of, tree_number, rank_of}
+use Rattle.cc_priority.specs.Bins.{is_visible, bin_at, tree_number, rank_of}
 use Rattle.cc_priority.proofs.InOrder.{filter_in, map_in}
 use Rattle.cc_edit.specs.Layers.{PageLayer, has_id}
 use Rattle.cc_edit.specs.Pages.{Page}
@@ -32,9 +32,9 @@ use Rattle.cc_visible.specs.Visible.{viewport, grid_of, cut_by, seen, visible_pl
 use Rattle.cc_event.specs.Scripts.{ScriptModel}
 use Rattle.cc_event.specs.Tiles.{Tree, keys_of, visible_in, page_keys}
 use Rattle.cc_event.specs.Ranking.{borders, place_named, rank_on, rank_in}
-use Rattle.cc_event.proofs.BoolFacts.{by_test, and_left, and_right, or_either, same_number, not_both}
+use Rattle.cc_event.proofs.BoolFacts.{by_test, and_left, and_right, or_either, same_number}
 use Rattle.cc_event.proofs.FindKeys.{has_place, key_on, key_of_page}
-use Rattle.cc_lockstep.proofs.Visibles.{Shown, shown, seen_rank, rank_of_shown}
+use Rattle.cc_lockstep.proofs.Visibles.{shown, rank_of_shown}
 
 -- ---- a visible tile is not away from the viewport
 

@@ -1,5 +1,5 @@
 -- The history of a script that is played is its lockstep history.
-use Rattle.std.proofs.Common.{ℕ, zero, suc, ◌≡◌, ◌⊎◌, inl, inr, ◌<◌, ◌+◌, ◌==◌, Bool, true, false, cond, not, ◌&&◌, ◌||◌, Some, None, Option, is_some, List, [], ◌∷◌, ◌++◌, map, flat_map, length, drop, reverse, refl, ap, sym, ◌∙◌, subst, arith}
+use Rattle.std.proofs.Common.{ℕ, zero, suc, ◌≡◌, ◌⊎◌, inl, inr, ◌+◌, ◌==◌, Bool, true, false, not, ◌&&◌, ◌||◌, Some, None, is_some, List, [], ◌∷◌, ◌++◌, map, flat_map, length, drop, reverse, refl, ap, sym, ◌∙◌, subst, arith}
 use Rattle.std.specs.Prelude.{nat_lt, slice_get, slice_index_or}
 use Rattle.std.specs.List.{list_all, list_any}
 use Rattle.std.proofs.lemmas.List.{append_assoc, append-nil, reverse-append}
@@ -9,11 +9,9 @@ use Rattle.cc_sched.specs.declared.states.Begun.TheVariants as begun
 use Rattle.cc_sched.specs.Kinds.{after}
 use Rattle.cc_edit.specs.declared.command.Command.{Command}
 use Rattle.cc_edit.specs.declared.moves.Move.{Move}
-use Rattle.cc_edit.specs.Axes.{Axis}
 use Rattle.cc_edit.specs.Scrollers.{scrollers}
 use Rattle.cc_edit.specs.Pages.{Page}
 use Rattle.cc_edit.specs.Effects.{value_of}
-use Rattle.cc_visible.specs.Visible.{visible_keys}
 use Rattle.cc_event.specs.declared.event.Event.{Event}
 use Rattle.cc_event.specs.declared.event.Event.TheVariants as event
 use Rattle.cc_event.specs.declared.input.Input.{Input}
@@ -22,25 +20,25 @@ use Rattle.cc_event.specs.declared.history.Entry.{Entry}
 use Rattle.cc_event.specs.Scripts.{ScriptModel}
 use Rattle.cc_event.specs.Accepted.{IsAccepted}
 use Rattle.cc_event.specs.Ranges.{input_in_range}
-use Rattle.cc_event.specs.EventFields.{sends, commits, aborts}
-use Rattle.cc_event.specs.Scans.{counted, was_named}
-use Rattle.cc_event.specs.Frames.{commands_of, is_empty, changes, moves_main, pulls_of, is_left, has_frame_ended, page, up_to, pending}
+use Rattle.cc_event.specs.EventFields.{commits, aborts}
+use Rattle.cc_event.specs.Scans.{was_named}
+use Rattle.cc_event.specs.Frames.{commands_of, is_empty, changes, moves_main, pulls_of, is_left, page, pending}
 use Rattle.cc_event.specs.Scrolls.{offset, next_clamps}
 use Rattle.cc_event.specs.Due.{on_if, due, due_activate, next_input, input_now, is_draw}
-use Rattle.cc_event.specs.Lockstep.{Enters, Stays, Then, Where, Times, While, waits, is_possible, Pair, MainPart, ActivateNow, PlainFrame, Round, InputStep, InputSteps, WholeRun, IsLockstep}
+use Rattle.cc_event.specs.Lockstep.{Enters, Then, waits, is_possible, MainPart, ActivateNow, PlainFrame, Round, InputStep, InputSteps, WholeRun, IsLockstep}
 use Rattle.cc_event.proofs.BoolFacts.{and_left, and_right, and_both, or_left, or_either, or_neither, same_number, none_where}
 use Rattle.cc_event.proofs.DueFacts.{entry}
 use Rattle.cc_event.proofs.Rests.{activated_offset}
-use Rattle.cc_lockstep.proofs.Entering.{Rests, at_rest, inside, can_then, IsPlain, enters, waits_as, where_false}
+use Rattle.cc_lockstep.proofs.Entering.{Rests, at_rest, inside, can_then, enters, waits_as, where_false}
 use Rattle.cc_lockstep.proofs.Playing.{closes}
-use Rattle.cc_lockstep.proofs.Wholes.{at_front, all_at, IsLeft, each_in_range, is_await_over, await_possible, frame_below, goes_on, ends}
-use Rattle.cc_oneframe.specs.Forms.{is_plain, are_plain, has_one_frame, page_of, shows_all, is_played}
-use Rattle.cc_oneframe.specs.Histories.{opening, making, activation, answer, answers, history, shown_keys, events_of, entered, listed_piece}
+use Rattle.cc_lockstep.proofs.Wholes.{all_at, IsLeft, each_in_range, await_possible, frame_below, goes_on, ends}
+use Rattle.cc_oneframe.specs.Forms.{is_plain, are_plain, has_one_frame, last_page, shows_all, is_played}
+use Rattle.cc_oneframe.specs.Histories.{opening, making, activation, answers, history, shown_keys, events_of, entered, listed_piece}
 use Rattle.cc_event.specs.Texts.{event_line}
 use Rattle.cc_event.specs.Recordings.{piece, pieces}
 use Rattle.cc_oneframe.proofs.Ascending.{visible_ascend}
 use Rattle.cc_oneframe.proofs.FirstPage.{HasOneFrame, first_page, page_distinct, offsets_are_values, Builds, pending_value, no_clamps}
-use Rattle.cc_oneframe.proofs.Making.{enter_all, Left, Makes, makes, all_ready}
+use Rattle.cc_oneframe.proofs.Making.{enter_all, Left, makes, all_ready}
 use Rattle.cc_oneframe.proofs.Answering.{Shows, MakesNone, image_of, AreShown, shown_append, await_over, awaits, enter_append, AllAnswer, all_answer}
 
 -- ---- the opening
@@ -97,13 +95,13 @@ opens s o no_draw =
 
 -- ---- the frame
 
-first_left : (s : ScriptModel) → IsAccepted s → HasOneFrame s → Left s [] (shown_keys (page_of s))
+first_left : (s : ScriptModel) → IsAccepted s → HasOneFrame s → Left s [] (shown_keys (last_page s))
 first_left s a o = record {
   shown = λ q i. i;
   each = λ q i. inr i;
   made = λ q t. absurd cc;
   new = λ q i. refl;
-  order = visible_ascend (page_of s) (value_of (page_of s)) (λ layer place. 0) (page_distinct s a o);
+  order = visible_ascend (last_page s) (value_of (last_page s)) (λ layer place. 0) (page_distinct s a o);
 }
 
 -- the past after the frame: these tiles were made, and the commit activated
@@ -111,16 +109,16 @@ abbrev pub framed_past : List TileKey → List Entry
 framed_past ks = enter_all activation (enter_all (flat_map making ks) opened)
 
 record FrameGoes (s : ScriptModel) : Type 0 where
-  way : PlainFrame s [] (framed_past (shown_keys (page_of s)))
-  shows : Shows s (framed_past (shown_keys (page_of s)))
-  used : next_input (framed_past (shown_keys (page_of s))) ≡ 0
+  way : PlainFrame s [] (framed_past (shown_keys (last_page s)))
+  shows : Shows s (framed_past (shown_keys (last_page s)))
+  used : next_input (framed_past (shown_keys (last_page s))) ≡ 0
 
 abbrev activated : List Entry → List Entry
 activated g = entry 0 (event.Activate 0 []) ∷ g
 
 shows_after : (s : ScriptModel) (g : List Entry) (done : List TileKey) → HasOneFrame s → Builds s g done → Rests s (activated g) (inside false true begun.Plain) → Rests s (entry 0 event.Finish ∷ entry 0 event.NoDraw ∷ activated g) (at_rest false) → Shows s (entry 0 event.Finish ∷ entry 0 event.NoDraw ∷ activated g)
 shows_after s g done o b r q =
-    let first : page s (pulls_of g) 1 ≡ page_of s = first_page s (pulls_of g) o b.pulls in
+    let first : page s (pulls_of g) 1 ≡ last_page s = first_page s (pulls_of g) o b.pulls in
     let none_left : is_left s g ≡ false = (λ i. nat_lt (b.sent i) (length (o.main i))) in
     record {
       rests = q;
@@ -143,7 +141,7 @@ made_uses (k ∷ ks) h = made_uses ks (entry 2 (event.DoneTile 0 k) ∷ entry 2 
 frame_goes : (s : ScriptModel) → IsAccepted s → HasOneFrame s → is_draw (input_now s []) ≡ false → FrameGoes s
 frame_goes s a o no_draw =
     let p = opens s o no_draw in
-    let ks : List TileKey = shown_keys (page_of s) in
+    let ks : List TileKey = shown_keys (last_page s) in
     let m = makes s a o ks opened [] p.builds (first_left s a o) in
     let g : List Entry = enter_all (flat_map making ks) opened in
     let b = m.builds in
@@ -172,7 +170,7 @@ module _ (s : ScriptModel) (a : IsAccepted s) (o : HasOneFrame s) (n : MakesNone
   frame = frame_goes s a o no_draw
 
   abbrev after_frame : List Entry
-  after_frame = framed_past (shown_keys (page_of s))
+  after_frame = framed_past (shown_keys (last_page s))
 
   first_round : Round s [] after_frame
   first_round = where_false waits (ActivateNow s) (PlainFrame s) [] after_frame refl frame.way
@@ -254,17 +252,17 @@ module _ (s : ScriptModel) (a : IsAccepted s) (o : HasOneFrame s) (n : MakesNone
   answers_shown (input.Draw ∷ more) e p = absurd cc
   answers_shown (input.Settle ∷ more) e p = absurd cc
 
-  front_shown : AreShown s [] ((opening ++ flat_map making (shown_keys (page_of s))) ++ activation)
+  front_shown : AreShown s [] ((opening ++ flat_map making (shown_keys (last_page s))) ++ activation)
   front_shown =
-      shown_append s (opening ++ flat_map making (shown_keys (page_of s))) activation []
-      (shown_append s opening (flat_map making (shown_keys (page_of s))) [] (refl, (refl, (refl, (refl, tt)))) (makings_shown (shown_keys (page_of s)) opened))
+      shown_append s (opening ++ flat_map making (shown_keys (last_page s))) activation []
+      (shown_append s opening (flat_map making (shown_keys (last_page s))) [] (refl, (refl, (refl, (refl, tt)))) (makings_shown (shown_keys (last_page s)) opened))
       (refl, (refl, (refl, tt)))
 
   pub all_shown : are_plain s.inputs ≡ true → AreShown s [] (events_of s)
   unfolding history events_of
   all_shown p =
-      let front : List Event = opening ++ flat_map making (shown_keys (page_of s)) in
-      let same : enter_all (front ++ activation) [] ≡ after_frame = enter_append front activation [] ∙ ap (λ (h : List Entry). enter_all activation h) (enter_append opening (flat_map making (shown_keys (page_of s))) []) in
+      let front : List Event = opening ++ flat_map making (shown_keys (last_page s)) in
+      let same : enter_all (front ++ activation) [] ≡ after_frame = enter_append front activation [] ∙ ap (λ (h : List Entry). enter_all activation h) (enter_append opening (flat_map making (shown_keys (last_page s))) []) in
       shown_append s (front ++ activation) (answers 0 s.inputs ++ event.End ∷ []) [] front_shown
       (subst (λ (h : List Entry). AreShown s h (answers 0 s.inputs ++ event.End ∷ [])) (sym same)
       (shown_append s (answers 0 s.inputs) (event.End ∷ []) after_frame (answers_shown s.inputs refl p) (refl, tt)))
@@ -283,10 +281,10 @@ reversed (e ∷ es) h =
     ap (λ (z : List Entry). z ++ h) (reverse-append (entered e ∷ []) (map entered es))
     ∙ (append_assoc (reverse (map entered es)) (entered e ∷ []) h ∙ reversed es (entered e ∷ h))
 
-pub past_is : (s : ScriptModel) → reverse (map entered (events_of s)) ≡ entry 0 event.End ∷ enter_all (answers 0 s.inputs) (framed_past (shown_keys (page_of s)))
+pub past_is : (s : ScriptModel) → reverse (map entered (events_of s)) ≡ entry 0 event.End ∷ enter_all (answers 0 s.inputs) (framed_past (shown_keys (last_page s)))
 unfolding history events_of
 past_is s =
-    let ks : List TileKey = shown_keys (page_of s) in
+    let ks : List TileKey = shown_keys (last_page s) in
     let front : List Event = opening ++ flat_map making ks in
     sym (append-nil (reverse (map entered (events_of s))))
     ∙ (reversed (events_of s) []
@@ -317,16 +315,16 @@ pub record Form (s : ScriptModel) : Type 0 where
 pub form : (s : ScriptModel) → is_played s ≡ true → Form s
 unfolding is_played
 form s t =
-    let all : Bool = (s.raster_per_frame == 0) || shows_all (page_of s) (value_of (page_of s)) in
+    let all : Bool = (s.raster_per_frame == 0) || shows_all (last_page s) (value_of (last_page s)) in
     let two = and_left (has_one_frame s.main && are_plain s.inputs) all t in
     let (c, cs, e) = one_frame s.main (and_left (has_one_frame s.main) (are_plain s.inputs) two) in
     record {
       frame = record { command = c; more = cs; main = e };
       plain = and_right (has_one_frame s.main) (are_plain s.inputs) two;
-      none = makes_none (or_either (s.raster_per_frame == 0) (shows_all (page_of s) (value_of (page_of s))) (and_right (has_one_frame s.main && are_plain s.inputs) all t));
+      none = makes_none (or_either (s.raster_per_frame == 0) (shows_all (last_page s) (value_of (last_page s))) (and_right (has_one_frame s.main && are_plain s.inputs) all t));
     }
   where
-    makes_none : ((s.raster_per_frame == 0) ≡ true) ⊎ (shows_all (page_of s) (value_of (page_of s)) ≡ true) → MakesNone s
+    makes_none : ((s.raster_per_frame == 0) ≡ true) ⊎ (shows_all (last_page s) (value_of (last_page s)) ≡ true) → MakesNone s
     makes_none (inl t) = inl (same_number s.raster_per_frame 0 t)
     makes_none (inr t) = inr t
 

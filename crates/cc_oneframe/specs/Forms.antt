@@ -33,8 +33,8 @@ has_one_frame ((c ∷ cs) ∷ []) = true
 has_one_frame _ = false
 
 -- the page after all main frames, where none is sent a scroll of the compositor side
-abbrev pub page_of : ScriptModel → Page
-page_of s = framed s.main (blank s)
+abbrev pub last_page : ScriptModel → Page
+last_page s = framed s.main (blank s)
 
 -- each tile of a layer is visible at these offsets of the scrollers
 abbrev pub shows_whole : Page → (ℕ → Point) → PageLayer → Bool
@@ -46,4 +46,4 @@ shows_all p offset = list_all (shows_whole p offset) p.layers
 
 -- one main frame and plain inputs; and no draw makes a tile, since draws make none at all or all were made before
 unfoldable pub is_played : ScriptModel → Bool
-is_played s = has_one_frame s.main && are_plain s.inputs && ((s.raster_per_frame == 0) || shows_all (page_of s) (value_of (page_of s)))
+is_played s = has_one_frame s.main && are_plain s.inputs && ((s.raster_per_frame == 0) || shows_all (last_page s) (value_of (last_page s)))

@@ -11,7 +11,7 @@ use Rattle.cc_visible.specs.Visible.{visible_keys}
 use Rattle.cc_event.specs.declared.history.Entry.{Entry}
 use Rattle.cc_event.specs.EventFields.{actor_of}
 use Rattle.cc_event.specs.Scripts.{ScriptModel}
-use Rattle.cc_oneframe.specs.Forms.{page_of}
+use Rattle.cc_oneframe.specs.Forms.{last_page}
 use Rattle.cc_event.specs.declared.input.Input.{Input}
 use Rattle.cc_event.specs.declared.input.Input.TheVariants as input
 use Rattle.cc_event.specs.declared.event.Event.{Event}
@@ -50,7 +50,7 @@ shown_keys p = visible_keys p (value_of p) (λ layer place. 0)
 
 -- the events of a script that is played
 unfoldable pub events_of : ScriptModel → List Event
-events_of s = history (shown_keys (page_of s)) s.inputs
+events_of s = history (shown_keys (last_page s)) s.inputs
 
 -- an event as its actor enters it
 abbrev pub entered : Event → Entry

@@ -8,7 +8,7 @@ use Rattle.cc_event.specs.Texts.{event_line}
 use Rattle.cc_event.specs.Scripts.{ScriptModel}
 use Rattle.cc_script.specs.Recordings.{script_text}
 use Rattle.cc_script.specs.Recordings as script
-use Rattle.cc_oneframe.specs.Forms.{page_of}
+use Rattle.cc_oneframe.specs.Forms.{last_page}
 use Rattle.cc_oneframe.specs.Histories.{events_of, entered, page_image, shown_behind, listed_piece}
 use Rattle.cc_oneframe.proofs.WholeRuns.{is_lockstep, are_listed}
 use Rattle.cc_play.specs.Pieces.{piece, pieces, recording, image_behind}
@@ -27,16 +27,16 @@ unfolding piece
 piece_alike image e = ap (λ (w : List ℕ). event_line e ++ w) (behind_alike image e)
 
 -- what is written of a script's text, the image of its page and its events is its recording
-written_is : (s : ScriptModel) → IsPlayedScript s → recording (script_text s) (λ _. page_image (page_of s) s.background) (events_of s) ≡ script.recording s (map entered (events_of s))
+written_is : (s : ScriptModel) → IsPlayedScript s → recording (script_text s) (λ _. page_image (last_page s) s.background) (events_of s) ≡ script.recording s (map entered (events_of s))
 unfolding recording recorded script.recording
 written_is s p =
-    let image : List ℕ = page_image (page_of s) s.background in
+    let image : List ℕ = page_image (last_page s) s.background in
     let added : pieces (λ _. image) [] (events_of s) ≡ model.pieces s [] (map entered (events_of s)) =
     pieces_alike image [] (events_of s) ∙ ((λ i. flat_map (λ e. piece_alike image e i) (events_of s)) ∙ sym (are_listed s p.accepted p.played)) in
     ap (λ (w : List ℕ). header (script_text s) ++ w) added
 
 prepared_is : (s : ScriptModel) (show : Show) (prepared : IsPrepared s show) (script image : List ℕ) (events : List Event) → script ≡ show.script.items → image ≡ show.image.items → events ≡ show.events.items
-    → recording script (λ _. image) events ≡ recording (script_text s) (λ _. page_image (page_of s) s.background) (events_of s)
+    → recording script (λ _. image) events ≡ recording (script_text s) (λ _. page_image (last_page s) s.background) (events_of s)
 unfolding events_of
 prepared_is s show prepared script image events line shown steps =
     (λ i. recording ((line ∙ prepared.line) i) (λ _. (shown ∙ prepared.picture) i) ((steps ∙ prepared.steps) i))

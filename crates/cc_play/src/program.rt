@@ -3,7 +3,7 @@
 ghost use Rattle.std.specs.Prelude.{◌≡◌, ℕ, ◌≤◌, true, false, [], Option, None, Some, IfSome, Ok, IfOk, OnErr, MatchOption, length, map, string_bytes};
 ghost use Rattle.cc_tree.specs.OffsetMap.{offset_at, AreOffsets};
 ghost use Rattle.cc_edit.specs.Effects.{value_of};
-ghost use Rattle.cc_oneframe.specs.Forms.{is_played, page_of};
+ghost use Rattle.cc_oneframe.specs.Forms.{is_played, last_page};
 ghost use Rattle.cc_play.specs.Words.{use_of as use_in};
 ghost use Rattle.cc_play.specs.Outcomes.{line_of, Told};
 ghost use Rattle.cc_play.specs.Runs.{script_limit, TellsMisfit, CauseOf, Reads, ReadToEnd, Writes, Causes, IsComplete};
@@ -67,7 +67,7 @@ fn main_values(alloc: Global, tree: &LayerTree) -> Result<Offsets, AllocError>
 /// The page of a script that is played; None where it is not.
 #[tactic(auto, unfolding(cc_oneframe::specs::Forms::is_played))]
 fn tree_of(alloc: Global, script: &Script) -> Result<Option<LayerTree>, AllocError>
-    ensures { IfOk result (λ page. MatchOption page (is_played script.now ≡ false) (λ tree. (is_played script.now ≡ true) × (tree ≡ page_of script.now))) }
+    ensures { IfOk result (λ page. MatchOption page (is_played script.now ≡ false) (λ tree. (is_played script.now ≡ true) × (tree ≡ last_page script.now))) }
 {
     if !is_plain_script(script) {
         return Ok(None);

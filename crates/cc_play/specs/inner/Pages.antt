@@ -11,7 +11,7 @@ use Rattle.cc_play.specs.declared.outcome.Outcome.TheVariants.{Done, Usage, Json
 use Rattle.cc_play.specs.declared.words.Use.TheVariants.{Step}
 use Rattle.cc_play.specs.declared.program.Played.{Played}
 use Rattle.cc_play.specs.declared.program.Show.{Show}
-use Rattle.cc_oneframe.specs.Forms.{is_played, page_of}
+use Rattle.cc_oneframe.specs.Forms.{is_played, last_page}
 use Rattle.cc_oneframe.specs.Histories.{history, shown_keys, page_image}
 use Rattle.cc_script.specs.Recordings.{script_text}
 use Rattle.cc_play.specs.Pictures.{IsRecordingOf}
@@ -20,7 +20,7 @@ use Rattle.cc_play.specs.Runs.{script_limit, IsPlayedScript, CauseOf, ReadToEnd}
 -- a script that is played, and its page
 pub record IsReady (p : Played) : Type 0 where
   pub script : IsPlayedScript p.script
-  pub tree : p.tree ≡ page_of p.script
+  pub tree : p.tree ≡ last_page p.script
 
 -- why a script is not played
 abbrev pub PageOf : ScriptModel → Result Played Outcome → Type 0
@@ -63,8 +63,8 @@ RefusedBy old new (Err _) = ⊤
 -- what is written is the recording of the script
 pub record IsPrepared (s : ScriptModel) (show : Show) : Type 0 where
   pub line : show.script.items ≡ script_text s
-  pub picture : show.image.items ≡ page_image (page_of s) s.background
-  pub steps : show.events.items ≡ history (shown_keys (page_of s)) s.inputs
+  pub picture : show.image.items ≡ page_image (last_page s) s.background
+  pub steps : show.events.items ≡ history (shown_keys (last_page s)) s.inputs
 
 -- the recording of a script was written; or a front of it; or nothing
 abbrev pub Plays : ScriptModel → Option (List ℕ) → Option (List ℕ) → Outcome → Type 0
