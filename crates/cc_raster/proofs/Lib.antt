@@ -1,2 +1,4 @@
 pub mod RowBytes
 pub mod KeptRows
+pub mod Places
+pub mod Draws

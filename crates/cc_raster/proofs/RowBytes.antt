@@ -1,20 +1,7 @@
--- The rows of a picture's bytes, and pictures of one colour.
-use Rattle.std.proofs.Common.{◌≡◌, ℕ, ◌<◌, ◌≤◌, ◌+◌, ◌*◌, ◌-◌, min, List, length, take, drop, get_or, ◌∙◌, ap, arith}
-use Rattle.std.proofs.Math.Nat.{mul-le-mul_left}
-use Rattle.std.proofs.lemmas.List.{length-take, length-drop, get_or-take, get_or-drop}
-use Rattle.cc_geom.specs.declared.Rect.{Rect}
+-- The bytes and pixels of a part of a picture's bytes.
+use Rattle.std.proofs.Common.{◌≡◌, ℕ, ◌<◌, ◌≤◌, ◌+◌, ◌*◌, min, List, length, take, drop, get_or, ◌∙◌, ap, arith}
+use Rattle.std.proofs.lemmas.List.{length-take, get_or-take, get_or-drop}
 use Rattle.cc_pixel.specs.Rows.{pixel, alpha_place, ArePremultiplied}
-use Rattle.cc_display.specs.declared.Item.{Item}
-use Rattle.cc_display.specs.Bitmaps.{near}
-use Rattle.cc_display.specs.Content.{IsRaster}
-use Rattle.cc_raster.specs.Images.{IsRow, row_bytes}
-
--- a row ends within the rows
-pub row_end : (w h y : ℕ) → y < h → w * y + w ≤ w * h
-row_end w h y lt = let k : w * (y + 1) ≤ w * h = mul-le-mul_left w (omega arith) in grind arith
-
-pub row_range : (w y : ℕ) (bytes : List ℕ) → take ((4 * (w * y) + 4 * w) - 4 * (w * y)) (drop (4 * (w * y)) bytes) ≡ row_bytes w y bytes
-row_range w y bytes = let e : (4 * (w * y) + 4 * w) - 4 * (w * y) ≡ 4 * w = omega arith in ap (λ n. take n (drop (4 * (w * y)) bytes)) e
 
 -- bytes and pixels of a part
 pub part_byte : (bytes : List ℕ) (s n k : ℕ) → k < n → get_or (take n (drop s bytes)) k 0 ≡ get_or bytes (s + k) 0
@@ -40,20 +27,3 @@ part_premultiplied bytes m n le p i lt =
     part_at bytes (4 * m) (4 * n) (alpha_place i) (alpha_place (4 * m + i)) (omega arith) (omega arith) in
     let q : get_or bytes (4 * m + i) 0 ≤ get_or bytes (alpha_place (4 * m + i)) 0 = p (4 * m + i) (omega arith) in
     omega arith
-
--- a row of a raster's bytes is that row of what the list shows
-pub row_is : (list : List Item) (r : Rect) (y : ℕ) (bytes : List ℕ) → IsRaster list r bytes → y < near r.h → IsRow list r y (row_bytes (near r.w) y bytes)
-row_is list r y bytes a lt =
-    let w : ℕ = near r.w in
-    let end : near r.w * y + near r.w ≤ near r.w * near r.h = row_end (near r.w) (near r.h) y lt in
-    let size : length bytes ≡ 4 * (near r.w * near r.h) = a.size in
-    let lt_take : length (take (4 * near r.w) (drop (4 * (near r.w * y)) bytes)) ≡ min (4 * near r.w) (length (drop (4 * (near r.w * y)) bytes)) = length-take (4 * near r.w) (drop (4 * (near r.w * y)) bytes) in
-    let lt_drop : length (drop (4 * (near r.w * y)) bytes) ≡ length bytes - 4 * (near r.w * y) = length-drop (4 * (near r.w * y)) bytes in
-    record {
-      size = omega arith;
-      pixels = λ x l. pixel_part bytes (near r.w * y) (near r.w) x l ∙ (ap (pixel bytes) (turned (near r.w) y x) ∙ a.pixels x y l lt);
-      premultiplied = part_premultiplied bytes (near r.w * y) (near r.w) (omega arith) a.premultiplied;
-    }
-  where
-    turned : (w y x : ℕ) → w * y + x ≡ y * w + x
-    turned w y x = grind arith

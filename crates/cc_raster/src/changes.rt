@@ -4,15 +4,14 @@ ghost use Rattle.std.specs.Prelude.{◌≡◌, ℕ, ◌+◌, ◌<◌, ◌≤◌,
 ghost use Rattle.cc_geom.specs.Covers.{IsSound};
 ghost use Rattle.cc_display.specs.Bitmaps.{near};
 ghost use Rattle.cc_display.specs.Content.{IsSoundItem};
-ghost use Rattle.cc_raster.specs.Images.{AreSameRows};
-ghost use Rattle.cc_raster.specs.inner.Bands.{IsSteady};
+ghost use Rattle.cc_raster.specs.inner.Bands.{IsLevel, AreLevel};
 
 use crate::pixels::height_of;
 use cc_display::{DisplayList, Item, shared_part};
 use cc_geom::Rect;
 use std::alloc::{AllocError, Global};
 
-/// For each row of a rect whether what the list shows there may differ from the row above.
+/// For each row of a rect whether an item of the list begins there, ends there, or has pixels of its own.
 pub(crate) fn changing_rows(
     alloc: Global,
     list: &DisplayList,
@@ -20,7 +19,7 @@ pub(crate) fn changing_rows(
 ) -> Result<Vec<bool>, AllocError>
     requires { IsSound rect }
     ensures count { IfOk result (λ rows. length rows.items ≡ near rect.h) }
-    ensures same { IfOk result (λ rows. (y : ℕ) → y + 1 < near rect.h → slice_index_or rows.items (y + 1) true ≡ false → AreSameRows list.now rect y (y + 1)) }
+    ensures level { IfOk result (λ rows. (y : ℕ) → y + 1 < near rect.h → slice_index_or rows.items (y + 1) true ≡ false → AreLevel list.now rect y) }
 {
     let mut rows = vec![in alloc; false; height_of(rect)]?;
     mark_items(rows.as_mut_slice(), list, rect);
@@ -31,7 +30,7 @@ pub(crate) fn changing_rows(
 fn mark_items(rows: &mut [bool], list: &DisplayList, rect: Rect)
     requires rect { IsSound rect }
     requires count { length rows.old ≡ near rect.h }
-    ensures { (y : ℕ) → y + 1 < near rect.h → slice_index_or rows.new (y + 1) true ≡ false → AreSameRows list.now rect y (y + 1) }
+    ensures { (y : ℕ) → y + 1 < near rect.h → slice_index_or rows.new (y + 1) true ≡ false → AreLevel list.now rect y }
 {
     for item in list.items() {
         mark_item(rows, item, rect);
@@ -43,7 +42,7 @@ fn mark_item(rows: &mut [bool], item: &Item, rect: Rect)
     requires item { IsSoundItem item.now }
     requires rect { IsSound rect }
     ensures kept { (y : ℕ) → slice_index_or rows.new y true ≡ false → slice_index_or rows.old y true ≡ false }
-    ensures steady { (y : ℕ) → y + 1 < near rect.h → slice_index_or rows.new (y + 1) true ≡ false → IsSteady item.now rect y }
+    ensures level { (y : ℕ) → y + 1 < near rect.h → slice_index_or rows.new (y + 1) true ≡ false → IsLevel item.now rect y }
 {
     let Some(part) = shared_part(item.rect(), rect) else {
         return;

@@ -1,92 +1,162 @@
-//! Drawing the rows that a picture keeps, as many at a time as follow one another in both.
+//! Drawing items into the rows that a picture keeps: each item once, with all of its rows.
 
-ghost use Rattle.std.specs.Prelude.{◌≡◌, ◌≢◌, ℕ, ◌+◌, ◌*◌, ◌<◌, ◌≤◌, pos, ◌+ℤ◌, ◌≤ℤ◌, ◌^◌, length, slice_index};
+ghost use Rattle.std.specs.Prelude.{◌≡◌, ◌≢◌, ℕ, ◌+◌, ◌-◌, ◌*◌, ◌<◌, ◌≤◌, pos, ◌+ℤ◌, true, length, slice_index, slice_index_or};
 ghost use Rattle.cc_geom.specs.Covers.{IsSound};
-ghost use Rattle.cc_display.specs.Bitmaps.{near};
-ghost use Rattle.cc_raster.specs.Images.{IsRow, row_bytes};
-ghost use Rattle.cc_raster.specs.inner.Bands.{AreSteps, AreKept};
+ghost use Rattle.cc_pixel.specs.Colours.{blend, clear};
+ghost use Rattle.cc_pixel.specs.Rows.{pixel, ArePremultiplied};
+ghost use Rattle.cc_pixel.specs.Surfaces.{IsInside, EachPixel, within};
+ghost use Rattle.cc_display.specs.Bitmaps.{near, has_sides};
+ghost use Rattle.cc_display.specs.Content.{painted, IsSoundItem};
+ghost use Rattle.cc_raster.specs.inner.Bands.{IsLevel, AreLevel, AreSteps, AreKept, IsCount, place_of, kept_area};
 
 use crate::pixels::width_of;
-use cc_display::DisplayList;
+use cc_display::{Bitmap, DisplayList, Item, Part, shared_part};
 use cc_geom::Rect;
+use cc_pixel::{Area, Colour, colour_over_area, fill_area, image_over_area};
 
-/// Draws the rows that are kept of what the list shows on the rect.
-pub(crate) fn draw_rows(
+/// Draws what the list shows on the rect into the rows that are kept, which are transparent before.
+pub(crate) fn draw_items(
     list: &DisplayList,
     rect: Rect,
     places: &[u32],
+    kept: usize,
     bytes: &mut [u8],
     scratch: &mut [u8],
 )
     requires rect { IsSound rect }
-    requires close { (rect.y +ℤ rect.h) ≤ℤ pos (2 ^ 29) }
-    requires steps { AreSteps list.now rect places.now }
-    requires size { (y : ℕ) → y < near rect.h → 4 * (near rect.w * (slice_index places.now y + 1)) ≤ length bytes.old }
+    requires steps { AreSteps (AreLevel list.now rect) (near rect.h) places.now }
+    requires kept { IsCount places.now kept }
+    requires size { length bytes.old ≡ 4 * (near rect.w * kept) }
     requires room { 4 * near rect.w ≤ length scratch.old }
+    requires blank { (k : ℕ) → k < near rect.w * kept → pixel bytes.old k ≡ clear }
+    requires premultiplied { ArePremultiplied bytes.old }
     ensures { AreKept list.now rect places.now bytes.new }
 {
-    let mut y = 0;
-    while y < places.len() {
-        let rows = next_places_at(places, y);
-        draw_run(list, rect, y, rows, places[y] as usize, bytes, scratch);
-        let last = y + rows - 1;
-        y = last + equal_places_at(places, last);
+    for item in list.items() {
+        draw_item(item, rect, places, kept, bytes, scratch);
     }
 }
 
-// draws so many rows from row y on, whose bytes begin at a place
-fn draw_run(
-    list: &DisplayList,
+// draws an item into the rows that are kept
+fn draw_item(
+    item: &Item,
     rect: Rect,
-    y: usize,
-    rows: usize,
-    place: usize,
+    places: &[u32],
+    kept: usize,
     bytes: &mut [u8],
     scratch: &mut [u8],
 )
+    requires item { IsSoundItem item.now }
     requires rect { IsSound rect }
-    requires close { (rect.y +ℤ rect.h) ≤ℤ pos (2 ^ 29) }
-    requires inside { y + rows ≤ near rect.h }
-    requires few { place ≤ y }
-    requires size { 4 * (near rect.w * (place + rows)) ≤ length bytes.old }
+    requires steps { AreSteps (IsLevel item.now rect) (near rect.h) places.now }
+    requires kept { IsCount places.now kept }
+    requires size { length bytes.old ≡ 4 * (near rect.w * kept) }
     requires room { 4 * near rect.w ≤ length scratch.old }
-    ensures drawn { (k : ℕ) → k < rows → IsRow list.now rect (y + k) (row_bytes (near rect.w) (place + k) bytes.new) }
-    ensures before { (p : ℕ) → p < place → row_bytes (near rect.w) p bytes.new ≡ row_bytes (near rect.w) p bytes.old }
+    ensures pixels { (x y : ℕ) → x < near rect.w → y < near rect.h
+        → pixel bytes.new (slice_index places.now y * near rect.w + x)
+        ≡ painted (rect.x +ℤ pos x) (rect.y +ℤ pos y) (pixel bytes.old (slice_index places.now y * near rect.w + x)) item.now }
+    ensures premultiplied { ArePremultiplied bytes.old → ArePremultiplied bytes.new }
 {
+    let Some(part) = shared_part(item.rect(), rect) else {
+        return;
+    };
     let width = width_of(rect);
-    let area = rows_of(rect, y, rows);
-    let run = &mut bytes[4 * (width * place)..4 * (width * (place + rows))];
-    list.raster_into(area, run, scratch);
-}
-
-// so many rows of a rect, from row y on
-fn rows_of(rect: Rect, y: usize, rows: usize) -> Rect
-    requires rect { IsSound rect }
-    requires close { (rect.y +ℤ rect.h) ≤ℤ pos (2 ^ 29) }
-    requires inside { y + rows ≤ near rect.h }
-    ensures { result ≡ record { x = rect.x; y = rect.y +ℤ pos y; w = rect.w; h = pos rows } }
-{
-    Rect {
-        x: rect.x,
-        y: rect.y + y as i32,
-        w: rect.w,
-        h: rows as i32,
+    let at = kept_part(part.at, places, kept);
+    match item {
+        Item::Rect { colour, .. } => draw_colour(bytes, width, kept, at, *colour, scratch),
+        Item::Bitmap(bitmap) => draw_bitmap(bytes, width, kept, at, bitmap, part),
     }
 }
 
-// how many rows from row y on have places that follow one another
-fn next_places_at(places: &[u32], y: usize) -> usize
-    requires { y < length places.now }
-    ensures some { 1 ≤ result }
-    ensures inside { y + result ≤ length places.now }
-    ensures next { (k : ℕ) → k < result → slice_index places.now (y + k) ≡ slice_index places.now y + k }
+// lays one colour over an area of rows
+fn draw_colour(
+    bytes: &mut [u8],
+    width: usize,
+    kept: usize,
+    at: Area,
+    colour: Colour,
+    scratch: &mut [u8],
+)
+    requires size { length bytes.old ≡ 4 * (width * kept) }
+    requires inside { IsInside at width kept }
+    requires room { 4 * width ≤ length scratch.old }
+    ensures pixels { EachPixel width kept (within at at.h (λ x y below. blend below colour)) bytes.old bytes.new }
+    ensures premultiplied { ArePremultiplied bytes.old → ArePremultiplied bytes.new }
 {
-    let first = places[y] as usize;
-    let mut rows = 1;
-    while y + rows < places.len() && places[y + rows] as usize == first + rows {
-        rows += 1;
+    if colour.a() == 255 {
+        fill_area(bytes, width, kept, at, colour);
+    } else {
+        colour_over_area(bytes, width, kept, at, colour, scratch);
     }
-    rows
+}
+
+// lays the part of a bitmap that the picture shows over an area of rows
+fn draw_bitmap(bytes: &mut [u8], width: usize, kept: usize, at: Area, bitmap: &Bitmap, part: Part)
+    requires size { length bytes.old ≡ 4 * (width * kept) }
+    requires inside { IsInside at width kept }
+    requires columns { part.left + at.w ≤ near bitmap.now.rect.w }
+    requires rows { part.above + at.h ≤ near bitmap.now.rect.h }
+    ensures pixels { EachPixel width kept
+        (within at at.h (λ x y below. blend below
+        (pixel bitmap.now.pixels ((y - at.y + part.above) * near bitmap.now.rect.w + (x - at.x + part.left)))))
+        bytes.old bytes.new }
+    ensures premultiplied { ArePremultiplied bytes.old → ArePremultiplied bytes.new }
+{
+    image_over_area(
+        bytes,
+        width,
+        kept,
+        at,
+        bitmap.pixels(),
+        columns_of(bitmap),
+        rows_of(bitmap),
+        part.left,
+        part.above,
+    );
+}
+
+// how many columns a bitmap has
+#[tactic(auto, unfolding(cc_display::specs::Bitmaps::has_sides))]
+fn columns_of(bitmap: &Bitmap) -> usize
+    ensures { result ≡ near bitmap.now.rect.w }
+{
+    let side = bitmap.rect().w;
+    side as usize
+}
+
+// how many rows a bitmap has
+#[tactic(auto, unfolding(cc_display::specs::Bitmaps::has_sides))]
+fn rows_of(bitmap: &Bitmap) -> usize
+    ensures { result ≡ near bitmap.now.rect.h }
+{
+    let side = bitmap.rect().h;
+    side as usize
+}
+
+// an area of the picture as an area of the rows that are kept
+fn kept_part(at: Area, places: &[u32], kept: usize) -> Area
+    requires inside { at.y + at.h ≤ length places.now }
+    requires rises { place_of places.now kept at.y ≤ place_of places.now kept (at.y + at.h) }
+    ensures { result ≡ kept_area at places.now kept }
+{
+    let top = place_at(places, kept, at.y);
+    let end = place_at(places, kept, at.y + at.h);
+    Area {
+        x: at.x,
+        y: top,
+        w: at.w,
+        h: end - top,
+    }
+}
+
+// the place of a row; behind the last row, how many are kept
+fn place_at(places: &[u32], kept: usize, y: usize) -> usize
+    ensures { result ≡ place_of places.now kept y }
+{
+    match places.get(y) {
+        Some(place) => *place as usize,
+        None => kept,
+    }
 }
 
 /// How many rows from row y on have the place of row y.
@@ -95,7 +165,6 @@ pub(crate) fn equal_places_at(places: &[u32], y: usize) -> usize
     ensures some { 1 ≤ result }
     ensures inside { y + result ≤ length places.now }
     ensures equal { (k : ℕ) → k < result → slice_index places.now (y + k) ≡ slice_index places.now y }
-    ensures other { y + result < length places.now → slice_index places.now (y + result) ≢ slice_index places.now y }
 {
     let first = places[y];
     let mut rows = 1;

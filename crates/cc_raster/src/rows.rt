@@ -1,15 +1,15 @@
 //! The rows that a picture keeps: of equal rows that follow one another only the first.
 
-ghost use Rattle.std.specs.Prelude.{◌≡◌, ◌≢◌, ℕ, ◌+◌, ◌*◌, ◌<◌, ◌≤◌, pos, ◌+ℤ◌, ◌≤ℤ◌, ◌^◌, length, true, false, cond, int_lt, slice_index, slice_index_or, IfOk};
-ghost use Rattle.cc_geom.specs.Covers.{IsSound, IsSpan};
+ghost use Rattle.std.specs.Prelude.{◌≡◌, ℕ, ◌+◌, ◌*◌, ◌<◌, ◌≤◌, ◌^◌, length, true, false, cond, slice_index, slice_index_or, IfOk};
+ghost use Rattle.cc_geom.specs.Covers.{IsSound};
+ghost use Rattle.cc_pixel.specs.Colours.{clear};
+ghost use Rattle.cc_pixel.specs.Rows.{pixel, ArePremultiplied};
 ghost use Rattle.cc_display.specs.Bitmaps.{near};
-ghost use Rattle.cc_raster.specs.Images.{IsRow, row_bytes};
-ghost use Rattle.cc_raster.specs.Images.{AreSameRows};
-ghost use Rattle.cc_raster.specs.inner.Bands.{AreSteps, AreKept};
+ghost use Rattle.cc_raster.specs.inner.Bands.{AreLevel, AreSteps, AreKept, IsCount};
 
 use crate::changes::changing_rows;
-use crate::draw::draw_rows;
-use crate::pixels::{height_of, width_of};
+use crate::draw::draw_items;
+use crate::pixels::width_of;
 use cc_display::DisplayList;
 use cc_geom::Rect;
 use std::alloc::{AllocError, Global};
@@ -28,59 +28,16 @@ pub(crate) fn kept_rows(alloc: Global, list: &DisplayList, rect: Rect) -> Result
     requires { IsSound rect }
     ensures { IfOk result (λ rows. AreKept list.now rect rows.places.items rows.bytes.items) }
 {
-    if is_far(rect.y, rect.h) {
-        return all_rows(alloc, list, rect);
-    }
     let changes = changing_rows(alloc, list, rect)?;
-    let places = places_of(alloc, &changes, list, rect)?;
+    let places = places_of(alloc, &changes)?;
     let bytes = drawn_rows(alloc, list, rect, &places)?;
     Ok(Rows { places, bytes })
 }
 
-// whether rows of a span lie farther from the origin than a sound rect may begin
-fn is_far(at: i32, len: i32) -> bool
-    requires { IsSpan at len }
-    ensures { result ≡ int_lt (pos (2 ^ 29)) (at +ℤ len) }
-{
-    let end = at + len;
-    end > 1 << 29
-}
-
-// all rows, each at its own place
-#[tactic(auto, using(crate::proofs::KeptRows::all_kept))]
-fn all_rows(alloc: Global, list: &DisplayList, rect: Rect) -> Result<Rows, AllocError>
-    requires { IsSound rect }
-    ensures { IfOk result (λ rows. AreKept list.now rect rows.places.items rows.bytes.items) }
-{
-    let bytes = list.raster(rect)?;
-    let places = first_places(alloc, height_of(rect))?;
-    Ok(Rows { places, bytes })
-}
-
-// so many places from 0 on
-fn first_places(alloc: Global, count: usize) -> Result<Vec<u32>, AllocError>
-    requires { count ≤ 2 ^ 29 }
-    ensures count { IfOk result (λ places. length places.items ≡ count) }
-    ensures places { IfOk result (λ places. (k : ℕ) → k < count → slice_index places.items k ≡ k) }
-{
-    let mut places = Vec::with_capacity(alloc, count)?;
-    for place in 0..count {
-        places.push(place as u32)?;
-    }
-    Ok(places)
-}
-
-// the place of each row: that of the row above where it does not change, else the next
-fn places_of(
-    alloc: Global,
-    changes: &[bool],
-    list: &DisplayList,
-    rect: Rect,
-) -> Result<Vec<u32>, AllocError>
-    requires rect { IsSound rect }
-    requires count { length changes.now ≡ near rect.h }
-    requires same { (y : ℕ) → y + 1 < near rect.h → slice_index_or changes.now (y + 1) true ≡ false → AreSameRows list.now rect y (y + 1) }
-    ensures { IfOk result (λ places. AreSteps list.now rect places.items) }
+// the place of each row: that of the row above where the row is not marked, else the next
+fn places_of(alloc: Global, changes: &[bool]) -> Result<Vec<u32>, AllocError>
+    requires { length changes.now ≤ 2 ^ 29 }
+    ensures { IfOk result (λ places. AreSteps (λ y. slice_index_or changes.now (y + 1) true ≡ false) (length changes.now) places.items) }
 {
     let mut places = Vec::with_capacity(alloc, changes.len())?;
     while places.len() < changes.len() {
@@ -114,17 +71,18 @@ fn drawn_rows(
     places: &[u32],
 ) -> Result<Vec<u8>, AllocError>
     requires rect { IsSound rect }
-    requires close { (rect.y +ℤ rect.h) ≤ℤ pos (2 ^ 29) }
-    requires steps { AreSteps list.now rect places.now }
+    requires steps { AreSteps (AreLevel list.now rect) (near rect.h) places.now }
     ensures { IfOk result (λ bytes. AreKept list.now rect places.now bytes.items) }
 {
     let width = width_of(rect);
-    let mut bytes = vec![in alloc; 0u8; byte_count(width, kept_count(places))]?;
-    let mut scratch = vec![in alloc; 0u8; 4 * width]?;
-    draw_rows(
+    let kept = kept_count(places);
+    let mut bytes = clear_rows(alloc, width, kept)?;
+    let mut scratch = clear_rows(alloc, width, 1)?;
+    draw_items(
         list,
         rect,
         places,
+        kept,
         bytes.as_mut_slice(),
         scratch.as_mut_slice(),
     );
@@ -134,7 +92,7 @@ fn drawn_rows(
 // how many rows are kept
 fn kept_count(places: &[u32]) -> usize
     requires { (k : ℕ) → k < length places.now → slice_index places.now k ≤ k }
-    ensures last { (k : ℕ) → k + 1 ≡ length places.now → result ≡ slice_index places.now k + 1 }
+    ensures last { IsCount places.now result }
     ensures few { result ≤ length places.now }
 {
     match places.last() {
@@ -143,11 +101,13 @@ fn kept_count(places: &[u32]) -> usize
     }
 }
 
-// how many bytes so many rows take
-fn byte_count(width: usize, rows: usize) -> usize
+// so many rows of transparent pixels
+fn clear_rows(alloc: Global, width: usize, rows: usize) -> Result<Vec<u8>, AllocError>
     requires width { width ≤ 2 ^ 29 }
     requires rows { rows ≤ 2 ^ 29 }
-    ensures { result ≡ 4 * (width * rows) }
+    ensures size { IfOk result (λ bytes. length bytes.items ≡ 4 * (width * rows)) }
+    ensures pixels { IfOk result (λ bytes. (k : ℕ) → k < width * rows → pixel bytes.items k ≡ clear) }
+    ensures premultiplied { IfOk result (λ bytes. ArePremultiplied bytes.items) }
 {
-    4 * (width * rows)
+    vec![in alloc; 0u8; 4 * (width * rows)]
 }

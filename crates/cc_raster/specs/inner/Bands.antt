@@ -1,28 +1,48 @@
 -- Rows of a picture that are equal, and the rows that it keeps.
-use Rattle.std.specs.Prelude.{◌≡◌, ◌<◌, ◌≤◌, ◌⊎◌, ℕ, ◌+◌, pos, ◌+ℤ◌, Option, Some, None, List, length, slice_index}
+use Rattle.std.specs.Prelude.{◌≡◌, ◌<◌, ◌≤◌, ◌⊎◌, ℕ, ◌+◌, ◌-◌, pos, ◌+ℤ◌, false, Option, Some, None, List, length, slice_index, slice_index_or, All}
 use Rattle.cc_geom.specs.declared.Rect.{Rect}
+use Rattle.cc_geom.specs.Covers.{covers}
 use Rattle.cc_pixel.specs.Colours.{Parts}
+use Rattle.cc_pixel.specs.declared.Area.{Area}
 use Rattle.cc_display.specs.declared.Item.{Item}
+use Rattle.cc_display.specs.declared.item.Item.TheVariants as kind
 use Rattle.cc_display.specs.Bitmaps.{near}
-use Rattle.cc_display.specs.Content.{painted}
-use Rattle.cc_raster.specs.Images.{IsRow, AreSameRows, IsOneColour, HasTwoColours, row_bytes}
+use Rattle.cc_raster.specs.Images.{IsRow, IsOneColour, HasTwoColours, row_bytes}
 
--- an item paints row y of the rect and the row below it alike
-abbrev pub IsSteady : Item → Rect → ℕ → Type 0
-IsSteady item r y = (x : ℕ) (below : Parts) → x < near r.w
-    → painted (r.x +ℤ pos x) (r.y +ℤ pos y) below item ≡ painted (r.x +ℤ pos x) (r.y +ℤ pos (y + 1)) below item
+-- an item covers the same columns in row y of the rect and in the row below it, and a bitmap covers none in both
+abbrev pub IsLevel : Item → Rect → ℕ → Type 0
+IsLevel (kind.Rect rect colour) r y = (x : ℕ) → x < near r.w
+    → covers rect (r.x +ℤ pos x) (r.y +ℤ pos y) ≡ covers rect (r.x +ℤ pos x) (r.y +ℤ pos (y + 1))
+IsLevel (kind.Bitmap picture) r y = (x : ℕ) → x < near r.w
+    → (covers picture.rect (r.x +ℤ pos x) (r.y +ℤ pos y) ≡ false) × (covers picture.rect (r.x +ℤ pos x) (r.y +ℤ pos (y + 1)) ≡ false)
 
--- a row has the place of the row above and is equal to it, or it has the next place
-abbrev pub IsStep : List Item → Rect → List ℕ → ℕ → Type 0
-IsStep list r places y =
-    ((slice_index places (y + 1) ≡ slice_index places y) × AreSameRows list r y (y + 1)) ⊎ (slice_index places (y + 1) ≡ slice_index places y + 1)
+-- each item does so
+abbrev pub AreLevel : List Item → Rect → ℕ → Type 0
+AreLevel list r y = All (λ item. IsLevel item r y) list
 
--- the places of the rows of the rect among the rows that are kept, from 0 on in order, where only equal rows share one
-pub record AreSteps (list : List Item) (r : Rect) (places : List ℕ) : Type 0 where
-  pub count : length places ≡ near r.h
-  pub first : 0 < near r.h → slice_index places 0 ≡ 0
-  pub small : (y : ℕ) → y < near r.h → slice_index places y ≤ y
-  pub steps : (y : ℕ) → y + 1 < near r.h → IsStep list r places y
+-- a row has the place of the row above, where `level` holds of the two, or it has the next place
+abbrev pub IsStep : (ℕ → Type 0) → List ℕ → ℕ → Type 0
+IsStep level places y =
+    ((slice_index places (y + 1) ≡ slice_index places y) × level y) ⊎ (slice_index places (y + 1) ≡ slice_index places y + 1)
+
+-- the places of so many rows among the rows that are kept, in order
+pub record AreSteps (level : ℕ → Type 0) (rows : ℕ) (places : List ℕ) : Type 0 where
+  pub count : length places ≡ rows
+  pub small : (y : ℕ) → y < rows → slice_index places y ≤ y
+  pub steps : (y : ℕ) → y + 1 < rows → IsStep level places y
+
+-- how many rows are kept: the last place and one more
+abbrev pub IsCount : List ℕ → ℕ → Type 0
+IsCount places kept = (k : ℕ) → k + 1 ≡ length places → kept ≡ slice_index places k + 1
+
+-- the place of a row; behind the last row, how many are kept
+abbrev pub place_of : List ℕ → ℕ → ℕ → ℕ
+place_of places kept y = slice_index_or places y kept
+
+-- an area of the picture as an area of the rows that are kept
+abbrev pub kept_area : Area → List ℕ → ℕ → Area
+kept_area at places kept =
+    record { x = at.x; y = place_of places kept at.y; w = at.w; h = place_of places kept (at.y + at.h) - place_of places kept at.y }
 
 -- the row of bytes that is kept at the place of each row of the rect is that row
 pub record AreKept (list : List Item) (r : Rect) (places bytes : List ℕ) : Type 0 where

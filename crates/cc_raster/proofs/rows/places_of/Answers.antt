@@ -1,8 +1,8 @@
 -- One more row has its place.
-use Rattle.std.proofs.Common.{ℕ, ◌≡◌, ◌≤◌, ◌+◌, true, List, [], ◌∷◌, ◌++◌, length, slice_index, subst, sym, ap, ◌∙◌, arith}
+use Rattle.std.proofs.Common.{ℕ, ◌≡◌, ◌≤◌, ◌+◌, true, false, List, [], ◌∷◌, ◌++◌, length, slice_index, subst, sym, ap, ◌∙◌, arith}
 use Rattle.std.specs.Prelude.{slice_index_or}
 use Rattle.cc_raster.specs.inner.Bands.{IsStep}
-use Rattle.cc_raster.proofs.KeptRows.{one_if, steps_more, small_more, first_more, count_more}
+use Rattle.cc_raster.proofs.Places.{one_if, steps_more, small_more, count_more}
 use Rattle.cc_raster.proofs.rows.places_of.Goals as goal
 
 pub loop-places-preserved : goal.loop-places-preserved
@@ -18,12 +18,10 @@ loop-places-preserved c =
     c.deref.ensures.value c.next_place-place.ensures.next in
     record {
       count = omega (arith, longer, c.loop-places-test.true);
-      first = λ _. ap (λ (ps : List ℕ). slice_index ps 0) new ∙ first_more old p before.first first;
       small = λ k lt.
           subst (λ (ps : List ℕ). slice_index ps k ≤ k) (sym new)
           (small_more old p (λ i. slice_index_or c.args.changes.now i true) before.small first next k (omega (arith, longer)));
       steps = λ k lt.
-          subst (λ (ps : List ℕ). IsStep c.args.list.now c.args.rect ps k) (sym new)
-          (steps_more c.args.list.now c.args.rect old p (λ i. slice_index_or c.args.changes.now i true) before.steps next
-          (λ i e same. c.requires.same i (omega (arith, e, c.loop-places-test.true, c.requires.count)) same) k (omega (arith, longer)));
+          subst (λ (ps : List ℕ). IsStep (λ y. slice_index_or c.args.changes.now (y + 1) true ≡ false) ps k) (sym new)
+          (steps_more old p (λ i. slice_index_or c.args.changes.now i true) before.steps next k (omega (arith, longer)));
     }
