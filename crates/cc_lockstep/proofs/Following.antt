@@ -17,7 +17,7 @@ not_none k a r c n = let (e, d, i) = c.way in let j : can r.script r.past k a �
 
 -- a way that leads on and only adds entries begins where one stands
 pub begun : (P : Way) (r : Run) → ((s : ScriptModel) → Grows (P s)) → CanFollow P r → IsOnWay P r r
-begun P r grows c = let g = grows r.script r.past c.end c.way in record { same = refl; end = c.end; way = c.way; newer = g.0; beginning = g.1 }
+begun P r grows c = let g = grows r.script r.past c.end c.way in record { same = refl; written = refl; end = c.end; way = c.way; newer = g.0; beginning = g.1 }
 
 -- ---- one way and then another
 
@@ -36,7 +36,7 @@ rest P Q r m good c f =
     record { end = c.end; way = subst (λ (s : ScriptModel). Q s m.past c.end) (sym f.same) there }
 
 pub joined : (P Q : Way) (r m n : Run) → Follows P r m → Follows Q m n → Follows (then' P Q) r n
-joined P Q r m n f h = record { same = h.same ∙ f.same; way = (m.past, f.way, subst (λ (s : ScriptModel). Q s m.past n.past) f.same h.way) }
+joined P Q r m n f h = record { same = h.same ∙ f.same; written = h.written ∙ f.written; way = (m.past, f.way, subst (λ (s : ScriptModel). Q s m.past n.past) f.same h.way) }
 
 -- the way is left in its first part
 pub left_in_first : (P Q : Way) (r m : Run) → ((s : ScriptModel) → Good s (P s)) → ((s : ScriptModel) → Grows (Q s)) → CanFollow (then' P Q) r → IsOnWay P r m → IsOnWay (then' P Q) r m
@@ -44,12 +44,13 @@ left_in_first P Q r m good grows c w =
     let (n, p, q) = c.way in
     let one : n ≡ w.end = (good r.script).one r.past n w.end p w.way in
     let more = grows r.script n c.end q in
-    record { same = w.same; end = c.end; way = c.way; newer = more.0 ++ w.newer; beginning = more.1 ∙ ap (λ (z : List Entry). more.0 ++ z) (one ∙ w.beginning) ∙ sym (append_assoc more.0 w.newer m.past) }
+    record { same = w.same; written = w.written; end = c.end; way = c.way; newer = more.0 ++ w.newer; beginning = more.1 ∙ ap (λ (z : List Entry). more.0 ++ z) (one ∙ w.beginning) ∙ sym (append_assoc more.0 w.newer m.past) }
 
 -- it is left after its first part
 pub left_in_rest : (P Q : Way) (r m n : Run) → Follows P r m → IsOnWay Q m n → IsOnWay (then' P Q) r n
 left_in_rest P Q r m n f w = record {
   same = w.same ∙ f.same;
+  written = w.written ∙ f.written;
   end = w.end;
   way = (m.past, f.way, subst (λ (s : ScriptModel). Q s m.past w.end) f.same w.way);
   newer = w.newer;
@@ -92,20 +93,20 @@ module _ (test : ScriptModel → List Entry → Bool) (P Q : Way) where
   can_else r t c = record { end = c.end; way = not_chosen (test r.script r.past) (P r.script r.past c.end) (Q r.script r.past c.end) t c.way }
 
   pub follows_if : (r m : Run) → test r.script r.past ≡ true → Follows P r m → Follows (where' test P Q) r m
-  follows_if r m t f = record { same = f.same; way = choose (test r.script r.past) (P r.script r.past m.past) (Q r.script r.past m.past) t f.way }
+  follows_if r m t f = record { same = f.same; written = f.written; way = choose (test r.script r.past) (P r.script r.past m.past) (Q r.script r.past m.past) t f.way }
 
   pub follows_else : (r m : Run) → test r.script r.past ≡ false → Follows Q r m → Follows (where' test P Q) r m
-  follows_else r m t f = record { same = f.same; way = choose_else (test r.script r.past) (P r.script r.past m.past) (Q r.script r.past m.past) t f.way }
+  follows_else r m t f = record { same = f.same; written = f.written; way = choose_else (test r.script r.past) (P r.script r.past m.past) (Q r.script r.past m.past) t f.way }
 
   pub on_if : (r m : Run) → test r.script r.past ≡ true → IsOnWay P r m → IsOnWay (where' test P Q) r m
-  on_if r m t w = record { same = w.same; end = w.end; way = choose (test r.script r.past) (P r.script r.past w.end) (Q r.script r.past w.end) t w.way; newer = w.newer; beginning = w.beginning }
+  on_if r m t w = record { same = w.same; written = w.written; end = w.end; way = choose (test r.script r.past) (P r.script r.past w.end) (Q r.script r.past w.end) t w.way; newer = w.newer; beginning = w.beginning }
 
   pub on_else : (r m : Run) → test r.script r.past ≡ false → IsOnWay Q r m → IsOnWay (where' test P Q) r m
-  on_else r m t w = record { same = w.same; end = w.end; way = choose_else (test r.script r.past) (P r.script r.past w.end) (Q r.script r.past w.end) t w.way; newer = w.newer; beginning = w.beginning }
+  on_else r m t w = record { same = w.same; written = w.written; end = w.end; way = choose_else (test r.script r.past) (P r.script r.past w.end) (Q r.script r.past w.end) t w.way; newer = w.newer; beginning = w.beginning }
 
 -- nothing is played where there is nothing to do
 pub stayed : (r : Run) → Follows (λ s. Stays) r r
-stayed r = record { same = refl; way = refl }
+stayed r = record { same = refl; written = refl; way = refl }
 
 -- ---- loops
 
@@ -133,6 +134,7 @@ module _ (test : ScriptModel → List Entry → Bool) (P : Way) (first now : Run
       let one : m ≡ next.past = (good first.script).one now.past m next.past p q in
       record {
         same = f.same ∙ x.same;
+        written = f.written ∙ x.written;
         end = x.end;
         way = subst (λ (z : List Entry). While (test first.script) (P first.script) z x.end) one w;
         leads = λ g v. x.leads g (suc v.0, (u, next.past, q, v.1));
@@ -140,7 +142,7 @@ module _ (test : ScriptModel → List Entry → Bool) (P : Way) (first now : Run
 
   -- it is over where the test fails
   pub over : test now.script now.past ≡ false → Turns (looped test P) first now → Follows (looped test P) first now
-  over f x = record { same = x.same; way = x.leads now.past (zero, (ap (λ (s : ScriptModel). test s now.past) (sym x.same) ∙ f, refl)) }
+  over f x = record { same = x.same; written = x.written; way = x.leads now.past (zero, (ap (λ (s : ScriptModel). test s now.past) (sym x.same) ∙ f, refl)) }
 
   -- it is left in a turn
   pub left_in_turn : (mid : Run) → ((s : ScriptModel) → Good s (P s)) → ((s : ScriptModel) → Grows (looped test P s)) → test now.script now.past ≡ true
@@ -153,6 +155,7 @@ module _ (test : ScriptModel → List Entry → Bool) (P : Way) (first now : Run
       let more = grows first.script m x.end w in
       record {
         same = o.same ∙ x.same;
+        written = o.written ∙ x.written;
         end = x.end;
         way = x.leads x.end x.way;
         newer = more.0 ++ o.newer;
@@ -183,6 +186,7 @@ module _ (test : ScriptModel → List Entry → Bool) (P : Way) (first now : Run
       let one : m ≡ next.past = (good first.script).one now.past m next.past p q in
       record {
         same = f.same ∙ x.same;
+        written = f.written ∙ x.written;
         end = x.end;
         way = subst (λ (z : List Entry). AtMost n (test first.script) (P first.script) z x.end) one w;
         leads = λ g v. x.leads g (choose (test first.script now.past) (Then (P first.script) (AtMost n (test first.script) (P first.script)) now.past g) (Stays now.past g) u (next.past, q, v));
@@ -198,6 +202,7 @@ module _ (test : ScriptModel → List Entry → Bool) (P : Way) (first now : Run
       let more = grows first.script m x.end w in
       record {
         same = o.same ∙ x.same;
+        written = o.written ∙ x.written;
         end = x.end;
         way = x.leads x.end x.way;
         newer = more.0 ++ o.newer;
@@ -208,7 +213,7 @@ module _ (test : ScriptModel → List Entry → Bool) (P : Way) (first now : Run
   next_over : test now.script now.past ≡ false → Goes (suc n) → Follows (limited test P most) first now
   next_over f x =
       let u : test first.script now.past ≡ false = ap (λ (s : ScriptModel). test s now.past) (sym x.same) ∙ f in
-      record { same = x.same; way = x.leads now.past (choose_else (test first.script now.past) (Then (P first.script) (AtMost n (test first.script) (P first.script)) now.past now.past) (Stays now.past now.past) u refl) }
+      record { same = x.same; written = x.written; way = x.leads now.past (choose_else (test first.script now.past) (Then (P first.script) (AtMost n (test first.script) (P first.script)) now.past now.past) (Stays now.past now.past) u refl) }
 
 module _ (test : ScriptModel → List Entry → Bool) (P : Way) (first now : Run) (most left : ℕ) where
   some_left : 0 < left → left ≡ suc (left - 1)
@@ -239,7 +244,7 @@ module _ (W P Q : Way) (first now : Run) where
       let (m, p, q) = x.way in
       let v : P first.script now.past next.past = subst (λ (s : ScriptModel). P s now.past next.past) x.same f.way in
       let one : m ≡ next.past = (good first.script).one now.past m next.past p v in
-      record { same = f.same ∙ x.same; end = x.end; way = subst (λ (z : List Entry). Q first.script z x.end) one q; leads = λ g u. x.leads g (next.past, v, u) }
+      record { same = f.same ∙ x.same; written = f.written ∙ x.written; end = x.end; way = subst (λ (z : List Entry). Q first.script z x.end) one q; leads = λ g u. x.leads g (next.past, v, u) }
 
   pub part_left : (mid : Run) → ((s : ScriptModel) → Good s (P s)) → ((s : ScriptModel) → Grows (Q s)) → TurnsOf W (then' P Q) first now → IsOnWay P now mid → IsOnWay W first mid
   part_left mid good grows x o =
@@ -249,6 +254,7 @@ module _ (W P Q : Way) (first now : Run) where
       let more = grows first.script m x.end q in
       record {
         same = o.same ∙ x.same;
+        written = o.written ∙ x.written;
         end = x.end;
         way = x.leads x.end x.way;
         newer = more.0 ++ o.newer;

@@ -188,10 +188,10 @@ module _ (r m : Run) (n : ℕ) where
   can_most e c = record { end = c.end; way = subst (λ (k : ℕ). AtMost k (has_first r.script) (Pair r.script) r.past c.end) (sym e) c.way }
 
   pub follows_most : n ≡ r.script.raster_per_frame → Follows (pairs_at_most n) r m → Follows pairs_of_draw r m
-  follows_most e f = record { same = f.same; way = subst (λ (k : ℕ). AtMost k (has_first r.script) (Pair r.script) r.past m.past) e f.way }
+  follows_most e f = record { same = f.same; written = f.written; way = subst (λ (k : ℕ). AtMost k (has_first r.script) (Pair r.script) r.past m.past) e f.way }
 
   pub on_most : n ≡ r.script.raster_per_frame → IsOnWay (pairs_at_most n) r m → IsOnWay pairs_of_draw r m
-  on_most e w = record { same = w.same; end = w.end; way = subst (λ (k : ℕ). AtMost k (has_first r.script) (Pair r.script) r.past w.end) e w.way; newer = w.newer; beginning = w.beginning }
+  on_most e w = record { same = w.same; written = w.written; end = w.end; way = subst (λ (k : ℕ). AtMost k (has_first r.script) (Pair r.script) r.past w.end) e w.way; newer = w.newer; beginning = w.beginning }
 
 -- ---- inputs
 
@@ -222,7 +222,7 @@ no_inputs (i ∷ is) e = absurd (omega (arith, e))
 -- where none comes all were played
 pub inputs_over : (all rest : List Input) (first now : Run) → length rest ≡ 0 → TurnsOf (inputs_from all) (inputs_from rest) first now → Follows (inputs_from all) first now
 inputs_over all rest first now e x =
-    record { same = x.same; way = x.leads now.past (subst (λ (is : List Input). inputs_from is first.script now.past now.past) (sym (no_inputs rest e)) refl) }
+    record { same = x.same; written = x.written; way = x.leads now.past (subst (λ (is : List Input). inputs_from is first.script now.past now.past) (sym (no_inputs rest e)) refl) }
 
 -- ---- the whole run
 

@@ -11,10 +11,11 @@ use Rattle.cc_event.specs.Lockstep.{Step, Enters, Stays, Then, Where, While, AtM
 use Rattle.cc_lockstep.specs.declared.compositor.EnterFault.{EnterFault}
 use Rattle.cc_lockstep.specs.declared.compositor.EnterFault.TheVariants.{NotNow, Memory}
 
--- the script that is played, and what was played of it, the newest entry first
+-- the script that is played, what was played of it, the newest entry first, and how many of the entries were written
 pub record Run : Type 0 where
   pub script : ScriptModel
   pub past : List Entry
+  pub written : ℕ
 
 -- a way of lockstep, for each script
 abbrev pub Way : Type 1
@@ -28,11 +29,13 @@ pub record CanFollow (P : Way) (r : Run) : Type 0 where
 -- the way was followed from the first run to the second
 pub record Follows (P : Way) (r q : Run) : Type 0 where
   pub same : q.script ≡ r.script
+  pub written : q.written ≡ r.written
   pub way : P r.script r.past q.past
 
 -- the second run lies on the way from the first: what was played is a beginning of what the way brings
 pub record IsOnWay (P : Way) (r q : Run) : Type 0 where
   pub same : q.script ≡ r.script
+  pub written : q.written ≡ r.written
   pub end : List Entry
   pub way : P r.script r.past end
   pub newer : List Entry
@@ -41,6 +44,7 @@ pub record IsOnWay (P : Way) (r q : Run) : Type 0 where
 -- on a way: from where it stands this rest leads on, and wherever it leads from there the whole leads from the beginning
 pub record TurnsOf (Whole Rest : Way) (first now : Run) : Type 0 where
   pub same : now.script ≡ first.script
+  pub written : now.written ≡ first.written
   pub end : List Entry
   pub way : Rest first.script now.past end
   pub leads : (g : List Entry) → Rest first.script now.past g → Whole first.script first.past g

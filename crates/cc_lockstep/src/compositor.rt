@@ -1,6 +1,6 @@
 //! A compositor as the loops of lockstep see it.
 
-ghost use Rattle.std.specs.Prelude.{◌≡◌, ℕ, Some, is_some};
+ghost use Rattle.std.specs.Prelude.{◌≡◌, ℕ, Some, is_some, IfOk};
 ghost use Rattle.cc_sched.specs.declared.kind.Kind.TheVariants as kind;
 ghost use Rattle.cc_event.specs.EventFields.{sends};
 ghost use Rattle.cc_event.specs.Scans.{newest};
@@ -23,8 +23,8 @@ pub enum EnterFault {
 /// A compositor that plays a script: it enters the events that it is asked for, where they are
 /// possible, and answers what is possible next.
 ///
-/// For clauses it tells the script and what was played of it (`run`). Actor 1 is the main side, actor
-/// 2 a worker, and 0 the compositor itself.
+/// For clauses it tells the script, what was played of it and how much of that was written (`run`); no
+/// call of the loops writes. Actor 1 is the main side, actor 2 a worker, and 0 the compositor itself.
 pub trait Compositor {
     ghost run: { Self → Run };
 
@@ -61,7 +61,9 @@ pub trait Compositor {
     fn raster_per_frame(&self) -> u32
         ensures { result ≡ (run self.now).script.raster_per_frame };
 
-    /// Whether the main frame that was sent last changes something.
-    fn changes(&self) -> bool
-        ensures { (k : ℕ) → newest sends (run self.now).past ≡ Some k → result ≡ frame_changes (run self.now).script (pulls_of (run self.now).past) k };
+    /// Lets the main side run the frame that was sent last, and answers whether it changes something. An
+    /// error is want of memory. Nothing is entered.
+    fn changes(&mut self) -> Result<bool, AllocError>
+        ensures same { run self.new ≡ run self.old }
+        ensures answer { IfOk result (λ answer. (k : ℕ) → newest sends (run self.old).past ≡ Some k → answer ≡ frame_changes (run self.old).script (pulls_of (run self.old).past) k) };
 }

@@ -3,6 +3,7 @@
 ghost use Rattle.std.specs.Prelude.{◌≡◌, ℕ, Some, OnOk, OnErr};
 ghost use Rattle.cc_event.specs.EventFields.{sends};
 ghost use Rattle.cc_event.specs.Scans.{newest};
+ghost use Rattle.cc_event.specs.Frames.{changes as frame_changes, pulls_of};
 ghost use Rattle.cc_event.specs.Lockstep.{MainPart, ActivateNow, PlainFrame, Round};
 ghost use Rattle.cc_lockstep.specs.Walks.{CanFollow, Follows, IsOnWay, commit_made, main_answer, activation_where, no_draw, frame_end, frame_rest};
 
@@ -23,17 +24,29 @@ fn commit<C: Compositor>(core: &mut C) -> Result<(), AllocError>
 
 /// The main side ends the frame that was sent: by a commit where it changes something, else by an
 /// abort.
+fn answer_frame<C: Compositor>(core: &mut C, changed: bool) -> Result<(), AllocError>
+    requires can { CanFollow main_answer (C.run core.old) }
+    requires sent { (k : ℕ) × (newest sends (C.run core.old).past ≡ Some k) }
+    requires changed { (k : ℕ) → newest sends (C.run core.old).past ≡ Some k → changed ≡ frame_changes (C.run core.old).script (pulls_of (C.run core.old).past) k }
+    ensures ok { OnOk result (Follows main_answer (C.run core.old) (C.run core.new)) }
+    ensures err { OnErr result (IsOnWay main_answer (C.run core.old) (C.run core.new)) }
+{
+    if changed {
+        commit(core)
+    } else {
+        enter(core, Kind::Abort, 1)
+    }
+}
+
+/// The main side runs the frame that was sent, and ends it.
 fn end_main_frame<C: Compositor>(core: &mut C) -> Result<(), AllocError>
     requires can { CanFollow main_answer (C.run core.old) }
     requires sent { (k : ℕ) × (newest sends (C.run core.old).past ≡ Some k) }
     ensures ok { OnOk result (Follows main_answer (C.run core.old) (C.run core.new)) }
     ensures err { OnErr result (IsOnWay main_answer (C.run core.old) (C.run core.new)) }
 {
-    if core.changes() {
-        commit(core)
-    } else {
-        enter(core, Kind::Abort, 1)
-    }
+    let changed = core.changes()?;
+    answer_frame(core, changed)
 }
 
 /// A main frame is sent and ends.

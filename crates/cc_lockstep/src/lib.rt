@@ -10,4 +10,4 @@ mod play;
 
 pub use compositor::{Compositor, EnterFault};
 pub use laws::{lockstep_exists, pairs_make_fewer, required_tiles_start, rounds_are_few};
-pub use play::play_script;
+pub use play::{end_run, play_input, play_script};

@@ -65,8 +65,9 @@ fn settle<C: Compositor>(core: &mut C) -> Result<(), AllocError>
     make_and_settle(core)
 }
 
-/// Plays what an input brings.
-fn play_input<C: Compositor>(core: &mut C, input: &Input) -> Result<(), AllocError>
+/// Plays what an input brings, which the run is to be able to follow. On an error memory was refused, and
+/// what was played since is a beginning of that.
+pub fn play_input<C: Compositor>(core: &mut C, input: &Input) -> Result<(), AllocError>
     requires { CanFollow (input_played input.now) (C.run core.old) }
     ensures ok { OnOk result (Follows (input_played input.now) (C.run core.old) (C.run core.new)) }
     ensures err { OnErr result (IsOnWay (input_played input.now) (C.run core.old) (C.run core.new)) }
@@ -115,8 +116,9 @@ fn rounds_until_end<C: Compositor>(core: &mut C) -> Result<(), AllocError>
     Ok(())
 }
 
-/// Plays the rounds that are left, and ends the run.
-fn end_run<C: Compositor>(core: &mut C) -> Result<(), AllocError>
+/// Plays the rounds that are left after all inputs, and ends the run. On an error memory was refused, and
+/// what was played since is a beginning of that.
+pub fn end_run<C: Compositor>(core: &mut C) -> Result<(), AllocError>
     requires { CanFollow run_end (C.run core.old) }
     ensures ok { OnOk result (Follows run_end (C.run core.old) (C.run core.new)) }
     ensures err { OnErr result (IsOnWay run_end (C.run core.old) (C.run core.new)) }

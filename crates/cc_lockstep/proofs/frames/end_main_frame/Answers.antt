@@ -1,40 +1,29 @@
-use Rattle.std.proofs.Common.{sym}
-use Rattle.cc_sched.specs.declared.kind.Kind.TheVariants as kind
-use Rattle.cc_event.specs.Lockstep.{is_possible}
-use Rattle.cc_lockstep.specs.Walks as ways
+use Rattle.std.proofs.Common.{ℕ, ◌≡◌, Some, sym, subst}
+use Rattle.cc_event.specs.EventFields.{sends}
+use Rattle.cc_event.specs.Scans.{newest}
+use Rattle.cc_event.specs.Frames.{changes, pulls_of}
+use Rattle.cc_lockstep.specs.Walks.{Run, CanFollow, Follows, IsOnWay, main_answer}
 use Rattle.cc_lockstep.proofs.Parts as parts
-use Rattle.cc_lockstep.proofs.Following.{can_if, can_else, follows_if, follows_else, on_if, on_else, refused, then_on_error, then_on_ok}
+use Rattle.cc_lockstep.proofs.Following.{refused, in_any_case, then_on_error, then_on_ok}
 use Rattle.cc_lockstep.proofs.frames.end_main_frame.Goals as goal
 
-pub commit-requires : goal.commit-requires
-commit-requires g c =
-    let (k, n) = c.requires.sent in
-    can_else (λ s. is_possible s kind.Abort 1) (ways.entering kind.Abort 1) ways.commit_made _ (parts.changed_goes_on (g.C.Compositor.run c.args.core.now) k n (sym (c.if-changes.ensures k n))) c.requires.can
+pub returns-in_err-changed-clause-err : goal.returns-in_err-changed-clause-err
+returns-in_err-changed-clause-err g c = in_any_case _ _ (refused main_answer _ _ parts.answer_grows c.requires.can c.changes.ensures.same)
 
-pub returns-then-changes-clause-err : goal.returns-then-changes-clause-err
-returns-then-changes-clause-err g c =
-    let (k, n) = c.requires.sent in
-    then_on_error _ _ _ c.commit.ensures.err (λ w. on_else (λ s. is_possible s kind.Abort 1) (ways.entering kind.Abort 1) ways.commit_made _ _ (parts.changed_goes_on (g.C.Compositor.run c.args.core.now) k n (sym (c.if-changes.ensures k n))) w)
+pub answer_frame-requires-clause-can : goal.answer_frame-requires-clause-can
+answer_frame-requires-clause-can g c = subst (λ (r : Run). CanFollow main_answer r) (sym c.changes.ensures.same) c.requires.can
 
-pub returns-then-changes-clause-ok : goal.returns-then-changes-clause-ok
-returns-then-changes-clause-ok g c =
-    let (k, n) = c.requires.sent in
-    then_on_ok _ _ _ c.commit.ensures.ok (λ f. follows_else (λ s. is_possible s kind.Abort 1) (ways.entering kind.Abort 1) ways.commit_made _ _ (parts.changed_goes_on (g.C.Compositor.run c.args.core.now) k n (sym (c.if-changes.ensures k n))) f)
+pub answer_frame-requires-clause-sent : goal.answer_frame-requires-clause-sent
+answer_frame-requires-clause-sent g c = subst (λ (r : Run). (k : ℕ) × (newest sends r.past ≡ Some k)) (sym c.changes.ensures.same) c.requires.sent
 
-pub enter-requires : goal.enter-requires
-enter-requires g c =
-    let (k, n) = c.requires.sent in
-    can_if (λ s. is_possible s kind.Abort 1) (ways.entering kind.Abort 1) ways.commit_made _ (parts.unchanged_aborts (g.C.Compositor.run c.args.core.now) k c.requires.can n (sym (c.if-changes.ensures k n))) c.requires.can
+pub answer_frame-requires-clause-changed : goal.answer_frame-requires-clause-changed
+answer_frame-requires-clause-changed g c =
+    subst (λ (r : Run). (k : ℕ) → newest sends r.past ≡ Some k → c.in_ok-changed.changed ≡ changes r.script (pulls_of r.past) k) (sym c.changes.ensures.same) c.in_ok-changed.ensures.answer
 
-pub returns-else-changes-clause-err : goal.returns-else-changes-clause-err
-returns-else-changes-clause-err g c =
-    let (k, n) = c.requires.sent in
-    let t = parts.unchanged_aborts (g.C.Compositor.run c.args.core.now) k c.requires.can n (sym (c.if-changes.ensures k n)) in
-    then_on_error _ _ _ c.enter.ensures.err
-    (λ e. on_if (λ s. is_possible s kind.Abort 1) (ways.entering kind.Abort 1) ways.commit_made _ _ t
-    (refused (ways.entering kind.Abort 1) _ _ (parts.own_grows kind.Abort 1) (can_if (λ s. is_possible s kind.Abort 1) (ways.entering kind.Abort 1) ways.commit_made _ t c.requires.can) e))
+pub returns-clause-err : goal.returns-clause-err
+returns-clause-err g c =
+    then_on_error _ _ _ c.answer_frame.ensures.err (λ w. subst (λ (r : Run). IsOnWay main_answer r (g.C.Compositor.run c.answer_frame.new.core)) c.changes.ensures.same w)
 
-pub returns-else-changes-clause-ok : goal.returns-else-changes-clause-ok
-returns-else-changes-clause-ok g c =
-    let (k, n) = c.requires.sent in
-    then_on_ok _ _ _ c.enter.ensures.ok (λ f. follows_if (λ s. is_possible s kind.Abort 1) (ways.entering kind.Abort 1) ways.commit_made _ _ (parts.unchanged_aborts (g.C.Compositor.run c.args.core.now) k c.requires.can n (sym (c.if-changes.ensures k n))) f)
+pub returns-clause-ok : goal.returns-clause-ok
+returns-clause-ok g c =
+    then_on_ok _ _ _ c.answer_frame.ensures.ok (λ f. subst (λ (r : Run). Follows main_answer r (g.C.Compositor.run c.answer_frame.new.core)) c.changes.ensures.same f)
