@@ -1,9 +1,8 @@
 -- A key with a rank names a tile near the viewport.
-use Rattle.std.proofs.Common.{◌≡◌, ℕ, Bool, true, false, cond, option_map, Option, Some, None, find, refl, sym, ◌∙◌, ap}
+use Rattle.std.proofs.Common.{◌≡◌, Bool, true, false, cond, option_map, Option, Some, None, find, refl, sym, ◌∙◌, ap}
 use Rattle.cc_geom.specs.declared.tile.TileKey.{TileKey}
 use Rattle.cc_geom.specs.Common.{meets}
 use Rattle.cc_geom.specs.Grids.{has, places}
-use Rattle.cc_geom.specs.KeyLists.{has_key}
 use Rattle.cc_priority.specs.declared.rank.Bin.{Bin}
 use Rattle.cc_priority.specs.declared.rank.Rank.{Rank}
 use Rattle.cc_priority.specs.declared.rank.Side.{Side}
@@ -15,11 +14,11 @@ use Rattle.cc_edit.proofs.Placing.{size_facts}
 use Rattle.cc_visible.specs.Visible.{grid_of, seen, screen_rect}
 use Rattle.cc_event.specs.Scripts.{ScriptModel}
 use Rattle.cc_event.specs.Accepted.{IsAccepted}
-use Rattle.cc_event.specs.Tiles.{Tree, keys_of}
+use Rattle.cc_event.specs.Tiles.{Tree}
 use Rattle.cc_event.specs.Ranking.{place_named, borders, rank_on, rank_in}
 use Rattle.cc_event.proofs.BoolFacts.{and_left}
 use Rattle.cc_event.proofs.FindKeys.{has_place, key_in, key_on, key_of_page}
-use Rattle.cc_ranks.specs.Areas.{area_near, IsNear}
+use Rattle.cc_ranks.specs.Areas.{area_near}
 use Rattle.cc_ranks.proofs.NoBin.{bin_near}
 use Rattle.cc_ranks.proofs.GridPlaces.{place_had}
 use Rattle.cc_ranks.proofs.SeenLayers.{has_in}

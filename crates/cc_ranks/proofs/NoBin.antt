@@ -1,11 +1,11 @@
 -- A tile that has a bin meets the area near the viewport.
-use Rattle.std.proofs.Common.{◌≡◌, ℕ, suc, ◌+◌, ◌≤◌, ℤ, pos, negsuc, ◌+ℤ◌, ◌-ℤ◌, ◌<ℤ◌, ◌≤ℤ◌, int_lt, Bool, true, false, cond, ◌&&◌, max, Option, Some, None, refl, sym, ◌∙◌, ap, arith}
+use Rattle.std.proofs.Common.{◌≡◌, ℕ, ◌+◌, ◌≤◌, ℤ, pos, negsuc, ◌+ℤ◌, ◌-ℤ◌, ◌<ℤ◌, ◌≤ℤ◌, int_lt, Bool, true, false, max, Option, Some, None, refl, arith}
 use Rattle.std.specs.Prelude.{nat_le, if◌then◌else◌}
 use Rattle.std.specs.Int.{int_max, int_min, int_gap}
 use Rattle.std.proofs.lemmas.Int.{ints, clamps}
 use Rattle.std.proofs.lemmas.Bool.Decides.{nat_tests}
 use Rattle.cc_geom.specs.declared.rect.Rect.{Rect}
-use Rattle.cc_geom.specs.Covers.{within, covers}
+use Rattle.cc_geom.specs.Covers.{within}
 use Rattle.cc_geom.specs.Common.{spans_meet, meets}
 use Rattle.cc_geom.specs.Gaps.{span_gap, distance}
 use Rattle.cc_geom.proofs.Spans.{inside, is_within_of, both, both_of}
@@ -15,7 +15,7 @@ use Rattle.cc_priority.specs.declared.rank.Bin.TheVariants as bin
 use Rattle.cc_priority.specs.declared.tile.Borders.{Borders}
 use Rattle.cc_priority.specs.declared.tile.Seen.{Seen}
 use Rattle.cc_priority.specs.Bins.{is_visible, bin_at, bin_of}
-use Rattle.cc_event.proofs.BoolFacts.{and_left, and_right, not_both}
+use Rattle.cc_event.proofs.BoolFacts.{and_right, not_both}
 use Rattle.cc_ranks.specs.Areas.{inflated, area_near, IsNear}
 
 -- the gap from one number up to another, as a difference

@@ -1,24 +1,18 @@
 -- The ranks of the places near the viewport are those of all keys that have one.
-use Rattle.std.proofs.Common.{◌≡◌, ◌⊎◌, inl, inr, ℕ, suc, ◌+◌, ◌*◌, ◌-◌, ◌<◌, ◌≤◌, ◌==◌, nat_lt, ℤ, pos, ◌+ℤ◌, ◌<ℤ◌, ◌≤ℤ◌, int_lt, Bool, true, false, cond, ◌&&◌, ◌||◌, min, option_map, Option, Some, None, List, [], ◌∷◌, ◌++◌, map, filter, filter_map, find, refl, sym, ◌∙◌, ap, subst, arith}
-use Rattle.std.specs.Prelude.{neg_ℤ, nat_le}
+use Rattle.std.proofs.Common.{◌≡◌, ◌⊎◌, inl, inr, ◌==◌, ℤ, ◌+ℤ◌, int_lt, Bool, true, false, cond, ◌&&◌, ◌||◌, option_map, Option, Some, None, List, [], ◌∷◌, ◌++◌, map, filter_map, refl, sym, ◌∙◌, ap, subst, arith}
+use Rattle.std.specs.Prelude.{neg_ℤ}
 use Rattle.std.specs.List.{flat_map, cons_option}
 use Rattle.std.specs.Int.{int_max, int_min}
 use Rattle.std.proofs.lemmas.Int.{ints, clamps}
-use Rattle.std.proofs.lemmas.Bool.Decides.{nat_tests}
 use Rattle.cc_geom.specs.declared.rect.Point.{Point}
 use Rattle.cc_geom.specs.declared.rect.Rect.{Rect}
-use Rattle.cc_geom.specs.declared.span.Span.{Span}
 use Rattle.cc_geom.specs.declared.tile.Place.{Place}
 use Rattle.cc_geom.specs.declared.tile.TileKey.{TileKey}
-use Rattle.cc_geom.specs.Covers.{within, covers}
-use Rattle.cc_geom.specs.Common.{common_span, rect_of_spans, common, nothing, spans_meet, meets}
+use Rattle.cc_geom.specs.Common.{spans_meet, meets}
 use Rattle.cc_geom.specs.Gaps.{shifted}
-use Rattle.cc_geom.specs.Grids.{tiles, has, rect_of, part_len, places_touching}
-use Rattle.cc_geom.specs.Sides.{Sides, IsSide, IsGrid}
+use Rattle.cc_geom.specs.Grids.{has, rect_of, places_touching}
 use Rattle.cc_geom.specs.KeyLists.{same_key, has_key, AreDistinct}
 use Rattle.cc_geom.proofs.KeyLists.{one_key, same_from}
-use Rattle.cc_geom.proofs.Cuts.{starts_below}
-use Rattle.cc_geom.proofs.Spans.{inside, is_within_of, both, both_of}
 use Rattle.cc_tiling.specs.Tiles.{stamp_at, key_of}
 use Rattle.cc_priority.specs.declared.rank.Bin.{Bin}
 use Rattle.cc_priority.specs.declared.rank.Rank.{Rank}
@@ -30,7 +24,7 @@ use Rattle.cc_geom.specs.Gaps.{distance}
 use Rattle.cc_priority.specs.Ordered.{In}
 use Rattle.cc_priority.proofs.Members.{in_append, in_append_left, in_append_right, in_filter_map, filter_map_in}
 use Rattle.cc_event.specs.Ranking.{place_named}
-use Rattle.cc_event.proofs.BoolFacts.{same_number, is_same, is_other, other_number, and_left, and_right, and_both, is_below, is_false, not_both, or_neither}
+use Rattle.cc_event.proofs.BoolFacts.{same_number, is_same, is_other, and_left, and_right, and_both, is_false, not_both}
 use Rattle.cc_ranks.specs.Areas.{area_near, IsNear}
 use Rattle.cc_ranks.specs.SeenTrees.{SeenLayerModel}
 use Rattle.cc_ranks.specs.inner.Lists.{back, layer_at, layer_has, tile_seen, layer_rank, rank_on_layer, seen_rank, place_rank, near_ranks}

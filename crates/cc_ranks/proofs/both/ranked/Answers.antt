@@ -1,6 +1,5 @@
 use Rattle.std.proofs.Common.{◌≡◌, ◌++◌, List, map, filter_map, ap, sym, ◌∙◌, subst}
 use Rattle.std.specs.Prelude.{option_copied}
-use Rattle.cc_geom.specs.declared.tile.TileKey.{TileKey}
 use Rattle.cc_geom.specs.KeyLists.{AreDistinct}
 use Rattle.cc_priority.specs.declared.rank.Rank.{Rank}
 use Rattle.cc_priority.specs.declared.rank.Side.TheVariants as side
