@@ -1,20 +1,18 @@
 -- The ranks of two trees together.
-use Rattle.std.proofs.Common.{◌≡◌, ◌⊎◌, inl, inr, ℕ, suc, ◌+◌, ◌*◌, ◌-◌, ◌<◌, ◌≤◌, ◌==◌, nat_lt, ℤ, pos, ◌+ℤ◌, ◌-ℤ◌, ◌<ℤ◌, ◌≤ℤ◌, int_lt, Bool, true, false, cond, ◌&&◌, ◌||◌, min, option_map, Option, Some, None, is_some, List, [], ◌∷◌, ◌++◌, length, map, filter, filter_map, find, refl, sym, ◌∙◌, ap, subst, arith}
-use Rattle.std.specs.Prelude.{⊤, nat_le}
+use Rattle.std.proofs.Common.{◌≡◌, ◌⊎◌, inl, inr, ℕ, ◌*◌, ◌-◌, ◌<◌, ◌≤◌, ◌==◌, nat_lt, ℤ, pos, ◌+ℤ◌, ◌-ℤ◌, ◌<ℤ◌, int_lt, Bool, true, false, cond, ◌&&◌, min, option_map, Option, Some, None, is_some, List, [], ◌∷◌, ◌++◌, length, map, filter_map, find, refl, sym, ◌∙◌, ap, subst, arith}
+use Rattle.std.specs.Prelude.{nat_le}
 use Rattle.std.specs.List.{flat_map, cons_option, AllByRecursion}
 use Rattle.std.specs.Int.{int_max, int_min}
 use Rattle.std.proofs.lemmas.Int.{ints, clamps}
 use Rattle.std.proofs.lemmas.Bool.Decides.{nat_tests}
 use Rattle.cc_geom.specs.Limits.{max_distance}
-use Rattle.cc_geom.specs.declared.rect.Point.{Point}
 use Rattle.cc_geom.specs.declared.rect.Rect.{Rect}
 use Rattle.cc_geom.specs.declared.tile.Place.{Place}
 use Rattle.cc_geom.specs.declared.tile.TileKey.{TileKey}
-use Rattle.cc_geom.specs.Covers.{within, covers, IsSound}
+use Rattle.cc_geom.specs.Covers.{within, covers}
 use Rattle.cc_geom.specs.declared.span.Span.{Span}
 use Rattle.cc_geom.specs.Common.{common_span, rect_of_spans, common, nothing, meets}
-use Rattle.cc_geom.specs.Grids.{tiles, has, rect_of, part_len, places}
-use Rattle.cc_geom.specs.Gaps.{shifted}
+use Rattle.cc_geom.specs.Grids.{tiles, has, part_len, places}
 use Rattle.cc_geom.specs.Sides.{Sides, IsSide}
 use Rattle.cc_geom.specs.KeyLists.{same_key, has_key, AreDistinct}
 use Rattle.cc_geom.proofs.Cuts.{starts_below}
@@ -38,24 +36,23 @@ use Rattle.cc_edit.specs.Pages.{Page, IsView}
 use Rattle.cc_edit.specs.Refusals.{has_layer}
 use Rattle.cc_edit.specs.Sound.{IsPage, IsLayer}
 use Rattle.cc_edit.specs.Sound as sound
-use Rattle.cc_edit.proofs.LayerKeeps.{each-found}
 use Rattle.cc_edit.proofs.Placing.{size_facts}
 use Rattle.cc_tree.specs.Placement.{clip_of}
 use Rattle.cc_visible.specs.Visible.{viewport, grid_of, cut_by, seen, by_id, key_at}
 use Rattle.cc_event.specs.Scripts.{ScriptModel}
-use Rattle.cc_event.specs.Ranges.{in_range, is_in_ranges, head_in_range, main_in_range, inputs_in_range, longest_side}
+use Rattle.cc_event.specs.Ranges.{in_range, is_in_ranges, head_in_range, main_in_range, inputs_in_range}
 use Rattle.cc_event.specs.Accepted.{IsAccepted}
 use Rattle.cc_event.specs.Tiles.{Tree, keys_of, page_keys}
 use Rattle.cc_event.specs.Ranking.{place_named, borders, rank_on, rank_in}
-use Rattle.cc_event.proofs.BoolFacts.{and_left, and_right, is_below, is_same, same_number, not_both, or_neither, or_left_false, or_right_false}
+use Rattle.cc_event.proofs.BoolFacts.{and_left, and_right, is_below, is_same, not_both, or_neither, or_left_false, or_right_false}
 use Rattle.cc_event.proofs.KeyFacts.{in_has}
 use Rattle.cc_event.proofs.RankFacts.{tree_rank, key_of_rank}
 use Rattle.cc_steps.specs.Choices.{rank_in_both}
 use Rattle.cc_ranks.specs.Areas.{IsNear}
-use Rattle.cc_ranks.specs.SeenTrees.{SeenLayerModel, SeenTreeModel, IsSeenIn, IsLayerOf, AreLayersOf, IsSeenTree, IsSeenWhere}
-use Rattle.cc_ranks.specs.inner.Lists.{seen_rank, rank_where, ranks_where, or_better, alone, ranks_both, tile_seen, layer_at, layer_has, rank_on_layer, near_ranks, IsNarrow, IsPageWhere}
+use Rattle.cc_ranks.specs.SeenTrees.{SeenLayerModel, SeenTreeModel, IsLayerOf, AreLayersOf, IsSeenTree, IsSeenWhere}
+use Rattle.cc_ranks.specs.inner.Lists.{rank_where, ranks_where, or_better, alone, ranks_both, tile_seen, layer_at, layer_has, rank_on_layer, IsNarrow, IsPageWhere}
 use Rattle.cc_ranks.proofs.SeenLayers.{rank_is, tile_is}
-use Rattle.cc_ranks.proofs.SeenRanks.{ranked_as, IsSeenWell, HaveOwnIds, flat_has, has_flat, flat_once, once_append, rank_key}
+use Rattle.cc_ranks.proofs.SeenRanks.{ranked_as, IsSeenWell, HaveOwnIds, flat_has, has_flat, flat_once, once_append}
 
 -- ---- the borders of an accepted script
 
@@ -200,6 +197,11 @@ pub no_keys : (t : Tree) → t.page.layers ≡ [] → (q : TileKey) → has_key 
 unfolding page_keys
 no_keys t e q = ap (λ (ls : List PageLayer). has_key (flat_map (λ (l : PageLayer). map (key_at t.stamp l.id) (places (grid_of t.page l))) (by_id ls)) q) e
 
+-- and no ranks
+pub none_ranked : (s : ScriptModel) (a : Side) (t : Tree) (q : TileKey) → t.page.layers ≡ [] → rank_in s a t q ≡ None
+unfolding rank_in
+none_ranked s a t q e = ap (λ (b : Bool). cond b (rank_on s a t q (find (has_id q.layer) t.page.layers)) None) (no_keys t e q)
+
 -- a rank is of its key
 rank_of_key : (b : Borders) (a : Side) (z : Seen) (q : TileKey) (o : Option Bin) → IsRankOfKey q (option_map (ranked_as b a z q) o)
 rank_of_key b a z q None = tt
@@ -209,7 +211,7 @@ cond_of_key : (q : TileKey) (c : Bool) (o : Option Rank) → IsRankOfKey q o →
 cond_of_key q true o i = i
 cond_of_key q false o i = tt
 
-layer_key : (b : Borders) (a : Side) (w : Option SeenLayerModel) (q : TileKey) → IsRankOfKey q (rank_on_layer b a w q)
+pub layer_key : (b : Borders) (a : Side) (w : Option SeenLayerModel) (q : TileKey) → IsRankOfKey q (rank_on_layer b a w q)
 layer_key b a None q = tt
 layer_key b a (Some v) q = cond_of_key q (layer_has v q) (rank_of b a (tile_seen v (place_named q)) q) (rank_of_key b a (tile_seen v (place_named q)) q (bin_of b (tile_seen v (place_named q))))
 
@@ -221,12 +223,8 @@ module _ (s : ScriptModel) (acc : IsAccepted s) (a : Side) (t : Tree) where
   tree_page : (r : SeenTreeModel) → IsSeenTree t r → IsPage r.page → IsPage t.page
   tree_page r is p = subst IsPage is.page p
 
-  none_in : (q : TileKey) → t.page.layers ≡ [] → rank_in s a t q ≡ None
-  unfolding rank_in
-  none_in q e = ap (λ (b : Bool). cond b (rank_on s a t q (find (has_id q.layer) t.page.layers)) None) (no_keys t e q)
-
   pub where_is : (o : Option SeenTreeModel) (q : TileKey) → IsSeenWhere t o → IsPageWhere o → rank_where s a o q ≡ rank_in s a t q
-  where_is None q is p = sym (none_in q is)
+  where_is None q is p = sym (none_ranked s a t q is)
   where_is (Some r) q is p = rank_is s a t r q (tree_page r is p).distinct is
 
   pub where_has : (o : Option SeenTreeModel) (r : Rank) → IsSeenWhere t o → IsPageWhere o → In r (ranks_where s a o) → rank_where s a o r.key ≡ Some r

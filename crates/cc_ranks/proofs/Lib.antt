@@ -4,6 +4,7 @@ pub mod SoundAreas
 pub mod GridPlaces
 pub mod SeenLayers
 pub mod VisibleKeys
+pub mod OneLayer
 pub mod SeenRanks
 pub mod BothTrees
 pub mod NearTiles

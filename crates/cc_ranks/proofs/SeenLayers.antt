@@ -1,22 +1,13 @@
 -- The layers of a tree as its tiles are seen: which keys they have, and their ranks.
-use Rattle.std.proofs.Common.{◌≡◌, ◌⊎◌, inl, inr, ℕ, suc, ◌+◌, ◌*◌, ◌-◌, ◌<◌, ◌≤◌, ◌==◌, nat_lt, ℤ, pos, ◌<ℤ◌, ◌≤ℤ◌, Bool, true, false, cond, ◌&&◌, ◌||◌, min, Option, Some, None, List, [], ◌∷◌, ◌++◌, map, find, refl, sym, ◌∙◌, ap, subst, arith}
-use Rattle.std.specs.Prelude.{⊤, neg_ℤ}
-use Rattle.std.specs.List.{list_any}
-use Rattle.std.proofs.lemmas.Int.{ints}
-use Rattle.cc_geom.specs.declared.rect.Point.{Point}
-use Rattle.cc_geom.specs.declared.rect.Rect.{Rect}
+use Rattle.std.proofs.Common.{◌≡◌, ◌⊎◌, inl, inr, ℕ, ◌==◌, Bool, true, false, cond, ◌&&◌, ◌||◌, Option, Some, None, List, [], ◌∷◌, find, refl, sym, ◌∙◌, ap, subst}
 use Rattle.cc_geom.specs.declared.tile.Place.{Place}
 use Rattle.cc_geom.specs.declared.tile.TileKey.{TileKey}
-use Rattle.cc_geom.specs.Grids.{tiles, has, rect_of, part_len, places}
-use Rattle.cc_geom.specs.Sides.{Sides, IsSide}
+use Rattle.cc_geom.specs.Grids.{has, rect_of, places}
+use Rattle.cc_geom.specs.Sides.{Sides}
 use Rattle.cc_geom.specs.Gaps.{shifted}
-use Rattle.cc_geom.specs.Common.{meets}
 use Rattle.cc_geom.specs.KeyLists.{has_key}
-use Rattle.cc_geom.proofs.Cuts.{starts_below}
-use Rattle.cc_tiling.specs.Tiles.{stamp_at, key_of}
-use Rattle.cc_priority.specs.declared.rank.Rank.{Rank}
+use Rattle.cc_tiling.specs.Tiles.{stamp_at}
 use Rattle.cc_priority.specs.declared.rank.Side.{Side}
-use Rattle.cc_priority.specs.declared.tile.Borders.{Borders}
 use Rattle.cc_priority.specs.declared.tile.Seen.{Seen}
 use Rattle.cc_priority.specs.Bins.{rank_of}
 use Rattle.cc_priority.specs.Ordered.{In}
@@ -25,22 +16,15 @@ use Rattle.cc_edit.specs.Pages.{Page}
 use Rattle.cc_edit.specs.Sound.{AreDistinct}
 use Rattle.cc_visible.specs.Visible.{grid_of, seen}
 use Rattle.cc_event.specs.Scripts.{ScriptModel}
-use Rattle.cc_event.specs.Tiles.{Tree, keys_of, page_keys}
+use Rattle.cc_event.specs.Tiles.{Tree, keys_of}
 use Rattle.cc_event.specs.Ranking.{place_named, borders, rank_on, rank_in}
-use Rattle.cc_event.proofs.BoolFacts.{same_number, is_same, and_left, and_right, is_below, or_either, not_both}
+use Rattle.cc_event.proofs.BoolFacts.{same_number, is_same, and_left, and_right, or_either}
 use Rattle.cc_event.proofs.FindKeys.{has_place, key_in, key_on, key_of_page}
 use Rattle.cc_ranks.specs.SeenTrees.{SeenLayerModel, SeenTreeModel, IsSeenIn, IsLayerOf, AreLayersOf, IsSeenTree}
-use Rattle.cc_ranks.specs.inner.Lists.{layer_at, layer_has, has_on, seen_has, tile_seen, layer_rank, rank_on_layer, seen_rank}
+use Rattle.cc_ranks.specs.inner.Lists.{layer_at, layer_has, has_on, seen_has, tile_seen, rank_on_layer, seen_rank, Found}
 use Rattle.cc_ranks.proofs.GridPlaces.{place_had, place_in}
 
 -- ---- layers that are found by their ids
-
--- both are found, or neither
-abbrev pub Found : Tree → ℕ → Option PageLayer → Option SeenLayerModel → Type 0
-Found t id None None = ⊤
-Found t id None (Some v) = ⊥
-Found t id (Some l) None = ⊥
-Found t id (Some l) (Some v) = IsLayerOf t l v × (l.id ≡ id)
 
 pub found : (t : Tree) (id : ℕ) (ls : List PageLayer) (vs : List SeenLayerModel) → AreLayersOf t ls vs → Found t id (find (has_id id) ls) (layer_at id vs)
 found t id [] [] a = tt
@@ -115,8 +99,12 @@ has_on_is t q None (Some v) f = absurd f
 has_on_is t q (Some l) None f = absurd f
 has_on_is t q (Some l) (Some v) f = layer_has_is t l v q f.0 f.1
 
+-- a tree has a key where the layer of its id has it
+pub has_found : (t : Tree) (w : Option SeenLayerModel) (q : TileKey) → AreDistinct t.page.layers → Found t q.layer (find (has_id q.layer) t.page.layers) w → has_on w q ≡ has_key (keys_of t) q
+has_found t w q d f = has_on_is t q (find (has_id q.layer) t.page.layers) w f ∙ sym (key_of_page t.page t.stamp q d)
+
 pub has_is : (t : Tree) (r : SeenTreeModel) (q : TileKey) → AreDistinct t.page.layers → IsSeenTree t r → seen_has r.layers q ≡ has_key (keys_of t) q
-has_is t r q d is = has_on_is t q (find (has_id q.layer) t.page.layers) (layer_at q.layer r.layers) (found t q.layer t.page.layers r.layers is.layers) ∙ sym (key_of_page t.page t.stamp q d)
+has_is t r q d is = has_found t (layer_at q.layer r.layers) q d (found t q.layer t.page.layers r.layers is.layers)
 
 -- ---- ranks
 
@@ -133,9 +121,15 @@ rank_on_is s a t q (Some l) (Some v) f =
     ap (λ (b : Bool). cond b (rank_of (borders s t.page) a (tile_seen v (place_named q)) q) None) (layer_has_is t l v q f.0 f.1)
     ∙ ap (λ (z : Seen). cond (key_in t.page t.stamp q l) (rank_of (borders s t.page) a z q) None) (tile_is t l v (place_named q) f.0.seen)
 
-pub rank_is : (s : ScriptModel) (a : Side) (t : Tree) (r : SeenTreeModel) (q : TileKey) → AreDistinct t.page.layers → IsSeenTree t r → seen_rank (borders s r.page) a r.layers q ≡ rank_in s a t q
+-- the rank of a key in a tree is the one that the layer of its id gives it
+pub rank_found : (s : ScriptModel) (a : Side) (t : Tree) (w : Option SeenLayerModel) (q : TileKey) → AreDistinct t.page.layers → Found t q.layer (find (has_id q.layer) t.page.layers) w
+    → rank_on_layer (borders s t.page) a w q ≡ rank_in s a t q
 unfolding rank_in
+rank_found s a t w q d f =
+    rank_on_is s a t q (find (has_id q.layer) t.page.layers) w f
+    ∙ ap (λ (b : Bool). cond b (rank_on s a t q (find (has_id q.layer) t.page.layers)) None) (sym (key_of_page t.page t.stamp q d))
+
+pub rank_is : (s : ScriptModel) (a : Side) (t : Tree) (r : SeenTreeModel) (q : TileKey) → AreDistinct t.page.layers → IsSeenTree t r → seen_rank (borders s r.page) a r.layers q ≡ rank_in s a t q
 rank_is s a t r q d is =
     ap (λ (p : Page). seen_rank (borders s p) a r.layers q) is.page
-    ∙ rank_on_is s a t q (find (has_id q.layer) t.page.layers) (layer_at q.layer r.layers) (found t q.layer t.page.layers r.layers is.layers)
-    ∙ ap (λ (b : Bool). cond b (rank_on s a t q (find (has_id q.layer) t.page.layers)) None) (sym (key_of_page t.page t.stamp q d))
+    ∙ rank_found s a t (layer_at q.layer r.layers) q d (found t q.layer t.page.layers r.layers is.layers)

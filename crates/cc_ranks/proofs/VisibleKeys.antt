@@ -1,5 +1,5 @@
 -- The keys of visible tiles, layer by layer; and the layers of a page, one after another.
-use Rattle.std.proofs.Common.{◌≡◌, ◌⊎◌, inl, inr, ℕ, zero, suc, ◌+◌, ◌<◌, ◌==◌, nat_lt, Bool, true, false, cond, Option, Some, None, is_some, List, [], ◌∷◌, ◌++◌, map, get_or, take, find, length, option_map, refl, sym, ◌∙◌, ap, subst, arith}
+use Rattle.std.proofs.Common.{◌≡◌, inl, inr, ℕ, zero, suc, ◌+◌, ◌<◌, ◌==◌, nat_lt, Bool, true, false, cond, Option, Some, None, is_some, List, [], ◌∷◌, ◌++◌, map, get_or, take, find, length, option_map, refl, sym, ◌∙◌, ap, subst, arith}
 use Rattle.std.specs.Prelude.{slice_get}
 use Rattle.std.specs.List.{flat_map}
 use Rattle.std.proofs.lemmas.List.{take_more, map-append, length-map}
@@ -8,11 +8,9 @@ use Rattle.cc_edit.specs.declared.layer.Layer.{Layer}
 use Rattle.cc_geom.specs.declared.rect.Point.{Point}
 use Rattle.cc_geom.specs.declared.rect.Rect.{Rect}
 use Rattle.cc_geom.specs.declared.tile.Place.{Place}
-use Rattle.cc_geom.specs.declared.tile.TileKey.{TileKey}
 use Rattle.cc_geom.specs.Grids.{has, places_touching}
 use Rattle.cc_geom.specs.Gaps.{shifted}
 use Rattle.cc_geom.specs.Sides.{Sides}
-use Rattle.cc_tree.specs.Placement.{draws}
 use Rattle.cc_tiling.specs.Tiles.{Tiled, stamp_at, key_of}
 use Rattle.cc_priority.specs.Ordered.{In}
 use Rattle.cc_edit.specs.Layers.{PageLayer, has_id, parts_of}
@@ -24,9 +22,9 @@ use Rattle.cc_visible.proofs.SeenPlaces.{none_seen, touched_seen}
 use Rattle.cc_event.specs.Tiles.{Tree, visible_in}
 use Rattle.cc_event.proofs.BoolFacts.{same_number, is_same, not_both}
 use Rattle.cc_ranks.specs.SeenTrees.{SeenLayerModel, SeenTreeModel, AreCut, IsTiled, IsSeenIn, IsLayerOf, AreLayersOf, IsSeenTree}
-use Rattle.cc_ranks.specs.inner.Lists.{back, layer_at, visible_of, visible_on, visible_at, AreSeen}
+use Rattle.cc_ranks.specs.inner.Lists.{back, layer_at, visible_of, visible_on, visible_at, AreSeen, Found}
 use Rattle.cc_ranks.proofs.GridPlaces.{touching_had}
-use Rattle.cc_ranks.proofs.SeenLayers.{Found, found}
+use Rattle.cc_ranks.proofs.SeenLayers.{found}
 
 -- ---- layers one after another
 
@@ -52,7 +50,7 @@ seen_next p offset all us vs new i l u v lt lu le ue a is st made =
     (subst (λ (ws : List Tiled). AreSeen p offset (map parts_of (take (i + 1) all)) ws (vs ++ v ∷ [])) right
     (subst (λ (ks : List PageLayer). AreSeen p offset ks (take i us ++ u ∷ []) (vs ++ v ∷ [])) left (seen_more p offset (map parts_of (take i all)) (take i us) vs (parts_of l) u v a is st)))
 
-get_mapped : (all : List Layer) (i : ℕ) (l : Layer) → slice_get all i ≡ Some l → slice_get (map parts_of all) i ≡ Some (parts_of l)
+pub get_mapped : (all : List Layer) (i : ℕ) (l : Layer) → slice_get all i ≡ Some l → slice_get (map parts_of all) i ≡ Some (parts_of l)
 get_mapped [] i l e = cc
 get_mapped (k ∷ ks) zero l e = ap (λ (o : Option Layer). option_map parts_of o) e
 get_mapped (k ∷ ks) (suc i) l e = get_mapped ks i l e

@@ -1,25 +1,19 @@
 -- A tree as its tiles are seen: where each layer stands on the screen, and the stamps of its places.
-use Rattle.std.specs.Prelude.{◌≡◌, ℕ, ◌==◌, Bool, true, false, ◌&&◌, cond, List, [], ◌∷◌, length, slice_get, Option, Some, None}
-use Rattle.std.specs.List.{find}
+use Rattle.std.specs.Prelude.{◌≡◌, ℕ, Bool, true, List, [], ◌∷◌, length, slice_get, Option, Some, None}
 use Rattle.cc_geom.specs.declared.rect.Point.{Point}
 use Rattle.cc_geom.specs.declared.rect.Rect.{Rect}
 use Rattle.cc_geom.specs.declared.tile.Place.{Place}
-use Rattle.cc_geom.specs.declared.tile.TileKey.{TileKey}
-use Rattle.cc_geom.specs.Grids.{has, rect_of}
-use Rattle.cc_geom.specs.Gaps.{shifted}
+use Rattle.cc_geom.specs.Grids.{has}
 use Rattle.cc_geom.specs.Sides.{Sides}
 use Rattle.cc_tree.specs.Placement.{translation, clip_of, draws}
+use Rattle.cc_tree.specs.OffsetMap.{offset_at}
 use Rattle.cc_tiling.specs.Tiles.{Tiled, stamp_at}
-use Rattle.cc_priority.specs.declared.rank.Rank.{Rank}
-use Rattle.cc_priority.specs.declared.rank.Side.{Side}
-use Rattle.cc_priority.specs.declared.tile.Borders.{Borders}
-use Rattle.cc_priority.specs.declared.tile.Seen.{Seen}
-use Rattle.cc_priority.specs.Bins.{rank_of}
 use Rattle.cc_edit.specs.Layers.{PageLayer}
 use Rattle.cc_edit.specs.Pages.{Page}
 use Rattle.cc_visible.specs.Visible.{viewport, grid_of, cut_by}
-use Rattle.cc_event.specs.Tiles.{Tree}
-use Rattle.cc_event.specs.Ranking.{place_named}
+use Rattle.cc_event.specs.declared.history.Entry.{Entry}
+use Rattle.cc_event.specs.Scripts.{ScriptModel}
+use Rattle.cc_event.specs.Tiles.{Tree, active_tree, pending_tree}
 
 -- a tiling for each layer, in the order of the layers, cut as the layer is
 pub record AreCut (p : Page) (tilings : List Tiled) : Type 0 where
@@ -76,3 +70,27 @@ pub record IsSeenTree (t : Tree) (r : SeenTreeModel) : Type 0 where
 abbrev pub IsSeenWhere : Tree → Option SeenTreeModel → Type 0
 IsSeenWhere t None = t.page.layers ≡ []
 IsSeenWhere t (Some r) = IsSeenTree t r
+
+-- they are an active and a pending tree
+pub record AreSeen (a p : Tree) (v w : Option SeenTreeModel) : Type 0 where
+  pub active : IsSeenWhere a v
+  pub pending : IsSeenWhere p w
+
+-- they are the two trees of a run of the script after this past
+abbrev pub AreSeenAt : ScriptModel → List Entry → Option SeenTreeModel → Option SeenTreeModel → Type 0
+AreSeenAt s h v w = AreSeen (active_tree s h) (pending_tree s h) v w
+
+-- a page, the offsets of its scrollers, and a tiling for each of its layers, in their order
+pub record PlacedModel : Type 0 where
+  pub page : Page
+  pub offsets : List (ℕ × Point)
+  pub tilings : List Tiled
+
+-- it is a tree
+abbrev pub IsPlaced : Tree → PlacedModel → Type 0
+IsPlaced t m = IsTiled t m.page (offset_at m.offsets) m.tilings
+
+-- it is a tree; where there is none, the tree has no layer
+abbrev pub IsPlacedWhere : Tree → Option PlacedModel → Type 0
+IsPlacedWhere t None = t.page.layers ≡ []
+IsPlacedWhere t (Some m) = IsPlaced t m

@@ -9,12 +9,23 @@ ghost use Rattle.cc_steps.specs.Choices.{rank_in_both};
 ghost use Rattle.cc_ranks.specs.SeenTrees.{IsSeenWhere};
 ghost use Rattle.cc_ranks.specs.inner.Lists as spec;
 
+use crate::found::borders;
 use crate::near::ranks_near;
-use crate::tree::{SeenTree, borders};
+use crate::ready::ready_tile;
+use crate::tree::SeenTree;
 use cc_event::Script;
 use cc_geom::TileKey;
 use cc_priority::{Rank, ReadyTile, Side, least};
 use std::alloc::{AllocError, Global};
+
+/// An active and a pending tree, either of which may be missing.
+#[derive(Drop)]
+pub struct SeenTrees<'a> {
+    /// The active tree; None exactly where no commit is active.
+    pub active: Option<SeenTree<'a>>,
+    /// The pending tree; None exactly where no commit is pending.
+    pub pending: Option<SeenTree<'a>>,
+}
 
 // Whether a tree that may be missing has a key.
 fn has(tree: Option<&SeenTree<'_>>, key: TileKey) -> bool
@@ -75,11 +86,7 @@ pub fn tile(
     is_page_where(pending);
     let in_active = rank_where(script, Side::Active, active, key);
     let in_pending = rank_where(script, Side::Pending, pending, key);
-    ReadyTile {
-        key,
-        rank: least(in_active, in_pending),
-        pinned,
-    }
+    ready_tile(key, in_active, in_pending, pinned)
 }
 
 // The ranks of a tree that may be missing.

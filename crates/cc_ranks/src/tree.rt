@@ -3,7 +3,6 @@
 ghost use Rattle.std.specs.Prelude.{◌≡◌, ◌++◌, map, IfOk, OnOk};
 ghost use Rattle.std.specs.List.{flat_map};
 ghost use Rattle.cc_edit.specs.Layers.{parts_of};
-ghost use Rattle.cc_geom.specs.Covers.{IsSound};
 ghost use Rattle.cc_geom.specs.KeyLists as key_lists;
 ghost use Rattle.cc_tree.specs.OffsetMap.{offset_at, AreOffsets};
 ghost use Rattle.cc_event.specs.Tiles.{Tree, keys_of, visible_in};
@@ -11,14 +10,15 @@ ghost use Rattle.cc_event.specs.Ranking as ranking;
 ghost use Rattle.cc_ranks.specs.SeenTrees.{AreCut, IsTiled, IsSeenTree};
 ghost use Rattle.cc_ranks.specs.inner.Lists as spec;
 
+use crate::found::{has_on, rank_on};
 use crate::layer::{SeenLayer, layer_at};
 use cc_edit::LayerTree;
 use cc_event::Script;
-use cc_geom::{Keys, Place, TileKey};
-use cc_priority::{Borders, Rank, Side, rank_in};
+use cc_geom::{Keys, TileKey};
+use cc_priority::{Rank, Side};
 use cc_tiling::Tiling;
 use cc_tree::Offsets;
-use cc_visible::{OrderedLayer, by_id, viewport};
+use cc_visible::{OrderedLayer, by_id};
 use std::alloc::{AllocError, Global};
 use std::marker::Model;
 
@@ -37,33 +37,6 @@ impl<'a> Model for SeenTree<'a> {
     ghost Value = { SeenTreeModel };
 
     ghost view = { λ t. record { page = t.page.now; layers = t.layers.items } };
-}
-
-/// By what the tiles of a page are ranked.
-pub(crate) fn borders(script: &Script, page: &LayerTree) -> Borders
-    ensures value { result ≡ ranking.borders script.now page.now }
-    ensures sound { IsSound result.viewport }
-{
-    let viewport = viewport(page);
-    Borders {
-        viewport,
-        soon: script.soon(),
-        eventually: script.eventually(),
-        priority: script.priority(),
-    }
-}
-
-// The rank of a key, where the layer has it.
-fn layer_rank(borders: &Borders, side: Side, layer: &SeenLayer<'_>, key: TileKey) -> Option<Rank>
-    requires { IsSound borders.now.viewport }
-    ensures { result ≡ spec.layer_rank borders.now side layer.now key }
-{
-    if layer.has(key) {
-        let seen = layer.seen(Place { x: key.x, y: key.y });
-        rank_in(borders, side, &seen, key)
-    } else {
-        None
-    }
 }
 
 // The layers of a page at these offsets.
@@ -121,10 +94,7 @@ impl<'a> SeenTree<'a> {
     fn layers_have(&self, key: TileKey) -> bool
         ensures { result ≡ spec.seen_has self.now.layers key }
     {
-        match layer_at(self.layers.as_slice(), key.layer) {
-            None => false,
-            Some(layer) => layer.has(key),
-        }
+        has_on(layer_at(self.layers.as_slice(), key.layer), key)
     }
 
     /// Whether it has a key.
@@ -139,13 +109,8 @@ impl<'a> SeenTree<'a> {
     pub(crate) fn layers_rank(&self, script: &Script, side: Side, key: TileKey) -> Option<Rank>
         ensures { result ≡ spec.seen_rank (ranking.borders script.now self.now.page) side self.now.layers key }
     {
-        match layer_at(self.layers.as_slice(), key.layer) {
-            None => None,
-            Some(layer) => {
-                let borders = borders(script, self.page);
-                layer_rank(&borders, side, layer, key)
-            }
-        }
+        let layer = layer_at(self.layers.as_slice(), key.layer);
+        rank_on(script, self.page, side, layer, key)
     }
 
     /// The rank of a key in the tree of this side; None exactly where the tree lacks the key, or its tile

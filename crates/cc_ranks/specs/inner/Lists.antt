@@ -1,5 +1,5 @@
 -- Keys and ranks by the layers of a seen tree.
-use Rattle.std.specs.Prelude.{◌≡◌, ◌≤◌, ◌≤ℤ◌, ℕ, ◌==◌, pos, neg_ℤ, Bool, true, false, not, ◌&&◌, cond, List, [], ◌∷◌, ◌++◌, map, filter, filter_map, is_some, Option, Some, None}
+use Rattle.std.specs.Prelude.{◌≡◌, ◌≤◌, ◌≤ℤ◌, ℕ, ◌==◌, pos, neg_ℤ, Bool, false, ◌&&◌, cond, List, [], ◌∷◌, ◌++◌, map, filter_map, is_some, Option, Some, None}
 use Rattle.std.specs.List.{find, flat_map}
 use Rattle.cc_geom.specs.declared.rect.Point.{Point}
 use Rattle.cc_geom.specs.declared.rect.Rect.{Rect}
@@ -21,7 +21,8 @@ use Rattle.cc_edit.specs.Sound.{IsPage}
 use Rattle.cc_event.specs.Scripts.{ScriptModel}
 use Rattle.cc_event.specs.Ranking.{place_named, borders}
 use Rattle.cc_ranks.specs.Areas.{area_near}
-use Rattle.cc_ranks.specs.SeenTrees.{SeenLayerModel, SeenTreeModel, IsSeenIn}
+use Rattle.cc_event.specs.Tiles.{Tree}
+use Rattle.cc_ranks.specs.SeenTrees.{SeenLayerModel, SeenTreeModel, IsSeenIn, IsLayerOf}
 
 -- the opposite move
 abbrev pub back : Point → Point
@@ -136,3 +137,10 @@ visible_at vs l = visible_on (layer_at l.id vs)
 abbrev pub IsPageWhere : Option SeenTreeModel → Type 0
 IsPageWhere None = Unit {0}
 IsPageWhere (Some r) = IsPage r.page
+
+-- the layer of an id is found in a tree and as it is seen there, or in neither
+abbrev pub Found : Tree → ℕ → Option PageLayer → Option SeenLayerModel → Type 0
+Found t id None None = Unit {0}
+Found t id None (Some v) = ⊥
+Found t id (Some l) None = ⊥
+Found t id (Some l) (Some v) = IsLayerOf t l v × (l.id ≡ id)

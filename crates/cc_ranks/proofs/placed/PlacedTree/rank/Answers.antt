@@ -1,0 +1,17 @@
+use Rattle.std.proofs.Common.{ap, ◌∙◌, subst}
+use Rattle.cc_edit.specs.Pages.{Page}
+use Rattle.cc_edit.specs.Sound.{AreDistinct}
+use Rattle.cc_event.specs.Ranking.{borders}
+use Rattle.cc_ranks.specs.SeenTrees.{PlacedModel}
+use Rattle.cc_ranks.specs.inner.Lists.{rank_on_layer}
+use Rattle.cc_ranks.proofs.SeenLayers.{rank_found}
+use Rattle.cc_ranks.proofs.placed.PlacedTree.rank.Goals as goal
+
+pub returns-clause-value : goal.returns-clause-value
+returns-clause-value c = λ t is.
+    let s = c.args.script.now in
+    let page = ap (λ (m : PlacedModel). m.page) c.self.view_is ∙ is.page in
+    c.rank_on.ensures
+    ∙ ap (λ o. rank_on_layer (borders s c.self.inside.page.now) c.args.side o c.args.key) c.as_ref.ensures.value
+    ∙ ap (λ (p : Page). rank_on_layer (borders s p) c.args.side c.layer-layer.result c.args.key) page
+    ∙ rank_found s c.args.side t c.layer-layer.result c.args.key (subst (λ (p : Page). AreDistinct p.layers) page c.is_page.ensures.distinct) (c.layer-layer.ensures t is)
