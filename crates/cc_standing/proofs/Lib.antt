@@ -1,0 +1,5 @@
+pub mod Amounts
+pub mod PagePlaces
+pub mod AfterEvents
+pub mod InputFacts
+pub mod ListedNow
