@@ -1,0 +1,4 @@
+pub mod TreesAt
+pub mod SingleKeys
+pub mod Commits
+pub mod Hosting
