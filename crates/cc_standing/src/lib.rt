@@ -14,7 +14,9 @@ mod events;
 mod inputs;
 mod offsets;
 mod pages;
+mod parts;
 mod standing;
 
 pub use pages::Pages;
+pub use parts::moves_of;
 pub use standing::Standing;
