@@ -3,3 +3,4 @@ pub mod StartTiles
 pub mod DoneTiles
 pub mod OtherTiles
 pub mod PinFacts
+pub mod ReadyKeys

@@ -1,11 +1,13 @@
 //! The tile manager.
 
 ghost use Rattle.std.specs.Prelude.{◌≡◌, ℕ, ◌≤◌, true, List, [], ◌∷◌, Some, take, option_map, IfOk, OnOk, OnErr};
+ghost use Rattle.std.specs.List.{list_all};
 ghost use Rattle.cc_geom.specs.declared.tile.TileKey.{TileKey as Key};
-ghost use Rattle.cc_geom.specs.KeyLists.{has_key};
+ghost use Rattle.cc_geom.specs.KeyLists.{has_key, AreDistinct};
+ghost use Rattle.cc_geom.specs.KeyOrder.{key_cmp};
 ghost use Rattle.cc_priority.specs.declared.rank.Rank.{Rank as Ranking};
 ghost use Rattle.cc_priority.specs.Ranks.{rank_cmp};
-ghost use Rattle.cc_priority.specs.Ordered.{in_order};
+ghost use Rattle.cc_priority.specs.Ordered.{IsInOrder, in_order};
 ghost use Rattle.cc_priority.specs.Alike.{Alike};
 ghost use Rattle.cc_edit.specs.declared.moves.Move.{Move};
 ghost use Rattle.cc_rasterq.specs.Queues.{rank_key};
@@ -14,7 +16,7 @@ ghost use Rattle.cc_event.specs.declared.history.Entry.{Entry};
 ghost use Rattle.cc_event.specs.Scripts.{ScriptModel};
 ghost use Rattle.cc_event.specs.Accepted.{IsAccepted};
 ghost use Rattle.cc_event.specs.Legal.{Legal};
-ghost use Rattle.cc_event.specs.Tiles.{pending_tree, keys_of, ready, required};
+ghost use Rattle.cc_event.specs.Tiles.{pending_tree, keys_of, used, ready, required, are_ready};
 ghost use Rattle.cc_event.specs.Ranking.{choice, first, evicted_for, wanted};
 ghost use Rattle.cc_steps.specs.Events.{start, done, activate};
 ghost use Rattle.cc_steps.specs.ShownKeys.{Shows};
@@ -52,6 +54,15 @@ impl Model for TileManager {
     ghost coded = { managed_code the_store.the_row.coded the_pins.the_row.coded the_queue.the_row.coded };
 
     ghost view = { λ m. record { store = m.store; pinned = m.pins; queue = m.queue } };
+}
+
+// Whether all of these keys have an image.
+fn all_ready(store: &TileStore, keys: &Keys) -> bool
+    ensures { result ≡ list_all (is_ready store.now) keys.now }
+{
+    keys.as_slice()
+        .iter()
+        .all(|key| store.ready(*key).is_some())
 }
 
 impl TileManager {
@@ -108,6 +119,36 @@ impl TileManager {
         ensures { result ≡ has_key self.now.pinned key }
     {
         self.pins.has(key)
+    }
+
+    /// Whether all of these keys have an image.
+    pub fn are_ready(&self, keys: &Keys) -> bool
+        ensures { (s : ScriptModel) (h : List Entry) → Manages s h self.now → result ≡ are_ready s h keys.now }
+    {
+        all_ready(&self.store, keys)
+    }
+
+    /// The keys that have an image, each once, in key order. An error is want of memory.
+    pub fn ready_keys(&self) -> Result<Keys, AllocError>
+        ensures order { IfOk result (λ keys. IsInOrder key_cmp keys) }
+        ensures once { IfOk result (λ keys. AreDistinct keys) }
+        ensures keys { IfOk result (λ keys. (q : Key) → has_key keys q ≡ is_ready self.now.store q) }
+    {
+        self.store.ready_keys()
+    }
+
+    /// The keys that are not to be given up.
+    pub fn pins(&self) -> &Pins
+        ensures { result.now ≡ self.now.pinned }
+    {
+        &self.pins
+    }
+
+    /// How many keys are ready or being made.
+    pub fn used(&self) -> u32
+        ensures { (s : ScriptModel) (workers : ℕ) (h : List Entry) → Legal s workers h → Manages s h self.now → result ≡ used s h }
+    {
+        self.store.used()
     }
 
     /// Makes room for one start and its end. An error is want of memory, and the manager is as it was.
