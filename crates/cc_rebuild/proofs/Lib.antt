@@ -1,0 +1,3 @@
+pub mod Rebuilding
+pub mod SameTiles
+pub mod Activating

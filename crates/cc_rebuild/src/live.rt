@@ -1,0 +1,41 @@
+//! The ready keys that a tree has.
+
+ghost use Rattle.std.specs.Prelude.{◌≡◌, ◌&&◌, filter, IfOk};
+ghost use Rattle.cc_geom.specs.declared.tile.TileKey.{TileKey as Key};
+ghost use Rattle.cc_geom.specs.KeyLists.{has_key, AreDistinct};
+ghost use Rattle.cc_store.specs.Stores.{is_ready};
+ghost use Rattle.cc_event.specs.Tiles.{Tree, keys_of};
+ghost use Rattle.cc_ranks.specs.SeenTrees.{IsSeenTree};
+
+use cc_geom::Keys;
+use cc_ranks::SeenTree;
+use cc_tilemanager::TileManager;
+use std::alloc::{AllocError, Global};
+
+// Those of the keys that a tree has, in their order.
+fn live_of(alloc: Global, tree: &SeenTree<'_>, keys: &Keys) -> Result<Keys, AllocError>
+    ensures { IfOk result (λ live. (t : Tree) → IsSeenTree t tree.now → live ≡ filter (has_key (keys_of t)) keys.now) }
+{
+    let mut live = Keys::new(alloc);
+    for key in keys.as_slice() {
+        if tree.has(*key) {
+            if let Err(refused) = live.push(*key) {
+                return Err(refused.0);
+            }
+        }
+    }
+    Ok(live)
+}
+
+/// The ready keys that a tree has, each once. An error is want of memory.
+pub fn kept_live(
+    alloc: Global,
+    manager: &TileManager,
+    tree: &SeenTree<'_>,
+) -> Result<Keys, AllocError>
+    ensures once { IfOk result (λ live. (t : Tree) → IsSeenTree t tree.now → AreDistinct live) }
+    ensures keys { IfOk result (λ live. (t : Tree) → IsSeenTree t tree.now → (q : Key) → has_key live q ≡ (is_ready manager.now.store q && has_key (keys_of t) q)) }
+{
+    let ready = manager.ready_keys()?;
+    live_of(alloc, tree, &ready)
+}
