@@ -1,0 +1,46 @@
+-- Frames that show one scene, and so another one too.
+use Rattle.std.proofs.Common.{◌≡◌, ℕ, ◌<◌, pos, Bool, true, false, cond, List, refl, sym, ◌∙◌, arith}
+use Rattle.std.proofs.lemmas.Int.{ints}
+use Rattle.cc_geom.specs.declared.Rect.{Rect}
+use Rattle.cc_geom.specs.Covers.{covers}
+use Rattle.cc_geom.proofs.Spans.{is_within_of, both_of}
+use Rattle.cc_region.specs.Points.{covered}
+use Rattle.cc_pixel.specs.Colours.{Parts}
+use Rattle.cc_scene.specs.Views.{SceneView}
+use Rattle.cc_scene.specs.Pixels.{scene_pixel}
+use Rattle.cc_render.specs.Frames.{FrameView, IsOfSize, ShowsIn, frame_pixel}
+use Rattle.cc_damage.specs.Damage.{AreAlikeOutside, screen}
+use Rattle.cc_occlude.specs.Culled.{IsCulled}
+use Rattle.cc_painter.specs.Painters.{ShowsWhole}
+
+-- a pixel of the screen
+on_screen : (s : SceneView) (x y : ℕ) → x < s.w → y < s.h → covers (screen s) (pos x) (pos y) ≡ true
+on_screen s x y xw yh =
+    both_of _ _ (is_within_of (pos 0) (pos s.w) (pos x) (record { low = omega (arith, ints); high = omega (arith, ints) }))
+    (is_within_of (pos 0) (pos s.h) (pos y) (record { low = omega (arith, ints); high = omega (arith, ints) }))
+
+by_place : (t : Bool) (new kept : Parts) → (t ≡ false → kept ≡ new) → cond t new kept ≡ new
+by_place true new kept h = refl
+by_place false new kept h = h refl
+
+-- the damage was drawn over a frame of the scene before
+pub redrawn : (old s : SceneView) (region : List Rect) (before after : FrameView) → old.w ≡ s.w → old.h ≡ s.h → ShowsWhole old before
+    → AreAlikeOutside region old s → IsOfSize s.w s.h after → ShowsIn s region before after → ShowsWhole s after
+redrawn old s region before after wide tall shown alike size drawn = record {
+  size = size;
+  pixels = λ x y xw yh.
+      let sw = size.wide in
+      let sh = size.tall in
+      let bw = shown.size.wide in
+      let bh = shown.size.tall in
+      drawn x y xw yh
+      ∙ by_place (covered region (pos x) (pos y)) (scene_pixel s (pos x) (pos y)) (frame_pixel before x y)
+      (λ out. shown.pixels x y (omega arith) (omega arith) ∙ alike (pos x) (pos y) (on_screen old x y (omega arith) (omega arith)) out);
+}
+
+-- a scene without its hidden quads was drawn
+pub shown_whole : (s t : SceneView) (f : FrameView) → IsCulled s t → ShowsWhole t f → ShowsWhole s f
+shown_whole s t f culled shown = record {
+  size = record { wide = shown.size.wide ∙ culled.wide; tall = shown.size.tall ∙ culled.tall };
+  pixels = λ x y xw yh. shown.pixels x y xw yh ∙ culled.pixels (pos x) (pos y);
+}

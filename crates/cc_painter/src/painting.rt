@@ -1,0 +1,83 @@
+//! Painters.
+
+ghost use Rattle.std.specs.Prelude.{◌≡◌, None, IfOk, OnOk, OnErr};
+ghost use Rattle.cc_scene.specs.Sound.{IsSide};
+ghost use Rattle.cc_render.specs.Frames.{IsOfSize, EachIs, black};
+ghost use Rattle.cc_painter.specs.Painters.{ShowsWhole, HoldsCulled};
+
+use crate::redrawing::redraw;
+use cc_occlude::cull;
+use cc_render::Frame;
+use cc_scene::Scene;
+use std::alloc::{AllocError, Global};
+use std::marker::Model;
+
+/// A frame that shows one scene after another, and the last of them.
+#[derive(Drop)]
+pub struct Painter {
+    alloc: Global,
+    frame: Frame,
+    // the scene that the frame shows; None at first and after a refusal
+    held: Option<Scene>,
+}
+
+impl Model for Painter {
+    ghost use Rattle.cc_painter.specs.Painters.{PainterView, IsPainter};
+
+    ghost Value = { PainterView };
+
+    ghost view = { λ p. record { frame = p.frame; held = p.held } };
+
+    ghost invariant = { λ p. IsPainter (record { frame = p.frame; held = p.held }) };
+}
+
+impl Painter {
+    /// A painter that holds no scene. Its frame has these sides, 1 to 2048 pixels each, and is black and
+    /// opaque. An error is want of memory.
+    pub fn new(alloc: Global, w: u32, h: u32) -> Result<Painter, AllocError>
+        requires wide { IsSide w }
+        requires tall { IsSide h }
+        ensures size { IfOk result (λ painter. IsOfSize w h painter.frame) }
+        ensures pixels { IfOk result (λ painter. EachIs (λ x y. black) painter.frame) }
+        ensures held { IfOk result (λ painter. painter.held ≡ None) }
+    {
+        let frame = Frame::new(alloc, w, h)?;
+        Ok(Painter {
+            alloc,
+            frame,
+            held: None,
+        })
+    }
+
+    /// The frame. It shows the scene that the painter holds, if it holds one.
+    pub fn frame(&self) -> &Frame
+        ensures { result.now ≡ self.now.frame }
+    {
+        &self.frame
+    }
+
+    /// Draws a scene, as `paint` does, and lends the frame, which has the scene's size and pixels. An error is
+    /// want of memory.
+    pub fn show(&mut self, scene: Scene) -> Result<&Frame, AllocError>
+        ensures { IfOk result (λ frame. ShowsWhole scene frame.now) }
+    {
+        self.paint(scene)?;
+        Ok(&self.frame)
+    }
+
+    /// Draws a scene: the frame then has the scene's size and pixels. Where the painter holds a scene of that
+    /// size, only the damage is drawn; else the whole is, into a new frame where the size differs. An error is
+    /// want of memory: the painter then holds no scene, and the next one is drawn whole.
+    #[tactic(auto, using(crate::proofs::Redrawn::shown_whole))]
+    pub fn paint(&mut self, scene: Scene) -> Result<(), AllocError>
+        ensures shown { OnOk result (ShowsWhole scene self.new.frame) }
+        ensures held { OnOk result (HoldsCulled scene self.new.held) }
+        ensures err { OnErr result (self.new.held ≡ None) }
+    {
+        let held = self.held.take();
+        let culled = cull(self.alloc, &scene)?;
+        redraw(self.alloc, &mut self.frame, held, &culled)?;
+        self.held = Some(culled);
+        Ok(())
+    }
+}

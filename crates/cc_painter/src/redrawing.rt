@@ -1,0 +1,73 @@
+//! Drawing a scene into a frame that may show another one.
+
+ghost use Rattle.std.specs.Prelude.{◌≡◌, IfSome, OnOk, IsTrue};
+ghost use Rattle.cc_render.specs.Frames.{IsOfSize};
+ghost use Rattle.cc_painter.specs.Painters.{ShowsWhole};
+
+use cc_damage::damage_of;
+use cc_render::{Frame, render, render_region};
+use cc_scene::Scene;
+use std::alloc::{AllocError, Global};
+
+/// Makes a frame show a scene. Where it shows one of the same size before, only the damage is drawn. An error
+/// is want of memory, and the frame then shows neither of them for sure.
+pub(crate) fn redraw(
+    alloc: Global,
+    frame: &mut Frame,
+    held: Option<Scene>,
+    scene: &Scene,
+) -> Result<(), AllocError>
+    requires { IfSome held (λ old. ShowsWhole old frame.old) }
+    ensures { OnOk result (ShowsWhole scene.now frame.new) }
+{
+    match held {
+        Some(old) if are_of_one_size(&old, scene) => draw_damage(alloc, frame, &old, scene),
+        _ => draw_whole(alloc, frame, scene),
+    }
+}
+
+// whether two scenes are of one size
+fn are_of_one_size(a: &Scene, b: &Scene) -> bool
+    ensures wide { IsTrue result → a.now.w ≡ b.now.w }
+    ensures tall { IsTrue result → a.now.h ≡ b.now.h }
+{
+    a.w() == b.w() && a.h() == b.h()
+}
+
+// draws the whole of a scene
+fn draw_whole(alloc: Global, frame: &mut Frame, scene: &Scene) -> Result<(), AllocError>
+    ensures { OnOk result (ShowsWhole scene.now frame.new) }
+{
+    fit(alloc, frame, scene)?;
+    render(scene, frame)?;
+    Ok(())
+}
+
+// takes a new frame where the old one is not of a scene's size
+fn fit(alloc: Global, frame: &mut Frame, scene: &Scene) -> Result<(), AllocError>
+    ensures { OnOk result (IsOfSize scene.now.w scene.now.h frame.new) }
+{
+    if frame.w() == scene.w() && frame.h() == scene.h() {
+        return Ok(());
+    }
+    let new = Frame::new(alloc, scene.w(), scene.h())?;
+    *frame = new;
+    Ok(())
+}
+
+// draws where a scene differs from the one of its size that the frame shows
+fn draw_damage(
+    alloc: Global,
+    frame: &mut Frame,
+    old: &Scene,
+    scene: &Scene,
+) -> Result<(), AllocError>
+    requires wide { old.now.w ≡ scene.now.w }
+    requires tall { old.now.h ≡ scene.now.h }
+    requires shown { ShowsWhole old.now frame.old }
+    ensures { OnOk result (ShowsWhole scene.now frame.new) }
+{
+    let region = damage_of(alloc, old, scene)?;
+    render_region(scene, frame, &region)?;
+    Ok(())
+}
