@@ -1,4 +1,4 @@
 pub mod Again
 pub mod Counts
 pub mod Fits
-mod Fronts
+mod Fours

@@ -3,3 +3,4 @@ pub mod Hex
 pub mod Forms
 pub mod Fields
 pub mod Values
+pub mod inner

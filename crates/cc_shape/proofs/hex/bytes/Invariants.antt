@@ -1,6 +1,6 @@
 use Rattle.std.proofs.Common.{◌≡◌, length}
 use Rattle.cc_shape.specs.Hex.{bytes_of}
-use Rattle.cc_shape.proofs.Fronts.{after}
+use Rattle.cc_shape.specs.inner.Fronts.{after}
 use Rattle.cc_shape.proofs.hex.bytes.Given as goal
 
 -- what is read, before the bytes of the rest, is the bytes of all
