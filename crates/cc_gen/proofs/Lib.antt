@@ -1,0 +1,4 @@
+pub mod Fillings
+pub mod Ranges
+pub mod Scripts
+pub mod Pages
