@@ -1,5 +1,5 @@
 -- What code says of a run that is played in lockstep: where it may go, where it went, and how far it came.
-use Rattle.std.specs.Prelude.{◌≡◌, ℕ, not, ◌||◌, is_some, List, ◌++◌, ⊤, None, Result, Ok, Err}
+use Rattle.std.specs.Prelude.{◌≡◌, ℕ, not, ◌||◌, is_some, List, ◌++◌, ⊤, Option, Some, None, Result, Ok, Err}
 use Rattle.cc_sched.specs.declared.kind.Kind.{Kind}
 use Rattle.cc_sched.specs.declared.kind.Kind.TheVariants as kind
 use Rattle.cc_event.specs.declared.input.Input.{Input}
@@ -140,7 +140,16 @@ inputs_from is s = InputSteps s is
 abbrev pub BeginsLockstep : ScriptModel → List Entry → Type 0
 BeginsLockstep s entries = (later : List Entry) × IsLockstep s (entries ++ later)
 
--- ---- what a compositor answers
+-- ---- what a compositor is asked for, and what it answers
+
+-- the actor of a kind that lockstep asks for: the main side, the one worker, or the compositor; it asks for no stop
+abbrev pub actor_for : Kind → Option ℕ
+actor_for kind.Ready = Some 1
+actor_for kind.Abort = Some 1
+actor_for kind.Start = Some 2
+actor_for kind.Done = Some 2
+actor_for kind.Stop = None
+actor_for _ = Some 0
 
 -- the event of this kind and actor was entered; or nothing was, since none is possible or there was no memory
 abbrev pub Entered : Kind → ℕ → Run → Run → Result ⊤ EnterFault → Type 0

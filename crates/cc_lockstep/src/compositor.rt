@@ -6,7 +6,7 @@ ghost use Rattle.cc_event.specs.EventFields.{sends};
 ghost use Rattle.cc_event.specs.Scans.{newest};
 ghost use Rattle.cc_event.specs.Frames.{active, changes as frame_changes, is_left as is_frame_left, pulls_of};
 ghost use Rattle.cc_event.specs.Lockstep.{has_first as is_tile_first, is_possible, waits as is_waiting};
-ghost use Rattle.cc_lockstep.specs.Walks.{Entered, Run};
+ghost use Rattle.cc_lockstep.specs.Walks.{actor_for, Entered, Run};
 
 use cc_sched::Kind;
 use std::alloc::AllocError;
@@ -28,9 +28,10 @@ pub enum EnterFault {
 pub trait Compositor {
     ghost run: { Self → Run };
 
-    /// Enters the event of this kind and actor. On an error nothing was entered; `NotNow` comes only
-    /// where none is possible.
+    /// Enters the event of this kind and of its actor. On an error nothing was entered; `NotNow` comes
+    /// only where none is possible.
     fn enter(&mut self, kind: Kind, actor: u32) -> Result<(), EnterFault>
+        requires { actor_for kind ≡ Some actor }
         ensures { Entered kind actor (run self.old) (run self.new) result };
 
     /// Whether the pending commit can be activated.

@@ -1,16 +1,17 @@
 //! Tiles are started and made, one after another.
 
-ghost use Rattle.std.specs.Prelude.{◌≡◌, OnOk, OnErr};
+ghost use Rattle.std.specs.Prelude.{◌≡◌, Some, OnOk, OnErr};
 ghost use Rattle.cc_event.specs.Lockstep.{Pair};
-ghost use Rattle.cc_lockstep.specs.Walks.{CanFollow, Follows, IsOnWay, entering, pairs_to_activation, pairs_at_most, all_pairs};
+ghost use Rattle.cc_lockstep.specs.Walks.{CanFollow, Follows, IsOnWay, actor_for, entering, pairs_to_activation, pairs_at_most, all_pairs};
 
 use crate::compositor::{Compositor, EnterFault};
 use cc_sched::Kind;
 use std::alloc::AllocError;
 
-/// Enters the event of this kind and actor, which is possible.
+/// Enters the event of this kind and of its actor, which is possible.
 pub(crate) fn enter<C: Compositor>(core: &mut C, kind: Kind, actor: u32) -> Result<(), AllocError>
-    requires { CanFollow (entering kind actor) (C.run core.old) }
+    requires actor { actor_for kind ≡ Some actor }
+    requires can { CanFollow (entering kind actor) (C.run core.old) }
     ensures ok { OnOk result (Follows (entering kind actor) (C.run core.old) (C.run core.new)) }
     ensures err { OnErr result (C.run core.new ≡ C.run core.old) }
 {

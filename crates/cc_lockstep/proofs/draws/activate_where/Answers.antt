@@ -1,4 +1,4 @@
-use Rattle.std.proofs.Common.{sym}
+use Rattle.std.proofs.Common.{refl, sym}
 use Rattle.cc_sched.specs.declared.kind.Kind.TheVariants as kind
 use Rattle.cc_event.specs.Lockstep.{is_possible, Stays}
 use Rattle.cc_lockstep.specs.Walks as ways
@@ -7,7 +7,7 @@ use Rattle.cc_lockstep.proofs.Following.{can_if, follows_if, on_if, refused, the
 use Rattle.cc_lockstep.proofs.draws.activate_where.Goals as goal
 
 pub enter-requires : goal.enter-requires
-enter-requires g c = can_if (λ s. is_possible s kind.Activate 0) (ways.entering kind.Activate 0) (λ s. Stays) _ (sym c.if-can_activate.ensures) c.requires
+enter-requires g c = record { actor = refl; can = can_if (λ s. is_possible s kind.Activate 0) (ways.entering kind.Activate 0) (λ s. Stays) _ (sym c.if-can_activate.ensures) c.requires }
 
 pub returns-then-can_activate-clause-err : goal.returns-then-can_activate-clause-err
 returns-then-can_activate-clause-err g c = then_on_error _ _ _ c.enter.ensures.err (λ e. on_if (λ s. is_possible s kind.Activate 0) (ways.entering kind.Activate 0) (λ s. Stays) _ _ (sym c.if-can_activate.ensures) (refused (ways.entering kind.Activate 0) _ _ (parts.own_grows kind.Activate 0) (can_if (λ s. is_possible s kind.Activate 0) (ways.entering kind.Activate 0) (λ s. Stays) _ (sym c.if-can_activate.ensures) c.requires) e))

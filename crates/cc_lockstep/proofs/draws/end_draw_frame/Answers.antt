@@ -1,3 +1,4 @@
+use Rattle.std.proofs.Common.{refl}
 use Rattle.cc_sched.specs.declared.kind.Kind.TheVariants as kind
 use Rattle.cc_lockstep.specs.Walks as ways
 use Rattle.cc_lockstep.proofs.Parts as parts
@@ -8,7 +9,7 @@ pub returns-in_err-draw_active-clause-err : goal.returns-in_err-draw_active-clau
 returns-in_err-draw_active-clause-err g c = in_any_case _ _ (left_in_first ways.draw_or_skip (ways.entering kind.Finish 0) _ _ parts.draw_good (parts.own_grows kind.Finish 0) c.requires c.in_err-draw_active.ensures.err)
 
 pub enter-requires : goal.enter-requires
-enter-requires g c = rest ways.draw_or_skip (ways.entering kind.Finish 0) _ _ parts.draw_good c.requires c.in_ok-draw_active.ensures.ok
+enter-requires g c = record { actor = refl; can = rest ways.draw_or_skip (ways.entering kind.Finish 0) _ _ parts.draw_good c.requires c.in_ok-draw_active.ensures.ok }
 
 pub returns-clause-err : goal.returns-clause-err
 returns-clause-err g c = then_on_error _ _ _ c.enter.ensures.err (λ e. last_refused ways.draw_or_skip kind.Finish 0 _ _ _ parts.draw_good c.requires c.in_ok-draw_active.ensures.ok e)

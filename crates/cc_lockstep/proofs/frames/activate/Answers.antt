@@ -1,3 +1,4 @@
+use Rattle.std.proofs.Common.{refl}
 use Rattle.cc_sched.specs.declared.kind.Kind.TheVariants as kind
 use Rattle.cc_lockstep.specs.Walks as ways
 use Rattle.cc_lockstep.proofs.Parts as parts
@@ -8,7 +9,7 @@ pub returns-in_err-pairs_until_activation-clause-err : goal.returns-in_err-pairs
 returns-in_err-pairs_until_activation-clause-err g c = in_any_case _ _ (left_in_first ways.pairs_to_activation (ways.entering kind.Activate 0) _ _ parts.pairs_good (parts.own_grows kind.Activate 0) c.requires c.in_err-pairs_until_activation.ensures.err)
 
 pub enter-requires : goal.enter-requires
-enter-requires g c = rest ways.pairs_to_activation (ways.entering kind.Activate 0) _ _ parts.pairs_good c.requires c.in_ok-pairs_until_activation.ensures.ok
+enter-requires g c = record { actor = refl; can = rest ways.pairs_to_activation (ways.entering kind.Activate 0) _ _ parts.pairs_good c.requires c.in_ok-pairs_until_activation.ensures.ok }
 
 pub returns-clause-err : goal.returns-clause-err
 returns-clause-err g c = then_on_error _ _ _ c.enter.ensures.err (λ e. last_refused ways.pairs_to_activation kind.Activate 0 _ _ _ parts.pairs_good c.requires c.in_ok-pairs_until_activation.ensures.ok e)

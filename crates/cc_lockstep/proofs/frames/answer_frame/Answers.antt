@@ -1,4 +1,4 @@
-use Rattle.std.proofs.Common.{sym, ◌∙◌}
+use Rattle.std.proofs.Common.{refl, sym, ◌∙◌}
 use Rattle.cc_sched.specs.declared.kind.Kind.TheVariants as kind
 use Rattle.cc_event.specs.Lockstep.{is_possible}
 use Rattle.cc_lockstep.specs.Walks as ways
@@ -24,7 +24,7 @@ returns-then-changed-clause-ok g c =
 pub enter-requires : goal.enter-requires
 enter-requires g c =
     let (k, n) = c.requires.sent in
-    can_if (λ s. is_possible s kind.Abort 1) (ways.entering kind.Abort 1) ways.commit_made _ (parts.unchanged_aborts (g.C.Compositor.run c.args.core.now) k c.requires.can n (sym (c.requires.changed k n) ∙ c.if-changed.false)) c.requires.can
+    record { actor = refl; can = can_if (λ s. is_possible s kind.Abort 1) (ways.entering kind.Abort 1) ways.commit_made _ (parts.unchanged_aborts (g.C.Compositor.run c.args.core.now) k c.requires.can n (sym (c.requires.changed k n) ∙ c.if-changed.false)) c.requires.can }
 
 pub returns-else-changed-clause-err : goal.returns-else-changed-clause-err
 returns-else-changed-clause-err g c =

@@ -1,3 +1,4 @@
+use Rattle.std.proofs.Common.{refl}
 use Rattle.cc_sched.specs.declared.kind.Kind.TheVariants as kind
 use Rattle.cc_lockstep.specs.Walks as ways
 use Rattle.cc_lockstep.proofs.Fronts as fronts
@@ -9,7 +10,7 @@ pub returns-in_err-enter-clause-err : goal.returns-in_err-enter-clause-err
 returns-in_err-enter-clause-err g c = in_any_case _ _ (refused (then' (ways.entering kind.Ready 1) (ways.entering kind.Commit 0)) _ _ (λ s. fronts.both _ _ (parts.own_grows kind.Ready 1 s) (parts.own_grows kind.Commit 0 s)) c.requires c.in_err-enter.ensures.err)
 
 pub enter-requires-2 : goal.enter-requires-2
-enter-requires-2 g c = rest (ways.entering kind.Ready 1) (ways.entering kind.Commit 0) _ _ parts.ready_good c.requires c.in_ok-enter.ensures.ok
+enter-requires-2 g c = record { actor = refl; can = rest (ways.entering kind.Ready 1) (ways.entering kind.Commit 0) _ _ parts.ready_good c.requires c.in_ok-enter.ensures.ok }
 
 pub returns-clause-err : goal.returns-clause-err
 returns-clause-err g c = then_on_error _ _ _ c.enter-2.ensures.err (λ e. last_refused (ways.entering kind.Ready 1) kind.Commit 0 _ _ _ parts.ready_good c.requires c.in_ok-enter.ensures.ok e)

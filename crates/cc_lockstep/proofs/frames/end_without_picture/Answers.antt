@@ -10,7 +10,7 @@ pub returns-in_err-enter-clause-err : goal.returns-in_err-enter-clause-err
 returns-in_err-enter-clause-err g c = in_any_case _ _ (refused (then' (ways.entering kind.NoDraw 0) (ways.entering kind.Finish 0)) _ _ (λ s. fronts.both _ _ (parts.own_grows kind.NoDraw 0 s) (parts.own_grows kind.Finish 0 s)) c.requires c.in_err-enter.ensures.err)
 
 pub enter-requires-2 : goal.enter-requires-2
-enter-requires-2 g c = rest (ways.entering kind.NoDraw 0) (ways.entering kind.Finish 0) _ _ (parts.own_good kind.NoDraw refl) c.requires c.in_ok-enter.ensures.ok
+enter-requires-2 g c = record { actor = refl; can = rest (ways.entering kind.NoDraw 0) (ways.entering kind.Finish 0) _ _ (parts.own_good kind.NoDraw refl) c.requires c.in_ok-enter.ensures.ok }
 
 pub returns-clause-err : goal.returns-clause-err
 returns-clause-err g c = then_on_error _ _ _ c.enter-2.ensures.err (λ e. last_refused (ways.entering kind.NoDraw 0) kind.Finish 0 _ _ _ (parts.own_good kind.NoDraw refl) c.requires c.in_ok-enter.ensures.ok e)

@@ -1,3 +1,4 @@
+use Rattle.std.proofs.Common.{refl}
 use Rattle.cc_sched.specs.declared.kind.Kind.TheVariants as kind
 use Rattle.cc_lockstep.specs.Walks as ways
 use Rattle.cc_lockstep.proofs.Parts as parts
@@ -8,7 +9,7 @@ pub returns-in_err-rounds_until_end-clause-err : goal.returns-in_err-rounds_unti
 returns-in_err-rounds_until_end-clause-err g c = in_any_case _ _ (left_in_first ways.last_rounds (ways.entering kind.End 0) _ _ parts.last_good (parts.own_grows kind.End 0) c.requires c.in_err-rounds_until_end.ensures.err)
 
 pub enter-requires : goal.enter-requires
-enter-requires g c = rest ways.last_rounds (ways.entering kind.End 0) _ _ parts.last_good c.requires c.in_ok-rounds_until_end.ensures.ok
+enter-requires g c = record { actor = refl; can = rest ways.last_rounds (ways.entering kind.End 0) _ _ parts.last_good c.requires c.in_ok-rounds_until_end.ensures.ok }
 
 pub returns-clause-err : goal.returns-clause-err
 returns-clause-err g c = then_on_error _ _ _ c.enter.ensures.err (λ e. last_refused ways.last_rounds kind.End 0 _ _ _ parts.last_good c.requires c.in_ok-rounds_until_end.ensures.ok e)

@@ -1,4 +1,4 @@
-use Rattle.std.proofs.Common.{sym, subst}
+use Rattle.std.proofs.Common.{refl, sym, subst}
 use Rattle.cc_sched.specs.declared.kind.Kind.TheVariants as kind
 use Rattle.cc_event.specs.declared.input.Input.{Input}
 use Rattle.cc_lockstep.specs.Walks.{CanFollow, Follows, IsOnWay, input_played, entering}
@@ -40,7 +40,7 @@ returns-in-Settle-clause-ok g c =
     then_on_ok _ _ _ c.settle.ensures.ok (λ f. subst (λ (i : Input). Follows (input_played i) (g.C.Compositor.run c.args.core.now) (g.C.Compositor.run c.settle.new.core)) (sym c.in-Settle.is) f)
 
 pub enter-requires : goal.enter-requires
-enter-requires g c = subst (λ (i : Input). CanFollow (input_played i) (g.C.Compositor.run c.args.core.now)) c.in-Scroll.is c.requires
+enter-requires g c = record { actor = refl; can = subst (λ (i : Input). CanFollow (input_played i) (g.C.Compositor.run c.args.core.now)) c.in-Scroll.is c.requires }
 
 pub returns-in-Scroll-clause-err : goal.returns-in-Scroll-clause-err
 returns-in-Scroll-clause-err g c =
@@ -53,7 +53,7 @@ returns-in-Scroll-clause-ok g c =
     then_on_ok _ _ _ c.enter.ensures.ok (λ f. subst (λ (i : Input). Follows (input_played i) (g.C.Compositor.run c.args.core.now) (g.C.Compositor.run c.enter.new.core)) (sym c.in-Scroll.is) f)
 
 pub enter-requires-in-Wheel : goal.enter-requires-in-Wheel
-enter-requires-in-Wheel g c = subst (λ (i : Input). CanFollow (input_played i) (g.C.Compositor.run c.args.core.now)) c.in-Wheel.is c.requires
+enter-requires-in-Wheel g c = record { actor = refl; can = subst (λ (i : Input). CanFollow (input_played i) (g.C.Compositor.run c.args.core.now)) c.in-Wheel.is c.requires }
 
 pub returns-in-Wheel-clause-err : goal.returns-in-Wheel-clause-err
 returns-in-Wheel-clause-err g c =

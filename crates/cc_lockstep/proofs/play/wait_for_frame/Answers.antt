@@ -1,3 +1,4 @@
+use Rattle.std.proofs.Common.{refl}
 use Rattle.cc_sched.specs.declared.kind.Kind.TheVariants as kind
 use Rattle.cc_lockstep.specs.Walks as ways
 use Rattle.cc_lockstep.proofs.Parts as parts
@@ -8,7 +9,7 @@ pub returns-in_err-rounds_until_await-clause-err : goal.returns-in_err-rounds_un
 returns-in_err-rounds_until_await-clause-err g c = in_any_case _ _ (left_in_first ways.rounds_to_await (ways.entering kind.Await 0) _ _ parts.rounds_good (parts.own_grows kind.Await 0) c.requires c.in_err-rounds_until_await.ensures.err)
 
 pub enter-requires : goal.enter-requires
-enter-requires g c = rest ways.rounds_to_await (ways.entering kind.Await 0) _ _ parts.rounds_good c.requires c.in_ok-rounds_until_await.ensures.ok
+enter-requires g c = record { actor = refl; can = rest ways.rounds_to_await (ways.entering kind.Await 0) _ _ parts.rounds_good c.requires c.in_ok-rounds_until_await.ensures.ok }
 
 pub returns-clause-err : goal.returns-clause-err
 returns-clause-err g c = then_on_error _ _ _ c.enter.ensures.err (λ e. last_refused ways.rounds_to_await kind.Await 0 _ _ _ parts.rounds_good c.requires c.in_ok-rounds_until_await.ensures.ok e)
