@@ -1,0 +1,12 @@
+pub mod CoreSteps
+pub mod MayCome
+pub mod Prepared
+pub mod SeenSteps
+pub mod InputEvents
+pub mod WantedKeys
+pub mod EmptyTrees
+pub mod LastEntry
+pub mod AllJobs
+pub mod Pictures
+pub mod ActivationSteps
+pub mod CommitSteps

@@ -1,0 +1,44 @@
+-- A core after the events that move scrollers, and after an abort.
+use Rattle.std.proofs.Common.{◌≡◌, ℕ, ℤ, true, List, [], ◌∷◌, Option, Some, None, refl, sym, ◌∙◌, ap, subst}
+use Rattle.cc_geom.specs.declared.tile.TileKey.{TileKey}
+use Rattle.cc_priority.specs.Choice.{Choice}
+use Rattle.cc_edit.specs.declared.moves.Move.{Move}
+use Rattle.cc_event.specs.declared.event.Event.TheVariants as event
+use Rattle.cc_event.specs.declared.input.Input.{Input}
+use Rattle.cc_event.specs.declared.input.Input.TheVariants as input
+use Rattle.cc_event.specs.declared.history.Entry.{Entry}
+use Rattle.cc_event.specs.Scripts.{ScriptModel}
+use Rattle.cc_event.specs.EventFields.{moves, scroll_move}
+use Rattle.cc_event.specs.Due.{next_input, input_now}
+use Rattle.cc_event.specs.Tiles.{required}
+use Rattle.cc_event.specs.Frames.{pending}
+use Rattle.cc_event.specs.Legal.{Legal}
+use Rattle.cc_event.proofs.BoolFacts.{none_where}
+use Rattle.cc_event.proofs.Course.{course}
+use Rattle.cc_event.proofs.DueFacts.{entry, at_commit}
+use Rattle.cc_steps.specs.Events.{abort, commit}
+use Rattle.cc_tilemanager.specs.Managers.{Managed, Manages}
+use Rattle.cc_host.specs.Hosts.{HostModel, Hosts}
+use Rattle.cc_core.specs.inner.Cores.{Kept, IsCore}
+
+module _ (s : ScriptModel) (h : List Entry) (kept : Kept) (core : IsCore s h kept) (host : HostModel) (m : Managed) (needed : List TileKey) where
+  abbrev then : Kept
+  then = record { host = host; tiles = m; told = kept.told; prepared = kept.prepared; required = needed }
+
+  pub scroll_core : (i : ℕ) (dx dy : ℤ) → Hosts s (entry 0 (event.Scroll i dx dy) ∷ h) host → Manages s (entry 0 (event.Scroll i dx dy) ∷ h) m → needed ≡ required s (entry 0 (event.Scroll i dx dy) ∷ h)
+      → IsCore s (entry 0 (event.Scroll i dx dy) ∷ h) then
+  scroll_core i dx dy hosts holds needs = record { host = hosts; tiles = holds; told = core.told; prepared = core.prepared; required = needs }
+
+  pub wheel_core : (i layer : ℕ) (rest_x rest_y : ℤ) (ms : List Move) → Hosts s (entry 0 (event.Wheel i layer rest_x rest_y ms) ∷ h) host → Manages s (entry 0 (event.Wheel i layer rest_x rest_y ms) ∷ h) m
+      → needed ≡ required s (entry 0 (event.Wheel i layer rest_x rest_y ms) ∷ h) → IsCore s (entry 0 (event.Wheel i layer rest_x rest_y ms) ∷ h) then
+  wheel_core i layer rest_x rest_y ms hosts holds needs = record { host = hosts; tiles = holds; told = core.told; prepared = core.prepared; required = needs }
+
+  pub abort_core : (k : ℕ) → Hosts s (abort 1 k ∷ h) host → Manages s (abort 1 k ∷ h) m → needed ≡ required s (abort 1 k ∷ h) → IsCore s (abort 1 k ∷ h) then
+  abort_core k hosts holds needs = record { host = hosts; tiles = holds; told = λ t j e. absurd cc; prepared = λ t j e. absurd cc; required = needs }
+
+  pub commit_core : (k : ℕ) → Hosts s (entry 0 (event.Commit k) ∷ h) host → Manages s (entry 0 (event.Commit k) ∷ h) m → needed ≡ required s (entry 0 (event.Commit k) ∷ h) → IsCore s (entry 0 (event.Commit k) ∷ h) then
+  commit_core k hosts holds needs = record { host = hosts; tiles = holds; told = λ t j e. absurd cc; prepared = λ t j e. absurd cc; required = needs }
+
+  pub activate_core : (k : ℕ) (ms : List Move) → Hosts s (entry 0 (event.Activate k ms) ∷ h) host → Manages s (entry 0 (event.Activate k ms) ∷ h) m → needed ≡ required s (entry 0 (event.Activate k ms) ∷ h)
+      → IsCore s (entry 0 (event.Activate k ms) ∷ h) then
+  activate_core k ms hosts holds needs = record { host = hosts; tiles = holds; told = core.told; prepared = core.prepared; required = needs }

@@ -1,0 +1,62 @@
+-- The pending tree becomes the active one, and nothing is pending then.
+use Rattle.std.proofs.Common.{◌≡◌, ℕ, true, List, ◌∷◌, Some, is_some, refl, sym, ◌∙◌, ap, subst}
+use Rattle.cc_sched.specs.declared.kind.Kind.TheVariants as kind
+use Rattle.cc_edit.specs.declared.moves.Move.{Move}
+use Rattle.cc_event.specs.declared.event.Event.TheVariants as event
+use Rattle.cc_event.specs.declared.history.Entry.{Entry}
+use Rattle.cc_event.specs.Frames.{pending}
+use Rattle.cc_event.specs.Scrolls.{next_clamps}
+use Rattle.cc_steps.specs.Events.{activate}
+use Rattle.cc_standing.specs.Standings.{Stands}
+use Rattle.cc_rebuild.specs.Rebuilds.{AreForActivation}
+use Rattle.cc_tilemanager.specs.Managers.{Manages}
+use Rattle.cc_host.specs.Hosts.{Hosts}
+use Rattle.cc_log.specs.Runs.{Run, past, now, Entered}
+use Rattle.cc_core.proofs.CoreSteps.{one_more}
+use Rattle.cc_core.proofs.SeenSteps.{activate_core}
+use Rattle.cc_core.proofs.WantedKeys.{activated_needs}
+use Rattle.cc_core.proofs.ActivationSteps.{OfActivation, of_activation}
+use Rattle.cc_core.proofs.core_state.Core.enter_activation.Goals as goal
+
+pub activate-requires : goal.activate-requires
+activate-requires c =
+    let r : Run = c.self.inside.log in
+    let h : List Entry = past r in
+    let waits = subst (λ (z : Run). pending (past z) ≡ Some c.args.frame) (sym c.self.view_is) c.requires.waits in
+    let may = subst (λ (z : Run). is_some (now z kind.Activate 0) ≡ true) (sym c.self.view_is) c.requires.may in
+    let activation : OfActivation r.script r.workers h c.args.frame (next_clamps r.script h) = of_activation r.script r.workers h c.args.frame (next_clamps r.script h) c.is_legal.ensures.legal may waits refl in
+    record { script = r.script; workers = r.workers; past = h; actor = 0; frame = c.args.frame; clamps = next_clamps r.script h; legal = activation.legal; hosts = c.self.invariant.host }
+
+pub invariant_of-self-2 : goal.invariant_of-self-2
+invariant_of-self-2 c =
+    let r : Run = c.self.inside.log in
+    let h : List Entry = past r in
+    let k : ℕ = c.args.frame in
+    let ms : List Move = c.in_ok-clamps.clamps in
+    let waits = subst (λ (z : Run). pending (past z) ≡ Some k) (sym c.self.view_is) c.requires.waits in
+    let may = subst (λ (z : Run). is_some (now z kind.Activate 0) ≡ true) (sym c.self.view_is) c.requires.may in
+    let listed : ms ≡ next_clamps r.script h = subst (λ (z : Run). ms ≡ next_clamps z.script (past z)) (sym c.self.view_is) c.in_ok-clamps.ensures.clamps in
+    let activation : OfActivation r.script r.workers h k ms = of_activation r.script r.workers h k ms c.is_legal.ensures.legal may waits listed in
+    let stands : Stands r.script (activate 0 k ms ∷ h) c.in_ok-clamps.standing = subst (λ (l : List Move). Stands r.script (activate 0 k l ∷ h) c.in_ok-clamps.standing) (sym listed)
+    (subst (λ (z : Run). Stands z.script (activate 0 k (next_clamps z.script (past z)) ∷ past z) c.in_ok-clamps.standing) (sym c.self.view_is) c.in_ok-clamps.ensures.stands) in
+    let brings : AreForActivation r.script h 0 k ms c.in_ok-next.next.pins c.in_ok-next.next.live c.in_ok-next.next.queue =
+    subst (λ (l : List Move). AreForActivation r.script h 0 k l c.in_ok-next.next.pins c.in_ok-next.next.live c.in_ok-next.next.queue) (sym listed)
+    (subst (λ (z : Run). AreForActivation z.script (past z) 0 k (next_clamps z.script (past z)) c.in_ok-next.next.pins c.in_ok-next.next.live c.in_ok-next.next.queue) (sym c.self.view_is) c.in_ok-next.ensures) in
+    let hosts : Hosts r.script (activate 0 k ms ∷ h) c.activate.new.self = c.activate.ensures r.script r.workers h 0 k ms activation.legal c.self.invariant.host stands in
+    let holds : Manages r.script (activate 0 k ms ∷ h) c.activate-2.new.self =
+    c.activate-2.ensures r.script r.workers h 0 k ms c.is_legal.ensures.accepted activation.legal c.self.invariant.tiles brings.pins brings.live brings.queue in
+    one_more (record { host = c.activate.new.self; tiles = c.activate-2.new.self; told = c.self.inside.told; prepared = c.self.inside.prepared; required = c.new.result }) r c.enter.new.self 0 (event.Activate k ms) c.in_ok-enter.ensures.ok
+    (activate_core r.script h (record { host = c.self.inside.host; tiles = c.self.inside.tiles; told = c.self.inside.told; prepared = c.self.inside.prepared; required = c.self.inside.required }) c.self.invariant
+    c.activate.new.self c.activate-2.new.self c.new.result k ms hosts holds (c.new.ensures ∙ sym (activated_needs r.script r.workers h 0 k ms activation.legal)))
+
+pub returns-clause-ok : goal.returns-clause-ok
+returns-clause-ok c =
+    let r : Run = c.self.inside.log in
+    let h : List Entry = past r in
+    let k : ℕ = c.args.frame in
+    let ms : List Move = c.in_ok-clamps.clamps in
+    let waits = subst (λ (z : Run). pending (past z) ≡ Some k) (sym c.self.view_is) c.requires.waits in
+    let may = subst (λ (z : Run). is_some (now z kind.Activate 0) ≡ true) (sym c.self.view_is) c.requires.may in
+    let activation : OfActivation r.script r.workers h k ms = of_activation r.script r.workers h k ms c.is_legal.ensures.legal may waits (subst (λ (z : Run). ms ≡ next_clamps z.script (past z)) (sym c.self.view_is) c.in_ok-clamps.ensures.clamps) in
+    let entered : Entered r kind.Activate 0 c.enter.new.self = record { event = event.Activate k ms; is_now = activation.may_come; is_entered = c.in_ok-enter.ensures.ok } in
+    subst (λ (z : Run). Entered z kind.Activate 0 c.enter.new.self) c.self.view_is entered

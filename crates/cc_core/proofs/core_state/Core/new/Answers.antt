@@ -1,0 +1,19 @@
+-- Nothing was entered, and nothing has moved.
+use Rattle.std.proofs.Common.{sym, ◌∙◌, ap, subst, List, [], None}
+use Rattle.cc_edit.specs.declared.moves.Move.{Move}
+use Rattle.cc_event.specs.Scripts.{ScriptModel}
+use Rattle.cc_log.specs.Runs.{Run, past}
+use Rattle.cc_core.specs.inner.Cores.{IsCore}
+use Rattle.cc_core.proofs.CoreSteps.{begin_core}
+use Rattle.cc_core.proofs.core_state.Core.new.Goals as goal
+
+pub invariant_of-result : goal.invariant_of-result
+invariant_of-result c =
+    let s = c.args.script.value in
+    let m = c.in_ok-tiles.tiles in
+    let host = c.new-3.result in
+    let needed = c.new-5.result in
+    let first : IsCore s [] (record { host = host; tiles = m; told = []; prepared = None; required = needed }) =
+    begin_core s host m needed (c.new-3.ensures s) (c.in_ok-tiles.ensures s (sym (c.budget-budget.ensures ∙ ap (λ (z : ScriptModel). z.budget) c.deref.ensures))) c.new-5.ensures in
+    subst (λ (r : Run). IsCore r.script (past r) (record { host = host; tiles = m; told = c.new-4.result; prepared = None; required = needed })) (sym c.in_ok-log.ensures)
+    (subst (λ (ms : List Move). IsCore s [] (record { host = host; tiles = m; told = ms; prepared = None; required = needed })) (sym c.new-4.ensures) first)

@@ -1,0 +1,15 @@
+-- The end of a settle changes nothing of what is kept.
+use Rattle.std.proofs.Common.{◌≡◌, Some, sym, ◌∙◌, ap}
+use Rattle.cc_sched.specs.declared.kind.Kind.TheVariants as kind
+use Rattle.cc_event.specs.declared.event.Event.TheVariants as event
+use Rattle.cc_log.specs.Runs.{Run, past, now}
+use Rattle.cc_core.proofs.CoreSteps.{tried}
+use Rattle.cc_core.proofs.core_state.Core.settle.Goals as goal
+
+pub invariant_of-self : goal.invariant_of-self
+invariant_of-self c =
+    tried (record { host = c.self.inside.host; tiles = c.self.inside.tiles; told = c.self.inside.told; prepared = c.self.inside.prepared; required = c.self.inside.required }) c.self.inside.log c.enter.new.self 0 (event.Settle c.next_input-input.result) c.enter.result c.enter.ensures.ok c.enter.ensures.err c.self.invariant c.self.invariant
+
+pub invariant_of-self-then-may_settle : goal.invariant_of-self-then-may_settle
+invariant_of-self-then-may_settle c =
+    tried (record { host = c.self.inside.host; tiles = c.self.inside.tiles; told = c.self.inside.told; prepared = c.self.inside.prepared; required = c.self.inside.required }) c.self.inside.log c.enter.new.self 0 (event.Settle c.next_input-input.result) c.enter.result c.enter.ensures.ok c.enter.ensures.err c.self.invariant c.self.invariant

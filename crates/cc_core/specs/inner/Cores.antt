@@ -1,0 +1,54 @@
+-- What a core keeps of its history. The record speaks of the values that the model tells of a past, not of the past, so that an event which changes none of them keeps it.
+use Rattle.std.specs.Prelude.{◌≡◌, ℕ, suc, true, Option, Some, None, List}
+use Rattle.cc_geom.specs.declared.rect.Point.{Point}
+use Rattle.cc_geom.specs.declared.tile.TileKey.{TileKey}
+use Rattle.cc_priority.specs.Choice.{Choice}
+use Rattle.cc_sched.specs.declared.states.MainState.{MainState}
+use Rattle.cc_sched.specs.Kinds.{is_sent, is_ready_to_commit}
+use Rattle.cc_synced.specs.declared.Synced.{Synced}
+use Rattle.cc_edit.specs.declared.moves.Move.{Move}
+use Rattle.cc_edit.specs.Axes.{Axis}
+use Rattle.cc_event.specs.declared.history.Entry.{Entry}
+use Rattle.cc_event.specs.Scripts.{ScriptModel}
+use Rattle.cc_event.specs.Commits.{CommitModel}
+use Rattle.cc_event.specs.EventFields.{sends}
+use Rattle.cc_event.specs.Scans.{newest}
+use Rattle.cc_event.specs.Frames.{page, pulls_of, active, pending}
+use Rattle.cc_event.specs.Stamps.{frame_changes}
+use Rattle.cc_event.specs.SameChanges.{SameChanges}
+use Rattle.cc_event.specs.Scrolls.{active_offsets, pending_offsets}
+use Rattle.cc_event.specs.Legal.{sched}
+use Rattle.cc_event.specs.Tiles.{in_flight, ready, pinned, required}
+use Rattle.cc_event.specs.Ranking.{choice}
+use Rattle.cc_event.specs.Values.{values}
+use Rattle.cc_tilemanager.specs.Managers.{Managed, HoldsTiles}
+use Rattle.cc_host.specs.Hosts.{HostModel, HostsAt}
+
+-- what a core keeps beside its log
+pub record Kept : Type 0 where
+  pub host : HostModel
+  pub tiles : Managed
+  pub told : List Move
+  pub prepared : Option CommitModel
+  pub required : List TileKey
+
+-- the page after a frame with these pulls, and what the frame changed
+pub record IsPreparedFor (s : ScriptModel) (ps : ℕ → List Move) (k : ℕ) (c : CommitModel) : Type 0 where
+  pub page : c.tree ≡ page s ps (suc k)
+  pub changes : SameChanges c.changes (frame_changes s ps k)
+
+-- the same of a commit that may be missing
+abbrev pub IsPrepared : ScriptModel → (ℕ → List Move) → ℕ → Option CommitModel → Type 0
+IsPrepared s ps k None = ⊥
+IsPrepared s ps k (Some c) = IsPreparedFor s ps k c
+
+-- the trees stand, the tiles are there, the main side was told this, and the pending tree needs these keys
+pub record CoreOf (s : ScriptModel) (kept : Kept) (ps : ℕ → List Move) (on wait : Option ℕ) (value : ℕ → Axis → Synced) (at then : ℕ → Point) (made flying pins : List TileKey) (c : Choice) (main : MainState) (last : Option ℕ) (needs : List TileKey) : Type 0 where
+  pub host : HostsAt s kept.host ps on wait value at then
+  pub tiles : HoldsTiles s kept.tiles made flying pins c
+  pub told : is_sent main ≡ true → (k : ℕ) → last ≡ Some k → kept.told ≡ ps k
+  pub prepared : is_ready_to_commit main ≡ true → (k : ℕ) → last ≡ Some k → IsPrepared s ps k kept.prepared
+  pub required : kept.required ≡ needs
+
+abbrev pub IsCore : ScriptModel → List Entry → Kept → Type 0
+IsCore s h kept = CoreOf s kept (pulls_of h) (active h) (pending h) (λ sc ax. values s sc ax h) (active_offsets s h) (pending_offsets s h) (ready s h) (in_flight h) (pinned s h) (choice s h) (sched h).main_state (newest sends h) (required s h)

@@ -1,0 +1,125 @@
+//! The pending tree becomes the active one.
+
+ghost use Rattle.std.specs.Prelude.{◌≡◌, ◌∷◌, true, Some, is_some, IfOk, IfSome, OnOk, OnErr};
+ghost use Rattle.cc_sched.specs.declared.kind.Kind.TheVariants as kind;
+ghost use Rattle.cc_event.specs.Frames.{pending};
+ghost use Rattle.cc_event.specs.Scrolls.{next_clamps};
+ghost use Rattle.cc_event.specs.Tiles.{are_ready, required};
+ghost use Rattle.cc_steps.specs.Events.{activate};
+ghost use Rattle.cc_standing.specs.Standings.{Stands};
+ghost use Rattle.cc_rebuild.specs.Rebuilds.{AreForActivation};
+ghost use Rattle.cc_log.specs.Runs.{past, now, Entered, Plays};
+
+use crate::core_state::Core;
+use cc_event::{Event, Moves};
+use cc_geom::Keys;
+use cc_rebuild::{Activation, activation_of};
+use cc_sched::Kind;
+use cc_standing::Standing;
+use std::alloc::AllocError;
+
+impl Core {
+    // Whether all that the pending tree needs is ready.
+    fn are_required_ready(&self) -> bool
+        ensures { result ≡ are_ready self.now.script (past self.now) (required self.now.script (past self.now)) }
+    {
+        self.tiles.are_ready(&self.required)
+    }
+
+    /// The main frame whose commit may be activated now, if there is one.
+    pub(crate) fn activation_now(&self) -> Option<u32>
+        ensures waits { IfSome result (λ frame. pending (past self.now) ≡ Some frame) }
+        ensures may { is_some result ≡ is_some (now self.now kind.Activate 0) }
+    {
+        let open = self.log.is_open(Kind::Activate);
+        let ready = self.are_required_ready();
+        if open && ready {
+            self.log.progress().pending
+        } else {
+            None
+        }
+    }
+
+    // What the activation of the pending tree brings to the tiles. An error is want of memory.
+    fn activated_tiles(&self, frame: u32) -> Result<Activation, AllocError>
+        requires waits { pending (past self.now) ≡ Some frame }
+        requires may { is_some (now self.now kind.Activate 0) ≡ true }
+        ensures { IfOk result (λ next. AreForActivation self.now.script (past self.now) 0 frame (next_clamps self.now.script (past self.now)) next.pins next.live next.queue) }
+    {
+        // The contract alone speaks of the frame.
+        let _ = frame;
+        self.log.is_legal();
+        let seen = self.host.seen(self.alloc, self.host.standing())?;
+        let Some(pending) = seen.pending.as_ref() else {
+            unreachable!()
+        };
+        let in_flight = self.log.progress().in_flight;
+        activation_of(
+            self.alloc,
+            self.log.script(),
+            pending,
+            &self.required,
+            &self.tiles,
+            in_flight,
+        )
+    }
+
+    // How the activation of the pending tree moves the scrollers, and where they stand then. An error is want
+    // of memory.
+    fn activated_scrollers(&self, frame: u32) -> Result<(Moves, Standing), AllocError>
+        requires waits { pending (past self.now) ≡ Some frame }
+        requires may { is_some (now self.now kind.Activate 0) ≡ true }
+        ensures clamps { IfOk result (λ r. r.0 ≡ next_clamps self.now.script (past self.now)) }
+        ensures stands { IfOk result (λ r. Stands self.now.script (activate 0 frame (next_clamps self.now.script (past self.now)) ∷ past self.now) r.1) }
+    {
+        // The contract alone speaks of the frame.
+        let _ = frame;
+        self.log.is_legal();
+        let pages = self.host.pages();
+        let Some(page) = pages.pending else {
+            unreachable!()
+        };
+        let clamps = self
+            .host
+            .standing()
+            .clamps(self.alloc, page, pages.outright)?;
+        let standing = self
+            .host
+            .standing()
+            .activated(self.alloc, page, clamps.as_slice())?;
+        Ok((clamps, standing))
+    }
+
+    // Activates the pending commit, all whose tiles are ready.
+    fn enter_activation(&mut self, frame: u32) -> Result<(), AllocError>
+        requires waits { pending (past self.old) ≡ Some frame }
+        requires may { is_some (now self.old kind.Activate 0) ≡ true }
+        ensures ok { OnOk result (Entered self.old kind.Activate 0 self.new) }
+        ensures err { OnErr result (self.new ≡ self.old) }
+    {
+        self.log.is_legal();
+        let (clamps, standing) = self.activated_scrollers(frame)?;
+        let next = self.activated_tiles(frame)?;
+        self.log.enter(0, Event::Activate { frame, clamps })?;
+        let Activation { pins, live, queue } = next;
+        self.host.activate(standing);
+        self.tiles.activate(pins, &live, queue);
+        self.required = Keys::new(self.alloc);
+        Ok(())
+    }
+
+    /// Activates the pending commit, where all its visible tiles are ready and the scheduler's state allows
+    /// it, and answers whether it was activated. An error is want of memory, and nothing was entered.
+    pub fn activate(&mut self) -> Result<bool, AllocError>
+        ensures plays { IfOk result (λ played. Plays self.old kind.Activate 0 self.new played) }
+        ensures err { OnErr result (self.new ≡ self.old) }
+    {
+        match self.activation_now() {
+            None => Ok(false),
+            Some(frame) => {
+                self.enter_activation(frame)?;
+                Ok(true)
+            }
+        }
+    }
+}

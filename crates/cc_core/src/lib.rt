@@ -1,0 +1,30 @@
+//! The core of the compositor: one history, in which each call enters the one event that may come.
+//!
+//! A [`Core`] keeps what the model tells of its history: how far the run has come, the two trees and where
+//! their scrollers stand, the tiles with the raster queue, what the main side was told, the commit that it
+//! made ready, and the keys that the pending tree needs. Its calls take all their memory before they enter
+//! their event, and step the rest after it, so that after want of memory a core is as it was.
+#![tactic(auto)]
+
+mod aborts;
+mod activations;
+mod commits;
+mod core_state;
+mod dones;
+mod draws;
+mod outlooks;
+mod plain;
+mod play;
+mod readies;
+mod reply;
+mod scrolls;
+mod sends;
+mod starts;
+mod stops;
+mod turns;
+mod upcoming;
+mod wheels;
+
+pub use core_state::Core;
+pub use reply::{CoreFault, Reply};
+pub use turns::Stem;
