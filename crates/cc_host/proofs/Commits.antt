@@ -33,12 +33,6 @@ tree_missing s ps None None e is = refl
 tree_missing s ps None (Some t) e is = absurd is
 tree_missing s ps (Some k) m e is = cc
 
--- a tree stands for a frame
-pub tree_there : (s : ScriptModel) (ps : ℕ → List Move) (o : Option ℕ) (k : ℕ) (m : Option TreeModel) → o ≡ Some k → IsTreeAt s ps o m → (t : TreeModel) × (m ≡ Some t)
-tree_there s ps None k m e is = cc
-tree_there s ps (Some j) k None e is = absurd is
-tree_there s ps (Some j) k (Some t) e is = (t, refl)
-
 -- what a tree tells of its page
 size_there : (s : ScriptModel) (ps : ℕ → List Move) (o : Option ℕ) (m : Option TreeModel) → IsTreeAt s ps o m → (id : ℕ) → last_size m id ≡ size_of (page s ps (up_to o)) id
 size_there s ps None None is id = refl
