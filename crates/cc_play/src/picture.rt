@@ -3,7 +3,7 @@
 ghost use Rattle.std.specs.Prelude.{◌≡◌, ◌+◌, ◌*◌, ◌≤◌, [], ◌++◌, length, IfOk, OnOk};
 ghost use Rattle.cc_pixel.specs.Rows.{pixel};
 ghost use Rattle.cc_tree.specs.OffsetMap.{offset_at, AreOffsets};
-ghost use Rattle.cc_event.specs.Recordings.{image, image_row, rgb};
+ghost use Rattle.cc_event.specs.Recordings.{image, image_row, joined, rgb};
 ghost use Rattle.cc_render.specs.Frames.{EachIs, IsOfSize, frame_pixel};
 ghost use Rattle.cc_play.specs.Pictures.{picture};
 
@@ -55,14 +55,57 @@ fn push_pixel(text: &mut Vec<u8>, bytes: &[u8], place: usize) -> Result<(), Allo
     text.extend_from_slice(&[bytes[at], bytes[at + 1], bytes[at + 2]])
 }
 
+/// Adds red, green and blue of four pixels from a place of some bytes on.
+fn push_four(text: &mut Vec<u8>, bytes: &[u8], place: usize) -> Result<(), AllocError>
+    requires { 4 * (place + 3) + 4 ≤ length bytes.now }
+    ensures { OnOk result (text.new.items ≡ (((text.old.items ++ rgb (pixel bytes.now place)) ++ rgb (pixel bytes.now (place + 1))) ++ rgb (pixel bytes.now (place + 2))) ++ rgb (pixel bytes.now (place + 3))) }
+{
+    let a = 4 * place;
+    let b = 4 * (place + 1);
+    let c = 4 * (place + 2);
+    let d = 4 * (place + 3);
+    text.extend_from_slice(&[
+        bytes[a],
+        bytes[a + 1],
+        bytes[a + 2],
+        bytes[b],
+        bytes[b + 1],
+        bytes[b + 2],
+        bytes[c],
+        bytes[c + 1],
+        bytes[c + 2],
+        bytes[d],
+        bytes[d + 1],
+        bytes[d + 2],
+    ])?;
+    Ok(())
+}
+
+/// Adds the pixels of row `y` of a picture of width `w`, four at a time from the left, and tells how many were added.
+#[tactic(auto, unfolding(cc_event::specs::Recordings::joined))]
+fn push_fours(text: &mut Vec<u8>, bytes: &[u8], w: u32, y: u32) -> Result<u32, AllocError>
+    requires { 4 * (y * w + w) ≤ length bytes.now }
+    ensures inside { IfOk result (λ x. x ≤ w) }
+    ensures pixels { IfOk result (λ x. text.new.items ≡ text.old.items ++ joined x (λ column. rgb (pixel bytes.now (y * w + column)))) }
+{
+    let start = y as usize * w as usize;
+    let mut x = 0;
+    while w - x >= 4 {
+        push_four(text, bytes, start + x as usize)?;
+        x += 4;
+    }
+    Ok(x)
+}
+
 /// Adds row `y` of a picture of width `w`, from the left.
-#[tactic(auto, unfolding(cc_event::specs::Recordings::image_row, cc_event::specs::Recordings::joined))]
+#[tactic(auto, unfolding(cc_event::specs::Recordings::image_row))]
 fn push_row(text: &mut Vec<u8>, bytes: &[u8], w: u32, y: u32) -> Result<(), AllocError>
     requires { 4 * (y * w + w) ≤ length bytes.now }
     ensures { OnOk result (text.new.items ≡ text.old.items ++ image_row (λ column row. pixel bytes.now (row * w + column)) w y) }
 {
     let start = y as usize * w as usize;
-    for x in 0..w {
+    let fours = push_fours(text, bytes, w, y)?;
+    for x in fours..w {
         push_pixel(text, bytes, start + x as usize)?;
     }
     Ok(())
