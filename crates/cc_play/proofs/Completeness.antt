@@ -1,5 +1,5 @@
 -- What a use takes is not refused.
-use Rattle.std.proofs.Common.{◌≡◌, ℕ, ◌<◌, ◌≤◌, true, false, List, length, None, Some, Ok, Err, ap, sym, ◌∙◌, arith, subst}
+use Rattle.std.proofs.Common.{◌≡◌, ℕ, true, false, List, None, Some, Ok, Err, ap, sym, ◌∙◌, arith, subst}
 use Rattle.std.specs.Prelude.{Option, IfSome, Result, IfOk}
 use Rattle.cc_io.specs.Counts.{Rose}
 use Rattle.serde_json.specs.Data.{Data}
@@ -8,7 +8,7 @@ use Rattle.cc_event.specs.Scripts.{ScriptModel}
 use Rattle.cc_event.specs.Frames.{blank}
 use Rattle.cc_event.specs.Accepted.{TakesFrames}
 use Rattle.cc_event.proofs.Exclusion.{frames_taken}
-use Rattle.cc_script.specs.Causes.{IsTextOf, IsScriptText}
+use Rattle.cc_script.specs.Causes.{IsTextOf}
 use Rattle.cc_script.specs.Reading.{parts_at}
 use Rattle.cc_script.proofs.ScriptLaws.{one_script}
 use Rattle.cc_check.proofs.OneReading.{not_bad}
@@ -18,7 +18,7 @@ use Rattle.cc_play.specs.declared.outcome.ScriptFault.TheVariants.{Edit, NotBuil
 use Rattle.cc_play.specs.declared.outcome.Outcome.TheVariants.{Done, Usage, Json, Shape, Script, ReadFault, WriteFault, TooLong, BadRecording, Memory}
 use Rattle.cc_play.specs.declared.words.Use.{Use}
 use Rattle.cc_play.specs.declared.words.Use.TheVariants.{Step, Frames}
-use Rattle.cc_play.specs.Runs.{script_limit, recording_limit, TellsMisfit, IsPlayedText, Takes, RefusedScript, RefusedRecording, Refused, CauseOf, Causes, IsComplete, IsDone}
+use Rattle.cc_play.specs.Runs.{TellsMisfit, IsPlayedText, Takes, RefusedScript, RefusedRecording, Refused, CauseOf, Causes, IsComplete, IsDone}
 
 -- a text of a script has no first fault
 not_at_fault : (bytes : List ℕ) → IsPlayedText bytes → (d : Data) → IsTextOf bytes d → (place : _) → parts_at d ≡ Err place → ⊥

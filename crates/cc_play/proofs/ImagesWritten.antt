@@ -1,5 +1,5 @@
 -- What was written of a recording is its images, and its source had it.
-use Rattle.std.proofs.Common.{◌≡◌, ℕ, ◌≤◌, List, length, None, Some, Ok, inr, sym, subst}
+use Rattle.std.proofs.Common.{◌≡◌, ℕ, List, None, Some, Ok, inr, sym, subst}
 use Rattle.std.specs.Prelude.{Option, IfSome}
 use Rattle.cc_play.specs.declared.images.Images.{Images}
 use Rattle.cc_play.specs.declared.outcome.Outcome.{Outcome}

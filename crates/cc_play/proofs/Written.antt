@@ -1,5 +1,5 @@
 -- What was written of a page that was read is what its source asked for.
-use Rattle.std.proofs.Common.{◌≡◌, ◌⊎◌, inl, inr, ℕ, ◌≤◌, List, length, None, Some}
+use Rattle.std.proofs.Common.{inl, inr, ℕ, ◌≤◌, List, length, None, Some}
 use Rattle.std.specs.Prelude.{Option, IfSome}
 use Rattle.cc_event.specs.Scripts.{ScriptModel}
 use Rattle.cc_script.specs.Causes.{IsScriptText}

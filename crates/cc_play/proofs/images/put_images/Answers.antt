@@ -1,5 +1,5 @@
 -- The images before, the image in hand and those left are all.
-use Rattle.std.proofs.Common.{ℕ, List, ◌++◌, ◌∷◌, length, subst, sym, ◌∙◌, ap, arith}
+use Rattle.std.proofs.Common.{◌++◌, length, subst, arith}
 use Rattle.std.specs.List.{flat_map}
 use Rattle.cc_parts.specs.Spans.{span_bytes, AreWithin}
 use Rattle.cc_play.proofs.Gains.{gains_both, gains_front, piece_moves}

@@ -1,7 +1,7 @@
 -- A frame that shows the scene of the page shows its picture.
-use Rattle.std.proofs.Common.{rules, List, map, ap, ◌≡◌, [], subst}
+use Rattle.std.proofs.Common.{rules, map, ◌≡◌, []}
 use Rattle.cc_tree.specs.OffsetMap.{offset_at}
-use Rattle.cc_quads.specs.Shown.{Tile, missing_keys, tile_of}
+use Rattle.cc_quads.specs.Shown.{missing_keys, tile_of}
 use Rattle.cc_render.specs.Frames.{IsOfSize}
 use Rattle.cc_play.proofs.Frames.{frame_shows}
 use Rattle.cc_play.proofs.picture.frame_of.Goals as goal
