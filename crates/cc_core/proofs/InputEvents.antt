@@ -1,5 +1,5 @@
 -- The scroll or the wheel that is the next input, as an event.
-use Rattle.std.proofs.Common.{◌≡◌, ℕ, ℤ, pos, true, List, [], ◌∷◌, Some, refl, sym, ◌∙◌, ap, arith}
+use Rattle.std.proofs.Common.{◌≡◌, ℕ, ℤ, pos, true, List, [], ◌∷◌, Some, refl, ◌∙◌, ap, arith}
 use Rattle.cc_sched.specs.declared.kind.Kind.TheVariants as kind
 use Rattle.cc_edit.specs.declared.moves.Move.{Move}
 use Rattle.cc_edit.specs.Axes.{across, down}

@@ -1,5 +1,5 @@
 -- The last entry of a run.
-use Rattle.std.proofs.Common.{◌≡◌, ℕ, zero, suc, ◌-◌, Bool, false, List, [], ◌∷◌, length, Option, Some, None, slice_get, refl, sym, ◌∙◌, ap, arith}
+use Rattle.std.proofs.Common.{◌≡◌, ℕ, suc, ◌-◌, false, List, [], ◌∷◌, length, Some, None, slice_get, refl, sym, ◌∙◌, ap, arith}
 use Rattle.cc_event.specs.declared.history.Entry.{Entry}
 use Rattle.cc_core.specs.Replies.{is_end, is_played}
 

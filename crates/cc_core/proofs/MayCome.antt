@@ -6,28 +6,26 @@ use Rattle.cc_priority.specs.declared.rank.Rank.{Rank}
 use Rattle.cc_rasterq.specs.Queues.{rank_key}
 use Rattle.cc_sched.specs.declared.kind.Kind.{Kind}
 use Rattle.cc_sched.specs.declared.kind.Kind.TheVariants as kind
-use Rattle.cc_sched.specs.Kinds.{may}
 use Rattle.cc_edit.specs.declared.moves.Move.{Move}
 use Rattle.cc_edit.specs.Axes.{across, down}
 use Rattle.cc_edit.specs.Hits.{target}
 use Rattle.cc_edit.specs.Wheels.{wheel_parts, wheel_rest}
 use Rattle.cc_event.specs.declared.event.Event.{Event}
 use Rattle.cc_event.specs.declared.event.Event.TheVariants as event
-use Rattle.cc_event.specs.declared.input.Input.{Input}
 use Rattle.cc_event.specs.declared.input.Input.TheVariants as input
 use Rattle.cc_event.specs.declared.history.Entry.{Entry}
 use Rattle.cc_event.specs.Scripts.{ScriptModel}
-use Rattle.cc_event.specs.EventFields.{kind_of, actor_of, sends, begins}
-use Rattle.cc_event.specs.Scans.{has_ended, newest, counted, held}
-use Rattle.cc_event.specs.Frames.{is_left, active, pending, active_page}
+use Rattle.cc_event.specs.EventFields.{kind_of, actor_of, sends}
+use Rattle.cc_event.specs.Scans.{has_ended, counted, held}
+use Rattle.cc_event.specs.Frames.{is_left, pending, active_page}
 use Rattle.cc_event.specs.Scrolls.{accepted, next_pulls, next_clamps, active_offsets}
-use Rattle.cc_event.specs.Tiles.{live_keys, required, are_ready, missing}
+use Rattle.cc_event.specs.Tiles.{live_keys, required, are_ready}
 use Rattle.cc_event.specs.Ranking.{first, evicted_for}
-use Rattle.cc_event.specs.Due.{due, on_if, next_input, input_now, due_commit, due_activate, due_scroll, due_wheel, due_start, due_done, due_draw, due_settle, is_settled}
-use Rattle.cc_event.specs.Legal.{sched, is_open, can, Legal}
+use Rattle.cc_event.specs.Due.{due, on_if, next_input, input_now, due_activate, due_scroll, due_wheel, due_start, due_done}
+use Rattle.cc_event.specs.Legal.{is_open, can, Legal}
 use Rattle.cc_event.proofs.DueFacts.{entry}
 use Rattle.cc_event.proofs.RankFacts.{first_unmade}
-use Rattle.cc_log.specs.Runs.{Run, past, now}
+use Rattle.cc_log.specs.Runs.{Run, past}
 use Rattle.cc_log.proofs.LogSteps.{next_is}
 use Rattle.cc_core.specs.Replies.{next_key}
 

@@ -1,5 +1,5 @@
 -- What a drawing shows is the picture of the run.
-use Rattle.std.proofs.Common.{◌≡◌, ℕ, ℤ, true, List, Result, Ok, Err, ◌∙◌, ap}
+use Rattle.std.proofs.Common.{◌≡◌, ℤ, true, List, Result, Ok, Err, ◌∙◌, ap}
 use Rattle.std.specs.Prelude.{IfOk}
 use Rattle.cc_geom.specs.Covers.{covers}
 use Rattle.cc_edit.specs.Pages.{Page}

@@ -1,6 +1,5 @@
 -- A commit that agrees with what was sent is the one of its frame.
-use Rattle.std.proofs.Common.{◌≡◌, ℕ, suc, ◌<◌, ◌≤◌, true, List, Option, Some, None, refl, sym, ◌∙◌, ap, subst, arith}
-use Rattle.cc_region.specs.Lists.{Changed}
+use Rattle.std.proofs.Common.{◌≡◌, ℕ, suc, ◌<◌, ◌≤◌, List, Option, Some, ◌∙◌, ap, subst, arith}
 use Rattle.cc_edit.specs.Pages.{Page}
 use Rattle.cc_edit.specs.declared.moves.Move.{Move}
 use Rattle.cc_event.specs.Scripts.{ScriptModel}

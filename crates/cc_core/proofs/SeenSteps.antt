@@ -1,22 +1,13 @@
 -- A core after the events that move scrollers, and after an abort.
-use Rattle.std.proofs.Common.{◌≡◌, ℕ, ℤ, true, List, [], ◌∷◌, Option, Some, None, refl, sym, ◌∙◌, ap, subst}
+use Rattle.std.proofs.Common.{◌≡◌, ℕ, ℤ, List, ◌∷◌}
 use Rattle.cc_geom.specs.declared.tile.TileKey.{TileKey}
-use Rattle.cc_priority.specs.Choice.{Choice}
 use Rattle.cc_edit.specs.declared.moves.Move.{Move}
 use Rattle.cc_event.specs.declared.event.Event.TheVariants as event
-use Rattle.cc_event.specs.declared.input.Input.{Input}
-use Rattle.cc_event.specs.declared.input.Input.TheVariants as input
 use Rattle.cc_event.specs.declared.history.Entry.{Entry}
 use Rattle.cc_event.specs.Scripts.{ScriptModel}
-use Rattle.cc_event.specs.EventFields.{moves, scroll_move}
-use Rattle.cc_event.specs.Due.{next_input, input_now}
 use Rattle.cc_event.specs.Tiles.{required}
-use Rattle.cc_event.specs.Frames.{pending}
-use Rattle.cc_event.specs.Legal.{Legal}
-use Rattle.cc_event.proofs.BoolFacts.{none_where}
-use Rattle.cc_event.proofs.Course.{course}
-use Rattle.cc_event.proofs.DueFacts.{entry, at_commit}
-use Rattle.cc_steps.specs.Events.{abort, commit}
+use Rattle.cc_event.proofs.DueFacts.{entry}
+use Rattle.cc_steps.specs.Events.{abort}
 use Rattle.cc_tilemanager.specs.Managers.{Managed, Manages}
 use Rattle.cc_host.specs.Hosts.{HostModel, Hosts}
 use Rattle.cc_core.specs.inner.Cores.{Kept, IsCore}

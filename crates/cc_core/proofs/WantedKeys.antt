@@ -1,9 +1,5 @@
 -- Wanted ranks are of live keys, and where no commit is pending nothing is needed for an activation.
-use Rattle.std.proofs.Common.{◌≡◌, inl, inr, ℕ, zero, suc, true, List, [], ◌∷◌, map, filter, take, flat_map, Option, Some, None, sym, ◌∙◌, ap}
-use Rattle.std.specs.Prelude.{slice_get}
-use Rattle.cc_geom.specs.declared.rect.Point.{Point}
-use Rattle.cc_geom.specs.declared.tile.Place.{Place}
-use Rattle.cc_geom.specs.declared.tile.TileKey.{TileKey}
+use Rattle.std.proofs.Common.{◌≡◌, inl, inr, ℕ, zero, suc, true, List, [], ◌∷◌, filter, take, None, ◌∙◌, ap}
 use Rattle.cc_geom.specs.KeyLists.{has_key}
 use Rattle.cc_priority.specs.declared.rank.Rank.{Rank}
 use Rattle.cc_priority.specs.Ranks.{rank_cmp}
@@ -12,14 +8,10 @@ use Rattle.cc_priority.proofs.InOrder.{in_filter, in_order_members}
 use Rattle.cc_priority.proofs.Members.{in_filter_map}
 use Rattle.cc_priority.proofs.RankOrders.{rank_order}
 use Rattle.cc_edit.specs.declared.moves.Move.{Move}
-use Rattle.cc_edit.specs.Pages.{Page}
-use Rattle.cc_visible.specs.Visible.{by_id, key_at, visible_places, visible_keys}
 use Rattle.cc_event.specs.declared.history.Entry.{Entry}
 use Rattle.cc_event.specs.Scripts.{ScriptModel}
 use Rattle.cc_event.specs.Legal.{Legal}
-use Rattle.cc_event.specs.Frames.{page, pulls_of, pending, up_to, pending_page}
-use Rattle.cc_event.specs.Scrolls.{pending_offsets}
-use Rattle.cc_event.specs.Stamps.{stamp_in}
+use Rattle.cc_event.specs.Frames.{page, pulls_of, pending, up_to}
 use Rattle.cc_event.specs.Tiles.{pending_tree, live_keys, required}
 use Rattle.cc_event.specs.Ranking.{rank, is_unmade, wanted}
 use Rattle.cc_event.proofs.KeyFacts.{has_in}

@@ -2,7 +2,7 @@
 use Rattle.std.specs.Prelude.{◌≡◌, ℕ, ◌+◌, ℤ, Bool, true, false, cond, List, [], ◌∷◌, map, take, Option, Some, None, option_map, Result, Ok, Err}
 use Rattle.std.specs.List.{AllByRecursion}
 use Rattle.cc_geom.specs.declared.tile.TileKey.{TileKey}
-use Rattle.cc_geom.specs.Covers.{covers}
+use Rattle.cc_geom.specs.Covers.{covers, IsSound}
 use Rattle.cc_priority.specs.Ranks.{rank_cmp}
 use Rattle.cc_priority.specs.Ordered.{in_order}
 use Rattle.cc_raster.specs.declared.job.Job.{Job}
@@ -68,10 +68,10 @@ pub record StartsKey (old : Run) (w : ℕ) (key : TileKey) (new : Run) : Type 0 
   pub is_now : now old kind.Start (2 + w) ≡ Some (event.Start w key evicted)
   pub is_entered : new ≡ with_entry old (2 + w) (event.Start w key evicted)
 
--- a worker has started the key of this job, which shows it in every page of the script that has it; or none may start, and nothing has changed
+-- a worker has started the key of this job, whose rect is sound, and which shows it in every page of the script that has it; or none may start, and nothing has changed
 abbrev pub Starts : Run → ℕ → Run → Option Job → Type 0
 Starts old w new None = (next_key old ≡ None) × (now old kind.Start (2 + w) ≡ None) × (new ≡ old)
-Starts old w new (Some job) = StartsKey old w job.key new × Shows old.script job.key job.rect job.list.value
+Starts old w new (Some job) = StartsKey old w job.key new × IsSound job.rect × Shows old.script job.key job.rect job.list.value
 
 -- the picture of a run is the painting of the active page at its offsets, with the tiles missing that are not ready
 pub record IsPicture (s : ScriptModel) (h : List Entry) (scene : SceneView) : Type 0 where
@@ -104,4 +104,5 @@ Answers old k new (Err (fault.Memory refused)) = new ≡ old
 -- they make the first so many tiles that are wanted, the most urgent first, each as every page of the script shows it that has its key
 pub record AreUpcoming (r : Run) (most : ℕ) (jobs : List Job) : Type 0 where
   pub keys : map (λ (j : Job). j.key) jobs ≡ map rank_key (take most (in_order rank_cmp (wanted r.script (past r))))
+  pub sound : AllByRecursion (λ (j : Job). IsSound j.rect) jobs
   pub shows : AllByRecursion (λ (j : Job). Shows r.script j.key j.rect j.list.value) jobs

@@ -1,6 +1,7 @@
 //! The jobs that come next.
 
 ghost use Rattle.std.specs.Prelude.{◌≡◌, Some, IfOk, true};
+ghost use Rattle.cc_geom.specs.Covers.{IsSound};
 ghost use Rattle.cc_geom.specs.KeyLists.{has_key};
 ghost use Rattle.cc_event.specs.Tiles.{live_keys};
 ghost use Rattle.cc_steps.specs.ShownKeys.{Shows};
@@ -17,6 +18,7 @@ impl Core {
     pub(crate) fn live_job(&self, key: TileKey) -> Result<Job, AllocError>
         requires { has_key (live_keys self.now.script (past self.now)) key ≡ true }
         ensures key { IfOk result (λ job. job.key ≡ key) }
+        ensures sound { IfOk result (λ job. IsSound job.rect) }
         ensures shows { IfOk result (λ job. Shows self.now.script key job.rect job.list.value) }
     {
         self.log.is_legal();

@@ -1,6 +1,5 @@
 -- The host and the manager are those of the past with the event.
-use Rattle.std.proofs.Common.{ℕ, List, length, sym, ◌∙◌, ap, subst}
-use Rattle.cc_event.specs.declared.history.Entry.{Entry}
+use Rattle.std.proofs.Common.{length, sym, ◌∙◌, ap, subst}
 use Rattle.cc_event.specs.Scripts.{ScriptModel}
 use Rattle.cc_log.specs.declared.progress.Progress.{Progress}
 use Rattle.cc_log.specs.Runs.{Run, past}

@@ -1,5 +1,5 @@
 -- The trees are seen where the scrollers stand then.
-use Rattle.std.proofs.Common.{List, sym, subst}
+use Rattle.std.proofs.Common.{sym, subst}
 use Rattle.cc_event.specs.Tiles.{active_tree, pending_tree}
 use Rattle.cc_ranks.specs.SeenTrees.{IsSeenWhere}
 use Rattle.cc_core.proofs.outlooks.outlook_of.Goals as goal

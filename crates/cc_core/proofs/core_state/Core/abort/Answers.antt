@@ -1,5 +1,5 @@
 -- An abort moves what stands, and the queue follows.
-use Rattle.std.proofs.Common.{◌≡◌, ℕ, List, ◌∷◌, Some, refl, sym, ◌∙◌, ap, subst, arith}
+use Rattle.std.proofs.Common.{◌≡◌, ℕ, List, ◌∷◌, Some, refl, sym, subst, arith}
 use Rattle.cc_sched.specs.declared.kind.Kind.TheVariants as kind
 use Rattle.cc_event.specs.declared.event.Event.TheVariants as event
 use Rattle.cc_event.specs.declared.history.Entry.{Entry}

@@ -1,5 +1,5 @@
 -- The page is the pending one, and the moves are those that the activation lists.
-use Rattle.std.proofs.Common.{◌≡◌, ℕ, true, List, ◌∷◌, Some, is_some, sym, ◌∙◌, ap, subst}
+use Rattle.std.proofs.Common.{◌≡◌, true, List, ◌∷◌, Some, is_some, sym, ◌∙◌, ap, subst}
 use Rattle.std.specs.Prelude.{option_copied}
 use Rattle.cc_sched.specs.declared.kind.Kind.TheVariants as kind
 use Rattle.cc_edit.specs.declared.moves.Move.{Move}

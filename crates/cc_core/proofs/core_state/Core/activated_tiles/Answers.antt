@@ -1,5 +1,5 @@
 -- The tree is the pending one, and its keys are those that it needs.
-use Rattle.std.proofs.Common.{◌≡◌, ℕ, true, List, ◌∷◌, length, Option, Some, is_some, refl, sym, ◌∙◌, ap, subst}
+use Rattle.std.proofs.Common.{◌≡◌, true, List, Option, Some, is_some, refl, sym, ◌∙◌, ap, subst}
 use Rattle.std.specs.Prelude.{option_copied}
 use Rattle.cc_sched.specs.declared.kind.Kind.TheVariants as kind
 use Rattle.cc_edit.proofs.KeptPages.{weaken}
@@ -7,7 +7,7 @@ use Rattle.cc_event.specs.declared.history.Entry.{Entry}
 use Rattle.cc_event.specs.Scripts.{ScriptModel}
 use Rattle.cc_event.specs.Frames.{pending}
 use Rattle.cc_event.specs.Scrolls.{next_clamps}
-use Rattle.cc_event.specs.Tiles.{in_flight, pending_tree}
+use Rattle.cc_event.specs.Tiles.{pending_tree}
 use Rattle.cc_standing.specs.Standings.{StandingModel, Stands}
 use Rattle.cc_ranks.specs.SeenTrees.{SeenTreeModel, IsSeenTree, IsSeenWhere}
 use Rattle.cc_rebuild.specs.Rebuilds.{ActivatesNow, AreForActivation}

@@ -1,5 +1,5 @@
 -- The page is the active one, and its keys are the visible ones.
-use Rattle.std.proofs.Common.{◌≡◌, ℤ, true, List, Result, sym, ◌∙◌, ap, subst}
+use Rattle.std.proofs.Common.{◌≡◌, ℤ, true, List, sym, ◌∙◌, ap, subst}
 use Rattle.std.specs.Prelude.{option_copied, IfOk}
 use Rattle.cc_geom.specs.Covers.{covers}
 use Rattle.cc_tree.specs.OffsetMap.{offset_at}

@@ -1,5 +1,5 @@
 -- The pending tree becomes the active one, and nothing is pending then.
-use Rattle.std.proofs.Common.{◌≡◌, ℕ, true, List, ◌∷◌, Some, is_some, refl, sym, ◌∙◌, ap, subst}
+use Rattle.std.proofs.Common.{◌≡◌, ℕ, true, List, ◌∷◌, Some, is_some, refl, sym, ◌∙◌, subst}
 use Rattle.cc_sched.specs.declared.kind.Kind.TheVariants as kind
 use Rattle.cc_edit.specs.declared.moves.Move.{Move}
 use Rattle.cc_event.specs.declared.event.Event.TheVariants as event

@@ -1,5 +1,5 @@
 -- The host tells what the send lists, and steps with it.
-use Rattle.std.proofs.Common.{◌≡◌, ℕ, ◌∷◌, List, true, Some, refl, sym, ◌∙◌, ap, subst, arith}
+use Rattle.std.proofs.Common.{ℕ, ◌∷◌, List, refl, sym, ◌∙◌, ap, subst, arith}
 use Rattle.cc_sched.specs.declared.kind.Kind.TheVariants as kind
 use Rattle.cc_edit.specs.declared.moves.Move.{Move}
 use Rattle.cc_event.specs.declared.event.Event.TheVariants as event
@@ -7,7 +7,7 @@ use Rattle.cc_event.specs.Legal.{Legal}
 use Rattle.cc_steps.specs.Events.{send}
 use Rattle.cc_standing.specs.Standings.{StandingModel, Stands}
 use Rattle.cc_log.specs.declared.progress.Progress.{Progress}
-use Rattle.cc_log.specs.Runs.{Run, past, now, Entered}
+use Rattle.cc_log.specs.Runs.{Run, past, Entered}
 use Rattle.cc_tilemanager.proofs.OtherTiles.{send_holds}
 use Rattle.cc_core.proofs.CoreSteps.{send_core, one_more, refused}
 use Rattle.cc_core.proofs.MayCome.{send_now, comes_next}

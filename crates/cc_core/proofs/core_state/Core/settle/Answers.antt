@@ -1,8 +1,5 @@
 -- The end of a settle changes nothing of what is kept.
-use Rattle.std.proofs.Common.{◌≡◌, Some, sym, ◌∙◌, ap}
-use Rattle.cc_sched.specs.declared.kind.Kind.TheVariants as kind
 use Rattle.cc_event.specs.declared.event.Event.TheVariants as event
-use Rattle.cc_log.specs.Runs.{Run, past, now}
 use Rattle.cc_core.proofs.CoreSteps.{tried}
 use Rattle.cc_core.proofs.core_state.Core.settle.Goals as goal
 

@@ -1,5 +1,5 @@
 -- The next key is started, with what is given up for it.
-use Rattle.std.proofs.Common.{◌≡◌, ℕ, ◌+◌, ◌<◌, ◌∷◌, List, None, Some, refl, sym, ◌∙◌, ap, subst, arith}
+use Rattle.std.proofs.Common.{◌≡◌, ℕ, ◌+◌, ◌<◌, ◌∷◌, List, None, Some, refl, sym, subst, arith}
 use Rattle.cc_geom.specs.declared.tile.TileKey.{TileKey}
 use Rattle.cc_event.specs.declared.event.Event.TheVariants as event
 use Rattle.cc_event.specs.Scans.{held}
