@@ -1,0 +1,17 @@
+//! The raster queue beside the plain choice that it stands for: steps of a table, random steps, and times.
+
+mod agreement;
+mod checked_queue;
+mod checks;
+mod dice;
+mod fault;
+mod times;
+mod trial;
+mod words;
+
+pub(crate) use agreement::agrees;
+pub(crate) use checked_queue::CheckedQueue;
+pub(crate) use fault::StepFault;
+pub(crate) use times::{LOOKS, Order, queue_times};
+pub(crate) use trial::try_steps;
+pub(crate) use words::{answer, key_of, queue_of, ready_of};
