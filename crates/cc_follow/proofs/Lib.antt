@@ -1,0 +1,2 @@
+pub mod ListedWhole
+pub mod Following
