@@ -9,6 +9,7 @@ ghost use Rattle.cc_event.specs.Legal as legal;
 ghost use Rattle.cc_event.specs.Ranking.{first};
 ghost use Rattle.cc_event.specs.Scans as scans;
 ghost use Rattle.cc_event.specs.Values as values;
+ghost use Rattle.cc_log.specs.Progress as progress;
 ghost use Rattle.cc_log.specs.Runs.{new_run, past};
 ghost use Rattle.cc_rasterq.specs.Queues.{rank_key};
 ghost use Rattle.cc_event.specs.Tiles.{used};
@@ -18,7 +19,7 @@ ghost use Rattle.cc_core.specs.Replies.{next_key, told_frame, is_played};
 use cc_event::{Commit, Event, History, Moves, Script};
 use cc_geom::{Keys, TileKey};
 use cc_host::ImplHost;
-use cc_log::Log;
+use cc_log::{Log, Progress};
 use cc_sched::MainState;
 use cc_synced::Synced;
 use cc_tilemanager::TileManager;
@@ -121,6 +122,20 @@ impl Core {
         self.log.progress().has_ended
     }
 
+    /// How far the run has come.
+    pub fn progress(&self) -> Progress
+        ensures { result ≡ progress.progress (past self.now) }
+    {
+        self.log.progress()
+    }
+
+    /// Whether a main frame is left to be sent.
+    pub fn is_left(&self) -> bool
+        ensures { result ≡ frames.is_left self.now.script (past self.now) }
+    {
+        self.log.is_left()
+    }
+
     /// Whether all main frames were sent and have ended.
     pub fn frames_ended(&self) -> bool
         ensures { result ≡ (not (frames.is_left self.now.script (past self.now)) && is_main_idle (legal.sched (past self.now)).main_state) }
@@ -181,8 +196,9 @@ impl Core {
         if self.ended() { None } else { self.first() }
     }
 
-    // The key that starts next, as far as the tiles tell.
-    pub(crate) fn first(&self) -> Option<TileKey>
+    /// The key of the tile that is to be made first, whether or not the run has ended; None exactly where none
+    /// is to be made or no room can be made for one.
+    pub fn first(&self) -> Option<TileKey>
         ensures { result ≡ option_map rank_key (first self.now.script (past self.now)) }
     {
         self.tiles.next_start()
