@@ -6,14 +6,21 @@
 //! - `raster KIND ITEMS TIMES`: a tile of 256 by 256 pixels under so many items that cover it, of the kind
 //!   `opaque`, `translucent` or `bitmap`,
 //! - `scene ITEMS LAYERS TIMES`, `groups ITEMS LAYERS TIMES`: a scene of 1024 by 1024 pixels in tiles of 256
-//!   by 256, of so many layers of so many translucent items; with `groups` each layer is in a group of its own.
+//!   by 256, of so many layers of so many translucent items; with `groups` each layer is in a group of its own,
+//! - what `redraws` lists.
 //!
 //! The script `bench/rows` times it.
 #![tactic(auto)]
 
 mod job;
+mod large;
+mod pairs;
+mod pool;
+mod redraws;
 mod rows;
 mod scenes;
+mod showing;
+mod sketch;
 mod tiles;
 
 use crate::job::Job;
@@ -21,6 +28,9 @@ use std::{env, io};
 
 fn main(rt: HostRuntime) -> io::Result<()> {
     let words: Vec<String> = env::args(&rt)?.skip(1).collect(rt.alloc())?;
+    if redraws::run(&rt, words.as_slice())? {
+        return Ok(());
+    }
     let Some(job) = Job::of_words(words.as_slice()) else {
         return Err(io::Error::from(io::ErrorKind::InvalidInput));
     };

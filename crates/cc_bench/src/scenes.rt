@@ -18,13 +18,18 @@ use std::sync::Arc;
 
 /// Numbers that look as if they were thrown.
 #[derive(Drop)]
-struct Dice {
+pub(crate) struct Dice {
     last: u64,
 }
 
 impl Dice {
+    /// Dice that throw the numbers of a seed.
+    pub(crate) fn new(seed: u64) -> Dice {
+        Dice { last: seed }
+    }
+
     /// A number below 2^16.
-    fn throw(&mut self) -> u32
+    pub(crate) fn throw(&mut self) -> u32
         ensures { result < 65536 }
     {
         self.last = self

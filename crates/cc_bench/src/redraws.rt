@@ -1,0 +1,56 @@
+//! Redrawing what changed from one scene to the next.
+//!
+//! - `pairs COUNT SEED`: so many pairs of thrown scenes, tried by `pairs`,
+//! - `copy LAYERS TIMES`, `cull LAYERS TIMES`, `damage LAYERS TIMES`: a scene of 1024 by 1024 pixels of so many
+//!   layers of 25 tiles is copied, has its hidden quads left out, or is compared with its equal,
+//! - `show LAYERS TIMES`, `tile LAYERS TIMES`: a painter shows copies of that scene, or of two that differ in
+//!   one tile of the last layer, one after the other.
+
+use crate::{pairs, showing};
+use std::io;
+
+/// What to do.
+#[derive(Clone, Copy)]
+enum Task {
+    /// Tries pairs of scenes.
+    Pairs,
+    /// Does one thing with a large scene, again and again.
+    Large(showing::Act),
+}
+
+/// The task of a name.
+fn task_of(name: &str) -> Option<Task> {
+    match name {
+        "pairs" => Some(Task::Pairs),
+        "copy" => Some(Task::Large(showing::Act::Copy)),
+        "cull" => Some(Task::Large(showing::Act::Cull)),
+        "damage" => Some(Task::Large(showing::Act::Damage)),
+        "show" => Some(Task::Large(showing::Act::Show)),
+        "tile" => Some(Task::Large(showing::Act::Tile)),
+        _ => None,
+    }
+}
+
+/// Does what the words ask for and prints what came out; false where they ask for nothing of this module.
+pub(crate) fn run(rt: &HostRuntime, words: &[String]) -> io::Result<bool> {
+    let [name, first, second] = words else {
+        return Ok(false);
+    };
+    let Some(task) = task_of(name.as_str()) else {
+        return Ok(false);
+    };
+    let (Ok(first), Ok(second)) = (
+        first.as_str().parse::<u32>(),
+        second.as_str().parse::<u32>(),
+    ) else {
+        return Ok(false);
+    };
+    match task {
+        Task::Pairs => pairs::tell(rt, first, second)?,
+        Task::Large(act) => {
+            let sum = showing::sum_of(rt.alloc(), act, first, second)?;
+            println!(rt; "{sum}")?;
+        }
+    }
+    Ok(true)
+}
