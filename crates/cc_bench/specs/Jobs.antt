@@ -1,10 +1,10 @@
 -- Which jobs the program does.
-use Rattle.std.specs.Prelude.{ℕ, ◌≤◌, ◌≡◌, List, All}
+use Rattle.std.specs.Prelude.{ℕ, ◌≤◌, ◌≡◌, List, All, ⊤}
 use Rattle.cc_scene.specs.declared.Quad.{Quad}
 use Rattle.cc_scene.specs.Views.{quads_view, SceneView}
 use Rattle.cc_scene.specs.Sound.{Fits}
 use Rattle.cc_bench.specs.declared.job.Job.{Job}
-use Rattle.cc_bench.specs.declared.job.Job.TheVariants.{Over, Scale, Fill, Raster, Scene}
+use Rattle.cc_bench.specs.declared.job.Job.TheVariants.{Over, Scale, Fill, Raster, Scene, Target, Wheel}
 
 -- a row of at most 65536 pixels, or a list of at most 256 items
 abbrev pub IsSmall : Job → Type 0
@@ -13,6 +13,8 @@ IsSmall (Scale pixels times) = pixels ≤ 65536
 IsSmall (Fill pixels times) = pixels ≤ 65536
 IsSmall (Raster kind items times) = items ≤ 256
 IsSmall (Scene in_groups items layers times) = items ≤ 256
+IsSmall (Target size times) = ⊤
+IsSmall (Wheel size times) = ⊤
 
 -- a scene of 1024 by 1024 pixels
 abbrev pub IsLarge : SceneView → Type 0

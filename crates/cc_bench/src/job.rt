@@ -3,6 +3,8 @@
 ghost use Rattle.std.specs.Prelude.{◌≤◌, IfSome};
 ghost use Rattle.cc_bench.specs.Jobs.{IsSmall};
 
+use crate::hits::PageSize;
+
 /// The most pixels of a row.
 pub(crate) const MOST_PIXELS: usize = 65536;
 
@@ -49,6 +51,16 @@ pub(crate) enum Job {
         in_groups: bool,
         items: usize,
         layers: u32,
+        times: u32,
+    },
+    /// A point of a page is asked which layer it hits.
+    Target {
+        size: PageSize,
+        times: u32,
+    },
+    /// A wheel turns at a point of a page.
+    Wheel {
+        size: PageSize,
         times: u32,
     },
 }
@@ -99,6 +111,14 @@ impl Job {
                 layers: times(second.as_str())?,
                 times: times(third.as_str())?,
             }),
+            [name, layers, nodes, depth, count] => {
+                let size = PageSize {
+                    layers: times(layers.as_str())?,
+                    nodes: times(nodes.as_str())?,
+                    depth: times(depth.as_str())?,
+                };
+                Job::of_page(name.as_str(), size, times(count.as_str())?)
+            }
             _ => None,
         }
     }
@@ -113,6 +133,17 @@ impl Job {
             "over" => Some(Job::Over { pixels, times }),
             "scale" => Some(Job::Scale { pixels, times }),
             "fill" => Some(Job::Fill { pixels, times }),
+            _ => None,
+        }
+    }
+
+    /// The job on a page of this name.
+    fn of_page(name: &str, size: PageSize, times: u32) -> Option<Job>
+        ensures { IfSome result IsSmall }
+    {
+        match name {
+            "target" => Some(Job::Target { size, times }),
+            "wheel" => Some(Job::Wheel { size, times }),
             _ => None,
         }
     }

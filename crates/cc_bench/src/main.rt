@@ -7,11 +7,15 @@
 //!   `opaque`, `translucent` or `bitmap`,
 //! - `scene ITEMS LAYERS TIMES`, `groups ITEMS LAYERS TIMES`: a scene of 1024 by 1024 pixels in tiles of 256
 //!   by 256, of so many layers of so many translucent items; with `groups` each layer is in a group of its own,
+//! - `target LAYERS NODES DEPTH TIMES`, `wheel LAYERS NODES DEPTH TIMES`: a page of so many layers and so many
+//!   nodes in each property tree, which stand in chains of DEPTH; the lowest layer alone shows. It prints the
+//!   sum of the ids of the layers that a point hits, or of how many scrollers a wheel there moves,
 //! - what `redraws` lists.
 //!
 //! The script `bench/rows` times it.
 #![tactic(auto)]
 
+mod hits;
 mod job;
 mod large;
 mod pairs;
@@ -45,6 +49,8 @@ fn main(rt: HostRuntime) -> io::Result<()> {
             times,
         } => scenes::draw(rt.alloc(), in_groups, items, layers, times)?,
         Job::Raster { kind, items, times } => tiles::raster(rt.alloc(), kind, items, times)?,
+        Job::Target { size, times } => hits::targets(rt.alloc(), size, times)?,
+        Job::Wheel { size, times } => hits::wheels(rt.alloc(), size, times)?,
     };
     println!(rt; "{sum}")?;
     Ok(())
