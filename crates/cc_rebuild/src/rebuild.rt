@@ -40,9 +40,10 @@ pub struct Tiles<'a> {
 fn is_missing(manager: &TileManager, key: TileKey) -> bool
     ensures { result ≡ (not (is_ready manager.now.store key) && not (is_in_flight manager.now.store key)) }
 {
-    let ready = manager.image(key).is_some();
-    let flying = manager.in_flight(key);
-    !ready && !flying
+    if manager.image(key).is_some() {
+        return false;
+    }
+    !manager.in_flight(key)
 }
 
 // Those of the ranks whose keys are neither ready nor being made.
