@@ -10,3 +10,4 @@ pub mod AllJobs
 pub mod Pictures
 pub mod ActivationSteps
 pub mod CommitSteps
+pub mod QuietAborts

@@ -1,26 +1,43 @@
 //! A main frame ends with no commit.
 
-ghost use Rattle.std.specs.Prelude.{◌≡◌, Some, OnOk, OnErr};
+ghost use Rattle.std.specs.Prelude.{◌≡◌, ℕ, false, ◌∷◌, Some, OnOk, OnErr};
 ghost use Rattle.cc_sched.specs.declared.kind.Kind.TheVariants as kind;
 ghost use Rattle.cc_event.specs.declared.event.Event.TheVariants as event;
-ghost use Rattle.cc_log.specs.Runs.{now, with_entry};
+ghost use Rattle.cc_event.specs.Frames.{pending};
+ghost use Rattle.cc_event.specs.Scrolls.{clobbers};
+ghost use Rattle.cc_steps.specs.Events.{abort};
+ghost use Rattle.cc_standing.specs.Standings.{Stands};
+ghost use Rattle.cc_log.specs.Runs.{past, now, with_entry};
 
 use crate::core_state::Core;
 use crate::outlooks::enter_seen;
 use cc_event::Event;
+use cc_standing::Standing;
 use std::alloc::AllocError;
 
 impl Core {
-    /// The main side has ended the frame in flight, which changed nothing. An error is want of memory, and
-    /// nothing was entered.
-    pub fn abort(&mut self, frame: u32) -> Result<(), AllocError>
-        requires { now self.old kind.Abort 1 ≡ Some (event.Abort frame) }
+    // Enters the abort of a frame where the pending commit sets no scroller outright, or none is pending: both
+    // trees stay where they stand, and so does what there is to choose from.
+    fn abort_in_place(&mut self, frame: u32, standing: Standing) -> Result<(), AllocError>
+        requires is_now { now self.old kind.Abort 1 ≡ Some (event.Abort frame) }
+        requires stands { Stands self.old.script (abort 1 frame ∷ past self.old) standing }
+        requires none_outright { (sc : ℕ) → clobbers self.old.script (pending (past self.old)) sc ≡ false }
         ensures ok { OnOk result (self.new ≡ with_entry self.old 1 (event.Abort frame)) }
         ensures err { OnErr result (self.new ≡ self.old) }
     {
         self.log.is_legal();
-        let pages = self.host.pages();
-        let standing = self.host.standing().aborted(self.alloc, pages)?;
+        self.log.enter(1, Event::Abort { frame })?;
+        self.host.stand(standing);
+        Ok(())
+    }
+
+    // Enters the abort of a frame, with the queue for what there is to choose from then.
+    fn abort_moving(&mut self, frame: u32, standing: Standing) -> Result<(), AllocError>
+        requires is_now { now self.old kind.Abort 1 ≡ Some (event.Abort frame) }
+        requires stands { Stands self.old.script (abort 1 frame ∷ past self.old) standing }
+        ensures ok { OnOk result (self.new ≡ with_entry self.old 1 (event.Abort frame)) }
+        ensures err { OnErr result (self.new ≡ self.old) }
+    {
         let event = Event::Abort { frame };
         let next = enter_seen(
             self.alloc,
@@ -35,5 +52,23 @@ impl Core {
         self.tiles.requeue(next.queue);
         self.required = next.required;
         Ok(())
+    }
+
+    /// The main side has ended the frame in flight, which changed nothing. An error is want of memory, and
+    /// nothing was entered.
+    pub fn abort(&mut self, frame: u32) -> Result<(), AllocError>
+        requires { now self.old kind.Abort 1 ≡ Some (event.Abort frame) }
+        ensures ok { OnOk result (self.new ≡ with_entry self.old 1 (event.Abort frame)) }
+        ensures err { OnErr result (self.new ≡ self.old) }
+    {
+        self.log.is_legal();
+        let pages = self.host.pages();
+        let stays = pages.outright.is_empty();
+        let standing = self.host.standing().aborted(self.alloc, pages)?;
+        if stays {
+            self.abort_in_place(frame, standing)
+        } else {
+            self.abort_moving(frame, standing)
+        }
     }
 }

@@ -1,8 +1,10 @@
--- An abort moves what stands, and the queue follows.
-use Rattle.std.proofs.Common.{◌≡◌, ℕ, List, ◌∷◌, Some, refl, sym, subst, arith}
+-- What stands is moved, and both ways enter the abort.
+use Rattle.std.proofs.Common.{◌≡◌, ℕ, false, List, ◌∷◌, Some, refl, sym, ◌∙◌, ap, subst, arith}
 use Rattle.cc_sched.specs.declared.kind.Kind.TheVariants as kind
 use Rattle.cc_event.specs.declared.event.Event.TheVariants as event
 use Rattle.cc_event.specs.declared.history.Entry.{Entry}
+use Rattle.cc_event.specs.Frames.{pending}
+use Rattle.cc_event.specs.Scrolls.{clobbers}
 use Rattle.cc_event.specs.Legal.{Legal}
 use Rattle.cc_steps.specs.Events.{abort}
 use Rattle.cc_standing.specs.Standings.{StandingModel, Stands}
@@ -12,7 +14,7 @@ use Rattle.cc_host.specs.Hosts.{Hosts}
 use Rattle.cc_log.specs.Runs.{Run, past, now}
 use Rattle.cc_core.proofs.CoreSteps.{one_more, refused}
 use Rattle.cc_core.proofs.MayCome.{comes_next}
-use Rattle.cc_core.proofs.SeenSteps.{abort_core}
+use Rattle.cc_core.proofs.QuietAborts.{none_named}
 use Rattle.cc_core.proofs.core_state.Core.abort.Goals as goal
 
 pub aborted-requires : goal.aborted-requires
@@ -27,8 +29,8 @@ aborted-requires c =
     let next : Legal r.script r.workers (abort 1 k ∷ h) = comes_next r.script r.workers h 1 (event.Abort k) legal may_come refl (omega arith) in
     record { script = r.script; workers = r.workers; past = h; actor = 1; frame = k; accepted = c.is_legal.ensures.accepted; legal = next; stands = stands; pages = pages }
 
-pub enter_seen-requires : goal.enter_seen-requires
-enter_seen-requires c =
+pub abort_in_place-requires-clause-stands : goal.abort_in_place-requires-clause-stands
+abort_in_place-requires-clause-stands c =
     let r : Run = c.self.inside.log in
     let h : List Entry = past r in
     let legal = c.is_legal.ensures.legal in
@@ -37,22 +39,18 @@ enter_seen-requires c =
     let k : ℕ = c.args.frame in
     let may_come : now r kind.Abort 1 ≡ Some (event.Abort k) = subst (λ (z : Run). now z kind.Abort 1 ≡ Some (event.Abort k)) (sym c.self.view_is) c.requires in
     let next : Legal r.script r.workers (abort 1 k ∷ h) = comes_next r.script r.workers h 1 (event.Abort k) legal may_come refl (omega arith) in
-    let stood : Stands r.script (abort 1 k ∷ h) c.in_ok-standing.standing = c.in_ok-standing.ensures r.script r.workers h 1 k next stands pages in
-    record {
-      is_now = may_come;
-      actor = refl;
-      within = omega arith;
-      manages = c.self.invariant.tiles;
-      same = same_tiles r.script h (abort 1 k) refl;
-      flying = refl;
-      hosts = record { active = c.self.invariant.host.active; pending = c.self.invariant.host.pending; standing = stood; outright = c.self.invariant.host.outright };
-    }
+    subst (λ (z : Run). Stands z.script (abort 1 k ∷ past z) c.in_ok-standing.standing) c.self.view_is (c.in_ok-standing.ensures r.script r.workers h 1 k next stands pages)
 
-pub invariant_of-self : goal.invariant_of-self
-invariant_of-self c = refused (record { host = c.self.inside.host; tiles = c.self.inside.tiles; told = c.self.inside.told; prepared = c.self.inside.prepared; required = c.self.inside.required }) c.self.inside.log c.enter_seen.new.log c.in_err-next.ensures.err c.self.invariant
+pub abort_in_place-requires-clause-none_outright : goal.abort_in_place-requires-clause-none_outright
+abort_in_place-requires-clause-none_outright c =
+    let r : Run = c.self.inside.log in
+    let h : List Entry = past r in
+    let pages = c.pages-pages.ensures r.script h c.self.invariant.host in
+    let none : (sc : ℕ) → clobbers r.script (pending h) sc ≡ false = λ sc. sym (pages.outright sc) ∙ none_named c.pages-pages.result.outright.now (sym c.is_empty-stays.ensures ∙ c.if-stays.true) sc in
+    subst (λ (z : Run). (sc : ℕ) → clobbers z.script (pending (past z)) sc ≡ false) c.self.view_is none
 
-pub invariant_of-self-2 : goal.invariant_of-self-2
-invariant_of-self-2 c =
+pub abort_moving-requires-clause-stands : goal.abort_moving-requires-clause-stands
+abort_moving-requires-clause-stands c =
     let r : Run = c.self.inside.log in
     let h : List Entry = past r in
     let legal = c.is_legal.ensures.legal in
@@ -61,8 +59,4 @@ invariant_of-self-2 c =
     let k : ℕ = c.args.frame in
     let may_come : now r kind.Abort 1 ≡ Some (event.Abort k) = subst (λ (z : Run). now z kind.Abort 1 ≡ Some (event.Abort k)) (sym c.self.view_is) c.requires in
     let next : Legal r.script r.workers (abort 1 k ∷ h) = comes_next r.script r.workers h 1 (event.Abort k) legal may_come refl (omega arith) in
-    let stood : Stands r.script (abort 1 k ∷ h) c.in_ok-standing.standing = c.in_ok-standing.ensures r.script r.workers h 1 k next stands pages in
-    let hosts : Hosts r.script (abort 1 k ∷ h) c.stand.new.self = c.stand.ensures.keeps r.script h (abort 1 k) refl refl refl c.self.invariant.host stood in
-    let holds : Manages r.script (abort 1 k ∷ h) c.requeue.new.self = c.requeue.ensures r.script h (abort 1 k ∷ h) c.self.invariant.tiles (same_tiles r.script h (abort 1 k) refl) c.in_ok-next.ensures.outlook.queue in
-    one_more (record { host = c.stand.new.self; tiles = c.requeue.new.self; told = c.self.inside.told; prepared = c.self.inside.prepared; required = c.in_ok-next.next.required }) r c.enter_seen.new.log 1 (event.Abort k) c.in_ok-next.ensures.entered
-    (abort_core r.script h (record { host = c.self.inside.host; tiles = c.self.inside.tiles; told = c.self.inside.told; prepared = c.self.inside.prepared; required = c.self.inside.required }) c.self.invariant c.stand.new.self c.requeue.new.self c.in_ok-next.next.required k hosts holds c.in_ok-next.ensures.outlook.required)
+    subst (λ (z : Run). Stands z.script (abort 1 k ∷ past z) c.in_ok-standing.standing) c.self.view_is (c.in_ok-standing.ensures r.script r.workers h 1 k next stands pages)
