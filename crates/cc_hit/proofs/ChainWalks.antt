@@ -1,6 +1,5 @@
 -- The chains that a hit test walks.
-use Rattle.std.proofs.Common.{◌≡◌, ℕ, suc, ◌<◌, ◌≤◌, ◌==◌, Bool, true, false, cond, List, [], ◌∷◌, length, Option, Some, None, option_map, refl, sym, ◌∙◌, ap, arith}
-use Rattle.std.proofs.lemmas.Bool.Decides.{nat_tests}
+use Rattle.std.proofs.Common.{◌≡◌, ℕ, suc, ◌<◌, ◌≤◌, ◌==◌, Bool, true, false, cond, List, [], ◌∷◌, length, Option, Some, None, option_map, refl, ap, arith}
 use Rattle.cc_tree.specs.declared.nodes.ScrollNode.{ScrollNode}
 use Rattle.cc_tree.specs.declared.nodes.TransformNode.{TransformNode}
 use Rattle.cc_tree.specs.Entries.{find, gathered}
@@ -9,7 +8,7 @@ use Rattle.cc_tree.specs.Trees.{IsTransform, IsRange, AreTransforms, AreScroller
 use Rattle.cc_tree.proofs.Chains.{gathered_law, parent_older, known_other}
 use Rattle.cc_edit.specs.Layers.{PageLayer}
 use Rattle.cc_edit.specs.Pages.{Page}
-use Rattle.cc_edit.specs.Hits.{last_covering, nearest_scroller, scrollers_from, chain}
+use Rattle.cc_edit.specs.Hits.{nearest_scroller, scrollers_from, chain}
 use Rattle.cc_edit.specs.Wheels.{chain_or_none}
 
 -- how many nodes stand from the oldest up to that of an id; 0 where it has none

@@ -1,4 +1,5 @@
 pub mod ChainWalks
+pub mod Placings
 pub mod TopmostSteps
 pub mod MainValues
 pub mod Turns

@@ -1,5 +1,5 @@
 -- The main values of scrollers are in their ranges.
-use Rattle.std.proofs.Common.{◌≡◌, ℕ, Bool, false, Option, Some, None, is_some, refl, ◌∙◌, ap, arith}
+use Rattle.std.proofs.Common.{◌≡◌, false, Option, Some, None, is_some, refl, ◌∙◌, ap, arith}
 use Rattle.cc_geom.specs.declared.rect.Point.{Point}
 use Rattle.cc_tree.specs.declared.nodes.ScrollNode.{ScrollNode}
 use Rattle.cc_tree.specs.Entries.{find}

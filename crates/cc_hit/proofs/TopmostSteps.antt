@@ -45,15 +45,6 @@ none_outside p offset x y (l ∷ ls) h =
     let r : last_covering (covers_point p offset x y) ls ≡ 0 = none_outside p offset x y ls h in
     rw (r, h) refl
 
--- two tests, the second asked only where the first holds
-pub when_first : (a b r : Bool) → r ≡ a → b ≡ true → r ≡ a && b
-when_first true b r e t = e ∙ sym t
-when_first false b r e t = e
-
-pub when_not_first : (a b r : Bool) → r ≡ b → r ≡ false → r ≡ a && b
-when_not_first true b r e f = e
-when_not_first false b r e f = f
-
 -- the steps of the walk
 
 -- one layer less

@@ -6,9 +6,11 @@
 #![tactic(auto)]
 
 mod chains;
+mod found;
 mod laws;
 mod parts;
 mod targets;
+mod walks;
 mod wheels;
 
 pub use chains::chain;

@@ -1,10 +1,9 @@
--- Points of the screen: inside the viewport of a page, the bounds of a layer, and its clip.
+-- Points of the screen: inside the viewport of a page, and the bounds of a layer.
 use Rattle.std.specs.Prelude.{ℕ, ℤ, pos, Bool}
 use Rattle.cc_geom.specs.declared.rect.Point.{Point}
 use Rattle.cc_geom.specs.Covers.{covers}
-use Rattle.cc_tree.specs.Placement.{clip_of}
 use Rattle.cc_edit.specs.Layers.{PageLayer}
-use Rattle.cc_edit.specs.TreePainting.{lets_through, point_in}
+use Rattle.cc_edit.specs.TreePainting.{point_in}
 use Rattle.cc_edit.specs.Pages.{Page}
 
 -- a point is inside the viewport of a page
@@ -14,7 +13,3 @@ is_in_view p x y = covers (record { x = pos 0; y = pos 0; w = pos p.view.w; h = 
 -- the point, moved back, is inside the bounds of a layer
 abbrev pub is_within_bounds : Page → (ℕ → Point) → ℤ → ℤ → PageLayer → Bool
 is_within_bounds p offset x y l = covers (record { x = pos 0; y = pos 0; w = pos l.w; h = pos l.h }) (point_in p offset l x y).x (point_in p offset l x y).y
-
--- the clip of a layer lets the point through
-abbrev pub is_let_to : Page → (ℕ → Point) → ℤ → ℤ → PageLayer → Bool
-is_let_to p offset x y l = lets_through (clip_of offset p.props.transforms p.props.clips l.clip) x y

@@ -1,41 +1,41 @@
-use Rattle.std.proofs.Common.{◌∙◌, refl, sym, rules}
-use Rattle.std.specs.Int.RustNames.{FitsSigned}
-use Rattle.std.proofs.lemmas.Int.{to_z-of_z}
-use mir.Syntax.{w32}
-use mir.Val.{to_z, of_z}
+-- One layer less is to be looked at.
+use Rattle.std.proofs.Common.{◌∙◌, refl, sym}
 use Rattle.cc_geom.specs.Sides.{IsSide}
 use Rattle.cc_tree.specs.OffsetMap.{offset_at}
+use Rattle.cc_tree.specs.Placement.{translation, draws}
+use Rattle.cc_tree.proofs.Chains.{follow_the_parent}
 use Rattle.cc_edit.specs.Layers.{parts_of}
 use Rattle.cc_edit.specs.Hits.{covers_point}
 use Rattle.cc_edit.specs.declared.layer.Layer.{Layer}
-use Rattle.cc_hit.proofs.TopmostSteps.{step_down, found, passed, none_at_all, all_last, all_front}
+use Rattle.cc_hit.specs.inner.Found.{is_open_at}
+use Rattle.cc_hit.proofs.Placings.{open_root}
+use Rattle.cc_hit.proofs.TopmostSteps.{step_down, found, passed, all_front}
 use Rattle.cc_hit.proofs.targets.topmost.Goals as goal
 
 pub loop-layer-init : goal.loop-layer-init
-loop-layer-init c = (refl, c.requires.sizes)
-
-pub covering_id-id-requires-clause-wide : goal.covering_id-id-requires-clause-wide
-covering_id-id-requires-clause-wide c = (all_last (λ (w : Layer). IsSide w.w × IsSide w.h) c.loop-layer.rest.now c.in-Some.below.now c.in-Some.layer.now c.in-Some.ensures.cases.0 c.loop-layer.invariant.1).0
-
-pub covering_id-id-requires-clause-tall : goal.covering_id-id-requires-clause-tall
-covering_id-id-requires-clause-tall c = (all_last (λ (w : Layer). IsSide w.w × IsSide w.h) c.loop-layer.rest.now c.in-Some.below.now c.in-Some.layer.now c.in-Some.ensures.cases.0 c.loop-layer.invariant.1).1
+loop-layer-init c =
+    let offset = offset_at c.args.offsets.now in
+    let t = c.args.tree.now.props in
+    record {
+      same = refl;
+      sizes = c.requires.sizes;
+      places = c.root_place-places.ensures (translation offset t.transforms) (follow_the_parent.root_translation offset t c.requires.trees);
+      clips = c.root_holds-clips.ensures (is_open_at offset t c.args.p) (open_root offset t c.requires.trees c.args.p);
+      effects = c.root_holds-effects.ensures (draws t.effects) (follow_the_parent.root_draws t c.requires.trees);
+    }
 
 pub returns-then-id-ne0 : goal.returns-then-id-ne0
 returns-then-id-ne0 c =
-    let f : FitsSigned w32 c.args.x = search rules in
-    let g : FitsSigned w32 c.args.y = search rules in
-    let s = step_down parts_of (covers_point c.args.tree.now (offset_at c.args.offsets.now) c.args.x c.args.y) c.loop-layer.rest.now c.in-Some.below.now c.in-Some.layer.now c.covering_id-id.result c.in-Some.ensures.cases.0 (simp to_z-of_z at c.covering_id-id.ensures) in
-    sym (sym (simp to_z-of_z at c.loop-layer.invariant.0) ∙ s ∙ found c.covering_id-id.result _ c.if-id-ne0.true)
+    let s = step_down parts_of (covers_point c.args.tree.now (offset_at c.args.offsets.now) c.args.p.x c.args.p.y) c.loop-layer.rest.now c.in-Some.below.now c.in-Some.layer.now c.covering_id-id.result c.in-Some.ensures.cases.0 c.covering_id-id.ensures.value in
+    sym (sym c.loop-layer.invariant.same ∙ s ∙ found c.covering_id-id.result _ c.if-id-ne0.true)
 
 pub loop-layer-preserved : goal.loop-layer-preserved
 loop-layer-preserved c =
-    let s = step_down parts_of (covers_point c.args.tree.now (offset_at c.args.offsets.now) (to_z w32 (of_z w32 c.args.x)) (to_z w32 (of_z w32 c.args.y))) c.loop-layer.rest.now c.in-Some.below.now c.in-Some.layer.now c.covering_id-id.result c.in-Some.ensures.cases.0 c.covering_id-id.ensures in (
-      sym (s ∙ passed c.covering_id-id.result _ c.if-id-ne0.false) ∙ c.loop-layer.invariant.0,
-      all_front (λ (w : Layer). IsSide w.w × IsSide w.h) c.loop-layer.rest.now c.in-Some.below.now c.in-Some.layer.now c.in-Some.ensures.cases.0 c.loop-layer.invariant.1,
-    )
-
-pub returns : goal.returns
-returns c =
-    let f : FitsSigned w32 c.args.x = search rules in
-    let g : FitsSigned w32 c.args.y = search rules in
-    sym (none_at_all parts_of (covers_point c.args.tree.now (offset_at c.args.offsets.now) c.args.x c.args.y) c.loop-layer.rest.now c.in_default.ensures.cases) ∙ simp to_z-of_z at c.loop-layer.invariant.0
+    let s = step_down parts_of (covers_point c.args.tree.now (offset_at c.args.offsets.now) c.args.p.x c.args.p.y) c.loop-layer.rest.now c.in-Some.below.now c.in-Some.layer.now c.covering_id-id.result c.in-Some.ensures.cases.0 c.covering_id-id.ensures.value in
+    record {
+      same = sym (s ∙ passed c.covering_id-id.result _ c.if-id-ne0.false) ∙ c.loop-layer.invariant.same;
+      sizes = all_front (λ (w : Layer). IsSide w.w × IsSide w.h) c.loop-layer.rest.now c.in-Some.below.now c.in-Some.layer.now c.in-Some.ensures.cases.0 c.loop-layer.invariant.sizes;
+      places = c.covering_id-id.ensures.places;
+      clips = c.covering_id-id.ensures.clips;
+      effects = c.covering_id-id.ensures.effects;
+    }
