@@ -1,7 +1,6 @@
 -- The layers of a page, looked at from the last one down.
-use Rattle.std.proofs.Common.{◌≡◌, ℕ, ◌≤◌, ◌==◌, ℤ, pos, ◌≤ℤ◌, ◌<ℤ◌, Bool, true, false, cond, ◌&&◌, List, [], ◌∷◌, ◌++◌, map, length, refl, sym, ◌∙◌, ap, subst, arith, length-append}
+use Rattle.std.proofs.Common.{◌≡◌, ℕ, ◌≤◌, ◌==◌, ℤ, pos, ◌≤ℤ◌, ◌<ℤ◌, Bool, true, false, cond, ◌&&◌, List, [], ◌∷◌, ◌++◌, map, refl, sym, ◌∙◌, ap, subst, arith, length-append}
 use Rattle.std.specs.List.{All}
-use Rattle.std.proofs.Math.Seq.{get_or-append_seam}
 use Rattle.std.proofs.lemmas.Int.{ints}
 use Rattle.std.proofs.lemmas.Bool.Decides.{nat_tests}
 use Rattle.std.proofs.lemmas.List.{map-append, get_or_append_left}
@@ -66,16 +65,7 @@ found own below n = go (own == 0) refl
 pub passed : (own below : ℕ) → own ≡ 0 → or_below own below ≡ below
 passed own below e = rw e refl
 
-pub none_at_all : {L : Type 0} (view : L → PageLayer) (p : PageLayer → Bool) (rest : List L) → length rest ≡ 0 → last_covering p (map view rest) ≡ 0
-none_at_all view p [] h = refl
-none_at_all view p (l ∷ ls) h = absurd (omega arith)
-
--- what holds of all elements holds of the last, and of those before it
-
-pub all_last : {X : Type 0} (P : X → Type 0) (xs older : List X) (x : X) → xs ≡ older ++ x ∷ [] → All P xs → P x
-all_last P xs older x e a =
-    let b : All P (older ++ x ∷ []) = subst (All P) e a in
-    subst P (get_or-append_seam older x [] x) (b (length older) x (let l = length-append older (x ∷ []) in omega arith))
+-- what holds of all elements holds of those before the last
 
 pub all_front : {X : Type 0} (P : X → Type 0) (xs older : List X) (x : X) → xs ≡ older ++ x ∷ [] → All P xs → All P older
 all_front P xs older x e a =
