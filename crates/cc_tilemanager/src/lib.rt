@@ -12,6 +12,6 @@ mod laws;
 mod manager;
 mod pins;
 
-pub use laws::{alike_pasts_keep_the_tiles, sends_keep_the_tiles};
+pub use laws::sends_keep_the_tiles;
 pub use manager::TileManager;
 pub use pins::Pins;
