@@ -1,11 +1,13 @@
 -- How keys compare.
-use Rattle.std.proofs.Common.{◌≡◌, true, sym, ◌∙◌, ap}
+use Rattle.std.proofs.Common.{◌≡◌, ◌==◌, true, ◌&&◌, sym, ◌∙◌, ap, arith}
 use Rattle.std.specs.declared.cmp.Ordering.TheVariants.{Less, Equal, Greater}
 use Rattle.std.specs.Ordering.{ordering_reverse, eq_by_cmp, is_eq}
 use Rattle.std.specs.Cmp.{Equal-is, tied_itself}
+use Rattle.std.proofs.lemmas.Bool.Decides.{nat_tests}
 use Rattle.cc_geom.specs.declared.tile.TileKey.{TileKey}
 use Rattle.cc_geom.specs.KeyOrder.{key_cmp}
 use Rattle.cc_geom.proofs.KeyOrders.{key_total, key_ties}
+use Rattle.cc_geom.proofs.KeyLists.{one_key}
 
 -- a key ties with itself alone
 pub tied : (k l : TileKey) → eq_by_cmp key_cmp k l ≡ true → k ≡ l
@@ -30,3 +32,7 @@ apart k l h e = let t : key_cmp k l ≡ Equal = ap (key_cmp k) (sym e) ∙ ties_
 
 pub tied_back : (k l : TileKey) → key_cmp k l ≡ Equal → key_cmp l k ≡ Equal
 tied_back k l h = key_total.antisymm l k ∙ ap ordering_reverse h
+
+-- keys whose fields are the same one by one are one key
+pub one_by_fields : (k q : TileKey) → ((k.layer == q.layer) && ((k.x == q.x) && ((k.y == q.y) && (k.stamp == q.stamp)))) ≡ true → k ≡ q
+one_by_fields k q h = one_key k q (grind (arith, nat_tests))

@@ -11,7 +11,7 @@ use Rattle.cc_geom.specs.KeyOrder.{key_cmp}
 use Rattle.cc_store.specs.declared.held.Held.{Held}
 use Rattle.cc_store.specs.inner.TileTables.{Before, After, Rises, StandsAt, IsGapFor}
 use Rattle.cc_geom.proofs.KeyOrders.{key_total, key_ties}
-use Rattle.cc_store.proofs.KeyOrders.{flips, flips_back}
+use Rattle.cc_store.proofs.KeyOrders.{ties_itself, flips, flips_back}
 use Rattle.cc_store.proofs.HeldLists.{split_before, split_after}
 
 -- no key is below the one before it
@@ -51,6 +51,10 @@ found (h ∷ hs) key at r lt is =
       before = subst (λ k. Before k (take at (h ∷ hs))) same (split_before (take at (h ∷ hs)) (drop (suc at) (h ∷ hs)) one parted);
       after = subst (λ k. After k (drop (suc at) (h ∷ hs))) same (split_after (take at (h ∷ hs)) (drop (suc at) (h ∷ hs)) one parted);
     }
+
+-- a key that is seen at an index stands there
+pub seen_at : (hs : List Held) (key : TileKey) (at : ℕ) → Rises hs → at < length hs → ((d : Held) → (get_or hs at d).key ≡ key) → StandsAt hs key at
+seen_at hs key at r lt is = found hs key at r lt (λ d. ap (λ k. key_cmp k key) (is d) ∙ ties_itself key)
 
 pub searched : (hs : List Held) (key : TileKey) (r : Result ℕ ℕ) → Rises hs → IsSearchInRange r (length hs) → IsBinarySearchResult (λ h. key_cmp h.key key) hs r
     → record { found : IfOk r (StandsAt hs key); absent : IfErr r (IsGapFor hs key) }

@@ -8,7 +8,7 @@ ghost use Rattle.cc_store.specs.inner.Rows.{ready_of, if_live, if_not_named};
 ghost use Rattle.cc_store.specs.inner.TileTables.{shown};
 
 use crate::held::{Held, Tile};
-use crate::search::search;
+use crate::search::{search, search_near};
 use crate::tiles::{give, is_made};
 use crate::walks::{drop_unmarked, mark};
 use cc_geom::{Keys, TileKey};
@@ -92,9 +92,22 @@ impl TileTable {
     pub(crate) fn get(&self, key: TileKey) -> Option<&Tile>
         ensures { option_map (λ t. shown t.now) result ≡ fin.get self.now.held key }
     {
-        match search(&self.held, key) {
-            Ok(at) => self.tiles.get(self.held[at].place),
-            Err(_) => None,
+        self.get_near(&mut 0, key)
+    }
+
+    /// The same. `near` is where the tile is looked for first, and is set to the place behind it.
+    pub(crate) fn get_near(&self, near: &mut usize, key: TileKey) -> Option<&Tile>
+        ensures { option_map (λ t. shown t.now) result ≡ fin.get self.now.held key }
+    {
+        match search_near(&self.held, *near, key) {
+            Ok(at) => {
+                *near = at + 1;
+                self.tiles.get(self.held[at].place)
+            }
+            Err(at) => {
+                *near = at;
+                None
+            }
         }
     }
 

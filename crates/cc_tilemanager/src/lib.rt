@@ -10,8 +10,10 @@
 
 mod laws;
 mod manager;
+mod near;
 mod pins;
 
 pub use laws::sends_keep_the_tiles;
 pub use manager::TileManager;
+pub use near::has_near;
 pub use pins::Pins;

@@ -60,9 +60,13 @@ impl Model for TileManager {
 fn all_ready(store: &TileStore, keys: &Keys) -> bool
     ensures { result ≡ list_all (is_ready store.now) keys.now }
 {
-    keys.as_slice()
-        .iter()
-        .all(|key| store.ready(*key).is_some())
+    let mut near = 0;
+    for key in keys.as_slice() {
+        if store.ready_near(&mut near, *key).is_none() {
+            return false;
+        }
+    }
+    true
 }
 
 impl TileManager {
@@ -105,6 +109,15 @@ impl TileManager {
         ensures { option_map (λ image. image.now.value) result ≡ image_of self.now.store key }
     {
         self.store.ready(key)
+    }
+
+    /// The same. Where keys are asked for in their order, `near` carries the place from one question to the
+    /// next: a key that stands next to the one before it is found without a search. The answer doesn't depend
+    /// on it; 0 is as good a beginning as any.
+    pub fn image_near(&self, near: &mut usize, key: TileKey) -> Option<&Arc<TileImage>>
+        ensures { option_map (λ image. image.now.value) result ≡ image_of self.now.store key }
+    {
+        self.store.ready_near(near, key)
     }
 
     /// Whether the key is being made.

@@ -4,6 +4,7 @@ ghost use Rattle.std.specs.Prelude.{◌≡◌, [], IfOk};
 ghost use Rattle.cc_geom.specs.declared.tile.TileKey.{TileKey as Key};
 ghost use Rattle.cc_geom.specs.KeyLists.{has_key};
 
+use crate::near::has_near;
 use cc_geom::{Keys, TileKey};
 use std::alloc::{AllocError, Global};
 use std::marker::Model;
@@ -50,6 +51,13 @@ impl Pins {
     pub fn has(&self, key: TileKey) -> bool
         ensures { result ≡ has_key self.now key }
     {
-        self.keys.binary_search(&key).is_ok()
+        self.has_near(&mut 0, key)
+    }
+
+    /// The same. `near` is as that of [`has_near`].
+    pub fn has_near(&self, near: &mut usize, key: TileKey) -> bool
+        ensures { result ≡ has_key self.now key }
+    {
+        has_near(self.keys.as_slice(), near, key)
     }
 }

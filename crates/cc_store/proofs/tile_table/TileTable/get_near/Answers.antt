@@ -4,7 +4,7 @@ use Rattle.std.specs.FinMap as fin
 use Rattle.slab.specs.Slab.{get}
 use Rattle.cc_store.specs.inner.TileTables.{StandsAt, IsGapFor}
 use Rattle.cc_store.proofs.TableSteps.{found_at, not_found, one_is, tile_at, gotten}
-use Rattle.cc_store.proofs.tile_table.TileTable.get.Goals as goal
+use Rattle.cc_store.proofs.tile_table.TileTable.get_near.Goals as goal
 
 pub returns-in-Ok : goal.returns-in-Ok
 returns-in-Ok c =
@@ -19,6 +19,6 @@ returns-in-Ok c =
 
 pub returns-in-Err : goal.returns-in-Err
 returns-in-Err c =
-    let gap = subst (λ l. IsGapFor l c.args.key c.in-Err.field-0) c.deref.ensures.value c.in-Err.ensures.absent in
-    sym (not_found c.self.inside.tiles c.self.inside.held.items c.args.key c.in-Err.field-0 gap c.self.invariant.rises)
+    let gap = subst (λ l. IsGapFor l c.args.key c.in-Err.at) c.deref.ensures.value c.in-Err.ensures.absent in
+    sym (not_found c.self.inside.tiles c.self.inside.held.items c.args.key c.in-Err.at gap c.self.invariant.rises)
     ∙ ap (λ s. fin.get s.held c.args.key) c.self.view_is
