@@ -1,5 +1,5 @@
 -- The tiles that a manager holds are right for the active page.
-use Rattle.std.proofs.Common.{◌≡◌, ℕ, Bool, true, false, cond, not, ◌||◌, Option, Some, None, is_some, option_map, List, [], ◌∷◌, map, filter, All, refl, sym, ◌∙◌, ap, subst}
+use Rattle.std.proofs.Common.{◌≡◌, ℕ, Bool, true, false, cond, not, Option, Some, None, is_some, option_map, List, [], ◌∷◌, map, filter, All, refl, sym, ◌∙◌, ap, subst}
 use Rattle.std.specs.Prelude.{is_none, IfSome, find}
 use Rattle.std.proofs.lemmas.List.Elements.{All-nil, All-cons}
 use Rattle.cc_geom.specs.declared.rect.Point.{Point}
@@ -8,7 +8,6 @@ use Rattle.cc_geom.specs.KeyLists.{same_key, has_key}
 use Rattle.cc_geom.proofs.KeyLists.{key_itself}
 use Rattle.cc_pixel.specs.Colours.{Parts}
 use Rattle.cc_display.specs.Content.{content}
-use Rattle.cc_priority.specs.Ordered.{In}
 use Rattle.cc_raster.specs.Images.{Image}
 use Rattle.cc_store.specs.Stores.{Store, image_of, is_ready}
 use Rattle.cc_edit.specs.Layers.{PageLayer, has_id}
@@ -34,7 +33,7 @@ none_is_not : {X : Type 0} (o : Option X) → is_none o ≡ not (is_some o)
 none_is_not None = refl
 none_is_not (Some x) = refl
 
-pub missing_held : (store : Store) (ks : List TileKey) → missing_keys (map (held_tile store) ks) ≡ filter (λ q. not (is_ready store q)) ks
+missing_held : (store : Store) (ks : List TileKey) → missing_keys (map (held_tile store) ks) ≡ filter (λ q. not (is_ready store q)) ks
 missing_held store [] = refl
 missing_held store (k ∷ ks) = at_head (is_none (image_of store k)) (none_is_not (image_of store k)) (missing_held store ks)
   where
@@ -55,8 +54,12 @@ module _ (s : ScriptModel) (h : List Entry) (m : Managed) (holds : Manages s h m
   abbrev is_key : TileKey → Type 0
   is_key q = has_page_key s (pulls_of h) (up_to (active h)) q ≡ true
 
-  pub missing_is : filter (λ q. not (is_ready m.store q)) (visible_in (active_tree s h)) ≡ missing s h
+  missing_is : filter (λ q. not (is_ready m.store q)) (visible_in (active_tree s h)) ≡ missing s h
   missing_is = filter_same (λ q. not (is_ready m.store q)) (λ q. not (has_key (ready s h) q)) (visible_in (active_tree s h)) (λ q i. ap not (holds.ready q))
+
+  -- of the tiles of the visible keys, those without an image are the missing ones
+  pub missing_among : (ks : List TileKey) (tiles : List Tile) → ks ≡ visible_in (active_tree s h) → tiles ≡ map (held_tile m.store) ks → missing_keys tiles ≡ missing s h
+  missing_among ks tiles keys is = ap missing_keys is ∙ (missing_held m.store ks ∙ (ap (λ (qs : List TileKey). filter (λ q. not (is_ready m.store q)) qs) keys ∙ missing_is))
 
   -- an image of a key of the page may stand for its tile
   may_stand : (q : TileKey) → is_key q → MayStand (active_page s h) (held_tile m.store q)

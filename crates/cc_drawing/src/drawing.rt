@@ -14,7 +14,7 @@ ghost use Rattle.cc_event.specs.Tiles as model;
 ghost use Rattle.cc_tilemanager.specs.Managers.{Manages};
 ghost use Rattle.cc_drawing.specs.Drawings.{DrawsNow};
 
-use crate::tiles::{missing_in, shown_tiles};
+use crate::tiles::{missing_of, shown_tiles};
 use cc_edit::LayerTree;
 use cc_geom::Keys;
 use cc_pixel::Colour;
@@ -53,7 +53,7 @@ pub fn draw(
     ensures pixels { (s : ScriptModel) (h : List Entry) → Manages s h manager.now → page.now ≡ active_page s h → offset_at offsets.now ≡ active_offsets s h → keys.now ≡ model.visible_in (model.active_tree s h) → IfOk result (λ drawing. (x y : ℤ) → covers (viewport page.now) x y ≡ true → scene_pixel drawing.scene x y ≡ paint (active_page s h) (active_offsets s h) (model.missing s h) background x y) }
 {
     let tiles = shown_tiles(alloc, manager, keys.as_slice())?;
-    let missing = missing_in(alloc, manager, keys.as_slice())?;
+    let missing = missing_of(alloc, tiles.as_slice())?;
     let view = page.view();
     let scene = quads_of(
         alloc,

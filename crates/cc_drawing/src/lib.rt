@@ -9,4 +9,4 @@ mod drawing;
 mod tiles;
 
 pub use drawing::{Drawing, draw};
-pub use tiles::{missing_in, shown_tiles};
+pub use tiles::shown_tiles;

@@ -1,8 +1,7 @@
 //! The tiles that a page shows, as the tile manager has them.
 
-ghost use Rattle.std.specs.Prelude.{◌≡◌, not, map, filter, IfOk};
-ghost use Rattle.cc_store.specs.Stores.{is_ready};
-ghost use Rattle.cc_quads.specs.Shown.{tile_of};
+ghost use Rattle.std.specs.Prelude.{◌≡◌, map, IfOk};
+ghost use Rattle.cc_quads.specs.Shown.{tile_of, missing_keys};
 ghost use Rattle.cc_drawing.specs.Drawings.{held_tile};
 
 use cc_geom::{Keys, TileKey};
@@ -11,11 +10,11 @@ use cc_tilemanager::TileManager;
 use std::alloc::{AllocError, Global};
 use std::sync::Arc;
 
-// The tile of a key, with its image where the key is ready.
-fn shown_tile(manager: &TileManager, key: TileKey) -> Result<Shown, AllocError>
+// The tile of a key, with its image where the key is ready, which is looked for at `near` first.
+fn shown_tile(manager: &TileManager, near: &mut usize, key: TileKey) -> Result<Shown, AllocError>
     ensures { IfOk result (λ tile. tile_of tile ≡ held_tile manager.now.store key) }
 {
-    match manager.image(key) {
+    match manager.image_near(near, key) {
         None => Ok(Shown { key, image: None }),
         Some(image) => Ok(Shown {
             key,
@@ -24,7 +23,8 @@ fn shown_tile(manager: &TileManager, key: TileKey) -> Result<Shown, AllocError>
     }
 }
 
-/// The tiles of these keys, each with its image where it is ready. No pixel is copied. An error is want of
+/// The tiles of these keys, each with its image where it is ready. No pixel is copied. The work of a key that
+/// is ready and stands next to the one before it does not grow with the number of tiles. An error is want of
 /// memory.
 pub fn shown_tiles(
     alloc: Global,
@@ -34,24 +34,21 @@ pub fn shown_tiles(
     ensures { IfOk result (λ tiles. map tile_of tiles.items ≡ map (held_tile manager.now.store) keys.now) }
 {
     let mut tiles = Vec::with_capacity(alloc, keys.len())?;
+    let mut near = 0;
     for key in keys {
-        tiles.push(shown_tile(manager, *key)?)?;
+        tiles.push(shown_tile(manager, &mut near, *key)?)?;
     }
     Ok(tiles)
 }
 
-/// Those of the keys that are not ready, in their order. An error is want of memory.
-pub fn missing_in(
-    alloc: Global,
-    manager: &TileManager,
-    keys: &[TileKey],
-) -> Result<Keys, AllocError>
-    ensures { IfOk result (λ missing. missing ≡ filter (λ q. not (is_ready manager.now.store q)) keys.now) }
+// The keys of the tiles that have no image, in their order. An error is want of memory.
+pub(crate) fn missing_of(alloc: Global, tiles: &[Shown]) -> Result<Keys, AllocError>
+    ensures { IfOk result (λ missing. missing ≡ missing_keys (map tile_of tiles.now)) }
 {
     let mut missing = Keys::new(alloc);
-    for key in keys {
-        if manager.image(*key).is_none() {
-            if let Err(refused) = missing.push(*key) {
+    for tile in tiles {
+        if tile.image.is_none() {
+            if let Err(refused) = missing.push(tile.key) {
                 return Err(refused.0);
             }
         }

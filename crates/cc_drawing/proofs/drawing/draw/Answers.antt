@@ -1,13 +1,11 @@
 -- The tiles are right for the active page, and those without an image are the missing ones.
-use Rattle.std.proofs.Common.{◌≡◌, not, List, map, filter, sym, ◌∙◌, ap}
-use Rattle.cc_geom.specs.declared.tile.TileKey.{TileKey}
+use Rattle.std.proofs.Common.{◌≡◌, map, ◌∙◌, ap}
 use Rattle.cc_tree.specs.OffsetMap.{offset_at}
 use Rattle.cc_edit.specs.TreePainting.{paint}
-use Rattle.cc_store.specs.Stores.{is_ready}
 use Rattle.cc_quads.specs.Shown.{tile_of, missing_keys}
 use Rattle.cc_event.specs.Tiles.{missing}
 use Rattle.cc_drawing.specs.Drawings.{held_tile}
-use Rattle.cc_drawing.proofs.HeldTiles.{missing_held, missing_is, right_for}
+use Rattle.cc_drawing.proofs.HeldTiles.{missing_among, right_for}
 use Rattle.cc_drawing.proofs.drawing.draw.Goals as goal
 
 pub quads_of-requires-clause-right : goal.quads_of-requires-clause-right
@@ -17,10 +15,15 @@ quads_of-requires-clause-right c =
     let tiles = ap (map tile_of) c.as_slice-3.ensures.value ∙ (c.in_ok-tiles.ensures ∙ ap (map (held_tile store)) c.as_slice.ensures) in
     right_for r.script r.past c.args.manager.now r.manages c.args.page.now (offset_at c.args.offsets.now) c.args.keys.now (map tile_of c.as_slice-3.result.now) r.page r.offsets r.keys tiles
 
+pub returns-clause-missing : goal.returns-clause-missing
+returns-clause-missing c = λ s h holds keys.
+    let store = c.args.manager.now.store in
+    let tiles = ap (map tile_of) c.as_slice-2.ensures.value ∙ (c.in_ok-tiles.ensures ∙ ap (map (held_tile store)) c.as_slice.ensures) in
+    c.in_ok-missing.ensures ∙ missing_among s h c.args.manager.now holds c.args.keys.now (map tile_of c.as_slice-2.result.now) keys tiles
+
 pub returns-clause-pixels : goal.returns-clause-pixels
 returns-clause-pixels c = λ s h holds page offsets keys x y inside.
     let store = c.args.manager.now.store in
     let tiles = ap (map tile_of) c.as_slice-3.ensures.value ∙ (c.in_ok-tiles.ensures ∙ ap (map (held_tile store)) c.as_slice.ensures) in
-    let gone : missing_keys (map tile_of c.as_slice-3.result.now) ≡ missing s h =
-    ap missing_keys tiles ∙ (missing_held store c.args.keys.now ∙ (ap (λ (ks : List TileKey). filter (λ q. not (is_ready store q)) ks) keys ∙ missing_is s h c.args.manager.now holds)) in
+    let gone : missing_keys (map tile_of c.as_slice-3.result.now) ≡ missing s h = missing_among s h c.args.manager.now holds c.args.keys.now (map tile_of c.as_slice-3.result.now) keys tiles in
     c.in_ok-scene.ensures.pixels x y inside ∙ (λ i. paint (page i) (offsets i) (gone i) c.args.background x y)
