@@ -11,35 +11,35 @@ use Rattle.cc_priority.proofs.InOrder.{in_filter, filter_in}
 use Rattle.cc_priority.proofs.Members.{in_filter_map, filter_map_in}
 use Rattle.cc_priority.proofs.StayAlike.{alike_stay}
 use Rattle.cc_rasterq.specs.Queues.{rank_key, tile_key, EachKeyOnce}
-use Rattle.cc_store.specs.Stores.{Store, is_ready, is_in_flight}
+use Rattle.cc_store.specs.Stores.{Store, is_in_flight}
 use Rattle.cc_event.specs.declared.history.Entry.{Entry}
 use Rattle.cc_event.specs.Scripts.{ScriptModel}
 use Rattle.cc_event.specs.Legal.{Legal}
 use Rattle.cc_event.specs.Tiles.{active_tree, pending_tree, live_keys, made, in_flight, ready, pinned}
 use Rattle.cc_event.specs.Ranking.{rank, is_unmade, wanted, choice}
 use Rattle.cc_event.proofs.BoolFacts.{not_both, is_false, and_right}
-use Rattle.cc_event.proofs.KeyFacts.{has_in, has_filter, distinct_filter}
+use Rattle.cc_event.proofs.KeyFacts.{has_filter, distinct_filter}
 use Rattle.cc_event.proofs.RankFacts.{key_of_rank}
 use Rattle.cc_event.proofs.RankFacts as ranks
 use Rattle.cc_event.proofs.TileCourse.{tile_course}
 use Rattle.cc_steps.specs.Choices.{tile_in_both}
 use Rattle.cc_steps.proofs.Picks.{filter_map_test}
 use Rattle.cc_steps.proofs.SameKeys.{rebuilt_alike}
-use Rattle.cc_rebuild.specs.Rebuilds.{AreTilesAt}
+use Rattle.cc_rebuild.specs.inner.Queued.{AreTilesAt}
 
--- the store neither has an image of the key nor makes it
-abbrev pub is_missing : Store → TileKey → Bool
-is_missing store q = not (is_ready store q) && not (is_in_flight store q)
+-- the key is none of the ready ones, and the store doesn't make it
+abbrev pub is_missing : Store → List TileKey → TileKey → Bool
+is_missing store kept q = not (has_key kept q) && not (is_in_flight store q)
 
-abbrev pub missing_ranks : Store → List Rank → List Rank
-missing_ranks store rs = filter (λ r. is_missing store r.key) rs
+abbrev pub missing_ranks : Store → List TileKey → List Rank → List Rank
+missing_ranks store kept rs = filter (λ r. is_missing store kept r.key) rs
 
 keys_of_tiles : (g : TileKey → Tile) (ks : List TileKey) → ((q : TileKey) → (g q).key ≡ q) → map tile_key (map g ks) ≡ ks
 keys_of_tiles g [] is = refl
 keys_of_tiles g (k ∷ ks) is = λ i. is k i ∷ keys_of_tiles g ks is i
 
-keys_of_missing : (store : Store) (rs : List Rank) → map rank_key (missing_ranks store rs) ≡ filter (is_missing store) (map rank_key rs)
-keys_of_missing store rs = sym (filter_map_test rank_key (is_missing store) rs)
+keys_of_missing : (store : Store) (kept : List TileKey) (rs : List Rank) → map rank_key (missing_ranks store kept rs) ≡ filter (is_missing store kept) (map rank_key rs)
+keys_of_missing store kept rs = sym (filter_map_test rank_key (is_missing store kept) rs)
 
 -- the pins count by what they have
 same_pins : (s : ScriptModel) (h : List Entry) (pins : List TileKey) → ((q : TileKey) → has_key pins q ≡ has_key (pinned s h) q)
@@ -48,59 +48,54 @@ same_pins s h pins same = λ i q. record { key = q; rank = rank s h q; pinned = 
 
 module _ (s : ScriptModel) (n : ℕ) (h : List Entry) (store : Store) (kept pins : List TileKey) (flying : ℕ) (legal : Legal s n h) (tiles : AreTilesAt s h store kept pins flying) where
   -- a ready key is not missing
-  pub ready_there : (q : TileKey) → has_key kept q ≡ true → is_missing store q ≡ false
-  ready_there q t =
-      let r : has_key (ready s h) q ≡ true = sym (tiles.ready q) ∙ t in
-      let l : has_key (live_keys s h) q ≡ true = and_right (has_key (made h) q) (has_key (live_keys s h) q) (sym (has_filter (has_key (live_keys s h)) (made h) q) ∙ r) in
-      ap (λ b. not b && not (is_in_flight store q)) (tiles.live q l ∙ r)
+  ready_there : (q : TileKey) → has_key kept q ≡ true → is_missing store kept q ≡ false
+  ready_there q t = ap (λ b. not b && not (is_in_flight store q)) t
 
-  same_missing : (q : TileKey) → In q (live_keys s h) → is_missing store q ≡ is_unmade s h q
-  same_missing q i =
-      let l : has_key (live_keys s h) q ≡ true = has_in (live_keys s h) q i in
-      λ j. not (tiles.live q l j) && not (tiles.in_flight q j)
+  same_missing : (q : TileKey) → is_missing store kept q ≡ is_unmade s h q
+  same_missing q = λ j. not (tiles.ready q j) && not (tiles.in_flight q j)
 
   module _ (rs : List Rank) (members : SameMembers rs (filter_map (rank s h) (live_keys s h))) where
-    wanted_there : (r : Rank) → In r (missing_ranks store rs) → In r (wanted s h)
+    wanted_there : (r : Rank) → In r (missing_ranks store kept rs) → In r (wanted s h)
     wanted_there r i =
-        let (j, m) = in_filter (λ r. is_missing store r.key) r rs i in
+        let (j, m) = in_filter (λ r. is_missing store kept r.key) r rs i in
         let (q, l, e) = in_filter_map (rank s h) r (live_keys s h) (members.there r j) in
         let k : r.key ≡ q = key_of_rank q (rank s h q) r (ranks.rank_key s h q) e in
-        let u : is_unmade s h q ≡ true = sym (same_missing q l) ∙ (ap (is_missing store) (sym k) ∙ m) in
+        let u : is_unmade s h q ≡ true = sym (same_missing q) ∙ (ap (is_missing store kept) (sym k) ∙ m) in
         filter_map_in (rank s h) q r (filter (is_unmade s h) (live_keys s h)) (filter_in (is_unmade s h) q (live_keys s h) l u) e
 
-    wanted_back : (r : Rank) → In r (wanted s h) → In r (missing_ranks store rs)
+    wanted_back : (r : Rank) → In r (wanted s h) → In r (missing_ranks store kept rs)
     wanted_back r i =
         let (q, j, e) = in_filter_map (rank s h) r (filter (is_unmade s h) (live_keys s h)) i in
         let (l, u) = in_filter (is_unmade s h) q (live_keys s h) j in
         let k : r.key ≡ q = key_of_rank q (rank s h q) r (ranks.rank_key s h q) e in
-        filter_in (λ r. is_missing store r.key) r rs (members.back r (filter_map_in (rank s h) q r (live_keys s h) l e)) (ap (is_missing store) k ∙ (same_missing q l ∙ u))
+        filter_in (λ r. is_missing store kept r.key) r rs (members.back r (filter_map_in (rank s h) q r (live_keys s h) l e)) (ap (is_missing store kept) k ∙ (same_missing q ∙ u))
 
-    pub rebuilt_for : Alike (record { wanted = missing_ranks store rs; ready = map (tile_in_both s (active_tree s h) (pending_tree s h) pins) kept; in_flight = flying; budget = s.budget }) (choice s h)
+    pub rebuilt_for : Alike (record { wanted = missing_ranks store kept rs; ready = map (tile_in_both s (active_tree s h) (pending_tree s h) pins) kept; in_flight = flying; budget = s.budget }) (choice s h)
     rebuilt_for =
-        let made_ready : Alike (record { wanted = missing_ranks store rs; ready = map (tile_in_both s (active_tree s h) (pending_tree s h) (pinned s h)) kept; in_flight = length (in_flight h); budget = s.budget }) (choice s h) =
-        rebuilt_alike s (active_tree s h) (pending_tree s h) (ready s h) (in_flight h) (pinned s h) kept (missing_ranks store rs) (record { there = wanted_there; back = wanted_back }) tiles.once
+        let made_ready : Alike (record { wanted = missing_ranks store kept rs; ready = map (tile_in_both s (active_tree s h) (pending_tree s h) (pinned s h)) kept; in_flight = length (in_flight h); budget = s.budget }) (choice s h) =
+        rebuilt_alike s (active_tree s h) (pending_tree s h) (ready s h) (in_flight h) (pinned s h) kept (missing_ranks store kept rs) (record { there = wanted_there; back = wanted_back }) tiles.once
         (distinct_filter (has_key (live_keys s h)) (made h) (tile_course s n h legal).made_once) tiles.ready in
         subst (λ c. Alike c (choice s h))
-        (λ i. record { wanted = missing_ranks store rs; ready = map (sym (same_pins s h pins tiles.pinned) i) kept; in_flight = sym tiles.as_many i; budget = s.budget })
+        (λ i. record { wanted = missing_ranks store kept rs; ready = map (sym (same_pins s h pins tiles.pinned) i) kept; in_flight = sym tiles.as_many i; budget = s.budget })
         made_ready
 
-  pub each_once : (rs : List Rank) → AreDistinct (map rank_key rs) → EachKeyOnce (missing_ranks store rs) (map (tile_in_both s (active_tree s h) (pending_tree s h) pins) kept)
+  pub each_once : (rs : List Rank) → AreDistinct (map rank_key rs) → EachKeyOnce (missing_ranks store kept rs) (map (tile_in_both s (active_tree s h) (pending_tree s h) pins) kept)
   each_once rs once =
-      let w : map rank_key (missing_ranks store rs) ≡ filter (is_missing store) (map rank_key rs) = keys_of_missing store rs in
+      let w : map rank_key (missing_ranks store kept rs) ≡ filter (is_missing store kept) (map rank_key rs) = keys_of_missing store kept rs in
       let t : map tile_key (map (tile_in_both s (active_tree s h) (pending_tree s h) pins) kept) ≡ kept = keys_of_tiles (tile_in_both s (active_tree s h) (pending_tree s h) pins) kept (λ q. refl) in
       record {
-        wanted_once = subst AreDistinct (sym w) (distinct_filter (is_missing store) (map rank_key rs) once);
+        wanted_once = subst AreDistinct (sym w) (distinct_filter (is_missing store kept) (map rank_key rs) once);
         ready_once = subst AreDistinct (sym t) tiles.once;
         apart = λ q g.
-            let m : is_missing store q ≡ true = and_right (has_key (map rank_key rs) q) (is_missing store q) (sym (has_filter (is_missing store) (map rank_key rs) q) ∙ (ap (λ ks. has_key ks q) (sym w) ∙ g)) in
-            ap (λ ks. has_key ks q) t ∙ is_false (has_key kept q) (λ r. not_both (is_missing store q) m (ready_there q r));
+            let m : is_missing store kept q ≡ true = and_right (has_key (map rank_key rs) q) (is_missing store kept q) (sym (has_filter (is_missing store kept) (map rank_key rs) q) ∙ (ap (λ ks. has_key ks q) (sym w) ∙ g)) in
+            ap (λ ks. has_key ks q) t ∙ is_false (has_key kept q) (λ r. not_both (is_missing store kept q) m (ready_there q r));
       }
 
   -- the same, of lists that are these
-  pub each_key_once : (rs ws : List Rank) (ts : List Tile) → ws ≡ missing_ranks store rs → ts ≡ map (tile_in_both s (active_tree s h) (pending_tree s h) pins) kept → AreDistinct (map rank_key rs) → EachKeyOnce ws ts
-  each_key_once rs ws ts w t once = subst (λ (xs : List Rank). EachKeyOnce xs ts) (sym w) (subst (λ (xs : List Tile). EachKeyOnce (missing_ranks store rs) xs) (sym t) (each_once rs once))
+  pub each_key_once : (rs ws : List Rank) (ts : List Tile) → ws ≡ missing_ranks store kept rs → ts ≡ map (tile_in_both s (active_tree s h) (pending_tree s h) pins) kept → AreDistinct (map rank_key rs) → EachKeyOnce ws ts
+  each_key_once rs ws ts w t once = subst (λ (xs : List Rank). EachKeyOnce xs ts) (sym w) (subst (λ (xs : List Tile). EachKeyOnce (missing_ranks store kept rs) xs) (sym t) (each_once rs once))
 
-  pub stands_for : (rs ws : List Rank) (ts : List Tile) (budget : ℕ) (queue : Choice) → SameMembers rs (filter_map (rank s h) (live_keys s h)) → ws ≡ missing_ranks store rs
+  pub stands_for : (rs ws : List Rank) (ts : List Tile) (budget : ℕ) (queue : Choice) → SameMembers rs (filter_map (rank s h) (live_keys s h)) → ws ≡ missing_ranks store kept rs
       → ts ≡ map (tile_in_both s (active_tree s h) (pending_tree s h) pins) kept → budget ≡ s.budget
       → Alike queue (record { wanted = ws; ready = ts; in_flight = flying; budget = budget }) → Alike queue (choice s h)
   stands_for rs ws ts budget queue members w t b same =

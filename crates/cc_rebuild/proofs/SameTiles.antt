@@ -2,6 +2,8 @@
 use Rattle.std.proofs.Common.{◌≡◌, ℕ, true, List, ◌∷◌, length, refl, sym, ◌∙◌, ap}
 use Rattle.cc_geom.specs.declared.tile.TileKey.{TileKey}
 use Rattle.cc_geom.specs.KeyLists.{has_key, AreDistinct}
+use Rattle.cc_geom.specs.KeyOrder.{key_cmp}
+use Rattle.cc_priority.specs.Ordered.{IsInOrder}
 use Rattle.cc_store.specs.Stores.{is_ready}
 use Rattle.cc_event.specs.declared.event.Event.{Event}
 use Rattle.cc_event.specs.declared.event.Event.TheVariants as event
@@ -12,8 +14,10 @@ use Rattle.cc_event.specs.Legal.{Legal}
 use Rattle.cc_event.specs.Tiles.{in_flight}
 use Rattle.cc_steps.specs.Events.{commit}
 use Rattle.cc_steps.proofs.ReadyAfter.{commit_ready}
+use Rattle.cc_rebuild.proofs.KeyOrders.{in_order_sorted}
 use Rattle.cc_tilemanager.specs.Managers.{Managed, Manages, HaveSameTiles}
-use Rattle.cc_rebuild.specs.Rebuilds.{leaves_tiles, AreTilesAt}
+use Rattle.cc_rebuild.specs.Rebuilds.{leaves_tiles}
+use Rattle.cc_rebuild.specs.inner.Queued.{AreTilesAt}
 
 abbrev entry : ℕ → Event → Entry
 entry actor e = record { actor = actor; event = e }
@@ -37,12 +41,12 @@ same_after_commit s n h a k acc legal = record {
 }
 
 -- the manager's tiles are those after the other past
-pub tiles_of : (s : ScriptModel) (h g : List Entry) (m : Managed) (kept : List TileKey) (flying : ℕ) → Manages s h m → HaveSameTiles s h g → AreDistinct kept → ((q : TileKey) → has_key kept q ≡ is_ready m.store q)
+pub tiles_of : (s : ScriptModel) (h g : List Entry) (m : Managed) (kept : List TileKey) (flying : ℕ) → Manages s h m → HaveSameTiles s h g → AreDistinct kept → IsInOrder key_cmp kept → ((q : TileKey) → has_key kept q ≡ is_ready m.store q)
     → flying ≡ length (in_flight g) → AreTilesAt s g m.store kept m.pinned flying
-tiles_of s h g m kept flying holds same once are as_many = record {
+tiles_of s h g m kept flying holds same once rises are as_many = record {
   once = once;
+  order = in_order_sorted kept rises;
   ready = λ q. are q ∙ (holds.ready q ∙ sym (same.ready q));
-  live = λ q t. holds.ready q ∙ sym (same.ready q);
   in_flight = λ q. holds.in_flight q ∙ sym (same.in_flight q);
   as_many = as_many;
   pinned = λ q. holds.pinned q ∙ sym (same.pinned q);

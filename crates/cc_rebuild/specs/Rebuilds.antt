@@ -1,17 +1,16 @@
--- For which past a queue is rebuilt, and what an activation takes.
+-- For which past a queue is made anew, and what an activation takes.
 use Rattle.std.specs.Prelude.{◌≡◌, ℕ, Bool, true, false, List, ◌∷◌, length, Option}
 use Rattle.cc_geom.specs.declared.tile.TileKey.{TileKey}
-use Rattle.cc_geom.specs.KeyLists.{has_key, AreDistinct}
+use Rattle.cc_geom.specs.KeyLists.{has_key}
 use Rattle.cc_priority.specs.Choice.{Choice}
 use Rattle.cc_priority.specs.Alike.{Alike}
-use Rattle.cc_store.specs.Stores.{Store, is_ready, is_in_flight}
 use Rattle.cc_edit.specs.declared.moves.Move.{Move}
 use Rattle.cc_event.specs.declared.event.Event.{Event}
 use Rattle.cc_event.specs.declared.event.Event.TheVariants as event
 use Rattle.cc_event.specs.declared.history.Entry.{Entry}
 use Rattle.cc_event.specs.Scripts.{ScriptModel}
 use Rattle.cc_event.specs.Legal.{Legal}
-use Rattle.cc_event.specs.Tiles.{active_tree, pending_tree, keys_of, live_keys, required}
+use Rattle.cc_event.specs.Tiles.{active_tree, pending_tree, keys_of, required}
 use Rattle.cc_event.specs.Tiles as model
 use Rattle.cc_event.specs.Ranking.{choice}
 use Rattle.cc_steps.specs.Events.{activate}
@@ -26,24 +25,6 @@ leaves_tiles (event.Activate k clamps) = false
 leaves_tiles (event.Start w q evicted) = false
 leaves_tiles (event.DoneTile w q) = false
 leaves_tiles _ = true
-
--- the ready keys after this past are these, each once, and the store has images of the same live keys; its keys in flight are those after the past, so many; and the pinned keys are these
-pub record AreTilesAt (s : ScriptModel) (h : List Entry) (store : Store) (kept pins : List TileKey) (flying : ℕ) : Type 0 where
-  pub once : AreDistinct kept
-  pub ready : (q : TileKey) → has_key kept q ≡ has_key (model.ready s h) q
-  pub live : (q : TileKey) → has_key (live_keys s h) q ≡ true → is_ready store q ≡ has_key (model.ready s h) q
-  pub in_flight : (q : TileKey) → is_in_flight store q ≡ has_key (model.in_flight h) q
-  pub as_many : flying ≡ length (model.in_flight h)
-  pub pinned : (q : TileKey) → has_key pins q ≡ has_key (model.pinned s h) q
-
--- these trees and tiles are those after a past of a run
-pub record RebuildsNow (s : ScriptModel) (active pending : Option SeenTreeModel) (store : Store) (kept pins : List TileKey) (flying : ℕ) : Type 0 where
-  pub workers : ℕ
-  pub past : List Entry
-  pub legal : Legal s workers past
-  pub seen_active : IsSeenWhere (active_tree s past) active
-  pub seen_pending : IsSeenWhere (pending_tree s past) pending
-  pub tiles : AreTilesAt s past store kept pins flying
 
 -- the manager stands for a past of a run, and these trees are those after another past, after which the same keys are ready, in flight and pinned
 pub record RequeuesNow (s : ScriptModel) (active pending : Option SeenTreeModel) (m : Managed) (flying : ℕ) : Type 0 where

@@ -13,9 +13,9 @@
 mod activations;
 mod laws;
 mod live;
+mod picks;
 mod rebuild;
 
 pub use activations::{Activation, activation_of};
 pub use laws::{commits_keep_the_tiles, most_events_keep_the_tiles};
-pub use live::kept_live;
-pub use rebuild::{Tiles, rebuilt, requeued};
+pub use rebuild::requeued;

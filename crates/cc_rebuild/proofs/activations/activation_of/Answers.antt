@@ -21,7 +21,7 @@ rebuilt-requires c =
       seen_pending = pending_then s r.workers h r.actor r.frame r.clamps r.legal;
       tiles =
           tiles_then s r.workers h r.actor r.frame r.clamps r.legal c.args.manager.now c.in_ok-live.live c.in_ok-pins.pins c.args.in_flight c.is_accepted.ensures.accepted r.manages
-          (c.in_ok-live.ensures.once (pending_tree s h) r.seen) (c.in_ok-live.ensures.keys (pending_tree s h) r.seen)
+          (c.in_ok-live.ensures.once (pending_tree s h) r.seen) (c.in_ok-live.ensures.order (pending_tree s h) r.seen) (c.in_ok-live.ensures.keys (pending_tree s h) r.seen)
           (λ q. c.in_ok-pins.ensures q ∙ ap (λ ks. has_key ks q) r.keys) r.as_many;
     }
 
@@ -35,5 +35,5 @@ returns c = λ s n h a k ms legal is holds seen keys as_many.
       queue =
           c.in_ok-queue.ensures s n (activate a k ms ∷ h) legal is (active_then s n h a k ms legal c.args.pending.now seen) (pending_then s n h a k ms legal)
           (tiles_then s n h a k ms legal c.args.manager.now c.in_ok-live.live c.in_ok-pins.pins c.args.in_flight (subst IsAccepted is c.is_accepted.ensures.accepted) holds
-          (c.in_ok-live.ensures.once (pending_tree s h) seen) are needed as_many);
+          (c.in_ok-live.ensures.once (pending_tree s h) seen) (c.in_ok-live.ensures.order (pending_tree s h) seen) are needed as_many);
     }

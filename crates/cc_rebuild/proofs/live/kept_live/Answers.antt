@@ -1,14 +1,21 @@
 -- The tree's keys are picked from those with an image.
 use Rattle.std.proofs.Common.{◌&&◌, sym, ◌∙◌, ap, subst}
+use Rattle.std.specs.List.Sorted.{IsSorted}
 use Rattle.cc_geom.specs.KeyLists.{has_key, AreDistinct}
+use Rattle.cc_geom.specs.KeyOrder.{key_cmp}
 use Rattle.cc_edit.proofs.KeptPages.{weaken}
 use Rattle.cc_event.specs.Tiles.{keys_of}
 use Rattle.cc_event.proofs.KeyFacts.{has_filter, distinct_filter}
+use Rattle.cc_rebuild.proofs.KeyOrders.{filter_sorted}
 use Rattle.cc_rebuild.proofs.live.kept_live.Goals as goal
 
 pub returns-clause-once : goal.returns-clause-once
 returns-clause-once c =
     weaken c.live_of.result (λ live is t seen. subst AreDistinct (sym (is t seen)) (distinct_filter (has_key (keys_of t)) c.in_ok-ready.ready c.in_ok-ready.ensures.once)) c.live_of.ensures
+
+pub returns-clause-order : goal.returns-clause-order
+returns-clause-order c =
+    weaken c.live_of.result (λ live is t seen. subst (IsSorted key_cmp) (sym (is t seen)) (filter_sorted (has_key (keys_of t)) c.in_ok-ready.ready c.in_ok-ready.ensures.order)) c.live_of.ensures
 
 pub returns-clause-keys : goal.returns-clause-keys
 returns-clause-keys c =

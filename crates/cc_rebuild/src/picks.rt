@@ -1,0 +1,133 @@
+//! What is wanted and what is ready, by the ranks of both trees.
+//!
+//! Ranks, ready keys and pinned keys stand in key order, or nearly so, and are looked for in each other in that
+//! order: a key next to the one before it is found without a search.
+
+ghost use Rattle.std.specs.Prelude.{◌≡◌, ◌++◌, true, not, ◌&&◌, Some, map, filter, filter_map, IfOk};
+ghost use Rattle.std.specs.List.Sorted.{IsSorted, IsSortedByKey, IsPermutation};
+ghost use Rattle.cc_geom.specs.KeyLists.{has_key};
+ghost use Rattle.cc_geom.specs.KeyOrder.{key_cmp};
+ghost use Rattle.cc_priority.specs.Ordered.{SameMembers};
+ghost use Rattle.cc_priority.specs.Tiles.{IsRankOfKey};
+ghost use Rattle.cc_store.specs.Stores.{is_in_flight};
+ghost use Rattle.cc_event.specs.Accepted.{IsAccepted};
+ghost use Rattle.cc_event.specs.Scripts.{ScriptModel};
+ghost use Rattle.cc_event.specs.Tiles.{Tree, keys_of};
+ghost use Rattle.cc_steps.specs.Choices.{rank_in_both, tile_in_both};
+ghost use Rattle.cc_rasterq.specs.Queues.{rank_key};
+ghost use Rattle.cc_rebuild.specs.inner.Queued.{IsRankAmong, IsRankAt};
+
+use cc_geom::TileKey;
+use cc_priority::{Rank, ReadyTile};
+use cc_tilemanager::{Pins, TileManager, has_near};
+use std::alloc::{AllocError, Global};
+
+/// These ranks in the order of their keys.
+pub(crate) fn in_key_order(ranks: Vec<Rank>) -> Vec<Rank>
+    ensures order { IsSortedByKey rank_key key_cmp result.items }
+    ensures same { IsPermutation ranks.items result.items }
+{
+    let mut ordered = ranks;
+    ordered.sort_unstable_by_key(|rank| rank.key);
+    ordered
+}
+
+/// Those of the ranks whose keys are neither ready, which are these keys in key order, nor being made. An
+/// error is want of memory.
+pub(crate) fn missing(
+    alloc: Global,
+    manager: &TileManager,
+    ready: &[TileKey],
+    ranks: &[Rank],
+) -> Result<Vec<Rank>, AllocError>
+    requires { IsSorted key_cmp ready.now }
+    ensures { IfOk result (λ missing. missing.items ≡ filter (λ r. not (has_key ready.now r.key) && not (is_in_flight manager.now.store r.key)) ranks.now) }
+{
+    let mut missing = Vec::new(alloc);
+    let mut near = 0;
+    for rank in ranks {
+        let is_ready = has_near(ready, &mut near, rank.key);
+        if !is_ready && !manager.in_flight(rank.key) {
+            missing.push(*rank)?;
+        }
+    }
+    Ok(missing)
+}
+
+// Where the rank of a key stands among ranks in the order of their keys.
+fn place_of(ranks: &[Rank], key: TileKey) -> Option<usize>
+    requires { IsSortedByKey rank_key key_cmp ranks.now }
+    ensures { IsRankAt ranks.now key result }
+{
+    ranks.binary_search_by_key(&key, |rank| rank.key).ok()
+}
+
+// Whether the rank at a place is of this key.
+fn is_at(ranks: &[Rank], at: usize, key: TileKey) -> bool
+    ensures { result ≡ true → IsRankAt ranks.now key (Some at) }
+{
+    match ranks.get(at) {
+        Some(rank) => rank.key == key,
+        None => false,
+    }
+}
+
+// The same as `place_of`; at `near` the rank is found without a search.
+fn place_near(ranks: &[Rank], near: usize, key: TileKey) -> Option<usize>
+    requires { IsSortedByKey rank_key key_cmp ranks.now }
+    ensures { IsRankAt ranks.now key result }
+{
+    if is_at(ranks, near, key) {
+        return Some(near);
+    }
+    place_of(ranks, key)
+}
+
+// The rank at the place of a key, where there is one.
+fn rank_at(ranks: &[Rank], key: TileKey, place: Option<usize>) -> Option<Rank>
+    requires { IsRankAt ranks.now key place }
+    ensures among { IsRankAmong ranks.now key result }
+    ensures of_key { IsRankOfKey key result }
+{
+    // The contract alone speaks of the key.
+    let _ = key;
+    match place {
+        Some(at) => Some(ranks[at]),
+        None => None,
+    }
+}
+
+// A ready key with its rank, which is looked for at `near` first, and whether it is pinned. `near` is set to
+// the place behind the rank.
+fn ready_tile(ranks: &[Rank], near: &mut usize, key: TileKey, pinned: bool) -> ReadyTile
+    requires { IsSortedByKey rank_key key_cmp ranks.now }
+    ensures { (s : ScriptModel) (a p : Tree) → IsAccepted s → SameMembers ranks.now (filter_map (rank_in_both s a p) (keys_of a ++ keys_of p)) → result ≡ record { key = key; rank = rank_in_both s a p key; pinned = pinned } }
+{
+    let place = place_near(ranks, *near, key);
+    if let Some(at) = place {
+        *near = at.wrapping_add(1);
+    }
+    let rank = rank_at(ranks, key, place);
+    ReadyTile { key, rank, pinned }
+}
+
+/// The ready keys, which are these, with their ranks, each with whether it is pinned. The ranks are those of
+/// all keys of two trees that have one, in the order of their keys. An error is want of memory.
+pub(crate) fn ready_tiles(
+    alloc: Global,
+    ranks: &[Rank],
+    keys: &[TileKey],
+    pins: &Pins,
+) -> Result<Vec<ReadyTile>, AllocError>
+    requires { IsSortedByKey rank_key key_cmp ranks.now }
+    ensures { IfOk result (λ ready. (s : ScriptModel) (a p : Tree) → IsAccepted s → SameMembers ranks.now (filter_map (rank_in_both s a p) (keys_of a ++ keys_of p)) → ready.items ≡ map (tile_in_both s a p pins.now) keys.now) }
+{
+    let mut ready = Vec::with_capacity(alloc, keys.len())?;
+    let mut rank_place = 0;
+    let mut pin_place = 0;
+    for key in keys {
+        let pinned = pins.has_near(&mut pin_place, *key);
+        ready.push(ready_tile(ranks, &mut rank_place, *key, pinned))?;
+    }
+    Ok(ready)
+}
