@@ -21,7 +21,7 @@ use Rattle.cc_priority.proofs.RankOrders.{rank_order}
 use Rattle.cc_rasterq.specs.declared.victim.Victim.{Victim}
 use Rattle.cc_rasterq.specs.declared.victim.Victim.TheVariants.{Unranked, Ranked}
 use Rattle.cc_rasterq.specs.Queues.{rank_key, tile_key, IsNew, MayStartWith}
-use Rattle.cc_rasterq.specs.inner.Orders.{times, standing, keys, stays, IsQueue, choice_of}
+use Rattle.cc_rasterq.specs.inner.Orders.{times, standing, stays, IsQueue, choice_of}
 use Rattle.cc_rasterq.specs.inner.Victims.{tile_of, key_of, victim_cmp, is_worse_than, again, wanted_again}
 use Rattle.cc_rasterq.proofs.Places.{order_filter, order_drop, at_in}
 use Rattle.cc_rasterq.proofs.Times.{one_if, times_cons, times_append, times_in, times_none, times_filter, times_parts, times_with, has_some}

@@ -8,3 +8,5 @@ pub mod GiveUp
 pub mod Picking
 pub mod Changes
 pub mod NewChoice
+pub mod Slots
+pub mod Halves

@@ -3,14 +3,18 @@
 //! It stands for a choice of `cc_priority`: the wanted ranks, the ready tiles, how many tiles are in
 //! flight and how many there may be. The definitions of that choice scan lists; the queue keeps them in
 //! order, so that the next tile is a look at one end, the worst ready tiles stand at another, and a start
-//! or its end is a search by halves and a shift of the shorter side. A new choice is a sort.
+//! or its end is a search by halves and a shift of the shorter side, of four bytes an element: what is moved are
+//! numbers of slots, and ranks stay where they are. A new choice is a sort of words of 64 bits, and then one of
+//! the ranks, which are nearly in order by then.
 //!
 //! Room for every later start is made with the choice, so nothing after it can want memory.
 #![tactic(auto)]
 
+mod listed;
 mod queue;
 mod victim;
 mod victims;
 mod wanted;
+mod words;
 
 pub use queue::RasterQueue;

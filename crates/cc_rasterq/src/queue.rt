@@ -10,25 +10,25 @@ ghost use Rattle.cc_priority.specs.Choice as choosing;
 ghost use Rattle.cc_priority.specs.Alike.{Alike, started, finished};
 ghost use Rattle.cc_rasterq.specs.Queues.{rank_key, EachKeyOnce, IsNew, AreEvictedFor, MayStartWith};
 
+use crate::listed::Listed;
 use crate::victim::Victim;
-use crate::victims::{count_for, give_up, keep, staying, worst};
-use crate::wanted::{best, forget, place_of};
+use crate::victims::{count_for, give_up, keep, no_victims, staying, worst};
+use crate::wanted::{best, forget, no_ranks, place_of};
 use crate::{victims, wanted};
 use cc_geom::{Keys, TileKey};
 use cc_priority::{Bin, Rank, ReadyTile};
 use std::alloc::{AllocError, Global};
-use std::collections::VecDeque;
 use std::marker::Model;
 
 /// Which tile is made next, and which ready tiles are given up for it.
 #[derive(Drop)]
 pub struct RasterQueue {
     // The best first.
-    wanted: VecDeque<Rank>,
+    wanted: Listed<Rank>,
     // The ready tiles that are never given up: the pinned ones and the visible ones.
     staying: Vec<ReadyTile>,
     // All other ready tiles, the worst first.
-    victims: VecDeque<Victim>,
+    victims: Listed<Victim>,
     in_flight: usize,
     budget: u32,
     alloc: Global,
@@ -36,7 +36,6 @@ pub struct RasterQueue {
 
 impl Model for RasterQueue {
     ghost use Rattle.std.specs.Prelude.{vec_capacity};
-    ghost use Rattle.std.specs.VecDeque.{deque_capacity};
     ghost use Rattle.cc_priority.specs.Choice.{Choice};
     ghost use Rattle.cc_rasterq.specs.inner.Orders.{IsQueue, choice_of};
 
@@ -44,7 +43,7 @@ impl Model for RasterQueue {
 
     ghost view = { λ q. choice_of q.wanted.items q.staying.items q.victims.items q.in_flight q.budget };
 
-    ghost invariant = { λ q. IsQueue q.wanted.items q.staying.items q.victims.items q.in_flight (deque_capacity q.wanted) (vec_capacity q.staying) (deque_capacity q.victims) };
+    ghost invariant = { λ q. IsQueue q.wanted.items q.staying.items q.victims.items q.in_flight q.wanted.room (vec_capacity q.staying) q.victims.room };
 }
 
 impl RasterQueue {
@@ -53,9 +52,9 @@ impl RasterQueue {
         ensures { result ≡ record { wanted = []; ready = []; in_flight = 0; budget = 0 } }
     {
         RasterQueue {
-            wanted: VecDeque::new(alloc),
+            wanted: no_ranks(alloc),
             staying: Vec::new(alloc),
-            victims: VecDeque::new(alloc),
+            victims: no_victims(alloc),
             in_flight: 0,
             budget: 0,
             alloc,
@@ -64,7 +63,7 @@ impl RasterQueue {
 
     /// Stands for these wanted ranks and ready tiles, with so many tiles in flight and so many that there
     /// may be, and makes room for all that can start. No key stands twice in the two lists together. An
-    /// error is want of memory: the queue stands for what it stood for.
+    /// error is want of memory, or 2^32 keys or more: the queue stands for what it stood for.
     pub fn rebuild(
         &mut self,
         wanted: &[Rank],
@@ -119,7 +118,7 @@ impl RasterQueue {
         match place_of(&self.wanted, key) {
             None => Ok(Keys::new(self.alloc)),
             Some(at) => {
-                let most = count_for(&self.victims, self.wanted[at].bin);
+                let most = count_for(&self.victims, self.wanted.get(at).bin);
                 worst(self.alloc, &self.victims, self.over_budget().min(most))
             }
         }

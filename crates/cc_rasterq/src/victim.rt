@@ -1,9 +1,10 @@
 //! The ready tiles that may be given up, the worst first.
 
-ghost use Rattle.std.specs.Prelude.{◌≡◌, false};
+ghost use Rattle.std.specs.Prelude.{◌≡◌, ◌<◌, false};
 ghost use Rattle.cc_rasterq.specs.inner.Orders.{stays};
 ghost use Rattle.cc_rasterq.specs.inner.Victims.{tile_of, key_of, is_worse_than};
 
+use crate::wanted::front_of;
 use cc_geom::TileKey;
 use cc_priority::{Bin, Rank, ReadyTile};
 use std::cmp::Reverse;
@@ -36,6 +37,16 @@ impl Victim {
         match self {
             Victim::Unranked(key) => key.0,
             Victim::Ranked(rank) => rank.0.key,
+        }
+    }
+
+    // What orders most victims, in one number.
+    pub(crate) fn front(&self) -> u64
+        ensures { result < 4398046511104 }
+    {
+        match self {
+            Victim::Unranked(_) => 0,
+            Victim::Ranked(rank) => 4398046511103 - front_of(&rank.0),
         }
     }
 

@@ -1,13 +1,11 @@
-use Rattle.std.proofs.Common.{◌∙◌, sym, arith}
-use Rattle.cc_rasterq.proofs.Forgotten.{removed_is, absent_is, found_at}
-use Rattle.cc_rasterq.proofs.RoomFor.{when_some}
+use Rattle.std.proofs.Common.{◌∙◌, sym}
+use Rattle.cc_rasterq.proofs.Forgotten.{removed_is, absent_is}
 use Rattle.cc_rasterq.proofs.wanted.forget.Goals as goal
 
 pub returns-in-Some-clause-items : goal.returns-in-Some-clause-items
 returns-in-Some-clause-items c =
     let e = removed_is c.args.key c.args.wanted.now.items c.in-Some.at c.requires c.in-Some.ensures in
-    let (l, t) = found_at c.args.key c.args.wanted.now.items c.in-Some.at (sym c.in-Some.ensures) in
-    when_some c.remove.result c.remove.ensures.items (c.remove.ensures.variant.1 (omega (arith, l))) ∙ e
+    c.remove.ensures.items ∙ e
 
 pub returns-in_default-clause-items : goal.returns-in_default-clause-items
 returns-in_default-clause-items c = absent_is c.args.key c.args.wanted.now.items (sym c.in_default.ensures)

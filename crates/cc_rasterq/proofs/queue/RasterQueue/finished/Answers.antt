@@ -1,4 +1,4 @@
-use Rattle.std.proofs.Common.{◌≤◌, ◌-◌, Option, Some, sym, subst, deque_capacity, vec_capacity}
+use Rattle.std.proofs.Common.{◌≤◌, ◌-◌, Option, Some, sym, subst, arith, vec_capacity}
 use Rattle.std.specs.Prelude.{IfSome}
 use Rattle.cc_priority.specs.Tiles.{Tile}
 use Rattle.cc_priority.specs.Choice.{Choice}
@@ -8,12 +8,12 @@ use Rattle.cc_rasterq.specs.inner.Orders.{choice_of}
 use Rattle.cc_rasterq.proofs.Changes.{IsFinished, finish_all}
 use Rattle.cc_rasterq.proofs.queue.RasterQueue.finished.Goals as goal
 
-done : (c : goal.After-keep) → IsFinished c.self.inside.wanted.items c.self.inside.staying.items c.self.inside.victims.items c.self.inside.in_flight c.self.inside.budget (deque_capacity c.self.inside.wanted) (vec_capacity c.keep.new.staying) (deque_capacity c.keep.new.victims) c.in-Some.tile c.keep.new.staying.items c.keep.new.victims.items
+done : (c : goal.After-keep) → IsFinished c.self.inside.wanted.items c.self.inside.staying.items c.self.inside.victims.items c.self.inside.in_flight c.self.inside.budget c.self.inside.wanted.room (vec_capacity c.keep.new.staying) c.keep.new.victims.room c.in-Some.tile c.keep.new.staying.items c.keep.new.victims.items
 done c =
     let n : IsNew c.args.self.now c.in-Some.tile.key = subst (λ (o : Option Tile). IfSome o (λ t. IsNew c.args.self.now t.key)) c.in-Some.is c.requires.new in
     let l : 1 ≤ c.self.inside.in_flight = subst (λ (z : Choice). 1 ≤ z.in_flight) (sym c.self.view_is) c.requires.some in
     finish_all c.self.inside.wanted.items c.self.inside.staying.items c.keep.new.staying.items c.self.inside.victims.items c.keep.new.victims.items c.self.inside.in_flight c.self.inside.budget
-    (deque_capacity c.self.inside.wanted) (vec_capacity c.self.inside.staying) (deque_capacity c.self.inside.victims) (vec_capacity c.keep.new.staying) (deque_capacity c.keep.new.victims) c.in-Some.tile c.self.invariant (subst (λ (z : Choice). IsNew z c.in-Some.tile.key) (sym c.self.view_is) n) l c.keep.ensures.kept_capacity c.keep.ensures.victims_capacity c.keep.ensures.remains c.keep.ensures.yields
+    c.self.inside.wanted.room (vec_capacity c.self.inside.staying) c.self.inside.victims.room (vec_capacity c.keep.new.staying) c.keep.new.victims.room c.in-Some.tile c.self.invariant (subst (λ (z : Choice). IsNew z c.in-Some.tile.key) (sym c.self.view_is) n) l c.keep.ensures.kept_capacity (omega (arith, c.keep.ensures.victims_room)) c.keep.ensures.remains c.keep.ensures.yields
 
 pub invariant_of-self : goal.invariant_of-self
 invariant_of-self c = (done c).queue

@@ -14,20 +14,20 @@ returns-in_default-clause-key c =
 
 pub returns-then-may_start-clause-key : goal.returns-then-may_start-clause-key
 returns-then-may_start-clause-key c =
-    let q : Rank = c.in-Some.rank.now in
+    let q : Rank = c.in-Some.rank in
     let h : c.self.inside.wanted.items ≡ q ∷ drop 1 c.self.inside.wanted.items = head_is c.self.inside.wanted.items q (omega (arith, c.in-Some.ensures.variant.0 refl)) c.in-Some.ensures.lookup in
     let w = ap (λ (z : Choice). z.wanted) (sym c.self.view_is) in
     first_key c.args.self.now q (drop 1 c.self.inside.wanted.items) true (w ∙ h) (subst (IsInOrder rank_cmp) (sym w) c.self.invariant.best_first) (sym c.if-may_start.true ∙ c.may_start.ensures q refl)
 
 pub returns-else-may_start-clause-key : goal.returns-else-may_start-clause-key
 returns-else-may_start-clause-key c =
-    let q : Rank = c.in-Some.rank.now in
+    let q : Rank = c.in-Some.rank in
     let h : c.self.inside.wanted.items ≡ q ∷ drop 1 c.self.inside.wanted.items = head_is c.self.inside.wanted.items q (omega (arith, c.in-Some.ensures.variant.0 refl)) c.in-Some.ensures.lookup in
     let w = ap (λ (z : Choice). z.wanted) (sym c.self.view_is) in
     first_key c.args.self.now q (drop 1 c.self.inside.wanted.items) false (w ∙ h) (subst (IsInOrder rank_cmp) (sym w) c.self.invariant.best_first) (sym c.if-may_start.false ∙ c.may_start.ensures q refl)
 
 pub returns-then-may_start-clause-none : goal.returns-then-may_start-clause-none
-returns-then-may_start-clause-none c = none_iff c.args.self.now (Some c.in-Some.rank.now.key) (returns-then-may_start-clause-key c)
+returns-then-may_start-clause-none c = none_iff c.args.self.now (Some c.in-Some.rank.key) (returns-then-may_start-clause-key c)
 
 pub returns-else-may_start-clause-none : goal.returns-else-may_start-clause-none
 returns-else-may_start-clause-none c = none_iff c.args.self.now None (returns-else-may_start-clause-key c)

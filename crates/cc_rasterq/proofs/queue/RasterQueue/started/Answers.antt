@@ -1,4 +1,4 @@
-use Rattle.std.proofs.Common.{◌+◌, sym, subst, arith, not, deque_capacity, vec_capacity}
+use Rattle.std.proofs.Common.{◌+◌, sym, subst, arith, not, vec_capacity}
 use Rattle.cc_priority.specs.Ranks.{rank_cmp}
 use Rattle.cc_priority.specs.Ordered.{IsInOrder}
 use Rattle.cc_priority.specs.Choice.{Choice}
@@ -19,13 +19,13 @@ give_up-requires-clause-room c =
     subst (λ (z : Choice). MayStartWith z c.args.key c.args.evicted.now) (sym c.self.view_is) c.requires in
     let g = gone_are c.self.inside.wanted.items c.self.inside.staying.items c.self.inside.victims.items c.self.inside.in_flight c.self.inside.budget c.self.invariant.all_stay c.self.invariant.worst_first m.rank c.args.evicted.now m.evicted in
     let r = start_room c.self.inside.wanted.items c.forget.new.wanted.items c.self.inside.staying.items c.self.inside.victims.items c.self.inside.in_flight _ _ _ c.len.result c.args.key c.args.evicted.now c.self.invariant c.forget.ensures.items g c.len.ensures in
-    omega (arith, r, c.forget.ensures.capacity)
+    omega (arith, r, c.forget.ensures.room)
 
-begun : (c : goal.After-self-1) → IsStarted c.self.inside.wanted.items c.self.inside.staying.items c.self.inside.victims.items c.self.inside.in_flight c.self.inside.budget (deque_capacity c.give_up.new.wanted) (vec_capacity c.self.inside.staying) (deque_capacity c.give_up.new.victims) c.args.key c.args.evicted.now c.give_up.new.wanted.items c.give_up.new.victims.items
+begun : (c : goal.After-self-1) → IsStarted c.self.inside.wanted.items c.self.inside.staying.items c.self.inside.victims.items c.self.inside.in_flight c.self.inside.budget c.give_up.new.wanted.room (vec_capacity c.self.inside.staying) c.give_up.new.victims.room c.args.key c.args.evicted.now c.give_up.new.wanted.items c.give_up.new.victims.items
 begun c =
     start_all c.self.inside.wanted.items c.forget.new.wanted.items c.give_up.new.wanted.items c.self.inside.staying.items c.self.inside.victims.items c.give_up.new.victims.items c.self.inside.in_flight c.self.inside.budget
-    (deque_capacity c.self.inside.wanted) (vec_capacity c.self.inside.staying) (deque_capacity c.self.inside.victims) (deque_capacity c.give_up.new.wanted) (deque_capacity c.give_up.new.victims) c.len.result c.args.key c.args.evicted.now c.self.invariant (subst (λ (z : Choice). MayStartWith z c.args.key c.args.evicted.now) (sym c.self.view_is) c.requires)
-    c.forget.ensures.items c.len.ensures c.give_up.ensures.victims c.give_up.ensures.wanted (omega (arith, c.forget.ensures.capacity, c.give_up.ensures.wanted_capacity)) c.give_up.ensures.victims_capacity
+    c.self.inside.wanted.room (vec_capacity c.self.inside.staying) c.self.inside.victims.room c.give_up.new.wanted.room c.give_up.new.victims.room c.len.result c.args.key c.args.evicted.now c.self.invariant (subst (λ (z : Choice). MayStartWith z c.args.key c.args.evicted.now) (sym c.self.view_is) c.requires)
+    c.forget.ensures.items c.len.ensures c.give_up.ensures.victims c.give_up.ensures.wanted (omega (arith, c.forget.ensures.room, c.give_up.ensures.wanted_room)) (omega (arith, c.give_up.ensures.victims_room))
 
 pub invariant_of-self : goal.invariant_of-self
 invariant_of-self c = (begun c).queue
