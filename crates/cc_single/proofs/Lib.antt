@@ -1,0 +1,7 @@
+pub mod Steps
+pub mod HeldJobs
+pub mod Drawn
+pub mod MainPulls
+pub mod MainSteps
+pub mod Walked
+pub mod Keeps

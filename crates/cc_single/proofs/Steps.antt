@@ -1,0 +1,42 @@
+-- The run after an answer.
+use Rattle.std.proofs.Common.{◌≡◌, ℕ, suc, ◌+◌, ◌-◌, ◌<◌, ◌≤◌, Bool, true, false, cond, not, ◌&&◌, List, [], ◌∷◌, ◌++◌, length, Option, Some, None, Result, Ok, Err, ⊤, refl, sym, ◌∙◌, ap, subst, arith}
+use Rattle.cc_sched.specs.declared.kind.Kind.{Kind}
+use Rattle.cc_sched.specs.declared.kind.Kind.TheVariants as kind
+use Rattle.cc_sched.specs.Kinds.{may}
+use Rattle.cc_event.specs.declared.event.Event.{Event}
+use Rattle.cc_event.specs.declared.event.Event.TheVariants as event
+use Rattle.cc_event.specs.declared.history.Entry.{Entry}
+use Rattle.cc_event.specs.Scripts.{ScriptModel}
+use Rattle.cc_event.specs.EventFields.{kind_of}
+use Rattle.cc_event.specs.Scans.{has_ended}
+use Rattle.cc_event.specs.Due.{due}
+use Rattle.cc_event.specs.Legal.{sched, can}
+use Rattle.cc_event.proofs.DueFacts.{entry}
+use Rattle.cc_event.proofs.DueRows.{due_row}
+use Rattle.cc_log.specs.Runs.{Run, past, now, with_entry, Entered}
+use Rattle.cc_log.proofs.LogSteps.{past_more, now_is}
+use Rattle.cc_lockstep.specs.declared.compositor.EnterFault.{EnterFault}
+use Rattle.cc_lockstep.specs.declared.compositor.EnterFault.TheVariants.{NotNow, Memory}
+use Rattle.cc_single.specs.Singles.{Answers}
+
+-- the kind of the event that was entered
+pub entered_kind : (r new : Run) (k : Kind) (a : ℕ) (e : Entered r k a new) → kind_of e.event ≡ k
+entered_kind r new k a e = (due_row r.script (past r) k a e.event (now_is r.script (past r) k a e.event e.is_now).is_due).kind
+
+-- the past with the entry
+pub past_with : (r new : Run) (a : ℕ) (e : Event) → new ≡ with_entry r a e → past new ≡ entry a e ∷ past r
+past_with r new a e is = ap (λ (z : Run). past z) is ∙ past_more r.entries (r.entries ++ entry a e ∷ []) (entry a e) refl
+
+-- what stays with each entry of a kind stays with an answer
+pub answered : (P : Run → Type 0) (r new : Run) (k : Kind) (a : ℕ) (x : Result ⊤ EnterFault) → Answers r k a new x → ((e : Event) → kind_of e ≡ k → new ≡ with_entry r a e → P new) → P r → P new
+answered P r new k a (Ok done) answer next old = next answer.event (entered_kind r new k a answer) answer.is_entered
+answered P r new k a (Err NotNow) answer next old = subst P (sym answer.1) old
+answered P r new k a (Err (Memory e)) answer next old = subst P (sym answer) old
+
+-- nothing may come after the end
+pub none_after_end : (s : ScriptModel) (h : List Entry) (k : Kind) (a : ℕ) → has_ended h ≡ true → can s h k a ≡ None
+none_after_end s h k a t = ap (λ b. cond (not b && may (sched h) k) (due s h k a) None) t
+
+-- a stop may come before it
+pub stop_now : (s : ScriptModel) (h : List Entry) (a : ℕ) → has_ended h ≡ false → can s h kind.Stop a ≡ Some (event.Stop a)
+stop_now s h a f = ap (λ b. cond (not b && true) (due s h kind.Stop a) None) f

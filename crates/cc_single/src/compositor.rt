@@ -1,0 +1,49 @@
+//! A compositor on one thread as the loops of lockstep see it.
+
+ghost use Rattle.cc_single.specs.Singles.{walk_of};
+
+use crate::single::SingleThread;
+use cc_lockstep::{Compositor, EnterFault};
+use cc_sched::Kind;
+use std::alloc::AllocError;
+
+impl Compositor for SingleThread {
+    ghost run = { λ t. walk_of t };
+
+    fn enter(&mut self, kind: Kind, actor: u32) -> Result<(), EnterFault> {
+        SingleThread::enter(self, kind, actor)
+    }
+
+    fn can_activate(&self) -> bool {
+        self.core.may(Kind::Activate)
+    }
+
+    fn can_await(&self) -> bool {
+        self.core.may(Kind::Await)
+    }
+
+    fn waits(&self) -> bool {
+        self.core.progress().pending.is_some()
+    }
+
+    fn has_first(&self) -> bool {
+        self.core.first().is_some()
+    }
+
+    fn is_left(&self) -> bool {
+        self.core.is_left()
+    }
+
+    fn is_active(&self) -> bool {
+        self.core.progress().active.is_some()
+    }
+
+    fn raster_per_frame(&self) -> u32 {
+        self.core.script().raster_per_frame()
+    }
+
+    fn changes(&mut self) -> Result<bool, AllocError> {
+        self.main.run(&self.core)?;
+        Ok(self.main.changed)
+    }
+}

@@ -1,0 +1,97 @@
+//! What a compositor on one thread keeps.
+
+ghost use Rattle.std.specs.Prelude.{◌≡◌, ◌≤◌, ◌-◌, length, IfOk};
+ghost use Rattle.cc_log.specs.Runs.{new_run, past};
+ghost use Rattle.cc_single.specs.Singles.{AreScenes};
+
+use crate::main_side::MainSide;
+use crate::shown::Shown;
+use crate::workers::Workers;
+use cc_core::Core;
+use cc_event::{History, Script};
+use cc_scene::Scene;
+use std::alloc::{AllocError, Global};
+use std::marker::Model;
+use std::sync::Arc;
+
+/// A core with its main side and the jobs of its workers, all on one thread.
+///
+/// Contracts see its run (the script, the number of workers and the entries), and how many of the entries
+/// were written.
+#[derive(Drop)]
+pub struct SingleThread {
+    pub(crate) core: Core,
+    pub(crate) main: MainSide,
+    pub(crate) workers: Workers,
+    pub(crate) shown: Shown,
+}
+
+impl Model for SingleThread {
+    ghost use Rattle.cc_single.specs.Singles.{SingleModel};
+    ghost use Rattle.cc_single.specs.inner.Sides.{IsSingle};
+
+    ghost Value = { SingleModel };
+
+    ghost view = { λ t. record { run = t.core; written = t.shown.written } };
+
+    ghost invariant = { λ t. IsSingle t.core t.main t.workers t.shown };
+}
+
+impl SingleThread {
+    /// The compositor of a script with 1 to 16 workers, before anything was entered. An error is want of
+    /// memory.
+    pub fn new(
+        alloc: Global,
+        script: Arc<Script>,
+        workers: u32,
+    ) -> Result<SingleThread, AllocError>
+        requires { (1 ≤ workers) × (workers ≤ 16) }
+        ensures { IfOk result (λ single. single ≡ record { run = new_run script.value workers; written = 0 }) }
+    {
+        let main = MainSide::new(alloc, Arc::try_clone(&script)?);
+        let jobs = Workers::new(alloc, workers)?;
+        Ok(SingleThread {
+            core: Core::new(alloc, script, workers)?,
+            main,
+            workers: jobs,
+            shown: Shown::new(alloc),
+        })
+    }
+
+    /// The core.
+    pub fn core(&self) -> &Core
+        ensures { result.now ≡ self.now.run }
+    {
+        &self.core
+    }
+
+    /// The entries, the oldest first.
+    pub fn history(&self) -> &History
+        ensures { result.now.entries ≡ self.now.run.entries }
+    {
+        self.core.history()
+    }
+
+    /// How many of the entries were written.
+    pub fn written(&self) -> usize
+        ensures written { result ≡ self.now.written }
+        ensures few { result ≤ length self.now.run.entries }
+    {
+        self.shown.written
+    }
+
+    /// The scenes of the draws among the entries that were not written, the oldest first.
+    pub fn scenes(&self) -> &[Scene]
+        ensures { AreScenes self.now.run.script (length self.now.run.entries - self.now.written) (past self.now.run) result.now }
+    {
+        self.shown.scenes.as_slice()
+    }
+
+    /// Takes all entries for written, and drops their scenes. Takes no memory.
+    pub fn wrote_all(&mut self)
+        ensures { self.new ≡ record { run = self.old.run; written = length self.old.run.entries } }
+    {
+        self.shown.written = self.core.history().len();
+        self.shown.scenes.clear();
+    }
+}

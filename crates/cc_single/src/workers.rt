@@ -1,0 +1,80 @@
+//! The jobs of the workers of a core on the same thread.
+
+ghost use Rattle.std.specs.Prelude.{◌≡◌, ◌+◌, ◌<◌, IfOk, ℕ};
+ghost use Rattle.cc_sched.specs.declared.kind.Kind.TheVariants as kind;
+ghost use Rattle.cc_event.specs.Scripts.{ScriptModel};
+ghost use Rattle.cc_log.specs.Runs.{new_run};
+ghost use Rattle.cc_single.specs.Singles.{Answers};
+ghost use Rattle.cc_single.specs.inner.Sides.{AreWorkers};
+
+use cc_core::Core;
+use cc_lockstep::EnterFault;
+use cc_raster::Job;
+use std::alloc::{AllocError, Global};
+
+/// The job that each worker holds.
+#[derive(Drop)]
+pub(crate) struct Workers {
+    pub(crate) alloc: Global,
+    pub(crate) jobs: Vec<Option<Job>>,
+}
+
+impl Workers {
+    /// So many workers, which hold nothing. An error is want of memory.
+    pub(crate) fn new(alloc: Global, count: u32) -> Result<Workers, AllocError>
+        ensures { IfOk result (λ workers. (s : ScriptModel) → AreWorkers (new_run s count) workers) }
+    {
+        let mut jobs = Vec::with_capacity(alloc, count as usize)?;
+        for _ in 0..count {
+            jobs.push(None)?;
+        }
+        Ok(Workers { alloc, jobs })
+    }
+
+    /// A worker starts the next tile, where it holds nothing and one may start.
+    pub(crate) fn start(&mut self, core: &mut Core, worker: u32) -> Result<(), EnterFault>
+        requires worker { worker < core.old.workers }
+        requires stands { AreWorkers core.old self.old }
+        ensures stands { AreWorkers core.new self.new }
+        ensures answer { Answers core.old kind.Start (2 + worker) core.new result }
+    {
+        let place = worker as usize;
+        if self.jobs[place].is_some() {
+            return Err(EnterFault::NotNow);
+        }
+        match core.start(worker) {
+            Ok(Some(job)) => {
+                self.jobs[place] = Some(job);
+                Ok(())
+            }
+            Ok(None) => Err(EnterFault::NotNow),
+            Err(refused) => Err(EnterFault::Memory(refused)),
+        }
+    }
+
+    /// A worker makes the tile that it holds, if it holds one, and is done with it.
+    pub(crate) fn done(&mut self, core: &mut Core, worker: u32) -> Result<(), EnterFault>
+        requires worker { worker < core.old.workers }
+        requires stands { AreWorkers core.old self.old }
+        ensures stands { AreWorkers core.new self.new }
+        ensures answer { Answers core.old kind.Done (2 + worker) core.new result }
+    {
+        if core.ended() {
+            return Err(EnterFault::NotNow);
+        }
+        let place = worker as usize;
+        let Some(job) = self.jobs[place].take() else {
+            return Err(EnterFault::NotNow);
+        };
+        match job.run(self.alloc) {
+            Ok(image) => {
+                core.done(worker, image);
+                Ok(())
+            }
+            Err((refused, job)) => {
+                self.jobs[place] = Some(job);
+                Err(EnterFault::Memory(refused))
+            }
+        }
+    }
+}
