@@ -69,17 +69,17 @@ pub record IsTold (r : Run) (k : ℕ) (ms : List Move) : Type 0 where
 pub told_is : (r : Run) (k : ℕ) (ms : List Move) → Some (k, ms) ≡ told_frame r → IsTold r k ms
 told_is r k ms e = by_cases (is_sent (sched (past r)).main_state) (newest sends (past r)) refl refl e
   where
-    first_of : {X Y : Type 0} {x x' : X} {y y' : Y} → Some (x, y) ≡ Some (x', y') → x ≡ x'
-    first_of i = cc
+    number_of : (p q : ℕ × List Move) → Some p ≡ Some q → p.0 ≡ q.0
+    number_of p q i = let j : p ≡ q = cc in ap (λ (z : ℕ × List Move). z.0) j
 
-    second_of : {X Y : Type 0} {x x' : X} {y y' : Y} → Some (x, y) ≡ Some (x', y') → y ≡ y'
-    second_of i = cc
+    moves_of : (p q : ℕ × List Move) → Some p ≡ Some q → p.1 ≡ q.1
+    moves_of p q i = let j : p ≡ q = cc in ap (λ (z : ℕ × List Move). z.1) j
 
     by_cases : (b : Bool) (o : Option ℕ) → is_sent (sched (past r)).main_state ≡ b → newest sends (past r) ≡ o
-        → Some (k, ms) ≡ cond b (option_map (λ j. (j, pulls_of (past r) j)) o) None → IsTold r k ms
+        → ◌≡◌ {A = Option (ℕ × List Move)} (Some (k, ms)) (cond b (option_map (λ j. (j, pulls_of (past r) j)) o) None) → IsTold r k ms
     by_cases true (Some j) t l e =
-        let i : k ≡ j = first_of e in
-        record { sent = t; last = l ∙ ap Some (sym i); pulls = second_of e ∙ ap (pulls_of (past r)) (sym i) }
+        let i : k ≡ j = number_of (k, ms) (j, pulls_of (past r) j) e in
+        record { sent = t; last = l ∙ ap Some (sym i); pulls = moves_of (k, ms) (j, pulls_of (past r) j) e ∙ ap (pulls_of (past r)) (sym i) }
     by_cases true None t l e = absurd cc
     by_cases false o t l e = absurd cc
 
@@ -101,14 +101,14 @@ module _ (s : ScriptModel) (n : ℕ) (h : List Entry) (legal : Legal s n h) wher
   some_last k e = c.last_is k e
 
   -- where nothing is told, no frame is in flight
-  pub none_told : None ≡ cond (is_sent (sched h).main_state) (option_map (λ j. (j, pulls_of h j)) (newest sends h)) None → is_sent (sched h).main_state ≡ false
+  pub none_told : ◌≡◌ {A = Option (ℕ × List Move)} None (cond (is_sent (sched h).main_state) (option_map (λ j. (j, pulls_of h j)) (newest sends h)) None) → is_sent (sched h).main_state ≡ false
   none_told e = by_cases (is_sent (sched h).main_state) refl e
     where
-      absent : (o : Option ℕ) (k : ℕ) → o ≡ Some k → None ≡ option_map (λ j. (j, pulls_of h j)) o → ⊥
+      absent : (o : Option ℕ) (k : ℕ) → o ≡ Some k → ◌≡◌ {A = Option (ℕ × List Move)} None (option_map (λ j. (j, pulls_of h j)) o) → ⊥
       absent None k i e = absurd cc
       absent (Some j) k i e = absurd cc
 
-      by_cases : (b : Bool) → is_sent (sched h).main_state ≡ b → None ≡ cond b (option_map (λ j. (j, pulls_of h j)) (newest sends h)) None → is_sent (sched h).main_state ≡ false
+      by_cases : (b : Bool) → is_sent (sched h).main_state ≡ b → ◌≡◌ {A = Option (ℕ × List Move)} None (cond b (option_map (λ j. (j, pulls_of h j)) (newest sends h)) None) → is_sent (sched h).main_state ≡ false
       by_cases false t e = t
       by_cases true t e = let x = c.in_flight (sent_not_idle (sched h).main_state t) in absurd (absent (newest sends h) x.0 x.1 e)
 

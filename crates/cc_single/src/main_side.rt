@@ -103,15 +103,19 @@ impl MainSide {
         ensures answer { Answers core.old kind.Abort 1 core.new result }
     {
         core.is_legal();
-        match &self.end {
-            Some(MainEnd::Abort { frame }) => match core.abort(*frame) {
-                Ok(()) => {
-                    self.end = None;
-                    Ok(())
+        match self.end.take() {
+            Some(MainEnd::Abort { frame }) => match core.abort(frame) {
+                Ok(()) => Ok(()),
+                Err(refused) => {
+                    self.end = Some(MainEnd::Abort { frame });
+                    Err(EnterFault::Memory(refused))
                 }
-                Err(refused) => Err(EnterFault::Memory(refused)),
             },
-            _ => Err(EnterFault::NotNow),
+            Some(MainEnd::Ready(commit)) => {
+                self.end = Some(MainEnd::Ready(commit));
+                Err(EnterFault::NotNow)
+            }
+            None => Err(EnterFault::NotNow),
         }
     }
 
