@@ -1,7 +1,7 @@
 -- The jobs of workers, as tiles are started and made.
-use Rattle.std.proofs.Common.{◌≡◌, ℕ, suc, ◌+◌, ◌-◌, ◌<◌, ◌==◌, Bool, true, false, cond, not, ◌&&◌, List, [], ◌∷◌, ◌++◌, length, Option, Some, None, is_some, refl, sym, ◌∙◌, ap, subst, arith}
+use Rattle.std.proofs.Common.{◌≡◌, ℕ, zero, suc, ◌+◌, ◌-◌, ◌<◌, ◌==◌, Bool, true, false, cond, not, ◌&&◌, List, [], ◌∷◌, ◌++◌, length, Option, Some, None, is_some, refl, sym, ◌∙◌, ap, subst, arith}
 use Rattle.std.specs.Prelude.{slice_index_or, slice_set}
-use Rattle.std.proofs.lemmas.List.{get_or-set_same, get_or-set_other, length-set}
+use Rattle.std.proofs.lemmas.List.{get_or-set_same, get_or-set_other, length-set, set-set}
 use Rattle.cc_geom.specs.declared.tile.TileKey.{TileKey}
 use Rattle.cc_raster.specs.declared.job.Job.{Job}
 use Rattle.cc_sched.specs.declared.kind.Kind.{Kind}
@@ -32,9 +32,45 @@ held_stays (event.Start v q evicted) w old f = absurd cc
 held_stays (event.DoneTile v q) w old f = absurd cc
 held_stays _ w old f = refl
 
+-- one worker more, that holds nothing
+pub none_more : (os : List (Option Job)) → ((w : ℕ) → slice_index_or os w None ≡ None) → (w : ℕ) → slice_index_or (os ++ None ∷ []) w None ≡ None
+none_more [] none zero = refl
+none_more [] none (suc w) = refl
+none_more (o ∷ os) none zero = none zero
+none_more (o ∷ os) none (suc w) = none_more os (λ v. none (suc v)) w
+
 -- nothing is held before anything was entered
 pub jobs_first : (s : ScriptModel) (n : ℕ) (jobs : List (Option Job)) → length jobs ≡ n → ((w : ℕ) → w < n → slice_index_or jobs w None ≡ None) → HaveJobs (record { script = s; workers = n; entries = [] }) jobs
 jobs_first s n jobs count none = record { count = count; each = none }
+
+-- one worker has another job, and the others hold what they held
+set_job : (s : ScriptModel) (n : ℕ) (keys next : ℕ → Option TileKey) (jobs : List (Option Job)) (v : ℕ) (job : Option Job) → length jobs ≡ n
+    → ((w : ℕ) → w < n → HasJob s (keys w) (slice_index_or jobs w None)) → v < n → HasJob s (next v) job → ((w : ℕ) → (w ≡ v → ⊥) → next w ≡ keys w)
+    → (w : ℕ) → w < n → HasJob s (next w) (slice_index_or (slice_set jobs v job) w None)
+set_job s n keys next jobs v job count have within has others = each
+  where
+    there : v < length jobs
+    there = omega (arith, within, count)
+
+    at_it : (w : ℕ) → w ≡ v → HasJob s (next w) (slice_index_or (slice_set jobs v job) w None)
+    at_it w i = subst (λ (u : ℕ). HasJob s (next u) (slice_index_or (slice_set jobs v job) u None)) (sym i) (subst (HasJob s (next v)) (sym (get_or-set_same jobs v job None there)) has)
+
+    elsewhere : (w : ℕ) → w < n → (w ≡ v → ⊥) → HasJob s (next w) (slice_index_or (slice_set jobs v job) w None)
+    elsewhere w lt other = subst (λ o. HasJob s o (slice_index_or (slice_set jobs v job) w None)) (sym (others w other)) (subst (HasJob s (keys w)) (sym (get_or-set_other jobs v w job None other)) (have w lt))
+
+    each : (w : ℕ) → w < n → HasJob s (next w) (slice_index_or (slice_set jobs v job) w None)
+    each w lt = by_test (w == v) (λ t. at_it w (same_number w v t)) (λ f. elsewhere w lt (other_number w v f))
+
+-- a worker has another job of the key that it holds
+pub jobs_put : (r : Run) (jobs : List (Option Job)) (v : ℕ) (job : Option Job) → HaveJobs r jobs → v < r.workers → HasJob r.script (held v (past r)) job → HaveJobs r (slice_set jobs v job)
+jobs_put r jobs v job have within has = record {
+  count = length-set jobs v job ∙ have.count;
+  each = set_job r.script r.workers (λ w. held w (past r)) (λ w. held w (past r)) jobs v job have.count have.each within has (λ w other. refl);
+}
+
+-- a worker has its job again
+pub jobs_back : (r : Run) (jobs : List (Option Job)) (v : ℕ) (taken job : Option Job) → HaveJobs r jobs → v < r.workers → HasJob r.script (held v (past r)) job → HaveJobs r (slice_set (slice_set jobs v taken) v job)
+jobs_back r jobs v taken job have within has = subst (HaveJobs r) (sym (set-set jobs v taken job)) (jobs_put r jobs v job have within has)
 
 module _ (r new : Run) (a : ℕ) (e : Event) (is : new ≡ with_entry r a e) (jobs : List (Option Job)) (have : HaveJobs r jobs) where
   -- jobs of the run with the entry
@@ -49,21 +85,8 @@ module _ (r new : Run) (a : ℕ) (e : Event) (is : new ≡ with_entry r a e) (jo
   -- one worker has another job
   pub jobs_change : (v : ℕ) → v < r.workers → (job : Option Job) → HasJob r.script (held_after e v (held v (past r))) job
       → ((w : ℕ) → (w ≡ v → ⊥) → held_after e w (held w (past r)) ≡ held w (past r)) → HaveJobs new (slice_set jobs v job)
-  jobs_change v within job has others = next_jobs (slice_set jobs v job) (length-set jobs v job ∙ have.count) each
-    where
-      there : v < length jobs
-      there = let count = have.count in omega (arith, within, count)
-
-      at_it : (w : ℕ) → w ≡ v → HasJob r.script (held_after e w (held w (past r))) (slice_index_or (slice_set jobs v job) w None)
-      at_it w i = subst (λ (u : ℕ). HasJob r.script (held_after e u (held u (past r))) (slice_index_or (slice_set jobs v job) u None)) (sym i)
-          (subst (HasJob r.script (held_after e v (held v (past r)))) (sym (get_or-set_same jobs v job None there)) has)
-
-      elsewhere : (w : ℕ) → w < r.workers → (w ≡ v → ⊥) → HasJob r.script (held_after e w (held w (past r))) (slice_index_or (slice_set jobs v job) w None)
-      elsewhere w lt other = subst (λ o. HasJob r.script o (slice_index_or (slice_set jobs v job) w None)) (sym (others w other))
-          (subst (HasJob r.script (held w (past r))) (sym (get_or-set_other jobs v w job None other)) (have.each w lt))
-
-      each : (w : ℕ) → w < r.workers → HasJob r.script (held_after e w (held w (past r))) (slice_index_or (slice_set jobs v job) w None)
-      each w lt = by_test (w == v) (λ t. at_it w (same_number w v t)) (λ f. elsewhere w lt (other_number w v f))
+  jobs_change v within job has others =
+      next_jobs (slice_set jobs v job) (length-set jobs v job ∙ have.count) (set_job r.script r.workers (λ w. held w (past r)) (λ w. held_after e w (held w (past r))) jobs v job have.count have.each within has others)
 
 -- a worker has started a key
 pub jobs_started : (r new : Run) (w : ℕ) (q : TileKey) (ks : List TileKey) (jobs : List (Option Job)) (job : Job) → new ≡ with_entry r (2 + w) (event.Start w q ks) → HaveJobs r jobs → w < r.workers → IsJobOf r.script q job
@@ -102,6 +125,16 @@ holds_none s h w o has is = by_cases (held w h) refl (subst (HasJob s (held w h)
     by_cases None e has = e
     by_cases (Some q) e has = absurd has
 
+-- who has a job holds a key
+pub holds_some : (s : ScriptModel) (h : List Entry) (w : ℕ) (o : Option Job) → HasJob s (held w h) o → is_some o ≡ true → (q : TileKey) × (held w h ≡ Some q)
+holds_some s h w None has t = absurd cc
+holds_some s h w (Some job) has t = (job.key, (holds_key s h w (Some job) job has refl).holds)
+
+-- who has no job holds nothing
+pub holds_nothing : (s : ScriptModel) (h : List Entry) (w : ℕ) (o : Option Job) → HasJob s (held w h) o → is_some o ≡ false → held w h ≡ None
+holds_nothing s h w None has f = holds_none s h w None has refl
+holds_nothing s h w (Some job) has f = absurd cc
+
 worker_back : (w : ℕ) → (2 + w) - 2 ≡ w
 worker_back w = omega arith
 
@@ -119,3 +152,7 @@ no_start s h w q e = none_open (not (has_ended h) && true) (due_start s h ((2 + 
 -- who holds none is done with none
 pub no_done : (s : ScriptModel) (h : List Entry) (w : ℕ) → held w h ≡ None → can s h kind.Done (2 + w) ≡ None
 no_done s h w e = none_open (not (has_ended h) && true) (due_done ((2 + w) - 2) (held ((2 + w) - 2) h)) (ap (λ v. due_done v (held v h)) (worker_back w) ∙ ap (due_done w) e)
+
+-- who has a job starts none
+pub busy : (s : ScriptModel) (h : List Entry) (w : ℕ) (o : Option Job) → HasJob s (held w h) o → is_some o ≡ true → can s h kind.Start (2 + w) ≡ None
+busy s h w o has t = let x = holds_some s h w o has t in no_start s h w x.0 x.1

@@ -1,23 +1,36 @@
 -- What an answer leaves of the sides of a run.
-use Rattle.std.proofs.Common.{◌≡◌, ℕ, ◌+◌, ◌≤◌, Bool, true, false, List, ◌∷◌, Result, Ok, Err, ⊤, refl, sym, ◌∙◌, ap, subst, arith}
+use Rattle.std.proofs.Common.{◌≡◌, ℕ, ◌+◌, ◌≤◌, Bool, true, false, List, ◌∷◌, Result, Ok, Err, refl, sym, ◌∙◌, ap, subst, arith}
+use Rattle.std.specs.Prelude.{⊤}
 use Rattle.cc_sched.specs.declared.kind.Kind.{Kind}
+use Rattle.cc_sched.specs.declared.kind.Kind.TheVariants as kind
 use Rattle.cc_event.specs.declared.event.Event.{Event}
 use Rattle.cc_event.specs.declared.history.Entry.{Entry}
 use Rattle.cc_event.specs.EventFields.{kind_of}
 use Rattle.cc_event.specs.Legal.{Legal}
 use Rattle.cc_event.proofs.DueFacts.{entry}
 use Rattle.cc_lockstep.specs.declared.compositor.EnterFault.{EnterFault}
-use Rattle.cc_log.specs.Runs.{Run, past, with_entry}
-use Rattle.cc_core.specs.Replies.{is_draw}
+use Rattle.cc_log.specs.Runs.{Run, past, with_entry, Entered}
+use Rattle.cc_core.specs.Replies.{is_own, is_draw}
 use Rattle.cc_single.specs.Singles.{Answers}
 use Rattle.cc_single.specs.declared.main_side.MainSide.{MainSide}
 use Rattle.cc_single.specs.declared.workers.Workers.{Workers}
 use Rattle.cc_single.specs.declared.shown.Shown.{Shown}
-use Rattle.cc_single.specs.inner.Sides.{IsMain, AreWorkers, IsShown}
+use Rattle.cc_single.specs.inner.Sides.{IsMain, AreWorkers, IsShown, IsSingle}
 use Rattle.cc_single.proofs.Steps.{answered, past_with}
 use Rattle.cc_single.proofs.HeldJobs.{is_works, jobs_stay}
 use Rattle.cc_single.proofs.Drawn.{shown_stays}
 use Rattle.cc_single.proofs.MainSteps.{is_mains, main_stays, main_after}
+
+-- the compositor's own kinds are no others
+pub own_not_mains : (k : Kind) → is_own k ≡ true → is_mains k ≡ false
+own_not_mains kind.Ready t = absurd cc
+own_not_mains kind.Abort t = absurd cc
+own_not_mains _ t = refl
+
+pub own_not_works : (k : Kind) → is_own k ≡ true → is_works k ≡ false
+own_not_works kind.Start t = absurd cc
+own_not_works kind.Done t = absurd cc
+own_not_works _ t = refl
 
 module _ (old new : Run) (k : Kind) (a : ℕ) (x : Result ⊤ EnterFault) (answer : Answers old k a new x) where
   pub few_stays : 1 ≤ old.workers → 1 ≤ new.workers
@@ -37,3 +50,26 @@ module _ (old new : Run) (k : Kind) (a : ℕ) (x : Result ⊤ EnterFault) (answe
 
       next : (e : Event) → kind_of e ≡ k → new ≡ with_entry old a e → IsMain new side
       next e i is = main_after old new a e side is (main_stays old.script old.workers (past old) a side e (legal_with e is) (ap is_mains i ∙ f) m)
+
+  -- all that is not touched stands: where the main side has answered
+  pub by_main : is_works k ≡ false → is_draw k ≡ false → (side after : MainSide) (ws : Workers) (drawn : Shown) → IsSingle old side ws drawn → IsMain new after → IsSingle new after ws drawn
+  by_main w d side after ws drawn is stands = record { few = few_stays is.few; main = stands; workers = workers_stay w ws is.workers; shown = drawn_stays d drawn is.shown }
+
+  -- where a worker has answered
+  pub by_worker : is_mains k ≡ false → is_draw k ≡ false → (side : MainSide) (ws after : Workers) (drawn : Shown) → Legal new.script new.workers (past new) → IsSingle old side ws drawn → AreWorkers new after
+      → IsSingle new side after drawn
+  by_worker m d side ws after drawn legal is stands = record { few = few_stays is.few; main = side_stays m side legal is.main; workers = stands; shown = drawn_stays d drawn is.shown }
+
+  -- where the compositor itself has answered
+  pub by_own : is_own k ≡ true → (side : MainSide) (ws : Workers) (drawn after : Shown) → Legal new.script new.workers (past new) → IsSingle old side ws drawn → IsShown new after → IsSingle new side ws after
+  by_own o side ws drawn after legal is stands = record {
+    few = few_stays is.few;
+    main = side_stays (own_not_mains k o) side legal is.main;
+    workers = workers_stay (own_not_works k o) ws is.workers;
+    shown = stands;
+  }
+
+-- where an actor has stopped
+pub by_stop : (old new : Run) (a : ℕ) → Entered old kind.Stop a new → (side : MainSide) (ws : Workers) (drawn : Shown) → Legal new.script new.workers (past new) → IsSingle old side ws drawn → IsSingle new side ws drawn
+by_stop old new a answer side ws drawn legal is =
+    by_worker old new kind.Stop a (Ok tt) answer refl refl side ws ws drawn legal is (workers_stay old new kind.Stop a (Ok tt) answer refl ws is.workers)

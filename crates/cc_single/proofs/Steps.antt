@@ -1,5 +1,6 @@
 -- The run after an answer.
-use Rattle.std.proofs.Common.{◌≡◌, ℕ, suc, ◌+◌, ◌-◌, ◌<◌, ◌≤◌, Bool, true, false, cond, not, ◌&&◌, List, [], ◌∷◌, ◌++◌, length, Option, Some, None, Result, Ok, Err, ⊤, refl, sym, ◌∙◌, ap, subst, arith}
+use Rattle.std.proofs.Common.{◌≡◌, ℕ, suc, ◌+◌, ◌-◌, ◌<◌, ◌≤◌, Bool, true, false, cond, not, ◌&&◌, List, [], ◌∷◌, ◌++◌, length, Option, Some, None, Result, Ok, Err, refl, sym, ◌∙◌, ap, subst, arith}
+use Rattle.std.specs.Prelude.{⊤}
 use Rattle.cc_sched.specs.declared.kind.Kind.{Kind}
 use Rattle.cc_sched.specs.declared.kind.Kind.TheVariants as kind
 use Rattle.cc_sched.specs.Kinds.{may}
@@ -40,3 +41,6 @@ none_after_end s h k a t = ap (λ b. cond (not b && may (sched h) k) (due s h k 
 -- a stop may come before it
 pub stop_now : (s : ScriptModel) (h : List Entry) (a : ℕ) → has_ended h ≡ false → can s h kind.Stop a ≡ Some (event.Stop a)
 stop_now s h a f = ap (λ b. cond (not b && true) (due s h kind.Stop a) None) f
+
+pub stop_entered : (r new : Run) (a : ℕ) → has_ended (past r) ≡ false → new ≡ with_entry r a (event.Stop a) → Entered r kind.Stop a new
+stop_entered r new a f is = record { event = event.Stop a; is_now = stop_now r.script (past r) a f; is_entered = is }

@@ -11,6 +11,7 @@ impl Compositor for SingleThread {
     ghost run = { λ t. walk_of t };
 
     fn enter(&mut self, kind: Kind, actor: u32) -> Result<(), EnterFault> {
+        self.has_worker();
         SingleThread::enter(self, kind, actor)
     }
 
@@ -43,6 +44,7 @@ impl Compositor for SingleThread {
     }
 
     fn changes(&mut self) -> Result<bool, AllocError> {
+        self.core.is_legal();
         self.main.run(&self.core)?;
         Ok(self.main.changed)
     }

@@ -12,6 +12,7 @@ use cc_event::{History, Script};
 use cc_scene::Scene;
 use std::alloc::{AllocError, Global};
 use std::marker::Model;
+use std::mem;
 use std::sync::Arc;
 
 /// A core with its main side and the jobs of its workers, all on one thread.
@@ -40,21 +41,19 @@ impl Model for SingleThread {
 impl SingleThread {
     /// The compositor of a script with 1 to 16 workers, before anything was entered. An error is want of
     /// memory.
-    pub fn new(
-        alloc: Global,
-        script: Arc<Script>,
-        workers: u32,
-    ) -> Result<SingleThread, AllocError>
+    pub fn new(alloc: Global, script: Arc<Script>, workers: u32) -> Result<SingleThread, AllocError>
         requires { (1 ≤ workers) × (workers ≤ 16) }
         ensures { IfOk result (λ single. single ≡ record { run = new_run script.value workers; written = 0 }) }
     {
         let main = MainSide::new(alloc, Arc::try_clone(&script)?);
-        let jobs = Workers::new(alloc, workers)?;
+        let core = Core::new(alloc, script, workers)?;
+        let workers = Workers::new(alloc, workers)?;
+        let shown = Shown::new(alloc);
         Ok(SingleThread {
-            core: Core::new(alloc, script, workers)?,
+            core,
             main,
-            workers: jobs,
-            shown: Shown::new(alloc),
+            workers,
+            shown,
         })
     }
 
@@ -63,6 +62,13 @@ impl SingleThread {
         ensures { result.now ≡ self.now.run }
     {
         &self.core
+    }
+
+    /// The number of workers.
+    pub fn workers(&self) -> u32
+        ensures { result ≡ self.now.run.workers }
+    {
+        self.core.workers()
     }
 
     /// The entries, the oldest first.
@@ -80,18 +86,21 @@ impl SingleThread {
         self.shown.written
     }
 
-    /// The scenes of the draws among the entries that were not written, the oldest first.
-    pub fn scenes(&self) -> &[Scene]
-        ensures { AreScenes self.now.run.script (length self.now.run.entries - self.now.written) (past self.now.run) result.now }
+    // There is a worker. A law that does nothing when it runs.
+    pub(crate) fn has_worker(&self)
+        ensures { 1 ≤ self.now.run.workers }
     {
-        self.shown.scenes.as_slice()
+        self.core.is_legal();
     }
 
-    /// Takes all entries for written, and drops their scenes. Takes no memory.
-    pub fn wrote_all(&mut self)
-        ensures { self.new ≡ record { run = self.old.run; written = length self.old.run.entries } }
+    /// Takes all entries for written, and hands out the scenes of the draws among those that were not, the oldest
+    /// first. Takes no memory.
+    pub fn take_scenes(&mut self) -> Vec<Scene>
+        ensures scenes { AreScenes self.old.run.script (length self.old.run.entries - self.old.written) (past self.old.run) result.items }
+        ensures taken { self.new ≡ record { run = self.old.run; written = length self.old.run.entries } }
     {
         self.shown.written = self.core.history().len();
-        self.shown.scenes.clear();
+        let none = Vec::new(self.workers.alloc);
+        mem::replace(&mut self.shown.scenes, none)
     }
 }

@@ -25,7 +25,7 @@ impl Workers {
         ensures { IfOk result (λ workers. (s : ScriptModel) → AreWorkers (new_run s count) workers) }
     {
         let mut jobs = Vec::with_capacity(alloc, count as usize)?;
-        for _ in 0..count {
+        for _made in 0..count {
             jobs.push(None)?;
         }
         Ok(Workers { alloc, jobs })
