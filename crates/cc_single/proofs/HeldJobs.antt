@@ -16,7 +16,6 @@ use Rattle.cc_event.specs.Ranking.{first}
 use Rattle.cc_event.specs.Due.{due_start, due_done}
 use Rattle.cc_event.specs.Legal.{can}
 use Rattle.cc_event.proofs.BoolFacts.{by_test, same_number, other_number, is_same, is_other}
-use Rattle.cc_event.proofs.DueFacts.{entry}
 use Rattle.cc_log.specs.Runs.{Run, past, with_entry}
 use Rattle.cc_single.specs.inner.Sides.{IsJobOf, HasJob, HaveJobs}
 use Rattle.cc_single.proofs.Steps.{past_with}

@@ -1,10 +1,9 @@
 -- What an answer leaves of the sides of a run.
-use Rattle.std.proofs.Common.{◌≡◌, ℕ, ◌+◌, ◌≤◌, Bool, true, false, List, ◌∷◌, Result, Ok, Err, refl, sym, ◌∙◌, ap, subst, arith}
+use Rattle.std.proofs.Common.{◌≡◌, ℕ, ◌≤◌, true, false, ◌∷◌, Result, Ok, refl, sym, ◌∙◌, ap, subst}
 use Rattle.std.specs.Prelude.{⊤}
 use Rattle.cc_sched.specs.declared.kind.Kind.{Kind}
 use Rattle.cc_sched.specs.declared.kind.Kind.TheVariants as kind
 use Rattle.cc_event.specs.declared.event.Event.{Event}
-use Rattle.cc_event.specs.declared.history.Entry.{Entry}
 use Rattle.cc_event.specs.EventFields.{kind_of}
 use Rattle.cc_event.specs.Legal.{Legal}
 use Rattle.cc_event.proofs.DueFacts.{entry}

@@ -1,10 +1,9 @@
 -- The main side of a run, as it runs the frame in flight and hands over how that frame ends.
-use Rattle.std.proofs.Common.{◌≡◌, ℕ, suc, ◌<◌, ◌≤◌, Bool, true, false, List, length, Option, Some, None, is_some, refl, sym, ◌∙◌, ap, subst, arith}
+use Rattle.std.proofs.Common.{◌≡◌, ℕ, suc, ◌<◌, ◌≤◌, Bool, true, false, List, length, Option, Some, None, is_some, sym, ◌∙◌, ap, subst, arith}
 use Rattle.cc_sched.specs.declared.kind.Kind.TheVariants as kind
 use Rattle.cc_sched.specs.Kinds.{is_sent}
 use Rattle.cc_edit.specs.declared.moves.Move.{Move}
 use Rattle.cc_event.specs.declared.event.Event.TheVariants as event
-use Rattle.cc_event.specs.declared.history.Entry.{Entry}
 use Rattle.cc_event.specs.Scripts.{ScriptModel}
 use Rattle.cc_event.specs.Commits.{CommitModel}
 use Rattle.cc_event.specs.EventFields.{sends}
@@ -13,7 +12,7 @@ use Rattle.cc_event.specs.Frames.{pulls_of}
 use Rattle.cc_event.specs.Accepted.{IsAccepted}
 use Rattle.cc_event.specs.Ended.{AreBounded}
 use Rattle.cc_event.specs.Legal.{sched, Legal}
-use Rattle.cc_event.proofs.BoolFacts.{by_test, not_both, is_false}
+use Rattle.cc_event.proofs.BoolFacts.{by_test, is_false}
 use Rattle.cc_event.proofs.RangeBounds.{sent_few}
 use Rattle.cc_event.proofs.PullBounds.{pulls_bounded}
 use Rattle.cc_log.specs.Runs.{Run, past, now, with_entry}
@@ -23,7 +22,7 @@ use Rattle.cc_main.specs.declared.main_end.MainEnd.TheVariants as end
 use Rattle.cc_core.specs.Replies.{told_frame}
 use Rattle.cc_single.specs.declared.main_side.MainSide.{MainSide}
 use Rattle.cc_single.specs.inner.Ends.{is_ready}
-use Rattle.cc_single.specs.inner.Sides.{HasRun, IsEndOf, IsAtRest, IsBefore, IsBehind, IsInFlight, IsMainOf, IsMain, WasRun}
+use Rattle.cc_single.specs.inner.Sides.{IsAtRest, IsBefore, IsBehind, IsInFlight, IsMainOf, IsMain, WasRun}
 use Rattle.cc_single.proofs.MainPulls.{IsTold, told_is, some_last, ready_comes, abort_comes, no_ready, no_abort, none_ready, none_abort}
 use Rattle.cc_single.proofs.MainSteps.{has_run, rests, main_after}
 

@@ -1,5 +1,5 @@
 -- The main side of a run, as it runs the frame in flight.
-use Rattle.std.proofs.Common.{◌≡◌, ℕ, suc, ◌<◌, ◌==◌, Bool, true, false, cond, not, ◌&&◌, List, [], ◌∷◌, ◌++◌, length, Option, Some, None, option_map, refl, sym, ◌∙◌, ap, subst, arith}
+use Rattle.std.proofs.Common.{◌≡◌, ℕ, suc, ◌<◌, ◌==◌, Bool, true, false, cond, not, ◌&&◌, List, [], ◌∷◌, ◌++◌, length, Option, Some, None, option_map, refl, sym, ◌∙◌, ap, arith}
 use Rattle.cc_sched.specs.declared.kind.Kind.TheVariants as kind
 use Rattle.cc_sched.specs.Kinds.{is_sent}
 use Rattle.cc_edit.specs.declared.moves.Move.{Move}
@@ -22,7 +22,7 @@ use Rattle.cc_main.specs.declared.main_end.MainEnd.TheVariants as end
 use Rattle.cc_main.proofs.HostFacts.{pulls_last, pulls_before, more_long}
 use Rattle.cc_core.specs.Replies.{told_frame}
 use Rattle.cc_single.specs.inner.Ends.{is_ready}
-use Rattle.cc_single.specs.inner.Sides.{HasRun, IsEndOf, IsBehind}
+use Rattle.cc_single.specs.inner.Sides.{HasRun, IsEndOf}
 
 -- one frame more was run, with the pulls that it got
 

@@ -1,5 +1,5 @@
 -- The run after an answer.
-use Rattle.std.proofs.Common.{◌≡◌, ℕ, suc, ◌+◌, ◌-◌, ◌<◌, ◌≤◌, Bool, true, false, cond, not, ◌&&◌, List, [], ◌∷◌, ◌++◌, length, Option, Some, None, Result, Ok, Err, refl, sym, ◌∙◌, ap, subst, arith}
+use Rattle.std.proofs.Common.{◌≡◌, ℕ, true, false, cond, not, ◌&&◌, List, [], ◌∷◌, ◌++◌, Some, None, Result, Ok, Err, refl, sym, ◌∙◌, ap, subst}
 use Rattle.std.specs.Prelude.{⊤}
 use Rattle.cc_sched.specs.declared.kind.Kind.{Kind}
 use Rattle.cc_sched.specs.declared.kind.Kind.TheVariants as kind
@@ -14,7 +14,7 @@ use Rattle.cc_event.specs.Due.{due}
 use Rattle.cc_event.specs.Legal.{sched, can}
 use Rattle.cc_event.proofs.DueFacts.{entry}
 use Rattle.cc_event.proofs.DueRows.{due_row}
-use Rattle.cc_log.specs.Runs.{Run, past, now, with_entry, Entered}
+use Rattle.cc_log.specs.Runs.{Run, past, with_entry, Entered}
 use Rattle.cc_log.proofs.LogSteps.{past_more, now_is}
 use Rattle.cc_lockstep.specs.declared.compositor.EnterFault.{EnterFault}
 use Rattle.cc_lockstep.specs.declared.compositor.EnterFault.TheVariants.{NotNow, Memory}

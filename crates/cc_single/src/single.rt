@@ -46,13 +46,13 @@ impl SingleThread {
         ensures { IfOk result (λ single. single ≡ record { run = new_run script.value workers; written = 0 }) }
     {
         let main = MainSide::new(alloc, Arc::try_clone(&script)?);
+        let jobs = Workers::new(alloc, workers)?;
         let core = Core::new(alloc, script, workers)?;
-        let workers = Workers::new(alloc, workers)?;
         let shown = Shown::new(alloc);
         Ok(SingleThread {
             core,
             main,
-            workers,
+            workers: jobs,
             shown,
         })
     }

@@ -1,5 +1,5 @@
 -- The abort that is kept is that of the frame in flight, and may come now.
-use Rattle.std.proofs.Common.{◌≡◌, Option, Some, None, refl, sym, ◌∙◌, ap, subst}
+use Rattle.std.proofs.Common.{Option, Some, refl, sym, ◌∙◌, ap, subst}
 use Rattle.cc_event.specs.declared.event.Event.TheVariants as event
 use Rattle.cc_main.specs.declared.main_end.MainEnd.{MainEnd}
 use Rattle.cc_main.specs.declared.main_end.MainEnd.TheVariants as end

@@ -1,8 +1,7 @@
 -- The frame in flight is the next one of the main side.
-use Rattle.std.proofs.Common.{◌≡◌, Some, None, sym, ◌∙◌}
+use Rattle.std.proofs.Common.{◌≡◌, None, sym, ◌∙◌}
 use Rattle.cc_event.proofs.BoolFacts.{not_both, none_where}
-use Rattle.cc_log.specs.Runs.{Run, past}
-use Rattle.cc_single.specs.declared.main_side.MainSide.{MainSide}
+use Rattle.cc_log.specs.Runs.{past}
 use Rattle.cc_single.proofs.MainPulls.{none_told}
 use Rattle.cc_single.proofs.MainEnds.{frame_left, told_bounded, runs_frame}
 use Rattle.cc_single.proofs.main_side.MainSide.run.Goals as goal

@@ -1,7 +1,6 @@
 -- The main side and what was drawn stay.
-use Rattle.std.proofs.Common.{◌≡◌, ℕ, ◌+◌, ◌-◌, refl, sym, ap, subst, arith}
+use Rattle.std.proofs.Common.{◌+◌, ◌-◌, refl}
 use Rattle.cc_sched.specs.declared.kind.Kind.TheVariants as kind
-use Rattle.cc_single.specs.Singles.{SingleModel, Answers}
 use Rattle.cc_single.proofs.Keeps.{by_worker}
 use Rattle.cc_single.proofs.single.SingleThread.enter_done.Goals as goal
 

@@ -1,5 +1,4 @@
 -- The main side and the workers stay.
-use Rattle.std.proofs.Common.{refl}
 use Rattle.cc_single.proofs.Keeps.{by_own}
 use Rattle.cc_single.proofs.single.SingleThread.enter_own.Goals as goal
 

@@ -1,9 +1,9 @@
 -- The scenes of the draws behind the written entries, and none is left.
-use Rattle.std.proofs.Common.{◌≡◌, ℕ, ◌-◌, List, length, sym, ◌∙◌, ap, subst, Vec, Global}
+use Rattle.std.proofs.Common.{◌-◌, List, length, sym, ◌∙◌, ap, subst, Vec, Global}
 use Rattle.cc_scene.specs.declared.scene.Scene.{Scene}
 use Rattle.cc_scene.specs.Views.{SceneView}
 use Rattle.cc_event.specs.declared.history.Entry.{Entry}
-use Rattle.cc_log.specs.Runs.{Run, past}
+use Rattle.cc_log.specs.Runs.{past}
 use Rattle.cc_single.specs.Singles.{SingleModel, AreScenes}
 use Rattle.cc_single.proofs.Drawn.{scenes_fresh, all_written}
 use Rattle.cc_single.proofs.single.SingleThread.take_scenes.Goals as goal
