@@ -1,5 +1,5 @@
 -- The scenes of what was drawn, after an entry more.
-use Rattle.std.proofs.Common.{◌≡◌, ℕ, suc, ◌-◌, ◌≤◌, false, List, [], ◌∷◌, ◌++◌, length, Ok, refl, sym, ◌∙◌, ap, subst, arith}
+use Rattle.std.proofs.Common.{◌≡◌, ℕ, suc, ◌-◌, false, List, [], ◌∷◌, ◌++◌, length, Ok, refl, sym, ◌∙◌, ap, subst, arith}
 use Rattle.cc_scene.specs.Views.{SceneView}
 use Rattle.cc_sched.specs.declared.kind.Kind.{Kind}
 use Rattle.cc_sched.specs.declared.kind.Kind.TheVariants as kind
@@ -76,7 +76,3 @@ scenes_fresh r shown are =
 -- nothing is left where all was written
 pub all_written : (r : Run) (after : Shown) → after.written ≡ length r.entries → after.scenes.items ≡ [] → IsShown r after
 all_written r after all none = record { fresh = 0; count = omega (arith, all); scenes = none }
-
--- no more was written than was entered
-pub few_written : (r : Run) (shown : Shown) → IsShown r shown → shown.written ≤ length r.entries
-few_written r shown are = let count = are.count in omega (arith, count)

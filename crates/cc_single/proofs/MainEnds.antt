@@ -1,5 +1,5 @@
 -- The main side of a run, as it runs the frame in flight and hands over how that frame ends.
-use Rattle.std.proofs.Common.{◌≡◌, ℕ, suc, ◌<◌, ◌≤◌, Bool, true, false, List, length, Option, Some, None, is_some, sym, ◌∙◌, ap, subst, arith}
+use Rattle.std.proofs.Common.{◌≡◌, ℕ, suc, ◌<◌, ◌≤◌, Bool, true, false, List, length, Option, Some, None, sym, ◌∙◌, ap, subst, arith}
 use Rattle.cc_sched.specs.declared.kind.Kind.TheVariants as kind
 use Rattle.cc_sched.specs.Kinds.{is_sent}
 use Rattle.cc_edit.specs.declared.moves.Move.{Move}
@@ -12,7 +12,7 @@ use Rattle.cc_event.specs.Frames.{pulls_of}
 use Rattle.cc_event.specs.Accepted.{IsAccepted}
 use Rattle.cc_event.specs.Ended.{AreBounded}
 use Rattle.cc_event.specs.Legal.{sched, Legal}
-use Rattle.cc_event.proofs.BoolFacts.{by_test, is_false}
+use Rattle.cc_event.proofs.BoolFacts.{by_test}
 use Rattle.cc_event.proofs.RangeBounds.{sent_few}
 use Rattle.cc_event.proofs.PullBounds.{pulls_bounded}
 use Rattle.cc_log.specs.Runs.{Run, past, now, with_entry}
@@ -22,8 +22,8 @@ use Rattle.cc_main.specs.declared.main_end.MainEnd.TheVariants as end
 use Rattle.cc_core.specs.Replies.{told_frame}
 use Rattle.cc_single.specs.declared.main_side.MainSide.{MainSide}
 use Rattle.cc_single.specs.inner.Ends.{is_ready}
-use Rattle.cc_single.specs.inner.Sides.{IsAtRest, IsBefore, IsBehind, IsInFlight, IsMainOf, IsMain, WasRun}
-use Rattle.cc_single.proofs.MainPulls.{IsTold, told_is, some_last, ready_comes, abort_comes, no_ready, no_abort, none_ready, none_abort}
+use Rattle.cc_single.specs.inner.Sides.{IsAtRest, IsBefore, IsBehind, IsInFlight, IsMainOf, IsMain}
+use Rattle.cc_single.proofs.MainPulls.{IsTold, told_is, some_last, ready_comes, abort_comes, no_ready, no_abort}
 use Rattle.cc_single.proofs.MainSteps.{has_run, rests, main_after}
 
 -- the end of a frame in flight that was run
@@ -56,14 +56,6 @@ held_is r side e m is = by_test (is_sent (sched (past r)).main_state) sent absen
 
     absent : is_sent (sched (past r)).main_state ≡ false → IsHeld r side e
     absent f = absurd (apart side.end is (at_rest r side m f))
-
--- where no end is kept and the frame in flight was run, there is none
-pub none_sent : (r : Run) (side : MainSide) → WasRun r side → side.end ≡ None → is_sent (sched (past r)).main_state ≡ false
-none_sent r side was none = is_false (is_sent (sched (past r)).main_state) (λ t. apart side.end none (was t))
-  where
-    apart : (o : Option MainEnd) → o ≡ None → is_some o ≡ true → ⊥
-    apart None i j = absurd cc
-    apart (Some x) i j = absurd cc
 
 -- ---- the frame in flight is run
 
@@ -122,10 +114,3 @@ module _ (r : Run) (side : MainSide) (legal : Legal r.script r.workers (past r))
 
     pub after_abort : (new : Run) → new ≡ with_entry r 1 (event.Abort k) → IsMain new (record { host = side.host; end = None; changed = side.changed })
     after_abort new is = main_after r new 1 (event.Abort k) (record { host = side.host; end = None; changed = side.changed }) is (rests r.script (pulls_of (past r)) (counted sends (past r)) side (end.Abort k) held.behind)
-
--- none of the main side may come now where nothing is kept
-pub ready_none : (r : Run) (side : MainSide) → WasRun r side → side.end ≡ None → now r kind.Ready 1 ≡ None
-ready_none r side was none = none_ready r.script (past r) (none_sent r side was none)
-
-pub abort_none : (r : Run) (side : MainSide) → WasRun r side → side.end ≡ None → now r kind.Abort 1 ≡ None
-abort_none r side was none = none_abort r.script (past r) (none_sent r side was none)

@@ -3,7 +3,6 @@ use Rattle.std.proofs.Common.{◌≡◌, ℕ, suc, ◌<◌, ◌==◌, Bool, true
 use Rattle.cc_sched.specs.declared.kind.Kind.TheVariants as kind
 use Rattle.cc_sched.specs.Kinds.{is_sent}
 use Rattle.cc_edit.specs.declared.moves.Move.{Move}
-use Rattle.cc_event.specs.declared.event.Event.{Event}
 use Rattle.cc_event.specs.declared.event.Event.TheVariants as event
 use Rattle.cc_event.specs.declared.history.Entry.{Entry}
 use Rattle.cc_event.specs.Scripts.{ScriptModel}
@@ -130,25 +129,3 @@ module _ (s : ScriptModel) (n : ℕ) (h : List Entry) (legal : Legal s n h) wher
 
     pub no_abort : changes s (pulls_of h) k ≡ true → can s h kind.Abort 1 ≡ None
     no_abort x = abort_due ∙ ap (λ b. on_if (not b) (event.Abort k)) x
-
-module _ (s : ScriptModel) (h : List Entry) where
-  and_false : (a : Bool) → a && false ≡ false
-  and_false true = refl
-  and_false false = refl
-
-  closed : (a b : Bool) (o : Option Event) → b ≡ false → cond (a && b) o None ≡ None
-  closed a b o f = ap (λ z. cond (a && z) o None) f ∙ ap (λ z. cond z o None) (and_false a)
-
-  -- none ends where no frame is in flight
-  pub none_ready : is_sent (sched h).main_state ≡ false → can s h kind.Ready 1 ≡ None
-  none_ready f = closed (not (has_ended h)) (is_sent (sched h).main_state) (due s h kind.Ready 1) f
-
-  pub none_abort : is_sent (sched h).main_state ≡ false → can s h kind.Abort 1 ≡ None
-  none_abort f = closed (not (has_ended h)) (is_sent (sched h).main_state) (due s h kind.Abort 1) f
-
-  -- nor where the run has ended
-  pub over_ready : has_ended h ≡ true → can s h kind.Ready 1 ≡ None
-  over_ready t = ap (λ b. cond (not b && is_sent (sched h).main_state) (due s h kind.Ready 1) None) t
-
-  pub over_abort : has_ended h ≡ true → can s h kind.Abort 1 ≡ None
-  over_abort t = ap (λ b. cond (not b && is_sent (sched h).main_state) (due s h kind.Abort 1) None) t

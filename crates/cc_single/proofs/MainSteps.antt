@@ -1,5 +1,5 @@
 -- The main side of a run after an event more.
-use Rattle.std.proofs.Common.{◌≡◌, ℕ, suc, Bool, true, false, cond, List, [], ◌∷◌, ◌++◌, length, Some, None, refl, sym, ◌∙◌, ap, subst, arith}
+use Rattle.std.proofs.Common.{◌≡◌, ℕ, suc, Bool, true, false, cond, List, [], ◌∷◌, ◌++◌, Some, None, refl, sym, ◌∙◌, ap, subst, arith}
 use Rattle.cc_sched.specs.declared.kind.Kind.{Kind}
 use Rattle.cc_sched.specs.declared.kind.Kind.TheVariants as kind
 use Rattle.cc_sched.specs.declared.states.MainState.{MainState}
@@ -33,14 +33,6 @@ IsMainAt s h side = IsMainOf s (pulls_of h) (counted sends h) side (is_sent (sch
 pub main_after : (r new : Run) (a : ℕ) (e : Event) (side : MainSide) → new ≡ with_entry r a e → IsMainAt r.script (entry a e ∷ past r) side → IsMain new side
 main_after r new a e side is m =
     subst (λ (z : Run). IsMain z side) (sym is) (subst (λ (h : List Entry). IsMainAt r.script h side) (sym (past_more r.entries (r.entries ++ entry a e ∷ []) (entry a e) refl)) m)
-
--- before all frames
-pub main_first : (s : ScriptModel) (host : HostModel) (changed : Bool) → host.script ≡ s → host.sends ≡ [] → IsMainAt s [] (record { host = host; end = None; changed = changed })
-main_first s host changed is none = record {
-  run = record { script = is; count = ap (λ (ls : List (List Move)). length ls) none; each = λ k lt. absurd (omega (arith, lt)) };
-  none = refl;
-  changed = λ k e. absurd cc;
-}
 
 -- the frame in flight was run
 pub has_run : (s : ScriptModel) (ps : ℕ → List Move) (n k : ℕ) (host new : HostModel) (ms : List Move) (e : MainEnd) (changed : Bool) → n ≡ suc k → HasRun s ps k host → ms ≡ ps k → new ≡ with_frame host ms

@@ -3,7 +3,6 @@ use Rattle.std.proofs.Common.{◌≡◌, ℕ, true, false, cond, not, ◌&&◌, 
 use Rattle.std.specs.Prelude.{⊤}
 use Rattle.cc_sched.specs.declared.kind.Kind.{Kind}
 use Rattle.cc_sched.specs.declared.kind.Kind.TheVariants as kind
-use Rattle.cc_sched.specs.Kinds.{may}
 use Rattle.cc_event.specs.declared.event.Event.{Event}
 use Rattle.cc_event.specs.declared.event.Event.TheVariants as event
 use Rattle.cc_event.specs.declared.history.Entry.{Entry}
@@ -11,7 +10,7 @@ use Rattle.cc_event.specs.Scripts.{ScriptModel}
 use Rattle.cc_event.specs.EventFields.{kind_of}
 use Rattle.cc_event.specs.Scans.{has_ended}
 use Rattle.cc_event.specs.Due.{due}
-use Rattle.cc_event.specs.Legal.{sched, can}
+use Rattle.cc_event.specs.Legal.{can}
 use Rattle.cc_event.proofs.DueFacts.{entry}
 use Rattle.cc_event.proofs.DueRows.{due_row}
 use Rattle.cc_log.specs.Runs.{Run, past, with_entry, Entered}
@@ -34,12 +33,8 @@ answered P r new k a (Ok done) answer next old = next answer.event (entered_kind
 answered P r new k a (Err NotNow) answer next old = subst P (sym answer.1) old
 answered P r new k a (Err (Memory e)) answer next old = subst P (sym answer) old
 
--- nothing may come after the end
-pub none_after_end : (s : ScriptModel) (h : List Entry) (k : Kind) (a : ℕ) → has_ended h ≡ true → can s h k a ≡ None
-none_after_end s h k a t = ap (λ b. cond (not b && may (sched h) k) (due s h k a) None) t
-
--- a stop may come before it
-pub stop_now : (s : ScriptModel) (h : List Entry) (a : ℕ) → has_ended h ≡ false → can s h kind.Stop a ≡ Some (event.Stop a)
+-- a stop may come before the end
+stop_now : (s : ScriptModel) (h : List Entry) (a : ℕ) → has_ended h ≡ false → can s h kind.Stop a ≡ Some (event.Stop a)
 stop_now s h a f = ap (λ b. cond (not b && true) (due s h kind.Stop a) None) f
 
 pub stop_entered : (r new : Run) (a : ℕ) → has_ended (past r) ≡ false → new ≡ with_entry r a (event.Stop a) → Entered r kind.Stop a new
