@@ -27,6 +27,17 @@ activate-requires c =
     let activation : OfActivation r.script r.workers h c.args.frame (next_clamps r.script h) = of_activation r.script r.workers h c.args.frame (next_clamps r.script h) c.is_legal.ensures.legal may waits refl in
     record { script = r.script; workers = r.workers; past = h; actor = 0; frame = c.args.frame; clamps = next_clamps r.script h; legal = activation.legal; hosts = c.self.invariant.host }
 
+pub enter-requires-clause-is_now : goal.enter-requires-clause-is_now
+enter-requires-clause-is_now c =
+    let r : Run = c.self.inside.log in
+    let h : List Entry = past r in
+    let k : ℕ = c.args.frame in
+    let ms : List Move = c.in_ok-clamps.clamps in
+    let waits = subst (λ (z : Run). pending (past z) ≡ Some k) (sym c.self.view_is) c.requires.waits in
+    let may = subst (λ (z : Run). is_some (now z kind.Activate 0) ≡ true) (sym c.self.view_is) c.requires.may in
+    let activation : OfActivation r.script r.workers h k ms = of_activation r.script r.workers h k ms c.is_legal.ensures.legal may waits (subst (λ (z : Run). ms ≡ next_clamps z.script (past z)) (sym c.self.view_is) c.in_ok-clamps.ensures.clamps) in
+    activation.may_come
+
 pub invariant_of-self-2 : goal.invariant_of-self-2
 invariant_of-self-2 c =
     let r : Run = c.self.inside.log in
