@@ -255,7 +255,7 @@ start_queue wanted rest staying vs f a b d a' d' n q r s e i t la ld =
 
 -- the evicted are the first of the victims
 
-prefix_passes : {X : Type 0} (p : X → Bool) (xs : List X) → IsPartitionedBy p xs → take (length (filter p xs)) xs ≡ filter p xs
+pub prefix_passes : {X : Type 0} (p : X → Bool) (xs : List X) → IsPartitionedBy p xs → take (length (filter p xs)) xs ≡ filter p xs
 prefix_passes p [] h = refl
 prefix_passes p (x ∷ xs) h = by_test (p x) refl (prefix_passes p xs (λ i j d l u. h (suc i) (suc j) d (omega arith) (omega arith)))
   where

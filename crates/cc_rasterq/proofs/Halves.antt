@@ -1,5 +1,5 @@
 -- Where a search ends: the first element that passes, and by halves the last of those that pass.
-use Rattle.std.proofs.Common.{◌≡◌, ℕ, ◌+◌, ◌<◌, ◌≤◌, zero, suc, nat_lt, Bool, true, false, cond, not, Some, None, List, [], ◌∷◌, length, filter, map, get_or, take, refl, sym, ◌∙◌, ap, subst, arith}
+use Rattle.std.proofs.Common.{◌≡◌, ℕ, ◌+◌, ◌<◌, ◌≤◌, zero, suc, nat_le, nat_lt, Bool, true, false, cond, not, Some, None, List, [], ◌∷◌, length, filter, map, get_or, take, refl, sym, ◌∙◌, ap, subst, arith}
 use Rattle.std.specs.List.{position, position_or_len}
 use Rattle.std.specs.List.Sorted.{IsPermutation, IsPartitionedBy}
 use Rattle.std.proofs.lemmas.Bool.Decides.{nat_tests}
@@ -17,11 +17,11 @@ pub itself : {X : Type 0} (xs : List X) → IsPermutation xs xs
 itself xs = IsPermutation-refl xs
 
 -- no more pass than there are
-no_more : (p : Tile → Bool) (ts : List Tile) → length (filter p ts) ≤ length ts
-no_more p [] = omega arith
-no_more p (t ∷ ts) = by_test (p t) (no_more p ts)
+pub few_pass : {X : Type 0} (p : X → Bool) (xs : List X) → length (filter p xs) ≤ length xs
+few_pass p [] = omega arith
+few_pass p (x ∷ xs) = by_test (p x) (few_pass p xs)
   where
-    by_test : (b : Bool) → length (filter p ts) ≤ length ts → length (cond b (t ∷ filter p ts) (filter p ts)) ≤ suc (length ts)
+    by_test : (t : Bool) → length (filter p xs) ≤ length xs → length (cond t (x ∷ filter p xs) (filter p xs)) ≤ suc (length xs)
     by_test true l = omega arith
     by_test false l = omega arith
 
@@ -29,7 +29,7 @@ pub length_kept : (ready : List Tile) (vs : List Victim) → map tile_of vs ≡ 
 length_kept ready vs e =
     let a : length (map tile_of vs) ≡ length (filter (λ t. not (stays t)) ready) = ap length e in
     let b = length-map vs tile_of in
-    let d = no_more (λ t. not (stays t)) ready in
+    let d = few_pass (λ t. not (stays t)) ready in
     omega arith
 
 -- none of the first elements passes
@@ -116,3 +116,39 @@ halved_is p xs low high s h =
     let o = s.ordered in
     let w = s.within in
     passes_first p xs low ((λ k d l u. s.front k d u), (λ k d l u. s.back k d (omega arith) u)) (omega arith)
+
+-- of elements of which those that pass stand first, one passes where so many pass
+
+none_pass : {X : Type 0} (p : X → Bool) (xs : List X) → ((k : ℕ) (d : X) → k < length xs → p (get_or xs k d) ≡ false) → length (filter p xs) ≡ 0
+none_pass p [] h = refl
+none_pass p (x ∷ xs) h = let e : p x ≡ false = h 0 x (omega arith) in rw e (none_pass p xs (λ k d l. h (suc k) d (omega arith)))
+
+le_more : (a b : ℕ) → nat_le a b ≡ nat_le (suc a) (suc b)
+le_more a b = by_tests (nat_le a b) (nat_le (suc a) (suc b)) refl refl
+  where
+    by_tests : (s t : Bool) → nat_le a b ≡ s → nat_le (suc a) (suc b) ≡ t → s ≡ t
+    by_tests true true p q = refl
+    by_tests true false p q = absurd (grind (arith, nat_tests))
+    by_tests false true p q = absurd (grind (arith, nat_tests))
+    by_tests false false p q = refl
+
+pub last_tells : {X : Type 0} (p : X → Bool) (xs : List X) → IsPartitionedBy p xs → (i : ℕ) (d : X) → i < length xs → p (get_or xs i d) ≡ nat_le (suc i) (length (filter p xs))
+last_tells p [] q i d l = absurd (omega arith)
+last_tells {X} p (x ∷ xs) q i d l = by_test (p x) refl i l (λ j k. last_tells p xs (λ a b e h u t. q (suc a) (suc b) e (omega arith) (omega arith) t) j d k)
+  where
+    later : p x ≡ false → (k : ℕ) (e : X) → k < length xs → (t : Bool) → p (get_or xs k e) ≡ t → p (get_or xs k e) ≡ false
+    later f k e u true y = let z : p x ≡ true = q 0 (suc k) e (omega arith) (omega arith) y in absurd cc
+    later f k e u false y = y
+
+    by_test : (t : Bool) → p x ≡ t → (i : ℕ) → i < length (x ∷ xs) → ((j : ℕ) → j < length xs → p (get_or xs j d) ≡ nat_le (suc j) (length (filter p xs)))
+        → p (get_or (x ∷ xs) i d) ≡ nat_le (suc i) (length (cond t (x ∷ filter p xs) (filter p xs)))
+    by_test true e zero l r = let f : nat_le 1 (suc (length (filter p xs))) ≡ true = grind (arith, nat_tests) in e ∙ sym f
+    by_test true e (suc i) l r = r i (omega arith) ∙ le_more (suc i) (length (filter p xs))
+    by_test false e zero l r =
+        let z : length (filter p xs) ≡ 0 = none_pass p xs (λ k a u. later e k a u (p (get_or xs k a)) refl) in
+        let f : nat_le 1 (length (filter p xs)) ≡ false = grind (arith, nat_tests) in
+        e ∙ sym f
+    by_test false e (suc i) l r =
+        let z : length (filter p xs) ≡ 0 = none_pass p xs (λ k a u. later e k a u (p (get_or xs k a)) refl) in
+        let f : nat_le (suc (suc i)) (length (filter p xs)) ≡ false = grind (arith, nat_tests) in
+        later e i d (omega arith) (p (get_or xs i d)) refl ∙ sym f

@@ -5,14 +5,14 @@ ghost use Rattle.cc_geom.specs.KeyLists.{has_key};
 ghost use Rattle.cc_priority.specs.Ranks.{rank_cmp};
 ghost use Rattle.cc_priority.specs.Ordered.{in_order};
 ghost use Rattle.cc_priority.specs.declared.rank.Rank.{Rank as Ranking};
-ghost use Rattle.cc_priority.specs.Choice.{first as first_rank, NoneStarts, used, worst_first};
+ghost use Rattle.cc_priority.specs.Choice.{first as first_rank, NoneStarts, used};
 ghost use Rattle.cc_priority.specs.Choice as choosing;
 ghost use Rattle.cc_priority.specs.Alike.{Alike, started, finished};
 ghost use Rattle.cc_rasterq.specs.Queues.{rank_key, EachKeyOnce, IsNew, AreEvictedFor, MayStartWith};
 
 use crate::listed::Listed;
 use crate::victim::Victim;
-use crate::victims::{count_for, give_up, keep, no_victims, staying, worst};
+use crate::victims::{count_up_to, give_up, has_for, keep, no_victims, staying, worst};
 use crate::wanted::{best, forget, no_ranks, place_of};
 use crate::{victims, wanted};
 use cc_geom::{Keys, TileKey};
@@ -118,8 +118,9 @@ impl RasterQueue {
         match place_of(&self.wanted, key) {
             None => Ok(Keys::new(self.alloc)),
             Some(at) => {
-                let most = count_for(&self.victims, self.wanted.get(at).bin);
-                worst(self.alloc, &self.victims, self.over_budget().min(most))
+                let rank = self.wanted.get(at);
+                let count = count_up_to(&self.victims, rank.bin, self.over_budget());
+                worst(self.alloc, &self.victims, count)
             }
         }
     }
@@ -156,20 +157,13 @@ impl RasterQueue {
         (used + 1).saturating_sub(self.budget as usize)
     }
 
-    // How many tiles may be given up for one of this bin.
-    fn victims_for(&self, bin: Bin) -> usize
-        ensures { (q : Ranking) → q.bin ≡ bin → result ≡ length (worst_first self.now q) }
-    {
-        count_for(&self.victims, bin)
-    }
-
     // Whether a wanted tile of this bin may start.
     fn may_start(&self, bin: Bin) -> bool
         ensures { (q : Ranking) → q.bin ≡ bin → result ≡ choosing.may_start self.now q }
     {
         match bin {
             Bin::Now => true,
-            Bin::Soon | Bin::Eventually => self.over_budget() <= self.victims_for(bin),
+            Bin::Soon | Bin::Eventually => has_for(&self.victims, bin, self.over_budget()),
         }
     }
 }
