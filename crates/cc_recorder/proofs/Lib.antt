@@ -1,0 +1,6 @@
+pub mod DrawnScenes
+pub mod Gains
+pub mod PlayedWays
+pub mod RecordedRuns
+pub mod Rows
+pub mod Shows

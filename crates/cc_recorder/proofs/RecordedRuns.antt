@@ -1,0 +1,116 @@
+-- The whole run of a script, and its recording.
+use Rattle.std.proofs.Common.{inl, inr, ◌≡◌, ℕ, ◌≤◌, List, [], ◌++◌, refl, ap, sym, ◌∙◌, append-nil, subst, arith}
+use Rattle.std.specs.Prelude.{reverse, Option, Result, Ok, Err, IfOk, ⊤}
+use Rattle.std.proofs.lemmas.List.{reverse-reverse}
+use Rattle.cc_io.specs.Pieces.{GainsPrefix}
+use Rattle.cc_event.specs.declared.history.Entry.{Entry}
+use Rattle.cc_event.specs.declared.input.Input.{Input}
+use Rattle.cc_event.specs.Accepted.{IsAccepted}
+use Rattle.cc_event.specs.Scripts.{ScriptModel}
+use Rattle.cc_event.specs.Lockstep.{WholeRun, IsLockstep}
+use Rattle.cc_event.specs.Recordings.{header, pieces, recorded}
+use Rattle.cc_lockstep.specs.Walks.{CanFollow}
+use Rattle.cc_lockstep.proofs.Parts as parts
+use Rattle.cc_lockstep.proofs.Wholes.{lockstep_there}
+use Rattle.cc_log.specs.Runs.{new_run}
+use Rattle.cc_script.specs.Recordings.{script_text, recording}
+use Rattle.cc_single.specs.Singles.{SingleModel, walk_of}
+use Rattle.cc_recorder.specs.Recordings.{IsLockstepRecording, Records}
+use Rattle.cc_recorder.specs.declared.writing.WriteStop.{WriteStop}
+use Rattle.cc_recorder.specs.declared.writing.WriteStop.TheVariants.{Fault, Memory}
+use Rattle.cc_recorder.specs.Writing.{PutsAll, WriteCause}
+use Rattle.cc_recorder.specs.inner.Parts.{WritesPart}
+use Rattle.cc_recorder.specs.inner.Ways.{IsFresh, IsWritten, PlaysAll, WritesWay, recorded_run, whole_played}
+use Rattle.cc_recorder.proofs.Gains.{gains_nothing, written_after}
+
+-- a compositor before anything was entered
+abbrev fresh : ScriptModel → ℕ → SingleModel
+fresh s n = record { run = new_run s n; written = 0 }
+
+pub fresh_written : (s : ScriptModel) (m : SingleModel) → IsFresh s m → IsWritten m
+fresh_written s m (n, is) = subst (λ (z : SingleModel). IsWritten z) (sym is) refl
+
+-- it can play the whole run
+pub fresh_can : (s : ScriptModel) (m : SingleModel) (inputs : List Input) → IsFresh s m → IsAccepted s → inputs ≡ s.inputs → CanFollow (whole_played inputs) (walk_of m)
+fresh_can s m inputs (n, is) accepted all =
+    subst (λ (z : SingleModel). CanFollow (whole_played inputs) (walk_of z)) (sym is) (parts.can_play (walk_of (fresh s n)) inputs accepted refl all)
+
+-- ---- the recording
+
+whole_of : (s : ScriptModel) (lines : List ℕ) (history : List Entry) → lines ≡ header (script_text s) → lines ++ pieces s [] history ≡ recording s history
+unfolding recording recorded
+whole_of s lines history is = ap (λ (front : List ℕ). front ++ pieces s [] history) is
+
+-- nothing was written yet
+pub records_nothing : (s : ScriptModel) (held : Option (List ℕ)) → IsAccepted s → (whole : List ℕ) × IsLockstepRecording s whole × GainsPrefix held held whole
+records_nothing s held accepted =
+    let l = lockstep_there s accepted in
+    (recording s l.0, (l.0, l.1, refl), gains_nothing held (recording s l.0))
+
+-- what was played is the lockstep history, and what was written behind the header is of its recording
+record IsRecorded {X E : Type 0} (s : ScriptModel) (new : SingleModel) (old after : Option (List ℕ)) (held : List ℕ) (result : Result X E) : Type 0 where
+  history : List Entry
+  lockstep : IsLockstep s history
+  workers : ℕ
+  plays : PlaysAll (new_run s workers) history new result
+  bytes : WritesPart old after (recording s history) held result
+
+module _ {X E : Type 0} (s : ScriptModel) (inputs : List Input) (start new : SingleModel) (old after : Option (List ℕ)) (lines held : List ℕ) (is : IsFresh s start) (all : inputs ≡ s.inputs) (line : lines ≡ header (script_text s)) where
+  run_recorded : (result : Result X E) → WritesWay (whole_played inputs) start new old after lines held result → IsRecorded s new old after held result
+  run_recorded result writes =
+      let w : WritesWay (whole_played inputs) (fresh s is.0) new old after lines held result = subst (λ (z : SingleModel). WritesWay (whole_played inputs) z new old after lines held result) is.1 writes in
+      let way : WholeRun s [] (reverse w.news) =
+      subst (λ (inputs : List Input). whole_played inputs s [] (reverse w.news)) all (subst (λ (h : List Entry). whole_played inputs s [] h) (append-nil (reverse w.news)) w.way) in
+      record {
+        history = w.news;
+        lockstep = way;
+        workers = is.0;
+        plays = w.plays;
+        bytes = subst (λ (z : List ℕ). WritesPart old after z held result) (whole_of s lines w.news line) w.bytes;
+      }
+
+  -- a front of the recording was written
+  pub run_stopped : (stop : E) → WritesWay {X = X} {E = E} (whole_played inputs) start new old after lines held (Err stop) → (whole : List ℕ) × IsLockstepRecording s whole × GainsPrefix old after whole
+  run_stopped stop writes =
+      let r = run_recorded (Err stop) writes in
+      (recording s r.history, (r.history, r.lockstep, refl), r.bytes)
+
+  -- all was written but for what was held back, which was put then, or a front of it
+  pub run_put : {Y F : Type 0} (x : X) (end : Option (List ℕ)) (result : Result Y F) → WritesWay {X = X} {E = E} (whole_played inputs) start new old after lines held (Ok x) → PutsAll after end held result
+      → (whole : List ℕ) × IsLockstepRecording s whole × PutsAll old end whole result
+  run_put x end result writes puts =
+      let r = run_recorded (Ok x) writes in
+      (recording s r.history, (r.history, r.lockstep, refl), written_after result old after end r.bytes.0 held (recording s r.history) r.bytes.2 puts r.bytes.1)
+
+  -- the entries are the lockstep history
+  pub run_lockstep : (x : X) → WritesWay {X = X} {E = E} (whole_played inputs) start new old after lines held (Ok x) → IsLockstep s new.run.entries
+  run_lockstep x writes =
+      let r = run_recorded (Ok x) writes in
+      let entries : new.run.entries ≡ r.history =
+      sym (reverse-reverse new.run.entries) ∙ ap (λ (h : List Entry). reverse h) (r.plays.played ∙ append-nil (reverse r.history)) ∙ reverse-reverse r.history in
+      subst (λ (h : List Entry). IsLockstep s h) (sym entries) r.lockstep
+
+-- a run that was recorded or not says the same with its entries
+pub records_run : {X : Type 0} (s : ScriptModel) (old new : Option (List ℕ)) (x : X) (written : Result ⊤ WriteStop) (result : Result X WriteStop) → result ≡ recorded_run x written → Records s old new written → Records s old new result
+records_run s old new x (Ok tt) result is records = subst (λ (r : Result _ WriteStop). Records s old new r) (sym is) records
+records_run s old new x (Err stop) result is records = subst (λ (r : Result _ WriteStop). Records s old new r) (sym is) records
+
+pub cause_run : {X : Type 0} (f g : ℕ) (x : X) (written : Result ⊤ WriteStop) (result : Result X WriteStop) → result ≡ recorded_run x written → WriteCause f g written → WriteCause f g result
+cause_run f g x (Ok tt) result is cause = subst (λ (r : Result _ WriteStop). WriteCause f g r) (sym is) tt
+cause_run f g x (Err Fault) result is cause = subst (λ (r : Result _ WriteStop). WriteCause f g r) (sym is) cause
+cause_run f g x (Err Memory) result is cause = subst (λ (r : Result _ WriteStop). WriteCause f g r) (sym is) tt
+
+pub lockstep_run : (s : ScriptModel) (entries : List Entry) (written : Result ⊤ WriteStop) (result : Result (List Entry) WriteStop) → result ≡ recorded_run entries written → IfOk written (λ whole. IsLockstep s entries) → IfOk result (IsLockstep s)
+lockstep_run s entries (Ok tt) result is right = subst (λ (r : Result (List Entry) WriteStop). IfOk r (IsLockstep s)) (sym is) right
+lockstep_run s entries (Err stop) result is right = subst (λ (r : Result (List Entry) WriteStop). IfOk r (IsLockstep s)) (sym is) tt
+
+-- what holds however it ends holds where it ends well
+pub where_ok : {X E : Type 0} (P : Type 0) (result : Result X E) → P → IfOk result (λ x. P)
+where_ok P (Ok x) holds = holds
+where_ok P (Err e) holds = tt
+
+-- a stop has its cause where the count of faults rose after it stood at a lower one
+pub cause_later : (stop : WriteStop) (f g h : ℕ) → f ≤ g → WriteCause {X = ⊤} g h (Err stop) → WriteCause {X = ⊤} f h (Err stop)
+cause_later Fault f g h le (inl lt) = inl (omega (arith, le, lt))
+cause_later Fault f g h le (inr last) = inr last
+cause_later Memory f g h le cause = tt

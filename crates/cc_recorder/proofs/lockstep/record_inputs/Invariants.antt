@@ -1,0 +1,21 @@
+-- Whatever is written of the inputs left, with what was written it is of all.
+use Rattle.std.proofs.Common.{ℕ, ◌≤◌, List, length}
+use Rattle.std.specs.Prelude.{Option, Result, ⊤}
+use Rattle.cc_lockstep.specs.Walks.{CanFollow, inputs_from}
+use Rattle.cc_recorder.specs.declared.writing.WriteStop.{WriteStop}
+use Rattle.cc_single.specs.Singles.{SingleModel, walk_of}
+use Rattle.cc_recorder.specs.inner.Ways.{IsWritten, WritesWay}
+use Rattle.cc_recorder.proofs.lockstep.record_inputs.Given as goal
+
+abbrev pub invariant-loop-input : goal.invariant-loop-input
+invariant-loop-input g l = record {
+  can : CanFollow (inputs_from l.rest) (walk_of l.single);
+  written : IsWritten l.single;
+  extends : (new : SingleModel) (after : Option (List ℕ)) (left : List ℕ) (result : Result ⊤ WriteStop)
+      → WritesWay (inputs_from l.rest) l.single new (g.K.Sink.held l.out) after l.recorder.lines.items left result
+      → WritesWay (inputs_from l.inputs) l.fn.single new (g.K.Sink.held l.fn.out) after l.fn.recorder.lines.items left result;
+  grows : g.K.Sink.faults l.fn.out ≤ g.K.Sink.faults l.out;
+}
+
+abbrev pub decreases-loop-input : goal.decreases-loop-input
+decreases-loop-input g l = length l.rest

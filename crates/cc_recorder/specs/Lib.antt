@@ -1,0 +1,3 @@
+pub mod Recordings
+pub mod Writing
+pub mod inner

@@ -1,0 +1,9 @@
+-- What a sink gains while a recording is written piece by piece.
+use Rattle.std.specs.Prelude.{◌≡◌, ℕ, List, ◌++◌, Option, Result, Ok, Err}
+use Rattle.std.specs.Io.KnownBytes.{Appends}
+use Rattle.cc_io.specs.Pieces.{GainsPrefix}
+
+-- the sink gained the whole but for what is still held back, or where writing stopped, a front of it
+abbrev pub WritesPart : {X E : Type 0} → Option (List ℕ) → Option (List ℕ) → List ℕ → List ℕ → Result X E → Type 0
+WritesPart old new whole held (Ok _) = (gained : List ℕ) × (gained ++ held ≡ whole) × Appends old new gained
+WritesPart old new whole held (Err _) = GainsPrefix old new whole

@@ -1,0 +1,47 @@
+-- What was played of a way, and written of what was played.
+use Rattle.std.specs.Prelude.{◌≡◌, ℕ, List, ◌++◌, length, reverse, ⊤, Option, Result, Ok, Err}
+use Rattle.cc_event.specs.declared.history.Entry.{Entry}
+use Rattle.cc_event.specs.Recordings.{pieces}
+use Rattle.cc_event.specs.declared.input.Input.{Input}
+use Rattle.cc_event.specs.Lockstep.{Then}
+use Rattle.cc_lockstep.specs.Walks.{Way, inputs_from, run_end}
+use Rattle.cc_event.specs.Scripts.{ScriptModel}
+use Rattle.cc_log.specs.Runs.{Run, new_run, past}
+use Rattle.cc_single.specs.Singles.{SingleModel}
+use Rattle.cc_recorder.specs.inner.Parts.{WritesPart}
+
+-- what these inputs bring, and the end of the run
+abbrev pub whole_played : List Input → Way
+whole_played is s = Then (inputs_from is s) (run_end s)
+
+-- all entries were written
+abbrev pub IsWritten : SingleModel → Type 0
+IsWritten m = m.written ≡ length m.run.entries
+
+-- a compositor of a script before anything was entered
+abbrev pub IsFresh : ScriptModel → SingleModel → Type 0
+IsFresh s m = (n : ℕ) × (m ≡ record { run = new_run s n; written = 0 })
+
+-- the run, if all of it was written
+abbrev pub recorded_run : {X E : Type 0} → X → Result ⊤ E → Result X E
+recorded_run x (Ok _) = Ok x
+recorded_run x (Err stop) = Err stop
+
+-- the run has these entries more, and all were written
+pub record HasPlayed (old : Run) (news : List Entry) (new : SingleModel) : Type 0 where
+  pub script : new.run.script ≡ old.script
+  pub played : past new.run ≡ reverse news ++ past old
+  pub written : IsWritten new
+
+-- where writing did not stop, these entries were played
+abbrev pub PlaysAll : {X E : Type 0} → Run → List Entry → SingleModel → Result X E → Type 0
+PlaysAll old news new (Ok _) = HasPlayed old news new
+PlaysAll old news new (Err _) = ⊤
+
+-- a way was played and written, but for the lines that are held back; or where writing stopped, a front of it was written
+pub record WritesWay {X E : Type 0} (P : Way) (old new : SingleModel) (before after : Option (List ℕ)) (lines held : List ℕ) (result : Result X E) : Type 0 where
+  -- the entries that the way brings, the oldest first
+  pub news : List Entry
+  pub way : P old.run.script (past old.run) (reverse news ++ past old.run)
+  pub plays : PlaysAll old.run news new result
+  pub bytes : WritesPart before after (lines ++ pieces old.run.script (past old.run) news) held result

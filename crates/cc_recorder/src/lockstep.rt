@@ -1,0 +1,247 @@
+//! Scripts, played in lockstep and recorded.
+
+ghost use Rattle.std.specs.Prelude.{◌≡◌, ◌≤◌, ◌++◌, List, length, reverse, IfOk};
+ghost use Rattle.serde_json.specs.Written.{compact_text};
+ghost use Rattle.cc_event.specs.declared.history.Entry.{Entry};
+ghost use Rattle.cc_event.specs.Lockstep.{IsLockstep};
+ghost use Rattle.cc_event.specs.Recordings.{header, pieces};
+ghost use Rattle.cc_script.specs.ScriptValue.{parts_data};
+ghost use Rattle.cc_lockstep.specs.Walks.{CanFollow, input_played, inputs_from, run_end};
+ghost use Rattle.cc_single.specs.Singles.{walk_of};
+ghost use Rattle.cc_recorder.specs.Recordings.{Records};
+ghost use Rattle.cc_recorder.specs.Writing.{WriteCause};
+ghost use Rattle.cc_recorder.specs.inner.Parts.{WritesPart};
+ghost use Rattle.cc_recorder.specs.inner.Ways.{IsFresh, IsWritten, WritesWay, recorded_run, whole_played};
+
+use crate::recorder::Recorder;
+use crate::writing::WriteStop;
+use cc_event::{History, Input, Script};
+use cc_io::Sink;
+use cc_lockstep::{end_run, play_input};
+use cc_script::print_script;
+use cc_single::SingleThread;
+use std::alloc::{AllocError, Global};
+use std::marker::Model;
+use std::sync::Arc;
+
+/// A run whose recording was written to its end. Contracts see its entries, the oldest first.
+#[derive(Drop)]
+pub struct Recorded {
+    single: SingleThread,
+}
+
+impl Model for Recorded {
+    ghost use Rattle.std.specs.Prelude.{List};
+    ghost use Rattle.cc_event.specs.declared.history.Entry.{Entry};
+
+    ghost Value = { List Entry };
+
+    ghost view = { λ r. r.single.run.entries };
+}
+
+impl Recorded {
+    /// The entries, the oldest first.
+    pub fn history(&self) -> &History
+        ensures { result.now.entries ≡ self.now }
+    {
+        self.single.history()
+    }
+
+    /// Gives the run up. Whoever drops a compositor names in its proof all that it holds; whoever calls this
+    /// does not.
+    pub fn give_up(self) {
+        give_up(self.single);
+    }
+}
+
+// Writes what was entered since the last time.
+fn write_news<K: Sink>(
+    recorder: &mut Recorder,
+    single: &mut SingleThread,
+    out: &mut K,
+) -> Result<(), WriteStop>
+    ensures run { single.new.run ≡ single.old.run }
+    ensures written { IsWritten single.new }
+    ensures bytes { (done news : List Entry) → single.old.run.entries ≡ done ++ news → single.old.written ≡ length done → WritesPart (K.held out.old) (K.held out.new) (recorder.old.lines.items ++ pieces single.old.run.script (reverse done) news) recorder.new.lines.items result }
+    ensures grows { K.faults out.old ≤ K.faults out.new }
+    ensures cause { WriteCause (K.faults out.old) (K.faults out.new) result }
+{
+    single.core().is_legal();
+    let from = single.written();
+    let scenes = single.take_scenes();
+    recorder.write_entries(out, single.history(), from, scenes)
+}
+
+// Plays what an input brings, and writes it.
+fn record_input<K: Sink>(
+    recorder: &mut Recorder,
+    single: &mut SingleThread,
+    input: &Input,
+    out: &mut K,
+) -> Result<(), WriteStop>
+    requires can { CanFollow (input_played input.now) (walk_of single.old) }
+    requires written { IsWritten single.old }
+    ensures bytes { WritesWay (input_played input.now) single.old single.new (K.held out.old) (K.held out.new) recorder.old.lines.items recorder.new.lines.items result }
+    ensures grows { K.faults out.old ≤ K.faults out.new }
+    ensures cause { WriteCause (K.faults out.old) (K.faults out.new) result }
+{
+    match play_input(single, input) {
+        Ok(()) => write_news(recorder, single, out),
+        Err(_) => Err(WriteStop::Memory),
+    }
+}
+
+// Plays what these inputs bring, and writes it input by input.
+fn record_inputs<K: Sink>(
+    recorder: &mut Recorder,
+    single: &mut SingleThread,
+    inputs: &[Input],
+    out: &mut K,
+) -> Result<(), WriteStop>
+    requires can { CanFollow (inputs_from inputs.now) (walk_of single.old) }
+    requires written { IsWritten single.old }
+    ensures bytes { WritesWay (inputs_from inputs.now) single.old single.new (K.held out.old) (K.held out.new) recorder.old.lines.items recorder.new.lines.items result }
+    ensures grows { K.faults out.old ≤ K.faults out.new }
+    ensures cause { WriteCause (K.faults out.old) (K.faults out.new) result }
+{
+    let mut rest = inputs;
+    while let Some((input, after)) = rest.split_first() {
+        if let Err(stop) = record_input(recorder, single, input, out) {
+            return Err(stop);
+        }
+        rest = after;
+    }
+    Ok(())
+}
+
+// Plays what is left after all inputs, and writes it.
+fn record_end<K: Sink>(
+    recorder: &mut Recorder,
+    single: &mut SingleThread,
+    out: &mut K,
+) -> Result<(), WriteStop>
+    requires can { CanFollow run_end (walk_of single.old) }
+    requires written { IsWritten single.old }
+    ensures bytes { WritesWay run_end single.old single.new (K.held out.old) (K.held out.new) recorder.old.lines.items recorder.new.lines.items result }
+    ensures grows { K.faults out.old ≤ K.faults out.new }
+    ensures cause { WriteCause (K.faults out.old) (K.faults out.new) result }
+{
+    match end_run(single) {
+        Ok(()) => write_news(recorder, single, out),
+        Err(_) => Err(WriteStop::Memory),
+    }
+}
+
+// Plays the whole run of these inputs, and writes it.
+fn record_run<K: Sink>(
+    recorder: &mut Recorder,
+    single: &mut SingleThread,
+    inputs: &[Input],
+    out: &mut K,
+) -> Result<(), WriteStop>
+    requires can { CanFollow (whole_played inputs.now) (walk_of single.old) }
+    requires written { IsWritten single.old }
+    ensures bytes { WritesWay (whole_played inputs.now) single.old single.new (K.held out.old) (K.held out.new) recorder.old.lines.items recorder.new.lines.items result }
+    ensures grows { K.faults out.old ≤ K.faults out.new }
+    ensures cause { WriteCause (K.faults out.old) (K.faults out.new) result }
+{
+    if let Err(stop) = record_inputs(recorder, single, inputs, out) {
+        return Err(stop);
+    }
+    record_end(recorder, single, out)
+}
+
+// The compositor of a script with so many workers, before anything was entered, and a recorder that holds the
+// two lines before the events.
+fn prepare(
+    alloc: Global,
+    script: &Arc<Script>,
+    workers: u32,
+) -> Result<(SingleThread, Recorder), AllocError>
+    requires { (1 ≤ workers) × (workers ≤ 16) }
+    ensures fresh { IfOk result (λ p. IsFresh script.now.value p.0) }
+    ensures lines { IfOk result (λ p. p.1.lines.items ≡ header (compact_text (parts_data script.now.value))) }
+{
+    let text = print_script(alloc, script)?;
+    let recorder = Recorder::new(alloc, text.as_slice())?;
+    let single = SingleThread::new(alloc, Arc::try_clone(script)?, workers)?;
+    Ok((single, recorder))
+}
+
+// Plays and writes the whole run of a script, and puts what is left.
+fn record_whole<K: Sink>(
+    recorder: &mut Recorder,
+    single: &mut SingleThread,
+    script: &Script,
+    out: &mut K,
+) -> Result<(), WriteStop>
+    requires fresh { IsFresh script.now single.old }
+    requires lines { recorder.old.lines.items ≡ header (compact_text (parts_data script.now)) }
+    ensures bytes { Records script.now (K.held out.old) (K.held out.new) result }
+    ensures history { IfOk result (λ whole. IsLockstep script.now single.new.run.entries) }
+    ensures grows { K.faults out.old ≤ K.faults out.new }
+    ensures cause { WriteCause (K.faults out.old) (K.faults out.new) result }
+{
+    script.is_accepted();
+    if let Err(stop) = record_run(recorder, single, script.inputs(), out) {
+        return Err(stop);
+    }
+    recorder.finish(out)
+}
+
+// Gives a run up. In a function of its own, since whoever drops a compositor names in its proof all that it holds.
+fn give_up(_single: SingleThread) {}
+
+// The run, if all of it was written.
+fn end_with(single: SingleThread, written: Result<(), WriteStop>) -> Result<Recorded, WriteStop>
+    ensures { result ≡ recorded_run single.run.entries written }
+{
+    match written {
+        Ok(()) => Ok(Recorded { single }),
+        Err(stop) => {
+            give_up(single);
+            Err(stop)
+        }
+    }
+}
+
+// Records the run of a script with a compositor and a recorder that are at its beginning. It has one exit, since
+// it holds the compositor.
+fn record_with<K: Sink>(
+    prepared: (SingleThread, Recorder),
+    script: &Script,
+    out: &mut K,
+) -> Result<Recorded, WriteStop>
+    requires fresh { IsFresh script.now prepared.0 }
+    requires lines { prepared.1.lines.items ≡ header (compact_text (parts_data script.now)) }
+    ensures bytes { Records script.now (K.held out.old) (K.held out.new) result }
+    ensures history { IfOk result (IsLockstep script.now) }
+    ensures grows { K.faults out.old ≤ K.faults out.new }
+    ensures cause { WriteCause (K.faults out.old) (K.faults out.new) result }
+{
+    let (mut single, mut recorder) = prepared;
+    let written = record_whole(&mut recorder, &mut single, script, out);
+    end_with(single, written)
+}
+
+/// Plays an accepted script in lockstep with so many workers, and writes its recording as it is made: the two
+/// header lines, the line of each event, and the image of what it shows behind that of a draw. Where it stops
+/// early, the sink gained a front of it.
+pub fn record_lockstep<K: Sink>(
+    alloc: Global,
+    script: Arc<Script>,
+    workers: u32,
+    out: &mut K,
+) -> Result<Recorded, WriteStop>
+    requires { (1 ≤ workers) × (workers ≤ 16) }
+    ensures bytes { Records script.value (K.held out.old) (K.held out.new) result }
+    ensures history { IfOk result (IsLockstep script.value) }
+    ensures grows { K.faults out.old ≤ K.faults out.new }
+    ensures cause { WriteCause (K.faults out.old) (K.faults out.new) result }
+{
+    script.is_accepted();
+    match prepare(alloc, &script, workers) {
+        Ok(prepared) => record_with(prepared, &script, out),
+        Err(_) => Err(WriteStop::Memory),
+    }
+}
