@@ -1,7 +1,7 @@
 # The compositor core: look, build, check. `make help` lists the targets.
 PLAYER := build/cc_player
 # The example that `make film` and `make view` show.
-FILM := page
+FILM := list
 VIEWER := file://$(CURDIR)/tools/viewer.html
 
 .PHONY: build help demo pictures film view bench check clean kit python
@@ -12,7 +12,7 @@ help:
 	@echo 'make           proves and builds the program: $(PLAYER) (the first time about half an hour)'
 	@echo 'make demo      plays examples/first.json without the proofs, and leaves its picture in build/ (a minute)'
 	@echo 'make pictures  plays every script in examples/ and leaves each picture in build/ as .ppm and .png'
-	@echo 'make film      plays an example (FILM=page) into build/ as an animated PNG, and names the viewer'"'"'s address'
+	@echo 'make film      plays an example (FILM=list) into build/ as an animated PNG, and names the viewer'"'"'s address'
 	@echo 'make view      opens the viewer in a browser'
 	@echo 'make bench     times step 1 on large pages'
 	@echo 'make check     the gate: all proofs, edits, tests and programs, and our own checks'

@@ -1,6 +1,6 @@
 -- What a use takes is not refused.
-use Rattle.std.proofs.Common.{◌≡◌, ℕ, true, false, List, None, Some, Ok, Err, ap, sym, ◌∙◌, arith, subst}
-use Rattle.std.specs.Prelude.{Option, IfSome, Result, IfOk}
+use Rattle.std.proofs.Common.{◌≡◌, ℕ, List, None, Some, Ok, Err, ap, sym, ◌∙◌, arith, subst}
+use Rattle.std.specs.Prelude.{Option, Result, IfOk}
 use Rattle.cc_io.specs.Counts.{Rose}
 use Rattle.serde_json.specs.Data.{Data}
 use Rattle.serde_json.specs.Read.{read}
@@ -12,41 +12,34 @@ use Rattle.cc_script.specs.Causes.{IsTextOf}
 use Rattle.cc_script.specs.Reading.{parts_at}
 use Rattle.cc_script.proofs.ScriptLaws.{one_script}
 use Rattle.cc_check.proofs.OneReading.{not_bad}
-use Rattle.cc_oneframe.specs.Forms.{is_played}
 use Rattle.cc_play.specs.declared.outcome.Outcome.{Outcome}
-use Rattle.cc_play.specs.declared.outcome.ScriptFault.TheVariants.{Edit, NotBuilt}
 use Rattle.cc_play.specs.declared.outcome.Outcome.TheVariants.{Done, Usage, Json, Shape, Script, ReadFault, WriteFault, TooLong, BadRecording, Memory}
 use Rattle.cc_play.specs.declared.words.Use.{Use}
-use Rattle.cc_play.specs.declared.words.Use.TheVariants.{Step, Frames}
-use Rattle.cc_play.specs.Runs.{TellsMisfit, IsPlayedText, Takes, RefusedScript, RefusedRecording, Refused, CauseOf, Causes, IsComplete, IsDone}
+use Rattle.cc_play.specs.declared.words.Use.TheVariants.{Step, Gen, Demo, Frames}
+use Rattle.cc_play.specs.Runs.{TellsMisfit, IsAcceptedText, Takes, RefusedScript, RefusedRecording, Refused, CauseOf, CauseFrom, IsUnread, Causes, IsComplete, IsDone}
 
 -- a text of a script has no first fault
-not_at_fault : (bytes : List ℕ) → IsPlayedText bytes → (d : Data) → IsTextOf bytes d → (place : _) → parts_at d ≡ Err place → ⊥
+not_at_fault : (bytes : List ℕ) → IsAcceptedText bytes → (d : Data) → IsTextOf bytes d → (place : _) → parts_at d ≡ Err place → ⊥
 not_at_fault bytes good d text place fault =
     let same : d ≡ good.1.0 = cc (text.1, good.1.1.1) in
     let reading : parts_at d ≡ Ok good.0 = ap parts_at same ∙ good.1.2 in
     cc (reading, fault)
 
--- a script that is played is not refused
-script_taken : (bytes : List ℕ) (result : Outcome) → Takes Step bytes → RefusedScript bytes result → ⊥
-script_taken bytes Json (few, good) (short, none) = let nothing : read bytes ≡ None = none good.1.1.0 in absurd (cc (nothing, good.1.1.1))
-script_taken bytes (Shape place) (few, good) (short, d, text, fault) = not_at_fault bytes good d text place fault
-script_taken bytes (Script frame command (Edit fault)) (few, good) (short, s, text, refused) =
+-- a script that is accepted is not refused
+script_taken : (workers : ℕ) (bytes : List ℕ) (result : Outcome) → Takes (Step workers) bytes → RefusedScript bytes result → ⊥
+script_taken workers bytes Json (few, good) (short, none) = let nothing : read bytes ≡ None = none good.1.1.0 in absurd (cc (nothing, good.1.1.1))
+script_taken workers bytes (Shape place) (few, good) (short, d, text, fault) = not_at_fault bytes good d text place fault
+script_taken workers bytes (Script frame command fault) (few, good) (short, s, text, refused) =
     let same : s ≡ good.0 = one_script bytes s good.0 text good.1 in
-    let taken : TakesFrames (blank s) s.main = subst (λ (t : ScriptModel). TakesFrames (blank t) t.main) (sym same) good.2.accepted.commands in
+    let taken : TakesFrames (blank s) s.main = subst (λ (t : ScriptModel). TakesFrames (blank t) t.main) (sym same) good.2.commands in
     frames_taken (blank s) s.main frame command fault taken refused
-script_taken bytes (Script frame command NotBuilt) (few, good) (short, first, begins, s, text, accepted, other) =
-    let same : s ≡ good.0 = one_script bytes s good.0 text good.1 in
-    let not : is_played good.0 ≡ false = ap is_played (sym same) ∙ other in
-    let is : is_played good.0 ≡ true = good.2.played in
-    absurd (cc (not, is))
-script_taken bytes (TooLong limit) (few, good) (is, long) = omega (arith, few, long)
-script_taken bytes Done takes refused = refused
-script_taken bytes (Usage word) takes refused = refused
-script_taken bytes ReadFault takes refused = refused
-script_taken bytes WriteFault takes refused = refused
-script_taken bytes (BadRecording place) takes refused = refused
-script_taken bytes Memory takes refused = refused
+script_taken workers bytes (TooLong limit) (few, good) (is, long) = omega (arith, few, long)
+script_taken workers bytes Done takes refused = refused
+script_taken workers bytes (Usage word) takes refused = refused
+script_taken workers bytes ReadFault takes refused = refused
+script_taken workers bytes WriteFault takes refused = refused
+script_taken workers bytes (BadRecording place) takes refused = refused
+script_taken workers bytes Memory takes refused = refused
 
 -- nor is a recording
 recording_taken : (bytes : List ℕ) (result : Outcome) → Takes Frames bytes → RefusedRecording bytes result → ⊥
@@ -63,7 +56,9 @@ recording_taken bytes Memory takes refused = refused
 
 -- nor is what a use takes
 not_refused : (wanted : Use) (bytes : List ℕ) (result : Outcome) → Takes wanted bytes → Refused wanted bytes result → ⊥
-not_refused Step bytes result takes refused = script_taken bytes result takes refused
+not_refused (Step workers) bytes result takes refused = script_taken workers bytes result takes refused
+not_refused (Gen number) bytes result takes refused = refused
+not_refused (Demo number) bytes result takes refused = refused
 not_refused Frames bytes result takes refused = recording_taken bytes result takes refused
 
 done : (wanted : Use) (bytes : List ℕ) (source_old source_new out_old out_new : ℕ) (result : Outcome) → TellsMisfit (Ok wanted) result → CauseOf wanted bytes result → Causes source_old source_new out_old out_new result
@@ -79,8 +74,29 @@ done wanted bytes a b c e (TooLong limit) fits cause faults takes calm_source ca
 done wanted bytes a b c e (BadRecording place) fits cause faults takes calm_source calm_out = absurd (not_refused wanted bytes (BadRecording place) takes cause)
 done wanted bytes a b c e Memory fits cause faults takes calm_source calm_out = tt
 
-pub complete : (asked : Result Use ℕ) (source : Option (List ℕ)) (source_old source_new out_old out_new : ℕ) (result : Outcome) → TellsMisfit asked result → IfOk asked (λ wanted. IfSome source (λ bytes. CauseOf wanted bytes result)) → Causes source_old source_new out_old out_new result
+-- a use that reads nothing is done but for a fault of the sink
+unread_done : (source_old source_new out_old out_new : ℕ) (result : Outcome) → IsUnread result → Causes source_old source_new out_old out_new result → (Rose out_old out_new → ⊥) → IsDone result
+unread_done a b c e Done unread faults calm = tt
+unread_done a b c e Memory unread faults calm = tt
+unread_done a b c e WriteFault unread faults calm = absurd (calm faults)
+unread_done a b c e (Usage word) unread faults calm = absurd unread
+unread_done a b c e Json unread faults calm = absurd unread
+unread_done a b c e (Shape fault) unread faults calm = absurd unread
+unread_done a b c e (Script frame command why) unread faults calm = absurd unread
+unread_done a b c e ReadFault unread faults calm = absurd unread
+unread_done a b c e (TooLong limit) unread faults calm = absurd unread
+unread_done a b c e (BadRecording place) unread faults calm = absurd unread
+
+complete_use : (wanted : Use) (source : Option (List ℕ)) (source_old source_new out_old out_new : ℕ) (result : Outcome) → TellsMisfit (Ok wanted) result → CauseFrom wanted source result → Causes source_old source_new out_old out_new result
+    → IsComplete wanted source source_old source_new out_old out_new result
+complete_use (Gen number) source a b c e result fits cause faults = λ calm_source calm_out. unread_done a b c e result cause faults calm_out
+complete_use (Demo number) source a b c e result fits cause faults = λ calm_source calm_out. unread_done a b c e result cause faults calm_out
+complete_use (Step workers) None a b c e result fits cause faults = tt
+complete_use (Step workers) (Some bytes) a b c e result fits cause faults = λ takes calm_source calm_out. done (Step workers) bytes a b c e result fits cause faults takes calm_source calm_out
+complete_use Frames None a b c e result fits cause faults = tt
+complete_use Frames (Some bytes) a b c e result fits cause faults = λ takes calm_source calm_out. done Frames bytes a b c e result fits cause faults takes calm_source calm_out
+
+pub complete : (asked : Result Use ℕ) (source : Option (List ℕ)) (source_old source_new out_old out_new : ℕ) (result : Outcome) → TellsMisfit asked result → IfOk asked (λ wanted. CauseFrom wanted source result) → Causes source_old source_new out_old out_new result
     → IfOk asked (λ wanted. IsComplete wanted source source_old source_new out_old out_new result)
 complete (Err word) source a b c e result fits cause faults = tt
-complete (Ok wanted) None a b c e result fits cause faults = tt
-complete (Ok wanted) (Some bytes) a b c e result fits cause faults = λ takes calm_source calm_out. done wanted bytes a b c e result fits cause faults takes calm_source calm_out
+complete (Ok wanted) source a b c e result fits cause faults = complete_use wanted source a b c e result fits cause faults

@@ -6,7 +6,7 @@ use Rattle.cc_play.specs.declared.outcome.Outcome.{Outcome}
 use Rattle.cc_play.specs.declared.outcome.Outcome.TheVariants.{Done, Usage, Json, Shape, Script, ReadFault, WriteFault, TooLong, BadRecording, Memory}
 use Rattle.cc_play.specs.declared.words.Use.TheVariants.{Frames}
 use Rattle.cc_play.specs.inner.Recordings.{HasImages, WritesImages, images_of}
-use Rattle.cc_play.specs.Runs.{TellsMisfit, Takes, CauseOf, IsOutput, Writes}
+use Rattle.cc_play.specs.Runs.{TellsMisfit, Takes, CauseOf, CauseFrom, IsOutput, Writes}
 
 output_of : (i : Images) (source : Option (List ℕ)) → HasImages i → IfSome source (λ bytes. bytes ≡ i.bytes.items) → IsOutput Frames source (images_of i)
 output_of i source has had = (i.bytes.items, had, has.recording.0, has.recording.1, has.recording.2, has.recording.3)
@@ -40,7 +40,7 @@ cause_in i bytes old new (TooLong limit) has had wrote = absurd wrote
 cause_in i bytes old new (BadRecording place) has had wrote = absurd wrote
 
 -- the source had what the use takes
-pub images_cause : (i : Images) (source old new : Option (List ℕ)) (o : Outcome) → HasImages i → IfSome source (λ bytes. bytes ≡ i.bytes.items) → WritesImages old new (images_of i) o → IfSome source (λ bytes. CauseOf Frames bytes o)
+pub images_cause : (i : Images) (source old new : Option (List ℕ)) (o : Outcome) → HasImages i → IfSome source (λ bytes. bytes ≡ i.bytes.items) → WritesImages old new (images_of i) o → CauseFrom Frames source o
 images_cause i None old new o has had wrote = tt
 images_cause i (Some bytes) old new o has had wrote = cause_in i bytes old new o has had wrote
 

@@ -1,6 +1,6 @@
 pub mod Words
-pub mod Pieces
 pub mod Outcomes
-pub mod Pictures
+pub mod Promises
+pub mod Demos
 pub mod Runs
 pub mod inner

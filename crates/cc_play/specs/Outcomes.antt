@@ -6,8 +6,6 @@ use Rattle.cc_io.specs.Counts.{Rose}
 use Rattle.cc_io.specs.Pieces.{GainsPrefix}
 use Rattle.cc_edit.specs.declared.fault.EditFault.{EditFault}
 use Rattle.cc_edit.specs.declared.fault.EditFault.TheVariants as fault
-use Rattle.cc_play.specs.declared.outcome.ScriptFault.{ScriptFault}
-use Rattle.cc_play.specs.declared.outcome.ScriptFault.TheVariants.{Edit, NotBuilt}
 use Rattle.cc_play.specs.declared.outcome.Outcome.{Outcome}
 use Rattle.cc_script.specs.declared.fault.ShapeFault.{ShapeFault}
 use Rattle.cc_play.specs.declared.outcome.Outcome.TheVariants.{Done, Usage, Json, Shape, Script, ReadFault, WriteFault, TooLong, BadRecording, Memory}
@@ -38,18 +36,13 @@ fault_text (fault.TooMany limit) = codes "too many, limit " ∷ decimal limit �
 fault_text (fault.OutOfRange value limit) = signed_decimal value ∷ codes " out of range, limit " ∷ signed_decimal limit ∷ []
 fault_text fault.NotNested = codes "not nested" ∷ []
 
--- why a script is not played
-abbrev pub why_text : ScriptFault → List (List ℕ)
-why_text (Edit f) = fault_text f
-why_text NotBuilt = codes "not built" ∷ []
-
 -- the place of a refused command
 abbrev pub place_text : ℕ → ℕ → List (List ℕ)
 place_text frame command = codes "cc: script: frame " ∷ decimal frame ∷ codes " command " ∷ decimal command ∷ codes ": " ∷ []
 
 -- the line of a refused script
-abbrev pub refused_text : ℕ → ℕ → ScriptFault → List (List ℕ)
-refused_text frame command why = place_text frame command ++ why_text why ++ codes "\n" ∷ []
+abbrev pub refused_text : ℕ → ℕ → EditFault → List (List ℕ)
+refused_text frame command why = place_text frame command ++ fault_text why ++ codes "\n" ∷ []
 
 -- the line of a value that is no script
 abbrev pub shape_text : ShapeFault → List (List ℕ)

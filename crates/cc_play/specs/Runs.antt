@@ -1,5 +1,5 @@
 -- What a run of the program does with its words, its input and its output.
-use Rattle.std.specs.Prelude.{◌≡◌, ℕ, ◌<◌, ◌≤◌, ◌+◌, ◌⊎◌, true, false, List, length, ⊤, Option, None, IfSome, Result, Ok, Err}
+use Rattle.std.specs.Prelude.{◌≡◌, ℕ, ◌<◌, ◌≤◌, ◌+◌, ◌⊎◌, List, ◌++◌, length, codes, ⊤, Option, None, IfSome, Result, Ok, Err}
 use Rattle.std.specs.Str.{IsUtf8}
 use Rattle.std.specs.Io.KnownBytes.{Consumes, Appends, IsAtEnd}
 use Rattle.serde_json.specs.Data.{Data}
@@ -14,13 +14,16 @@ use Rattle.cc_script.specs.Causes.{IsTextOf, IsScriptText}
 use Rattle.cc_script.specs.Reading.{parts_at}
 use Rattle.cc_parts.specs.Pieces.{Piece, images_text}
 use Rattle.cc_check.specs.Recordings.{IsRecording, IsBadAt}
-use Rattle.cc_oneframe.specs.Forms.{is_played}
-use Rattle.cc_play.specs.declared.outcome.ScriptFault.TheVariants.{Edit, NotBuilt}
+use Rattle.cc_event.specs.declared.history.Entry.{Entry}
+use Rattle.cc_event.specs.Lockstep.{IsLockstep}
+use Rattle.cc_script.specs.Recordings.{recording, script_text}
+use Rattle.cc_gen.specs.Generated.{script_of_number}
 use Rattle.cc_play.specs.declared.outcome.Outcome.{Outcome}
 use Rattle.cc_play.specs.declared.outcome.Outcome.TheVariants.{Done, Usage, Json, Shape, Script, ReadFault, WriteFault, TooLong, BadRecording, Memory}
 use Rattle.cc_play.specs.declared.words.Use.{Use}
-use Rattle.cc_play.specs.declared.words.Use.TheVariants.{Step, Frames}
-use Rattle.cc_play.specs.Pictures.{IsRecordingOf}
+use Rattle.cc_play.specs.declared.words.Use.TheVariants.{Step, Gen, Demo, Frames}
+use Rattle.cc_play.specs.Promises.{IsPromised}
+use Rattle.cc_play.specs.Demos.{demo_line}
 
 -- the greatest number of bytes of a script
 abbrev pub script_limit : ℕ
@@ -36,33 +39,28 @@ TellsMisfit (Err word) result = result ≡ Usage word
 TellsMisfit (Ok wanted) (Usage word) = ⊥
 TellsMisfit (Ok wanted) _ = ⊤
 
--- a script that is accepted and of the form that is played
-pub record IsPlayedScript (s : ScriptModel) : Type 0 where
-  pub accepted : IsAccepted s
-  pub played : is_played s ≡ true
-
--- the bytes are the text of such a script
-abbrev pub IsPlayedText : List ℕ → Type 0
-IsPlayedText bytes = (s : ScriptModel) × IsScriptText bytes s × IsPlayedScript s
+-- the bytes are the text of a script that is accepted
+abbrev pub IsAcceptedText : List ℕ → Type 0
+IsAcceptedText bytes = (s : ScriptModel) × IsScriptText bytes s × IsAccepted s
 
 -- the bytes are a recording
 abbrev pub IsRecordingText : List ℕ → Type 0
 IsRecordingText bytes = (s : ScriptModel) × (ps : List Piece) × IsRecording bytes s ps
 
--- what a use takes: the text of a script that is played; a recording
+-- what a use takes: the text of an accepted script; a recording; and where it reads nothing, any bytes
 abbrev pub Takes : Use → List ℕ → Type 0
-Takes Step bytes = (length bytes ≤ script_limit) × IsPlayedText bytes
+Takes (Step workers) bytes = (length bytes ≤ script_limit) × IsAcceptedText bytes
+Takes (Gen number) bytes = ⊤
+Takes (Demo number) bytes = ⊤
 Takes Frames bytes = (length bytes ≤ recording_limit) × IsRecordingText bytes
 
--- why bytes are refused as a script: a value that is no script is told by its first fault; a script of which a command is refused by the first such command; and only a script that is accepted can be of a form that is not played
+-- why bytes are refused as a script: a value that is no script is told by its first fault; a script of which a command is refused by the first such command
 abbrev pub RefusedScript : List ℕ → Outcome → Type 0
 RefusedScript bytes Json = (length bytes ≤ script_limit) × (IsUtf8 bytes → read bytes ≡ None)
 RefusedScript bytes (Shape fault) =
     (length bytes ≤ script_limit) × (d : Data) × IsTextOf bytes d × (parts_at d ≡ Err fault)
-RefusedScript bytes (Script frame command (Edit fault)) =
+RefusedScript bytes (Script frame command fault) =
     (length bytes ≤ script_limit) × (s : ScriptModel) × IsScriptText bytes s × RefusedAt (blank s) s.main frame command fault
-RefusedScript bytes (Script frame command NotBuilt) =
-    (length bytes ≤ script_limit) × (frame ≡ 0) × (command ≡ 0) × (s : ScriptModel) × IsScriptText bytes s × IsAccepted s × (is_played s ≡ false)
 RefusedScript bytes (TooLong limit) = (limit ≡ script_limit) × (script_limit < length bytes)
 RefusedScript bytes _ = ⊥
 
@@ -74,7 +72,9 @@ RefusedRecording bytes _ = ⊥
 
 -- why a use refuses bytes
 abbrev pub Refused : Use → List ℕ → Outcome → Type 0
-Refused Step bytes result = RefusedScript bytes result
+Refused (Step workers) bytes result = RefusedScript bytes result
+Refused (Gen number) bytes result = ⊥
+Refused (Demo number) bytes result = ⊥
 Refused Frames bytes result = RefusedRecording bytes result
 
 -- why this is the answer of a use where the source has these bytes
@@ -86,13 +86,28 @@ CauseOf wanted bytes ReadFault = ⊤
 CauseOf wanted bytes Memory = ⊤
 CauseOf wanted bytes result = Refused wanted bytes result
 
+-- the answers of a use that reads nothing
+abbrev pub IsUnread : Outcome → Type 0
+IsUnread Done = ⊤
+IsUnread WriteFault = ⊤
+IsUnread Memory = ⊤
+IsUnread _ = ⊥
+
+-- why this is the answer of a use: for a use that reads, where the source tells its bytes
+abbrev pub CauseFrom : Use → Option (List ℕ) → Outcome → Type 0
+CauseFrom (Gen number) source result = IsUnread result
+CauseFrom (Demo number) source result = IsUnread result
+CauseFrom wanted source result = IfSome source (λ bytes. CauseOf wanted bytes result)
+
 -- at most so many bytes were taken of a source
 abbrev pub TakenAtMost : ℕ → Option (List ℕ) → Option (List ℕ) → Type 0
 TakenAtMost most old new = (bytes : List ℕ) × Consumes old new bytes × (length bytes ≤ most)
 
--- how much a use reads: one byte beyond the limit at most
+-- how much a use reads: one byte beyond the limit at most; or nothing
 abbrev pub Reads : Use → Option (List ℕ) → Option (List ℕ) → Type 0
-Reads Step old new = TakenAtMost (script_limit + 1) old new
+Reads (Step workers) old new = TakenAtMost (script_limit + 1) old new
+Reads (Gen number) old new = new ≡ old
+Reads (Demo number) old new = new ≡ old
 Reads Frames old new = TakenAtMost (recording_limit + 1) old new
 
 -- bytes are judged only where the source was read to its end
@@ -105,21 +120,33 @@ IsJudgedWhole left _ = IsAtEnd left
 
 -- where a use reads its source to the end
 abbrev pub ReadToEnd : Use → Option (List ℕ) → Outcome → Type 0
-ReadToEnd Step left result = IsJudgedWhole left result
+ReadToEnd (Step workers) left result = IsJudgedWhole left result
+ReadToEnd (Gen number) left result = ⊤
+ReadToEnd (Demo number) left result = ⊤
 ReadToEnd Frames left result = IsJudgedWhole left result
 
--- a script that is played, and that the source had, where it tells its bytes
-abbrev pub IsPlayedFrom : Option (List ℕ) → ScriptModel → Type 0
-IsPlayedFrom source s = IsPlayedScript s × IfSome source (λ bytes. IsScriptText bytes s)
+-- a script that is accepted, and that the source had, where it tells its bytes
+abbrev pub IsScriptFrom : Option (List ℕ) → ScriptModel → Type 0
+IsScriptFrom source s = IsAccepted s × IfSome source (λ bytes. IsScriptText bytes s)
+
+-- the recording of a script and of its history, as it is promised for so many raster workers
+abbrev pub IsRunOf : ℕ → ScriptModel → List ℕ → Type 0
+IsRunOf workers s whole = (history : List Entry) × IsPromised s workers history × (whole ≡ recording s history)
+
+-- the line that sums up the recording of a script in lockstep
+abbrev pub IsDemoOf : ScriptModel → List ℕ → Type 0
+IsDemoOf s whole = (history : List Entry) × IsLockstep s history × (whole ≡ demo_line s history)
 
 -- the images of a recording, in order, and the source had that recording, where it tells its bytes
 abbrev pub AreImagesFrom : Option (List ℕ) → List ℕ → Type 0
 AreImagesFrom source whole =
     (bytes : List ℕ) × IfSome source (λ had. had ≡ bytes) × (s : ScriptModel) × (ps : List Piece) × IsRecording bytes s ps × (whole ≡ images_text ps)
 
--- what a use writes in all: the recording of the script; the images of the recording
+-- what a use writes in all: the recording of the script; the canonical text of a number's script, and a newline; the line that sums up its recording; the images of the recording
 abbrev pub IsOutput : Use → Option (List ℕ) → List ℕ → Type 0
-IsOutput Step source whole = (s : ScriptModel) × IsPlayedFrom source s × IsRecordingOf s whole
+IsOutput (Step workers) source whole = (s : ScriptModel) × IsScriptFrom source s × IsRunOf workers s whole
+IsOutput (Gen number) source whole = whole ≡ script_text (script_of_number number) ++ codes "\n"
+IsOutput (Demo number) source whole = IsDemoOf (script_of_number number) whole
 IsOutput Frames source whole = AreImagesFrom source whole
 
 -- what the sink gained: all that the use writes; a front of it; or nothing
@@ -141,7 +168,14 @@ IsDone Done = ⊤
 IsDone Memory = ⊤
 IsDone _ = ⊥
 
--- where the bytes are what the use takes, and neither count of faults rose, all is done or there was no memory
+-- where neither count of faults rose, all is done or there was no memory
+abbrev pub IsDoneIfCalm : ℕ → ℕ → ℕ → ℕ → Outcome → Type 0
+IsDoneIfCalm source_old source_new out_old out_new result =
+    (Rose source_old source_new → ⊥) → (Rose out_old out_new → ⊥) → IsDone result
+
+-- so it is where a use has what it takes
 abbrev pub IsComplete : Use → Option (List ℕ) → ℕ → ℕ → ℕ → ℕ → Outcome → Type 0
+IsComplete (Gen number) source source_old source_new out_old out_new result = IsDoneIfCalm source_old source_new out_old out_new result
+IsComplete (Demo number) source source_old source_new out_old out_new result = IsDoneIfCalm source_old source_new out_old out_new result
 IsComplete wanted source source_old source_new out_old out_new result =
-    IfSome source (λ bytes. Takes wanted bytes → (Rose source_old source_new → ⊥) → (Rose out_old out_new → ⊥) → IsDone result)
+    IfSome source (λ bytes. Takes wanted bytes → IsDoneIfCalm source_old source_new out_old out_new result)

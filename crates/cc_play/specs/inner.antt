@@ -1,5 +1,7 @@
 pub mod Fragments
 pub mod Inputs
-pub mod Pages
+pub mod Outputs
 pub mod Recordings
-pub mod Writing
+pub mod Scripts
+pub mod Summaries
+pub mod Uses

@@ -2,7 +2,8 @@
 
 ghost use Rattle.std.specs.Prelude.{◌≡◌, ℕ, ◌≤◌, List, flat_map};
 ghost use Rattle.cc_io.specs.Pieces.{PutCause};
-ghost use Rattle.cc_play.specs.inner.Fragments.{fragment_text, PutsAll};
+ghost use Rattle.cc_recorder.specs.Writing.{PutsAll};
+ghost use Rattle.cc_play.specs.inner.Fragments.{fragment_text};
 
 use cc_io::{PutFault, Sink};
 use itoa::Buffer;

@@ -1,20 +1,19 @@
 //! The images of a recording, written one behind the other.
 
 ghost use Rattle.std.specs.Prelude.{◌≡◌, ℕ, ◌≤◌, List, length, flat_map, Ok, IfSome};
+ghost use Rattle.cc_recorder.specs.Writing.{PutsAll, WriteCause};
 ghost use Rattle.cc_parts.specs.Spans.{AreWithin, IsWithinBytes, span_bytes};
-ghost use Rattle.cc_play.specs.Runs.{TellsMisfit, CauseOf, Reads, ReadToEnd, Writes, Causes};
-ghost use Rattle.cc_play.specs.inner.Fragments.{PutsAll};
-ghost use Rattle.cc_play.specs.inner.Pages.{RefusedBy};
+ghost use Rattle.cc_play.specs.Runs.{TellsMisfit, CauseFrom, Reads, ReadToEnd, Writes, Causes};
+ghost use Rattle.cc_play.specs.inner.Scripts.{RefusedBy};
 ghost use Rattle.cc_play.specs.inner.Recordings.{RecordingFrom, WritesImages, images_of};
-ghost use Rattle.cc_play.specs.inner.Writing.{WriteCause};
 
 use crate::input::{ReadStop, read_all};
 use crate::outcome::Outcome;
-use crate::recorder::{WriteStop, put_all};
 use crate::words::Use;
 use cc_check::{RecordingFault, read_images};
 use cc_io::{Sink, Source};
 use cc_parts::ImageSpan;
+use cc_recorder::{WriteStop, put_all};
 use std::alloc::Global;
 
 // The greatest number of bytes of a recording.
@@ -102,7 +101,7 @@ fn write_images<K: Sink>(out: &mut K, images: &Images) -> Outcome
 #[tactic(auto, using(crate::proofs::ImagesWritten::images_output, crate::proofs::ImagesWritten::images_cause, crate::proofs::ImagesWritten::images_words))]
 pub fn run_frames<S: Source, K: Sink>(alloc: Global, source: &mut S, out: &mut K) -> Outcome
     ensures words { TellsMisfit (Ok Use.Frames) result }
-    ensures input { IfSome (S.left source.old) (λ bytes. CauseOf Use.Frames bytes result) }
+    ensures input { CauseFrom Use.Frames (S.left source.old) result }
     ensures reads { Reads Use.Frames (S.left source.old) (S.left source.new) }
     ensures end { ReadToEnd Use.Frames (S.left source.new) result }
     ensures output { Writes Use.Frames (S.left source.old) (K.held out.old) (K.held out.new) result }

@@ -1,22 +1,22 @@
-//! What the program does with its words: `step 1` plays a script of one main frame into its recording,
-//! `frames` takes the images out of a recording.
+//! What the program does with its words: `step N` plays a script into its recording, `frames` takes the
+//! images out of a recording, `gen NUMBER` makes a script, and `demo NUMBER` plays one and sums it up.
 //!
 //! The modules in the order in which a run meets them: the words, the input, the program that joins all;
-//! of `step` the page's form, its history, the picture and the recorder, of `frames` the images; and the
-//! notes that tell the outcome.
+//! a module for each use; and the notes that tell the outcome.
 #![tactic(auto)]
 
-mod form;
+mod demo;
 mod fragments;
-mod history;
+mod generated;
 mod images;
 mod input;
 mod notes;
 mod outcome;
-mod picture;
 mod program;
-mod recorder;
+mod script_input;
+mod step;
+mod tally;
 mod words;
 
-pub use outcome::{Outcome, ScriptFault};
+pub use outcome::Outcome;
 pub use program::run;

@@ -2,11 +2,12 @@
 
 ghost use Rattle.std.specs.Prelude.{◌≡◌, ◌≤◌, ◌∷◌, [], flat_map};
 ghost use Rattle.cc_io.specs.Pieces.{PutCause};
-ghost use Rattle.cc_play.specs.inner.Fragments.{fragment_text, PutsAll};
-ghost use Rattle.cc_play.specs.Outcomes.{joined, fault_text, why_text, refused_text, shape_text, line_of, Told};
+ghost use Rattle.cc_recorder.specs.Writing.{PutsAll};
+ghost use Rattle.cc_play.specs.inner.Fragments.{fragment_text};
+ghost use Rattle.cc_play.specs.Outcomes.{joined, fault_text, refused_text, shape_text, line_of, Told};
 
 use crate::fragments::{Fragment, put_fragments};
-use crate::outcome::{Outcome, ScriptFault};
+use crate::outcome::Outcome;
 use cc_edit::EditFault;
 use cc_io::{PutFault, Sink};
 use cc_script::ShapeFault;
@@ -48,21 +49,11 @@ fn fault_fragments(fault: EditFault) -> [Fragment; 3]
     }
 }
 
-// Why a script is not played.
-fn why_fragments(why: ScriptFault) -> [Fragment; 3]
-    ensures { flat_map fragment_text result ≡ joined (why_text why) }
-{
-    match why {
-        ScriptFault::Edit(fault) => fault_fragments(fault),
-        ScriptFault::NotBuilt => [Fragment::Text(b"not built"), NOTHING, NOTHING],
-    }
-}
-
 // The line of a refused script.
-fn refused_line(frame: u32, command: u32, why: ScriptFault) -> [Fragment; 9]
+fn refused_line(frame: u32, command: u32, why: EditFault) -> [Fragment; 9]
     ensures { flat_map fragment_text result ≡ joined (refused_text frame command why) }
 {
-    let [first, second, third] = why_fragments(why);
+    let [first, second, third] = fault_fragments(why);
     [
         Fragment::Text(b"cc: script: frame "),
         Fragment::Count(u64::from(frame)),

@@ -6,15 +6,6 @@ ghost use Rattle.cc_play.specs.Outcomes.{status_of};
 use cc_edit::EditFault;
 use cc_script::ShapeFault;
 
-/// Why a script is not played.
-#[derive(Clone, Copy, Debug, Drop, PartialEq)]
-pub enum ScriptFault {
-    /// A command is refused.
-    Edit(EditFault),
-    /// The script is of a form that the program does not play.
-    NotBuilt,
-}
-
 /// How a run of the program ended. Each answer but `Done` has a line for the notes and a status of
 /// its own.
 #[derive(Clone, Copy, Debug, Drop, PartialEq)]
@@ -31,14 +22,14 @@ pub enum Outcome {
     Json,
     /// The JSON value is no script: the place of its first fault.
     Shape(ShapeFault),
-    /// The script was refused at a command.
+    /// A command of the script is refused: the first one.
     Script {
         /// The main frame, from 0.
         frame: u32,
         /// The command's place in that frame, from 0.
         command: u32,
         /// Why.
-        fault: ScriptFault,
+        fault: EditFault,
     },
     /// The source failed.
     ReadFault,

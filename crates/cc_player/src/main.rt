@@ -1,5 +1,5 @@
-//! The program: a script on standard input, its recording on standard output; or a recording, and its
-//! pictures.
+//! The program: a script on standard input, its recording on standard output; a recording, and its
+//! pictures; or a script that is made of a number.
 #![tactic(auto)]
 
 use cc_io::{Sink, StdSink, StdSource};
@@ -12,22 +12,28 @@ use std::process::ExitCode;
 const HELP: &str = "\
 cc_player: plays scripts of page changes and inputs
 
-usage: cc_player step 1 < SCRIPT > RECORDING
+usage: cc_player step N < SCRIPT > RECORDING
        cc_player frames < RECORDING > PICTURES
+       cc_player gen NUMBER > SCRIPT
+       cc_player demo NUMBER
 
-  step 1      reads a script (JSON) from standard input and writes its recording to standard
-              output: every event, and after each draw the picture as a raw portable pixmap (P6)
-  frames      reads a recording from standard input and writes its pictures to standard output, one
-              behind the other, each a raw portable pixmap (P6)
-  --help      prints this text
-  --version   prints the version
+  step N       reads a script (JSON) from standard input, plays it with N raster workers (1 to 16)
+               and writes its recording to standard output: every event, and after each draw the
+               picture as a raw portable pixmap (P6); the recording is the same for every N
+  frames       reads a recording from standard input and writes its pictures to standard output,
+               one behind the other, each a raw portable pixmap (P6)
+  gen NUMBER   writes the script of a number (0 to 18446744073709551615)
+  demo NUMBER  plays the script of a number and writes one line: how many events, pictures, missing
+               tiles and bytes its recording has, and the sum of the bytes
+  --help       prints this text
+  --version    prints the version
 
 status:
    0  done
    2  the words fit no use
    3  the input is no JSON
    4  the input is no script: list, index and field of the first fault are told
-   5  a command is refused, or the script is of a form that is not played
+   5  a command is refused: the first one, and why, are told
    6  standard input could not be read
    7  standard output could not be written
    8  the script is longer than 16777216 bytes, or the recording longer than 268435456
@@ -36,6 +42,7 @@ status:
 
 example: cc_player step 1 < examples/first.json > first.rec
          cc_player frames < first.rec > first.ppm
+         cc_player gen 7 | cc_player step 4 > seven.rec
 ";
 
 // What `--version` prints.

@@ -10,7 +10,7 @@ use Rattle.cc_play.specs.declared.images.Images.{Images}
 use Rattle.cc_play.specs.declared.outcome.Outcome.{Outcome}
 use Rattle.cc_play.specs.declared.outcome.Outcome.TheVariants.{Done, WriteFault, Memory}
 use Rattle.cc_play.specs.declared.words.Use.TheVariants.{Frames}
-use Rattle.cc_play.specs.inner.Pages.{IsStopped}
+use Rattle.cc_play.specs.inner.Scripts.{IsStopped}
 use Rattle.cc_play.specs.Runs.{recording_limit, CauseOf, ReadToEnd}
 
 -- the images, one behind the other

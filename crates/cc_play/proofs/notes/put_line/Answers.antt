@@ -1,6 +1,6 @@
 -- What is put is the line of the outcome.
 use Rattle.std.proofs.Common.{ℕ, List, subst}
-use Rattle.cc_play.specs.inner.Fragments.{PutsAll}
+use Rattle.cc_recorder.specs.Writing.{PutsAll}
 use Rattle.cc_play.proofs.notes.put_line.Goals as goal
 
 pub returns-clause-bytes : goal.returns-clause-bytes

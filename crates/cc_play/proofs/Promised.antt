@@ -1,0 +1,42 @@
+-- The lockstep history of a script keeps what is promised.
+use Rattle.std.proofs.Common.{ℕ, ◌≤◌, List, [], ◌∷◌, reverse, arith}
+use Rattle.cc_event.specs.declared.history.Entry.{Entry}
+use Rattle.cc_event.specs.Legal.{Next, Legal, IsLegal}
+use Rattle.cc_event.specs.Lockstep.{IsLockstep}
+use Rattle.cc_event.specs.Scripts.{ScriptModel}
+use Rattle.cc_event.proofs.LockstepWords.{lockstep_legal, lockstep_ends}
+use Rattle.cc_event.proofs.Pins.{required_at_each, lacking_at_each}
+use Rattle.cc_event.proofs.Sums.{offset_is}
+use Rattle.cc_recorder.specs.Recordings.{IsLockstepRecording}
+use Rattle.cc_play.specs.Promises.{IsPromised}
+use Rattle.cc_play.specs.Runs.{IsRunOf}
+
+-- what may come in a run with few workers may come in one with more
+next_with_more : (s : ScriptModel) (few more : ℕ) (h : List Entry) (e : Entry) → few ≤ more → Next s few h e → Next s more h e
+next_with_more s few more h e le n = record {
+  going = n.going;
+  state = n.state;
+  is_due = n.is_due;
+  actor = n.actor;
+  within = omega (arith, le, n.within);
+}
+
+legal_with_more : (s : ScriptModel) (few more : ℕ) (h : List Entry) → few ≤ more → Legal s few h → Legal s more h
+legal_with_more s few more [] le legal = legal
+legal_with_more s few more (e ∷ h) le legal = (legal_with_more s few more h le legal.0, next_with_more s few more h e le legal.1)
+
+pub lockstep_promised : (s : ScriptModel) (workers : ℕ) (history : List Entry) → 1 ≤ workers → IsLockstep s history → IsPromised s workers history
+lockstep_promised s workers history some lockstep =
+    let one : IsLegal s 1 history = lockstep_legal s history lockstep in
+    record {
+      lockstep = lockstep;
+      legal = legal_with_more s 1 workers (reverse history) some one;
+      ends = lockstep_ends s history lockstep;
+      required = required_at_each s 1 (reverse history) one;
+      missing = lacking_at_each s 1 (reverse history) one;
+      offsets = λ before after is sc ax. offset_is s (reverse before) sc ax;
+    }
+
+-- the recording of the lockstep history is one of a history that keeps what is promised
+pub promised_run : (P : List ℕ → Type 0) (s : ScriptModel) (workers : ℕ) → 1 ≤ workers → (whole : List ℕ) × IsLockstepRecording s whole × P whole → (whole : List ℕ) × IsRunOf workers s whole × P whole
+promised_run P s workers some r = (r.0, (r.1.0, lockstep_promised s workers r.1.0 some r.1.1, r.1.2), r.2)

@@ -1,0 +1,30 @@
+-- What was written is the recording of a history that keeps what is promised, or a front of it.
+use Rattle.std.proofs.Common.{◌≡◌, ℕ, List, inr, subst, sym, rules}
+use Rattle.std.specs.Io.KnownBytes.{Appends}
+use Rattle.cc_io.specs.Pieces.{GainsPrefix}
+use Rattle.cc_event.specs.Scripts.{ScriptModel}
+use Rattle.cc_recorder.specs.Recordings.{IsLockstepRecording}
+use Rattle.cc_play.specs.declared.outcome.Outcome.{Outcome}
+use Rattle.cc_play.specs.inner.Outputs.{WritesSome}
+use Rattle.cc_play.specs.Runs.{IsRunOf}
+use Rattle.cc_play.proofs.Promised.{promised_run}
+use Rattle.cc_play.proofs.step.play.Goals as goal
+
+pub returns-in-Ok-record_lockstep-clause-plays : goal.returns-in-Ok-record_lockstep-clause-plays
+returns-in-Ok-record_lockstep-clause-plays g c =
+    let P : List ℕ → Type 0 = Appends (g.K.Sink.held c.args.out.now) (g.K.Sink.held c.record_lockstep.new.out) in
+    let same : c.in-Ok.shared.value ≡ c.args.script = search rules in
+    subst (λ (o : Outcome). WritesSome (IsRunOf c.args.workers c.args.script) (g.K.Sink.held c.args.out.now) (g.K.Sink.held c.record_lockstep.new.out) o) (sym c.done_with.ensures)
+    (promised_run P c.args.script c.args.workers c.requires.0 (subst (λ (s : ScriptModel). (whole : List ℕ) × IsLockstepRecording s whole × P whole) same c.in-Ok-record_lockstep.ensures.bytes))
+
+pub returns-in-Err-Fault-clause-plays : goal.returns-in-Err-Fault-clause-plays
+returns-in-Err-Fault-clause-plays g c =
+    let P : List ℕ → Type 0 = GainsPrefix (g.K.Sink.held c.args.out.now) (g.K.Sink.held c.record_lockstep.new.out) in
+    let same : c.in-Ok.shared.value ≡ c.args.script = search rules in
+    promised_run P c.args.script c.args.workers c.requires.0 (subst (λ (s : ScriptModel). (whole : List ℕ) × IsLockstepRecording s whole × P whole) same c.in-Err-Fault.ensures.bytes)
+
+pub returns-in-Err-Memory-clause-plays : goal.returns-in-Err-Memory-clause-plays
+returns-in-Err-Memory-clause-plays g c =
+    let P : List ℕ → Type 0 = GainsPrefix (g.K.Sink.held c.args.out.now) (g.K.Sink.held c.record_lockstep.new.out) in
+    let same : c.in-Ok.shared.value ≡ c.args.script = search rules in
+    inr (promised_run P c.args.script c.args.workers c.requires.0 (subst (λ (s : ScriptModel). (whole : List ℕ) × IsLockstepRecording s whole × P whole) same c.in-Err-Memory.ensures.bytes))

@@ -1,0 +1,38 @@
+-- What is promised of the history that a run in lockstep records.
+use Rattle.std.specs.Prelude.{◌≡◌, ℕ, ◌+ℤ◌, true, List, [], ◌∷◌, ◌++◌, reverse}
+use Rattle.cc_edit.specs.Axes.{Axis}
+use Rattle.cc_event.specs.declared.event.Event.TheVariants as event
+use Rattle.cc_event.specs.declared.history.Entry.{Entry}
+use Rattle.cc_event.specs.EventFields.{commits}
+use Rattle.cc_event.specs.FrameLaws.{AtEach}
+use Rattle.cc_event.specs.Frames.{active, pulls_of, up_to}
+use Rattle.cc_event.specs.Legal.{IsLegal}
+use Rattle.cc_event.specs.Lockstep.{IsLockstep}
+use Rattle.cc_event.specs.Scans.{was_named}
+use Rattle.cc_event.specs.Scripts.{ScriptModel}
+use Rattle.cc_event.specs.Scrolls.{all_moved, main_moves, offset}
+use Rattle.cc_event.specs.TileLaws.{AreApart, Within, is_activate, lacking}
+use Rattle.cc_event.specs.Tiles.{pinned, ready, required}
+
+-- the last entry is the end of the run
+abbrev pub Ends : List Entry → Type 0
+Ends history = (before : List Entry) × (history ≡ before ++ record { actor = 0; event = event.End } ∷ [])
+
+-- a scroller stands at the sum of the main moves of the committed frames up to the active one and of all accepted moves
+abbrev pub IsSum : ScriptModel → List Entry → Type 0
+IsSum s h =
+    (sc : ℕ) (ax : Axis) → offset s h sc ax ≡ main_moves s (pulls_of h) (was_named commits h) sc ax (up_to (active h)) +ℤ all_moved s h sc ax
+
+-- the history of a script that is played with so many raster workers
+pub record IsPromised (s : ScriptModel) (workers : ℕ) (history : List Entry) : Type 0 where
+  -- it is the script's lockstep history
+  pub lockstep : IsLockstep s history
+  -- each entry is what is due after those before it
+  pub legal : IsLegal s workers history
+  pub ends : Ends history
+  -- at each activation all tiles that it needs are ready
+  pub required : AtEach (λ past e. is_activate e.event ≡ true → Within (required s past) (ready s past)) (reverse history)
+  -- no tile that a draw lacks is one that the last activation needed
+  pub missing : AtEach (λ past e. AreApart (lacking e.event) (pinned s past)) (reverse history)
+  -- so it is after each beginning of it
+  pub offsets : (before after : List Entry) → before ++ after ≡ history → IsSum s (reverse before)
