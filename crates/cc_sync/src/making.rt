@@ -149,11 +149,7 @@ fn from_behind(
     ensures spares { All (IsSpareOf active.now) spares.new.items }
     ensures empty { IfOk result (λ tilings. tilings.items ≡ []) }
 {
-    let TreeState {
-        tree,
-        mut tilings,
-        ..
-    } = old;
+    let (tree, _changes, mut tilings) = old.into_parts();
     add_behind(spares, &tree, &mut tilings, active)?;
     tilings.clear();
     Ok(tilings)
@@ -170,12 +166,7 @@ fn from_ahead(
     ensures spares { All (IsSpareOf active.now) spares.new.items }
     ensures empty { IfOk result (λ tilings. tilings.items ≡ []) }
 {
-    let TreeState {
-        tree,
-        changes,
-        mut tilings,
-        ..
-    } = taken;
+    let (tree, changes, mut tilings) = taken.into_parts();
     add_ahead(spares, &tree, &mut tilings, &changes, active)?;
     tilings.clear();
     Ok(tilings)

@@ -11,7 +11,6 @@ use std::marker::Model;
 /// The page of a commit, cut into tiles.
 ///
 /// By its type each layer has a tiling, which is cut as the layer is.
-#[derive(Drop)]
 pub struct TreeState {
     /// The main frame whose commit it is.
     pub frame: u32,
@@ -33,6 +32,18 @@ impl Model for TreeState {
     ghost invariant = { λ t. AreCut t.tree t.tilings.items };
 }
 
+// Written out, so that who drops a tree does not name in its proof all that a page holds.
+impl Drop for TreeState {
+    fn drop(self) {
+        let TreeState {
+            frame: _,
+            tree: _,
+            changes: _,
+            tilings: _,
+        } = self;
+    }
+}
+
 impl TreeState {
     /// Each of its layers has a tiling, which is cut as the layer is. A law that does nothing when it runs.
     pub fn are_cut(&self)
@@ -40,6 +51,22 @@ impl TreeState {
     {
         // This read tells the proof what the type keeps; it does nothing when it runs.
         let _ = &self.frame;
+    }
+
+    /// Its page, what its frame changed, and its tilings.
+    pub(crate) fn into_parts(self) -> (LayerTree, Changes, Vec<Tiling>)
+        ensures page { result.0 ≡ self.page }
+        ensures changed { result.1 ≡ self.changed }
+        ensures tilings { result.2.items ≡ self.tilings }
+        ensures cut { AreCut result.0 result.2.items }
+    {
+        let TreeState {
+            frame: _,
+            tree,
+            changes,
+            tilings,
+        } = self;
+        (tree, changes, tilings)
     }
 
     /// The main frame whose commit it is.

@@ -15,7 +15,6 @@ use std::marker::Model;
 use std::mem;
 
 /// The trees of the compositor side. At most one is pending; the active one is drawn meanwhile.
-#[derive(Drop)]
 pub struct Trees {
     alloc: Global,
     active: Option<TreeState>,
@@ -34,6 +33,19 @@ impl Model for Trees {
     ghost view = { λ t. record { active = t.active; pending = t.pending } };
 
     ghost invariant = { λ t. IsNext t.active t.pending × IsRecycled t.active t.recycled };
+}
+
+// Written out, so that who drops trees names no tree in its proof.
+impl Drop for Trees {
+    fn drop(self) {
+        let Trees {
+            alloc: _,
+            active: _,
+            pending: _,
+            recycled: _,
+            spares: _,
+        } = self;
+    }
 }
 
 impl Trees {

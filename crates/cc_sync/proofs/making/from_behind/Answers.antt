@@ -1,5 +1,7 @@
 -- The tree that is taken apart lacks the active tree's commit.
-use Rattle.std.proofs.Common.{sym, subst}
+use Rattle.std.proofs.Common.{List, sym, subst}
+use Rattle.cc_edit.specs.Pages.{Page}
+use Rattle.cc_tiling.specs.Tiles.{Tiled}
 use Rattle.cc_sync.specs.Trees.{TreeModel, commit_of}
 use Rattle.cc_sync.specs.inner.Steps.{Leads}
 use Rattle.cc_sync.proofs.making.from_behind.Goals as goal
@@ -7,4 +9,6 @@ use Rattle.cc_sync.proofs.making.from_behind.Goals as goal
 pub add_behind-requires-clause-leads : goal.add_behind-requires-clause-leads
 add_behind-requires-clause-leads c =
     let a : TreeModel = c.args.active.now in
-    subst (λ (z : TreeModel). Leads z.page z.tilings (commit_of a) a.page a.tilings) (sym c.old.view_is) c.requires.follows
+    let parts = c.into_parts-tree.ensures in
+    subst (λ (p : Page). Leads p c.into_parts-tree.result.2.items (commit_of a) a.page a.tilings) (sym parts.page)
+    (subst (λ (ts : List Tiled). Leads c.args.old.page ts (commit_of a) a.page a.tilings) (sym parts.tilings) c.requires.follows)
