@@ -43,22 +43,13 @@ fn summary_of(run: &Recorded, sink: &SumSink) -> Option<Summary>
     })
 }
 
-// The same, and gives up the run.
-fn summary_and_done(run: Recorded, sink: &SumSink) -> Option<Summary>
-    ensures { IfSome result (IsSummary run sink.now.held) }
-{
-    let summary = summary_of(&run, sink);
-    run.give_up();
-    summary
-}
-
 // Plays a script and counts what its recording holds; None where there is no memory.
 fn play_summed(alloc: Global, script: Arc<Script>) -> Option<Summary>
     ensures { IfSome result (IsDemoSummary script.value) }
 {
     let mut sink = SumSink::new(alloc).ok()?;
     match record_lockstep(alloc, script, 1, &mut sink) {
-        Ok(run) => summary_and_done(run, &sink),
+        Ok(run) => summary_of(&run, &sink),
         Err(_) => None,
     }
 }

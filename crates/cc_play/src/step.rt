@@ -14,10 +14,9 @@ use std::alloc::Global;
 use std::sync::Arc;
 
 // All was done with a run, which is given up.
-fn done_with(run: Recorded) -> Outcome
+fn done_with(_run: Recorded) -> Outcome
     ensures { result ≡ Outcome.Done }
 {
-    run.give_up();
     Outcome::Done
 }
 

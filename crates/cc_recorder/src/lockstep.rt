@@ -46,12 +46,6 @@ impl Recorded {
     {
         self.single.history()
     }
-
-    /// Gives the run up. Whoever drops a compositor names in its proof all that it holds; whoever calls this
-    /// does not.
-    pub fn give_up(self) {
-        give_up(self.single);
-    }
 }
 
 // Writes what was entered since the last time.
@@ -189,24 +183,17 @@ fn record_whole<K: Sink>(
     recorder.finish(out)
 }
 
-// Gives a run up. In a function of its own, since whoever drops a compositor names in its proof all that it holds.
-fn give_up(_single: SingleThread) {}
-
 // The run, if all of it was written.
 fn end_with(single: SingleThread, written: Result<(), WriteStop>) -> Result<Recorded, WriteStop>
     ensures { result ≡ recorded_run single.run.entries written }
 {
     match written {
         Ok(()) => Ok(Recorded { single }),
-        Err(stop) => {
-            give_up(single);
-            Err(stop)
-        }
+        Err(stop) => Err(stop),
     }
 }
 
-// Records the run of a script with a compositor and a recorder that are at its beginning. It has one exit, since
-// it holds the compositor.
+// Records the run of a script with a compositor and a recorder that are at its beginning.
 fn record_with<K: Sink>(
     prepared: (SingleThread, Recorder),
     script: &Script,

@@ -11,7 +11,9 @@ pub add_ahead-requires-clause-leads : goal.add_ahead-requires-clause-leads
 add_ahead-requires-clause-leads c =
     let a : TreeModel = c.args.active.now in
     let t : TreeModel = c.args.taken in
-    let parts = c.into_parts-tree.ensures in
-    (t.frame, subst (λ (p : Page). Leads a.page a.tilings (record { frame = t.frame; changed = c.into_parts-tree.result.1 }) p c.into_parts-tree.result.2.items) (sym parts.page)
-    (subst (λ (ts : List Tiled). Leads a.page a.tilings (record { frame = t.frame; changed = c.into_parts-tree.result.1 }) t.page ts) (sym parts.tilings)
-    (subst (λ (d : Changed). Leads a.page a.tilings (record { frame = t.frame; changed = d }) t.page t.tilings) (sym parts.changed) c.requires.follows)))
+    let parts = c.into_parts-tree.ensures in (
+      t.frame,
+      subst (λ (p : Page). Leads a.page a.tilings (record { frame = t.frame; changed = c.into_parts-tree.result.1 }) p c.into_parts-tree.result.2.items) (sym parts.page)
+          (subst (λ (ts : List Tiled). Leads a.page a.tilings (record { frame = t.frame; changed = c.into_parts-tree.result.1 }) t.page ts) (sym parts.tilings)
+          (subst (λ (d : Changed). Leads a.page a.tilings (record { frame = t.frame; changed = d }) t.page t.tilings) (sym parts.changed) c.requires.follows)),
+    )
