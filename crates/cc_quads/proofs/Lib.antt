@@ -1,6 +1,7 @@
 pub mod Lists
 pub mod DrawnPlaces
 pub mod OwnTiles
+pub mod ByLayer
 pub mod LayerActs
 pub mod TileFits
 pub mod PageTiles

@@ -1,6 +1,7 @@
 //! The quads of one layer: one for each of its tiles that are shown.
 
-ghost use Rattle.std.specs.Prelude.{◌≡◌, ◌*◌, ◌-ℤ◌, FitsSigned, IsTrue, IfOk, All, map};
+ghost use Rattle.std.specs.Prelude.{◌≡◌, ◌==◌, ◌*◌, ◌-ℤ◌, FitsSigned, IsTrue, IfOk, All, map, filter};
+ghost use Rattle.std.specs.List.Sorted.{IsNonDecreasingBy};
 ghost use mir.Syntax.{w32};
 ghost use Rattle.cc_geom.specs.Covers.{IsSound};
 ghost use Rattle.cc_geom.specs.Grids.{has};
@@ -108,22 +109,41 @@ fn quad_of(spot: &LayerSpot, shown: &Shown) -> Result<Quad, AllocError>
     }
 }
 
-/// The quads of the layer with this id, which lies so, in the order of its tiles. The layer's grid is to
-/// have the places of its tiles. An error is want of memory.
+// The tiles of the layer with this id.
+fn tiles_on(shown: &[Shown], id: u32) -> &[Shown]
+    requires { IsNonDecreasingBy (λ s. s.key.layer) shown.now }
+    ensures { result.now ≡ filter (λ s. s.key.layer == id) shown.now }
+{
+    let (_, rest) = shown.split_at(shown.partition_point(|tile| tile.key.layer < id));
+    let (own, _) = rest.split_at(rest.partition_point(|tile| tile.key.layer <= id));
+    own
+}
+
+// The quads of these tiles of one layer.
+fn quads_at(alloc: Global, spot: &LayerSpot, tiles: &[Shown]) -> Result<Vec<Quad>, AllocError>
+    requires { All (λ s. IsTrue (has spot.now.grid (place_named (tile_of s)))) tiles.now }
+    ensures { IfOk result (λ quads. quads_view quads.items ≡ map (spec.quad_of spot.now) (map tile_of tiles.now)) }
+{
+    let mut quads = Vec::new(alloc);
+    for tile in tiles {
+        quads.push(quad_of(spot, tile)?)?;
+    }
+    Ok(quads)
+}
+
+/// The quads of the layer with this id, which lies so, in the order of its tiles. The tiles stand by rising
+/// layer, and those of this layer are looked up among them: the work grows with the logarithm of their
+/// number, and with the number of the layer's own. The layer's grid is to have the places of its tiles. An
+/// error is want of memory.
 pub(crate) fn quads_on(
     alloc: Global,
     spot: &LayerSpot,
     id: u32,
     shown: &[Shown],
 ) -> Result<Vec<Quad>, AllocError>
-    requires { All (λ s. s.key.layer ≡ id → IsTrue (has spot.now.grid (place_named (tile_of s)))) shown.now }
+    requires order { IsNonDecreasingBy (λ s. s.key.layer) shown.now }
+    requires there { All (λ s. s.key.layer ≡ id → IsTrue (has spot.now.grid (place_named (tile_of s)))) shown.now }
     ensures { IfOk result (λ quads. quads_view quads.items ≡ spec.quads_on spot.now id (map tile_of shown.now)) }
 {
-    let mut quads = Vec::new(alloc);
-    for tile in shown {
-        if tile.key.layer == id {
-            quads.push(quad_of(spot, tile)?)?;
-        }
-    }
-    Ok(quads)
+    quads_at(alloc, spot, tiles_on(shown, id))
 }

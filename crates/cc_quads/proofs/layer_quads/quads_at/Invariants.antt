@@ -1,9 +1,9 @@
--- The quads of the layer's tiles so far.
+-- The quads of the tiles so far.
 use Rattle.std.proofs.Common.{◌≡◌, map, take}
 use Rattle.cc_scene.specs.Views.{quads_view}
 use Rattle.cc_quads.specs.Shown.{tile_of}
 use Rattle.cc_quads.specs.inner.LayerQuads as spec
-use Rattle.cc_quads.proofs.layer_quads.quads_on.Given as goal
+use Rattle.cc_quads.proofs.layer_quads.quads_at.Given as goal
 
 abbrev pub invariant-loop-tile : goal.invariant-loop-tile
-invariant-loop-tile l = quads_view l.quads.items ≡ spec.quads_on l.spot l.id (map tile_of (take l.tile-index l.shown))
+invariant-loop-tile l = quads_view l.quads.items ≡ map (spec.quad_of l.spot) (map tile_of (take l.tile-index l.tiles))
