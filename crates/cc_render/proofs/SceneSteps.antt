@@ -1,8 +1,9 @@
 -- A scene, drawn strip by strip.
-use Rattle.std.proofs.Common.{◌≡◌, ℕ, ◌+◌, ◌-◌, ◌*◌, ◌<◌, ◌≤◌, ℤ, pos, ◌+ℤ◌, true, List, [], ◌∷◌, ◌++◌, length, sym, ◌∙◌, ap, subst, arith}
+use Rattle.std.proofs.Common.{◌≡◌, ℕ, ◌+◌, ◌-◌, ◌*◌, ◌<◌, ◌≤◌, ℤ, pos, ◌+ℤ◌, true, false, cond, List, [], ◌∷◌, ◌++◌, length, inl, inr, sym, ◌∙◌, ap, subst, arith}
 use Rattle.std.specs.Prelude.{All, slice_index_or}
 use Rattle.std.proofs.Math.Nat.{mul-le-mul_left}
 use Rattle.std.proofs.lemmas.Int.{ints}
+use Rattle.std.proofs.lemmas.Bool.{cases_lt}
 use Rattle.std.proofs.lemmas.Bool.Decides.{nat_tests}
 use Rattle.std.proofs.lemmas.List.{map-append, length-append, length-map, get_or_append_left, get_or_push}
 use Rattle.std.proofs.lemmas.List.Elements.{All-weaker}
@@ -10,7 +11,7 @@ use Rattle.cc_geom.specs.declared.Rect.{Rect}
 use Rattle.cc_geom.specs.Covers.{IsSound}
 use Rattle.cc_pixel.specs.Colours.{Parts}
 use Rattle.cc_pixel.specs.Rows.{pixel}
-use Rattle.cc_pixel.specs.Surfaces.{EachPixel, within, in_rows}
+use Rattle.cc_pixel.specs.Surfaces.{IsPart, IsInside, EachPixel, within, in_rows}
 use Rattle.cc_pixel.specs.declared.Area.{Area}
 use Rattle.cc_scene.specs.declared.RenderPass.{RenderPass}
 use Rattle.cc_scene.specs.Views.{QuadView, tiled, plain, grouped, pass_view, passes_view, SceneView}
@@ -18,7 +19,8 @@ use Rattle.cc_scene.specs.Pixels.{quads_over, passes_at, scene_pixel}
 use Rattle.cc_scene.specs.Sound.{IsIn, Fits, IsSide, IsScene}
 use Rattle.cc_scene.proofs.Steps.{sound_at, scene_last}
 use Rattle.cc_render.specs.inner.Drawing.{SurfaceView, CanBeDrawn, PassesCanBeDrawn, ShowsQuads, ShowPasses}
-use Rattle.cc_render.specs.inner.Strips.{ShowsScene}
+use Rattle.cc_render.specs.inner.Strips.{HasRoom, ShowsScene}
+use Rattle.cc_render.specs.declared.strip.Surfaces.{Surfaces}
 use Rattle.cc_geom.proofs.Spans.{both_of}
 use Rattle.cc_render.proofs.Tiles.{where_held}
 use Rattle.cc_render.proofs.Hulls.{in_place}
@@ -97,6 +99,18 @@ strip_size w h wide tall le low =
     let down : w * tall ≤ wide * tall = grind arith in
     omega arith
 
+-- room for more is room for less
+pub less_room : (n m passes : ℕ) (s : Surfaces) → n ≤ m → HasRoom m passes s → HasRoom n passes s
+less_room n m passes s le r = record {
+  count = r.count;
+  inner = All-weaker (λ (b : SurfaceView). m ≤ length b.bytes) (λ (b : SurfaceView). n ≤ length b.bytes) (λ b h. omega arith) s.passes.items r.inner;
+  root = let h = r.root in omega arith;
+}
+
+-- strips of as many rows are as large
+pub same_size : (w a b : ℕ) → a ≡ b → 4 * (w * a) ≤ 4 * (w * b)
+same_size w a b e = rw e (omega arith)
+
 -- the rect of an area
 abbrev pub rect_of : Area → Rect
 rect_of at = record { x = pos at.x; y = pos at.y; w = pos at.w; h = pos at.h }
@@ -121,3 +135,56 @@ strip_shown s w h at surface old new shown each x y xw yh =
     each x y xw yh
     ∙ where_held (in_rows at at.h x y) (pixel surface ((y - at.y) * at.w + (x - at.x))) (scene_pixel s (pos x) (pos y)) (pixel old (y * w + x))
     (λ h. copied s at surface x y shown h)
+
+-- ---- whole rows of a frame
+
+-- a pixel above some rows stands before their first
+above_rows : (w x y top : ℕ) → x < w → y < top → y * w + x < top * w
+above_rows w x y top xw less = grind arith
+
+-- where some rows end
+pub rows_end : (w top n end : ℕ) → top + n ≤ end → top * w + w * n ≤ w * end
+rows_end w top n end le = omega (arith, mul-le-mul_left w le)
+
+-- a pixel below some rows stands behind their last
+below_rows : (w x y top n : ℕ) → top + n ≤ y → top * w + w * n ≤ y * w + x
+below_rows w x y top n le = omega (arith, rows_end w top n y le)
+
+-- a pixel of some rows stands among them
+among_rows : (w x row n : ℕ) → x < w → row < n → row * w + x < w * n
+among_rows w x row n xw less = grind arith
+
+-- where it stands in the frame
+row_place : (w x row top y : ℕ) → top + row ≡ y → top * w + (row * w + x) ≡ y * w + x
+row_place w x row top y e = rw (sym e) (grind arith)
+
+-- rows of a frame that became the pixels of a scene
+pub rows_drawn : (s : SceneView) (h : ℕ) (at : Area) (place count : ℕ) (made old new : List ℕ)
+    → IsInside at at.w h → place ≡ at.y * at.w → count ≡ at.w * at.h → ShowsScene s (rect_of at) made → IsPart place count (λ j below. pixel made j) old new
+    → EachPixel at.w h (within at at.h (λ x y below. scene_pixel s (pos x) (pos y))) old new
+rows_drawn s h at place count made old new inside p n shown part x y xw yh =
+    let left : at.x ≡ 0 = omega (arith, inside.across) in
+    let Goal : Type 0 = pixel new (y * at.w + x) ≡ cond (in_rows at at.h x y) (scene_pixel s (pos x) (pos y)) (pixel old (y * at.w + x)) in
+    elim (cases_lt y at.y) as (λ _. Goal) [
+      | inl above ↦
+          let off : in_rows at at.h x y ≡ false = grind (arith, nat_tests) in
+          let before = above_rows at.w x y at.y xw above in
+          rw off (part.before (y * at.w + x) (omega arith))
+      | inr from ↦ elim (cases_lt y (at.y + at.h)) as (λ _. Goal) [
+        | inl to ↦
+            let on : in_rows at at.h x y ≡ true = grind (arith, nat_tests) in
+            let row : at.y + (y - at.y) ≡ y = omega arith in
+            let column : x - at.x ≡ x = omega arith in
+            let among = among_rows at.w x (y - at.y) at.h xw (omega arith) in
+            let there : place + ((y - at.y) * at.w + x) ≡ y * at.w + x = ap (λ (k : ℕ). k + ((y - at.y) * at.w + x)) p ∙ row_place at.w x (y - at.y) at.y y row in
+            rw on
+            (sym (ap (pixel new) there)
+            ∙ part.inside ((y - at.y) * at.w + x) (omega arith)
+            ∙ sym (ap (λ (k : ℕ). pixel made ((y - at.y) * at.w + k)) column)
+            ∙ copied s at made x y shown on)
+        | inr below ↦
+            let off : in_rows at at.h x y ≡ false = grind (arith, nat_tests) in
+            let behind = below_rows at.w x y at.y at.h below in
+            rw off (part.behind (y * at.w + x) (omega arith))
+      ]
+    ]

@@ -62,8 +62,14 @@ pub(crate) fn draw_pass(
     surface.rect = area;
 }
 
-// draws quads over a colour into the first of some bytes
-fn draw_over(bytes: &mut [u8], below: Colour, area: Rect, quads: &[Quad], passes: &[Surface])
+/// Draws quads over a colour into the first of some bytes. The passes before theirs have surfaces.
+pub(crate) fn draw_over(
+    bytes: &mut [u8],
+    below: Colour,
+    area: Rect,
+    quads: &[Quad],
+    passes: &[Surface],
+)
     requires area { IsSound area }
     requires quads { All (CanBeDrawn (length passes.now)) (quads_view quads.now) }
     requires room { byte_count area.w area.h ≤ length bytes.old }

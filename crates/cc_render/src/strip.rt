@@ -9,10 +9,10 @@ ghost use Rattle.cc_scene.specs.Views.{passes_view};
 ghost use Rattle.cc_scene.specs.Pixels.{scene_pixel};
 ghost use Rattle.cc_scene.specs.Sound.{IsIn};
 ghost use Rattle.cc_render.specs.inner.Drawing.{AreRoomy, PassesCanBeDrawn, ShowPasses};
-ghost use Rattle.cc_render.specs.inner.Strips.{HasRoom, AreReady, ShowsScene};
+ghost use Rattle.cc_render.specs.inner.Strips.{HasRoom, AreReady, ShowsScene, IsDrawn};
 
 use crate::copy::copy_area;
-use crate::passes::{draw_pass, draw_passes};
+use crate::passes::{draw_over, draw_pass, draw_passes};
 use crate::surface::Surface;
 use cc_geom::Rect;
 use cc_pixel::Area;
@@ -104,8 +104,92 @@ pub(crate) fn draw_area(scene: &Scene, bytes: &mut [u8], at: Area, surfaces: &mu
     }
 }
 
-// draws the pixels of a scene in one strip
+// draws the pixels of a scene in one strip: straight into the frame where the strip is as wide as it
 fn draw_strip(scene: &Scene, bytes: &mut [u8], at: Area, surfaces: &mut Surfaces)
+    requires size { length bytes.old ≡ 4 * (scene.now.w * scene.now.h) }
+    requires inside { IsInside at scene.now.w scene.now.h }
+    requires low { at.h ≤ surfaces.old.rows }
+    requires ready { AreReady scene.now surfaces.old }
+    ensures pixels { EachPixel scene.now.w scene.now.h (within at at.h (λ x y below. scene_pixel scene.now (pos x) (pos y))) bytes.old bytes.new }
+    ensures premultiplied { ArePremultiplied bytes.old → ArePremultiplied bytes.new }
+    ensures ready { AreReady scene.now surfaces.new }
+{
+    if at.w == scene.w() as usize {
+        draw_rows(scene, bytes, at, surfaces);
+    } else {
+        draw_columns(scene, bytes, at, surfaces);
+    }
+}
+
+// draws the pixels of a scene in whole rows of a frame
+fn draw_rows(scene: &Scene, bytes: &mut [u8], at: Area, surfaces: &mut Surfaces)
+    requires size { length bytes.old ≡ 4 * (scene.now.w * scene.now.h) }
+    requires inside { IsInside at scene.now.w scene.now.h }
+    requires whole { at.w ≡ scene.now.w }
+    requires narrow { at.w ≤ 2048 }
+    requires low { at.h ≤ surfaces.old.rows }
+    requires ready { AreReady scene.now surfaces.old }
+    ensures pixels { EachPixel scene.now.w scene.now.h (within at at.h (λ x y below. scene_pixel scene.now (pos x) (pos y))) bytes.old bytes.new }
+    ensures premultiplied { ArePremultiplied bytes.old → ArePremultiplied bytes.new }
+    ensures ready { AreReady scene.now surfaces.new }
+{
+    let (place, count) = run_of(at, scene.h() as usize);
+    draw_run(scene, bytes, place, count, rect_of(at), surfaces);
+}
+
+// where the first pixel of whole rows stands in a frame of this height, and how many pixels they have
+fn run_of(at: Area, height: usize) -> (usize, usize)
+    requires down { at.y + at.h ≤ height }
+    requires small { 4 * (at.w * height) < 2 ^ 64 }
+    ensures place { result.0 ≡ at.y * at.w }
+    ensures count { result.1 ≡ at.w * at.h }
+    ensures there { result.0 + result.1 ≤ at.w * height }
+{
+    (at.y * at.w, at.w * at.h)
+}
+
+// draws the pixels of an area of a scene into `count` pixels of a frame from pixel `place` on
+fn draw_run(
+    scene: &Scene,
+    bytes: &mut [u8],
+    place: usize,
+    count: usize,
+    area: Rect,
+    surfaces: &mut Surfaces,
+)
+    requires area { IsIn 2048 2048 area }
+    requires count { 4 * count ≡ byte_count area.w area.h }
+    requires there { 4 * (place + count) ≤ length bytes.old }
+    requires room { HasRoom (byte_count area.w area.h) (length scene.now.passes) surfaces.old }
+    ensures pixels { IsDrawn scene.now area place count bytes.old bytes.new }
+    ensures room { (n : ℕ) → HasRoom n (length scene.now.passes) surfaces.old → HasRoom n (length scene.now.passes) surfaces.new }
+    ensures rows { surfaces.new.rows ≡ surfaces.old.rows }
+{
+    let run = &mut bytes[4 * place..4 * (place + count)];
+    draw_into(scene, run, area, surfaces);
+}
+
+// draws the pixels of an area of a scene into bytes of as many pixels, after those of its passes before the
+// root
+fn draw_into(scene: &Scene, bytes: &mut [u8], area: Rect, surfaces: &mut Surfaces)
+    requires area { IsIn 2048 2048 area }
+    requires size { byte_count area.w area.h ≤ length bytes.old }
+    requires room { HasRoom (byte_count area.w area.h) (length scene.now.passes) surfaces.old }
+    ensures pixels { ShowsScene scene.now area bytes.new }
+    ensures premultiplied { ArePremultiplied bytes.old → ArePremultiplied bytes.new }
+    ensures room { (n : ℕ) → HasRoom n (length scene.now.passes) surfaces.old → HasRoom n (length scene.now.passes) surfaces.new }
+    ensures rows { surfaces.new.rows ≡ surfaces.old.rows }
+{
+    let Some((root, inner)) = scene.passes().split_last() else {
+        return;
+    };
+    draw_inner(inner, area, &mut surfaces.passes);
+    let below = scene.background();
+    draw_over(bytes, below, area, &root.quads, &surfaces.passes);
+}
+
+// draws the pixels of a scene in columns of a frame
+fn draw_columns(scene: &Scene, bytes: &mut [u8], at: Area, surfaces: &mut Surfaces)
     requires size { length bytes.old ≡ 4 * (scene.now.w * scene.now.h) }
     requires inside { IsInside at scene.now.w scene.now.h }
     requires low { at.h ≤ surfaces.old.rows }

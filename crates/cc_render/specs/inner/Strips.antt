@@ -2,6 +2,7 @@
 use Rattle.std.specs.Prelude.{ℕ, ◌+◌, ◌*◌, ◌<◌, ◌≤◌, ◌≡◌, pos, ◌+ℤ◌, List, length}
 use Rattle.cc_geom.specs.declared.Rect.{Rect}
 use Rattle.cc_pixel.specs.Rows.{pixel}
+use Rattle.cc_pixel.specs.Surfaces.{IsPart}
 use Rattle.cc_display.specs.Bitmaps.{near}
 use Rattle.cc_scene.specs.Views.{SceneView}
 use Rattle.cc_scene.specs.Pixels.{scene_pixel}
@@ -24,3 +25,7 @@ abbrev pub ShowsScene : SceneView → Rect → List ℕ → Type 0
 ShowsScene s area surface =
     (x y : ℕ) → x < near area.w → y < near area.h
     → pixel surface (y * near area.w + x) ≡ scene_pixel s (area.x +ℤ pos x) (area.y +ℤ pos y)
+
+-- pixels `k` to `k + n` of a frame's bytes became those of a scene in an area
+abbrev pub IsDrawn : SceneView → Rect → ℕ → ℕ → List ℕ → List ℕ → Type 0
+IsDrawn s area k n old new = (made : List ℕ) × ShowsScene s area made × IsPart k n (λ j below. pixel made j) old new

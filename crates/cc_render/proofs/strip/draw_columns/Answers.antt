@@ -1,19 +1,7 @@
 -- The strip is drawn and copied.
-use Rattle.std.proofs.Common.{◌≡◌, ◌*◌, ◌≤◌, ℕ, length, arith}
-use Rattle.std.proofs.lemmas.List.Elements.{All-weaker}
-use Rattle.cc_render.specs.inner.Drawing.{SurfaceView}
-use Rattle.cc_render.specs.inner.Strips.{HasRoom}
-use Rattle.cc_render.specs.declared.strip.Surfaces.{Surfaces}
-use Rattle.cc_render.proofs.SceneSteps.{strip_size, strip_shown}
-use Rattle.cc_render.proofs.strip.draw_strip.Goals as goal
-
--- room for more is room for less
-less_room : (n m passes : ℕ) (s : Surfaces) → n ≤ m → HasRoom m passes s → HasRoom n passes s
-less_room n m passes s le r = record {
-  count = r.count;
-  inner = All-weaker (λ (b : SurfaceView). m ≤ length b.bytes) (λ (b : SurfaceView). n ≤ length b.bytes) (λ b h. omega arith) s.passes.items r.inner;
-  root = let h = r.root in omega arith;
-}
+use Rattle.std.proofs.Common.{◌≤◌, arith}
+use Rattle.cc_render.proofs.SceneSteps.{strip_size, less_room, same_size, strip_shown}
+use Rattle.cc_render.proofs.strip.draw_columns.Goals as goal
 
 pub draw_scene-requires-clause-room : goal.draw_scene-requires-clause-room
 draw_scene-requires-clause-room c =
@@ -34,10 +22,6 @@ returns-clause-pixels c =
     let shown = rw (c.rect_of.ensures) at c.draw_scene.ensures.pixels in
     let each = rw (c.bytes.ensures.value, c.w-width.ensures.value, c.h-height.ensures.value) at c.copy_area.ensures.pixels in
     strip_shown c.args.scene.now c.args.scene.now.w c.args.scene.now.h c.args.at c.draw_scene.new.surfaces.root.bytes c.args.bytes.now c.copy_area.new.surface shown each
-
--- strips of as many rows are as large
-same_size : (w a b : ℕ) → a ≡ b → 4 * (w * a) ≤ 4 * (w * b)
-same_size w a b e = rw e (omega arith)
 
 pub returns-clause-ready : goal.returns-clause-ready
 returns-clause-ready c = record {
