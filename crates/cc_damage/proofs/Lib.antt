@@ -2,3 +2,4 @@ pub mod AreaSteps
 pub mod QuadSteps
 pub mod ListSteps
 pub mod PassSteps
+pub mod SceneSteps

@@ -59,8 +59,8 @@ fn lies_outside(item: &Item, rect: Rect) -> bool
     !item.rect().touches(rect)
 }
 
-// whether two items are one
-fn is_same_item(a: &Item, b: &Item) -> bool
+/// Whether two items are one.
+pub(crate) fn is_same_item(a: &Item, b: &Item) -> bool
     ensures { IsTrue result → a.now ≡ b.now }
 {
     match (a, b) {

@@ -3,7 +3,8 @@
 //! Quads of a pass are compared in drawing order with those of the same pass before. A quad that both passes
 //! have costs nothing; the rect of each other quad, old or new, is damaged. A group is damaged where its own
 //! quads are, so a change inside a pass stays within what that pass changed. The damage is a few rects: two
-//! are joined where the rect of both is no larger than they are together.
+//! are joined where the rect of both is no larger than they are together. Whether two scenes are one is told
+//! by less work.
 //!
 //! In: two scenes of one size. Out: a region. Time grows with the number of quads, and with the items of the
 //! display lists of tiles that stand in both scenes; the bytes of bitmaps are read where they lie in a tile.
@@ -15,5 +16,7 @@ mod damage;
 mod images;
 mod lists;
 mod quads;
+mod same;
 
 pub use damage::damage_of;
+pub use same::are_one;
