@@ -1,5 +1,6 @@
 -- Frames that show one scene, and so another one too.
-use Rattle.std.proofs.Common.{◌≡◌, ℕ, ◌<◌, pos, Bool, true, false, cond, List, refl, sym, ◌∙◌, arith}
+use Rattle.std.proofs.Common.{◌≡◌, ℕ, ◌<◌, pos, Bool, true, false, cond, List, refl, ◌∙◌, ap, subst, arith}
+use Rattle.std.specs.Prelude.{Option, Some, IfSome}
 use Rattle.std.proofs.lemmas.Int.{ints}
 use Rattle.cc_geom.specs.declared.Rect.{Rect}
 use Rattle.cc_geom.specs.Covers.{covers}
@@ -11,7 +12,8 @@ use Rattle.cc_scene.specs.Pixels.{scene_pixel}
 use Rattle.cc_render.specs.Frames.{FrameView, IsOfSize, ShowsIn, frame_pixel}
 use Rattle.cc_damage.specs.Damage.{AreAlikeOutside, screen}
 use Rattle.cc_occlude.specs.Culled.{IsCulled}
-use Rattle.cc_painter.specs.Painters.{ShowsWhole}
+use Rattle.cc_painter.specs.Painters.{ShowsWhole, HoldsCulled}
+use Rattle.cc_painter.specs.inner.Helds.{HeldView, culled_of}
 
 -- a pixel of the screen
 on_screen : (s : SceneView) (x y : ℕ) → x < s.w → y < s.h → covers (screen s) (pos x) (pos y) ≡ true
@@ -44,3 +46,11 @@ shown_whole s t f culled shown = record {
   size = record { wide = shown.size.wide ∙ culled.wide; tall = shown.size.tall ∙ culled.tall };
   pixels = λ x y xw yh. shown.pixels x y xw yh ∙ culled.pixels (pos x) (pos y);
 }
+
+-- a scene that is held again
+pub holds_it : (s : SceneView) (held : Option HeldView) (h : HeldView) → held ≡ Some h → IsCulled h.scene h.culled → h.scene ≡ s → HoldsCulled s (culled_of held)
+holds_it s held h e culled same = (h.culled, ap culled_of e, subst (λ (t : SceneView). IsCulled t h.culled) same culled)
+
+-- a frame that shows the scene that is held shows the whole scene
+pub held_shown : (s : SceneView) (held : Option SceneView) (f : FrameView) → HoldsCulled s held → IfSome held (λ t. ShowsWhole t f) → ShowsWhole s f
+held_shown s held f holds shown = shown_whole s holds.0 f holds.2 (subst (λ (o : Option SceneView). IfSome o (λ t. ShowsWhole t f)) holds.1 shown)

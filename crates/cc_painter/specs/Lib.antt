@@ -1,1 +1,2 @@
 pub mod Painters
+pub mod inner

@@ -1,13 +1,14 @@
 //! Drawing scenes one after another into one frame, where only what changed is drawn again.
 //!
-//! A painter holds the scene that its frame shows. Of a new scene the hidden quads are left out first; then it
-//! is compared with the held one, and the damage alone is drawn. Where no scene is held, or one of another
-//! size, the whole is drawn.
+//! A painter holds the scene that its frame shows. Where the new scene is the held one, nothing is done. Else
+//! its hidden quads are left out, it is compared with the held one, and the damage alone is drawn. Where no
+//! scene is held, or one of another size, the whole is drawn.
 //!
 //! In: scenes. Out: the frame, which shows the last one. Want of memory costs the held scene, so the next one
 //! is drawn whole.
 #![tactic(auto)]
 
+mod held;
 mod painting;
 mod redrawing;
 

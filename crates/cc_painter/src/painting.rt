@@ -5,8 +5,8 @@ ghost use Rattle.cc_scene.specs.Sound.{IsSide};
 ghost use Rattle.cc_render.specs.Frames.{IsOfSize, EachIs, black};
 ghost use Rattle.cc_painter.specs.Painters.{ShowsWhole, HoldsCulled};
 
-use crate::redrawing::redraw;
-use cc_occlude::cull;
+use crate::held::{Held, is_held};
+use crate::redrawing::show_next;
 use cc_render::Frame;
 use cc_scene::Scene;
 use std::alloc::{AllocError, Global};
@@ -18,17 +18,18 @@ pub struct Painter {
     alloc: Global,
     frame: Frame,
     // the scene that the frame shows; None at first and after a refusal
-    held: Option<Scene>,
+    held: Option<Held>,
 }
 
 impl Model for Painter {
     ghost use Rattle.cc_painter.specs.Painters.{PainterView, IsPainter};
+    ghost use Rattle.cc_painter.specs.inner.Helds.{culled_of};
 
     ghost Value = { PainterView };
 
-    ghost view = { λ p. record { frame = p.frame; held = p.held } };
+    ghost view = { λ p. record { frame = p.frame; held = culled_of p.held } };
 
-    ghost invariant = { λ p. IsPainter (record { frame = p.frame; held = p.held }) };
+    ghost invariant = { λ p. IsPainter (record { frame = p.frame; held = culled_of p.held }) };
 }
 
 impl Painter {
@@ -65,19 +66,22 @@ impl Painter {
         Ok(&self.frame)
     }
 
-    /// Draws a scene: the frame then has the scene's size and pixels. Where the painter holds a scene of that
-    /// size, only the damage is drawn; else the whole is, into a new frame where the size differs. An error is
-    /// want of memory: the painter then holds no scene, and the next one is drawn whole.
-    #[tactic(auto, using(crate::proofs::Redrawn::shown_whole))]
+    /// Draws a scene: the frame then has the scene's size and pixels. Where the painter holds that scene,
+    /// nothing is drawn; where it holds another one of that size, only the damage is; else the whole is, into
+    /// a new frame where the size differs. An error is want of memory: the painter then holds no scene, and the
+    /// next one is drawn whole.
+    #[tactic(auto, using(crate::proofs::Redrawn::held_shown, crate::proofs::Redrawn::shown_whole))]
     pub fn paint(&mut self, scene: Scene) -> Result<(), AllocError>
         ensures shown { OnOk result (ShowsWhole scene self.new.frame) }
         ensures held { OnOk result (HoldsCulled scene self.new.held) }
         ensures err { OnErr result (self.new.held ≡ None) }
     {
+        if is_held(&self.held, &scene) {
+            return Ok(());
+        }
         let held = self.held.take();
-        let culled = cull(self.alloc, &scene)?;
-        redraw(self.alloc, &mut self.frame, held, &culled)?;
-        self.held = Some(culled);
+        let next = show_next(self.alloc, &mut self.frame, held, scene)?;
+        self.held = Some(next);
         Ok(())
     }
 }

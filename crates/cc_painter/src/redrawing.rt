@@ -1,27 +1,49 @@
 //! Drawing a scene into a frame that may show another one.
 
-ghost use Rattle.std.specs.Prelude.{◌≡◌, IfSome, OnOk, IsTrue};
+ghost use Rattle.std.specs.Prelude.{◌≡◌, IfSome, IfOk, OnOk, IsTrue};
 ghost use Rattle.cc_render.specs.Frames.{IsOfSize};
+ghost use Rattle.cc_occlude.specs.Culled.{IsCulled};
 ghost use Rattle.cc_painter.specs.Painters.{ShowsWhole};
+ghost use Rattle.cc_painter.specs.inner.Helds.{culled_of};
 
+use crate::held::Held;
 use cc_damage::damage_of;
 use cc_render::{Frame, render, render_region};
 use cc_scene::Scene;
 use std::alloc::{AllocError, Global};
 
-/// Makes a frame show a scene. Where it shows one of the same size before, only the damage is drawn. An error
-/// is want of memory, and the frame then shows neither of them for sure.
-pub(crate) fn redraw(
+/// Makes a frame show a scene, which is then held. An error is want of memory, and the frame then shows
+/// nothing for sure.
+pub(crate) fn show_next(
     alloc: Global,
     frame: &mut Frame,
-    held: Option<Scene>,
+    held: Option<Held>,
+    scene: Scene,
+) -> Result<Held, AllocError>
+    requires { IfSome (culled_of held) (λ old. ShowsWhole old frame.old) }
+    ensures scene { IfOk result (λ next. next.scene ≡ scene) }
+    ensures culled { IfOk result (λ next. IsCulled scene next.culled) }
+    ensures shown { IfOk result (λ next. ShowsWhole next.culled frame.new) }
+{
+    let next = Held::new(alloc, scene)?;
+    redraw(alloc, frame, held, next.culled())?;
+    Ok(next)
+}
+
+// makes a frame show a scene: where it shows one of the same size before, only the damage is drawn
+fn redraw(
+    alloc: Global,
+    frame: &mut Frame,
+    held: Option<Held>,
     scene: &Scene,
 ) -> Result<(), AllocError>
-    requires { IfSome held (λ old. ShowsWhole old frame.old) }
+    requires { IfSome (culled_of held) (λ old. ShowsWhole old frame.old) }
     ensures { OnOk result (ShowsWhole scene.now frame.new) }
 {
     match held {
-        Some(old) if are_of_one_size(&old, scene) => draw_damage(alloc, frame, &old, scene),
+        Some(old) if are_of_one_size(old.culled(), scene) => {
+            draw_damage(alloc, frame, old.culled(), scene)
+        }
         _ => draw_whole(alloc, frame, scene),
     }
 }
