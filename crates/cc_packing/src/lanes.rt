@@ -1,0 +1,31 @@
+//! Four pixels at a time.
+
+ghost use Rattle.std.specs.Prelude.{◌≡◌, ℕ, ◌+◌, ◌*◌, ◌<◌, ◌≤◌, length};
+ghost use Rattle.cc_pixel.specs.Rows.{pixel};
+ghost use Rattle.cc_packing.specs.Packing.{IsRgb, ArePacked};
+
+use std::simd::prelude::*;
+
+/// How many bytes are taken at a time, and written.
+pub(crate) const LANES: usize = 16;
+
+/// Red, green and blue of four pixels, and behind them their alphas.
+#[inline(always)]
+fn colours_first(v: u8x16) -> u8x16
+    requires { length v ≡ 16 }
+    ensures len { length result ≡ 16 }
+    ensures colours { (j : ℕ) → j < 4 → IsRgb (pixel v j) j result }
+{
+    v.swizzle([0, 1, 2, 4, 5, 6, 8, 9, 10, 12, 13, 14, 3, 7, 11, 15])
+}
+
+/// Packs the four pixels of a row from one on. The four bytes behind them take any value.
+#[inline(always)]
+pub(crate) fn pack_four(packed: &mut [u8], row: &[u8], place: usize)
+    requires given { 4 * place + 16 ≤ length row.now }
+    requires room { 3 * place + 16 ≤ length packed.old }
+    ensures { ArePacked place 4 row.now packed.old packed.new }
+{
+    let pixels = u8x16::from_slice(&row[4 * place..]);
+    colours_first(pixels).copy_to_slice(&mut packed[3 * place..]);
+}
