@@ -1,7 +1,7 @@
 -- A search finds what the list has.
 use Rattle.std.proofs.Common.{is_ok, sym, ◌∙◌, ap}
 use Rattle.cc_tilemanager.proofs.PinFacts.{found}
-use Rattle.cc_tilemanager.proofs.near.has_near.Goals as goal
+use Rattle.cc_tilemanager.proofs.near.has_searched.Goals as goal
 
 pub returns-in-Ok : goal.returns-in-Ok
 returns-in-Ok c =
