@@ -47,7 +47,7 @@ filter_sorted f ks r = IsSortedBy-filter (λ k q. is_lt (key_cmp k q)) (ranks_by
 found : (rs : List Rank) (key : TileKey) (at : ℕ) → at < length rs → ((d : Rank) → key_cmp (get_or rs at d).key key ≡ Equal) → IsRankAt rs key (Some at)
 found rs key at lt is = (lt, λ d. key_ties (get_or rs at d).key key (is d))
 
-absent : (rs : List Rank) (key : TileKey) (at : ℕ) → ((i : ℕ) (d : Rank) → i < at → key_cmp (get_or rs i d).key key ≡ Less)
+pub absent : (rs : List Rank) (key : TileKey) (at : ℕ) → ((i : ℕ) (d : Rank) → i < at → key_cmp (get_or rs i d).key key ≡ Less)
     → ((i : ℕ) (d : Rank) → at ≤ i → i < length rs → key_cmp (get_or rs i d).key key ≡ Greater) → IsRankAt rs key None
 absent rs key at below above r i e =
     let (k, l, f) = at_in r rs i in

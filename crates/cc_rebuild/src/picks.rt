@@ -1,12 +1,14 @@
 //! What is wanted and what is ready, by the ranks of both trees.
 //!
 //! Ranks, ready keys and pinned keys stand in key order, or nearly so, and are looked for in each other in that
-//! order: a key next to the one before it is found without a search.
+//! order: a key next to the one before it, or a few behind, is found or missed without a search.
 
-ghost use Rattle.std.specs.Prelude.{◌≡◌, ◌++◌, true, not, ◌&&◌, Some, map, filter, filter_map, IfOk};
+ghost use Rattle.std.specs.Prelude.{◌≡◌, ◌≤◌, ◌<◌, ℕ, ◌++◌, true, not, ◌&&◌, Some, None, length, get_or, map, filter, filter_map, IfOk};
+ghost use Rattle.std.specs.declared.cmp.Ordering.TheVariants.{Less, Greater};
 ghost use Rattle.std.specs.List.Sorted.{IsSorted, IsSortedByKey, IsPermutation};
 ghost use Rattle.cc_geom.specs.KeyLists.{has_key};
 ghost use Rattle.cc_geom.specs.KeyOrder.{key_cmp};
+ghost use Rattle.cc_priority.specs.declared.rank.Rank.{Rank as Ranking};
 ghost use Rattle.cc_priority.specs.Ordered.{SameMembers};
 ghost use Rattle.cc_priority.specs.Tiles.{IsRankOfKey};
 ghost use Rattle.cc_store.specs.Stores.{is_in_flight};
@@ -21,6 +23,10 @@ use cc_geom::TileKey;
 use cc_priority::{Rank, ReadyTile};
 use cc_tilemanager::{Pins, TileManager, has_near};
 use std::alloc::{AllocError, Global};
+use std::cmp::Ordering;
+
+/// How many ranks in a row are passed before the next key is searched for.
+const STEPS: usize = 8;
 
 /// These ranks in the order of their keys.
 pub(crate) fn in_key_order(ranks: Vec<Rank>) -> Vec<Rank>
@@ -72,13 +78,68 @@ fn is_at(ranks: &[Rank], at: usize, key: TileKey) -> bool
     }
 }
 
-// The same as `place_of`; at `near` the rank is found without a search.
+// The order of the key of the rank at this place to another; past the end every key is greater.
+fn order_at(ranks: &[Rank], at: usize, key: TileKey) -> Ordering
+    ensures there { (d : Ranking) → at < length ranks.now → key_cmp (get_or ranks.now at d).key key ≡ result }
+    ensures end { length ranks.now ≤ at → result ≡ Greater }
+{
+    match ranks.get(at) {
+        Some(rank) => rank.key.cmp(&key),
+        None => Ordering::Greater,
+    }
+}
+
+// A place at `near` or a few behind it: those between are of keys that are less.
+fn passed(ranks: &[Rank], near: usize, key: TileKey) -> usize {
+    let mut at = near;
+    for _ in 0..STEPS {
+        if order_at(ranks, at, key) != Ordering::Less {
+            break;
+        }
+        at = at.wrapping_add(1);
+    }
+    at
+}
+
+// Whether the keys before this place are less, which the last of them tells.
+fn are_less_before(ranks: &[Rank], at: usize, key: TileKey) -> bool
+    requires { IsSortedByKey rank_key key_cmp ranks.now }
+    ensures { result ≡ true → (i : ℕ) (d : Ranking) → i < at → key_cmp (get_or ranks.now i d).key key ≡ Less }
+{
+    if at == 0 {
+        return true;
+    }
+    order_at(ranks, at - 1, key) == Ordering::Less
+}
+
+// Whether the keys from this place on are greater, which the first of them tells.
+fn are_greater_from(ranks: &[Rank], at: usize, key: TileKey) -> bool
+    requires { IsSortedByKey rank_key key_cmp ranks.now }
+    ensures { result ≡ true → (i : ℕ) (d : Ranking) → at ≤ i → i < length ranks.now → key_cmp (get_or ranks.now i d).key key ≡ Greater }
+{
+    order_at(ranks, at, key) == Ordering::Greater
+}
+
+// Whether no rank is seen to be of the key: it would stand at this place.
+fn is_missing_at(ranks: &[Rank], at: usize, key: TileKey) -> bool
+    requires { IsSortedByKey rank_key key_cmp ranks.now }
+    ensures { result ≡ true → IsRankAt ranks.now key None }
+{
+    let before = are_less_before(ranks, at, key);
+    let after = are_greater_from(ranks, at, key);
+    before && after
+}
+
+// The same as `place_of`; at `near` the rank is found or missed without a search.
 fn place_near(ranks: &[Rank], near: usize, key: TileKey) -> Option<usize>
     requires { IsSortedByKey rank_key key_cmp ranks.now }
     ensures { IsRankAt ranks.now key result }
 {
     if is_at(ranks, near, key) {
         return Some(near);
+    }
+    if is_missing_at(ranks, near, key) {
+        return None;
     }
     place_of(ranks, key)
 }
@@ -97,12 +158,13 @@ fn rank_at(ranks: &[Rank], key: TileKey, place: Option<usize>) -> Option<Rank>
     }
 }
 
-// A ready key with its rank, which is looked for at `near` first, and whether it is pinned. `near` is set to
-// the place behind the rank.
+// A ready key with its rank, which is looked for at `near` first and a few places behind, and whether it is
+// pinned. `near` is set to the place behind the rank, or where it would stand.
 fn ready_tile(ranks: &[Rank], near: &mut usize, key: TileKey, pinned: bool) -> ReadyTile
     requires { IsSortedByKey rank_key key_cmp ranks.now }
     ensures { (s : ScriptModel) (a p : Tree) → IsAccepted s → SameMembers ranks.now (filter_map (rank_in_both s a p) (keys_of a ++ keys_of p)) → result ≡ record { key = key; rank = rank_in_both s a p key; pinned = pinned } }
 {
+    *near = passed(ranks, *near, key);
     let place = place_near(ranks, *near, key);
     if let Some(at) = place {
         *near = at.wrapping_add(1);
