@@ -35,7 +35,7 @@ impl Job {
     }
 
     // the picture, which shares the job's list
-    fn image(&self, alloc: Global) -> Result<Arc<TileImage>, AllocError>
+    pub(crate) fn image(&self, alloc: Global) -> Result<Arc<TileImage>, AllocError>
         requires { IsSound self.now.rect }
         ensures { IfOk result (λ image. image.value ≡ record { key = self.now.key; rect = self.now.rect; list = self.now.list.value }) }
     {

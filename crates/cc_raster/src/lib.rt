@@ -5,6 +5,7 @@
 //! another and show the same are drawn and kept once.
 #![tactic(auto)]
 
+mod batch;
 mod changes;
 mod draw;
 mod image;
@@ -14,5 +15,6 @@ mod rows;
 #[cfg(test)]
 mod tests;
 
+pub use batch::run_all;
 pub use image::TileImage;
 pub use job::Job;
