@@ -1,1 +1,2 @@
+pub mod ChangedRows
 pub mod Redrawn

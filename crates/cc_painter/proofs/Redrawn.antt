@@ -1,5 +1,5 @@
 -- Frames that show one scene, and so another one too.
-use Rattle.std.proofs.Common.{◌≡◌, ℕ, ◌<◌, pos, Bool, true, false, cond, List, refl, ◌∙◌, ap, subst, arith}
+use Rattle.std.proofs.Common.{◌≡◌, ℕ, ◌<◌, ℤ, pos, Bool, true, false, cond, List, refl, sym, ◌∙◌, ap, subst, arith}
 use Rattle.std.specs.Prelude.{Option, Some, IfSome}
 use Rattle.std.proofs.lemmas.Int.{ints}
 use Rattle.cc_geom.specs.declared.Rect.{Rect}
@@ -12,8 +12,10 @@ use Rattle.cc_scene.specs.Pixels.{scene_pixel}
 use Rattle.cc_render.specs.Frames.{FrameView, IsOfSize, ShowsIn, frame_pixel}
 use Rattle.cc_damage.specs.Damage.{AreAlikeOutside, screen}
 use Rattle.cc_occlude.specs.Culled.{IsCulled}
-use Rattle.cc_painter.specs.Painters.{ShowsWhole, HoldsCulled}
+use Rattle.cc_render.proofs.Hulls.{differs}
+use Rattle.cc_painter.specs.Painters.{ShowsWhole, HoldsCulled, IsKeptOutside, has_row}
 use Rattle.cc_painter.specs.inner.Helds.{HeldView, culled_of}
+use Rattle.cc_painter.specs.declared.rows.Rows.{Rows}
 
 -- a pixel of the screen
 on_screen : (s : SceneView) (x y : ℕ) → x < s.w → y < s.h → covers (screen s) (pos x) (pos y) ≡ true
@@ -46,6 +48,22 @@ shown_whole s t f culled shown = record {
   size = record { wide = shown.size.wide ∙ culled.wide; tall = shown.size.tall ∙ culled.tall };
   pixels = λ x y xw yh. shown.pixels x y xw yh ∙ culled.pixels (pos x) (pos y);
 }
+
+-- where a region was drawn, the rows outside of its rows are left
+pub kept_outside : (rows : Rows) (s : SceneView) (region : List Rect) (before after : FrameView)
+    → ((x : ℤ) (y : ℕ) → has_row rows y ≡ false → covered region x (pos y) ≡ false) → ShowsIn s region before after → IsKeptOutside rows before after
+kept_outside rows s region before after out drawn = record {
+  pixels = λ x y xw yh off.
+      drawn x y xw yh ∙ ap (λ (t : Bool). cond t (scene_pixel s (pos x) (pos y)) (frame_pixel before x y)) (out (pos x) y off);
+}
+
+-- a frame to which nothing was done
+pub same_kept : (rows : Rows) (f : FrameView) → IsKeptOutside rows f f
+same_kept rows f = record { pixels = λ x y xw yh off. refl }
+
+-- outside of all rows of a frame there is none
+pub all_kept : (rows : Rows) (before after : FrameView) → ((y : ℕ) → y < after.h → has_row rows y ≡ true) → IsKeptOutside rows before after
+all_kept rows before after each = record { pixels = λ x y xw yh off. absurd (differs _ off (each y yh)) }
 
 -- a scene that is held again
 pub holds_it : (s : SceneView) (held : Option HeldView) (h : HeldView) → held ≡ Some h → IsCulled h.scene h.culled → h.scene ≡ s → HoldsCulled s (culled_of held)

@@ -4,12 +4,15 @@
 //! its hidden quads are left out, it is compared with the held one, and the damage alone is drawn. Where no
 //! scene is held, or one of another size, the whole is drawn.
 //!
-//! In: scenes. Out: the frame, which shows the last one. Want of memory costs the held scene, so the next one
-//! is drawn whole.
+//! In: scenes. Out: the frame, which shows the last one, and the rows that drawing it may have changed. Want of
+//! memory costs the held scene, so the next one is drawn whole.
 #![tactic(auto)]
 
+mod changes;
 mod held;
 mod painting;
 mod redrawing;
+mod rows;
 
 pub use painting::Painter;
+pub use rows::Rows;

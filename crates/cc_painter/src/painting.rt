@@ -3,10 +3,12 @@
 ghost use Rattle.std.specs.Prelude.{◌≡◌, None, IfOk, OnOk, OnErr};
 ghost use Rattle.cc_scene.specs.Sound.{IsSide};
 ghost use Rattle.cc_render.specs.Frames.{IsOfSize, EachIs, black};
-ghost use Rattle.cc_painter.specs.Painters.{ShowsWhole, HoldsCulled};
+ghost use Rattle.cc_painter.specs.Painters.{ShowsWhole, HoldsCulled, IsKeptOutside};
 
+use crate::changes::{all_rows, no_rows};
 use crate::held::{Held, is_held};
 use crate::redrawing::show_next;
+use crate::rows::Rows;
 use cc_render::Frame;
 use cc_scene::Scene;
 use std::alloc::{AllocError, Global};
@@ -19,6 +21,8 @@ pub struct Painter {
     frame: Frame,
     // the scene that the frame shows; None at first and after a refusal
     held: Option<Held>,
+    // the rows that the last drawing may have changed
+    changed: Rows,
 }
 
 impl Model for Painter {
@@ -27,9 +31,9 @@ impl Model for Painter {
 
     ghost Value = { PainterView };
 
-    ghost view = { λ p. record { frame = p.frame; held = culled_of p.held } };
+    ghost view = { λ p. record { frame = p.frame; held = culled_of p.held; changed = p.changed } };
 
-    ghost invariant = { λ p. IsPainter (record { frame = p.frame; held = culled_of p.held }) };
+    ghost invariant = { λ p. IsPainter (record { frame = p.frame; held = culled_of p.held; changed = p.changed }) };
 }
 
 impl Painter {
@@ -43,10 +47,12 @@ impl Painter {
         ensures held { IfOk result (λ painter. painter.held ≡ None) }
     {
         let frame = Frame::new(alloc, w, h)?;
+        let changed = all_rows(&frame);
         Ok(Painter {
             alloc,
             frame,
             held: None,
+            changed,
         })
     }
 
@@ -55,6 +61,14 @@ impl Painter {
         ensures { result.now ≡ self.now.frame }
     {
         &self.frame
+    }
+
+    /// The rows that the last `show` or `paint` may have changed: outside of them the frame's pixels are those
+    /// before it. All rows where the whole was drawn or memory was refused.
+    pub fn changed_rows(&self) -> Rows
+        ensures { result ≡ self.now.changed }
+    {
+        self.changed
     }
 
     /// Draws a scene, as `paint` does, and lends the frame, which has the scene's size and pixels. An error is
@@ -70,17 +84,37 @@ impl Painter {
     /// nothing is drawn; where it holds another one of that size, only the damage is; else the whole is, into
     /// a new frame where the size differs. An error is want of memory: the painter then holds no scene, and the
     /// next one is drawn whole.
-    #[tactic(auto, using(crate::proofs::Redrawn::held_shown, crate::proofs::Redrawn::shown_whole))]
+    #[tactic(auto, using(crate::proofs::Redrawn::held_shown, crate::proofs::Redrawn::same_kept, crate::proofs::Redrawn::all_kept))]
     pub fn paint(&mut self, scene: Scene) -> Result<(), AllocError>
         ensures shown { OnOk result (ShowsWhole scene self.new.frame) }
         ensures held { OnOk result (HoldsCulled scene self.new.held) }
         ensures err { OnErr result (self.new.held ≡ None) }
+        ensures changed { IsKeptOutside self.new.changed self.old.frame self.new.frame }
     {
         if is_held(&self.held, &scene) {
+            self.changed = no_rows();
             return Ok(());
         }
+        match self.draw(scene) {
+            Ok(()) => Ok(()),
+            Err(refused) => {
+                self.changed = all_rows(&self.frame);
+                Err(refused)
+            }
+        }
+    }
+
+    // Draws a scene that is not held. Which rows an error may have changed is not told.
+    #[tactic(auto, using(crate::proofs::Redrawn::shown_whole))]
+    fn draw(&mut self, scene: Scene) -> Result<(), AllocError>
+        ensures shown { OnOk result (ShowsWhole scene self.new.frame) }
+        ensures held { OnOk result (HoldsCulled scene self.new.held) }
+        ensures err { OnErr result (self.new.held ≡ None) }
+        ensures changed { OnOk result (IsKeptOutside self.new.changed self.old.frame self.new.frame) }
+    {
         let held = self.held.take();
-        let next = show_next(self.alloc, &mut self.frame, held, scene)?;
+        let (next, changed) = show_next(self.alloc, &mut self.frame, held, scene)?;
+        self.changed = changed;
         self.held = Some(next);
         Ok(())
     }

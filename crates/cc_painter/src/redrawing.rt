@@ -3,42 +3,47 @@
 ghost use Rattle.std.specs.Prelude.{◌≡◌, IfSome, IfOk, OnOk, IsTrue};
 ghost use Rattle.cc_render.specs.Frames.{IsOfSize};
 ghost use Rattle.cc_occlude.specs.Culled.{IsCulled};
-ghost use Rattle.cc_painter.specs.Painters.{ShowsWhole};
+ghost use Rattle.cc_painter.specs.Painters.{ShowsWhole, IsKeptOutside};
 ghost use Rattle.cc_painter.specs.inner.Helds.{culled_of};
 
+use crate::changes::{all_rows, rows_of};
 use crate::held::Held;
+use crate::rows::Rows;
 use cc_damage::damage_of;
 use cc_render::{Frame, render, render_region};
 use cc_scene::Scene;
 use std::alloc::{AllocError, Global};
 
-/// Makes a frame show a scene, which is then held. An error is want of memory, and the frame then shows
-/// nothing for sure.
+/// Makes a frame show a scene, which is then held, and tells the rows outside of which its pixels are those
+/// before. An error is want of memory, and the frame then shows nothing for sure.
 pub(crate) fn show_next(
     alloc: Global,
     frame: &mut Frame,
     held: Option<Held>,
     scene: Scene,
-) -> Result<Held, AllocError>
+) -> Result<(Held, Rows), AllocError>
     requires { IfSome (culled_of held) (λ old. ShowsWhole old frame.old) }
-    ensures scene { IfOk result (λ next. next.scene ≡ scene) }
-    ensures culled { IfOk result (λ next. IsCulled scene next.culled) }
-    ensures shown { IfOk result (λ next. ShowsWhole next.culled frame.new) }
+    ensures scene { IfOk result (λ next. next.0.scene ≡ scene) }
+    ensures culled { IfOk result (λ next. IsCulled scene next.0.culled) }
+    ensures shown { IfOk result (λ next. ShowsWhole next.0.culled frame.new) }
+    ensures kept { IfOk result (λ next. IsKeptOutside next.1 frame.old frame.new) }
 {
     let next = Held::new(alloc, scene)?;
-    redraw(alloc, frame, held, next.culled())?;
-    Ok(next)
+    let changed = redraw(alloc, frame, held, next.culled())?;
+    Ok((next, changed))
 }
 
-// makes a frame show a scene: where it shows one of the same size before, only the damage is drawn
+// makes a frame show a scene, and tells the rows outside of which its pixels are those before; where it shows one
+// of the same size before, only the damage is drawn
 fn redraw(
     alloc: Global,
     frame: &mut Frame,
     held: Option<Held>,
     scene: &Scene,
-) -> Result<(), AllocError>
+) -> Result<Rows, AllocError>
     requires { IfSome (culled_of held) (λ old. ShowsWhole old frame.old) }
-    ensures { OnOk result (ShowsWhole scene.now frame.new) }
+    ensures shown { OnOk result (ShowsWhole scene.now frame.new) }
+    ensures kept { IfOk result (λ rows. IsKeptOutside rows frame.old frame.new) }
 {
     match held {
         Some(old) if are_of_one_size(old.culled(), scene) => {
@@ -57,12 +62,14 @@ fn are_of_one_size(a: &Scene, b: &Scene) -> bool
 }
 
 // draws the whole of a scene
-fn draw_whole(alloc: Global, frame: &mut Frame, scene: &Scene) -> Result<(), AllocError>
-    ensures { OnOk result (ShowsWhole scene.now frame.new) }
+#[tactic(auto, using(crate::proofs::Redrawn::all_kept))]
+fn draw_whole(alloc: Global, frame: &mut Frame, scene: &Scene) -> Result<Rows, AllocError>
+    ensures shown { OnOk result (ShowsWhole scene.now frame.new) }
+    ensures kept { IfOk result (λ rows. IsKeptOutside rows frame.old frame.new) }
 {
     fit(alloc, frame, scene)?;
     render(scene, frame)?;
-    Ok(())
+    Ok(all_rows(frame))
 }
 
 // takes a new frame where the old one is not of a scene's size
@@ -83,13 +90,14 @@ fn draw_damage(
     frame: &mut Frame,
     old: &Scene,
     scene: &Scene,
-) -> Result<(), AllocError>
+) -> Result<Rows, AllocError>
     requires wide { old.now.w ≡ scene.now.w }
     requires tall { old.now.h ≡ scene.now.h }
     requires shown { ShowsWhole old.now frame.old }
-    ensures { OnOk result (ShowsWhole scene.now frame.new) }
+    ensures shown { OnOk result (ShowsWhole scene.now frame.new) }
+    ensures kept { IfOk result (λ rows. IsKeptOutside rows frame.old frame.new) }
 {
     let region = damage_of(alloc, old, scene)?;
     render_region(scene, frame, &region)?;
-    Ok(())
+    Ok(rows_of(&region))
 }
