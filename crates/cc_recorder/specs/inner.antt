@@ -1,3 +1,4 @@
+pub mod Packed
 pub mod Parts
 pub mod Scenes
 pub mod Ways

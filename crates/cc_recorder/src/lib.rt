@@ -9,6 +9,7 @@
 
 mod image;
 mod lockstep;
+mod pictures;
 mod recorder;
 mod writing;
 

@@ -7,12 +7,11 @@ ghost use Rattle.cc_recorder.specs.Writing.{PutsAll, WriteCause};
 ghost use Rattle.cc_recorder.specs.inner.Parts.{WritesPart};
 ghost use Rattle.cc_recorder.specs.inner.Scenes.{is_draw as is_draw_of, scene_image, scene_of, left_behind, image_if, shown_piece, shown_pieces};
 
-use crate::image::fill_image;
+use crate::pictures::Pictures;
 use crate::writing::{WriteStop, flush, flush_many, put_behind};
 use cc_event::{Event, History};
 use cc_io::Sink;
-use cc_painter::Painter;
-use cc_record::push_event;
+use cc_record::{push_event, push_image_head};
 use cc_scene::Scene;
 use std::alloc::{AllocError, Global};
 use std::vec::IntoIter;
@@ -22,10 +21,8 @@ use std::vec::IntoIter;
 pub(crate) struct Recorder {
     /// the lines that were not put yet
     pub(crate) lines: Vec<u8>,
-    /// room for an image
-    image: Vec<u8>,
-    /// draws one scene after another
-    painter: Painter,
+    /// the picture of the last draw
+    pictures: Pictures,
 }
 
 // Whether the event shows a picture.
@@ -64,18 +61,16 @@ impl Recorder {
     {
         Ok(Recorder {
             lines: header_of(alloc, script)?,
-            image: Vec::new(alloc),
-            painter: Painter::new(alloc, 1, 1)?,
+            pictures: Pictures::new(alloc)?,
         })
     }
 
-    // Makes the image that of a scene.
+    // Makes the picture of a scene, and adds the head of its image to the lines.
     fn draw(&mut self, scene: Scene) -> Result<(), AllocError>
-        ensures lines { self.new.lines.items ≡ self.old.lines.items }
-        ensures image { OnOk result (self.new.image.items ≡ scene_image scene) }
+        ensures { OnOk result (self.new.lines.items ++ self.new.pictures.packed ≡ self.old.lines.items ++ scene_image scene) }
     {
-        let frame = self.painter.show(scene)?;
-        fill_image(&mut self.image, frame)
+        self.pictures.show(scene)?;
+        push_image_head(&mut self.lines, self.pictures.w(), self.pictures.h())
     }
 
     // Writes the image of a scene.
@@ -85,7 +80,7 @@ impl Recorder {
         ensures cause { WriteCause (K.faults out.old) (K.faults out.new) result }
     {
         match self.draw(scene) {
-            Ok(()) => put_behind(out, &mut self.lines, self.image.as_slice()),
+            Ok(()) => put_behind(out, &mut self.lines, self.pictures.packed()),
             Err(_) => Err(WriteStop::Memory),
         }
     }

@@ -1,0 +1,76 @@
+//! Pictures of scenes, and their pixels as an image has them.
+
+ghost use Rattle.std.specs.Prelude.{◌≡◌, OnOk};
+ghost use Rattle.cc_painter.specs.Painters.{ShowsWhole};
+ghost use Rattle.cc_recorder.specs.inner.Packed.{IsPacked};
+
+use crate::image::repack;
+use cc_painter::Painter;
+use cc_scene::Scene;
+use std::alloc::{AllocError, Global};
+use std::marker::Model;
+
+/// A painter, and the packed pixels of its frame. Only the rows that a drawing may have changed are packed
+/// again.
+#[derive(Drop)]
+pub(crate) struct Pictures {
+    painter: Painter,
+    // none at first and after want of memory
+    packed: Vec<u8>,
+}
+
+impl Model for Pictures {
+    ghost use Rattle.cc_recorder.specs.inner.Packed.{PicturesView, ArePictures};
+
+    ghost Value = { PicturesView };
+
+    ghost view = { λ p. record { frame = p.painter.frame; packed = p.packed.items } };
+
+    ghost invariant = { λ p. ArePictures (record { frame = p.painter.frame; packed = p.packed.items }) };
+}
+
+impl Pictures {
+    /// Nothing is shown yet. An error is want of memory.
+    pub(crate) fn new(alloc: Global) -> Result<Pictures, AllocError> {
+        let painter = Painter::new(alloc, 1, 1)?;
+        Ok(Pictures {
+            painter,
+            packed: Vec::new(alloc),
+        })
+    }
+
+    /// The width of the last picture in pixels.
+    pub(crate) fn w(&self) -> u32
+        ensures { result ≡ self.now.frame.w }
+    {
+        self.painter.frame().w()
+    }
+
+    /// The height of the last picture in pixels.
+    pub(crate) fn h(&self) -> u32
+        ensures { result ≡ self.now.frame.h }
+    {
+        self.painter.frame().h()
+    }
+
+    /// Red, green and blue of each pixel of the last picture, row by row from the top.
+    pub(crate) fn packed(&self) -> &[u8]
+        ensures { result.now ≡ self.now.packed }
+    {
+        &self.packed
+    }
+
+    /// Makes the picture of a scene. An error is want of memory.
+    pub(crate) fn show(&mut self, scene: Scene) -> Result<(), AllocError>
+        ensures shown { OnOk result (ShowsWhole scene self.new.frame) }
+        ensures packed { OnOk result (IsPacked self.new.frame self.new.packed) }
+    {
+        let (w, h) = (self.w(), self.h());
+        if let Err(refused) = self.painter.paint(scene) {
+            self.packed.clear();
+            return Err(refused);
+        }
+        let changed = self.painter.changed_rows();
+        repack(&mut self.packed, self.painter.frame(), changed, w, h)
+    }
+}
