@@ -11,8 +11,11 @@ use cc_pixel::Colour;
 use cc_tree::Offsets;
 use std::alloc::{AllocError, Global};
 
-/// A point of the page.
-const POINT: Point = Point { x: 700, y: 700 };
+/// A point of the page. What was counted before moves it a little, so that no answer serves twice.
+fn point_after(sum: u64) -> Point {
+    let x = 700 + (sum % 8) as i32;
+    Point { x, y: 700 }
+}
 
 /// How much a wheel asks for: more than a chain takes.
 const ASKED: Point = Point {
@@ -139,7 +142,7 @@ pub(crate) fn targets(alloc: Global, size: PageSize, times: u32) -> Result<u64, 
     let offsets = offsets_of(alloc, &tree)?;
     let mut sum = 0u64;
     for _turn in 0..times {
-        sum = sum.wrapping_add(target(&tree, &offsets, POINT) as u64);
+        sum = sum.wrapping_add(target(&tree, &offsets, point_after(sum)) as u64);
     }
     Ok(sum)
 }
@@ -150,7 +153,7 @@ pub(crate) fn wheels(alloc: Global, size: PageSize, times: u32) -> Result<u64, A
     let offsets = offsets_of(alloc, &tree)?;
     let mut sum = 0u64;
     for _turn in 0..times {
-        let wheel = wheel_parts(alloc, &tree, &offsets, POINT, ASKED)?;
+        let wheel = wheel_parts(alloc, &tree, &offsets, point_after(sum), ASKED)?;
         sum = sum.wrapping_add(wheel.parts.len() as u64);
     }
     Ok(sum)
