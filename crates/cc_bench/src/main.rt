@@ -12,7 +12,7 @@
 //!   sum of the ids of the layers that a point hits, or of how many scrollers a wheel there moves,
 //! - what `redraws` lists.
 //!
-//! The script `bench/rows` times it.
+//! The scripts `bench/rows` and `bench/redraws` time it.
 #![tactic(auto)]
 
 mod hits;
@@ -23,6 +23,7 @@ mod pool;
 mod redraws;
 mod rows;
 mod scenes;
+mod scrolled;
 mod showing;
 mod sketch;
 mod tiles;

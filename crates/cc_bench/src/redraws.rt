@@ -4,9 +4,11 @@
 //! - `copy LAYERS TIMES`, `cull LAYERS TIMES`, `damage LAYERS TIMES`: a scene of 1024 by 1024 pixels of so many
 //!   layers of 25 tiles is copied, has its hidden quads left out, or is compared with its equal,
 //! - `show LAYERS TIMES`, `tile LAYERS TIMES`: a painter shows copies of that scene, or of two that differ in
-//!   one tile of the last layer, one after the other.
+//!   one tile of the last layer, one after the other,
+//! - `scroll DOWN TIMES`: a painter shows the page of `scrolled` by turns where it is not scrolled and so many
+//!   pixels further down.
 
-use crate::{pairs, showing};
+use crate::{pairs, scrolled, showing};
 use std::io;
 
 /// What to do.
@@ -14,6 +16,8 @@ use std::io;
 enum Task {
     /// Tries pairs of scenes.
     Pairs,
+    /// Scrolls a page.
+    Scroll,
     /// Does one thing with a large scene, again and again.
     Large(showing::Act),
 }
@@ -22,6 +26,7 @@ enum Task {
 fn task_of(name: &str) -> Option<Task> {
     match name {
         "pairs" => Some(Task::Pairs),
+        "scroll" => Some(Task::Scroll),
         "copy" => Some(Task::Large(showing::Act::Copy)),
         "cull" => Some(Task::Large(showing::Act::Cull)),
         "damage" => Some(Task::Large(showing::Act::Damage)),
@@ -47,6 +52,10 @@ pub(crate) fn run(rt: &HostRuntime, words: &[String]) -> io::Result<bool> {
     };
     match task {
         Task::Pairs => pairs::tell(rt, first, second)?,
+        Task::Scroll => {
+            let sum = scrolled::sum_of(rt.alloc(), first, second)?;
+            println!(rt; "{sum}")?;
+        }
         Task::Large(act) => {
             let sum = showing::sum_of(rt.alloc(), act, first, second)?;
             println!(rt; "{sum}")?;

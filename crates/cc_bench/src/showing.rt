@@ -99,8 +99,13 @@ fn show_copy(alloc: Global, painter: &mut Painter, scene: &Scene) -> Result<u64,
     }
 }
 
-// shows copies of two scenes by turns, so many times
-fn shows(alloc: Global, first: &Scene, second: &Scene, times: u32) -> Result<u64, AllocError> {
+/// Shows copies of two scenes by turns, so many times, and gives a sum of the first bytes.
+pub(crate) fn shows(
+    alloc: Global,
+    first: &Scene,
+    second: &Scene,
+    times: u32,
+) -> Result<u64, AllocError> {
     let mut painter = Painter::new(alloc, 1024, 1024)?;
     let mut sum = 0u64;
     for turn in 0..times {
