@@ -10,11 +10,12 @@
 //! - `target LAYERS NODES DEPTH TIMES`, `wheel LAYERS NODES DEPTH TIMES`: a page of so many layers and so many
 //!   nodes in each property tree, which stand in chains of DEPTH; the lowest layer alone shows. It prints the
 //!   sum of the ids of the layers that a point hits, or of how many scrollers a wheel there moves,
-//! - what `redraws` lists.
+//! - what `redraws` lists, and what `frames` does.
 //!
-//! The scripts `bench/rows` and `bench/redraws` time it.
+//! The scripts `bench/rows`, `bench/redraws` and `bench/pushes` time it.
 #![tactic(auto)]
 
+mod frames;
 mod hits;
 mod job;
 mod large;
@@ -33,7 +34,7 @@ use std::{env, io};
 
 fn main(rt: HostRuntime) -> io::Result<()> {
     let words: Vec<String> = env::args(&rt)?.skip(1).collect(rt.alloc())?;
-    if redraws::run(&rt, words.as_slice())? {
+    if redraws::run(&rt, words.as_slice())? || frames::run(&rt, words.as_slice())? {
         return Ok(());
     }
     let Some(job) = Job::of_words(words.as_slice()) else {
