@@ -1,0 +1,49 @@
+//! The entries of a history's lines, and lines that are changed.
+
+use crate::fault::LineFault;
+use cc_event::{Entry, Event};
+use cc_record::read_event;
+use std::alloc::{AllocError, Global};
+
+/// The actor whose event it is.
+fn actor_of(event: &Event) -> u32 {
+    match event {
+        Event::Ready { .. } | Event::Abort { .. } => 1,
+        Event::Start { worker, .. } | Event::DoneTile { worker, .. } => worker.saturating_add(2),
+        Event::Stop { actor } => *actor,
+        _ => 0,
+    }
+}
+
+/// The entries of lines, each by the actor whose event it is.
+pub fn entries(alloc: Global, lines: &str) -> Result<Vec<Entry>, LineFault> {
+    let mut entries = Vec::new(alloc);
+    for line in lines.split("; ") {
+        let line = format!(in alloc; "{line}\n")?;
+        let event = read_event(alloc, line.as_bytes())?.ok_or(LineFault::NoEvent)?;
+        let entry = Entry {
+            actor: actor_of(&event),
+            event,
+        };
+        entries.push(entry).map_err(AllocError::from)?;
+    }
+    Ok(entries)
+}
+
+/// The lines with some of them, which stand there once, changed into others.
+pub fn changed(alloc: Global, lines: &str, old: &str, new: &str) -> Result<String, LineFault> {
+    let whole = format!(in alloc; "; {lines}; ")?;
+    let old = format!(in alloc; "; {old}; ")?;
+    let (before, after) = whole
+        .as_str()
+        .split_once(old.as_str())
+        .ok_or(LineFault::NotOnce)?;
+    if after.contains(old.as_str()) {
+        return Err(LineFault::NotOnce);
+    }
+    let text = format!(in alloc; "{before}; {new}; {after}")?;
+    let text = text.as_str();
+    let text = text.strip_prefix("; ").unwrap_or(text);
+    let text = text.strip_suffix("; ").unwrap_or(text);
+    Ok(text.to_string(alloc)?)
+}

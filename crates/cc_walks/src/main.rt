@@ -1,0 +1,34 @@
+//! Walks the compositor through histories of scripts, right ones and changed ones, entry by entry, and
+//! compares where it stops with a table.
+//!
+//! The compositor and its main side run on this thread, and so do the workers: each entry of a history is
+//! asked for by its kind and its actor. Where the event that was entered is another one, or none is possible,
+//! the walk stops.
+//!
+//! The table is read from standard input; a line that begins with `#` and an empty one say nothing.
+//!
+//! | Line | What it says |
+//! |---|---|
+//! | `script: JSON` | the script of the histories below it, for one worker |
+//! | `workers: N` | the number of workers of the histories below it, 1 to 16 |
+//! | `history TITLE: LINE; LINE; ..` | the lines of a history, which is legal: the walk goes through |
+//! | `    LINE; .. => LINE; .. \| N WHAT` | lines of the history above, which stand in it once, become others, and the walk stops at entry N, counted from 0; WHAT says what is wrong with it |
+//!
+//! Standard output tells how many histories of both kinds and how many entries there were, so that none gets
+//! lost, and each walk that ends elsewhere, with its line. One of these, or a line that can't be read, ends in
+//! status 1 and one line on standard error.
+#![tactic(auto)]
+
+mod fault;
+mod lines;
+mod same;
+mod walk;
+mod walks;
+
+use crate::walks::Walks;
+use cc_table::check_table;
+use std::process::ExitCode;
+
+fn main(rt: HostRuntime) -> ExitCode {
+    check_table(&rt, &mut Walks::new(rt.alloc()))
+}
