@@ -1,0 +1,9 @@
+pub mod KeySets
+pub mod QueueFacts
+pub mod TileSteps
+pub mod MainSteps
+pub mod HostFacts
+pub mod EmptyTrees
+pub mod EventFacts
+pub mod DueEvents
+pub mod StateFacts

@@ -1,0 +1,10 @@
+-- The tiles of the keys so far.
+use Rattle.std.proofs.Common.{◌≡◌, map, take}
+use Rattle.std.specs.Prelude.{option_copied}
+use Rattle.cc_event.specs.Tiles.{Tree}
+use Rattle.cc_steps.specs.Choices.{tile_in_both}
+use Rattle.cc_ranks.specs.SeenTrees.{IsSeenWhere}
+use Rattle.cc_judge.proofs.queues.ready_tiles.Given as goal
+
+abbrev pub invariant-loop-key : goal.invariant-loop-key
+invariant-loop-key l = (a p : Tree) → IsSeenWhere a (option_copied l.active) → IsSeenWhere p (option_copied l.pending) → l.ready.items ≡ map (tile_in_both l.script a p l.pins) (take l.key-index l.keys)

@@ -1,0 +1,10 @@
+-- What is given up is what the queue tells.
+use Rattle.cc_log.specs.Runs.{past}
+use Rattle.cc_judge.proofs.DueEvents.{start_is}
+use Rattle.cc_judge.proofs.state.State.start_of.Goals as goal
+
+pub returns : goal.returns
+returns c =
+    let r = c.args.self.now.log in
+    let f = c.requires.first in
+    start_is r.script (past r) c.args.actor c.requires.free c.args.key f c.in_ok-evicted.evicted (c.in_ok-evicted.ensures r.script r.workers (past r) f.rank c.requires.state.tiles f.is_first f.key)

@@ -1,0 +1,5 @@
+pub mod Tiles
+pub mod Mains
+pub mod Hosts
+pub mod SameEvents
+pub mod States

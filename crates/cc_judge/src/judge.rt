@@ -1,0 +1,65 @@
+//! A judge of histories.
+
+ghost use Rattle.std.specs.Prelude.{◌≡◌, ◌≤◌, IfOk};
+ghost use Rattle.cc_log.specs.Runs.{new_run};
+ghost use Rattle.cc_judge.specs.Judging.{Enters};
+
+use crate::state::State;
+use cc_event::{Entry, Script};
+use std::alloc::{AllocError, Global};
+use std::marker::Model;
+use std::sync::Arc;
+
+/// A judge of a history of a script: it is told the entries one after another, and keeps the state of the
+/// model after them.
+///
+/// Contracts see the run of the entries that it has entered. By its type it is legal.
+#[derive(Drop)]
+pub struct Judge {
+    state: State,
+    // memory was refused, and the state is of no use any more
+    is_spent: bool,
+}
+
+impl Model for Judge {
+    ghost use Rattle.std.specs.Prelude.{◌≡◌, false};
+    ghost use Rattle.cc_log.specs.Runs.{Run};
+    ghost use Rattle.cc_judge.specs.inner.States.{IsState};
+
+    ghost Value = { Run };
+
+    ghost view = { λ j. j.state.log };
+
+    ghost invariant = { λ j. j.is_spent ≡ false → IsState j.state };
+}
+
+impl Judge {
+    /// The judge of a run in which nothing has come yet, with up to 16 workers. An error is want of memory.
+    pub fn new(alloc: Global, script: Arc<Script>, workers: u32) -> Result<Judge, AllocError>
+        requires { workers ≤ 16 }
+        ensures { IfOk result (λ judge. judge ≡ new_run script.value workers) }
+    {
+        let state = State::new(alloc, script, workers)?;
+        Ok(Judge {
+            state,
+            is_spent: false,
+        })
+    }
+
+    /// Enters an entry where it may come next, and answers whether it may. An error is want of memory, and
+    /// comes at each later call too.
+    pub fn enter(&mut self, entry: &Entry) -> Result<bool, AllocError>
+        ensures { IfOk result (Enters self.old entry.now self.new) }
+    {
+        if self.is_spent {
+            return Err(AllocError);
+        }
+        match self.state.enter(entry) {
+            Ok(yes) => Ok(yes),
+            Err(refused) => {
+                self.is_spent = true;
+                Err(refused)
+            }
+        }
+    }
+}

@@ -1,0 +1,46 @@
+//! The state of a run.
+
+ghost use Rattle.std.specs.Prelude.{◌≡◌, ◌≤◌, IfOk};
+ghost use Rattle.cc_log.specs.Runs.{new_run};
+ghost use Rattle.cc_judge.specs.inner.States.{IsState};
+
+use crate::main_side::MainSide;
+use crate::tile_keys::TileKeys;
+use cc_event::Script;
+use cc_host::ImplHost;
+use cc_log::Log;
+use std::alloc::{AllocError, Global};
+use std::sync::Arc;
+
+/// The state of a run: its history with how far it has come, the trees and where their scrollers stand, its
+/// tiles as keys, and the main side.
+///
+/// Contracts say when its parts are those of its run: `IsState`.
+#[derive(Drop)]
+pub(crate) struct State {
+    pub(crate) log: Log,
+    pub(crate) host: ImplHost,
+    pub(crate) tiles: TileKeys,
+    pub(crate) main: MainSide,
+    pub(crate) alloc: Global,
+}
+
+impl State {
+    /// The state of a run in which nothing has come yet, with up to 16 workers. An error is want of memory.
+    pub(crate) fn new(alloc: Global, script: Arc<Script>, workers: u32) -> Result<State, AllocError>
+        requires { workers ≤ 16 }
+        ensures run { IfOk result (λ state. state.log ≡ new_run script.value workers) }
+        ensures state { IfOk result IsState }
+    {
+        let main = MainSide::new(alloc, Arc::try_clone(&script)?);
+        let tiles = TileKeys::new(alloc, workers)?;
+        let log = Log::new(alloc, script, workers)?;
+        Ok(State {
+            log,
+            host: ImplHost::new(alloc),
+            tiles,
+            main,
+            alloc,
+        })
+    }
+}
