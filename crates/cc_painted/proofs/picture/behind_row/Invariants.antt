@@ -1,0 +1,14 @@
+-- The pixels so far are those of the painting.
+use Rattle.std.proofs.Common.{◌≡◌, ℕ, List, Some}
+use Rattle.cc_geom.specs.declared.rect.Point.{Point}
+use Rattle.cc_geom.specs.declared.tile.TileKey.{TileKey}
+use Rattle.cc_edit.specs.Pages.{Page}
+use Rattle.cc_edit.specs.Paintings.{Shows}
+use Rattle.cc_painted.specs.inner.Behind.{behind_each, pixel_of, pixel_text}
+use Rattle.cc_painted.proofs.picture.behind_row.Given as goal
+
+abbrev pub invariant-loop-x : goal.invariant-loop-x
+invariant-loop-x l = record {
+  same : l.painting ≡ l.fn.painting;
+  read : (p : Page) (offset : ℕ → Point) (missing : List TileKey) → Shows p offset missing l.fn.painting → behind_each l.x (pixel_text (pixel_of p offset missing l.background) l.y) l.bytes ≡ Some l.rest;
+}
