@@ -13,8 +13,10 @@ use crate::notes::tell;
 use crate::outcome::Outcome;
 use crate::step::run_step;
 use crate::words::{Use, use_of};
-use cc_io::{Sink, Source};
+use cc_io::{Gate, Sink, Source};
 use std::alloc::Global;
+use std::marker::Send;
+use std::sync::Wait;
 use std::thread::Threads;
 
 // Does what a use asks for, but for the line to the notes.
@@ -70,15 +72,16 @@ fn run_words<S: Source, K: Sink>(
 /// 268,435,456 of a recording. Refusals come in this order: the words (nothing is read then), the source,
 /// the limit, and what the bytes are: JSON, a script, one whose commands are all taken; or a recording.
 /// Before any of them nothing is written to `out`. The outcome's line goes to `notes`; what `notes`
-/// answers changes no outcome.
+/// answers changes no outcome. `gate` is for raster workers that run by themselves; no use has them so far.
 #[tactic(auto, using(crate::proofs::Completeness::complete))]
-pub fn run<R: Threads + Sync, S: Source, K: Sink, E: Sink>(
+pub fn run<R: Threads + Wait + Sync, S: Source, K: Sink + Send, E: Sink, G: Gate + Sync>(
     rt: &R,
     alloc: Global,
     words: &[String],
     source: &mut S,
     out: &mut K,
     notes: &mut E,
+    gate: &G,
 ) -> Outcome
     ensures words { TellsMisfit (use_in (map string_bytes words.now)) result }
     ensures untouched { OnErr (use_in (map string_bytes words.now)) ((source.new ≡ source.old) × (out.new ≡ out.old)) }
@@ -90,7 +93,7 @@ pub fn run<R: Threads + Sync, S: Source, K: Sink, E: Sink>(
     ensures complete { IfOk (use_in (map string_bytes words.now)) (λ wanted. IsComplete wanted (S.left source.old) (S.faults source.old) (S.faults source.new) (K.faults out.old) (K.faults out.new) result) }
     ensures told { Told (E.held notes.old) (E.held notes.new) (E.faults notes.old) (E.faults notes.new) (E.refusals notes.old) (E.refusals notes.new) (line_of result) }
 {
-    let _ = rt;
+    let _ = (rt, gate);
     let outcome = run_words(alloc, words, source, out);
     tell(notes, outcome);
     outcome

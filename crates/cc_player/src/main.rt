@@ -2,7 +2,7 @@
 //! pictures; or a script that is made of a number.
 #![tactic(auto)]
 
-use cc_io::{Sink, StdSink, StdSource};
+use cc_io::{OpenGate, Sink, StdSink, StdSource};
 use cc_play::run;
 use std::alloc::{AllocError, Global};
 use std::env::{Env, FillError};
@@ -105,6 +105,7 @@ fn main(rt: HostRuntime) -> ExitCode {
         &mut source,
         &mut out,
         &mut notes,
+        &OpenGate,
     );
     ExitCode::from(outcome.status())
 }

@@ -2,10 +2,11 @@
 
 use crate::case::{Case, Trouble};
 use crate::output::Short;
-use cc_io::{MemSink, MemSource};
+use cc_io::{MemSink, MemSource, OpenGate};
 use cc_play::{Outcome, run};
 use std::alloc::{AllocError, Global};
 use std::fmt;
+use std::sync::Wait;
 use std::thread::Threads;
 
 /// What a run left behind.
@@ -74,7 +75,7 @@ fn notes_of(alloc: Global, case: &Case) -> MemSink {
 }
 
 /// The run of this number.
-pub fn play<R: Threads + Sync>(
+pub fn play<R: Threads + Wait + Sync>(
     rt: &R,
     alloc: Global,
     case: &Case,
@@ -91,6 +92,7 @@ pub fn play<R: Threads + Sync>(
         &mut source,
         &mut out,
         &mut notes,
+        &OpenGate,
     );
     Ok(Played {
         outcome,

@@ -5,6 +5,7 @@ use crate::fault::RowFault;
 use crate::names::Names;
 use crate::play::play;
 use std::alloc::Global;
+use std::sync::Wait;
 use std::thread::Threads;
 
 /// What was counted.
@@ -49,7 +50,7 @@ impl Tally {
 }
 
 /// Plays the runs of a case up to the first that is wrong, which is printed. Answers whether all are right.
-fn play_case<R: Threads + Sync + Print>(
+fn play_case<R: Threads + Wait + Sync + Print>(
     rt: &R,
     alloc: Global,
     case: &Case,
@@ -75,7 +76,7 @@ fn play_case<R: Threads + Sync + Print>(
 
 impl Table {
     /// Plays the case whose lines were read.
-    fn close<R: Threads + Sync + Print>(&mut self, rt: &R) -> Result<(), RowFault> {
+    fn close<R: Threads + Wait + Sync + Print>(&mut self, rt: &R) -> Result<(), RowFault> {
         let Some(case) = self.case.take() else {
             return Ok(());
         };
@@ -87,7 +88,7 @@ impl Table {
     }
 
     /// Takes a line of a table of changes: `OLD => NEW | STATUS NOTE`.
-    fn take_change<R: Threads + Sync + Print>(
+    fn take_change<R: Threads + Wait + Sync + Print>(
         &mut self,
         rt: &R,
         line: usize,
@@ -108,7 +109,7 @@ impl Table {
     }
 
     /// Takes a line with a key.
-    fn take_key<R: Threads + Sync + Print>(
+    fn take_key<R: Threads + Wait + Sync + Print>(
         &mut self,
         rt: &R,
         line: usize,
@@ -142,7 +143,7 @@ impl Table {
     }
 
     /// Takes a line.
-    fn take<R: Threads + Sync + Print>(
+    fn take<R: Threads + Wait + Sync + Print>(
         &mut self,
         rt: &R,
         line: usize,
@@ -165,7 +166,7 @@ impl Table {
 }
 
 /// Plays the cases of a table. An error tells the line that can't be read.
-pub fn play_table<R: Threads + Sync + Print>(
+pub fn play_table<R: Threads + Wait + Sync + Print>(
     rt: &R,
     alloc: Global,
     text: &str,
