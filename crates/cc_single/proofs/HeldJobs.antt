@@ -1,6 +1,7 @@
 -- The jobs of workers stay at an event that is no worker's.
-use Rattle.std.proofs.Common.{◌≡◌, ℕ, ◌<◌, Bool, true, false, List, Option, None, refl, sym, subst}
+use Rattle.std.proofs.Common.{◌≡◌, ℕ, ◌<◌, Bool, true, false, List, Option, Some, None, refl, sym, ◌∙◌, subst}
 use Rattle.std.specs.Prelude.{slice_index_or}
+use Rattle.std.proofs.lemmas.List.{get_or_default}
 use Rattle.cc_geom.specs.declared.tile.TileKey.{TileKey}
 use Rattle.cc_raster.specs.declared.job.Job.{Job}
 use Rattle.cc_sched.specs.declared.kind.Kind.{Kind}
@@ -10,6 +11,8 @@ use Rattle.cc_event.specs.declared.event.Event.TheVariants as event
 use Rattle.cc_event.specs.declared.history.Entry.{Entry}
 use Rattle.cc_event.specs.EventFields.{kind_of, held_after}
 use Rattle.cc_event.specs.Scans.{held}
+use Rattle.cc_event.specs.Scripts.{ScriptModel}
+use Rattle.cc_steps.specs.ShownKeys.{Shows}
 use Rattle.cc_log.specs.Runs.{Run, past, with_entry}
 use Rattle.cc_single.specs.inner.Sides.{HasJob, HaveJobs}
 use Rattle.cc_single.proofs.Steps.{past_with}
@@ -32,3 +35,14 @@ jobs_stay r new a e is jobs have f = subst (λ (z : Run). HaveJobs z jobs) (sym 
     each w lt =
         subst (λ (h : List Entry). HasJob r.script (held w h) (slice_index_or jobs w None)) (sym (past_with r (with_entry r a e) a e refl))
         (subst (λ o. HasJob r.script o (slice_index_or jobs w None)) (sym (held_stays e w (held w (past r)) f)) (have.each w lt))
+
+-- a job that a worker has shows its key
+
+job_shows : (s : ScriptModel) (holds : Option TileKey) (job : Job) → HasJob s holds (Some job) → Shows s job.key job.rect job.list.value
+job_shows s None job has = absurd cc
+job_shows s (Some q) job has = subst (λ (k : TileKey). Shows s k job.rect job.list.value) (sym has.key) has.shows
+
+pub held_shows : (r : Run) (jobs : List (Option Job)) (w : ℕ) (o : Option Job) (job : Job) → HaveJobs r jobs → w < r.workers → slice_index_or jobs w o ≡ o → o ≡ Some job → Shows r.script job.key job.rect job.list.value
+held_shows r jobs w o job have lt at is =
+    job_shows r.script (held w (past r)) job
+    (subst (λ (p : Option Job). HasJob r.script (held w (past r)) p) (get_or_default jobs w None o (subst (λ (n : ℕ). w < n) (sym have.count) lt) ∙ (at ∙ is)) (have.each w lt))

@@ -14,6 +14,7 @@ use Rattle.cc_single.specs.Singles.{Answers}
 use Rattle.cc_single.specs.declared.main_side.MainSide.{MainSide}
 use Rattle.cc_single.specs.declared.workers.Workers.{Workers}
 use Rattle.cc_single.specs.declared.shown.Shown.{Shown}
+use Rattle.cc_single.specs.inner.Images.{ArePrepared}
 use Rattle.cc_single.specs.inner.Sides.{IsMain, AreWorkers, IsShown, IsSingle}
 use Rattle.cc_single.proofs.Steps.{answered, past_with}
 use Rattle.cc_single.proofs.HeldJobs.{is_works, jobs_stay}
@@ -32,11 +33,14 @@ own_not_works kind.Done t = absurd cc
 own_not_works _ t = refl
 
 module _ (old new : Run) (k : Kind) (a : ℕ) (x : Result ⊤ EnterFault) (answer : Answers old k a new x) where
-  pub few_stays : 1 ≤ old.workers → 1 ≤ new.workers
-  few_stays few = answered (λ r. 1 ≤ r.workers) old new k a x answer (λ e i is. subst (λ (r : Run). 1 ≤ r.workers) (sym is) few) few
+  pub few_stays : (1 ≤ old.workers) × (old.workers ≤ 16) → (1 ≤ new.workers) × (new.workers ≤ 16)
+  few_stays few = answered (λ r. (1 ≤ r.workers) × (r.workers ≤ 16)) old new k a x answer (λ e i is. subst (λ (r : Run). (1 ≤ r.workers) × (r.workers ≤ 16)) (sym is) few) few
 
   pub workers_stay : is_works k ≡ false → (ws : Workers) → AreWorkers old ws → AreWorkers new ws
-  workers_stay f ws have = answered (λ r. AreWorkers r ws) old new k a x answer (λ e i is. jobs_stay old new a e is ws.jobs.items have (ap is_works i ∙ f)) have
+  workers_stay f ws have = answered (λ r. AreWorkers r ws) old new k a x answer next have
+    where
+      next : (e : Event) → kind_of e ≡ k → new ≡ with_entry old a e → AreWorkers new ws
+      next e i is = (jobs_stay old new a e is ws.jobs.items have.0 (ap is_works i ∙ f), subst (λ (r : Run). ArePrepared r.script ws.prepared.images.items) (sym is) have.1)
 
   pub drawn_stays : is_draw k ≡ false → (drawn : Shown) → IsShown old drawn → IsShown new drawn
   drawn_stays f drawn are = answered (λ r. IsShown r drawn) old new k a x answer (λ e i is. shown_stays old new a e is drawn drawn refl are (ap is_draw i ∙ f) refl) are
@@ -59,12 +63,13 @@ module _ (old new : Run) (k : Kind) (a : ℕ) (x : Result ⊤ EnterFault) (answe
       → IsSingle new side after drawn
   by_worker m d side ws after drawn legal is stands = record { few = few_stays is.few; main = side_stays m side legal is.main; workers = stands; shown = drawn_stays d drawn is.shown }
 
-  -- where the compositor itself has answered
-  pub by_own : is_own k ≡ true → (side : MainSide) (ws : Workers) (drawn after : Shown) → Legal new.script new.workers (past new) → IsSingle old side ws drawn → IsShown new after → IsSingle new side ws after
-  by_own o side ws drawn after legal is stands = record {
+  -- where the compositor itself has answered, and some images that were made ahead are dropped
+  pub by_own : is_own k ≡ true → (side : MainSide) (ws left : Workers) (drawn after : Shown) → Legal new.script new.workers (past new) → IsSingle old side ws drawn → (AreWorkers new ws → AreWorkers new left) → IsShown new after
+      → IsSingle new side left after
+  by_own o side ws left drawn after legal is drops stands = record {
     few = few_stays is.few;
     main = side_stays (own_not_mains k o) side legal is.main;
-    workers = workers_stay (own_not_works k o) ws is.workers;
+    workers = drops (workers_stay (own_not_works k o) ws is.workers);
     shown = stands;
   }
 

@@ -1,5 +1,6 @@
 pub mod Steps
 pub mod HeldJobs
+pub mod AheadImages
 pub mod Drawn
 pub mod MainPulls
 pub mod MainSteps

@@ -88,6 +88,9 @@ impl SingleThread {
     {
         let answer = self.shown.play(&mut self.core, kind);
         self.core.is_legal();
+        self.workers
+            .prepared
+            .follow(kind, self.core.script().raster_per_frame());
         answer
     }
 }

@@ -8,6 +8,7 @@
 mod compositor;
 mod enter;
 mod main_side;
+mod prepared;
 mod shown;
 mod single;
 mod workers;

@@ -14,6 +14,7 @@ use std::alloc::{AllocError, Global};
 use std::marker::Model;
 use std::mem;
 use std::sync::Arc;
+use std::thread::Threads;
 
 /// A core with its main side and the jobs of its workers, all on one thread.
 ///
@@ -95,6 +96,15 @@ impl SingleThread {
         ensures few { result ≤ length self.now.run.entries }
     {
         self.shown.written
+    }
+
+    /// Makes the images of the tiles that come next, in as many threads as there are workers. Nothing is entered:
+    /// the ends of those tiles use them. An error is want of memory.
+    pub fn prepare<R: Threads + Sync>(&mut self, rt: &R) -> Result<(), AllocError>
+        ensures { self.new ≡ self.old }
+    {
+        let alloc = self.workers.alloc;
+        self.workers.prepared.prepare(rt, alloc, &self.core)
     }
 
     // There is a worker. A law that does nothing when it runs.

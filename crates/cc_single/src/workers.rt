@@ -7,16 +7,18 @@ ghost use Rattle.cc_log.specs.Runs.{new_run};
 ghost use Rattle.cc_single.specs.Singles.{Answers};
 ghost use Rattle.cc_single.specs.inner.Sides.{AreWorkers};
 
+use crate::prepared::Prepared;
 use cc_core::Core;
 use cc_lockstep::EnterFault;
 use cc_raster::Job;
 use std::alloc::{AllocError, Global};
 
-/// The job that each worker holds.
+/// The job that each worker holds, and the images that were made ahead.
 #[derive(Drop)]
 pub(crate) struct Workers {
     pub(crate) alloc: Global,
     pub(crate) jobs: Vec<Option<Job>>,
+    pub(crate) prepared: Prepared,
 }
 
 impl Workers {
@@ -28,7 +30,12 @@ impl Workers {
         for _made in 0..count {
             jobs.push(None)?;
         }
-        Ok(Workers { alloc, jobs })
+        let prepared = Prepared::new(alloc);
+        Ok(Workers {
+            alloc,
+            jobs,
+            prepared,
+        })
     }
 
     /// A worker starts the next tile, where it holds nothing and one may start.
@@ -45,6 +52,7 @@ impl Workers {
         match core.start(worker) {
             Ok(Some(job)) => {
                 self.jobs[place] = Some(job);
+                self.prepared.count_start();
                 Ok(())
             }
             Ok(None) => Err(EnterFault::NotNow),
@@ -66,7 +74,7 @@ impl Workers {
         let Some(job) = self.jobs[place].take() else {
             return Err(EnterFault::NotNow);
         };
-        match job.run(self.alloc) {
+        match self.prepared.image_of(self.alloc, job) {
             Ok(image) => {
                 core.done(worker, image);
                 Ok(())

@@ -19,6 +19,7 @@ use Rattle.cc_single.specs.Singles.{AreScenes}
 use Rattle.cc_single.specs.declared.main_side.MainSide.{MainSide}
 use Rattle.cc_single.specs.declared.workers.Workers.{Workers}
 use Rattle.cc_single.specs.declared.shown.Shown.{Shown}
+use Rattle.cc_single.specs.inner.Images.{ArePrepared}
 
 -- ---- the main side
 
@@ -89,8 +90,9 @@ pub record HaveJobs (r : Run) (jobs : List (Option Job)) : Type 0 where
   pub count : length jobs ≡ r.workers
   pub each : (w : ℕ) → w < r.workers → HasJob r.script (held w (past r)) (slice_index_or jobs w None)
 
+-- and each image that was made ahead shows its key
 abbrev pub AreWorkers : Run → Workers → Type 0
-AreWorkers r ws = HaveJobs r ws.jobs.items
+AreWorkers r ws = HaveJobs r ws.jobs.items × ArePrepared r.script ws.prepared.images.items
 
 -- ---- what was drawn
 
@@ -102,9 +104,9 @@ pub record IsShown (r : Run) (shown : Shown) : Type 0 where
 
 -- ---- all of it
 
--- they are the sides of a run that has a worker
+-- they are the sides of a run that has 1 to 16 workers
 pub record IsSingle (r : Run) (side : MainSide) (ws : Workers) (drawn : Shown) : Type 0 where
-  pub few : 1 ≤ r.workers
+  pub few : (1 ≤ r.workers) × (r.workers ≤ 16)
   pub main : IsMain r side
   pub workers : AreWorkers r ws
   pub shown : IsShown r drawn
