@@ -1,6 +1,6 @@
 //! The tile manager.
 
-ghost use Rattle.std.specs.Prelude.{◌≡◌, ℕ, ◌≤◌, true, List, [], ◌∷◌, Some, take, option_map, IfOk, OnOk, OnErr};
+ghost use Rattle.std.specs.Prelude.{◌≡◌, ℕ, ◌≤◌, true, false, List, [], ◌∷◌, Some, take, option_map, IfOk, OnOk, OnErr};
 ghost use Rattle.std.specs.List.{list_all};
 ghost use Rattle.cc_geom.specs.declared.tile.TileKey.{TileKey as Key};
 ghost use Rattle.cc_geom.specs.KeyLists.{has_key, AreDistinct};
@@ -56,8 +56,8 @@ impl Model for TileManager {
     ghost view = { λ m. record { store = m.store; pinned = m.pins; queue = m.queue } };
 }
 
-// Whether all of these keys have an image.
-fn all_ready(store: &TileStore, keys: &Keys) -> bool
+// Whether each of these keys has an image, which is asked of one after another.
+fn each_ready(store: &TileStore, keys: &Keys) -> bool
     ensures { result ≡ list_all (is_ready store.now) keys.now }
 {
     let mut near = 0;
@@ -67,6 +67,31 @@ fn all_ready(store: &TileStore, keys: &Keys) -> bool
         }
     }
     true
+}
+
+// Whether a search finds this key among these and it has no image. It always finds it where they stand in key
+// order.
+fn is_found_unready(store: &TileStore, keys: &Keys, key: TileKey) -> bool
+    ensures { result ≡ true → list_all (is_ready store.now) keys.now ≡ false }
+{
+    let keys = keys.as_slice();
+    match keys.binary_search(&key) {
+        Ok(at) => store.ready(keys[at]).is_none(),
+        Err(_) => false,
+    }
+}
+
+// Whether all of these keys have an image. The key that starts next has none: where it is one of them, the others
+// are not asked for.
+fn all_ready(store: &TileStore, keys: &Keys, next: Option<TileKey>) -> bool
+    ensures { result ≡ list_all (is_ready store.now) keys.now }
+{
+    if let Some(key) = next
+        && is_found_unready(store, keys, key)
+    {
+        return false;
+    }
+    each_ready(store, keys)
 }
 
 impl TileManager {
@@ -138,7 +163,7 @@ impl TileManager {
     pub fn are_ready(&self, keys: &Keys) -> bool
         ensures { (s : ScriptModel) (h : List Entry) → Manages s h self.now → result ≡ are_ready s h keys.now }
     {
-        all_ready(&self.store, keys)
+        all_ready(&self.store, keys, self.queue.first())
     }
 
     /// The keys that have an image, each once, in key order. An error is want of memory.
