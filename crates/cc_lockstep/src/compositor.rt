@@ -1,6 +1,7 @@
 //! A compositor as the loops of lockstep see it.
 
 ghost use Rattle.std.specs.Prelude.{◌≡◌, ℕ, Some, is_some, IfOk};
+ghost use Rattle.std.specs.Thread.{IsSync};
 ghost use Rattle.cc_sched.specs.declared.kind.Kind.TheVariants as kind;
 ghost use Rattle.cc_event.specs.EventFields.{sends};
 ghost use Rattle.cc_event.specs.Scans.{newest};
@@ -10,6 +11,7 @@ ghost use Rattle.cc_lockstep.specs.Walks.{actor_for, Entered, Run};
 
 use cc_sched::Kind;
 use std::alloc::AllocError;
+use std::thread::Threads;
 
 /// Why no event was entered.
 #[derive(Debug, Drop)]
@@ -67,4 +69,10 @@ pub trait Compositor {
     fn changes(&mut self) -> Result<bool, AllocError>
         ensures same { run self.new ≡ run self.old }
         ensures answer { IfOk result (λ answer. (k : ℕ) → newest sends (run self.old).past ≡ Some k → answer ≡ frame_changes (run self.old).script (pulls_of (run self.old).past) k) };
+
+    /// Makes images of the tiles that come next ahead, in several threads, where that is worth it. Nothing is
+    /// entered, and where memory is refused nothing is made.
+    fn make_ahead<R: Threads + Sync>(&mut self, rt: &R)
+        requires { IsSync R.row }
+        ensures { run self.new ≡ run self.old };
 }

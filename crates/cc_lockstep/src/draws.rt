@@ -9,6 +9,7 @@ use crate::frames::main_part;
 use crate::pairs::{enter, make_some};
 use cc_sched::Kind;
 use std::alloc::AllocError;
+use std::thread::Threads;
 
 /// Whether a main frame is left and no commit is pending.
 fn may_send<C: Compositor>(core: &C) -> bool
@@ -79,41 +80,47 @@ fn activate_and_draw<C: Compositor>(core: &mut C) -> Result<(), AllocError>
 }
 
 /// Makes as many tiles as a draw makes at most.
-fn make_for_draw<C: Compositor>(core: &mut C) -> Result<(), AllocError>
-    requires { CanFollow pairs_of_draw (C.run core.old) }
+fn make_for_draw<R: Threads + Sync, C: Compositor>(rt: &R, core: &mut C) -> Result<(), AllocError>
+    requires can { CanFollow pairs_of_draw (C.run core.old) }
     ensures ok { OnOk result (Follows pairs_of_draw (C.run core.old) (C.run core.new)) }
     ensures err { OnErr result (IsOnWay pairs_of_draw (C.run core.old) (C.run core.new)) }
 {
     let most = core.raster_per_frame();
-    make_some(core, most)
+    make_some(rt, core, most)
 }
 
 /// Makes the draw's tiles, activates where that is possible, draws, and ends the impl frame.
-fn make_and_draw<C: Compositor>(core: &mut C) -> Result<(), AllocError>
-    requires { CanFollow draw_made (C.run core.old) }
+fn make_and_draw<R: Threads + Sync, C: Compositor>(rt: &R, core: &mut C) -> Result<(), AllocError>
+    requires can { CanFollow draw_made (C.run core.old) }
     ensures ok { OnOk result (Follows draw_made (C.run core.old) (C.run core.new)) }
     ensures err { OnErr result (IsOnWay draw_made (C.run core.old) (C.run core.new)) }
 {
-    make_for_draw(core)?;
+    make_for_draw(rt, core)?;
     activate_and_draw(core)
 }
 
 /// Plays an impl frame for a draw from its beginning on.
-fn inside_draw_frame<C: Compositor>(core: &mut C) -> Result<(), AllocError>
-    requires { CanFollow draw_rest (C.run core.old) }
+fn inside_draw_frame<R: Threads + Sync, C: Compositor>(
+    rt: &R,
+    core: &mut C,
+) -> Result<(), AllocError>
+    requires can { CanFollow draw_rest (C.run core.old) }
     ensures ok { OnOk result (Follows draw_rest (C.run core.old) (C.run core.new)) }
     ensures err { OnErr result (IsOnWay draw_rest (C.run core.old) (C.run core.new)) }
 {
     send_where(core)?;
-    make_and_draw(core)
+    make_and_draw(rt, core)
 }
 
 /// Plays an impl frame for a draw.
-pub(crate) fn draw_frame<C: Compositor>(core: &mut C) -> Result<(), AllocError>
-    requires { CanFollow DrawFrame (C.run core.old) }
+pub(crate) fn draw_frame<R: Threads + Sync, C: Compositor>(
+    rt: &R,
+    core: &mut C,
+) -> Result<(), AllocError>
+    requires can { CanFollow DrawFrame (C.run core.old) }
     ensures ok { OnOk result (Follows DrawFrame (C.run core.old) (C.run core.new)) }
     ensures err { OnErr result (IsOnWay DrawFrame (C.run core.old) (C.run core.new)) }
 {
     enter(core, Kind::BeginDraw, 0)?;
-    inside_draw_frame(core)
+    inside_draw_frame(rt, core)
 }

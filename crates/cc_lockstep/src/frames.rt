@@ -11,6 +11,7 @@ use crate::compositor::Compositor;
 use crate::pairs::{enter, pairs_until_activation};
 use cc_sched::Kind;
 use std::alloc::AllocError;
+use std::thread::Threads;
 
 /// The main side is ready, and its commit becomes the pending tree.
 fn commit<C: Compositor>(core: &mut C) -> Result<(), AllocError>
@@ -60,22 +61,29 @@ pub(crate) fn main_part<C: Compositor>(core: &mut C) -> Result<(), AllocError>
 }
 
 /// Makes the tiles that the pending commit needs, and activates it.
-fn activate<C: Compositor>(core: &mut C) -> Result<(), AllocError>
-    requires { CanFollow ActivateNow (C.run core.old) }
+fn activate<R: Threads + Sync, C: Compositor>(rt: &R, core: &mut C) -> Result<(), AllocError>
+    requires can { CanFollow ActivateNow (C.run core.old) }
     ensures ok { OnOk result (Follows ActivateNow (C.run core.old) (C.run core.new)) }
     ensures err { OnErr result (IsOnWay ActivateNow (C.run core.old) (C.run core.new)) }
 {
-    pairs_until_activation(core)?;
+    pairs_until_activation(rt, core)?;
     enter(core, Kind::Activate, 0)
 }
 
 /// Activates the pending commit, where there is one.
-fn activate_pending<C: Compositor>(core: &mut C) -> Result<(), AllocError>
-    requires { CanFollow activation_where (C.run core.old) }
+fn activate_pending<R: Threads + Sync, C: Compositor>(
+    rt: &R,
+    core: &mut C,
+) -> Result<(), AllocError>
+    requires can { CanFollow activation_where (C.run core.old) }
     ensures ok { OnOk result (Follows activation_where (C.run core.old) (C.run core.new)) }
     ensures err { OnErr result (IsOnWay activation_where (C.run core.old) (C.run core.new)) }
 {
-    if core.waits() { activate(core) } else { Ok(()) }
+    if core.waits() {
+        activate(rt, core)
+    } else {
+        Ok(())
+    }
 }
 
 /// The impl frame ends without a picture.
@@ -89,44 +97,50 @@ fn end_without_picture<C: Compositor>(core: &mut C) -> Result<(), AllocError>
 }
 
 /// Activates what the main frame committed, and ends the impl frame.
-fn end_plain_frame<C: Compositor>(core: &mut C) -> Result<(), AllocError>
-    requires { CanFollow frame_end (C.run core.old) }
+fn end_plain_frame<R: Threads + Sync, C: Compositor>(rt: &R, core: &mut C) -> Result<(), AllocError>
+    requires can { CanFollow frame_end (C.run core.old) }
     ensures ok { OnOk result (Follows frame_end (C.run core.old) (C.run core.new)) }
     ensures err { OnErr result (IsOnWay frame_end (C.run core.old) (C.run core.new)) }
 {
-    activate_pending(core)?;
+    activate_pending(rt, core)?;
     end_without_picture(core)
 }
 
 /// Plays a main frame inside the impl frame that was begun for it, and ends both.
-fn inside_plain_frame<C: Compositor>(core: &mut C) -> Result<(), AllocError>
-    requires { CanFollow frame_rest (C.run core.old) }
+fn inside_plain_frame<R: Threads + Sync, C: Compositor>(
+    rt: &R,
+    core: &mut C,
+) -> Result<(), AllocError>
+    requires can { CanFollow frame_rest (C.run core.old) }
     ensures ok { OnOk result (Follows frame_rest (C.run core.old) (C.run core.new)) }
     ensures err { OnErr result (IsOnWay frame_rest (C.run core.old) (C.run core.new)) }
 {
     main_part(core)?;
-    end_plain_frame(core)
+    end_plain_frame(rt, core)
 }
 
 /// Plays an impl frame for a main frame alone.
-fn plain_frame<C: Compositor>(core: &mut C) -> Result<(), AllocError>
-    requires { CanFollow PlainFrame (C.run core.old) }
+fn plain_frame<R: Threads + Sync, C: Compositor>(rt: &R, core: &mut C) -> Result<(), AllocError>
+    requires can { CanFollow PlainFrame (C.run core.old) }
     ensures ok { OnOk result (Follows PlainFrame (C.run core.old) (C.run core.new)) }
     ensures err { OnErr result (IsOnWay PlainFrame (C.run core.old) (C.run core.new)) }
 {
     enter(core, Kind::BeginPlain, 0)?;
-    inside_plain_frame(core)
+    inside_plain_frame(rt, core)
 }
 
 /// Activates the pending commit, or else plays a main frame.
-pub(crate) fn round<C: Compositor>(core: &mut C) -> Result<(), AllocError>
-    requires { CanFollow Round (C.run core.old) }
+pub(crate) fn round<R: Threads + Sync, C: Compositor>(
+    rt: &R,
+    core: &mut C,
+) -> Result<(), AllocError>
+    requires can { CanFollow Round (C.run core.old) }
     ensures ok { OnOk result (Follows Round (C.run core.old) (C.run core.new)) }
     ensures err { OnErr result (IsOnWay Round (C.run core.old) (C.run core.new)) }
 {
     if core.waits() {
-        activate(core)
+        activate(rt, core)
     } else {
-        plain_frame(core)
+        plain_frame(rt, core)
     }
 }

@@ -7,6 +7,7 @@ ghost use Rattle.cc_lockstep.specs.Walks.{CanFollow, Follows, IsOnWay, actor_for
 use crate::compositor::{Compositor, EnterFault};
 use cc_sched::Kind;
 use std::alloc::AllocError;
+use std::thread::Threads;
 
 /// Enters the event of this kind and of its actor, which is possible.
 pub(crate) fn enter<C: Compositor>(core: &mut C, kind: Kind, actor: u32) -> Result<(), AllocError>
@@ -23,7 +24,7 @@ pub(crate) fn enter<C: Compositor>(core: &mut C, kind: Kind, actor: u32) -> Resu
 }
 
 /// Starts and makes the tile that is first.
-pub(crate) fn pair<C: Compositor>(core: &mut C) -> Result<(), AllocError>
+fn start_and_make<C: Compositor>(core: &mut C) -> Result<(), AllocError>
     requires { CanFollow Pair (C.run core.old) }
     ensures ok { OnOk result (Follows Pair (C.run core.old) (C.run core.new)) }
     ensures err { OnErr result (IsOnWay Pair (C.run core.old) (C.run core.new)) }
@@ -32,39 +33,59 @@ pub(crate) fn pair<C: Compositor>(core: &mut C) -> Result<(), AllocError>
     enter(core, Kind::Done, 2)
 }
 
+/// Starts and makes the tile that is first, which may be made ahead together with those behind it.
+pub(crate) fn pair<R: Threads + Sync, C: Compositor>(rt: &R, core: &mut C) -> Result<(), AllocError>
+    requires can { CanFollow Pair (C.run core.old) }
+    ensures ok { OnOk result (Follows Pair (C.run core.old) (C.run core.new)) }
+    ensures err { OnErr result (IsOnWay Pair (C.run core.old) (C.run core.new)) }
+{
+    core.make_ahead(rt);
+    start_and_make(core)
+}
+
 /// Makes tiles until the pending commit can be activated.
-pub(crate) fn pairs_until_activation<C: Compositor>(core: &mut C) -> Result<(), AllocError>
-    requires { CanFollow pairs_to_activation (C.run core.old) }
+pub(crate) fn pairs_until_activation<R: Threads + Sync, C: Compositor>(
+    rt: &R,
+    core: &mut C,
+) -> Result<(), AllocError>
+    requires can { CanFollow pairs_to_activation (C.run core.old) }
     ensures ok { OnOk result (Follows pairs_to_activation (C.run core.old) (C.run core.new)) }
     ensures err { OnErr result (IsOnWay pairs_to_activation (C.run core.old) (C.run core.new)) }
 {
     while !core.can_activate() {
-        pair(core)?;
+        pair(rt, core)?;
     }
     Ok(())
 }
 
 /// Makes all tiles that may start.
-pub(crate) fn make_all<C: Compositor>(core: &mut C) -> Result<(), AllocError>
-    requires { CanFollow all_pairs (C.run core.old) }
+pub(crate) fn make_all<R: Threads + Sync, C: Compositor>(
+    rt: &R,
+    core: &mut C,
+) -> Result<(), AllocError>
+    requires can { CanFollow all_pairs (C.run core.old) }
     ensures ok { OnOk result (Follows all_pairs (C.run core.old) (C.run core.new)) }
     ensures err { OnErr result (IsOnWay all_pairs (C.run core.old) (C.run core.new)) }
 {
     while core.has_first() {
-        pair(core)?;
+        pair(rt, core)?;
     }
     Ok(())
 }
 
 /// Makes at most so many tiles.
-pub(crate) fn make_some<C: Compositor>(core: &mut C, most: u32) -> Result<(), AllocError>
-    requires { CanFollow (pairs_at_most most) (C.run core.old) }
+pub(crate) fn make_some<R: Threads + Sync, C: Compositor>(
+    rt: &R,
+    core: &mut C,
+    most: u32,
+) -> Result<(), AllocError>
+    requires can { CanFollow (pairs_at_most most) (C.run core.old) }
     ensures ok { OnOk result (Follows (pairs_at_most most) (C.run core.old) (C.run core.new)) }
     ensures err { OnErr result (IsOnWay (pairs_at_most most) (C.run core.old) (C.run core.new)) }
 {
     let mut left = most;
     while left > 0 && core.has_first() {
-        pair(core)?;
+        pair(rt, core)?;
         left -= 1;
     }
     Ok(())

@@ -17,6 +17,7 @@ use cc_recorder::{Recorded, record_lockstep};
 use cc_sums::SumSink;
 use std::alloc::Global;
 use std::sync::Arc;
+use std::thread::Threads;
 
 // The counts of a run and of its recording.
 #[derive(Clone, Copy, Drop)]
@@ -44,23 +45,23 @@ fn summary_of(run: &Recorded, sink: &SumSink) -> Option<Summary>
 }
 
 // Plays a script and counts what its recording holds; None where there is no memory.
-fn play_summed(alloc: Global, script: Arc<Script>) -> Option<Summary>
+fn play_summed<R: Threads + Sync>(rt: &R, alloc: Global, script: Arc<Script>) -> Option<Summary>
     ensures { IfSome result (IsDemoSummary script.value) }
 {
     let mut sink = SumSink::new(alloc).ok()?;
-    match record_lockstep(alloc, script, 1, &mut sink) {
+    match record_lockstep(rt, alloc, script, 1, &mut sink) {
         Ok(run) => summary_of(&run, &sink),
         Err(_) => None,
     }
 }
 
 // Plays the script of a number and counts what its recording holds; None where there is no memory.
-fn demo_of(alloc: Global, number: u64) -> Option<Summary>
+fn demo_of<R: Threads + Sync>(rt: &R, alloc: Global, number: u64) -> Option<Summary>
     ensures { IfSome result (IsDemoSummary (numbered_script number)) }
 {
     let script = script_of_number(alloc, number).ok()?;
     let shared = Arc::new(alloc, script).ok()?;
-    play_summed(alloc, shared)
+    play_summed(rt, alloc, shared)
 }
 
 // The line of the counts.
@@ -84,12 +85,17 @@ fn line(summary: Summary) -> [Fragment; 11]
 
 /// Plays the script of a number and writes the line that sums up its recording. No byte of the recording
 /// is kept.
-pub fn run_demo<K: Sink>(alloc: Global, number: u64, out: &mut K) -> Outcome
+pub fn run_demo<R: Threads + Sync, K: Sink>(
+    rt: &R,
+    alloc: Global,
+    number: u64,
+    out: &mut K,
+) -> Outcome
     ensures output { WritesSome (IsDemoOf (numbered_script number)) (K.held out.old) (K.held out.new) result }
     ensures grows { K.faults out.old ≤ K.faults out.new }
     ensures cause { Causes 0 0 (K.faults out.old) (K.faults out.new) result }
 {
-    let Some(summary) = demo_of(alloc, number) else {
+    let Some(summary) = demo_of(rt, alloc, number) else {
         return Outcome::Memory;
     };
     match put_fragments(out, &line(summary)) {

@@ -21,7 +21,13 @@ use std::thread::Threads;
 
 // Does what a use asks for, but for the line to the notes.
 #[tactic(auto, using(crate::proofs::Outputs::some_words, crate::proofs::Outputs::some_unread, crate::proofs::Outputs::some_output))]
-fn run_use<S: Source, K: Sink>(alloc: Global, wanted: Use, source: &mut S, out: &mut K) -> Outcome
+fn run_use<R: Threads + Sync, S: Source, K: Sink>(
+    rt: &R,
+    alloc: Global,
+    wanted: Use,
+    source: &mut S,
+    out: &mut K,
+) -> Outcome
     requires { IsFew wanted }
     ensures words { TellsMisfit (Ok wanted) result }
     ensures input { CauseFrom wanted (S.left source.old) result }
@@ -31,15 +37,16 @@ fn run_use<S: Source, K: Sink>(alloc: Global, wanted: Use, source: &mut S, out: 
     ensures cause { Causes (S.faults source.old) (S.faults source.new) (K.faults out.old) (K.faults out.new) result }
 {
     match wanted {
-        Use::Step { workers } => run_step(alloc, workers, source, out),
+        Use::Step { workers } => run_step(rt, alloc, workers, source, out),
         Use::Gen { number } => run_gen(alloc, number, out),
-        Use::Demo { number } => run_demo(alloc, number, out),
+        Use::Demo { number } => run_demo(rt, alloc, number, out),
         Use::Frames => run_frames(alloc, source, out),
     }
 }
 
 // Does what the words ask for, but for the line to the notes.
-fn run_words<S: Source, K: Sink>(
+fn run_words<R: Threads + Sync, S: Source, K: Sink>(
+    rt: &R,
     alloc: Global,
     words: &[String],
     source: &mut S,
@@ -54,7 +61,7 @@ fn run_words<S: Source, K: Sink>(
     ensures cause { Causes (S.faults source.old) (S.faults source.new) (K.faults out.old) (K.faults out.new) result }
 {
     match use_of(words) {
-        Ok(wanted) => run_use(alloc, wanted, source, out),
+        Ok(wanted) => run_use(rt, alloc, wanted, source, out),
         Err(word) => Outcome::Usage { word },
     }
 }
@@ -93,8 +100,8 @@ pub fn run<R: Threads + Wait + Sync, S: Source, K: Sink + Send, E: Sink, G: Gate
     ensures complete { IfOk (use_in (map string_bytes words.now)) (λ wanted. IsComplete wanted (S.left source.old) (S.faults source.old) (S.faults source.new) (K.faults out.old) (K.faults out.new) result) }
     ensures told { Told (E.held notes.old) (E.held notes.new) (E.faults notes.old) (E.faults notes.new) (E.refusals notes.old) (E.refusals notes.new) (line_of result) }
 {
-    let _ = (rt, gate);
-    let outcome = run_words(alloc, words, source, out);
+    let _ = gate;
+    let outcome = run_words(rt, alloc, words, source, out);
     tell(notes, outcome);
     outcome
 }

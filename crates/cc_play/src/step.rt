@@ -12,6 +12,7 @@ use cc_io::{Sink, Source};
 use cc_recorder::{Recorded, WriteStop, record_lockstep};
 use std::alloc::Global;
 use std::sync::Arc;
+use std::thread::Threads;
 
 // All was done with a run, which is given up.
 fn done_with(_run: Recorded) -> Outcome
@@ -21,7 +22,13 @@ fn done_with(_run: Recorded) -> Outcome
 }
 
 // Plays a script in lockstep with so many raster workers, and writes its recording.
-fn play<K: Sink>(alloc: Global, script: Script, workers: u32, out: &mut K) -> Outcome
+fn play<R: Threads + Sync, K: Sink>(
+    rt: &R,
+    alloc: Global,
+    script: Script,
+    workers: u32,
+    out: &mut K,
+) -> Outcome
     requires { (1 ≤ workers) × (workers ≤ 16) }
     ensures plays { WritesSome (IsRunOf workers script) (K.held out.old) (K.held out.new) result }
     ensures grows { K.faults out.old ≤ K.faults out.new }
@@ -30,7 +37,7 @@ fn play<K: Sink>(alloc: Global, script: Script, workers: u32, out: &mut K) -> Ou
     let Ok(shared) = Arc::new(alloc, script) else {
         return Outcome::Memory;
     };
-    match record_lockstep(alloc, shared, workers, out) {
+    match record_lockstep(rt, alloc, shared, workers, out) {
         Ok(run) => done_with(run),
         Err(WriteStop::Fault) => Outcome::WriteFault,
         Err(WriteStop::Memory) => Outcome::Memory,
@@ -39,7 +46,8 @@ fn play<K: Sink>(alloc: Global, script: Script, workers: u32, out: &mut K) -> Ou
 
 /// Plays the script of the source in lockstep with so many raster workers, and writes its recording.
 #[tactic(auto, using(crate::proofs::ScriptsPlayed::script_output, crate::proofs::ScriptsPlayed::script_cause, crate::proofs::Outputs::some_words))]
-pub fn run_step<S: Source, K: Sink>(
+pub fn run_step<R: Threads + Sync, S: Source, K: Sink>(
+    rt: &R,
     alloc: Global,
     workers: u32,
     source: &mut S,
@@ -54,7 +62,7 @@ pub fn run_step<S: Source, K: Sink>(
     ensures cause { Causes (S.faults source.old) (S.faults source.new) (K.faults out.old) (K.faults out.new) result }
 {
     match read_script_from(alloc, source) {
-        Ok(script) => play(alloc, script, workers, out),
+        Ok(script) => play(rt, alloc, script, workers, out),
         Err(outcome) => outcome,
     }
 }

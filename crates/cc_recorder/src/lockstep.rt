@@ -23,6 +23,7 @@ use cc_single::SingleThread;
 use std::alloc::{AllocError, Global};
 use std::marker::Model;
 use std::sync::Arc;
+use std::thread::Threads;
 
 /// A run whose recording was written to its end. Contracts see its entries, the oldest first.
 #[derive(Drop)]
@@ -67,7 +68,8 @@ fn write_news<K: Sink>(
 }
 
 // Plays what an input brings, and writes it.
-fn record_input<K: Sink>(
+fn record_input<R: Threads + Sync, K: Sink>(
+    rt: &R,
     recorder: &mut Recorder,
     single: &mut SingleThread,
     input: &Input,
@@ -79,14 +81,15 @@ fn record_input<K: Sink>(
     ensures grows { K.faults out.old ≤ K.faults out.new }
     ensures cause { WriteCause (K.faults out.old) (K.faults out.new) result }
 {
-    match play_input(single, input) {
+    match play_input(rt, single, input) {
         Ok(()) => write_news(recorder, single, out),
         Err(_) => Err(WriteStop::Memory),
     }
 }
 
 // Plays what these inputs bring, and writes it input by input.
-fn record_inputs<K: Sink>(
+fn record_inputs<R: Threads + Sync, K: Sink>(
+    rt: &R,
     recorder: &mut Recorder,
     single: &mut SingleThread,
     inputs: &[Input],
@@ -100,7 +103,7 @@ fn record_inputs<K: Sink>(
 {
     let mut rest = inputs;
     while let Some((input, after)) = rest.split_first() {
-        if let Err(stop) = record_input(recorder, single, input, out) {
+        if let Err(stop) = record_input(rt, recorder, single, input, out) {
             return Err(stop);
         }
         rest = after;
@@ -109,7 +112,8 @@ fn record_inputs<K: Sink>(
 }
 
 // Plays what is left after all inputs, and writes it.
-fn record_end<K: Sink>(
+fn record_end<R: Threads + Sync, K: Sink>(
+    rt: &R,
     recorder: &mut Recorder,
     single: &mut SingleThread,
     out: &mut K,
@@ -120,14 +124,15 @@ fn record_end<K: Sink>(
     ensures grows { K.faults out.old ≤ K.faults out.new }
     ensures cause { WriteCause (K.faults out.old) (K.faults out.new) result }
 {
-    match end_run(single) {
+    match end_run(rt, single) {
         Ok(()) => write_news(recorder, single, out),
         Err(_) => Err(WriteStop::Memory),
     }
 }
 
 // Plays the whole run of these inputs, and writes it.
-fn record_run<K: Sink>(
+fn record_run<R: Threads + Sync, K: Sink>(
+    rt: &R,
     recorder: &mut Recorder,
     single: &mut SingleThread,
     inputs: &[Input],
@@ -139,10 +144,10 @@ fn record_run<K: Sink>(
     ensures grows { K.faults out.old ≤ K.faults out.new }
     ensures cause { WriteCause (K.faults out.old) (K.faults out.new) result }
 {
-    if let Err(stop) = record_inputs(recorder, single, inputs, out) {
+    if let Err(stop) = record_inputs(rt, recorder, single, inputs, out) {
         return Err(stop);
     }
-    record_end(recorder, single, out)
+    record_end(rt, recorder, single, out)
 }
 
 // The compositor of a script with so many workers, before anything was entered, and a recorder that holds the
@@ -163,7 +168,8 @@ fn prepare(
 }
 
 // Plays and writes the whole run of a script, and puts what is left.
-fn record_whole<K: Sink>(
+fn record_whole<R: Threads + Sync, K: Sink>(
+    rt: &R,
     recorder: &mut Recorder,
     single: &mut SingleThread,
     script: &Script,
@@ -177,7 +183,7 @@ fn record_whole<K: Sink>(
     ensures cause { WriteCause (K.faults out.old) (K.faults out.new) result }
 {
     script.is_accepted();
-    if let Err(stop) = record_run(recorder, single, script.inputs(), out) {
+    if let Err(stop) = record_run(rt, recorder, single, script.inputs(), out) {
         return Err(stop);
     }
     recorder.finish(out)
@@ -194,7 +200,8 @@ fn end_with(single: SingleThread, written: Result<(), WriteStop>) -> Result<Reco
 }
 
 // Records the run of a script with a compositor and a recorder that are at its beginning.
-fn record_with<K: Sink>(
+fn record_with<R: Threads + Sync, K: Sink>(
+    rt: &R,
     prepared: (SingleThread, Recorder),
     script: &Script,
     out: &mut K,
@@ -207,14 +214,16 @@ fn record_with<K: Sink>(
     ensures cause { WriteCause (K.faults out.old) (K.faults out.new) result }
 {
     let (mut single, mut recorder) = prepared;
-    let written = record_whole(&mut recorder, &mut single, script, out);
+    let written = record_whole(rt, &mut recorder, &mut single, script, out);
     end_with(single, written)
 }
 
 /// Plays an accepted script in lockstep with so many workers, and writes its recording as it is made: the two
 /// header lines, the line of each event, and the image of what it shows behind that of a draw. Where it stops
-/// early, the sink gained a front of it.
-pub fn record_lockstep<K: Sink>(
+/// early, the sink gained a front of it. Tiles that come next are made ahead, in as many threads as there are
+/// workers; the recording is the same for every number of them.
+pub fn record_lockstep<R: Threads + Sync, K: Sink>(
+    rt: &R,
     alloc: Global,
     script: Arc<Script>,
     workers: u32,
@@ -228,7 +237,7 @@ pub fn record_lockstep<K: Sink>(
 {
     script.is_accepted();
     match prepare(alloc, &script, workers) {
-        Ok(prepared) => record_with(prepared, &script, out),
+        Ok(prepared) => record_with(rt, prepared, &script, out),
         Err(_) => Err(WriteStop::Memory),
     }
 }

@@ -6,6 +6,7 @@ use crate::single::SingleThread;
 use cc_lockstep::{Compositor, EnterFault};
 use cc_sched::Kind;
 use std::alloc::AllocError;
+use std::thread::Threads;
 
 impl Compositor for SingleThread {
     ghost run = { λ t. walk_of t };
@@ -47,5 +48,10 @@ impl Compositor for SingleThread {
         self.core.is_legal();
         self.main.run(&self.core)?;
         Ok(self.main.changed)
+    }
+
+    fn make_ahead<R: Threads + Sync>(&mut self, rt: &R) {
+        // Where memory is refused, each tile is made when its end is asked for.
+        let _made = self.prepare(rt);
     }
 }

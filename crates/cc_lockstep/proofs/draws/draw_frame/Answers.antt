@@ -7,10 +7,10 @@ use Rattle.cc_lockstep.proofs.Following.{then', rest, joined, refused, left_in_r
 use Rattle.cc_lockstep.proofs.draws.draw_frame.Goals as goal
 
 pub returns-in_err-enter-clause-err : goal.returns-in_err-enter-clause-err
-returns-in_err-enter-clause-err g c = in_any_case _ _ (refused (then' (ways.entering kind.BeginDraw 0) ways.draw_rest) _ _ (λ s. fronts.both _ _ (parts.own_grows kind.BeginDraw 0 s) (parts.draw_rest_grows s)) c.requires c.in_err-enter.ensures.err)
+returns-in_err-enter-clause-err g c = in_any_case _ _ (refused (then' (ways.entering kind.BeginDraw 0) ways.draw_rest) _ _ (λ s. fronts.both _ _ (parts.own_grows kind.BeginDraw 0 s) (parts.draw_rest_grows s)) c.requires.can c.in_err-enter.ensures.err)
 
-pub inside_draw_frame-requires : goal.inside_draw_frame-requires
-inside_draw_frame-requires g c = rest (ways.entering kind.BeginDraw 0) ways.draw_rest _ _ (parts.own_good kind.BeginDraw refl) c.requires c.in_ok-enter.ensures.ok
+pub inside_draw_frame-requires-clause-can : goal.inside_draw_frame-requires-clause-can
+inside_draw_frame-requires-clause-can g c κs within = rest (ways.entering kind.BeginDraw 0) ways.draw_rest _ _ (parts.own_good kind.BeginDraw refl) c.requires.can c.in_ok-enter.ensures.ok
 
 pub returns-clause-err : goal.returns-clause-err
 returns-clause-err g c = then_on_error _ _ _ c.inside_draw_frame.ensures.err (λ w. left_in_rest (ways.entering kind.BeginDraw 0) ways.draw_rest _ _ _ c.in_ok-enter.ensures.ok w)

@@ -2,8 +2,8 @@ use Rattle.cc_lockstep.proofs.Parts.{can_most, follows_most, on_most}
 use Rattle.cc_lockstep.proofs.Following.{then_on_error, then_on_ok}
 use Rattle.cc_lockstep.proofs.draws.make_for_draw.Goals as goal
 
-pub make_some-requires : goal.make_some-requires
-make_some-requires g c = can_most (g.C.Compositor.run c.args.core.now) (g.C.Compositor.run c.args.core.now) c.raster_per_frame-most.result c.raster_per_frame-most.ensures c.requires
+pub make_some-requires-clause-can : goal.make_some-requires-clause-can
+make_some-requires-clause-can g c κs within = can_most (g.C.Compositor.run c.args.core.now) (g.C.Compositor.run c.args.core.now) c.raster_per_frame-most.result c.raster_per_frame-most.ensures c.requires.can
 
 pub returns-clause-err : goal.returns-clause-err
 returns-clause-err g c = then_on_error _ _ _ c.make_some.ensures.err (λ w. on_most (g.C.Compositor.run c.args.core.now) (g.C.Compositor.run c.make_some.new.core) c.raster_per_frame-most.result c.raster_per_frame-most.ensures w)

@@ -4,10 +4,10 @@ use Rattle.cc_lockstep.proofs.Following.{rest, joined, left_in_first, left_in_re
 use Rattle.cc_lockstep.proofs.frames.end_plain_frame.Goals as goal
 
 pub returns-in_err-activate_pending-clause-err : goal.returns-in_err-activate_pending-clause-err
-returns-in_err-activate_pending-clause-err g c = in_any_case _ _ (left_in_first ways.activation_where ways.no_draw _ _ parts.activation_good (parts.no_draw_grows) c.requires c.in_err-activate_pending.ensures.err)
+returns-in_err-activate_pending-clause-err g c = in_any_case _ _ (left_in_first ways.activation_where ways.no_draw _ _ parts.activation_good (parts.no_draw_grows) c.requires.can c.in_err-activate_pending.ensures.err)
 
 pub end_without_picture-requires : goal.end_without_picture-requires
-end_without_picture-requires g c = rest ways.activation_where ways.no_draw _ _ parts.activation_good c.requires c.in_ok-activate_pending.ensures.ok
+end_without_picture-requires g c = rest ways.activation_where ways.no_draw _ _ parts.activation_good c.requires.can c.in_ok-activate_pending.ensures.ok
 
 pub returns-clause-err : goal.returns-clause-err
 returns-clause-err g c = then_on_error _ _ _ c.end_without_picture.ensures.err (λ w. left_in_rest ways.activation_where ways.no_draw _ _ _ c.in_ok-activate_pending.ensures.ok w)

@@ -7,10 +7,10 @@ use Rattle.cc_lockstep.proofs.Following.{then', rest, joined, refused, left_in_r
 use Rattle.cc_lockstep.proofs.frames.plain_frame.Goals as goal
 
 pub returns-in_err-enter-clause-err : goal.returns-in_err-enter-clause-err
-returns-in_err-enter-clause-err g c = in_any_case _ _ (refused (then' (ways.entering kind.BeginPlain 0) ways.frame_rest) _ _ (λ s. fronts.both _ _ (parts.own_grows kind.BeginPlain 0 s) (parts.frame_rest_grows s)) c.requires c.in_err-enter.ensures.err)
+returns-in_err-enter-clause-err g c = in_any_case _ _ (refused (then' (ways.entering kind.BeginPlain 0) ways.frame_rest) _ _ (λ s. fronts.both _ _ (parts.own_grows kind.BeginPlain 0 s) (parts.frame_rest_grows s)) c.requires.can c.in_err-enter.ensures.err)
 
-pub inside_plain_frame-requires : goal.inside_plain_frame-requires
-inside_plain_frame-requires g c = rest (ways.entering kind.BeginPlain 0) ways.frame_rest _ _ (parts.own_good kind.BeginPlain refl) c.requires c.in_ok-enter.ensures.ok
+pub inside_plain_frame-requires-clause-can : goal.inside_plain_frame-requires-clause-can
+inside_plain_frame-requires-clause-can g c κs within = rest (ways.entering kind.BeginPlain 0) ways.frame_rest _ _ (parts.own_good kind.BeginPlain refl) c.requires.can c.in_ok-enter.ensures.ok
 
 pub returns-clause-err : goal.returns-clause-err
 returns-clause-err g c = then_on_error _ _ _ c.inside_plain_frame.ensures.err (λ w. left_in_rest (ways.entering kind.BeginPlain 0) ways.frame_rest _ _ _ c.in_ok-enter.ensures.ok w)

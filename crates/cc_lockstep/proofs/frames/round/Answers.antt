@@ -3,8 +3,8 @@ use Rattle.cc_event.specs.Lockstep.{waits, ActivateNow, PlainFrame}
 use Rattle.cc_lockstep.proofs.Following.{can_if, can_else, follows_if, follows_else, on_if, on_else, then_on_error, then_on_ok}
 use Rattle.cc_lockstep.proofs.frames.round.Goals as goal
 
-pub activate-requires : goal.activate-requires
-activate-requires g c = can_if (λ s. waits) ActivateNow PlainFrame _ (sym c.if-waits.ensures) c.requires
+pub activate-requires-clause-can : goal.activate-requires-clause-can
+activate-requires-clause-can g c κs within = can_if (λ s. waits) ActivateNow PlainFrame _ (sym c.if-waits.ensures) c.requires.can
 
 pub returns-then-waits-clause-err : goal.returns-then-waits-clause-err
 returns-then-waits-clause-err g c = then_on_error _ _ _ c.activate.ensures.err (λ w. on_if (λ s. waits) ActivateNow PlainFrame _ _ (sym c.if-waits.ensures) w)
@@ -12,8 +12,8 @@ returns-then-waits-clause-err g c = then_on_error _ _ _ c.activate.ensures.err (
 pub returns-then-waits-clause-ok : goal.returns-then-waits-clause-ok
 returns-then-waits-clause-ok g c = then_on_ok _ _ _ c.activate.ensures.ok (λ f. follows_if (λ s. waits) ActivateNow PlainFrame _ _ (sym c.if-waits.ensures) f)
 
-pub plain_frame-requires : goal.plain_frame-requires
-plain_frame-requires g c = can_else (λ s. waits) ActivateNow PlainFrame _ (sym c.if-waits.ensures) c.requires
+pub plain_frame-requires-clause-can : goal.plain_frame-requires-clause-can
+plain_frame-requires-clause-can g c κs within = can_else (λ s. waits) ActivateNow PlainFrame _ (sym c.if-waits.ensures) c.requires.can
 
 pub returns-else-waits-clause-err : goal.returns-else-waits-clause-err
 returns-else-waits-clause-err g c = then_on_error _ _ _ c.plain_frame.ensures.err (λ w. on_else (λ s. waits) ActivateNow PlainFrame _ _ (sym c.if-waits.ensures) w)

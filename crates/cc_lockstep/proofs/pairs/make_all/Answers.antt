@@ -10,8 +10,8 @@ use Rattle.cc_lockstep.proofs.pairs.make_all.Goals as goal
 abbrev test : ScriptModel → List Entry → Bool
 test s h = has_first s h
 
-pub pair-requires : goal.pair-requires
-pair-requires g c = has_turn test Pair _ _ (sym c.loop-core-test.ensures) c.loop-core.invariant
+pub pair-requires-clause-can : goal.pair-requires-clause-can
+pair-requires-clause-can g c κs within = has_turn test Pair _ _ (sym c.loop-core-test.ensures) c.loop-core.invariant
 
 pub loop-core-smaller : goal.loop-core-smaller
 loop-core-smaller g c = parts.fewer_tiles _ _ c.in_ok-pair.ensures.ok

@@ -5,8 +5,8 @@ use Rattle.cc_lockstep.proofs.Parts as parts
 use Rattle.cc_lockstep.proofs.Following.{has_turn_left, one_turned, left_in_one, none_over, in_any_case}
 use Rattle.cc_lockstep.proofs.pairs.make_some.Goals as goal
 
-pub pair-requires : goal.pair-requires
-pair-requires g c = has_turn_left has_first Pair _ _ c.args.most c.loop-left.left c.loop-left-test.true (sym c.if-has_first.ensures) c.loop-left.invariant
+pub pair-requires-clause-can : goal.pair-requires-clause-can
+pair-requires-clause-can g c κs within = has_turn_left has_first Pair _ _ c.args.most c.loop-left.left c.loop-left-test.true (sym c.if-has_first.ensures) c.loop-left.invariant
 
 pub returns-in_err-pair-clause-err : goal.returns-in_err-pair-clause-err
 returns-in_err-pair-clause-err g c = in_any_case _ _ (left_in_one has_first Pair _ _ c.args.most c.loop-left.left _ words.pair parts.most_grows c.loop-left-test.true (sym c.if-has_first.ensures) c.loop-left.invariant c.in_err-pair.ensures.err)

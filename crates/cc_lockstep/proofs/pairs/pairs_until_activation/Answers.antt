@@ -12,8 +12,8 @@ use Rattle.cc_lockstep.proofs.pairs.pairs_until_activation.Goals as goal
 abbrev test : ScriptModel → List Entry → Bool
 test s h = not (is_possible s kind.Activate 0 h)
 
-pub pair-requires : goal.pair-requires
-pair-requires g c = has_turn test Pair _ _ (ap not (sym c.loop-core-test.ensures)) c.loop-core.invariant
+pub pair-requires-clause-can : goal.pair-requires-clause-can
+pair-requires-clause-can g c κs within = has_turn test Pair _ _ (ap not (sym c.loop-core-test.ensures)) c.loop-core.invariant
 
 pub loop-core-smaller : goal.loop-core-smaller
 loop-core-smaller g c = parts.fewer_tiles _ _ c.in_ok-pair.ensures.ok

@@ -2,8 +2,8 @@ use Rattle.cc_lockstep.proofs.Following.{in_any_case}
 use Rattle.cc_lockstep.proofs.Parts.{can_input, input_turned, input_left, inputs_over}
 use Rattle.cc_lockstep.proofs.play.play_inputs.Goals as goal
 
-pub play_input-requires : goal.play_input-requires
-play_input-requires g c = can_input c.args.inputs.now c.loop-input.rest.now c.in-Some.after.now c.in-Some.input.now _ _ c.in-Some.ensures.cases.0 c.loop-input.invariant
+pub play_input-requires-clause-can : goal.play_input-requires-clause-can
+play_input-requires-clause-can g c κs within = can_input c.args.inputs.now c.loop-input.rest.now c.in-Some.after.now c.in-Some.input.now _ _ c.in-Some.ensures.cases.0 c.loop-input.invariant
 
 pub loop-input-preserved : goal.loop-input-preserved
 loop-input-preserved g c = input_turned c.args.inputs.now c.loop-input.rest.now c.in-Some.after.now c.in-Some.input.now _ _ _ c.in-Some.ensures.cases.0 c.loop-input.invariant c.in_ok-play_input.ensures.ok

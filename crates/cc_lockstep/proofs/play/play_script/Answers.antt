@@ -4,8 +4,8 @@ use Rattle.cc_lockstep.proofs.Parts as parts
 use Rattle.cc_lockstep.proofs.Following.{first_part, rest, joined, left_in_first, left_in_rest, in_any_case, then_on_error, then_on_ok, on_either}
 use Rattle.cc_lockstep.proofs.play.play_script.Goals as goal
 
-pub play_inputs-requires : goal.play_inputs-requires
-play_inputs-requires g c = first_part (ways.inputs_from c.args.inputs.now) ways.run_end _ (parts.can_play (g.C.Compositor.run c.args.core.now) c.args.inputs.now c.requires.script c.requires.start c.requires.inputs)
+pub play_inputs-requires-clause-can : goal.play_inputs-requires-clause-can
+play_inputs-requires-clause-can g c κs within = first_part (ways.inputs_from c.args.inputs.now) ways.run_end _ (parts.can_play (g.C.Compositor.run c.args.core.now) c.args.inputs.now c.requires.script c.requires.start c.requires.inputs)
 
 pub returns-in_err-play_inputs-clause-script : goal.returns-in_err-play_inputs-clause-script
 returns-in_err-play_inputs-clause-script g c = c.in_err-play_inputs.ensures.err.same
@@ -17,8 +17,8 @@ returns-in_err-play_inputs-clause-err g c =
     in_any_case _ _ (parts.begins_lockstep r c.args.inputs.now _ c.requires.start c.requires.inputs
     (left_in_first (ways.inputs_from c.args.inputs.now) ways.run_end _ _ (parts.inputs_good c.args.inputs.now) parts.end_grows can c.in_err-play_inputs.ensures.err))
 
-pub end_run-requires : goal.end_run-requires
-end_run-requires g c =
+pub end_run-requires-clause-can : goal.end_run-requires-clause-can
+end_run-requires-clause-can g c κs within =
     rest (ways.inputs_from c.args.inputs.now) ways.run_end _ _ (parts.inputs_good c.args.inputs.now)
     (parts.can_play (g.C.Compositor.run c.args.core.now) c.args.inputs.now c.requires.script c.requires.start c.requires.inputs) c.in_ok-play_inputs.ensures.ok
 

@@ -3,8 +3,8 @@ use Rattle.cc_event.specs.Lockstep.{waits, Stays, Round}
 use Rattle.cc_lockstep.proofs.Following.{can_if, follows_if, on_if, then_on_error, then_on_ok}
 use Rattle.cc_lockstep.proofs.play.round_if_pending.Goals as goal
 
-pub round-requires : goal.round-requires
-round-requires g c = can_if (λ s. waits) Round (λ s. Stays) _ (sym c.if-waits.ensures) c.requires
+pub round-requires-clause-can : goal.round-requires-clause-can
+round-requires-clause-can g c κs within = can_if (λ s. waits) Round (λ s. Stays) _ (sym c.if-waits.ensures) c.requires.can
 
 pub returns-then-waits-clause-err : goal.returns-then-waits-clause-err
 returns-then-waits-clause-err g c = then_on_error _ _ _ c.round.ensures.err (λ w. on_if (λ s. waits) Round (λ s. Stays) _ _ (sym c.if-waits.ensures) w)

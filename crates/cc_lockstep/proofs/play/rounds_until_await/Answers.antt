@@ -11,8 +11,8 @@ use Rattle.cc_lockstep.proofs.play.rounds_until_await.Goals as goal
 abbrev test : ScriptModel → List Entry → Bool
 test s h = not (is_possible s kind.Await 0 h)
 
-pub round-requires : goal.round-requires
-round-requires g c = has_turn test Round _ _ (ap not (sym c.loop-core-test.ensures)) c.loop-core.invariant
+pub round-requires-clause-can : goal.round-requires-clause-can
+round-requires-clause-can g c κs within = has_turn test Round _ _ (ap not (sym c.loop-core-test.ensures)) c.loop-core.invariant
 
 pub loop-core-smaller : goal.loop-core-smaller
 loop-core-smaller g c = parts.fewer_rounds _ _ c.in_ok-round.ensures.ok

@@ -18,7 +18,7 @@ no_inputs [] e = refl
 no_inputs (i ∷ is) e = absurd (omega (arith, e))
 
 pub record_input-requires-clause-can : goal.record_input-requires-clause-can
-record_input-requires-clause-can g c =
+record_input-requires-clause-can g c κs within =
     first_part (input_played c.in-Some.input.now) (inputs_from c.in-Some.after.now) _
     (subst (λ (is : List Input). CanFollow (inputs_from is) (walk_of c.loop-input.single)) c.in-Some.ensures.cases.0 c.loop-input.invariant.can)
 

@@ -5,10 +5,10 @@ use Rattle.cc_recorder.proofs.RecordedRuns.{fresh_can, fresh_written, run_stoppe
 use Rattle.cc_recorder.proofs.lockstep.record_whole.Goals as goal
 
 pub record_run-requires-clause-can : goal.record_run-requires-clause-can
-record_run-requires-clause-can g c = fresh_can c.args.script.now c.args.single.now c.inputs.result.now c.requires.fresh c.is_accepted.ensures.accepted c.inputs.ensures
+record_run-requires-clause-can g c κs within = fresh_can c.args.script.now c.args.single.now c.inputs.result.now c.requires.fresh c.is_accepted.ensures.accepted c.inputs.ensures
 
 pub record_run-requires-clause-written : goal.record_run-requires-clause-written
-record_run-requires-clause-written g c = fresh_written c.args.script.now c.args.single.now c.requires.fresh
+record_run-requires-clause-written g c κs within = fresh_written c.args.script.now c.args.single.now c.requires.fresh
 
 pub returns-in-Err-clause-bytes : goal.returns-in-Err-clause-bytes
 returns-in-Err-clause-bytes g c =

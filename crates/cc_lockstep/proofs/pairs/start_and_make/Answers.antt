@@ -4,7 +4,7 @@ use Rattle.cc_lockstep.specs.Walks as ways
 use Rattle.cc_lockstep.proofs.Fronts as fronts
 use Rattle.cc_lockstep.proofs.Parts as parts
 use Rattle.cc_lockstep.proofs.Following.{then', rest, joined, refused, last_refused, in_any_case, then_on_error, then_on_ok}
-use Rattle.cc_lockstep.proofs.pairs.pair.Goals as goal
+use Rattle.cc_lockstep.proofs.pairs.start_and_make.Goals as goal
 
 pub returns-in_err-enter-clause-err : goal.returns-in_err-enter-clause-err
 returns-in_err-enter-clause-err g c = in_any_case _ _ (refused (then' (ways.entering kind.Start 2) (ways.entering kind.Done 2)) _ _ (λ s. fronts.both _ _ (parts.own_grows kind.Start 2 s) (parts.own_grows kind.Done 2 s)) c.requires c.in_err-enter.ensures.err)
