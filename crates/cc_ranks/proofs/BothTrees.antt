@@ -190,6 +190,12 @@ own_ids t b a (l ∷ ls) (v ∷ vs) d o = (
   own_ids t b a ls vs d.1 o.1,
 )
 
+-- ---- ranks without a pending tree
+
+pub none_better : (s : ScriptModel) (rs : List Rank) → filter_map (or_better s None) rs ≡ rs
+none_better s [] = refl
+none_better s (r ∷ rs) = ap (λ zs. r ∷ zs) (none_better s rs)
+
 -- ---- one tree, which may be missing
 
 -- a tree without layers has no keys

@@ -110,8 +110,23 @@ fn ranks_where(
     }
 }
 
-// Ranks of the active tree, each as the better one that its key has in the pending tree.
+// Ranks of the active tree, each as the better one that its key has in the pending tree, where there is one.
 fn with_better(
+    alloc: Global,
+    script: &Script,
+    pending: Option<&SeenTree<'_>>,
+    ranks: Vec<Rank>,
+) -> Result<Vec<Rank>, AllocError>
+    ensures { IfOk result (λ all. all.items ≡ filter_map (spec.or_better script.now (option_copied pending.entry)) ranks.items) }
+{
+    match pending {
+        None => Ok(ranks),
+        Some(_) => all_better(alloc, script, pending, ranks.as_slice()),
+    }
+}
+
+// Ranks of the active tree, each as the better one that its key has in the pending tree.
+fn all_better(
     alloc: Global,
     script: &Script,
     pending: Option<&SeenTree<'_>>,
@@ -167,6 +182,6 @@ pub fn ranked(
     is_page_where(pending);
     let in_active = ranks_where(alloc, script, Side::Active, active)?;
     let in_pending = ranks_where(alloc, script, Side::Pending, pending)?;
-    let all = with_better(alloc, script, pending, in_active.as_slice())?;
+    let all = with_better(alloc, script, pending, in_active)?;
     with_alone(script, active, in_pending.as_slice(), all)
 }

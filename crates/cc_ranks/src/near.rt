@@ -94,6 +94,7 @@ fn with_places(
     ensures { IfOk result (λ ranks. ranks.items ≡ before.items ++ filter_map (spec.place_rank borders.now side layer.now) places.now) }
 {
     let mut ranks = before;
+    ranks.reserve(places.len())?;
     for place in places {
         ranks = with_rank(ranks, place_rank(borders, side, layer, *place))?;
     }

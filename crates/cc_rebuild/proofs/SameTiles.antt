@@ -1,10 +1,10 @@
 -- Pasts after which the same keys are ready, in flight and pinned.
-use Rattle.std.proofs.Common.{◌≡◌, ℕ, true, List, ◌∷◌, length, refl, sym, ◌∙◌, ap}
+use Rattle.std.proofs.Common.{◌≡◌, ℕ, true, false, List, [], ◌∷◌, length, refl, sym, ◌∙◌, ap, arith}
 use Rattle.cc_geom.specs.declared.tile.TileKey.{TileKey}
 use Rattle.cc_geom.specs.KeyLists.{has_key, AreDistinct}
 use Rattle.cc_geom.specs.KeyOrder.{key_cmp}
 use Rattle.cc_priority.specs.Ordered.{IsInOrder}
-use Rattle.cc_store.specs.Stores.{is_ready}
+use Rattle.cc_store.specs.Stores.{Store, is_ready, is_in_flight}
 use Rattle.cc_event.specs.declared.event.Event.{Event}
 use Rattle.cc_event.specs.declared.event.Event.TheVariants as event
 use Rattle.cc_event.specs.declared.history.Entry.{Entry}
@@ -51,3 +51,11 @@ tiles_of s h g m kept flying holds same once rises are as_many = record {
   as_many = as_many;
   pinned = λ q. holds.pinned q ∙ sym (same.pinned q);
 }
+
+-- where no key is being made, the store makes none
+no_key : (ks : List TileKey) → length ks ≡ 0 → (q : TileKey) → has_key ks q ≡ false
+no_key [] e q = refl
+no_key (k ∷ ks) e q = absurd (omega (arith, e))
+
+pub none_flies : (s : ScriptModel) (h : List Entry) (store : Store) (kept pins : List TileKey) (flying : ℕ) → AreTilesAt s h store kept pins flying → flying ≡ 0 → (q : TileKey) → is_in_flight store q ≡ false
+none_flies s h store kept pins flying tiles e q = tiles.in_flight q ∙ no_key (in_flight h) (sym tiles.as_many ∙ e) q

@@ -3,9 +3,10 @@
 //! Ranks, ready keys and pinned keys stand in key order, or nearly so, and are looked for in each other in that
 //! order: a key next to the one before it, or a few behind, is found or missed without a search.
 
-ghost use Rattle.std.specs.Prelude.{◌≡◌, ◌≤◌, ◌<◌, ℕ, ◌++◌, true, not, ◌&&◌, Some, None, length, get_or, map, filter, filter_map, IfOk};
+ghost use Rattle.std.specs.Prelude.{◌≡◌, ◌≤◌, ◌<◌, ℕ, ◌++◌, true, false, not, ◌&&◌, Some, None, length, get_or, map, filter, filter_map, IfOk};
 ghost use Rattle.std.specs.declared.cmp.Ordering.TheVariants.{Less, Greater};
 ghost use Rattle.std.specs.List.Sorted.{IsSorted, IsSortedByKey, IsPermutation};
+ghost use Rattle.cc_geom.specs.declared.tile.TileKey.{TileKey as Key};
 ghost use Rattle.cc_geom.specs.KeyLists.{has_key};
 ghost use Rattle.cc_geom.specs.KeyOrder.{key_cmp};
 ghost use Rattle.cc_priority.specs.declared.rank.Rank.{Rank as Ranking};
@@ -38,22 +39,35 @@ pub(crate) fn in_key_order(ranks: Vec<Rank>) -> Vec<Rank>
     ordered
 }
 
-/// Those of the ranks whose keys are neither ready, which are these keys in key order, nor being made. An
-/// error is want of memory.
+// Whether a key is being made, of which there are so many.
+fn is_made_now(manager: &TileManager, in_flight: u32, key: TileKey) -> bool
+    requires { in_flight ≡ 0 → is_in_flight manager.now.store key ≡ false }
+    ensures { result ≡ is_in_flight manager.now.store key }
+{
+    if in_flight == 0 {
+        return false;
+    }
+    manager.in_flight(key)
+}
+
+/// Those of the ranks whose keys are neither ready, which are these keys in key order, nor being made, of which
+/// there are so many. An error is want of memory.
 pub(crate) fn missing(
     alloc: Global,
     manager: &TileManager,
+    in_flight: u32,
     ready: &[TileKey],
     ranks: &[Rank],
 ) -> Result<Vec<Rank>, AllocError>
-    requires { IsSorted key_cmp ready.now }
+    requires order { IsSorted key_cmp ready.now }
+    requires none { in_flight ≡ 0 → (q : Key) → is_in_flight manager.now.store q ≡ false }
     ensures { IfOk result (λ missing. missing.items ≡ filter (λ r. not (has_key ready.now r.key) && not (is_in_flight manager.now.store r.key)) ranks.now) }
 {
     let mut missing = Vec::new(alloc);
     let mut near = 0;
     for rank in ranks {
         let is_ready = has_near(ready, &mut near, rank.key);
-        if !is_ready && !manager.in_flight(rank.key) {
+        if !is_ready && !is_made_now(manager, in_flight, rank.key) {
             missing.push(*rank)?;
         }
     }
@@ -164,7 +178,9 @@ fn ready_tile(ranks: &[Rank], near: &mut usize, key: TileKey, pinned: bool) -> R
     requires { IsSortedByKey rank_key key_cmp ranks.now }
     ensures { (s : ScriptModel) (a p : Tree) → IsAccepted s → SameMembers ranks.now (filter_map (rank_in_both s a p) (keys_of a ++ keys_of p)) → result ≡ record { key = key; rank = rank_in_both s a p key; pinned = pinned } }
 {
-    *near = passed(ranks, *near, key);
+    if !is_at(ranks, *near, key) {
+        *near = passed(ranks, *near, key);
+    }
     let place = place_near(ranks, *near, key);
     if let Some(at) = place {
         *near = at.wrapping_add(1);

@@ -52,6 +52,7 @@ pub(crate) fn rebuilt(
     let wanted = missing(
         alloc,
         tiles.manager,
+        tiles.in_flight,
         tiles.ready.as_slice(),
         ranks.as_slice(),
     )?;

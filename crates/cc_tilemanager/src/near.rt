@@ -93,11 +93,8 @@ fn has_searched(keys: &[TileKey], near: &mut usize, key: TileKey) -> bool
     }
 }
 
-/// Whether a key is one of these, which stand in key order. Where keys are asked for in their order, `near`
-/// carries the place from one question to the next: a key that would stand next to the one before it, or a few
-/// behind, is found or missed without a search. The answer doesn't depend on it; 0 is as good a beginning as
-/// any.
-pub fn has_near(keys: &[TileKey], near: &mut usize, key: TileKey) -> bool
+// The same as `has_near`, for a key that is not the one at `near`.
+fn has_behind(keys: &[TileKey], near: &mut usize, key: TileKey) -> bool
     requires { IsSorted key_cmp keys.now }
     ensures { result ≡ has_key keys.now key }
 {
@@ -111,4 +108,19 @@ pub fn has_near(keys: &[TileKey], near: &mut usize, key: TileKey) -> bool
         return false;
     }
     has_searched(keys, near, key)
+}
+
+/// Whether a key is one of these, which stand in key order. Where keys are asked for in their order, `near`
+/// carries the place from one question to the next: a key that would stand next to the one before it, or a few
+/// behind, is found or missed without a search. The answer doesn't depend on it; 0 is as good a beginning as
+/// any.
+pub fn has_near(keys: &[TileKey], near: &mut usize, key: TileKey) -> bool
+    requires { IsSorted key_cmp keys.now }
+    ensures { result ≡ has_key keys.now key }
+{
+    if is_at(keys, *near, key) {
+        *near = near.wrapping_add(1);
+        return true;
+    }
+    has_behind(keys, near, key)
 }

@@ -16,8 +16,8 @@ returns-clause-members c =
     let s = c.args.script.now in
     let o = option_copied c.args.active in
     let w = option_copied c.args.pending in
-    let first : c.in_ok-all.all.items ≡ filter_map (or_better s w) (ranks_where s side.Active o) = c.in_ok-all.ensures ∙ ap (λ (rs : List Rank). filter_map (or_better s w) rs) (c.as_slice.ensures.value ∙ c.in_ok-in_active.ensures) in
-    let second = ap (λ (rs : List Rank). filter_map (alone s o) rs) (c.as_slice-2.ensures.value ∙ c.in_ok-in_pending.ensures) in
+    let first : c.in_ok-all.all.items ≡ filter_map (or_better s w) (ranks_where s side.Active o) = c.in_ok-all.ensures ∙ ap (λ (rs : List Rank). filter_map (or_better s w) rs) c.in_ok-in_active.ensures in
+    let second = ap (λ (rs : List Rank). filter_map (alone s o) rs) (c.as_slice.ensures.value ∙ c.in_ok-in_pending.ensures) in
     weaken c.with_alone.result
     (λ v e a p left right.
     let all : v.items ≡ ranks_both s o w = e ∙ (λ i. first i ++ second i) in
@@ -30,8 +30,8 @@ returns-clause-once c =
     let s = c.args.script.now in
     let o = option_copied c.args.active in
     let w = option_copied c.args.pending in
-    let first : c.in_ok-all.all.items ≡ filter_map (or_better s w) (ranks_where s side.Active o) = c.in_ok-all.ensures ∙ ap (λ (rs : List Rank). filter_map (or_better s w) rs) (c.as_slice.ensures.value ∙ c.in_ok-in_active.ensures) in
-    let second = ap (λ (rs : List Rank). filter_map (alone s o) rs) (c.as_slice-2.ensures.value ∙ c.in_ok-in_pending.ensures) in
+    let first : c.in_ok-all.all.items ≡ filter_map (or_better s w) (ranks_where s side.Active o) = c.in_ok-all.ensures ∙ ap (λ (rs : List Rank). filter_map (or_better s w) rs) c.in_ok-in_active.ensures in
+    let second = ap (λ (rs : List Rank). filter_map (alone s o) rs) (c.as_slice.ensures.value ∙ c.in_ok-in_pending.ensures) in
     weaken c.with_alone.result
     (λ v e a p left right.
     let all : v.items ≡ ranks_both s o w = e ∙ (λ i. first i ++ second i) in

@@ -17,10 +17,17 @@ use Rattle.cc_ranks.specs.SeenTrees.{IsSeenWhere}
 use Rattle.cc_rebuild.specs.inner.Queued.{AreTilesAt}
 use Rattle.cc_rebuild.proofs.Rebuilding.{each_key_once, stands_for}
 use Rattle.cc_rebuild.proofs.RankedKeys.{ordered_members}
+use Rattle.cc_rebuild.proofs.SameTiles.{none_flies}
 use Rattle.cc_rebuild.proofs.rebuild.rebuilt.Goals as goal
 
-pub missing-requires : goal.missing-requires
-missing-requires c = subst (IsSorted key_cmp) (sym c.as_slice.ensures) c.requires.tiles.order
+pub missing-requires-clause-order : goal.missing-requires-clause-order
+missing-requires-clause-order c = subst (IsSorted key_cmp) (sym c.as_slice.ensures) c.requires.tiles.order
+
+pub missing-requires-clause-none : goal.missing-requires-clause-none
+missing-requires-clause-none c =
+    let r = c.requires in
+    let t = c.args.tiles in
+    none_flies c.args.script.now r.past t.manager.now.store t.ready.now t.pins.now t.in_flight r.tiles
 
 pub ready_tiles-requires : goal.ready_tiles-requires
 ready_tiles-requires c = subst (IsSortedByKey rank_key key_cmp) (sym c.as_slice-3.ensures.value) c.in_key_order-by_key.ensures.order

@@ -2,7 +2,7 @@
 use Rattle.std.proofs.Common.{◌≡◌, ◌++◌, length, filter_map}
 use Rattle.std.specs.Prelude.{option_copied}
 use Rattle.cc_ranks.specs.inner.Lists.{or_better}
-use Rattle.cc_ranks.proofs.both.with_better.Given as goal
+use Rattle.cc_ranks.proofs.both.all_better.Given as goal
 
 abbrev pub invariant-loop-rank : goal.invariant-loop-rank
 invariant-loop-rank l = l.all.items ++ filter_map (or_better l.script (option_copied l.pending)) l.rest ≡ filter_map (or_better l.script (option_copied l.pending)) l.ranks
