@@ -27,6 +27,9 @@ pub enum LineFault {
     /// What is to be changed does not stand in the history exactly once.
     #[error("what is changed does not stand in the history once")]
     NotOnce,
+    /// An entry before the question may not come.
+    #[error("an entry before this question may not come")]
+    Stopped,
 }
 
 impl From<AllocError> for LineFault {

@@ -12,13 +12,17 @@
 //! | `script: JSON` | the script of the histories below it, for one worker |
 //! | `workers: N` | the number of workers of the histories below it, 1 to 16 |
 //! | `history TITLE: LINE; LINE; ..` | the lines of a history, which is legal: the walk goes through |
+//! | `    after N upcoming MOST: KEY ..` | after the first N entries of the history above, these are the keys of the first MOST tiles that are made next |
+//! | `    after N values ID: X Y` | after the first N entries, these are the scroll values of scroller ID along both axes, each as `A,D,B,M,P`: active base and delta, pending base, and what of the delta the main frame in flight and the pending base contain |
+//! | `    after N used: COUNT` | after the first N entries, so many tiles are ready or in flight |
 //! | `    LINE; .. => LINE; .. \| N WHAT` | lines of the history above, which stand in it once, become others, and the walk stops at entry N, counted from 0; WHAT says what is wrong with it |
 //!
-//! Standard output tells how many histories of both kinds and how many entries there were, so that none gets
-//! lost, and each walk that ends elsewhere, with its line. One of these, or a line that can't be read, ends in
+//! Standard output tells how many histories of both kinds, entries and questions there were, so that none gets
+//! lost, and each question that is answered otherwise, and each walk that ends elsewhere, with its line. One of these, or a line that can't be read, ends in
 //! status 1 and one line on standard error.
 #![tactic(auto)]
 
+mod asked;
 mod fault;
 mod lines;
 mod same;

@@ -4,10 +4,11 @@ ghost use Rattle.std.specs.Prelude.{◌≡◌, ◌≤◌, ◌∷◌, ◌++◌, [
 ghost use Rattle.std.specs.Bool.{Decides};
 ghost use Rattle.cc_event.specs.declared.history.Entry.{Entry};
 ghost use Rattle.cc_event.specs.Legal.{Legal};
-ghost use Rattle.cc_log.specs.Runs.{past};
+ghost use Rattle.cc_log.specs.Runs.{new_run, past};
 ghost use Rattle.cc_single.specs.Singles.{HasKind};
 ghost use Rattle.cc_walks.specs.Walks.{EndsAt, Takes};
 
+use crate::asked::answer;
 use crate::fault::LineFault;
 use crate::same::same_event;
 use cc_event::{Entry, Event, History, Script};
@@ -100,6 +101,16 @@ fn walk_through(run: SingleThread, entries: &[Entry]) -> Result<Option<usize>, L
     place
 }
 
+// A run that has not begun, for 1 to 16 workers.
+fn begin(alloc: Global, script: Arc<Script>, workers: u32) -> Result<SingleThread, LineFault>
+    ensures { IfOk result (λ run. run.run ≡ new_run script.value workers) }
+{
+    if workers < 1 || workers > 16 {
+        return Err(LineFault::NoWorkers);
+    }
+    SingleThread::new(alloc, script, workers).map_err(LineFault::Memory)
+}
+
 /// The place of the first entry of a history that may not come after those before it, in a run with 1 to 16
 /// workers; None where the history is legal. A compositor on one thread is asked for each entry's event. An
 /// error is want of memory, or another number of workers.
@@ -111,11 +122,25 @@ pub fn stops_at(
 ) -> Result<Option<usize>, LineFault>
     ensures { IfOk result (λ place. EndsAt script.value workers entries.now place) }
 {
-    if workers < 1 || workers > 16 {
-        return Err(LineFault::NoWorkers);
-    }
-    match SingleThread::new(alloc, script, workers) {
-        Ok(run) => walk_through(run, entries),
-        Err(refused) => Err(LineFault::Memory(refused)),
-    }
+    let run = begin(alloc, script, workers)?;
+    walk_through(run, entries)
+}
+
+/// What a compositor answers to a question after all entries of a history. An error is want of memory, another
+/// number of workers than 1 to 16, an entry that may not come, or a question that is none.
+pub fn asked_after(
+    alloc: Global,
+    script: Arc<Script>,
+    workers: u32,
+    entries: &[Entry],
+    question: &str,
+) -> Result<String, LineFault> {
+    let mut run = begin(alloc, script, workers)?;
+    let told = match stops_in(&mut run, entries) {
+        Ok(None) => answer(alloc, run.core(), question),
+        Ok(Some(_)) => Err(LineFault::Stopped),
+        Err(fault) => Err(fault),
+    };
+    give_up(run);
+    told
 }

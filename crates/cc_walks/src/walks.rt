@@ -2,7 +2,7 @@
 
 use crate::fault::LineFault;
 use crate::lines::{changed, entries};
-use crate::walk::stops_at;
+use crate::walk::{asked_after, stops_at};
 use cc_event::Script;
 use cc_script::read_script;
 use cc_table::{Table, Tally};
@@ -18,10 +18,12 @@ pub struct Walks {
     workers: u32,
     /// The lines of the history that stands above.
     history: Option<String>,
-    /// How many legal histories there were, how many changed ones, and how many entries they have.
+    /// How many legal histories there were, how many changed ones, how many entries they have, and how many
+    /// questions were asked.
     legal: usize,
     changed: usize,
     entries: usize,
+    asked: usize,
     tally: Tally,
 }
 
@@ -36,6 +38,7 @@ impl Walks {
             legal: 0,
             changed: 0,
             entries: 0,
+            asked: 0,
             tally: Tally::NONE,
         }
     }
@@ -114,12 +117,35 @@ impl Walks {
         self.changed = self.changed.saturating_add(1);
         self.walk(rt, line, lines.as_str(), Some(place))
     }
+
+    /// Takes a line with a question that is asked inside of the history above: `N QUESTION: ANSWER`.
+    fn take_question<R: Print>(&mut self, rt: &R, line: usize, row: &str) -> Result<(), LineFault> {
+        let (asked, wanted) = row.split_once(':').ok_or(LineFault::NoForm)?;
+        let (count, question) = asked.split_once(' ').ok_or(LineFault::NoForm)?;
+        let count = count.parse::<usize>().map_err(|_| LineFault::NoForm)?;
+        let (Some(script), Some(history)) = (&self.script, &self.history) else {
+            return Err(LineFault::NothingAbove);
+        };
+        let script = Arc::try_clone(script)?;
+        let entries = entries(self.alloc, history.as_str())?;
+        let before = entries.as_slice().get(..count).ok_or(LineFault::NoForm)?;
+        let told = asked_after(self.alloc, script, self.workers, before, question)?;
+        if told.as_str() != wanted {
+            let _ = rt.println(format_args!("line {line}:{told} for{wanted}"));
+            self.tally.count_wrong(line);
+        }
+        self.asked = self.asked.saturating_add(1);
+        Ok(())
+    }
 }
 
 impl<R: Print> Table<R> for Walks {
     type Fault = LineFault;
 
     fn take(&mut self, rt: &R, line: usize, text: &str) -> Result<(), LineFault> {
+        if let Some(row) = text.strip_prefix("    after ") {
+            return self.take_question(rt, line, row);
+        }
         if let Some(row) = text.strip_prefix("    ") {
             return self.take_change(rt, line, row);
         }
@@ -142,7 +168,10 @@ impl<R: Print> Table<R> for Walks {
     }
 
     fn tell(&self, rt: &R) -> io::Result<()> {
-        let (legal, changed, entries) = (self.legal, self.changed, self.entries);
-        println!(rt; "{legal} legal histories, {changed} changed ones, {entries} entries")
+        let (legal, changed) = (self.legal, self.changed);
+        let (entries, asked) = (self.entries, self.asked);
+        println!(rt;
+            "{legal} legal histories, {changed} changed ones, {entries} entries, {asked} questions"
+        )
     }
 }
