@@ -5,3 +5,6 @@ pub mod OpeningFacts
 pub mod Wholes
 pub mod OneReading
 pub mod PaintedRuns
+pub mod RightPieces
+pub mod JudgedPieces
+pub mod LegalRecordings

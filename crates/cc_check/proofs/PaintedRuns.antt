@@ -107,20 +107,33 @@ entries_of s h (e ∷ es) over =
     ap (λ (x : Entry). x ∷ entries (pieces_of s (e ∷ h) es)) (sym over.0.actor)
     ∙ ap (λ (xs : List Entry). e ∷ xs) (entries_of_in (is_end e.event) s h e es over.1 (entries_of s (e ∷ h) es))
 
--- the recording of a script and a history that is over is a recording with these entries
-pub history_is_recorded : (s : ScriptModel) (history : List Entry) → IsScriptLine (script_text s) s → IsOver s history → (ps : List Piece) × IsRecording (recording s history) s ps × (entries ps ≡ history)
+-- they are painted
+painted_in : (b : Bool) (s : ScriptModel) (h : List Entry) (e : Entry) (es : List Entry) → MatchBool b (es ≡ []) (IsOver s es) → (IsOver s es → ArePainted s (e ∷ h) (pieces_of s (e ∷ h) es)) → ArePainted s (e ∷ h) (pieces_of s (e ∷ h) es)
+painted_in true s h e es none more = subst (λ (xs : List Entry). ArePainted s (e ∷ h) (pieces_of s (e ∷ h) xs)) (sym none) tt
+painted_in false s h e es over more = more over
+
+painted_of : (s : ScriptModel) (h es : List Entry) → IsOver s es → ArePainted s h (pieces_of s h es)
+painted_of s h [] over = absurd over
+painted_of s h (e ∷ es) over = (
+  refl,
+  subst (λ (x : Entry). ArePainted s (x ∷ h) (pieces_of s (e ∷ h) es)) over.0.actor (painted_in (is_end e.event) s h e es over.1 (painted_of s (e ∷ h) es)),
+)
+
+-- the recording of a script and a history that is over is a recording with these entries, and its images are painted
+pub history_is_painted : (s : ScriptModel) (history : List Entry) → IsScriptLine (script_text s) s → IsOver s history → (ps : List Piece) × IsRecording (recording s history) s ps × (entries ps ≡ history) × ArePainted s [] ps
 unfolding recording recorded
-history_is_recorded s history line over = (
+history_is_painted s history line over = (
   pieces_of s [] history,
   record { opening = record { script = line; text = ap (λ (x : List ℕ). header (script_text s) ++ x) (sym (text_of s [] history)) }; pieces = are_pieces s [] history over tt },
   entries_of s [] history over,
+  painted_of s [] history over,
 )
 
 -- two of them with the same bytes are of one script and one history
 pub one_recording : (s t : ScriptModel) (g h : List Entry) → IsScriptLine (script_text s) s → IsScriptLine (script_text t) t → IsOver s g → IsOver t h → recording s g ≡ recording t h → (s ≡ t) × (g ≡ h)
 one_recording s t g h first second over done same =
-    let a = history_is_recorded s g first over in
-    let b = history_is_recorded t h second done in
+    let a = history_is_painted s g first over in
+    let b = history_is_painted t h second done in
     let there : IsRecording (recording s g) t b.0 = subst (λ (bytes : List ℕ). IsRecording bytes t b.0) (sym same) b.1 in
     let one = one_reading (recording s g) s t a.0 b.0 a.1 there in
     (one.0, sym a.2 ∙ ap entries one.1 ∙ b.2)

@@ -17,7 +17,7 @@ use Rattle.cc_check.specs.Openings.{OpensWith, IsBadOpening, opening_length}
 use Rattle.cc_check.specs.Recordings.{IsRecording, IsBadAt}
 
 -- the two lines, and behind them pieces
-is_recording : (bytes : List ℕ) (s : ScriptModel) (end : ℕ) (ps : List Piece) → OpensWith bytes s (drop end bytes) → ArePiecesFrom bytes (views_of s) end ps → IsRecording bytes s ps
+pub is_recording : (bytes : List ℕ) (s : ScriptModel) (end : ℕ) (ps : List Piece) → OpensWith bytes s (drop end bytes) → ArePiecesFrom bytes (views_of s) end ps → IsRecording bytes s ps
 is_recording bytes s end ps opens are = record {
   opening = record { script = opens.script; text = opens.text ∙ ap (λ (x : List ℕ). header (script_text s) ++ x) are.1 };
   pieces = are.0;

@@ -7,6 +7,7 @@ ghost use Rattle.cc_script.specs.Recordings.{script_text, recording};
 ghost use Rattle.cc_check.specs.Openings.{IsScriptLine};
 ghost use Rattle.cc_check.specs.Painted.{ArePainted, IsOver};
 ghost use Rattle.cc_check.specs.Recordings.{IsRecording, IsBadAt};
+ghost use Rattle.cc_check.specs.Verdicts.{IsFirstWrong, IsLegalRecording};
 ghost use Rattle.cc_parts.specs.Pieces.{Piece, entries};
 
 /// A recording is read in one way: bytes are that of one script, and of one list of events and images, at
@@ -30,4 +31,12 @@ pub fn recordings_fix_script_and_history()
 /// A recording has no part that is not of its form: the two answers of a reader exclude each other.
 pub fn a_recording_has_no_bad_part()
     ensures { (bytes : List ℕ) (s : ScriptModel) (ps : List Piece) (place : ℕ) → IsRecording bytes s ps → IsBadAt bytes place → ⊥ }
+{}
+
+/// What [`check`](crate::check) may answer excludes each other: the recording of a legal history has no first
+/// event that is wrong and no part that is not of its form, nor have bytes both of these.
+pub fn verdicts_exclude_each_other()
+    ensures legal_not_wrong { (workers event : ℕ) (bytes : List ℕ) → IsLegalRecording workers bytes → IsFirstWrong workers bytes event → ⊥ }
+    ensures legal_not_bad { (workers place : ℕ) (bytes : List ℕ) → IsLegalRecording workers bytes → IsBadAt bytes place → ⊥ }
+    ensures wrong_not_bad { (workers event place : ℕ) (bytes : List ℕ) → IsFirstWrong workers bytes event → IsBadAt bytes place → ⊥ }
 {}

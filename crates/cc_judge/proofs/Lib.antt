@@ -7,3 +7,4 @@ pub mod EmptyTrees
 pub mod EventFacts
 pub mod DueEvents
 pub mod StateFacts
+pub mod ShownPages

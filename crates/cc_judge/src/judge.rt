@@ -1,9 +1,11 @@
 //! A judge of histories.
 
 ghost use Rattle.std.specs.Prelude.{◌≡◌, ◌≤◌, IfOk};
-ghost use Rattle.cc_log.specs.Runs.{new_run};
-ghost use Rattle.cc_judge.specs.Judging.{Enters};
+ghost use Rattle.cc_event.specs.Legal.{Legal};
+ghost use Rattle.cc_log.specs.Runs.{new_run, past};
+ghost use Rattle.cc_judge.specs.Judging.{Enters, IsShownNow};
 
+use crate::shown::Shown;
 use crate::state::State;
 use cc_event::{Entry, Script};
 use std::alloc::{AllocError, Global};
@@ -14,11 +16,19 @@ use std::sync::Arc;
 /// model after them.
 ///
 /// Contracts see the run of the entries that it has entered. By its type it is legal.
-#[derive(Drop)]
 pub struct Judge {
     state: State,
     // memory was refused, and the state is of no use any more
     is_spent: bool,
+}
+
+impl Drop for Judge {
+    fn drop(self) {
+        let Judge {
+            state: _,
+            is_spent: _,
+        } = self;
+    }
 }
 
 impl Model for Judge {
@@ -44,6 +54,24 @@ impl Judge {
             state,
             is_spent: false,
         })
+    }
+
+    /// The entries so far are legal. A law that does nothing when it runs.
+    pub fn is_legal(&self)
+        ensures { Legal self.now.script self.now.workers (past self.now) }
+    {
+        self.state.log.is_legal();
+    }
+
+    /// What the screen shows after the entries so far: the active page where its scrollers stand. None before
+    /// the first activation. An error comes where an earlier call was refused memory.
+    pub fn shown(&self) -> Result<Option<Shown<'_>>, AllocError>
+        ensures { IfOk result (IsShownNow self.now.script (past self.now)) }
+    {
+        if self.is_spent {
+            return Err(AllocError);
+        }
+        Ok(self.state.shown_page())
     }
 
     /// Enters an entry where it may come next, and answers whether it may. An error is want of memory, and

@@ -14,8 +14,10 @@ mod key_set;
 mod main_side;
 mod queues;
 mod same_events;
+mod shown;
 mod state;
 mod steps;
 mod tile_keys;
 
 pub use judge::Judge;
+pub use shown::Shown;

@@ -1,10 +1,12 @@
 //! The state of a run.
 
 ghost use Rattle.std.specs.Prelude.{◌≡◌, ◌≤◌, IfOk};
-ghost use Rattle.cc_log.specs.Runs.{new_run};
+ghost use Rattle.cc_log.specs.Runs.{new_run, past};
+ghost use Rattle.cc_judge.specs.Judging.{IsShownNow};
 ghost use Rattle.cc_judge.specs.inner.States.{IsState};
 
 use crate::main_side::MainSide;
+use crate::shown::Shown;
 use crate::tile_keys::TileKeys;
 use cc_event::Script;
 use cc_host::ImplHost;
@@ -16,13 +18,24 @@ use std::sync::Arc;
 /// tiles as keys, and the main side.
 ///
 /// Contracts say when its parts are those of its run: `IsState`.
-#[derive(Drop)]
 pub(crate) struct State {
     pub(crate) log: Log,
     pub(crate) host: ImplHost,
     pub(crate) tiles: TileKeys,
     pub(crate) main: MainSide,
     pub(crate) alloc: Global,
+}
+
+impl Drop for State {
+    fn drop(self) {
+        let State {
+            log: _,
+            host: _,
+            tiles: _,
+            main: _,
+            alloc: _,
+        } = self;
+    }
 }
 
 impl State {
@@ -42,5 +55,20 @@ impl State {
             main,
             alloc,
         })
+    }
+
+    /// What the screen shows: the active page where its scrollers stand. None before the first activation.
+    pub(crate) fn shown_page(&self) -> Option<Shown<'_>>
+        requires { IsState self.now }
+        ensures { IsShownNow self.now.log.script (past self.now.log) result }
+    {
+        match self.host.pages().active {
+            None => None,
+            Some(page) => Some(Shown {
+                page,
+                offsets: self.host.standing().active(),
+                background: self.log.script().background(),
+            }),
+        }
     }
 }

@@ -11,7 +11,8 @@ use Rattle.cc_parts.specs.Pieces.{piece_text, images}
 use Rattle.cc_parts.specs.Places.{place_of}
 use Rattle.cc_parts.specs.Spans.{span_bytes, AreWithin}
 use Rattle.cc_parts.specs.Views.{ViewTable}
-use Rattle.cc_parts.specs.inner.Parts.{read_from, start_at}
+use Rattle.cc_parts.specs.Taking.{start_at}
+use Rattle.cc_parts.specs.inner.Parts.{read_from}
 use Rattle.cc_parts.specs.inner.Walks.{WalksBody, WalksSpans}
 use Rattle.cc_parts.proofs.BadRuns.{body_breaks}
 use Rattle.cc_parts.proofs.PieceRuns.{body_exact}

@@ -7,3 +7,4 @@ pub mod PageViews
 pub mod OnePieces
 pub mod BadRuns
 pub mod BodyReads
+pub mod TakenPieces

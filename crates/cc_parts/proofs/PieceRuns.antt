@@ -73,7 +73,7 @@ piece_of p image = record { event = p.event; image = image }
 pub whole_size : (v : _) (xs : List ℕ) (p : Part) (image : List ℕ) → PartTells v xs p image → p.size ≡ length (piece_text (piece_of p image))
 whole_size v xs p image tells = ap (λ (q : Part). q.size) tells.is ∙ part_size v p.event image tells.piece.image
 
-whole_images : (v : _) (xs : List ℕ) (p : Part) (image : List ℕ) (index at : ℕ) → PartTells v xs p image → images_in index at p.size p.image ≡ image_of index at p.event image
+pub whole_images : (v : _) (xs : List ℕ) (p : Part) (image : List ℕ) (index at : ℕ) → PartTells v xs p image → images_in index at p.size p.image ≡ image_of index at p.event image
 whole_images v xs p image index at tells = ap (λ (q : Part). images_in index at q.size q.image) tells.is ∙ part_images index at p.event image
 
 behind_ok : (es : List Entry) (ms : List ImageSpan) (b : Result Body ℕ) (r : Body) → behind es ms b ≡ Ok r → (q : Body) × (b ≡ Ok q) × (r.entries ≡ es ++ q.entries) × (r.images ≡ ms ++ q.images)

@@ -40,7 +40,7 @@ drawn_stands bytes front line image rest index text =
     let some : length (image ++ rest) ≡ length image + length rest = length-append image rest in
     (append-nil _ ∙ one, (omega (arith, at, long, some), tt))
 
-image_stands : (v : View) (e : Event) (bytes front image rest : List ℕ) (index : ℕ) → HasImage v e image → bytes ≡ front ++ ((event_line e ++ image) ++ rest) → Stands bytes (image_of index (length front) e image) image
+pub image_stands : (v : View) (e : Event) (bytes front image rest : List ℕ) (index : ℕ) → HasImage v e image → bytes ≡ front ++ ((event_line e ++ image) ++ rest) → Stands bytes (image_of index (length front) e image) image
 image_stands v (event.Draw i ms) bytes front image rest index has text = drawn_stands bytes front (event_line (event.Draw i ms)) image rest index text
 image_stands v (event.Stop a) bytes front image rest index has text = absurd has
 image_stands v e bytes front image rest index has text = (sym has, tt)

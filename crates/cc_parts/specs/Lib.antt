@@ -4,4 +4,5 @@ pub mod Places
 pub mod Spans
 pub mod BadParts
 pub mod Bodies
+pub mod Taking
 pub mod inner

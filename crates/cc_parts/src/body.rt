@@ -2,8 +2,9 @@
 
 ghost use Rattle.std.specs.Prelude.{◌≡◌, ℕ, ◌+◌, ◌<◌, ◌≤◌, ◌^◌, List, length, map, Result, OnOk, IfOk, OnErr, option_to_list, ◌∷◌, ◌++◌, []};
 ghost use Rattle.cc_parts.specs.Pieces.{is_end as is_end_of, entry_of as entry_is};
-ghost use Rattle.cc_parts.specs.inner.Parts.{start_at, read_from};
+ghost use Rattle.cc_parts.specs.inner.Parts.{read_from};
 ghost use Rattle.cc_parts.specs.Places.{place_of};
+ghost use Rattle.cc_parts.specs.Taking.{start_at};
 ghost use Rattle.cc_parts.specs.Bodies.{ReadsBody, FindsImages};
 ghost use Rattle.cc_parts.specs.inner.Walks.{WalksBody, WalksSpans};
 

@@ -5,7 +5,8 @@ ghost use Rattle.cc_parts.specs.Pieces as pieces;
 ghost use Rattle.cc_parts.specs.inner.Parts as parts;
 ghost use Rattle.cc_parts.specs.Views.{view_at};
 ghost use Rattle.cc_parts.specs.inner.Within.{IsWithin};
-ghost use Rattle.cc_parts.specs.inner.Steps.{Steps, Moves, IsAmong, Advances};
+ghost use Rattle.cc_parts.specs.inner.Steps.{Steps, Moves};
+ghost use Rattle.cc_parts.specs.Taking.{IsAmong, Takes, Advances, start_at};
 
 use crate::part::{Part, part_at};
 use crate::views::ImageViews;
@@ -27,7 +28,7 @@ pub struct Cursor {
 impl Cursor {
     /// Before the part at an offset, with no event before it.
     pub fn at(offset: usize) -> Cursor
-        ensures { result ≡ parts.start_at offset }
+        ensures { result ≡ start_at offset }
     {
         Cursor {
             at: offset,
@@ -116,7 +117,7 @@ fn part_from(
 }
 
 /// The next part of a recording; or the place of what is not of its form there.
-pub fn take_part(
+pub(crate) fn take_part(
     bytes: &[u8],
     views: &ImageViews,
     cursor: &mut Cursor,
@@ -125,6 +126,7 @@ pub fn take_part(
     requires long { length bytes.now < 2 ^ 32 }
     requires within { IsAmong bytes.now cursor.old }
     ensures step { IfOk result (λ step. Steps bytes.now views.now cursor.old cursor.new step) }
+    ensures takes { IfOk result (λ step. Takes bytes.now views.now cursor.old cursor.new step) }
     ensures advances { IfOk result (λ step. Advances bytes.now cursor.old cursor.new step) }
 {
     let part = part_from(bytes, views, cursor, scratch)?;
@@ -132,4 +134,21 @@ pub fn take_part(
         Ok(part) => Ok(Ok(pass(cursor, part))),
         Err(place) => Ok(Err(cursor.at + place)),
     }
+}
+
+/// The next piece of a recording with these views, and goes on behind it; or the place of what is not of its
+/// form there: an event's line, the image behind that of a draw, or what stands behind that of the end. The
+/// cursor stands among the bytes, at first behind the two first lines. An error is want of memory.
+pub fn take_piece(
+    bytes: &[u8],
+    views: &ImageViews,
+    cursor: &mut Cursor,
+    scratch: &mut Scratch,
+) -> Result<Result<Step, usize>, AllocError>
+    requires long { length bytes.now < 2 ^ 32 }
+    requires within { IsAmong bytes.now cursor.old }
+    ensures takes { IfOk result (λ step. Takes bytes.now views.now cursor.old cursor.new step) }
+    ensures advances { IfOk result (λ step. Advances bytes.now cursor.old cursor.new step) }
+{
+    take_part(bytes, views, cursor, scratch)
 }

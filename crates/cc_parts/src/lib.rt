@@ -12,6 +12,7 @@ mod place;
 mod views;
 
 pub use body::{Body, find_images, read_body};
-pub use cursor::ImageSpan;
+pub use cursor::{Cursor, ImageSpan, Step, take_piece};
+pub use part::entry_of;
 pub use place::ImagePlace;
 pub use views::ImageViews;

@@ -97,7 +97,3 @@ body (c ∷ xs) t shown index at zero =
 -- what is read from a place on
 abbrev pub read_from : List ℕ → ViewTable → Cursor → Result Body ℕ
 read_from bytes t c = body (drop c.at bytes) t c.shown c.index c.at 0
-
--- the place behind the two first lines
-abbrev pub start_at : ℕ → Cursor
-start_at n = record { at = n; index = 0; shown = None }

@@ -1,16 +1,11 @@
 -- One step through a recording.
-use Rattle.std.specs.Prelude.{◌≡◌, ℕ, ◌+◌, ◌<◌, ◌≤◌, if◌then◌else◌, List, [], ◌∷◌, length, option_to_list, Result, Ok, Err, ⊤}
+use Rattle.std.specs.Prelude.{◌≡◌, ℕ, ◌+◌, if◌then◌else◌, List, [], ◌∷◌, option_to_list, Result, Ok, Err}
 use Rattle.cc_parts.specs.declared.cursor.Cursor.{Cursor}
 use Rattle.cc_parts.specs.declared.cursor.Step.{Step}
 use Rattle.cc_parts.specs.declared.part.Part.{Part}
 use Rattle.cc_parts.specs.Views.{ViewTable}
 use Rattle.cc_parts.specs.inner.Parts.{behind, images_in, no_more, read_from}
 use Rattle.cc_parts.specs.Pieces.{entry_of, is_end, shown_after}
-
--- the cursor stands in the bytes, behind so many events at least as many bytes
-pub record IsAmong (bytes : List ℕ) (c : Cursor) : Type 0 where
-  pub at : c.at ≤ length bytes
-  pub index : c.index ≤ c.at
 
 -- the cursor went on behind a part
 pub record Moves (p : Part) (old new : Cursor) (step : Step) : Type 0 where
@@ -25,8 +20,3 @@ abbrev pub Steps : List ℕ → ViewTable → Cursor → Cursor → Result Step 
 Steps bytes t old new (Ok step) =
     read_from bytes t old ≡ behind (entry_of step.event ∷ []) (option_to_list step.image) (if is_end step.event then no_more else read_from bytes t new)
 Steps bytes t old new (Err place) = read_from bytes t old ≡ Err place
-
--- the cursor is nearer to the end
-abbrev pub Advances : List ℕ → Cursor → Cursor → Result Step ℕ → Type 0
-Advances bytes old new (Ok step) = (old.at < new.at) × IsAmong bytes new
-Advances bytes old new (Err place) = ⊤

@@ -6,8 +6,9 @@ use Rattle.cc_event.specs.declared.history.Entry.{Entry}
 use Rattle.cc_parts.specs.declared.cursor.Step.{Step}
 use Rattle.cc_parts.specs.Pieces.{entry_of}
 use Rattle.cc_parts.specs.Places.{place_of}
-use Rattle.cc_parts.specs.inner.Parts.{behind, read_from, start_at}
-use Rattle.cc_parts.specs.inner.Steps.{Steps, Advances}
+use Rattle.cc_parts.specs.Taking.{Advances, start_at}
+use Rattle.cc_parts.specs.inner.Parts.{behind, read_from}
+use Rattle.cc_parts.specs.inner.Steps.{Steps}
 use Rattle.cc_parts.proofs.BodyRuns.{goes_on}
 use Rattle.cc_parts.proofs.body.walk_body.Goals as goal
 

@@ -2,8 +2,8 @@
 use Rattle.std.proofs.Common.{◌≡◌, ◌-◌, List, map, length}
 use Rattle.cc_parts.specs.declared.cursor.ImageSpan.{ImageSpan}
 use Rattle.cc_parts.specs.Places.{place_of}
-use Rattle.cc_parts.specs.inner.Parts.{behind, read_from, start_at}
-use Rattle.cc_parts.specs.inner.Steps.{IsAmong}
+use Rattle.cc_parts.specs.Taking.{IsAmong, start_at}
+use Rattle.cc_parts.specs.inner.Parts.{behind, read_from}
 use Rattle.cc_parts.proofs.body.walk_body.Given as goal
 
 abbrev pub invariant-parts : goal.invariant-parts

@@ -4,8 +4,9 @@ use Rattle.std.specs.Prelude.{Result, option_to_list}
 use Rattle.cc_parts.specs.declared.cursor.ImageSpan.{ImageSpan}
 use Rattle.cc_parts.specs.declared.cursor.Step.{Step}
 use Rattle.cc_parts.specs.Pieces.{entry_of, is_end}
-use Rattle.cc_parts.specs.inner.Parts.{behind, read_from, start_at}
-use Rattle.cc_parts.specs.inner.Steps.{Steps, Advances}
+use Rattle.cc_parts.specs.Taking.{Advances, start_at}
+use Rattle.cc_parts.specs.inner.Parts.{behind, read_from}
+use Rattle.cc_parts.specs.inner.Steps.{Steps}
 use Rattle.cc_parts.proofs.BodyRuns.{goes_on}
 use Rattle.cc_parts.proofs.body.walk_spans.Goals as goal
 

@@ -1,8 +1,8 @@
 -- The images found, before what is read from here on, are all that is read.
 use Rattle.std.proofs.Common.{◌≡◌, ◌-◌, List, length}
 use Rattle.cc_event.specs.declared.history.Entry.{Entry}
-use Rattle.cc_parts.specs.inner.Parts.{behind, read_from, start_at}
-use Rattle.cc_parts.specs.inner.Steps.{IsAmong}
+use Rattle.cc_parts.specs.Taking.{IsAmong, start_at}
+use Rattle.cc_parts.specs.inner.Parts.{behind, read_from}
 use Rattle.cc_parts.proofs.body.walk_spans.Given as goal
 
 abbrev pub invariant-parts : goal.invariant-parts

@@ -4,6 +4,7 @@ use Rattle.std.specs.Prelude.{Result}
 use Rattle.cc_parts.specs.declared.part.Part.{Part}
 use Rattle.cc_parts.specs.inner.Within.{IsWithin}
 use Rattle.cc_parts.proofs.BodySteps.{step_good, step_bad}
+use Rattle.cc_parts.proofs.TakenPieces.{taken, refused}
 use Rattle.cc_parts.proofs.cursor.take_part.Goals as goal
 
 pub returns-in-Ok-clause-step : goal.returns-in-Ok-clause-step
@@ -14,3 +15,9 @@ returns-in-Ok-clause-step c =
 
 pub returns-in-Err-clause-step : goal.returns-in-Err-clause-step
 returns-in-Err-clause-step c = step_bad c.args.bytes.now c.args.views.now c.args.cursor.now c.args.cursor.now c.in-Err.place (sym c.in_ok-part.ensures.part ∙ c.in-Err.is)
+
+pub returns-in-Ok-clause-takes : goal.returns-in-Ok-clause-takes
+returns-in-Ok-clause-takes c = taken c.args.bytes.now c.args.views.now c.args.cursor.now c.pass.new.cursor c.in-Ok.part c.pass.result c.requires.within.at (sym c.in_ok-part.ensures.part ∙ c.in-Ok.is) c.pass.ensures
+
+pub returns-in-Err-clause-takes : goal.returns-in-Err-clause-takes
+returns-in-Err-clause-takes c = refused c.args.bytes.now c.args.views.now c.args.cursor.now c.args.cursor.now c.in-Err.place (sym c.in_ok-part.ensures.part ∙ c.in-Err.is)
