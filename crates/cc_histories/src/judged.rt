@@ -2,9 +2,10 @@
 
 use crate::fault::RowFault;
 use cc_event::{Entry, Event, Script};
-use cc_legal::first_illegal;
+use cc_judge::Judge;
 use cc_record::read_event;
 use std::alloc::{AllocError, Global};
+use std::sync::Arc;
 
 /// The actor whose event it is.
 fn actor_of(event: &Event) -> u32 {
@@ -32,9 +33,19 @@ fn entries(alloc: Global, lines: &str) -> Result<Vec<Entry>, RowFault> {
 }
 
 /// The place of the first entry of a history that may not stand there, in a run with one worker.
-pub fn first_wrong(alloc: Global, script: &Script, lines: &str) -> Result<Option<usize>, RowFault> {
+pub fn first_wrong(
+    alloc: Global,
+    script: &Arc<Script>,
+    lines: &str,
+) -> Result<Option<usize>, RowFault> {
     let entries = entries(alloc, lines)?;
-    Ok(first_illegal(alloc, script, 1, entries)?)
+    let mut judge = Judge::new(alloc, Arc::try_clone(script)?, 1)?;
+    for (place, entry) in entries.iter().enumerate() {
+        if !judge.enter(entry)? {
+            return Ok(Some(place));
+        }
+    }
+    Ok(None)
 }
 
 /// The lines with some of them, which stand there once, changed into others.

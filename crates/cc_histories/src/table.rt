@@ -4,7 +4,8 @@ use crate::fault::RowFault;
 use crate::judged::{changed, first_wrong};
 use cc_event::Script;
 use cc_script::read_script;
-use std::alloc::Global;
+use std::alloc::{AllocError, Global};
+use std::sync::Arc;
 
 /// What was counted.
 #[derive(Clone, Copy)]
@@ -23,7 +24,7 @@ pub struct Tally {
 #[derive(Drop)]
 struct Table {
     alloc: Global,
-    script: Option<Script>,
+    script: Option<Arc<Script>>,
     /// The lines of the history that stands above.
     history: Option<String>,
     tally: Tally,
@@ -71,7 +72,7 @@ impl Table {
     fn take_script(&mut self, text: &str) -> Result<(), RowFault> {
         match read_script(self.alloc, text.as_bytes()) {
             Ok(script) => {
-                self.script = Some(script);
+                self.script = Some(Arc::new(self.alloc, script).map_err(AllocError::from)?);
                 self.history = None;
                 Ok(())
             }

@@ -1,7 +1,0 @@
--- No change so far is of the layer.
-use Rattle.std.proofs.Common.{◌≡◌, drop}
-use Rattle.cc_region.specs.Lists.{change_of}
-use Rattle.cc_legal.proofs.tree_keys.may_show_in.Given as goal
-
-abbrev pub invariant-loop-i : goal.invariant-loop-i
-invariant-loop-i l = change_of (drop l.i l.changes.list) l.layer ≡ change_of l.changes.list l.layer
