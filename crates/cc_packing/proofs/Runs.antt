@@ -5,7 +5,7 @@ use Rattle.cc_pixel.specs.Colours.{Parts}
 use Rattle.cc_pixel.specs.Rows.{pixel}
 use Rattle.cc_pixel.proofs.Parts.{pixel_taken, run_length}
 use borrow.Rule.Slice.PartMut.{put_mid}
-use Rattle.cc_packing.specs.Packing.{IsRgb, IsRunPacked}
+use Rattle.cc_packing.specs.Packing.{IsRgb, ArePacked, IsRunPacked}
 
 byte_before : (a k : ℕ) (xs ys : List ℕ) (i : ℕ) → i < a → a ≤ length xs → slice_index (put_mid a k xs ys) i ≡ slice_index xs i
 byte_before a k xs ys i lt le = grind (arith, common_steps)
@@ -49,3 +49,14 @@ run_packed from to row xs ys order given room count each =
       before = λ i lt. byte_before (3 * from) (3 * to - 3 * from) xs ys i lt (omega arith);
       behind = λ i le. byte_behind (3 * from) (3 * to - 3 * from) xs ys i (omega arith) (omega arith) (omega arith);
     }
+
+-- sixteen pixels of the row, where they were put
+pub block_packed : (place : ℕ) (row xs ys : List ℕ) → 4 * place + 64 ≤ length row → 3 * place + 52 ≤ length xs → length ys ≡ 52
+    → ((j : ℕ) → j < 16 → IsRgb (pixel (take (4 * place + 64 - 4 * place) (drop (4 * place) row)) j) j ys)
+    → ArePacked place 16 row xs (put_mid (3 * place) (3 * place + 52 - 3 * place) xs ys)
+block_packed place row xs ys given room count each = record {
+  inside = λ j lt.
+      pixel_put (3 * place) (3 * place + 52 - 3 * place) j (place + j) (pixel (take (4 * place + 64 - 4 * place) (drop (4 * place) row)) j) (pixel row (place + j)) xs ys
+      (omega arith) (omega arith) (omega arith) (pixel_taken place 16 (4 * place + 64 - 4 * place) row j lt (omega arith)) (each j lt);
+  before = λ i lt. byte_before (3 * place) (3 * place + 52 - 3 * place) xs ys i lt (omega arith);
+}

@@ -4,7 +4,7 @@ ghost use Rattle.std.specs.Prelude.{◌≡◌, ℕ, ◌+◌, ◌*◌, ◌/◌, �
 ghost use Rattle.cc_pixel.specs.Rows.{pixel};
 ghost use Rattle.cc_packing.specs.Packing.{IsRgb, ArePacked, IsRunPacked};
 
-use crate::lanes::{LANES, pack_four};
+use crate::lanes::{BLOCK, LANES, ROOM, pack_four, pack_sixteen};
 
 /// Packs one pixel of a row.
 fn pack_pixel(packed: &mut [u8], row: &[u8], place: usize)
@@ -25,6 +25,10 @@ pub fn pack_row(packed: &mut [u8], row: &[u8])
     ensures { (k : ℕ) → k < length row.now / 4 → IsRgb (pixel row.now k) k packed.new }
 {
     let mut place = 0;
+    'sixteens: while 3 * place + ROOM <= packed.len() {
+        pack_sixteen(packed, row, place);
+        place += BLOCK;
+    }
     'fours: while 3 * place + LANES <= packed.len() {
         pack_four(packed, row, place);
         place += 4;

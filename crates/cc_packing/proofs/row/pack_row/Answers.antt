@@ -3,6 +3,12 @@ use Rattle.std.proofs.Common.{arith}
 use Rattle.cc_packing.proofs.Joins.{packed_at, packed_more}
 use Rattle.cc_packing.proofs.row.pack_row.Goals as goal
 
+pub sixteens-preserved : goal.sixteens-preserved
+sixteens-preserved c = record {
+  within = omega arith;
+  packed = packed_more c.sixteens.place 16 c.args.row.now c.args.packed.now c.sixteens.packed c.pack_sixteen.new.packed c.sixteens.invariant.packed c.pack_sixteen.ensures;
+}
+
 pub fours-preserved : goal.fours-preserved
 fours-preserved c = record {
   within = omega arith;

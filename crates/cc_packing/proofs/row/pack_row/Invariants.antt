@@ -3,6 +3,15 @@ use Rattle.std.specs.Prelude.{◌*◌, ◌-◌, ◌≤◌, length}
 use Rattle.cc_packing.specs.Packing.{ArePacked}
 use Rattle.cc_packing.proofs.row.pack_row.Given as given
 
+abbrev pub invariant-sixteens : given.invariant-sixteens
+invariant-sixteens l = record {
+  within : 3 * l.place ≤ length l.packed;
+  packed : ArePacked 0 l.place l.row l.fn.packed l.packed;
+}
+
+abbrev pub decreases-sixteens : given.decreases-sixteens
+decreases-sixteens l = length l.initial.packed - 3 * l.place
+
 abbrev pub invariant-fours : given.invariant-fours
 invariant-fours l = record {
   within : 3 * l.place ≤ length l.packed;
