@@ -8,7 +8,7 @@ use Rattle.cc_pixel.specs.Rows.{pixel}
 use Rattle.cc_pixel.specs.Surfaces.{IsPart, IsInside, EachPixel, within, in_rows}
 use Rattle.cc_pixel.specs.declared.Area.{Area}
 use Rattle.cc_pixel.specs.Rows.{AreOpaque, AreClear, alpha_place}
-use Rattle.cc_pixel.specs.Colours.{blend, clear}
+use Rattle.cc_pixel.specs.Colours.{blend, clear, scaled, times_255}
 use Rattle.cc_pixel.proofs.Blends.{opaque_hides, clear_shows}
 use Rattle.cc_pixel.proofs.Fills.{same_parts}
 use Rattle.cc_pixel.proofs.Parts.{part_like}
@@ -143,13 +143,19 @@ opaque_laid v j below opaque lt =
     let alpha = sym (ap (slice_index v) place) ∙ opaque (4 * j) (omega arith) (omega arith) in
     sym (opaque_hides below (pixel v j) alpha)
 
+-- a pixel of four transparent ones
+pub clear_pixel : (v : List ℕ) (j : ℕ) → AreClear 0 16 v → j < 4 → pixel v j ≡ clear
+clear_pixel v j none lt =
+    same_parts (pixel v j) clear (none (4 * j) (omega arith) (omega arith)) (none (4 * j + 1) (omega arith) (omega arith))
+    (none (4 * j + 2) (omega arith) (omega arith)) (none (4 * j + 3) (omega arith) (omega arith))
+
+-- a transparent pixel over another
+pub clear_over : (p below : Parts) → p ≡ clear → below ≡ blend below p
+clear_over p below e = sym (clear_shows below) ∙ ap (blend below) (sym e)
+
 -- four transparent pixels over others
 pub clear_laid : (v : List ℕ) (j : ℕ) (below : Parts) → AreClear 0 16 v → j < 4 → below ≡ blend below (pixel v j)
-clear_laid v j below none lt =
-    let e : pixel v j ≡ clear =
-    same_parts (pixel v j) clear (none (4 * j) (omega arith) (omega arith)) (none (4 * j + 1) (omega arith) (omega arith))
-    (none (4 * j + 2) (omega arith) (omega arith)) (none (4 * j + 3) (omega arith) (omega arith)) in
-    sym (clear_shows below) ∙ ap (blend below) (sym e)
+clear_laid v j below none lt = clear_over (pixel v j) below (clear_pixel v j none lt)
 
 -- the pixel of a row that is laid over a column
 pub row_place : (x at_x first from m j : ℕ) → at_x + first ≤ x → x < at_x + first + m → from + first + (x - (at_x + first)) ≡ x - at_x + from
@@ -172,3 +178,51 @@ one_row w h at place g f old new inside one there part same =
     area_step w h at 0 place at.w g f old old new inside (omega (arith, one)) refl (there ∙ ap (λ (y : ℕ). y * w + at.x) e)
     (no_row w h at g old) part same in
     subst (λ (n : ℕ). EachPixel w h (within at n g) old new) (sym one) step
+
+-- what holds of pixels, and of those behind them, holds of both
+pub of_both : (P : ℕ → Type 0) (k n m : ℕ) → ((j : ℕ) → j < n → P (k + j)) → ((j : ℕ) → j < m → P (k + n + j)) → (j : ℕ) → j < n + m → P (k + j)
+of_both P k n m first second j lt =
+    elim (cases_lt j n) as (λ _. P (k + j)) [
+      | inl low ↦ first j low
+      | inr from ↦ let e : k + n + (j - n) ≡ k + j = omega arith in subst P e (second (j - n) (omega arith))
+    ]
+
+-- columns beside others
+columns_beside : (w h : ℕ) (at : Area) (first n m : ℕ) (f : ℕ → ℕ → Parts → Parts) (start old new : List ℕ)
+    → EachPixel w h (within (columns_of at first n) at.h f) start old → EachPixel w h (within (columns_of at (first + n) m) at.h f) old new
+    → EachPixel w h (within (columns_of at first (n + m)) at.h f) start new
+columns_beside w h at first n m f start old new one two x y xw yh =
+    let a = in_rows (columns_of at first n) at.h x y in
+    let b = in_rows (columns_of at (first + n) m) at.h x y in
+    let apart : (a && b) ≡ false = grind (arith, nat_tests) in
+    let both : (a || b) ≡ in_rows (columns_of at first (n + m)) at.h x y = grind (arith, nat_tests) in
+    let p = y * w + x in
+    one_after a b (f x y) (f x y) (pixel start p) (pixel old p) (pixel new p) apart (one x y xw yh) (two x y xw yh) (λ here. refl)
+    ∙ ap (λ (t : Bool). cond t (f x y (pixel start p)) (pixel start p)) both
+
+-- sixteen columns, four after four
+pub four_times_four : (w h : ℕ) (at : Area) (first : ℕ) (f : ℕ → ℕ → Parts → Parts) (one two three four five : List ℕ)
+    → EachPixel w h (within (columns_of at first 4) at.h f) one two → EachPixel w h (within (columns_of at (first + 4) 4) at.h f) two three
+    → EachPixel w h (within (columns_of at (first + 8) 4) at.h f) three four → EachPixel w h (within (columns_of at (first + 12) 4) at.h f) four five
+    → EachPixel w h (within (columns_of at first 16) at.h f) one five
+four_times_four w h at first f one two three four five a b c d =
+    columns_beside w h at first 12 4 f one four five (columns_beside w h at first 8 4 f one three four (columns_beside w h at first 4 4 f one two three a b) c) d
+
+-- a transparent pixel, faded, over another
+pub clear_faded : (p : Parts) (opacity : ℕ) (below : Parts) → p ≡ clear → below ≡ blend below (scaled p opacity)
+clear_faded p opacity below e = clear_over (scaled p opacity) below (ap (λ (c : Parts). scaled c opacity) e ∙ nothing_faded opacity)
+  where
+    none_left : (opacity : ℕ) → times_255 0 opacity ≡ 0
+    none_left opacity = omega arith
+
+    nothing_faded : (opacity : ℕ) → scaled clear opacity ≡ clear
+    nothing_faded opacity = same_parts (scaled clear opacity) clear (none_left opacity) (none_left opacity) (none_left opacity) (none_left opacity)
+
+-- pixels that nothing is to change
+pub part_same : (k n : ℕ) (g : ℕ → Parts → Parts) (old : List ℕ) → ((j : ℕ) → j < n → (below : Parts) → below ≡ g j below) → IsPart k n g old old
+part_same k n g old same = record {
+  inside = λ j lt. same j lt (pixel old (k + j));
+  before = λ i lt. refl;
+  behind = λ i le. refl;
+  premultiplied = λ ready. ready;
+}

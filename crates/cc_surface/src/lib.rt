@@ -10,6 +10,7 @@ mod fade;
 mod four;
 mod place;
 mod rows;
+mod sixteen;
 mod vectors;
 
 pub use colour::colour_over_area;

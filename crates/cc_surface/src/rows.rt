@@ -1,7 +1,7 @@
 //! Laying one row over many.
 
-ghost use Rattle.std.specs.Prelude.{◌≡◌, ℕ, ◌+◌, ◌-◌, ◌*◌, ◌<◌, ◌≤◌, ◌^◌, length};
-ghost use Rattle.cc_pixel.specs.Colours.{blend};
+ghost use Rattle.std.specs.Prelude.{◌≡◌, ℕ, ◌+◌, ◌-◌, ◌*◌, ◌<◌, ◌≤◌, ◌^◌, IsTrue, length};
+ghost use Rattle.cc_pixel.specs.Colours.{Parts, blend};
 ghost use Rattle.cc_pixel.specs.Rows.{pixel, ArePremultiplied};
 ghost use Rattle.cc_pixel.specs.LaneBytes.{IsBytes};
 ghost use Rattle.cc_pixel.specs.Surfaces.{IsPart, IsInside, EachPixel, within};
@@ -10,6 +10,7 @@ ghost use Rattle.cc_surface.specs.inner.Columns.{columns_of};
 use crate::colour::colour_over_area;
 use crate::four::{four_at, lay_four, put_four};
 use crate::place::place_of;
+use crate::sixteen::{are_sixteen_clear, are_sixteen_opaque};
 use cc_pixel::lanes::{are_clear, are_opaque};
 use cc_pixel::{Area, colour_at, over_row};
 use std::simd::prelude::*;
@@ -81,6 +82,10 @@ fn row_over_columns(
     ensures premultiplied { ArePremultiplied surface.old → ArePremultiplied surface.new }
 {
     let mut done = 0;
+    'sixteens: while done + 16 <= at.w {
+        row_over_sixteen_columns(surface, width, height, at, row, from, done);
+        done += 16;
+    }
     'fours: while done + 4 <= at.w {
         row_over_four_columns(surface, width, height, at, row, from, done);
         done += 4;
@@ -89,6 +94,72 @@ fn row_over_columns(
         row_over_column(surface, width, height, at, row, from, done);
         done += 1;
     }
+}
+
+// lays sixteen pixels of the row over each row of sixteen columns of the area, from its column `first` on: opaque
+// ones are copied, clear ones left out
+#[inline(always)]
+fn row_over_sixteen_columns(
+    surface: &mut [u8],
+    width: usize,
+    height: usize,
+    at: Area,
+    row: &[u8],
+    from: usize,
+    first: usize,
+)
+    requires size { length surface.old ≡ 4 * (width * height) }
+    requires inside { IsInside at width height }
+    requires there { first + 16 ≤ at.w }
+    requires columns { 4 * (from + at.w) ≤ length row.now }
+    requires premultiplied { ArePremultiplied row.now }
+    ensures pixels { EachPixel width height (within (columns_of at first 16) at.h (λ x y below. blend below (pixel row.now (x - at.x + from)))) surface.old surface.new }
+    ensures premultiplied { ArePremultiplied surface.old → ArePremultiplied surface.new }
+{
+    if are_sixteen_opaque(row, from + first) {
+        let columns = columns(at, first, 16);
+        copy_over_rows(surface, width, height, columns, row, from + first);
+    } else if !are_sixteen_clear(row, from + first) {
+        row_over_four_columns(surface, width, height, at, row, from, first);
+        row_over_four_columns(surface, width, height, at, row, from, first + 4);
+        row_over_four_columns(surface, width, height, at, row, from, first + 8);
+        row_over_four_columns(surface, width, height, at, row, from, first + 12);
+    }
+}
+
+// gives each row of an area of sixteen columns the pixels of the row from its pixel `from` on
+#[inline(always)]
+fn copy_over_rows(
+    surface: &mut [u8],
+    width: usize,
+    height: usize,
+    at: Area,
+    row: &[u8],
+    from: usize,
+)
+    requires size { length surface.old ≡ 4 * (width * height) }
+    requires inside { IsInside at width height }
+    requires sixteen { at.w ≡ 16 }
+    requires given { 4 * (from + 16) ≤ length row.now }
+    requires premultiplied { ArePremultiplied row.now }
+    ensures pixels { EachPixel width height (within at at.h (λ x y below. pixel row.now (from + (x - at.x)))) surface.old surface.new }
+    ensures premultiplied { ArePremultiplied surface.old → ArePremultiplied surface.new }
+{
+    for down in 0..at.h {
+        let place = place_of(width, height, at.x, at.y + down, 16);
+        copy_sixteen(surface, place, row, from);
+    }
+}
+
+// gives the sixteen pixels of a surface from pixel `k` on those of the row from its pixel `from` on
+#[inline(always)]
+fn copy_sixteen(surface: &mut [u8], k: usize, row: &[u8], from: usize)
+    requires there { 4 * (k + 16) ≤ length surface.old }
+    requires given { 4 * (from + 16) ≤ length row.now }
+    requires premultiplied { ArePremultiplied row.now }
+    ensures { IsPart k 16 (λ j below. pixel row.now (from + j)) surface.old surface.new }
+{
+    surface[4 * k..4 * (k + 16)].copy_from_slice(&row[4 * from..4 * (from + 16)]);
 }
 
 // lays four pixels of the row over each row of four columns of the area, from its column `first` on

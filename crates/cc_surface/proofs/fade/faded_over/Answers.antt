@@ -5,6 +5,14 @@ use Rattle.cc_pixel.specs.Rows.{pixel}
 use Rattle.cc_surface.proofs.Areas.{part_more_front, part_whole}
 use Rattle.cc_surface.proofs.fade.faded_over.Goals as goal
 
+pub sixteens-preserved : goal.sixteens-preserved
+sixteens-preserved c = record {
+  inside = omega (arith, c.sixteens-test.true);
+  part =
+      part_more_front c.sixteens.done 16 (λ j below. blend below (scaled (pixel c.args.pass.now j) c.args.opacity)) (λ j below. blend below (scaled (pixel c.args.pass.now (c.sixteens.done + j)) c.args.opacity)) c.args.surface.now c.sixteens.surface
+      c.faded_over_sixteen.new.surface c.sixteens.invariant.part c.faded_over_sixteen.ensures (λ j below lt. refl);
+}
+
 pub fours-preserved : goal.fours-preserved
 fours-preserved c = record {
   inside = omega (arith, c.fours-test.true);

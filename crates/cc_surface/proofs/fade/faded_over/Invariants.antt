@@ -4,6 +4,15 @@ use Rattle.cc_pixel.specs.Rows.{pixel}
 use Rattle.cc_pixel.specs.Surfaces.{IsPart}
 use Rattle.cc_surface.proofs.fade.faded_over.Given as given
 
+abbrev pub invariant-sixteens : given.invariant-sixteens
+invariant-sixteens l = record {
+  inside : l.done ≤ l.count;
+  part : IsPart 0 l.done (λ j below. blend below (scaled (pixel l.pass j) l.opacity)) l.fn.surface l.surface;
+}
+
+abbrev pub decreases-sixteens : given.decreases-sixteens
+decreases-sixteens l = l.count - l.done
+
 abbrev pub invariant-fours : given.invariant-fours
 invariant-fours l = record {
   inside : l.done ≤ l.count;

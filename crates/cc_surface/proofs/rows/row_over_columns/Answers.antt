@@ -7,6 +7,17 @@ use Rattle.cc_surface.specs.inner.Columns.{columns_of}
 use Rattle.cc_surface.proofs.Areas.{columns_more, all_columns}
 use Rattle.cc_surface.proofs.rows.row_over_columns.Goals as goal
 
+pub sixteens-preserved : goal.sixteens-preserved
+sixteens-preserved c =
+    let f : ℕ → ℕ → Parts → Parts = λ x y below. blend below (pixel c.args.row.now (x - c.args.at.x + c.args.from)) in
+    record {
+      inside = omega (arith, c.sixteens-test.true);
+      pixels =
+          columns_more c.args.width c.args.height c.args.at c.sixteens.done 16 f f c.args.surface.now c.sixteens.surface c.row_over_sixteen_columns.new.surface
+          c.sixteens.invariant.pixels c.row_over_sixteen_columns.ensures.pixels (λ x y below low high. refl);
+      premultiplied = λ ready. c.row_over_sixteen_columns.ensures.premultiplied (c.sixteens.invariant.premultiplied ready);
+    }
+
 pub fours-preserved : goal.fours-preserved
 fours-preserved c =
     let f : ℕ → ℕ → Parts → Parts = λ x y below. blend below (pixel c.args.row.now (x - c.args.at.x + c.args.from)) in
