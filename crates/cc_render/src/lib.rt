@@ -6,6 +6,7 @@
 //! only the part that its quads lie in; elsewhere it is transparent, and costs nothing.
 #![tactic(auto)]
 
+mod blank;
 mod copy;
 mod drawing;
 mod frame;

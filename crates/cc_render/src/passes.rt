@@ -8,12 +8,13 @@ ghost use Rattle.cc_scene.specs.Views.{quads_view, passes_view};
 ghost use Rattle.cc_scene.specs.Sound.{IsIn};
 ghost use Rattle.cc_render.specs.inner.Drawing.{CanBeDrawn, AreRoomy, PassesCanBeDrawn, ShowsQuads, ShowsPass, ShowPasses};
 
+use crate::blank::fill;
 use crate::hull::hull_of;
 use crate::quads::draw_quads;
 use crate::size::{height_of, width_of};
 use crate::surface::Surface;
 use cc_geom::Rect;
-use cc_pixel::{Colour, fill_row};
+use cc_pixel::Colour;
 use cc_scene::{Quad, RenderPass};
 
 /// Draws the pixels of an area of each pass into its surface, inner passes first.
@@ -78,6 +79,6 @@ pub(crate) fn draw_over(
 {
     let size = 4 * (width_of(area) * height_of(area));
     let surface = &mut bytes[..size];
-    fill_row(surface, below);
+    fill(surface, below);
     draw_quads(surface, area, quads, passes);
 }

@@ -20,7 +20,7 @@ use cc_scene::{RenderPass, Scene};
 use std::alloc::{AllocError, Global};
 
 /// The most rows of a strip.
-const MOST_ROWS: usize = 32;
+const MOST_ROWS: usize = 64;
 
 /// The least rows of a strip.
 const LEAST_ROWS: usize = 4;
