@@ -1,13 +1,16 @@
 -- Rects that hold others.
-use Rattle.std.proofs.Common.{◌≡◌, ℕ, zero, suc, ◌+◌, ◌<◌, Bool, true, false, ◌||◌, List, [], ◌∷◌, ◌++◌, length, get_or, take, drop, refl, sym, ◌∙◌, ap, add-one, drop-cons, arith}
+use Rattle.std.proofs.Common.{◌≡◌, ℕ, zero, suc, ◌+◌, ◌<◌, ℤ, ◌+ℤ◌, ◌≤ℤ◌, Bool, true, false, ◌||◌, List, [], ◌∷◌, ◌++◌, length, get_or, take, drop, refl, sym, ◌∙◌, ap, add-one, drop-cons, arith}
+use Rattle.std.proofs.lemmas.Int.{ints}
 use Rattle.std.proofs.lemmas.List.{take-append-drop}
 use Rattle.std.proofs.lemmas.List.Folds.{list_any-append}
 use Rattle.cc_geom.specs.declared.Rect.{Rect}
-use Rattle.cc_geom.specs.Covers.{covers}
+use Rattle.cc_geom.specs.Covers.{covers, within}
+use Rattle.cc_geom.proofs.Spans.{inside, is_within_of, both, both_of}
 use Rattle.cc_region.specs.Points.{covered}
 use Rattle.cc_region.proofs.Covering.{covered_push}
 use Rattle.std.specs.Prelude.{All}
 use Rattle.cc_areas.specs.Areas.{Holds, IsOnScreen}
+use Rattle.cc_areas.proofs.RectSteps.{not_either}
 use Rattle.cc_damage.specs.inner.Areas.{HoldAll}
 
 -- neither of two tests holds
@@ -49,3 +52,13 @@ pushed_holds rs r x y h =
 pub one_on_screen : (r : Rect) → IsOnScreen r → All IsOnScreen (r ∷ [])
 one_on_screen r s zero d lt = s
 one_on_screen r s (suc k) d lt = absurd (omega arith)
+
+-- a number of a span is one of a span that ends nowhere before it
+within_held : (a m b n p : ℤ) → a ≤ℤ b → (b +ℤ n) ≤ℤ (a +ℤ m) → within b n p ≡ true → within a m p ≡ true
+within_held a m b n p start end h = let i = inside b n p h in is_within_of a m p (record { low = omega (arith, ints); high = omega (arith, ints) })
+
+-- a rect holds another that ends nowhere beyond it
+pub holds_inner : (r s : Rect) → r.x ≤ℤ s.x → (s.x +ℤ s.w) ≤ℤ (r.x +ℤ r.w) → r.y ≤ℤ s.y → (s.y +ℤ s.h) ≤ℤ (r.y +ℤ r.h) → Holds r s
+holds_inner r s left right top bottom x y =
+    not_either (covers r x y) (covers s x y)
+    (λ h. let k = both _ _ h in both_of _ _ (within_held r.x r.w s.x s.w x left right k.0) (within_held r.y r.h s.y s.h y top bottom k.1))

@@ -1,7 +1,7 @@
 //! The few rects that damage is kept as.
 
-ghost use Rattle.std.specs.Prelude.{◌<◌, ◌∷◌, All, length, IfSome, OnOk};
-ghost use Rattle.cc_areas.specs.Areas.{IsOnScreen};
+ghost use Rattle.std.specs.Prelude.{◌<◌, ◌∷◌, pos, ◌+ℤ◌, ◌≤ℤ◌, All, length, IsTrue, IfSome, OnOk};
+ghost use Rattle.cc_areas.specs.Areas.{IsOnScreen, Holds};
 ghost use Rattle.cc_damage.specs.inner.Areas.{HoldAll};
 
 use cc_areas::{hull, is_empty};
@@ -11,15 +11,15 @@ use std::alloc::AllocError;
 // how many rects damage is kept as at most
 const MOST_RECTS: usize = 16;
 
-/// Adds an area to damage. It is joined with what it costs least to join with, as long as that costs nothing
-/// or there are too many rects.
+/// Adds an area to damage, unless a rect of it holds the area. It is joined with what it costs least to join
+/// with, as long as that costs nothing or there are too many rects.
 pub(crate) fn add_area(damage: &mut Vec<Rect>, area: Rect) -> Result<(), AllocError>
     requires damage { All IsOnScreen damage.old.items }
     requires area { IsOnScreen area }
     ensures held { OnOk result (HoldAll damage.new.items (area ∷ damage.old.items)) }
     ensures damage { All IsOnScreen damage.new.items }
 {
-    if is_empty(area) {
+    if is_empty(area) || is_held(damage, area) {
         return Ok(());
     }
     let mut whole = area;
@@ -29,6 +29,47 @@ pub(crate) fn add_area(damage: &mut Vec<Rect>, area: Rect) -> Result<(), AllocEr
     }
     damage.push(whole)?;
     Ok(())
+}
+
+// whether one of some rects holds an area
+fn is_held(rects: &[Rect], area: Rect) -> bool
+    requires rects { All IsOnScreen rects.now }
+    requires area { IsOnScreen area }
+    ensures { IsTrue result → HoldAll rects.now (area ∷ rects.now) }
+{
+    for rect in rects {
+        if holds(*rect, area) {
+            return true;
+        }
+    }
+    false
+}
+
+// whether a rect holds an area
+fn holds(rect: Rect, area: Rect) -> bool
+    requires rect { IsOnScreen rect }
+    requires area { IsOnScreen area }
+    ensures { IsTrue result → Holds rect area }
+{
+    let across = has_span(rect.x, rect.w, area.x, area.w);
+    let down = has_span(rect.y, rect.h, area.y, area.h);
+    across && down
+}
+
+// whether a span has all numbers of another
+fn has_span(at: i32, len: i32, other_at: i32, other_len: i32) -> bool
+    requires start { pos 0 ≤ℤ at }
+    requires end { (at +ℤ len) ≤ℤ pos 2048 }
+    requires len { pos 0 ≤ℤ len }
+    requires other_start { pos 0 ≤ℤ other_at }
+    requires other_end { (other_at +ℤ other_len) ≤ℤ pos 2048 }
+    requires other_len { pos 0 ≤ℤ other_len }
+    ensures start { IsTrue result → at ≤ℤ other_at }
+    ensures end { IsTrue result → (other_at +ℤ other_len) ≤ℤ (at +ℤ len) }
+{
+    let end = at + len;
+    let other_end = other_at + other_len;
+    at <= other_at && other_end <= end
 }
 
 // the rect that an area is to be joined with
