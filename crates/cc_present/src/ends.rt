@@ -3,11 +3,11 @@ ghost use Rattle.std.specs.Prelude.{◌≡◌, [], IfOk};
 ghost use Rattle.rtrb.specs.Ring.{producer_capacity};
 ghost use Rattle.cc_present.specs.Ring.{OneRing, pieces_of, taken, whole};
 
+use cc_bell::Bell;
 use rtrb::{Consumer, Producer, RingBuffer};
 use std::alloc::{AllocError, Global};
 use std::collections::VecDeque;
 use std::sync::Arc;
-use std::sync::atomic::AtomicBool;
 
 /// How many pieces the ring has place for.
 const PLACES: usize = 3;
@@ -29,8 +29,8 @@ pub struct RingSink {
     pub(crate) producer: Producer<Vec<u8>>,
     /// The pieces that the ring had no place for, oldest first. They go before any later piece.
     pub(crate) kept: VecDeque<Vec<u8>>,
-    /// The end mark, shared with the presenter.
-    pub(crate) mark: Arc<AtomicBool, Global>,
+    /// Rung where there is a piece to take, and closed as the end mark; shared with the presenter.
+    pub(crate) bell: Arc<Bell, Global>,
     pub(crate) alloc: Global,
     /// How many puts were refused for want of memory.
     pub(crate) refused: u64,
@@ -40,8 +40,8 @@ pub struct RingSink {
 #[derive(Drop)]
 pub struct Presenter {
     pub(crate) consumer: Consumer<Vec<u8>>,
-    /// The end mark, shared with the sink.
-    pub(crate) mark: Arc<AtomicBool, Global>,
+    /// Rung where there is a piece to take, and closed as the end mark; shared with the sink.
+    pub(crate) bell: Arc<Bell, Global>,
 }
 
 /// Which ring an end belongs to. Clauses alone speak of it, and no value of it is made.
@@ -60,18 +60,18 @@ pub fn ring(alloc: Global) -> Result<(RingSink, Presenter), AllocError>
     ensures places { IfOk result (λ r. (producer_capacity r.0.producer ≡ 3) × (r.0.refused ≡ 0)) }
 {
     let (producer, consumer) = RingBuffer::new(alloc, PLACES)?;
-    let mark = Arc::new(alloc, AtomicBool::new(false))?;
-    let shared = Arc::try_clone(&mark)?;
+    let bell = Arc::new(alloc, Bell::new())?;
+    let shared = Arc::try_clone(&bell)?;
     let sink = RingSink {
         producer,
         kept: VecDeque::new(alloc),
-        mark,
+        bell,
         alloc,
         refused: 0,
     };
     let presenter = Presenter {
         consumer,
-        mark: shared,
+        bell: shared,
     };
     Ok((sink, presenter))
 }

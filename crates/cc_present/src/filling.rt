@@ -6,10 +6,9 @@ ghost use Rattle.cc_present.specs.Ring.{PutsPiece, SameSink, pieces_of, ring_fil
 use crate::ends::{Label, RingSink};
 use cc_io::{PutFault, Sink};
 use std::alloc::AllocError;
-use std::sync::atomic::Ordering;
 
 impl RingSink {
-    /// Moves kept pieces into the ring, oldest first, as far as there is a place.
+    /// Moves kept pieces into the ring, oldest first, as far as there is a place, and rings for each.
     fn move_on(&mut self)
         ensures ring { SameSink self.old self.new }
         ensures bytes { whole self.new ≡ whole self.old }
@@ -21,6 +20,7 @@ impl RingSink {
                 return;
             };
             self.producer.push_reserved(piece);
+            self.bell.ring();
         }
     }
 
@@ -34,6 +34,7 @@ impl RingSink {
         let own = Vec::from_slice(self.alloc, piece)?;
         if self.kept.is_empty() && !self.producer.is_full() {
             self.producer.push_reserved(own);
+            self.bell.ring();
             return Ok(());
         }
         match self.kept.push_back(own) {
@@ -54,7 +55,7 @@ impl RingSink {
         ensures refused { self.new.refused ≡ self.old.refused }
     {
         self.move_on();
-        self.mark.store(true, Ordering::SeqCst);
+        self.bell.close();
     }
 }
 

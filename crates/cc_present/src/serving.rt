@@ -6,8 +6,6 @@ ghost use Rattle.cc_present.specs.Answers.{Adds, Blames, FaultRose, Served, Stop
 use crate::ends::{Presented, Presenter};
 use cc_io::{PutFault, Sink};
 use std::sync::Wait;
-use std::sync::atomic::Ordering;
-use std::thread;
 
 /// Puts one piece, unless an earlier one was refused, and answers for both.
 pub(crate) fn present<K: Sink>(state: Presented, piece: &[u8], out: &mut K) -> Presented
@@ -31,7 +29,7 @@ pub(crate) fn present<K: Sink>(state: Presented, piece: &[u8], out: &mut K) -> P
 
 impl Presenter {
     /// Takes pieces out of the ring and puts each into `out`, until it has seen the end mark raised
-    /// and after that found the ring empty. It may wait for pieces. After a refused put it takes the
+    /// and after that found the ring empty. While there is no piece it sleeps. After a refused put it takes the
     /// later pieces and drops them, so that nobody waits for it.
     ///
     /// `Written`: `out` gained exactly the pieces that were taken, in order. `Fault` comes only where
@@ -47,12 +45,14 @@ impl Presenter {
     {
         let mut state = Presented::Written;
         for _ in rt.forever() {
-            // Read before the ring is looked at: what was put before the mark is then found.
-            let ended = self.mark.load(Ordering::SeqCst);
+            // Both are read before the ring is looked at: a piece that comes later rings again, and what was
+            // put before the mark is then found.
+            let rung = self.bell.rung();
+            let ended = self.bell.is_closed();
             match self.consumer.pop() {
                 Ok(piece) => state = present(state, &piece, out),
                 Err(_) if ended => return state,
-                Err(_) => thread::yield_now(),
+                Err(_) => self.bell.wait(rt, rung),
             }
         }
         unreachable!()

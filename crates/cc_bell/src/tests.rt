@@ -1,0 +1,34 @@
+use crate::Bell;
+use std::sync::Wait;
+use std::test::*;
+use std::thread::join;
+
+#[test]
+fn a_ring_since_the_count_was_read_is_not_slept_over(rt: HostRuntime) {
+    let bell = Bell::new();
+    let rung = bell.rung();
+    bell.ring();
+    bell.wait(&rt, rung);
+    assert!(rt; bell.rung() != rung);
+    assert!(rt; !bell.is_closed());
+}
+
+#[test]
+fn a_sleeper_hears_that_the_bell_is_closed(rt: HostRuntime) {
+    let bell = Bell::new();
+    let (heard, _) = join(
+        &rt,
+        || {
+            for _ in rt.forever() {
+                let rung = bell.rung();
+                if bell.is_closed() {
+                    return true;
+                }
+                bell.wait(&rt, rung);
+            }
+            false
+        },
+        || bell.close(),
+    );
+    assert!(rt; heard);
+}
