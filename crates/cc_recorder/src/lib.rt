@@ -14,4 +14,6 @@ mod recorder;
 mod writing;
 
 pub use lockstep::{Recorded, record_lockstep};
+pub use pictures::Pictures;
+pub use recorder::header_of;
 pub use writing::{WriteStop, put_all};

@@ -13,7 +13,7 @@ use std::marker::Model;
 /// A painter, and the packed pixels of its frame. Only the rows that a drawing may have changed are packed
 /// again.
 #[derive(Drop)]
-pub(crate) struct Pictures {
+pub struct Pictures {
     painter: Painter,
     // none at first and after want of memory
     packed: Vec<u8>,
@@ -31,7 +31,7 @@ impl Model for Pictures {
 
 impl Pictures {
     /// Nothing is shown yet. An error is want of memory.
-    pub(crate) fn new(alloc: Global) -> Result<Pictures, AllocError> {
+    pub fn new(alloc: Global) -> Result<Pictures, AllocError> {
         let painter = Painter::new(alloc, 1, 1)?;
         Ok(Pictures {
             painter,
@@ -40,28 +40,28 @@ impl Pictures {
     }
 
     /// The width of the last picture in pixels.
-    pub(crate) fn w(&self) -> u32
+    pub fn w(&self) -> u32
         ensures { result ≡ self.now.frame.w }
     {
         self.painter.frame().w()
     }
 
     /// The height of the last picture in pixels.
-    pub(crate) fn h(&self) -> u32
+    pub fn h(&self) -> u32
         ensures { result ≡ self.now.frame.h }
     {
         self.painter.frame().h()
     }
 
     /// Red, green and blue of each pixel of the last picture, row by row from the top.
-    pub(crate) fn packed(&self) -> &[u8]
+    pub fn packed(&self) -> &[u8]
         ensures { result.now ≡ self.now.packed }
     {
         &self.packed
     }
 
     /// Makes the picture of a scene. An error is want of memory.
-    pub(crate) fn show(&mut self, scene: Scene) -> Result<(), AllocError>
+    pub fn show(&mut self, scene: Scene) -> Result<(), AllocError>
         ensures shown { OnOk result (ShowsWhole scene self.new.frame) }
         ensures packed { OnOk result (IsPacked self.new.frame self.new.packed) }
     {

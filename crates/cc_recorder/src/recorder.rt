@@ -42,9 +42,9 @@ fn next_scene(event: &Event, scenes: &mut IntoIter<Scene, Global>) -> Option<Sce
     if is_draw(event) { scenes.next() } else { None }
 }
 
-// The two lines before the events: the name of the format, and this text of a script.
+/// The two lines before the events: the name of the format, and this text of a script. An error is want of memory.
 #[tactic(auto, unfolding(cc_event::specs::Recordings::header))]
-fn header_of(alloc: Global, script: &[u8]) -> Result<Vec<u8>, AllocError>
+pub fn header_of(alloc: Global, script: &[u8]) -> Result<Vec<u8>, AllocError>
     ensures { IfOk result (λ lines. lines.items ≡ header script.now) }
 {
     let mut lines = Vec::from_slice(alloc, b"cc1\n")?;

@@ -1,0 +1,29 @@
+-- What a sink gained by a turn.
+use Rattle.std.proofs.Common.{ℕ, List, [], ◌++◌, append-nil}
+use Rattle.std.specs.Prelude.{Option, Result, Ok, Err, OnOk}
+use Rattle.std.specs.Io.KnownBytes.{Appends}
+use Rattle.cc_io.specs.Pieces.{GainsPrefix}
+use Rattle.cc_recorder.specs.declared.writing.WriteStop.{WriteStop}
+use Rattle.cc_recorder.specs.declared.writing.WriteStop.TheVariants as stop
+use Rattle.cc_recorder.proofs.Gains.{gains_both, gains_front, gains_longer}
+use Rattle.cc_actors.specs.declared.turned.Turned.{Turned}
+use Rattle.cc_actors.specs.declared.turned.Turned.TheVariants as turned
+use Rattle.cc_actors.specs.Writing.{Wrote}
+use Rattle.cc_actors.specs.inner.Steps.{answer_at}
+
+pub ok_then : {X E : Type 0} (r : Result X E) (P Q : Type 0) → OnOk r P → (P → Q) → OnOk r Q
+ok_then (Ok x) P Q p f = f p
+ok_then (Err e) P Q p f = tt
+
+-- some bytes, and then others or a front of them
+pub wrote_behind : (t : Turned) (old mid new : Option (List ℕ)) (a b : List ℕ) → Appends old mid a → Wrote mid new b t → Wrote old new (a ++ b) t
+wrote_behind turned.Went old mid new a b first more = gains_both old mid new a b first more
+wrote_behind turned.Blocked old mid new a b first more = gains_both old mid new a b first more
+wrote_behind turned.Ended old mid new a b first more = gains_both old mid new a b first more
+wrote_behind turned.Memory old mid new a b first more = gains_front old mid new a b [] (a ++ b) first more (append-nil (a ++ b))
+wrote_behind turned.WriteFault old mid new a b first more = gains_front old mid new a b [] (a ++ b) first more (append-nil (a ++ b))
+
+-- a front of some bytes is one of those and others
+pub wrote_refused : (z : WriteStop) (old new : Option (List ℕ)) (a b : List ℕ) → GainsPrefix old new a → Wrote old new (a ++ b) (answer_at z)
+wrote_refused stop.Fault old new a b gains = gains_longer old new a b gains
+wrote_refused stop.Memory old new a b gains = gains_longer old new a b gains

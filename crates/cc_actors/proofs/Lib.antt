@@ -1,0 +1,9 @@
+pub mod Holds
+pub mod Others
+pub mod Parts
+pub mod Gained
+pub mod OwnEvents
+pub mod CompTurns
+pub mod Goings
+pub mod MainFacts
+pub mod WorkFacts

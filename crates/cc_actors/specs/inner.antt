@@ -1,0 +1,5 @@
+pub mod Holdings
+pub mod Steps
+pub mod Mains
+pub mod Works
+pub mod Goings

@@ -1,0 +1,153 @@
+//! Writing what was played, outside of any turn.
+
+ghost use Rattle.std.specs.Prelude.{◌≡◌, ◌≤◌, ◌++◌};
+ghost use Rattle.cc_recorder.specs.Writing.{PutsAll, WriteCause};
+ghost use Rattle.cc_recorder.specs.inner.Scenes.{scene_image};
+ghost use Rattle.cc_actors.specs.Writing.{FaultCause, Wrote};
+ghost use Rattle.cc_actors.specs.inner.Steps.{Answers, answer_at, image_in, text_for, GoesOrGivesUp};
+
+use crate::drawing::{Drawer, draw};
+use crate::playing::Played;
+use crate::turned::Turned;
+use cc_io::{PutFault, Sink};
+use cc_recorder::{Pictures, WriteStop};
+use cc_scene::Scene;
+
+// Puts a piece.
+fn put<K: Sink>(out: &mut K, piece: &[u8]) -> Result<(), WriteStop>
+    ensures bytes { PutsAll (K.held out.old) (K.held out.new) piece.now result }
+    ensures grows { K.faults out.old ≤ K.faults out.new }
+    ensures cause { WriteCause (K.faults out.old) (K.faults out.new) result }
+    ensures place { K.place out.new ≡ K.place out.old }
+{
+    match out.put(piece) {
+        Ok(()) => Ok(()),
+        Err(PutFault::Failed) => Err(WriteStop::Fault),
+        Err(PutFault::Memory(_)) => Err(WriteStop::Memory),
+    }
+}
+
+// The answer where a piece was not put.
+fn refused(stop: WriteStop) -> Turned
+    ensures { result ≡ answer_at stop }
+{
+    match stop {
+        WriteStop::Fault => Turned::WriteFault,
+        WriteStop::Memory => Turned::Memory,
+    }
+}
+
+// Puts the last piece of a turn.
+fn put_last<K: Sink>(out: &mut K, piece: &[u8]) -> Turned
+    ensures bytes { Wrote (K.held out.old) (K.held out.new) piece.now result }
+    ensures answer { GoesOrGivesUp result }
+    ensures grows { K.faults out.old ≤ K.faults out.new }
+    ensures cause { FaultCause (K.faults out.old) (K.faults out.new) result }
+    ensures place { K.place out.new ≡ K.place out.old }
+{
+    match put(out, piece) {
+        Ok(()) => Turned::Went,
+        Err(stop) => refused(stop),
+    }
+}
+
+// Puts the head of an image and its pixels.
+fn put_both<K: Sink>(out: &mut K, head: &[u8], pixels: &[u8]) -> Turned
+    ensures bytes { Wrote (K.held out.old) (K.held out.new) (head.now ++ pixels.now) result }
+    ensures answer { GoesOrGivesUp result }
+    ensures grows { K.faults out.old ≤ K.faults out.new }
+    ensures cause { FaultCause (K.faults out.old) (K.faults out.new) result }
+    ensures place { K.place out.new ≡ K.place out.old }
+{
+    match put(out, head) {
+        Ok(()) => put_last(out, pixels),
+        Err(stop) => refused(stop),
+    }
+}
+
+// Draws a scene, and puts its image.
+fn put_picture<K: Sink>(
+    out: &mut K,
+    pictures: &mut Pictures,
+    head: &mut Vec<u8>,
+    scene: Scene,
+) -> Turned
+    ensures bytes { Wrote (K.held out.old) (K.held out.new) (scene_image scene) result }
+    ensures answer { GoesOrGivesUp result }
+    ensures grows { K.faults out.old ≤ K.faults out.new }
+    ensures cause { FaultCause (K.faults out.old) (K.faults out.new) result }
+    ensures place { K.place out.new ≡ K.place out.old }
+{
+    match draw(pictures, head, scene) {
+        Ok(()) => put_both(out, head.as_slice(), pictures.packed()),
+        Err(_) => Turned::Memory,
+    }
+}
+
+// The same, with the drawer's pictures.
+fn put_image<K: Sink>(out: &mut K, drawer: &mut Drawer, scene: Scene) -> Turned
+    ensures bytes { Wrote (K.held out.old) (K.held out.new) (scene_image scene) result }
+    ensures answer { GoesOrGivesUp result }
+    ensures grows { K.faults out.old ≤ K.faults out.new }
+    ensures cause { FaultCause (K.faults out.old) (K.faults out.new) result }
+    ensures place { K.place out.new ≡ K.place out.old }
+{
+    let Ok(mut pictures) = drawer.take_pictures() else {
+        return Turned::Memory;
+    };
+    let answer = put_picture(out, &mut pictures, &mut drawer.head, scene);
+    drawer.keep(pictures);
+    answer
+}
+
+// Puts the image of what was drawn, if anything was, and answers for what was played.
+fn show<K: Sink>(out: &mut K, drawer: &mut Drawer, played: Played) -> Turned
+    ensures bytes { Wrote (K.held out.old) (K.held out.new) (image_in played) result }
+    ensures answer { Answers played result }
+    ensures grows { K.faults out.old ≤ K.faults out.new }
+    ensures cause { FaultCause (K.faults out.old) (K.faults out.new) result }
+    ensures place { K.place out.new ≡ K.place out.old }
+{
+    match played {
+        Played::Ended => Turned::Ended,
+        Played::Blocked => Turned::Blocked,
+        Played::Plain => Turned::Went,
+        Played::Shown(scene) => put_image(out, drawer, scene),
+        Played::Memory => Turned::Memory,
+    }
+}
+
+// Puts the lines, and then the image of what was drawn, if anything was, and answers for what was played.
+fn put_played<K: Sink>(out: &mut K, drawer: &mut Drawer, lines: &[u8], played: Played) -> Turned
+    ensures bytes { Wrote (K.held out.old) (K.held out.new) (lines.now ++ image_in played) result }
+    ensures answer { Answers played result }
+    ensures grows { K.faults out.old ≤ K.faults out.new }
+    ensures cause { FaultCause (K.faults out.old) (K.faults out.new) result }
+    ensures place { K.place out.new ≡ K.place out.old }
+{
+    match put(out, lines) {
+        Ok(()) => show(out, drawer, played),
+        Err(stop) => refused(stop),
+    }
+}
+
+/// Puts the lines, and then the image of what was drawn, if anything was, and answers for what was played.
+/// Where memory was refused before, nothing is put.
+pub(crate) fn write<K: Sink>(
+    out: &mut K,
+    drawer: &mut Drawer,
+    lines: &[u8],
+    played: Played,
+) -> Turned
+    ensures bytes { Wrote (K.held out.old) (K.held out.new) (text_for played lines.now) result }
+    ensures answer { Answers played result }
+    ensures grows { K.faults out.old ≤ K.faults out.new }
+    ensures cause { FaultCause (K.faults out.old) (K.faults out.new) result }
+    ensures place { K.place out.new ≡ K.place out.old }
+{
+    if let Played::Memory = played {
+        Turned::Memory
+    } else {
+        put_played(out, drawer, lines, played)
+    }
+}
