@@ -1,8 +1,9 @@
 //! The rect that holds two others.
 
-ghost use Rattle.std.specs.Prelude.{◌≡◌, ◌⊎◌, ℤ, pos, ◌+ℤ◌, ◌-ℤ◌, ◌≤ℤ◌, IsTrue, IfSome};
+ghost use Rattle.std.specs.Prelude.{◌≡◌, ◌⊎◌, ℤ, pos, ◌+ℤ◌, ◌-ℤ◌, ◌≤ℤ◌, IfSome, None};
+ghost use Rattle.std.specs.Bool.{Decides};
 ghost use Rattle.std.specs.Int.{int_max, int_min};
-ghost use Rattle.cc_areas.specs.Areas.{IsOnScreen, Holds, IsUnion};
+ghost use Rattle.cc_areas.specs.Areas.{IsOnScreen, Holds, IsUnion, HaveNoGap, AreBeside, AreStacked};
 ghost use Rattle.cc_areas.specs.inner.Boths;
 
 use crate::empty::is_empty;
@@ -25,11 +26,14 @@ pub fn hull(a: Rect, b: Rect) -> Rect
     rect_of_both(a, b)
 }
 
-/// The union of two rects, where they have the same rows or the same columns and no gap lies between them.
+/// The union of two rects, where they have the same rows or the same columns and no gap lies between them; None
+/// exactly elsewhere.
 pub fn union_of(a: Rect, b: Rect) -> Option<Rect>
     requires first { IsOnScreen a }
     requires second { IsOnScreen b }
     ensures union { IfSome result (λ r. IsUnion a b r) }
+    ensures some { IfSome result (λ r. AreBeside a b ⊎ AreStacked a b) }
+    ensures none { result ≡ None → AreBeside a b ⊎ AreStacked a b → ⊥ }
     ensures inside { IfSome result (λ r. IsOnScreen r) }
 {
     if lie_beside(a, b) {
@@ -45,7 +49,7 @@ pub fn union_of(a: Rect, b: Rect) -> Option<Rect>
 fn lie_beside(a: Rect, b: Rect) -> bool
     requires first { IsOnScreen a }
     requires second { IsOnScreen b }
-    ensures { IsTrue result → IsUnion a b (Boths.rect_of_both a b) }
+    ensures { Decides result (AreBeside a b) }
 {
     is_same_span(a.y, a.h, b.y, b.h) && have_no_gap(a.x, a.w, b.x, b.w)
 }
@@ -54,7 +58,7 @@ fn lie_beside(a: Rect, b: Rect) -> bool
 fn lie_stacked(a: Rect, b: Rect) -> bool
     requires first { IsOnScreen a }
     requires second { IsOnScreen b }
-    ensures { IsTrue result → IsUnion a b (Boths.rect_of_both a b) }
+    ensures { Decides result (AreStacked a b) }
 {
     is_same_span(a.x, a.w, b.x, b.w) && have_no_gap(a.y, a.h, b.y, b.h)
 }
@@ -100,10 +104,20 @@ fn length_of_both(at: i32, len: i32, other_at: i32, other_len: i32) -> i32
 
 // whether two spans are one
 fn is_same_span(at: i32, len: i32, other_at: i32, other_len: i32) -> bool
-    ensures start { IsTrue result → at ≡ other_at }
-    ensures len { IsTrue result → len ≡ other_len }
+    ensures { Decides result ((at ≡ other_at) × (len ≡ other_len)) }
 {
     at == other_at && len == other_len
+}
+
+// whether a span starts no later than another ends
+fn starts_in_time(at: i32, other_at: i32, other_len: i32) -> bool
+    requires start { pos 0 ≤ℤ other_at }
+    requires end { (other_at +ℤ other_len) ≤ℤ pos 2048 }
+    requires len { pos 0 ≤ℤ other_len }
+    ensures { Decides result (at ≤ℤ (other_at +ℤ other_len)) }
+{
+    let end = other_at + other_len;
+    at <= end
 }
 
 // whether neither of two spans starts behind the end of the other
@@ -114,10 +128,7 @@ fn have_no_gap(at: i32, len: i32, other_at: i32, other_len: i32) -> bool
     requires other_start { pos 0 ≤ℤ other_at }
     requires other_end { (other_at +ℤ other_len) ≤ℤ pos 2048 }
     requires other_len { pos 0 ≤ℤ other_len }
-    ensures first { IsTrue result → at ≤ℤ (other_at +ℤ other_len) }
-    ensures second { IsTrue result → other_at ≤ℤ (at +ℤ len) }
+    ensures { Decides result (HaveNoGap at len other_at other_len) }
 {
-    let end = at + len;
-    let other_end = other_at + other_len;
-    at <= other_end && other_at <= end
+    starts_in_time(at, other_at, other_len) && starts_in_time(other_at, at, len)
 }
