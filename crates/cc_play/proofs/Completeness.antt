@@ -11,12 +11,13 @@ use Rattle.cc_event.proofs.Exclusion.{frames_taken}
 use Rattle.cc_script.specs.Causes.{IsTextOf}
 use Rattle.cc_script.specs.Reading.{parts_at}
 use Rattle.cc_script.proofs.ScriptLaws.{one_script}
+use Rattle.cc_check.proofs.LegalRecordings.{legal_not_wrong, legal_not_bad}
 use Rattle.cc_check.proofs.OneReading.{not_bad}
 use Rattle.cc_play.specs.declared.outcome.Outcome.{Outcome}
-use Rattle.cc_play.specs.declared.outcome.Outcome.TheVariants.{Done, Usage, Json, Shape, Script, ReadFault, WriteFault, TooLong, BadRecording, Memory}
+use Rattle.cc_play.specs.declared.outcome.Outcome.TheVariants.{Done, Usage, Json, Shape, Script, ReadFault, WriteFault, TooLong, BadRecording, No, Memory}
 use Rattle.cc_play.specs.declared.words.Use.{Use}
-use Rattle.cc_play.specs.declared.words.Use.TheVariants.{Step, Gen, Demo, Frames}
-use Rattle.cc_play.specs.Runs.{TellsMisfit, IsAcceptedText, Takes, RefusedScript, RefusedRecording, Refused, CauseOf, CauseFrom, IsUnread, Causes, IsComplete, IsDone}
+use Rattle.cc_play.specs.declared.words.Use.TheVariants.{Step, Gen, Demo, Frames, Check}
+use Rattle.cc_play.specs.Runs.{TellsMisfit, IsAcceptedText, Takes, RefusedScript, RefusedRecording, RefusedHistory, Refused, CauseOf, CauseFrom, IsUnread, Causes, IsComplete, IsDone}
 
 -- a text of a script has no first fault
 not_at_fault : (bytes : List ℕ) → IsAcceptedText bytes → (d : Data) → IsTextOf bytes d → (place : _) → parts_at d ≡ Err place → ⊥
@@ -39,6 +40,7 @@ script_taken workers bytes (Usage word) takes refused = refused
 script_taken workers bytes ReadFault takes refused = refused
 script_taken workers bytes WriteFault takes refused = refused
 script_taken workers bytes (BadRecording place) takes refused = refused
+script_taken workers bytes (No event) takes refused = refused
 script_taken workers bytes Memory takes refused = refused
 
 -- nor is a recording
@@ -52,7 +54,22 @@ recording_taken bytes (Shape place) takes refused = refused
 recording_taken bytes (Script frame command why) takes refused = refused
 recording_taken bytes ReadFault takes refused = refused
 recording_taken bytes WriteFault takes refused = refused
+recording_taken bytes (No event) takes refused = refused
 recording_taken bytes Memory takes refused = refused
+
+-- nor is that of a legal history
+history_taken : (bytes : List ℕ) (result : Outcome) → Takes Check bytes → RefusedHistory bytes result → ⊥
+history_taken bytes (No event) (few, good) (short, wrong) = legal_not_wrong 16 bytes event good wrong
+history_taken bytes (BadRecording place) (few, good) (short, bad) = legal_not_bad 16 bytes place good bad
+history_taken bytes (TooLong limit) (few, good) (is, long) = omega (arith, few, long)
+history_taken bytes Done takes refused = refused
+history_taken bytes (Usage word) takes refused = refused
+history_taken bytes Json takes refused = refused
+history_taken bytes (Shape place) takes refused = refused
+history_taken bytes (Script frame command why) takes refused = refused
+history_taken bytes ReadFault takes refused = refused
+history_taken bytes WriteFault takes refused = refused
+history_taken bytes Memory takes refused = refused
 
 -- nor is what a use takes
 not_refused : (wanted : Use) (bytes : List ℕ) (result : Outcome) → Takes wanted bytes → Refused wanted bytes result → ⊥
@@ -60,6 +77,7 @@ not_refused (Step workers) bytes result takes refused = script_taken workers byt
 not_refused (Gen number) bytes result takes refused = refused
 not_refused (Demo number) bytes result takes refused = refused
 not_refused Frames bytes result takes refused = recording_taken bytes result takes refused
+not_refused Check bytes result takes refused = history_taken bytes result takes refused
 
 done : (wanted : Use) (bytes : List ℕ) (source_old source_new out_old out_new : ℕ) (result : Outcome) → TellsMisfit (Ok wanted) result → CauseOf wanted bytes result → Causes source_old source_new out_old out_new result
     → Takes wanted bytes → (Rose source_old source_new → ⊥) → (Rose out_old out_new → ⊥) → IsDone result
@@ -72,6 +90,7 @@ done wanted bytes a b c e ReadFault fits cause faults takes calm_source calm_out
 done wanted bytes a b c e WriteFault fits cause faults takes calm_source calm_out = absurd (calm_out faults)
 done wanted bytes a b c e (TooLong limit) fits cause faults takes calm_source calm_out = absurd (not_refused wanted bytes (TooLong limit) takes cause)
 done wanted bytes a b c e (BadRecording place) fits cause faults takes calm_source calm_out = absurd (not_refused wanted bytes (BadRecording place) takes cause)
+done wanted bytes a b c e (No event) fits cause faults takes calm_source calm_out = absurd (not_refused wanted bytes (No event) takes cause)
 done wanted bytes a b c e Memory fits cause faults takes calm_source calm_out = tt
 
 -- a use that reads nothing is done but for a fault of the sink
@@ -86,6 +105,7 @@ unread_done a b c e (Script frame command why) unread faults calm = absurd unrea
 unread_done a b c e ReadFault unread faults calm = absurd unread
 unread_done a b c e (TooLong limit) unread faults calm = absurd unread
 unread_done a b c e (BadRecording place) unread faults calm = absurd unread
+unread_done a b c e (No event) unread faults calm = absurd unread
 
 complete_use : (wanted : Use) (source : Option (List ℕ)) (source_old source_new out_old out_new : ℕ) (result : Outcome) → TellsMisfit (Ok wanted) result → CauseFrom wanted source result → Causes source_old source_new out_old out_new result
     → IsComplete wanted source source_old source_new out_old out_new result
@@ -95,6 +115,8 @@ complete_use (Step workers) None a b c e result fits cause faults = tt
 complete_use (Step workers) (Some bytes) a b c e result fits cause faults = λ takes calm_source calm_out. done (Step workers) bytes a b c e result fits cause faults takes calm_source calm_out
 complete_use Frames None a b c e result fits cause faults = tt
 complete_use Frames (Some bytes) a b c e result fits cause faults = λ takes calm_source calm_out. done Frames bytes a b c e result fits cause faults takes calm_source calm_out
+complete_use Check None a b c e result fits cause faults = tt
+complete_use Check (Some bytes) a b c e result fits cause faults = λ takes calm_source calm_out. done Check bytes a b c e result fits cause faults takes calm_source calm_out
 
 pub complete : (asked : Result Use ℕ) (source : Option (List ℕ)) (source_old source_new out_old out_new : ℕ) (result : Outcome) → TellsMisfit asked result → IfOk asked (λ wanted. CauseFrom wanted source result) → Causes source_old source_new out_old out_new result
     → IfOk asked (λ wanted. IsComplete wanted source source_old source_new out_old out_new result)

@@ -8,3 +8,4 @@ pub mod Outputs
 pub mod ScriptsPlayed
 pub mod ImagesWritten
 pub mod Completeness
+pub mod JudgedInputs

@@ -2,7 +2,7 @@
 use Rattle.std.proofs.Common.{ℕ, List, inl, inr, Ok}
 use Rattle.std.specs.Prelude.{Option}
 use Rattle.cc_play.specs.declared.outcome.Outcome.{Outcome}
-use Rattle.cc_play.specs.declared.outcome.Outcome.TheVariants.{Done, Usage, Json, Shape, Script, ReadFault, WriteFault, TooLong, BadRecording, Memory}
+use Rattle.cc_play.specs.declared.outcome.Outcome.TheVariants.{Done, Usage, Json, Shape, Script, ReadFault, WriteFault, TooLong, BadRecording, No, Memory}
 use Rattle.cc_play.specs.declared.words.Use.{Use}
 use Rattle.cc_play.specs.inner.Outputs.{WritesSome}
 use Rattle.cc_play.specs.Runs.{TellsMisfit, IsUnread, IsOutput, Writes}
@@ -19,6 +19,7 @@ some_words P wanted old new (Script frame command why) wrote = tt
 some_words P wanted old new ReadFault wrote = tt
 some_words P wanted old new (TooLong limit) wrote = tt
 some_words P wanted old new (BadRecording place) wrote = tt
+some_words P wanted old new (No event) wrote = tt
 
 -- nor is what the source has
 pub some_unread : (P : List ℕ → Type 0) (old new : Option (List ℕ)) (o : Outcome) → WritesSome P old new o → IsUnread o
@@ -32,6 +33,7 @@ some_unread P old new (Script frame command why) wrote = absurd wrote
 some_unread P old new ReadFault wrote = absurd wrote
 some_unread P old new (TooLong limit) wrote = absurd wrote
 some_unread P old new (BadRecording place) wrote = absurd wrote
+some_unread P old new (No event) wrote = absurd wrote
 
 -- the sink gained what the use writes
 pub some_output : (P : List ℕ → Type 0) (wanted : Use) (source old new : Option (List ℕ)) (o : Outcome) → ((whole : List ℕ) → P whole → IsOutput wanted source whole) → WritesSome P old new o → Writes wanted source old new o
@@ -46,3 +48,4 @@ some_output P wanted source old new (Script frame command why) is wrote = absurd
 some_output P wanted source old new ReadFault is wrote = absurd wrote
 some_output P wanted source old new (TooLong limit) is wrote = absurd wrote
 some_output P wanted source old new (BadRecording place) is wrote = absurd wrote
+some_output P wanted source old new (No event) is wrote = absurd wrote

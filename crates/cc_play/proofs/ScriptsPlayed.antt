@@ -5,7 +5,7 @@ use Rattle.cc_event.specs.Accepted.{IsAccepted}
 use Rattle.cc_event.specs.Scripts.{ScriptModel}
 use Rattle.cc_script.specs.Causes.{IsScriptText}
 use Rattle.cc_play.specs.declared.outcome.Outcome.{Outcome}
-use Rattle.cc_play.specs.declared.outcome.Outcome.TheVariants.{Done, Usage, Json, Shape, Script, ReadFault, WriteFault, TooLong, BadRecording, Memory}
+use Rattle.cc_play.specs.declared.outcome.Outcome.TheVariants.{Done, Usage, Json, Shape, Script, ReadFault, WriteFault, TooLong, BadRecording, No, Memory}
 use Rattle.cc_play.specs.declared.words.Use.TheVariants.{Step}
 use Rattle.cc_play.specs.inner.Outputs.{WritesSome}
 use Rattle.cc_play.specs.inner.Scripts.{IsStopped, IsNoneOf}
@@ -31,6 +31,7 @@ played workers bytes P old new (Script frame command why) takes wrote = absurd w
 played workers bytes P old new ReadFault takes wrote = absurd wrote
 played workers bytes P old new (TooLong limit) takes wrote = absurd wrote
 played workers bytes P old new (BadRecording place) takes wrote = absurd wrote
+played workers bytes P old new (No event) takes wrote = absurd wrote
 
 -- a script that was read is what the use takes
 pub script_cause : (workers : ℕ) (source : Option (List ℕ)) (P : List ℕ → Type 0) (old new : Option (List ℕ)) (s : ScriptModel) (result : Outcome) → IfSome source (λ bytes. (length bytes ≤ script_limit) × IsScriptText bytes s) → IsAccepted s → WritesSome P old new result → CauseFrom (Step workers) source result
@@ -45,6 +46,7 @@ none_cause workers bytes (TooLong limit) stopped none = none
 none_cause workers bytes ReadFault stopped none = tt
 none_cause workers bytes Memory stopped none = tt
 none_cause workers bytes (BadRecording place) stopped none = none
+none_cause workers bytes (No event) stopped none = none
 none_cause workers bytes Done stopped none = absurd stopped
 none_cause workers bytes WriteFault stopped none = absurd stopped
 none_cause workers bytes (Usage word) stopped none = absurd stopped
@@ -63,6 +65,7 @@ no_script_output workers source old (TooLong limit) stopped = refl
 no_script_output workers source old ReadFault stopped = refl
 no_script_output workers source old Memory stopped = inl refl
 no_script_output workers source old (BadRecording place) stopped = refl
+no_script_output workers source old (No event) stopped = refl
 no_script_output workers source old Done stopped = absurd stopped
 no_script_output workers source old WriteFault stopped = absurd stopped
 no_script_output workers source old (Usage word) stopped = absurd stopped
@@ -75,6 +78,7 @@ stopped_words workers (TooLong limit) stopped = tt
 stopped_words workers ReadFault stopped = tt
 stopped_words workers Memory stopped = tt
 stopped_words workers (BadRecording place) stopped = tt
+stopped_words workers (No event) stopped = tt
 stopped_words workers Done stopped = absurd stopped
 stopped_words workers WriteFault stopped = absurd stopped
 stopped_words workers (Usage word) stopped = absurd stopped

@@ -8,7 +8,7 @@ use Rattle.cc_edit.specs.declared.fault.EditFault.{EditFault}
 use Rattle.cc_edit.specs.declared.fault.EditFault.TheVariants as fault
 use Rattle.cc_play.specs.declared.outcome.Outcome.{Outcome}
 use Rattle.cc_script.specs.declared.fault.ShapeFault.{ShapeFault}
-use Rattle.cc_play.specs.declared.outcome.Outcome.TheVariants.{Done, Usage, Json, Shape, Script, ReadFault, WriteFault, TooLong, BadRecording, Memory}
+use Rattle.cc_play.specs.declared.outcome.Outcome.TheVariants.{Done, Usage, Json, Shape, Script, ReadFault, WriteFault, TooLong, BadRecording, No, Memory}
 
 -- the status with which the program exits
 abbrev pub status_of : Outcome → ℕ
@@ -21,6 +21,7 @@ status_of ReadFault = 6
 status_of WriteFault = 7
 status_of (TooLong limit) = 8
 status_of (BadRecording place) = 9
+status_of (No event) = 10
 status_of Memory = 11
 
 -- texts, one after another
@@ -59,6 +60,7 @@ line_of ReadFault = joined (codes "cc: read fault\n" ∷ [])
 line_of WriteFault = joined (codes "cc: write fault\n" ∷ [])
 line_of (TooLong limit) = joined (codes "cc: too long, limit " ∷ decimal limit ∷ codes "\n" ∷ [])
 line_of (BadRecording place) = joined (codes "cc: bad recording at " ∷ decimal place ∷ codes "\n" ∷ [])
+line_of (No event) = joined (codes "cc: event " ∷ decimal event ∷ codes " is wrong\n" ∷ [])
 line_of Memory = joined (codes "cc: out of memory\n" ∷ [])
 
 -- the notes gained the line; or a front of it, and one of their two counts rose

@@ -1,5 +1,5 @@
 -- What a run of the program does with its words, its input and its output.
-use Rattle.std.specs.Prelude.{◌≡◌, ℕ, ◌<◌, ◌≤◌, ◌+◌, ◌⊎◌, List, ◌++◌, length, codes, ⊤, Option, None, IfSome, Result, Ok, Err}
+use Rattle.std.specs.Prelude.{◌≡◌, ℕ, ◌<◌, ◌≤◌, ◌+◌, ◌⊎◌, List, [], ◌++◌, length, codes, ⊤, Option, None, IfSome, Result, Ok, Err}
 use Rattle.std.specs.Str.{IsUtf8}
 use Rattle.std.specs.Io.KnownBytes.{Consumes, Appends, IsAtEnd}
 use Rattle.serde_json.specs.Data.{Data}
@@ -14,14 +14,15 @@ use Rattle.cc_script.specs.Causes.{IsTextOf, IsScriptText}
 use Rattle.cc_script.specs.Reading.{parts_at}
 use Rattle.cc_parts.specs.Pieces.{Piece, images_text}
 use Rattle.cc_check.specs.Recordings.{IsRecording, IsBadAt}
+use Rattle.cc_check.specs.Verdicts.{IsLegalRecording, IsFirstWrong}
 use Rattle.cc_event.specs.declared.history.Entry.{Entry}
 use Rattle.cc_event.specs.Lockstep.{IsLockstep}
 use Rattle.cc_script.specs.Recordings.{recording, script_text}
 use Rattle.cc_gen.specs.Generated.{script_of_number}
 use Rattle.cc_play.specs.declared.outcome.Outcome.{Outcome}
-use Rattle.cc_play.specs.declared.outcome.Outcome.TheVariants.{Done, Usage, Json, Shape, Script, ReadFault, WriteFault, TooLong, BadRecording, Memory}
+use Rattle.cc_play.specs.declared.outcome.Outcome.TheVariants.{Done, Usage, Json, Shape, Script, ReadFault, WriteFault, TooLong, BadRecording, No, Memory}
 use Rattle.cc_play.specs.declared.words.Use.{Use}
-use Rattle.cc_play.specs.declared.words.Use.TheVariants.{Step, Gen, Demo, Frames}
+use Rattle.cc_play.specs.declared.words.Use.TheVariants.{Step, Gen, Demo, Frames, Check}
 use Rattle.cc_play.specs.Promises.{IsPromised}
 use Rattle.cc_play.specs.Demos.{demo_line}
 
@@ -47,12 +48,13 @@ IsAcceptedText bytes = (s : ScriptModel) × IsScriptText bytes s × IsAccepted s
 abbrev pub IsRecordingText : List ℕ → Type 0
 IsRecordingText bytes = (s : ScriptModel) × (ps : List Piece) × IsRecording bytes s ps
 
--- what a use takes: the text of an accepted script; a recording; and where it reads nothing, any bytes
+-- what a use takes: the text of an accepted script; a recording; that of a history that is legal for 16 workers; and where it reads nothing, any bytes
 abbrev pub Takes : Use → List ℕ → Type 0
 Takes (Step workers) bytes = (length bytes ≤ script_limit) × IsAcceptedText bytes
 Takes (Gen number) bytes = ⊤
 Takes (Demo number) bytes = ⊤
 Takes Frames bytes = (length bytes ≤ recording_limit) × IsRecordingText bytes
+Takes Check bytes = (length bytes ≤ recording_limit) × IsLegalRecording 16 bytes
 
 -- why bytes are refused as a script: a value that is no script is told by its first fault; a script of which a command is refused by the first such command
 abbrev pub RefusedScript : List ℕ → Outcome → Type 0
@@ -70,12 +72,18 @@ RefusedRecording bytes (TooLong limit) = (limit ≡ recording_limit) × (recordi
 RefusedRecording bytes (BadRecording place) = (length bytes ≤ recording_limit) × IsBadAt bytes place
 RefusedRecording bytes _ = ⊥
 
+-- why bytes are refused as the recording of a legal history: this event is the first that is wrong; or they are no recording
+abbrev pub RefusedHistory : List ℕ → Outcome → Type 0
+RefusedHistory bytes (No event) = (length bytes ≤ recording_limit) × IsFirstWrong 16 bytes event
+RefusedHistory bytes result = RefusedRecording bytes result
+
 -- why a use refuses bytes
 abbrev pub Refused : Use → List ℕ → Outcome → Type 0
 Refused (Step workers) bytes result = RefusedScript bytes result
 Refused (Gen number) bytes result = ⊥
 Refused (Demo number) bytes result = ⊥
 Refused Frames bytes result = RefusedRecording bytes result
+Refused Check bytes result = RefusedHistory bytes result
 
 -- why this is the answer of a use where the source has these bytes
 abbrev pub CauseOf : Use → List ℕ → Outcome → Type 0
@@ -109,6 +117,7 @@ Reads (Step workers) old new = TakenAtMost (script_limit + 1) old new
 Reads (Gen number) old new = new ≡ old
 Reads (Demo number) old new = new ≡ old
 Reads Frames old new = TakenAtMost (recording_limit + 1) old new
+Reads Check old new = TakenAtMost (recording_limit + 1) old new
 
 -- bytes are judged only where the source was read to its end
 abbrev pub IsJudgedWhole : Option (List ℕ) → Outcome → Type 0
@@ -124,6 +133,7 @@ ReadToEnd (Step workers) left result = IsJudgedWhole left result
 ReadToEnd (Gen number) left result = ⊤
 ReadToEnd (Demo number) left result = ⊤
 ReadToEnd Frames left result = IsJudgedWhole left result
+ReadToEnd Check left result = IsJudgedWhole left result
 
 -- a script that is accepted, and that the source had, where it tells its bytes
 abbrev pub IsScriptFrom : Option (List ℕ) → ScriptModel → Type 0
@@ -142,12 +152,13 @@ abbrev pub AreImagesFrom : Option (List ℕ) → List ℕ → Type 0
 AreImagesFrom source whole =
     (bytes : List ℕ) × IfSome source (λ had. had ≡ bytes) × (s : ScriptModel) × (ps : List Piece) × IsRecording bytes s ps × (whole ≡ images_text ps)
 
--- what a use writes in all: the recording of the script; the canonical text of a number's script, and a newline; the line that sums up its recording; the images of the recording
+-- what a use writes in all: the recording of the script; the canonical text of a number's script, and a newline; the line that sums up its recording; the images of the recording; or nothing
 abbrev pub IsOutput : Use → Option (List ℕ) → List ℕ → Type 0
 IsOutput (Step workers) source whole = (s : ScriptModel) × IsScriptFrom source s × IsRunOf workers s whole
 IsOutput (Gen number) source whole = whole ≡ script_text (script_of_number number) ++ codes "\n"
 IsOutput (Demo number) source whole = IsDemoOf (script_of_number number) whole
 IsOutput Frames source whole = AreImagesFrom source whole
+IsOutput Check source whole = whole ≡ []
 
 -- what the sink gained: all that the use writes; a front of it; or nothing
 abbrev pub Writes : Use → Option (List ℕ) → Option (List ℕ) → Option (List ℕ) → Outcome → Type 0

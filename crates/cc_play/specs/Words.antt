@@ -1,8 +1,8 @@
--- Which words the program takes, and what they ask for: `step N`, `gen NUMBER`, `demo NUMBER`, `frames`.
+-- Which words the program takes, and what they ask for: `step N`, `gen NUMBER`, `demo NUMBER`, `frames`, `check`.
 use Rattle.std.specs.Prelude.{ℕ, ◌+◌, ◌-◌, ◌*◌, ◌^◌, ◌&&◌, nat_le, nat_lt, List, [], ◌∷◌, Option, Some, None, Result, Ok, Err, codes, decimal, if◌then◌else◌}
 use Rattle.std.specs.Str.{bytes_eq}
 use Rattle.cc_play.specs.declared.words.Use.{Use}
-use Rattle.cc_play.specs.declared.words.Use.TheVariants.{Step, Gen, Demo, Frames}
+use Rattle.cc_play.specs.declared.words.Use.TheVariants.{Step, Gen, Demo, Frames, Check}
 
 -- what the digits of a word say, where those before them say n
 abbrev pub digits_value : ℕ → List ℕ → ℕ
@@ -51,7 +51,8 @@ abbrev pub after_other : List ℕ → List (List ℕ) → Result Use ℕ
 after_other w ws =
     if bytes_eq w (codes "gen") then after_gen ws
     else (if bytes_eq w (codes "demo") then after_demo ws
-    else (if bytes_eq w (codes "frames") then no_more Frames 1 ws else Err 0))
+    else (if bytes_eq w (codes "frames") then no_more Frames 1 ws
+    else (if bytes_eq w (codes "check") then no_more Check 1 ws else Err 0)))
 
 -- what the words ask for; or the index of the first word that, with those before it, begins no use, and
 -- where there is no such word and more words are needed, their count

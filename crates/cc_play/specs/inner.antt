@@ -1,5 +1,6 @@
 pub mod Fragments
 pub mod Inputs
+pub mod Judged
 pub mod Outputs
 pub mod Recordings
 pub mod Scripts

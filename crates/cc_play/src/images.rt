@@ -7,7 +7,7 @@ ghost use Rattle.cc_play.specs.Runs.{TellsMisfit, CauseFrom, Reads, ReadToEnd, W
 ghost use Rattle.cc_play.specs.inner.Scripts.{RefusedBy};
 ghost use Rattle.cc_play.specs.inner.Recordings.{RecordingFrom, WritesImages, images_of};
 
-use crate::input::{ReadStop, read_all};
+use crate::input::{RECORDING_LIMIT, ReadStop, read_all};
 use crate::outcome::Outcome;
 use crate::words::Use;
 use cc_check::{RecordingFault, read_images};
@@ -15,9 +15,6 @@ use cc_io::{Sink, Source};
 use cc_parts::ImageSpan;
 use cc_recorder::{WriteStop, put_all};
 use std::alloc::Global;
-
-// The greatest number of bytes of a recording.
-const RECORDING_LIMIT: usize = 268435456;
 
 // The bytes of a recording, and where its images stand in them.
 #[derive(Drop)]

@@ -8,6 +8,9 @@ ghost use Rattle.cc_play.specs.inner.Inputs.{ReadWhole, StoppedAt, ReadCause, Re
 use cc_io::Source;
 use std::alloc::{AllocError, Global};
 
+/// The greatest number of bytes of a recording.
+pub const RECORDING_LIMIT: usize = 268435456;
+
 // How many bytes one call of the source is asked for at most.
 const PIECE: usize = 65536;
 

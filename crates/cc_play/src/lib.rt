@@ -10,6 +10,7 @@ mod fragments;
 mod generated;
 mod images;
 mod input;
+mod judged;
 mod notes;
 mod outcome;
 mod program;

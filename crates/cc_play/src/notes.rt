@@ -121,6 +121,11 @@ fn line(outcome: Outcome) -> [Fragment; 9]
             Fragment::Count(place),
             NEWLINE,
         ),
+        Outcome::No { event } => short_line(
+            Fragment::Text(b"cc: event "),
+            Fragment::Count(event),
+            Fragment::Text(b" is wrong\n"),
+        ),
         Outcome::Memory => text_line(b"cc: out of memory\n"),
     }
 }

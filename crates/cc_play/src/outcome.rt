@@ -45,6 +45,11 @@ pub enum Outcome {
         /// The offset at which the first part begins that is not of its form.
         place: u64,
     },
+    /// The recording is not that of its script and of a legal history.
+    No {
+        /// The index of the first event that may not come, or whose image is not the painting.
+        event: u64,
+    },
     /// There was no memory.
     Memory,
 }
@@ -64,6 +69,7 @@ impl Outcome {
             Outcome::WriteFault => 7,
             Outcome::TooLong { .. } => 8,
             Outcome::BadRecording { .. } => 9,
+            Outcome::No { .. } => 10,
             Outcome::Memory => 11,
         }
     }

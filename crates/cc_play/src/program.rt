@@ -9,6 +9,7 @@ ghost use Rattle.cc_play.specs.inner.Uses.{IsFew};
 use crate::demo::run_demo;
 use crate::generated::run_gen;
 use crate::images::run_frames;
+use crate::judged::run_check;
 use crate::notes::tell;
 use crate::outcome::Outcome;
 use crate::step::run_step;
@@ -41,6 +42,7 @@ fn run_use<R: Threads + Sync, S: Source, K: Sink>(
         Use::Gen { number } => run_gen(alloc, number, out),
         Use::Demo { number } => run_demo(rt, alloc, number, out),
         Use::Frames => run_frames(alloc, source, out),
+        Use::Check => run_check(alloc, source),
     }
 }
 
@@ -71,7 +73,8 @@ fn run_words<R: Threads + Sync, S: Source, K: Sink>(
 ///
 /// The words are those behind the program's name. `step N`, where N is 1 to 16, reads a script, plays it
 /// in lockstep with N raster workers and writes its recording, which is the same for every N. `frames`
-/// reads a recording and writes its images, one behind the other. `gen NUMBER` reads nothing and writes
+/// reads a recording and writes its images, one behind the other; `check` reads one and judges it without the
+/// engine, and writes nothing. `gen NUMBER` reads nothing and writes
 /// the canonical text of a number's script and a newline; `demo NUMBER` plays that script and writes a
 /// line that sums up its recording. NUMBER is a plain decimal below 2^64.
 ///

@@ -27,6 +27,8 @@ pub enum Use {
     },
     /// `frames`: writes the images of a recording.
     Frames,
+    /// `check`: judges a recording without the engine.
+    Check,
 }
 
 // Whether two texts are the same.
@@ -153,6 +155,8 @@ fn after_other(first: &str, rest: &[String]) -> Result<Use, u32>
         after_demo(rest)
     } else if is_same(first, "frames") {
         no_more(Use::Frames, 1, rest)
+    } else if is_same(first, "check") {
+        no_more(Use::Check, 1, rest)
     } else {
         Err(0)
     }

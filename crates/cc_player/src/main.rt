@@ -14,6 +14,7 @@ cc_player: plays scripts of page changes and inputs
 
 usage: cc_player step N < SCRIPT > RECORDING
        cc_player frames < RECORDING > PICTURES
+       cc_player check < RECORDING
        cc_player gen NUMBER > SCRIPT
        cc_player demo NUMBER
 
@@ -22,6 +23,8 @@ usage: cc_player step N < SCRIPT > RECORDING
                picture as a raw portable pixmap (P6); the recording is the same for every N
   frames       reads a recording from standard input and writes its pictures to standard output,
                one behind the other, each a raw portable pixmap (P6)
+  check        reads a recording from standard input and judges it without the engine: whether its
+               history is legal, and each picture the painting; it writes nothing
   gen NUMBER   writes the script of a number (0 to 18446744073709551615)
   demo NUMBER  plays the script of a number and writes one line: how many events, pictures, missing
                tiles and bytes its recording has, and the sum of the bytes
@@ -38,6 +41,7 @@ status:
    7  standard output could not be written
    8  the script is longer than 16777216 bytes, or the recording longer than 268435456
    9  the input is no recording: the place of its first bad part is told, as an offset in bytes
+  10  the recording is wrong: the first event that may not come, or whose picture differs, is told
   11  out of memory
 
 example: cc_player step 1 < examples/first.json > first.rec

@@ -2,6 +2,7 @@
 use Rattle.std.proofs.Common.{sym, subst}
 use Rattle.cc_play.specs.declared.words.Use.{Use}
 use Rattle.cc_play.specs.Runs.{Writes}
+use Rattle.cc_play.proofs.JudgedInputs.{nothing_written}
 use Rattle.cc_play.proofs.program.run_use.Goals as goal
 
 pub returns-in-Step-clause-output : goal.returns-in-Step-clause-output
@@ -11,3 +12,11 @@ returns-in-Step-clause-output g c =
 pub returns-in-Frames-clause-output : goal.returns-in-Frames-clause-output
 returns-in-Frames-clause-output g c =
     subst (λ (u : Use). Writes u (g.S.Source.left c.args.source.now) (g.K.Sink.held c.args.out.now) (g.K.Sink.held c.run_frames.new.out) c.run_frames.result) (sym c.in-Frames.is) c.run_frames.ensures.output
+
+pub returns-in-Check-clause-output : goal.returns-in-Check-clause-output
+returns-in-Check-clause-output g c =
+    subst (λ (u : Use). Writes u (g.S.Source.left c.args.source.now) (g.K.Sink.held c.args.out.now) (g.K.Sink.held c.args.out.now) c.run_check.result) (sym c.in-Check.is)
+    (nothing_written (g.S.Source.left c.args.source.now) (g.K.Sink.held c.args.out.now) c.run_check.result c.run_check.ensures.silent)
+
+pub returns-in-Check-clause-cause : goal.returns-in-Check-clause-cause
+returns-in-Check-clause-cause g c = c.run_check.ensures.cause (g.K.Sink.faults c.args.out.now) (g.K.Sink.faults c.args.out.now)
