@@ -16,7 +16,7 @@ use Rattle.cc_check.proofs.OneReading.{not_bad}
 use Rattle.cc_play.specs.declared.outcome.Outcome.{Outcome}
 use Rattle.cc_play.specs.declared.outcome.Outcome.TheVariants.{Done, Usage, Json, Shape, Script, ReadFault, WriteFault, TooLong, BadRecording, No, Memory}
 use Rattle.cc_play.specs.declared.words.Use.{Use}
-use Rattle.cc_play.specs.declared.words.Use.TheVariants.{Step, Gen, Demo, Frames, Check}
+use Rattle.cc_play.specs.declared.words.Use.TheVariants.{Step, Play, Gen, Demo, Frames, Check}
 use Rattle.cc_play.specs.Runs.{TellsMisfit, IsAcceptedText, Takes, RefusedScript, RefusedRecording, RefusedHistory, Refused, CauseOf, CauseFrom, IsUnread, Causes, IsComplete, IsDone}
 
 -- a text of a script has no first fault
@@ -74,6 +74,7 @@ history_taken bytes Memory takes refused = refused
 -- nor is what a use takes
 not_refused : (wanted : Use) (bytes : List ℕ) (result : Outcome) → Takes wanted bytes → Refused wanted bytes result → ⊥
 not_refused (Step workers) bytes result takes refused = script_taken workers bytes result takes refused
+not_refused (Play workers) bytes result takes refused = script_taken workers bytes result takes refused
 not_refused (Gen number) bytes result takes refused = refused
 not_refused (Demo number) bytes result takes refused = refused
 not_refused Frames bytes result takes refused = recording_taken bytes result takes refused
@@ -113,6 +114,8 @@ complete_use (Gen number) source a b c e result fits cause faults = λ calm_sour
 complete_use (Demo number) source a b c e result fits cause faults = λ calm_source calm_out. unread_done a b c e result cause faults calm_out
 complete_use (Step workers) None a b c e result fits cause faults = tt
 complete_use (Step workers) (Some bytes) a b c e result fits cause faults = λ takes calm_source calm_out. done (Step workers) bytes a b c e result fits cause faults takes calm_source calm_out
+complete_use (Play workers) None a b c e result fits cause faults = tt
+complete_use (Play workers) (Some bytes) a b c e result fits cause faults = λ takes calm_source calm_out. done (Play workers) bytes a b c e result fits cause faults takes calm_source calm_out
 complete_use Frames None a b c e result fits cause faults = tt
 complete_use Frames (Some bytes) a b c e result fits cause faults = λ takes calm_source calm_out. done Frames bytes a b c e result fits cause faults takes calm_source calm_out
 complete_use Check None a b c e result fits cause faults = tt

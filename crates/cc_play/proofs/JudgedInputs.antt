@@ -1,6 +1,6 @@
 -- What is said of the bytes of a source that were judged.
-use Rattle.std.proofs.Common.{◌≡◌, ℕ, ◌≤◌, List, [], length, None, Some, inl, refl, sym, append-nil, subst}
-use Rattle.std.specs.Prelude.{Option, IfSome, Ok}
+use Rattle.std.proofs.Common.{ℕ, ◌≤◌, List, [], length, None, Some, inl, refl, sym, append-nil}
+use Rattle.std.specs.Prelude.{Option, Ok}
 use Rattle.std.specs.Io.KnownBytes.{Appends}
 use Rattle.cc_play.specs.declared.outcome.Outcome.{Outcome}
 use Rattle.cc_play.specs.declared.outcome.Outcome.TheVariants.{Done, Usage, Json, Shape, Script, ReadFault, WriteFault, TooLong, BadRecording, No, Memory}

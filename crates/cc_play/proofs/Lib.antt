@@ -9,3 +9,7 @@ pub mod ScriptsPlayed
 pub mod ImagesWritten
 pub mod Completeness
 pub mod JudgedInputs
+pub mod BeginsOfRuns
+pub mod EndsOfRuns
+pub mod PlayedRuns
+pub mod ScriptsActed

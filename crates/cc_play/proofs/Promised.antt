@@ -8,7 +8,7 @@ use Rattle.cc_event.proofs.LockstepWords.{lockstep_legal, lockstep_ends}
 use Rattle.cc_event.proofs.Pins.{required_at_each, lacking_at_each}
 use Rattle.cc_event.proofs.Sums.{offset_is}
 use Rattle.cc_recorder.specs.Recordings.{IsLockstepRecording}
-use Rattle.cc_play.specs.Promises.{IsPromised}
+use Rattle.cc_play.specs.Promises.{IsSound, IsPromised}
 use Rattle.cc_play.specs.Runs.{IsRunOf}
 
 -- what may come in a run with few workers may come in one with more
@@ -25,16 +25,21 @@ legal_with_more : (s : ScriptModel) (few more : ℕ) (h : List Entry) → few �
 legal_with_more s few more [] le legal = legal
 legal_with_more s few more (e ∷ h) le legal = (legal_with_more s few more h le legal.0, next_with_more s few more h e le legal.1)
 
+-- a legal history keeps what is promised
+pub sound_of : (s : ScriptModel) (workers : ℕ) (history : List Entry) → IsLegal s workers history → IsSound s workers history
+sound_of s workers history legal = record {
+  legal = legal;
+  required = required_at_each s workers (reverse history) legal;
+  missing = lacking_at_each s workers (reverse history) legal;
+  offsets = λ before after is sc ax. offset_is s (reverse before) sc ax;
+}
+
 pub lockstep_promised : (s : ScriptModel) (workers : ℕ) (history : List Entry) → 1 ≤ workers → IsLockstep s history → IsPromised s workers history
 lockstep_promised s workers history some lockstep =
     let one : IsLegal s 1 history = lockstep_legal s history lockstep in
     record {
       lockstep = lockstep;
-      legal = legal_with_more s 1 workers (reverse history) some one;
-      ends = lockstep_ends s history lockstep;
-      required = required_at_each s 1 (reverse history) one;
-      missing = lacking_at_each s 1 (reverse history) one;
-      offsets = λ before after is sc ax. offset_is s (reverse before) sc ax;
+      played = record { sound = sound_of s workers history (legal_with_more s 1 workers (reverse history) some one); ends = lockstep_ends s history lockstep };
     }
 
 -- the recording of the lockstep history is one of a history that keeps what is promised

@@ -12,7 +12,7 @@ use Rattle.cc_play.specs.inner.Scripts.{IsStopped, IsNoneOf}
 use Rattle.cc_play.specs.Runs.{script_limit, IsRunOf, TellsMisfit, Takes, CauseOf, CauseFrom, Writes}
 use Rattle.cc_play.proofs.Outputs.{some_output}
 
-text_of : (source : Option (List ℕ)) (s : ScriptModel) → IfSome source (λ bytes. (length bytes ≤ script_limit) × IsScriptText bytes s) → IfSome source (λ bytes. IsScriptText bytes s)
+pub text_of : (source : Option (List ℕ)) (s : ScriptModel) → IfSome source (λ bytes. (length bytes ≤ script_limit) × IsScriptText bytes s) → IfSome source (λ bytes. IsScriptText bytes s)
 text_of None s t = t
 text_of (Some bytes) s t = t.1
 

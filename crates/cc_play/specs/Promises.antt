@@ -1,4 +1,4 @@
--- What is promised of the history that a run in lockstep records.
+-- What is promised of the history that a run records.
 use Rattle.std.specs.Prelude.{◌≡◌, ℕ, ◌+ℤ◌, true, List, [], ◌∷◌, ◌++◌, reverse}
 use Rattle.cc_edit.specs.Axes.{Axis}
 use Rattle.cc_event.specs.declared.event.Event.TheVariants as event
@@ -23,16 +23,24 @@ abbrev pub IsSum : ScriptModel → List Entry → Type 0
 IsSum s h =
     (sc : ℕ) (ax : Axis) → offset s h sc ax ≡ main_moves s (pulls_of h) (was_named commits h) sc ax (up_to (active h)) +ℤ all_moved s h sc ax
 
--- the history of a script that is played with so many raster workers
-pub record IsPromised (s : ScriptModel) (workers : ℕ) (history : List Entry) : Type 0 where
-  -- it is the script's lockstep history
-  pub lockstep : IsLockstep s history
+-- a history of a script with so many raster workers, up to its end or not
+pub record IsSound (s : ScriptModel) (workers : ℕ) (history : List Entry) : Type 0 where
   -- each entry is what is due after those before it
   pub legal : IsLegal s workers history
-  pub ends : Ends history
   -- at each activation all tiles that it needs are ready
   pub required : AtEach (λ past e. is_activate e.event ≡ true → Within (required s past) (ready s past)) (reverse history)
   -- no tile that a draw lacks is one that the last activation needed
   pub missing : AtEach (λ past e. AreApart (lacking e.event) (pinned s past)) (reverse history)
   -- so it is after each beginning of it
   pub offsets : (before after : List Entry) → before ++ after ≡ history → IsSum s (reverse before)
+
+-- the history of a script that is played with so many raster workers
+pub record IsPlayed (s : ScriptModel) (workers : ℕ) (history : List Entry) : Type 0 where
+  pub sound : IsSound s workers history
+  pub ends : Ends history
+
+-- the same in lockstep
+pub record IsPromised (s : ScriptModel) (workers : ℕ) (history : List Entry) : Type 0 where
+  -- it is the script's lockstep history
+  pub lockstep : IsLockstep s history
+  pub played : IsPlayed s workers history

@@ -22,8 +22,8 @@ use Rattle.cc_gen.specs.Generated.{script_of_number}
 use Rattle.cc_play.specs.declared.outcome.Outcome.{Outcome}
 use Rattle.cc_play.specs.declared.outcome.Outcome.TheVariants.{Done, Usage, Json, Shape, Script, ReadFault, WriteFault, TooLong, BadRecording, No, Memory}
 use Rattle.cc_play.specs.declared.words.Use.{Use}
-use Rattle.cc_play.specs.declared.words.Use.TheVariants.{Step, Gen, Demo, Frames, Check}
-use Rattle.cc_play.specs.Promises.{IsPromised}
+use Rattle.cc_play.specs.declared.words.Use.TheVariants.{Step, Play, Gen, Demo, Frames, Check}
+use Rattle.cc_play.specs.Promises.{IsSound, IsPlayed, IsPromised}
 use Rattle.cc_play.specs.Demos.{demo_line}
 
 -- the greatest number of bytes of a script
@@ -51,6 +51,7 @@ IsRecordingText bytes = (s : ScriptModel) × (ps : List Piece) × IsRecording by
 -- what a use takes: the text of an accepted script; a recording; that of a history that is legal for 16 workers; and where it reads nothing, any bytes
 abbrev pub Takes : Use → List ℕ → Type 0
 Takes (Step workers) bytes = (length bytes ≤ script_limit) × IsAcceptedText bytes
+Takes (Play workers) bytes = (length bytes ≤ script_limit) × IsAcceptedText bytes
 Takes (Gen number) bytes = ⊤
 Takes (Demo number) bytes = ⊤
 Takes Frames bytes = (length bytes ≤ recording_limit) × IsRecordingText bytes
@@ -80,6 +81,7 @@ RefusedHistory bytes result = RefusedRecording bytes result
 -- why a use refuses bytes
 abbrev pub Refused : Use → List ℕ → Outcome → Type 0
 Refused (Step workers) bytes result = RefusedScript bytes result
+Refused (Play workers) bytes result = RefusedScript bytes result
 Refused (Gen number) bytes result = ⊥
 Refused (Demo number) bytes result = ⊥
 Refused Frames bytes result = RefusedRecording bytes result
@@ -114,6 +116,7 @@ TakenAtMost most old new = (bytes : List ℕ) × Consumes old new bytes × (leng
 -- how much a use reads: one byte beyond the limit at most; or nothing
 abbrev pub Reads : Use → Option (List ℕ) → Option (List ℕ) → Type 0
 Reads (Step workers) old new = TakenAtMost (script_limit + 1) old new
+Reads (Play workers) old new = TakenAtMost (script_limit + 1) old new
 Reads (Gen number) old new = new ≡ old
 Reads (Demo number) old new = new ≡ old
 Reads Frames old new = TakenAtMost (recording_limit + 1) old new
@@ -130,6 +133,7 @@ IsJudgedWhole left _ = IsAtEnd left
 -- where a use reads its source to the end
 abbrev pub ReadToEnd : Use → Option (List ℕ) → Outcome → Type 0
 ReadToEnd (Step workers) left result = IsJudgedWhole left result
+ReadToEnd (Play workers) left result = IsJudgedWhole left result
 ReadToEnd (Gen number) left result = ⊤
 ReadToEnd (Demo number) left result = ⊤
 ReadToEnd Frames left result = IsJudgedWhole left result
@@ -143,6 +147,14 @@ IsScriptFrom source s = IsAccepted s × IfSome source (λ bytes. IsScriptText by
 abbrev pub IsRunOf : ℕ → ScriptModel → List ℕ → Type 0
 IsRunOf workers s whole = (history : List Entry) × IsPromised s workers history × (whole ≡ recording s history)
 
+-- the recording of a script and of a history that actors played, with so many raster workers
+abbrev pub IsPlayOf : ℕ → ScriptModel → List ℕ → Type 0
+IsPlayOf workers s whole = (history : List Entry) × IsPlayed s workers history × (whole ≡ recording s history)
+
+-- the same where the run may have been given up
+abbrev pub IsPlayUpTo : ℕ → ScriptModel → List ℕ → Type 0
+IsPlayUpTo workers s whole = (history : List Entry) × IsSound s workers history × (whole ≡ recording s history)
+
 -- the line that sums up the recording of a script in lockstep
 abbrev pub IsDemoOf : ScriptModel → List ℕ → Type 0
 IsDemoOf s whole = (history : List Entry) × IsLockstep s history × (whole ≡ demo_line s history)
@@ -155,16 +167,22 @@ AreImagesFrom source whole =
 -- what a use writes in all: the recording of the script; the canonical text of a number's script, and a newline; the line that sums up its recording; the images of the recording; or nothing
 abbrev pub IsOutput : Use → Option (List ℕ) → List ℕ → Type 0
 IsOutput (Step workers) source whole = (s : ScriptModel) × IsScriptFrom source s × IsRunOf workers s whole
+IsOutput (Play workers) source whole = (s : ScriptModel) × IsScriptFrom source s × IsPlayOf workers s whole
 IsOutput (Gen number) source whole = whole ≡ script_text (script_of_number number) ++ codes "\n"
 IsOutput (Demo number) source whole = IsDemoOf (script_of_number number) whole
 IsOutput Frames source whole = AreImagesFrom source whole
 IsOutput Check source whole = whole ≡ []
 
--- what the sink gained: all that the use writes; a front of it; or nothing
+-- what a use was writing where it stopped: all that it writes; but actors may have given a run up before its end
+abbrev pub IsBegun : Use → Option (List ℕ) → List ℕ → Type 0
+IsBegun (Play workers) source whole = (s : ScriptModel) × IsScriptFrom source s × IsPlayUpTo workers s whole
+IsBegun wanted source whole = IsOutput wanted source whole
+
+-- what the sink gained: all that the use writes; a front of what it was writing; or nothing
 abbrev pub Writes : Use → Option (List ℕ) → Option (List ℕ) → Option (List ℕ) → Outcome → Type 0
 Writes wanted source old new Done = (whole : List ℕ) × IsOutput wanted source whole × Appends old new whole
-Writes wanted source old new WriteFault = (whole : List ℕ) × IsOutput wanted source whole × GainsPrefix old new whole
-Writes wanted source old new Memory = (new ≡ old) ⊎ ((whole : List ℕ) × IsOutput wanted source whole × GainsPrefix old new whole)
+Writes wanted source old new WriteFault = (whole : List ℕ) × IsBegun wanted source whole × GainsPrefix old new whole
+Writes wanted source old new Memory = (new ≡ old) ⊎ ((whole : List ℕ) × IsBegun wanted source whole × GainsPrefix old new whole)
 Writes wanted source old new _ = new ≡ old
 
 -- a fault of the source or of the sink is answered only where that one's count of faults rose

@@ -1,8 +1,8 @@
--- Which words the program takes, and what they ask for: `step N`, `gen NUMBER`, `demo NUMBER`, `frames`, `check`.
+-- Which words the program takes, and what they ask for: `step N`, `play N`, `gen NUMBER`, `demo NUMBER`, `frames`, `check`.
 use Rattle.std.specs.Prelude.{ℕ, ◌+◌, ◌-◌, ◌*◌, ◌^◌, ◌&&◌, nat_le, nat_lt, List, [], ◌∷◌, Option, Some, None, Result, Ok, Err, codes, decimal, if◌then◌else◌}
 use Rattle.std.specs.Str.{bytes_eq}
 use Rattle.cc_play.specs.declared.words.Use.{Use}
-use Rattle.cc_play.specs.declared.words.Use.TheVariants.{Step, Gen, Demo, Frames, Check}
+use Rattle.cc_play.specs.declared.words.Use.TheVariants.{Step, Play, Gen, Demo, Frames, Check}
 
 -- what the digits of a word say, where those before them say n
 abbrev pub digits_value : ℕ → List ℕ → ℕ
@@ -37,6 +37,11 @@ abbrev pub after_step : List (List ℕ) → Result Use ℕ
 after_step [] = Err 1
 after_step (w ∷ ws) = numbered (workers_in w) Step ws
 
+-- behind `play` too
+abbrev pub after_play : List (List ℕ) → Result Use ℕ
+after_play [] = Err 1
+after_play (w ∷ ws) = numbered (workers_in w) Play ws
+
 -- behind `gen` and `demo` stands the number of which the script is made
 abbrev pub after_gen : List (List ℕ) → Result Use ℕ
 after_gen [] = Err 1
@@ -49,10 +54,11 @@ after_demo (w ∷ ws) = numbered (number_in w) Demo ws
 -- what the words behind the first one, which is none of `step`, ask for
 abbrev pub after_other : List ℕ → List (List ℕ) → Result Use ℕ
 after_other w ws =
-    if bytes_eq w (codes "gen") then after_gen ws
+    if bytes_eq w (codes "play") then after_play ws
+    else (if bytes_eq w (codes "gen") then after_gen ws
     else (if bytes_eq w (codes "demo") then after_demo ws
     else (if bytes_eq w (codes "frames") then no_more Frames 1 ws
-    else (if bytes_eq w (codes "check") then no_more Check 1 ws else Err 0)))
+    else (if bytes_eq w (codes "check") then no_more Check 1 ws else Err 0))))
 
 -- what the words ask for; or the index of the first word that, with those before it, begins no use, and
 -- where there is no such word and more words are needed, their count

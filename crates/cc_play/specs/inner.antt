@@ -6,3 +6,4 @@ pub mod Recordings
 pub mod Scripts
 pub mod Summaries
 pub mod Uses
+pub mod Actors

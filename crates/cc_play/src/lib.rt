@@ -1,10 +1,13 @@
-//! What the program does with its words: `step N` plays a script into its recording, `frames` takes the
-//! images out of a recording, `gen NUMBER` makes a script, and `demo NUMBER` plays one and sums it up.
+//! What the program does with its words: `step N` plays a script into its recording, `play N` does it by actors
+//! on threads, `frames` takes the images out of a recording, `check` judges one, `gen NUMBER` makes a script, and
+//! `demo NUMBER` plays one and sums it up.
 //!
 //! The modules in the order in which a run meets them: the words, the input, the program that joins all;
 //! a module for each use; and the notes that tell the outcome.
 #![tactic(auto)]
 
+mod beside;
+mod crew;
 mod demo;
 mod fragments;
 mod generated;
@@ -13,10 +16,12 @@ mod input;
 mod judged;
 mod notes;
 mod outcome;
+mod play;
 mod program;
 mod script_input;
 mod step;
 mod tally;
+mod threads;
 mod words;
 
 pub use outcome::Outcome;

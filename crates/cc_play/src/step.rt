@@ -21,7 +21,27 @@ fn done_with(_run: Recorded) -> Outcome
     Outcome::Done
 }
 
-// Plays a script in lockstep with so many raster workers, and writes its recording.
+/// Plays a script in lockstep with so many raster workers, and writes its recording.
+pub(crate) fn play_lockstep<R: Threads + Sync, K: Sink>(
+    rt: &R,
+    alloc: Global,
+    script: Arc<Script>,
+    workers: u32,
+    out: &mut K,
+) -> Outcome
+    requires { (1 ≤ workers) × (workers ≤ 16) }
+    ensures plays { WritesSome (IsRunOf workers script.value) (K.held out.old) (K.held out.new) result }
+    ensures grows { K.faults out.old ≤ K.faults out.new }
+    ensures cause { Causes 0 0 (K.faults out.old) (K.faults out.new) result }
+{
+    match record_lockstep(rt, alloc, script, workers, out) {
+        Ok(run) => done_with(run),
+        Err(WriteStop::Fault) => Outcome::WriteFault,
+        Err(WriteStop::Memory) => Outcome::Memory,
+    }
+}
+
+// The same, where the script is not shared yet.
 fn play<R: Threads + Sync, K: Sink>(
     rt: &R,
     alloc: Global,
@@ -37,11 +57,7 @@ fn play<R: Threads + Sync, K: Sink>(
     let Ok(shared) = Arc::new(alloc, script) else {
         return Outcome::Memory;
     };
-    match record_lockstep(rt, alloc, shared, workers, out) {
-        Ok(run) => done_with(run),
-        Err(WriteStop::Fault) => Outcome::WriteFault,
-        Err(WriteStop::Memory) => Outcome::Memory,
-    }
+    play_lockstep(rt, alloc, shared, workers, out)
 }
 
 /// Plays the script of the source in lockstep with so many raster workers, and writes its recording.

@@ -15,6 +15,11 @@ pub enum Use {
         /// How many raster workers there are, 1 to 16. The recording is the same for every number.
         workers: u32,
     },
+    /// `play N`: plays a script by actors on threads, with N raster workers, and writes its recording.
+    Play {
+        /// How many raster workers there are, 1 to 16.
+        workers: u32,
+    },
     /// `gen NUMBER`: writes the script of a number.
     Gen {
         /// The number of which the script is made.
@@ -118,6 +123,19 @@ fn after_step(rest: &[String]) -> Result<Use, u32>
     }
 }
 
+// What the words behind `play` ask for, or the index of the first that does not fit.
+fn after_play(rest: &[String]) -> Result<Use, u32>
+    ensures { result ≡ words.after_play (map string_bytes rest.now) }
+{
+    let [word, more @ ..] = rest else {
+        return Err(1);
+    };
+    match few(number_of(word.as_str())) {
+        Some(workers) => no_more(Use::Play { workers }, 2, more),
+        None => Err(1),
+    }
+}
+
 // What the words behind `gen` ask for, or the index of the first that does not fit.
 fn after_gen(rest: &[String]) -> Result<Use, u32>
     ensures { result ≡ words.after_gen (map string_bytes rest.now) }
@@ -149,7 +167,9 @@ fn after_demo(rest: &[String]) -> Result<Use, u32>
 fn after_other(first: &str, rest: &[String]) -> Result<Use, u32>
     ensures { result ≡ words.after_other first.now (map string_bytes rest.now) }
 {
-    if is_same(first, "gen") {
+    if is_same(first, "play") {
+        after_play(rest)
+    } else if is_same(first, "gen") {
         after_gen(rest)
     } else if is_same(first, "demo") {
         after_demo(rest)

@@ -13,6 +13,7 @@ const HELP: &str = "\
 cc_player: plays scripts of page changes and inputs
 
 usage: cc_player step N < SCRIPT > RECORDING
+       cc_player play N < SCRIPT > RECORDING
        cc_player frames < RECORDING > PICTURES
        cc_player check < RECORDING
        cc_player gen NUMBER > SCRIPT
@@ -21,6 +22,8 @@ usage: cc_player step N < SCRIPT > RECORDING
   step N       reads a script (JSON) from standard input, plays it with N raster workers (1 to 16)
                and writes its recording to standard output: every event, and after each draw the
                picture as a raw portable pixmap (P6); the recording is the same for every N
+  play N       plays it by threads, N raster workers (1 to 16) among them, so that the recording is
+               one of many, each legal; where threads cannot be started it does as step N
   frames       reads a recording from standard input and writes its pictures to standard output,
                one behind the other, each a raw portable pixmap (P6)
   check        reads a recording from standard input and judges it without the engine: whether its

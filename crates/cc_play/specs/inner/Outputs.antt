@@ -11,3 +11,10 @@ WritesSome IsWhole old new Done = (whole : List ℕ) × IsWhole whole × Appends
 WritesSome IsWhole old new WriteFault = (whole : List ℕ) × IsWhole whole × GainsPrefix old new whole
 WritesSome IsWhole old new Memory = (new ≡ old) ⊎ ((whole : List ℕ) × IsWhole whole × GainsPrefix old new whole)
 WritesSome IsWhole old new _ = ⊥
+
+-- bytes of which the first holds were written; or a front of bytes of which the second holds; or nothing
+abbrev pub WritesOrBegins : (List ℕ → Type 0) → (List ℕ → Type 0) → Option (List ℕ) → Option (List ℕ) → Outcome → Type 0
+WritesOrBegins IsWhole IsBegun old new Done = (whole : List ℕ) × IsWhole whole × Appends old new whole
+WritesOrBegins IsWhole IsBegun old new WriteFault = (whole : List ℕ) × IsBegun whole × GainsPrefix old new whole
+WritesOrBegins IsWhole IsBegun old new Memory = (new ≡ old) ⊎ ((whole : List ℕ) × IsBegun whole × GainsPrefix old new whole)
+WritesOrBegins IsWhole IsBegun old new _ = ⊥
