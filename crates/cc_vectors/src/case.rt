@@ -42,6 +42,8 @@ pub struct Case {
     pub status: u8,
     /// The line in the notes.
     pub note: Option<String>,
+    /// Whether the output is a legal recording, whose pictures are what is told of the output.
+    pub recording: bool,
     pub output: Output,
 }
 
@@ -70,6 +72,7 @@ impl Case {
             notes_room: None,
             status: 0,
             note: None,
+            recording: false,
             output: Output::new(alloc),
         })
     }
@@ -143,6 +146,7 @@ impl Case {
             "reads fail" => self.set_trouble(Trouble::ReadFails, value)?,
             "puts fail" => self.set_trouble(Trouble::PutFails, value)?,
             "notes room" => self.notes_room = Some(number(value)?),
+            "legal recording" => self.recording = true,
             _ => return Err(RowFault::UnknownKey),
         }
         Ok(())

@@ -22,6 +22,7 @@
 //! | `out` | a line of the output; `...` as the first says that anything may stand before the next |
 //! | `image` | a picture in the output, as `picture` |
 //! | `out hex` | bytes of the output |
+//! | `legal recording` | the output is a recording that `check` finds legal, and what is told of the output is told of what `frames` makes of it |
 //! | `out sum` | the output's length in bytes and its 64-bit FNV-1a sum |
 //! | `changes of` | an input. Below it each line that is indented is a case of its own: `OLD => NEW \| STATUS NOTE` |
 //!

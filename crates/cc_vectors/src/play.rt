@@ -74,6 +74,44 @@ fn notes_of(alloc: Global, case: &Case) -> MemSink {
     }
 }
 
+/// A run with this word over these bytes, with ample room.
+fn run_over<R: Threads + Wait + Sync>(
+    rt: &R,
+    alloc: Global,
+    word: &str,
+    bytes: &[u8],
+) -> Result<(Outcome, MemSink), AllocError> {
+    let mut words = Vec::new(alloc);
+    words.push(word.to_string(alloc)?)?;
+    let mut source = MemSource::new(Vec::from_slice(alloc, bytes)?, 4096, Vec::new(alloc));
+    let mut out = MemSink::endless(alloc);
+    let mut notes = MemSink::endless(alloc);
+    let outcome = run(
+        rt,
+        alloc,
+        words.as_slice(),
+        &mut source,
+        &mut out,
+        &mut notes,
+        &OpenGate,
+    );
+    Ok((outcome, out))
+}
+
+/// The pictures of a recording; none where it is not legal.
+fn pictures_of<R: Threads + Wait + Sync>(
+    rt: &R,
+    alloc: Global,
+    recording: &[u8],
+) -> Result<MemSink, AllocError> {
+    let (judged, nothing) = run_over(rt, alloc, "check", recording)?;
+    if judged.status() != 0 {
+        return Ok(nothing);
+    }
+    let (_, pictures) = run_over(rt, alloc, "frames", recording)?;
+    Ok(pictures)
+}
+
 /// The run of this number.
 pub fn play<R: Threads + Wait + Sync>(
     rt: &R,
@@ -94,6 +132,9 @@ pub fn play<R: Threads + Wait + Sync>(
         &mut notes,
         &OpenGate,
     );
+    if case.recording {
+        out = pictures_of(rt, alloc, out.bytes())?;
+    }
     Ok(Played {
         outcome,
         out,
