@@ -123,3 +123,10 @@ rows_behind pixel w h xs = joined_behind h (row_text pixel w) xs
 pub image_is : (pixel : ℕ → ℕ → Parts) (w h : ℕ) → image pixel w h ≡ image_head w h ++ joined h (row_text pixel w)
 unfolding image
 image_is pixel w h = refl
+
+-- the same fronts one after another
+pub each_same : (n : ℕ) (f g : ℕ → List ℕ) (xs : List ℕ) → ((x : ℕ) → x < n → f x ≡ g x) → behind_each n f xs ≡ behind_each n g xs
+each_same zero f g xs same = refl
+each_same (suc n) f g xs same =
+    ap (option_and_then (behind (f n))) (each_same n f g xs (λ x lt. same x (omega (arith, lt))))
+    ∙ ap (λ (front : List ℕ). option_and_then (behind front) (behind_each n g xs)) (same n (omega arith))

@@ -1,1 +1,3 @@
 pub mod FrontFacts
+pub mod RowFacts
+pub mod SheetTurns

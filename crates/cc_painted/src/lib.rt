@@ -1,10 +1,13 @@
 //! Whether an image in a recording is the painting.
 //!
-//! The image is looked through in place, pixel by pixel from the top left, beside the painting, which is made
-//! ready once for the picture. Nothing of it is copied.
+//! The image is looked through in place, row by row from the top, beside the rows of the page, each painted when
+//! it is looked at. Nothing of the image is copied.
 #![tactic(auto)]
 
 mod fronts;
+mod line;
 mod picture;
+mod sheet;
+mod stack;
 
 pub use picture::is_painted;

@@ -1,14 +1,9 @@
--- The pixels so far are those of the painting.
-use Rattle.std.proofs.Common.{◌≡◌, ℕ, List, Some}
-use Rattle.cc_geom.specs.declared.rect.Point.{Point}
-use Rattle.cc_geom.specs.declared.tile.TileKey.{TileKey}
-use Rattle.cc_edit.specs.Pages.{Page}
-use Rattle.cc_edit.specs.Paintings.{Shows}
-use Rattle.cc_painted.specs.inner.Behind.{behind_each, pixel_of, pixel_text}
+-- The pixels so far are those of the row.
+use Rattle.std.proofs.Common.{◌≡◌, Some}
+use Rattle.cc_pixel.specs.Rows.{pixel}
+use Rattle.cc_event.specs.Recordings.{rgb}
+use Rattle.cc_painted.specs.inner.Behind.{behind_each}
 use Rattle.cc_painted.proofs.picture.behind_row.Given as goal
 
 abbrev pub invariant-loop-x : goal.invariant-loop-x
-invariant-loop-x l = record {
-  same : l.painting ≡ l.fn.painting;
-  read : (p : Page) (offset : ℕ → Point) (missing : List TileKey) → Shows p offset missing l.fn.painting → behind_each l.x (pixel_text (pixel_of p offset missing l.background) l.y) l.bytes ≡ Some l.rest;
-}
+invariant-loop-x l = behind_each l.x (λ x. rgb (pixel l.row x)) l.bytes ≡ Some l.rest

@@ -1,14 +1,13 @@
--- The rows so far are those of the painting.
+-- The rows so far are those of the screen.
 use Rattle.std.proofs.Common.{◌≡◌, ℕ, List, Some}
 use Rattle.cc_geom.specs.declared.rect.Point.{Point}
 use Rattle.cc_geom.specs.declared.tile.TileKey.{TileKey}
 use Rattle.cc_edit.specs.Pages.{Page}
 use Rattle.cc_edit.specs.Paintings.{Shows}
 use Rattle.cc_painted.specs.inner.Behind.{behind_each, pixel_of, row_text}
+use Rattle.cc_painted.specs.inner.Sheets.{ready}
 use Rattle.cc_painted.proofs.picture.behind_rows.Given as goal
 
 abbrev pub invariant-loop-y : goal.invariant-loop-y
-invariant-loop-y l = record {
-  same : l.painting ≡ l.fn.painting;
-  read : (p : Page) (offset : ℕ → Point) (missing : List TileKey) → Shows p offset missing l.fn.painting → behind_each l.y (row_text (pixel_of p offset missing l.background) l.w) l.bytes ≡ Some l.rest;
-}
+invariant-loop-y l =
+    (p : Page) (offset : ℕ → Point) (missing : List TileKey) → Shows p offset missing (ready l.tile l.sheets) → behind_each l.y (row_text (pixel_of p offset missing l.background) l.w) l.bytes ≡ Some l.rest

@@ -1,0 +1,128 @@
+-- What laying a layer over a row makes of each of its pixels.
+use Rattle.std.proofs.Common.{ℕ, ℤ, pos, ◌≡◌, ◌+◌, ◌-◌, ◌*◌, ◌<◌, ◌≤◌, ◌==◌, ◌+ℤ◌, ◌-ℤ◌, Bool, true, false, cond, List, refl, ap, sym, ◌∙◌, arith}
+use Rattle.std.proofs.lemmas.Int.{ints}
+use Rattle.std.proofs.lemmas.Bool.Decides.{nat_tests}
+use Rattle.cc_geom.specs.declared.rect.Point.{Point}
+use Rattle.cc_geom.specs.declared.rect.Rect.{Rect}
+use Rattle.cc_geom.specs.Covers.{covers}
+use Rattle.cc_pixel.specs.Colours.{Parts, blend, clear}
+use Rattle.cc_pixel.specs.Rows.{pixel}
+use Rattle.cc_pixel.specs.Surfaces.{EachPixel, holds, within}
+use Rattle.cc_pixel.specs.declared.surface.Area.{Area}
+use Rattle.cc_pixel.proofs.Blends.{clear_shows}
+use Rattle.cc_tree.specs.Placement.{minus}
+use Rattle.cc_display.specs.Content.{content, IsRaster}
+use Rattle.cc_display.specs.Shared.{IsOutside, IsShared}
+use Rattle.cc_display.specs.declared.part.Part.{Part}
+use Rattle.cc_edit.specs.Paintings.{Placed, colour_there, shown}
+use Rattle.cc_event.proofs.BoolFacts.{same_number, other_number}
+use Rattle.cc_painted.specs.inner.Sheets.{patched}
+
+-- one pixel of a row that gets a colour
+pub put_there : (k width : ℕ) (c : Parts) (old new : List ℕ) → k < width
+    → EachPixel width 1 (within (record { x = k; y = 0; w = 1; h = 1 }) 1 (λ x y below. c)) old new → pixel new k ≡ c
+put_there k width c old new lt each =
+    let same : 0 * width + k ≡ k = omega arith in
+    let here : holds (record { x = k; y = 0; w = 1; h = 1 }) k 0 ≡ true = grind (arith, nat_tests) in
+    ap (pixel new) (sym same) ∙ each k 0 lt (omega arith) ∙ ap (λ (b : Bool). cond b c (pixel old (0 * width + k))) here
+
+pub put_elsewhere : (k width : ℕ) (c : Parts) (old new : List ℕ) (j : ℕ) → j < width → (j ≡ k → ⊥)
+    → EachPixel width 1 (within (record { x = k; y = 0; w = 1; h = 1 }) 1 (λ x y below. c)) old new → pixel new j ≡ pixel old j
+put_elsewhere k width c old new j lt other each =
+    let same : 0 * width + j ≡ j = omega arith in
+    let not_here : holds (record { x = k; y = 0; w = 1; h = 1 }) j 0 ≡ false = elsewhere k j other in
+    ap (pixel new) (sym same) ∙ each j 0 lt (omega arith) ∙ ap (λ (b : Bool). cond b c (pixel old (0 * width + j))) not_here ∙ ap (pixel old) same
+  where
+    elsewhere : (k j : ℕ) → (j ≡ k → ⊥) → holds (record { x = k; y = 0; w = 1; h = 1 }) j 0 ≡ false
+    elsewhere k j other = grind (arith, nat_tests, other)
+
+-- what the items of a layer show in a row of it
+rastered : (l : Placed) (width : ℕ) (from : Point) (bytes : List ℕ) → IsRaster l.items (record { x = from.x; y = from.y; w = pos width; h = pos 1 }) bytes
+    → (k : ℕ) → k < width → pixel bytes k ≡ content l.items (from.x +ℤ pos k) from.y
+rastered l width from bytes raster k lt =
+    let same : 0 * width + k ≡ k = omega arith in
+    let down : from.y +ℤ pos 0 ≡ from.y = omega (arith, ints) in
+    ap (pixel bytes) (sym same) ∙ raster.pixels k 0 lt (omega arith) ∙ ap (content l.items (from.x +ℤ pos k)) down
+
+pub drawn : (tile : ℕ) (l : Placed) (width : ℕ) (from : Point) (bytes new : List ℕ) → IsRaster l.items (record { x = from.x; y = from.y; w = pos width; h = pos 1 }) bytes
+    → ((k : ℕ) → k < width → pixel new k ≡ patched tile l (record { x = from.x +ℤ pos k; y = from.y }) (pixel bytes k))
+    → (k : ℕ) → k < width → pixel new k ≡ colour_there tile l (record { x = from.x +ℤ pos k; y = from.y })
+unfolding colour_there
+drawn tile l width from bytes new raster each k lt =
+    each k lt ∙ ap (patched tile l (record { x = from.x +ℤ pos k; y = from.y })) (rastered l width from bytes raster k lt)
+
+-- a point of row y of the screen
+at_row : (r : Rect) (x y : ℕ) (b : Bool) → covers r (pos 0 +ℤ pos x) (pos y +ℤ pos 0) ≡ b → covers r (pos x) (pos y) ≡ b
+at_row r x y b e =
+    let across : pos 0 +ℤ pos x ≡ pos x = omega (arith, ints) in
+    let down : pos y +ℤ pos 0 ≡ pos y = omega (arith, ints) in
+    ap (λ (z : ℤ). covers r z (pos y)) (sym across) ∙ ap (λ (z : ℤ). covers r (pos 0 +ℤ pos x) z) (sym down) ∙ e
+
+-- a layer that lies nowhere in the row
+pub nothing_laid : (tile : ℕ) (l : Placed) (width y : ℕ) (row : List ℕ) → IsOutside l.area (record { x = pos 0; y = pos y; w = pos width; h = pos 1 })
+    → (x : ℕ) → x < width → pixel row x ≡ blend (pixel row x) (shown tile (pos x) (pos y) l)
+unfolding shown
+nothing_laid tile l width y row outside x lt =
+    let out : covers l.area (pos x) (pos y) ≡ false = at_row l.area x y false (outside x 0 lt (omega arith)) in
+    sym (ap (λ (b : Bool). blend (pixel row x) (cond b (colour_there tile l (minus (record { x = pos x; y = pos y }) l.by)) clear)) out ∙ clear_shows (pixel row x))
+
+-- a column that is held
+held_left : (at : Area) (x : ℕ) → holds at x 0 ≡ true → at.x ≤ x
+held_left at x h = grind (arith, nat_tests)
+
+held_right : (at : Area) (x : ℕ) → holds at x 0 ≡ true → x < at.x + at.w
+held_right at x h = grind (arith, nat_tests)
+
+-- the place of a column in an image of one row
+first_row : (y w k : ℕ) → (0 - y + 0) * w + (k + 0) ≡ k
+first_row y w k =
+    let none : 0 - y + 0 ≡ 0 = omega arith in
+    ap (λ (n : ℕ). n * w + (k + 0)) none ∙ omega arith
+
+-- a layer that is laid over its columns of the row
+pub laid : (tile : ℕ) (l : Placed) (width y : ℕ) (part : Part) (from : Point) (row columns new : List ℕ)
+    → IsShared l.area (record { x = pos 0; y = pos y; w = pos width; h = pos 1 }) part
+    → from ≡ minus (record { x = pos part.at.x; y = pos y }) l.by
+    → ((k : ℕ) → k < part.at.w → pixel columns k ≡ colour_there tile l (record { x = from.x +ℤ pos k; y = from.y }))
+    → EachPixel width 1 (within part.at part.at.h (λ x z below. blend below (pixel columns ((z - part.at.y + 0) * part.at.w + (x - part.at.x + 0))))) row new
+    → (x : ℕ) → x < width → pixel new x ≡ blend (pixel row x) (shown tile (pos x) (pos y) l)
+unfolding shown
+laid tile l width y part from row columns new shared from-is each-column each x lt =
+    let same : 0 * width + x ≡ x = omega arith in
+    let covered : covers l.area (pos x) (pos y) ≡ holds part.at x 0 = at_row l.area x y (holds part.at x 0) (shared.points x 0 lt (omega arith)) in
+    ap (pixel new) (sym same) ∙ each x 0 lt (omega arith)
+    ∙ ap (λ (n : ℕ). cond (holds part.at x 0) (blend (pixel row n) (pixel columns ((0 - part.at.y + 0) * part.at.w + (x - part.at.x + 0)))) (pixel row n)) same
+    ∙ go (holds part.at x 0) refl
+    ∙ ap (λ (b : Bool). blend (pixel row x) (cond b (colour_there tile l (minus (record { x = pos x; y = pos y }) l.by)) clear)) (sym covered)
+  where
+    go : (b : Bool) → holds part.at x 0 ≡ b
+        → cond b (blend (pixel row x) (pixel columns ((0 - part.at.y + 0) * part.at.w + (x - part.at.x + 0)))) (pixel row x)
+        ≡ blend (pixel row x) (cond b (colour_there tile l (minus (record { x = pos x; y = pos y }) l.by)) clear)
+    go false h = sym (clear_shows (pixel row x))
+    go true h =
+        let low = held_left part.at x h in
+        let high = held_right part.at x h in
+        let k : ℕ = x - part.at.x in
+        let place : (0 - part.at.y + 0) * part.at.w + (x - part.at.x + 0) ≡ x - part.at.x = first_row part.at.y part.at.w (x - part.at.x) in
+        let inside : x - part.at.x < part.at.w = omega (arith, low, high) in
+        let across : (pos part.at.x -ℤ l.by.x) +ℤ pos (x - part.at.x) ≡ pos x -ℤ l.by.x = omega (arith, ints, low) in
+        ap (λ (n : ℕ). blend (pixel row x) (pixel columns n)) place
+        ∙ ap (blend (pixel row x)) (each-column (x - part.at.x) inside
+        ∙ ap (λ (q : Point). colour_there tile l (record { x = q.x +ℤ pos (x - part.at.x); y = q.y })) from-is
+        ∙ ap (λ (z : ℤ). colour_there tile l (record { x = z; y = pos y -ℤ l.by.y })) across)
+
+-- one pixel more is drawn
+pub one_drawn : (f : ℕ → Parts → Parts) (k width : ℕ) (old mid new : List ℕ) → k < width → pixel new k ≡ f k (pixel mid k)
+    → ((j : ℕ) → j < width → (j ≡ k → ⊥) → pixel new j ≡ pixel mid j)
+    → ((j : ℕ) → j < k → pixel mid j ≡ f j (pixel old j)) → ((j : ℕ) → j < width → k ≤ j → pixel mid j ≡ pixel old j)
+    → (j : ℕ) → j < k + 1 → pixel new j ≡ f j (pixel old j)
+one_drawn f k width old mid new inside here others before behind j lt = at_test (j == k) refl
+  where
+    at_test : (b : Bool) → (j == k) ≡ b → pixel new j ≡ f j (pixel old j)
+    at_test true is =
+        let same : j ≡ k = same_number j k is in
+        ap (pixel new) same ∙ here ∙ ap (f k) (behind k inside (omega arith)) ∙ ap (λ (n : ℕ). f n (pixel old n)) (sym same)
+    at_test false is =
+        let no = other_number j k is in
+        let less : j < k = omega (arith, lt, no) in
+        others j (omega (arith, less, inside)) (λ e. absurd (omega (arith, less, e))) ∙ before j less

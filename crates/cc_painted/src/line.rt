@@ -1,0 +1,216 @@
+//! A layer laid over a row of the screen.
+
+ghost use Rattle.std.specs.Prelude.{◌≡◌, ◌≢◌, ◌≤◌, ◌<◌, ◌*◌, ◌^◌, ℕ, pos, neg_ℤ, ◌≤ℤ◌, ◌+ℤ◌, length};
+ghost use Rattle.cc_geom.specs.Covers.{IsSound};
+ghost use Rattle.cc_pixel.specs.Colours.{blend};
+ghost use Rattle.cc_pixel.specs.Rows.{pixel, ArePremultiplied};
+ghost use Rattle.cc_tree.specs.Placement.{IsWithin, minus};
+ghost use Rattle.cc_display.specs.Shared.{IsShared};
+ghost use Rattle.cc_edit.specs.TreePainting.{place_at};
+ghost use Rattle.cc_edit.specs.Paintings.{has_place, colour_there};
+ghost use Rattle.cc_painted.specs.inner.Sheets.{patched, colour_in};
+
+use crate::sheet::Sheet;
+use cc_display::{Part, shared_part};
+use cc_geom::{Place, Point, Rect, TileKey};
+use cc_pixel::{Area, Colour, fill_area, image_over_area};
+
+// Whether one of the keys names this place.
+fn is_among(keys: &[TileKey], place: Place) -> bool
+    ensures { result ≡ has_place keys.now place }
+{
+    keys.iter().any(|key| key.x == place.x && key.y == place.y)
+}
+
+// The place of a point of a layer, in tiles of this size.
+fn place_of(tile: u32, x: i32, y: i32) -> Place
+    requires { 1 ≤ tile }
+    ensures { result ≡ place_at tile (record { x = x; y = y }) }
+{
+    Place {
+        x: x.unsigned_abs() / tile,
+        y: y.unsigned_abs() / tile,
+    }
+}
+
+// Gives pixel k of a row a colour.
+fn put_pixel(row: &mut [u8], width: usize, k: usize, colour: Colour)
+    requires size { length row.old ≡ 4 * width }
+    requires inside { k < width }
+    ensures there { pixel row.new k ≡ colour }
+    ensures others { (j : ℕ) → j < width → j ≢ k → pixel row.new j ≡ pixel row.old j }
+    ensures premultiplied { ArePremultiplied row.old → ArePremultiplied row.new }
+{
+    let at = Area {
+        x: k,
+        y: 0,
+        w: 1,
+        h: 1,
+    };
+    fill_area(row, width, 1, at, colour);
+}
+
+// The point `k` columns to the right of a point.
+fn right_of(from: Point, k: usize) -> Point
+    requires low { neg_ℤ (pos (2 ^ 29)) ≤ℤ from.x }
+    requires high { from.x ≤ℤ pos (2 ^ 29) }
+    requires near { k < 2048 }
+    ensures { result ≡ record { x = from.x +ℤ pos k; y = from.y } }
+{
+    Point {
+        x: from.x + k as i32,
+        y: from.y,
+    }
+}
+
+// One row of points, from a point on.
+fn row_from(from: Point, width: usize) -> Rect
+    requires left { neg_ℤ (pos (2 ^ 29)) ≤ℤ from.x }
+    requires right { from.x ≤ℤ pos (2 ^ 29) }
+    requires upper { neg_ℤ (pos (2 ^ 29)) ≤ℤ from.y }
+    requires lower { from.y ≤ℤ pos (2 ^ 29) }
+    requires few { width ≤ 2048 }
+    ensures value { result ≡ record { x = from.x; y = from.y; w = pos width; h = pos 1 } }
+    ensures sound { IsSound result }
+{
+    Rect {
+        x: from.x,
+        y: from.y,
+        w: width as i32,
+        h: 1,
+    }
+}
+
+// Row `y` of the screen.
+fn screen_row(width: usize, y: u32) -> Rect
+    requires few { width ≤ 2048 }
+    requires down { y ≤ 2047 }
+    ensures value { result ≡ record { x = pos 0; y = pos y; w = pos width; h = pos 1 } }
+    ensures sound { IsSound result }
+{
+    Rect {
+        x: 0,
+        y: y as i32,
+        w: width as i32,
+        h: 1,
+    }
+}
+
+// Draws pixel k of a row of a layer, which is this point of it, where its tile is missing.
+fn draw_if_missing(sheet: &Sheet, tile: u32, at: Point, width: usize, k: usize, row: &mut [u8])
+    requires cut { 1 ≤ tile }
+    requires size { length row.old ≡ 4 * width }
+    requires inside { k < width }
+    ensures there { pixel row.new k ≡ patched tile sheet.now.placed at (pixel row.old k) }
+    ensures others { (j : ℕ) → j < width → j ≢ k → pixel row.new j ≡ pixel row.old j }
+    ensures premultiplied { ArePremultiplied row.old → ArePremultiplied row.new }
+{
+    if is_among(sheet.missing(), place_of(tile, at.x, at.y)) {
+        put_pixel(row, width, k, sheet.colour());
+    }
+}
+
+// Draws those pixels of a row of a layer, from this point of it on, that lie in its missing tiles.
+fn draw_missing(sheet: &Sheet, tile: u32, from: Point, width: usize, row: &mut [u8])
+    requires cut { 1 ≤ tile }
+    requires low { neg_ℤ (pos (2 ^ 29)) ≤ℤ from.x }
+    requires high { from.x ≤ℤ pos (2 ^ 29) }
+    requires few { width ≤ 2048 }
+    requires size { length row.old ≡ 4 * width }
+    ensures pixels { (k : ℕ) → k < width → pixel row.new k ≡ patched tile sheet.now.placed (record { x = from.x +ℤ pos k; y = from.y }) (pixel row.old k) }
+    ensures premultiplied { ArePremultiplied row.old → ArePremultiplied row.new }
+{
+    if sheet.missing().is_empty() {
+        return;
+    }
+    for k in 0..width {
+        draw_if_missing(sheet, tile, right_of(from, k), width, k, row);
+    }
+}
+
+// Draws a row of a layer from this point of it on. What `spare` holds afterwards is not said.
+fn draw_row(sheet: &Sheet, tile: u32, from: Point, width: usize, row: &mut [u8], spare: &mut [u8])
+    requires cut { 1 ≤ tile }
+    requires left { neg_ℤ (pos (2 ^ 29)) ≤ℤ from.x }
+    requires right { from.x ≤ℤ pos (2 ^ 29) }
+    requires upper { neg_ℤ (pos (2 ^ 29)) ≤ℤ from.y }
+    requires lower { from.y ≤ℤ pos (2 ^ 29) }
+    requires few { width ≤ 2048 }
+    requires size { length row.old ≡ 4 * width }
+    requires room { 4 * width ≤ length spare.old }
+    ensures pixels { (k : ℕ) → k < width → pixel row.new k ≡ colour_there tile sheet.now.placed (record { x = from.x +ℤ pos k; y = from.y }) }
+    ensures size { length row.new ≡ 4 * width }
+    ensures premultiplied { ArePremultiplied row.new }
+{
+    sheet.list().raster_into(row_from(from, width), row, spare);
+    draw_missing(sheet, tile, from, width, row);
+}
+
+// The point of a layer that lies at a place of the screen.
+fn point_at(x: usize, y: u32, by: Point) -> Point
+    requires across { x ≤ 2048 }
+    requires down { y ≤ 2047 }
+    requires near { IsWithin (256 * 1114112) by }
+    ensures value { result ≡ minus (record { x = pos x; y = pos y }) by }
+    ensures left { neg_ℤ (pos (2 ^ 29)) ≤ℤ result.x }
+    ensures right { result.x ≤ℤ pos (2 ^ 29) }
+    ensures upper { neg_ℤ (pos (2 ^ 29)) ≤ℤ result.y }
+    ensures lower { result.y ≤ℤ pos (2 ^ 29) }
+{
+    Point {
+        x: x as i32 - by.x,
+        y: y as i32 - by.y,
+    }
+}
+
+// Lays a layer over the part of row `y` of the screen where it lies.
+fn lay_part(
+    sheet: &Sheet,
+    tile: u32,
+    width: usize,
+    y: u32,
+    part: Part,
+    row: &mut [u8],
+    line: &mut [u8],
+    spare: &mut [u8],
+)
+    requires cut { 1 ≤ tile }
+    requires few { width ≤ 2048 }
+    requires down { y ≤ 2047 }
+    requires shared { IsShared sheet.now.placed.area (record { x = pos 0; y = pos y; w = pos width; h = pos 1 }) part }
+    requires size { length row.old ≡ 4 * width }
+    requires line { 4 * width ≤ length line.old }
+    requires room { 4 * width ≤ length spare.old }
+    ensures pixels { (x : ℕ) → x < width → pixel row.new x ≡ blend (pixel row.old x) (colour_in tile (pos x) (pos y) sheet.now) }
+    ensures premultiplied { ArePremultiplied row.old → ArePremultiplied row.new }
+{
+    let from = point_at(part.at.x, y, sheet.by());
+    let columns = &mut line[..4 * part.at.w];
+    draw_row(sheet, tile, from, part.at.w, columns, spare);
+    image_over_area(row, width, 1, part.at, columns, part.at.w, 1, 0, 0);
+}
+
+/// Lays a layer over row `y` of the screen, whose tiles have this side: over as many pixels as `width`
+/// says, at most 2048. What `line` and `spare` hold afterwards is not said.
+pub(crate) fn lay_over(
+    sheet: &Sheet,
+    tile: u32,
+    width: usize,
+    y: u32,
+    row: &mut [u8],
+    line: &mut [u8],
+    spare: &mut [u8],
+)
+    requires cut { 1 ≤ tile }
+    requires few { width ≤ 2048 }
+    requires down { y ≤ 2047 }
+    requires size { length row.old ≡ 4 * width }
+    requires line { 4 * width ≤ length line.old }
+    requires room { 4 * width ≤ length spare.old }
+    ensures pixels { (x : ℕ) → x < width → pixel row.new x ≡ blend (pixel row.old x) (colour_in tile (pos x) (pos y) sheet.now) }
+    ensures premultiplied { ArePremultiplied row.old → ArePremultiplied row.new }
+{
+    if let Some(part) = shared_part(sheet.area(), screen_row(width, y)) {
+        lay_part(sheet, tile, width, y, part, row, line, spare);
+    }
+}
