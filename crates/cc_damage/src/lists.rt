@@ -16,6 +16,9 @@ use std::alloc::AllocError;
 // how far ahead a quad is looked for that stands in both lists
 const MOST_AHEAD: usize = 64;
 
+// the same where both quads are rects of one colour: once they have moved, none stands for another
+const FEW_AHEAD: usize = 4;
+
 /// Adds to damage where two lists of quads differ, where the passes before them have these reaches.
 pub(crate) fn add_changes(
     old: &[Quad],
@@ -163,6 +166,14 @@ fn step_at(old: &[Quad], i: usize, new: &[Quad], j: usize, passes: usize) -> Ste
     step_over(old, i, new, j)
 }
 
+// how far ahead is looked for a quad that stands for one of these two
+fn most_ahead(a: &Quad, b: &Quad) -> usize {
+    match (a, b) {
+        (Quad::Solid { .. }, Quad::Solid { .. }) => FEW_AHEAD,
+        _ => MOST_AHEAD,
+    }
+}
+
 // how many quads have to go and to come until two quads stand for one thing
 fn step_over(old: &[Quad], i: usize, new: &[Quad], j: usize) -> Step
     requires i { i < length old.now }
@@ -180,7 +191,8 @@ fn step_over(old: &[Quad], i: usize, new: &[Quad], j: usize) -> Step
     if stand_for_one(&old[i], &new[j]) {
         return changed;
     }
-    for ahead in 1..MOST_AHEAD {
+    let most = most_ahead(&old[i], &new[j]);
+    for ahead in 1..most {
         if ahead < old.len() - i && stand_for_one(&old[i + ahead], &new[j]) {
             return Step {
                 act_alike: false,

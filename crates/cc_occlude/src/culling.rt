@@ -47,7 +47,7 @@ fn kept_quads(alloc: Global, quads: &[Quad]) -> Result<Vec<Quad>, AllocError>
     ensures { IfOk result (λ kept. AreKept (quads_view quads.now) (quads_view kept.items)) }
 {
     let mut cover = Vec::new(alloc);
-    let mut kept = Vec::new(alloc);
+    let mut kept = Vec::with_capacity(alloc, quads.len())?;
     let mut left = quads.len();
     while left > 0 {
         left -= 1;
