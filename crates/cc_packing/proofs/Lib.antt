@@ -1,3 +1,4 @@
 pub mod Fours
+pub mod Halves
 pub mod Joins
 pub mod Runs
