@@ -9,11 +9,14 @@ use Rattle.cc_geom.proofs.Spans.{is_within_of, both_of}
 use Rattle.cc_pixel.specs.Colours.{Parts}
 use Rattle.cc_pixel.specs.Rows.{pixel}
 use Rattle.cc_pixel.specs.Surfaces.{EachPixel, within, holds}
+use Rattle.cc_pixel.specs.declared.surface.Area.{Area}
 use Rattle.cc_display.specs.declared.Part.{Part}
 use Rattle.cc_display.specs.Shared.{IsShared, IsOutside}
 use Rattle.cc_region.specs.Points.{covered}
 use Rattle.cc_scene.specs.Views.{SceneView}
 use Rattle.cc_scene.specs.Pixels.{scene_pixel}
+use Rattle.cc_render.specs.declared.strip.Band.{Band}
+use Rattle.cc_render.specs.inner.Bands.{IsBandDrawn}
 use Rattle.cc_render.specs.Frames.{FrameView, frame_pixel, EachIs, IsOfSize, Shows, ShowsIn}
 
 -- the rect of a screen
@@ -29,6 +32,14 @@ rect_points : (w h : ℕ) (rect : Rect) (part : Part) (x y : ℕ) → IsShared r
 rect_points w h rect part x y shared xw yh =
     sym (shared.points x y xw yh)
     ∙ ap (λ (z : ℤ). covers rect z (pos 0 +ℤ pos y)) (from_origin x) ∙ ap (covers rect (pos x)) (from_origin y)
+
+-- a band of all rows of a scene, of which an area was drawn
+pub whole_drawn : (s : SceneView) (band : Band) (at : Area) (old new : List ℕ) → band.top ≡ 0 → band.rows ≡ s.h → IsBandDrawn s band at old new
+    → EachPixel s.w s.h (within at at.h (λ x y below. scene_pixel s (pos x) (pos y))) old new
+whole_drawn s band at old new top rows drawn x y xw yh =
+    let row : band.top + y ≡ y = omega arith in
+    drawn.pixels x y xw (omega arith)
+    ∙ ap (λ (n : ℕ). cond (holds at x y) (scene_pixel s (pos x) (pos n)) (pixel old (y * s.w + x))) row
 
 -- the pixels of a scene, drawn where a rect lies on the screen
 pub rect_drawn : (s : SceneView) (f : FrameView) (rect : Rect) (part : Part) (new : List ℕ) → IsOfSize s.w s.h f → IsShared rect (screen s.w s.h) part

@@ -6,3 +6,4 @@ pub mod Groups
 pub mod PassSteps
 pub mod SceneSteps
 pub mod FrameSteps
+pub mod Halves

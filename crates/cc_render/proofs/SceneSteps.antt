@@ -20,6 +20,7 @@ use Rattle.cc_scene.specs.Sound.{IsIn, Fits, IsSide, IsScene}
 use Rattle.cc_scene.proofs.Steps.{sound_at, scene_last}
 use Rattle.cc_render.specs.inner.Drawing.{SurfaceView, CanBeDrawn, PassesCanBeDrawn, ShowsQuads, ShowPasses}
 use Rattle.cc_render.specs.inner.Strips.{HasRoom, ShowsScene}
+use Rattle.cc_render.specs.declared.strip.Band.{Band}
 use Rattle.cc_render.specs.declared.strip.Surfaces.{Surfaces}
 use Rattle.cc_geom.proofs.Spans.{both_of}
 use Rattle.cc_render.proofs.Tiles.{where_held}
@@ -111,32 +112,32 @@ less_room n m passes s le r = record {
 pub same_size : (w a b : ℕ) → a ≡ b → 4 * (w * a) ≤ 4 * (w * b)
 same_size w a b e = rw e (omega arith)
 
--- the rect of an area
-abbrev pub rect_of : Area → Rect
-rect_of at = record { x = pos at.x; y = pos at.y; w = pos at.w; h = pos at.h }
+-- the rect of the screen that an area of a band is
+abbrev pub rect_of : Band → Area → Rect
+rect_of band at = record { x = pos at.x; y = pos (band.top + at.y); w = pos at.w; h = pos at.h }
 
--- the pixels of an area, copied into a frame
-copied : (s : SceneView) (at : Area) (surface : List ℕ) (x y : ℕ) → ShowsScene s (rect_of at) surface → in_rows at at.h x y ≡ true
-    → pixel surface ((y - at.y) * at.w + (x - at.x)) ≡ scene_pixel s (pos x) (pos y)
-copied s at surface x y shown h =
+-- the pixels of an area, copied into a band
+copied : (s : SceneView) (band : Band) (at : Area) (surface : List ℕ) (x y : ℕ) → ShowsScene s (rect_of band at) surface → in_rows at at.h x y ≡ true
+    → pixel surface ((y - at.y) * at.w + (x - at.x)) ≡ scene_pixel s (pos x) (pos (band.top + y))
+copied s band at surface x y shown h =
     let left : at.x ≤ x = grind (arith, nat_tests) in
     let right : x < at.x + at.w = grind (arith, nat_tests) in
     let top : at.y ≤ y = grind (arith, nat_tests) in
     let bottom : y < at.y + at.h = grind (arith, nat_tests) in
     let column : pos at.x +ℤ pos (x - at.x) ≡ pos x = omega (arith, ints) in
-    let row : pos at.y +ℤ pos (y - at.y) ≡ pos y = omega (arith, ints) in
+    let row : pos (band.top + at.y) +ℤ pos (y - at.y) ≡ pos (band.top + y) = omega (arith, ints) in
     shown (x - at.x) (y - at.y) (omega arith) (omega arith)
-    ∙ ap (λ (z : ℤ). scene_pixel s z (pos at.y +ℤ pos (y - at.y))) column ∙ ap (scene_pixel s (pos x)) row
+    ∙ ap (λ (z : ℤ). scene_pixel s z (pos (band.top + at.y) +ℤ pos (y - at.y))) column ∙ ap (scene_pixel s (pos x)) row
 
-pub strip_shown : (s : SceneView) (w h : ℕ) (at : Area) (surface old new : List ℕ) → ShowsScene s (rect_of at) surface
-    → EachPixel w h (within at at.h (λ x y below. pixel surface ((y - at.y) * at.w + (x - at.x)))) old new
-    → EachPixel w h (within at at.h (λ x y below. scene_pixel s (pos x) (pos y))) old new
-strip_shown s w h at surface old new shown each x y xw yh =
+pub strip_shown : (s : SceneView) (w : ℕ) (band : Band) (at : Area) (surface old new : List ℕ) → ShowsScene s (rect_of band at) surface
+    → EachPixel w band.rows (within at at.h (λ x y below. pixel surface ((y - at.y) * at.w + (x - at.x)))) old new
+    → EachPixel w band.rows (within at at.h (λ x y below. scene_pixel s (pos x) (pos (band.top + y)))) old new
+strip_shown s w band at surface old new shown each x y xw yh =
     each x y xw yh
-    ∙ where_held (in_rows at at.h x y) (pixel surface ((y - at.y) * at.w + (x - at.x))) (scene_pixel s (pos x) (pos y)) (pixel old (y * w + x))
-    (λ h. copied s at surface x y shown h)
+    ∙ where_held (in_rows at at.h x y) (pixel surface ((y - at.y) * at.w + (x - at.x))) (scene_pixel s (pos x) (pos (band.top + y))) (pixel old (y * w + x))
+    (λ h. copied s band at surface x y shown h)
 
--- ---- whole rows of a frame
+-- ---- whole rows of a band
 
 -- a pixel above some rows stands before their first
 above_rows : (w x y top : ℕ) → x < w → y < top → y * w + x < top * w
@@ -151,20 +152,20 @@ below_rows : (w x y top n : ℕ) → top + n ≤ y → top * w + w * n ≤ y * w
 below_rows w x y top n le = omega (arith, rows_end w top n y le)
 
 -- a pixel of some rows stands among them
-among_rows : (w x row n : ℕ) → x < w → row < n → row * w + x < w * n
+pub among_rows : (w x row n : ℕ) → x < w → row < n → row * w + x < w * n
 among_rows w x row n xw less = grind arith
 
--- where it stands in the frame
+-- where it stands in the band
 row_place : (w x row top y : ℕ) → top + row ≡ y → top * w + (row * w + x) ≡ y * w + x
 row_place w x row top y e = rw (sym e) (grind arith)
 
--- rows of a frame that became the pixels of a scene
-pub rows_drawn : (s : SceneView) (h : ℕ) (at : Area) (place count : ℕ) (made old new : List ℕ)
-    → IsInside at at.w h → place ≡ at.y * at.w → count ≡ at.w * at.h → ShowsScene s (rect_of at) made → IsPart place count (λ j below. pixel made j) old new
-    → EachPixel at.w h (within at at.h (λ x y below. scene_pixel s (pos x) (pos y))) old new
-rows_drawn s h at place count made old new inside p n shown part x y xw yh =
+-- rows of a band that became the pixels of a scene
+pub rows_drawn : (s : SceneView) (band : Band) (at : Area) (place count : ℕ) (made old new : List ℕ)
+    → IsInside at at.w band.rows → place ≡ at.y * at.w → count ≡ at.w * at.h → ShowsScene s (rect_of band at) made → IsPart place count (λ j below. pixel made j) old new
+    → EachPixel at.w band.rows (within at at.h (λ x y below. scene_pixel s (pos x) (pos (band.top + y)))) old new
+rows_drawn s band at place count made old new inside p n shown part x y xw yh =
     let left : at.x ≡ 0 = omega (arith, inside.across) in
-    let Goal : Type 0 = pixel new (y * at.w + x) ≡ cond (in_rows at at.h x y) (scene_pixel s (pos x) (pos y)) (pixel old (y * at.w + x)) in
+    let Goal : Type 0 = pixel new (y * at.w + x) ≡ cond (in_rows at at.h x y) (scene_pixel s (pos x) (pos (band.top + y))) (pixel old (y * at.w + x)) in
     elim (cases_lt y at.y) as (λ _. Goal) [
       | inl above ↦
           let off : in_rows at at.h x y ≡ false = grind (arith, nat_tests) in
@@ -181,7 +182,7 @@ rows_drawn s h at place count made old new inside p n shown part x y xw yh =
             (sym (ap (pixel new) there)
             ∙ part.inside ((y - at.y) * at.w + x) (omega arith)
             ∙ sym (ap (λ (k : ℕ). pixel made ((y - at.y) * at.w + k)) column)
-            ∙ copied s at made x y shown on)
+            ∙ copied s band at made x y shown on)
         | inr below ↦
             let off : in_rows at at.h x y ≡ false = grind (arith, nat_tests) in
             let behind = below_rows at.w x y at.y at.h below in

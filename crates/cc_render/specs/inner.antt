@@ -1,3 +1,5 @@
+pub mod Bands
 pub mod Drawing
+pub mod Halves
 pub mod Hulls
 pub mod Strips

@@ -12,6 +12,7 @@ mod drawing;
 mod frame;
 mod group;
 mod hull;
+mod parts;
 mod passes;
 mod quads;
 mod size;
@@ -20,5 +21,5 @@ mod strip;
 mod surface;
 mod tile;
 
-pub use drawing::{render, render_region};
+pub use drawing::{render, render_in_parts, render_region, render_region_in_parts};
 pub use frame::Frame;

@@ -80,13 +80,29 @@ fn inner_surfaces(alloc: Global, count: usize, pixels: usize) -> Result<Vec<Surf
     Ok(surfaces)
 }
 
-/// Draws the pixels of a scene in an area of a frame's bytes; the other pixels stay.
-pub(crate) fn draw_area(scene: &Scene, bytes: &mut [u8], at: Area, surfaces: &mut Surfaces)
-    requires size { length bytes.old ≡ 4 * (scene.now.w * scene.now.h) }
-    requires inside { IsInside at scene.now.w scene.now.h }
-    requires end { at.y + at.h ≤ 2048 }
+/// Whole rows of a frame, one under another.
+#[derive(Clone, Copy)]
+pub(crate) struct Band {
+    /// The first of them, counted from the top of the frame.
+    pub(crate) top: usize,
+    /// How many they are.
+    pub(crate) rows: usize,
+}
+
+/// Draws the pixels of a scene in an area of the bytes of a band, which counts its rows from the band's first;
+/// the other pixels stay.
+pub(crate) fn draw_area(
+    scene: &Scene,
+    bytes: &mut [u8],
+    band: Band,
+    at: Area,
+    surfaces: &mut Surfaces,
+)
+    requires size { length bytes.old ≡ 4 * (scene.now.w * band.rows) }
+    requires inside { IsInside at scene.now.w band.rows }
+    requires end { band.top + band.rows ≤ 2048 }
     requires ready { AreReady scene.now surfaces.old }
-    ensures pixels { EachPixel scene.now.w scene.now.h (within at at.h (λ x y below. scene_pixel scene.now (pos x) (pos y))) bytes.old bytes.new }
+    ensures pixels { EachPixel scene.now.w band.rows (within at at.h (λ x y below. scene_pixel scene.now (pos x) (pos (band.top + y)))) bytes.old bytes.new }
     ensures premultiplied { ArePremultiplied bytes.old → ArePremultiplied bytes.new }
     ensures ready { AreReady scene.now surfaces.new }
 {
@@ -99,42 +115,44 @@ pub(crate) fn draw_area(scene: &Scene, bytes: &mut [u8], at: Area, surfaces: &mu
             w: at.w,
             h: rows,
         };
-        draw_strip(scene, bytes, strip, surfaces);
+        draw_strip(scene, bytes, band, strip, surfaces);
         done += rows;
     }
 }
 
 // draws the pixels of a scene in one strip: straight into the frame where the strip is as wide as it
-fn draw_strip(scene: &Scene, bytes: &mut [u8], at: Area, surfaces: &mut Surfaces)
-    requires size { length bytes.old ≡ 4 * (scene.now.w * scene.now.h) }
-    requires inside { IsInside at scene.now.w scene.now.h }
+fn draw_strip(scene: &Scene, bytes: &mut [u8], band: Band, at: Area, surfaces: &mut Surfaces)
+    requires size { length bytes.old ≡ 4 * (scene.now.w * band.rows) }
+    requires inside { IsInside at scene.now.w band.rows }
+    requires end { band.top + band.rows ≤ 2048 }
     requires low { at.h ≤ surfaces.old.rows }
     requires ready { AreReady scene.now surfaces.old }
-    ensures pixels { EachPixel scene.now.w scene.now.h (within at at.h (λ x y below. scene_pixel scene.now (pos x) (pos y))) bytes.old bytes.new }
+    ensures pixels { EachPixel scene.now.w band.rows (within at at.h (λ x y below. scene_pixel scene.now (pos x) (pos (band.top + y)))) bytes.old bytes.new }
     ensures premultiplied { ArePremultiplied bytes.old → ArePremultiplied bytes.new }
     ensures ready { AreReady scene.now surfaces.new }
 {
     if at.w == scene.w() as usize {
-        draw_rows(scene, bytes, at, surfaces);
+        draw_rows(scene, bytes, band, at, surfaces);
     } else {
-        draw_columns(scene, bytes, at, surfaces);
+        draw_columns(scene, bytes, band, at, surfaces);
     }
 }
 
 // draws the pixels of a scene in whole rows of a frame
-fn draw_rows(scene: &Scene, bytes: &mut [u8], at: Area, surfaces: &mut Surfaces)
-    requires size { length bytes.old ≡ 4 * (scene.now.w * scene.now.h) }
-    requires inside { IsInside at scene.now.w scene.now.h }
+fn draw_rows(scene: &Scene, bytes: &mut [u8], band: Band, at: Area, surfaces: &mut Surfaces)
+    requires size { length bytes.old ≡ 4 * (scene.now.w * band.rows) }
+    requires inside { IsInside at scene.now.w band.rows }
+    requires end { band.top + band.rows ≤ 2048 }
     requires whole { at.w ≡ scene.now.w }
     requires narrow { at.w ≤ 2048 }
     requires low { at.h ≤ surfaces.old.rows }
     requires ready { AreReady scene.now surfaces.old }
-    ensures pixels { EachPixel scene.now.w scene.now.h (within at at.h (λ x y below. scene_pixel scene.now (pos x) (pos y))) bytes.old bytes.new }
+    ensures pixels { EachPixel scene.now.w band.rows (within at at.h (λ x y below. scene_pixel scene.now (pos x) (pos (band.top + y)))) bytes.old bytes.new }
     ensures premultiplied { ArePremultiplied bytes.old → ArePremultiplied bytes.new }
     ensures ready { AreReady scene.now surfaces.new }
 {
-    let (place, count) = run_of(at, scene.h() as usize);
-    draw_run(scene, bytes, place, count, rect_of(at), surfaces);
+    let (place, count) = run_of(at, band.rows);
+    draw_run(scene, bytes, place, count, rect_of(band, at), surfaces);
 }
 
 // where the first pixel of whole rows stands in a frame of this height, and how many pixels they have
@@ -189,29 +207,30 @@ fn draw_into(scene: &Scene, bytes: &mut [u8], area: Rect, surfaces: &mut Surface
 }
 
 // draws the pixels of a scene in columns of a frame
-fn draw_columns(scene: &Scene, bytes: &mut [u8], at: Area, surfaces: &mut Surfaces)
-    requires size { length bytes.old ≡ 4 * (scene.now.w * scene.now.h) }
-    requires inside { IsInside at scene.now.w scene.now.h }
+fn draw_columns(scene: &Scene, bytes: &mut [u8], band: Band, at: Area, surfaces: &mut Surfaces)
+    requires size { length bytes.old ≡ 4 * (scene.now.w * band.rows) }
+    requires inside { IsInside at scene.now.w band.rows }
+    requires end { band.top + band.rows ≤ 2048 }
     requires low { at.h ≤ surfaces.old.rows }
     requires ready { AreReady scene.now surfaces.old }
-    ensures pixels { EachPixel scene.now.w scene.now.h (within at at.h (λ x y below. scene_pixel scene.now (pos x) (pos y))) bytes.old bytes.new }
+    ensures pixels { EachPixel scene.now.w band.rows (within at at.h (λ x y below. scene_pixel scene.now (pos x) (pos (band.top + y)))) bytes.old bytes.new }
     ensures premultiplied { ArePremultiplied bytes.old → ArePremultiplied bytes.new }
     ensures ready { AreReady scene.now surfaces.new }
 {
     let width = scene.w() as usize;
-    let height = scene.h() as usize;
-    draw_scene(scene, rect_of(at), surfaces);
-    copy_area(bytes, width, height, at, surfaces.root.bytes());
+    draw_scene(scene, rect_of(band, at), surfaces);
+    copy_area(bytes, width, band.rows, at, surfaces.root.bytes());
 }
 
-// the rect of an area of a frame
-fn rect_of(at: Area) -> Rect
-    requires { IsInside at 2048 2048 }
-    ensures { result ≡ record { x = pos at.x; y = pos at.y; w = pos at.w; h = pos at.h } }
+// the rect of the screen that an area of a band is
+fn rect_of(band: Band, at: Area) -> Rect
+    requires inside { IsInside at 2048 band.rows }
+    requires end { band.top + band.rows ≤ 2048 }
+    ensures { result ≡ record { x = pos at.x; y = pos (band.top + at.y); w = pos at.w; h = pos at.h } }
 {
     Rect {
         x: at.x as i32,
-        y: at.y as i32,
+        y: (band.top + at.y) as i32,
         w: at.w as i32,
         h: at.h as i32,
     }

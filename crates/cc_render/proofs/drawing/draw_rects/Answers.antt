@@ -7,7 +7,7 @@ use Rattle.cc_render.proofs.FrameSteps.{region_more}
 use Rattle.cc_render.proofs.drawing.draw_rects.Goals as goal
 
 pub loop-rect-preserved : goal.loop-rect-preserved
-loop-rect-preserved c = record {
+loop-rect-preserved g c = record {
   size = c.draw_rect.ensures.size;
   pixels =
       region_more c.args.scene.now c.args.rects.now c.loop-rect.rect-index nothing c.args.frame.now c.loop-rect.frame c.draw_rect.new.frame
@@ -16,6 +16,6 @@ loop-rect-preserved c = record {
 }
 
 pub returns-clause-pixels : goal.returns-clause-pixels
-returns-clause-pixels c =
+returns-clause-pixels g c =
     subst (λ rects. ShowsIn c.args.scene.now rects c.args.frame.now c.loop-rect.frame) (take_all c.loop-rect.rect-index c.args.rects.now c.loop-rect-test.false)
     c.loop-rect.invariant.pixels

@@ -1,5 +1,5 @@
 -- The rows so far are drawn.
-use Rattle.std.specs.Prelude.{◌≤◌, ◌-◌, pos}
+use Rattle.std.specs.Prelude.{◌+◌, ◌≤◌, ◌-◌, pos}
 use Rattle.cc_pixel.specs.Rows.{ArePremultiplied}
 use Rattle.cc_pixel.specs.Surfaces.{EachPixel, within}
 use Rattle.cc_scene.specs.Pixels.{scene_pixel}
@@ -9,7 +9,7 @@ use Rattle.cc_render.proofs.strip.draw_area.Given as given
 abbrev pub invariant-loop-done : given.invariant-loop-done
 invariant-loop-done l = record {
   rows : l.done ≤ l.at.h;
-  pixels : EachPixel l.scene.w l.scene.h (within l.at l.done (λ x y below. scene_pixel l.scene (pos x) (pos y))) l.initial.bytes l.bytes;
+  pixels : EachPixel l.scene.w l.band.rows (within l.at l.done (λ x y below. scene_pixel l.scene (pos x) (pos (l.band.top + y)))) l.initial.bytes l.bytes;
   premultiplied : ArePremultiplied l.initial.bytes → ArePremultiplied l.bytes;
   ready : AreReady l.scene l.surfaces;
 }

@@ -20,8 +20,8 @@ copy_area-requires-clause-given c =
 pub returns-clause-pixels : goal.returns-clause-pixels
 returns-clause-pixels c =
     let shown = rw (c.rect_of.ensures) at c.draw_scene.ensures.pixels in
-    let each = rw (c.bytes.ensures.value, c.w-width.ensures.value, c.h-height.ensures.value) at c.copy_area.ensures.pixels in
-    strip_shown c.args.scene.now c.args.scene.now.w c.args.scene.now.h c.args.at c.draw_scene.new.surfaces.root.bytes c.args.bytes.now c.copy_area.new.surface shown each
+    let each = rw (c.bytes.ensures.value, c.w-width.ensures.value) at c.copy_area.ensures.pixels in
+    strip_shown c.args.scene.now c.args.scene.now.w c.args.band c.args.at c.draw_scene.new.surfaces.root.bytes c.args.bytes.now c.copy_area.new.surface shown each
 
 pub returns-clause-ready : goal.returns-clause-ready
 returns-clause-ready c = record {
