@@ -2,13 +2,15 @@
 //!
 //! A painter holds the scene that its frame shows. Where the new scene is the held one, nothing is done. Else
 //! its hidden quads are left out, it is compared with the held one, and the damage alone is drawn. Where no
-//! scene is held, or one of another size, the whole is drawn.
+//! scene is held, or one of another size, the whole is drawn. One thread draws, or several do, each a part of the
+//! rows.
 //!
 //! In: scenes. Out: the frame, which shows the last one, and the rows that drawing it may have changed. Want of
 //! memory costs the held scene, so the next one is drawn whole.
 #![tactic(auto)]
 
 mod changes;
+mod hands;
 mod held;
 mod painting;
 mod redrawing;

@@ -6,13 +6,15 @@ ghost use Rattle.cc_render.specs.Frames.{IsOfSize, EachIs, black};
 ghost use Rattle.cc_painter.specs.Painters.{ShowsWhole, HoldsCulled, IsKeptOutside};
 
 use crate::changes::{all_rows, no_rows};
+use crate::hands::{Hands, ManyThreads, OneThread};
 use crate::held::{Held, is_held};
 use crate::redrawing::show_next;
 use crate::rows::Rows;
 use cc_render::Frame;
 use cc_scene::Scene;
 use std::alloc::{AllocError, Global};
-use std::marker::Model;
+use std::marker::{Model, Sync};
+use std::thread::Threads;
 
 /// A frame that shows one scene after another, and the last of them.
 #[derive(Drop)]
@@ -84,8 +86,35 @@ impl Painter {
     /// nothing is drawn; where it holds another one of that size, only the damage is; else the whole is, into
     /// a new frame where the size differs. An error is want of memory: the painter then holds no scene, and the
     /// next one is drawn whole.
-    #[tactic(auto, using(crate::proofs::Redrawn::held_shown, crate::proofs::Redrawn::same_kept, crate::proofs::Redrawn::all_kept))]
     pub fn paint(&mut self, scene: Scene) -> Result<(), AllocError>
+        ensures shown { OnOk result (ShowsWhole scene self.new.frame) }
+        ensures held { OnOk result (HoldsCulled scene self.new.held) }
+        ensures err { OnErr result (self.new.held ≡ None) }
+        ensures changed { IsKeptOutside self.new.changed self.old.frame self.new.frame }
+    {
+        self.paint_by(&OneThread, scene)
+    }
+
+    /// Draws a scene as `paint` does, in so many parts at the most, each by a thread of its own where it can be
+    /// started. Where there is one part, none is started.
+    pub fn paint_in_parts<R: Threads + Sync>(
+        &mut self,
+        rt: &R,
+        scene: Scene,
+        parts: usize,
+    ) -> Result<(), AllocError>
+        ensures shown { OnOk result (ShowsWhole scene self.new.frame) }
+        ensures held { OnOk result (HoldsCulled scene self.new.held) }
+        ensures err { OnErr result (self.new.held ≡ None) }
+        ensures changed { IsKeptOutside self.new.changed self.old.frame self.new.frame }
+    {
+        self.paint_by(&ManyThreads { rt, most: parts }, scene)
+    }
+
+    // Draws a scene that may be held.
+    #[tactic(auto, using(crate::proofs::Redrawn::held_shown, crate::proofs::Redrawn::same_kept, crate::proofs::Redrawn::all_kept))]
+    fn paint_by<H: Hands>(&mut self, hands: &H, scene: Scene) -> Result<(), AllocError>
+        requires { H.can_draw hands.now }
         ensures shown { OnOk result (ShowsWhole scene self.new.frame) }
         ensures held { OnOk result (HoldsCulled scene self.new.held) }
         ensures err { OnErr result (self.new.held ≡ None) }
@@ -95,7 +124,7 @@ impl Painter {
             self.changed = no_rows();
             return Ok(());
         }
-        match self.draw(scene) {
+        match self.draw(hands, scene) {
             Ok(()) => Ok(()),
             Err(refused) => {
                 self.changed = all_rows(&self.frame);
@@ -106,14 +135,15 @@ impl Painter {
 
     // Draws a scene that is not held. Which rows an error may have changed is not told.
     #[tactic(auto, using(crate::proofs::Redrawn::shown_whole))]
-    fn draw(&mut self, scene: Scene) -> Result<(), AllocError>
+    fn draw<H: Hands>(&mut self, hands: &H, scene: Scene) -> Result<(), AllocError>
+        requires { H.can_draw hands.now }
         ensures shown { OnOk result (ShowsWhole scene self.new.frame) }
         ensures held { OnOk result (HoldsCulled scene self.new.held) }
         ensures err { OnErr result (self.new.held ≡ None) }
         ensures changed { OnOk result (IsKeptOutside self.new.changed self.old.frame self.new.frame) }
     {
         let held = self.held.take();
-        let (next, changed) = show_next(self.alloc, &mut self.frame, held, scene)?;
+        let (next, changed) = show_next(hands, self.alloc, &mut self.frame, held, scene)?;
         self.changed = changed;
         self.held = Some(next);
         Ok(())

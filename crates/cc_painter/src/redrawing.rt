@@ -7,49 +7,54 @@ ghost use Rattle.cc_painter.specs.Painters.{ShowsWhole, IsKeptOutside};
 ghost use Rattle.cc_painter.specs.inner.Helds.{culled_of};
 
 use crate::changes::{all_rows, rows_of};
+use crate::hands::Hands;
 use crate::held::Held;
 use crate::rows::Rows;
 use cc_damage::damage_of;
-use cc_render::{Frame, render, render_region};
+use cc_render::Frame;
 use cc_scene::Scene;
 use std::alloc::{AllocError, Global};
 
 /// Makes a frame show a scene, which is then held, and tells the rows outside of which its pixels are those
 /// before. An error is want of memory, and the frame then shows nothing for sure.
-pub(crate) fn show_next(
+pub(crate) fn show_next<H: Hands>(
+    hands: &H,
     alloc: Global,
     frame: &mut Frame,
     held: Option<Held>,
     scene: Scene,
 ) -> Result<(Held, Rows), AllocError>
-    requires { IfSome (culled_of held) (λ old. ShowsWhole old frame.old) }
+    requires can { H.can_draw hands.now }
+    requires shown { IfSome (culled_of held) (λ old. ShowsWhole old frame.old) }
     ensures scene { IfOk result (λ next. next.0.scene ≡ scene) }
     ensures culled { IfOk result (λ next. IsCulled scene next.0.culled) }
     ensures shown { IfOk result (λ next. ShowsWhole next.0.culled frame.new) }
     ensures kept { IfOk result (λ next. IsKeptOutside next.1 frame.old frame.new) }
 {
     let next = Held::new(alloc, scene)?;
-    let changed = redraw(alloc, frame, held, next.culled())?;
+    let changed = redraw(hands, alloc, frame, held, next.culled())?;
     Ok((next, changed))
 }
 
 // makes a frame show a scene, and tells the rows outside of which its pixels are those before; where it shows one
 // of the same size before, only the damage is drawn
-fn redraw(
+fn redraw<H: Hands>(
+    hands: &H,
     alloc: Global,
     frame: &mut Frame,
     held: Option<Held>,
     scene: &Scene,
 ) -> Result<Rows, AllocError>
-    requires { IfSome (culled_of held) (λ old. ShowsWhole old frame.old) }
+    requires can { H.can_draw hands.now }
+    requires shown { IfSome (culled_of held) (λ old. ShowsWhole old frame.old) }
     ensures shown { OnOk result (ShowsWhole scene.now frame.new) }
     ensures kept { IfOk result (λ rows. IsKeptOutside rows frame.old frame.new) }
 {
     match held {
         Some(old) if are_of_one_size(old.culled(), scene) => {
-            draw_damage(alloc, frame, old.culled(), scene)
+            draw_damage(hands, alloc, frame, old.culled(), scene)
         }
-        _ => draw_whole(alloc, frame, scene),
+        _ => draw_whole(hands, alloc, frame, scene),
     }
 }
 
@@ -63,12 +68,18 @@ fn are_of_one_size(a: &Scene, b: &Scene) -> bool
 
 // draws the whole of a scene
 #[tactic(auto, using(crate::proofs::Redrawn::all_kept))]
-fn draw_whole(alloc: Global, frame: &mut Frame, scene: &Scene) -> Result<Rows, AllocError>
+fn draw_whole<H: Hands>(
+    hands: &H,
+    alloc: Global,
+    frame: &mut Frame,
+    scene: &Scene,
+) -> Result<Rows, AllocError>
+    requires { H.can_draw hands.now }
     ensures shown { OnOk result (ShowsWhole scene.now frame.new) }
     ensures kept { IfOk result (λ rows. IsKeptOutside rows frame.old frame.new) }
 {
     fit(alloc, frame, scene)?;
-    render(scene, frame)?;
+    hands.draw_whole(scene, frame)?;
     Ok(all_rows(frame))
 }
 
@@ -85,12 +96,14 @@ fn fit(alloc: Global, frame: &mut Frame, scene: &Scene) -> Result<(), AllocError
 }
 
 // draws where a scene differs from the one of its size that the frame shows
-fn draw_damage(
+fn draw_damage<H: Hands>(
+    hands: &H,
     alloc: Global,
     frame: &mut Frame,
     old: &Scene,
     scene: &Scene,
 ) -> Result<Rows, AllocError>
+    requires can { H.can_draw hands.now }
     requires wide { old.now.w ≡ scene.now.w }
     requires tall { old.now.h ≡ scene.now.h }
     requires shown { ShowsWhole old.now frame.old }
@@ -98,6 +111,6 @@ fn draw_damage(
     ensures kept { IfOk result (λ rows. IsKeptOutside rows frame.old frame.new) }
 {
     let region = damage_of(alloc, old, scene)?;
-    render_region(scene, frame, &region)?;
+    hands.draw_region(scene, frame, &region)?;
     Ok(rows_of(&region))
 }

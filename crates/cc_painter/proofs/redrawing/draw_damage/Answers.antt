@@ -3,10 +3,10 @@ use Rattle.cc_painter.proofs.Redrawn.{redrawn, kept_outside}
 use Rattle.cc_painter.proofs.redrawing.draw_damage.Goals as goal
 
 pub returns-clause-shown : goal.returns-clause-shown
-returns-clause-shown c =
-    redrawn c.args.old.now c.args.scene.now c.in_ok-region.region c.args.frame.now c.render_region.new.frame c.requires.wide c.requires.tall c.requires.shown
-    c.in_ok-region.ensures c.render_region.ensures.size c.in_ok-render_region.ensures.ok
+returns-clause-shown g c =
+    redrawn c.args.old.now c.args.scene.now c.in_ok-region.region c.args.frame.now c.draw_region.new.frame c.requires.wide c.requires.tall c.requires.shown
+    c.in_ok-region.ensures c.draw_region.ensures.size c.in_ok-draw_region.ensures.ok
 
 pub returns-clause-kept : goal.returns-clause-kept
-returns-clause-kept c =
-    kept_outside c.rows_of.result c.args.scene.now c.in_ok-region.region c.args.frame.now c.render_region.new.frame c.rows_of.ensures c.in_ok-render_region.ensures.ok
+returns-clause-kept g c =
+    kept_outside c.rows_of.result c.args.scene.now c.in_ok-region.region c.args.frame.now c.draw_region.new.frame c.rows_of.ensures c.in_ok-draw_region.ensures.ok
