@@ -4,6 +4,8 @@
 //! strip, which serves for every strip, so the memory grows with the number of passes and the width, and not
 //! with the height. All of it is taken before the frame is changed. Of a strip a pass before the root draws
 //! only the part that its quads lie in; elsewhere it is transparent, and costs nothing.
+//!
+//! A large area may be drawn in parts of whole rows, each by a thread of its own and with surfaces of its own.
 #![tactic(auto)]
 
 mod blank;
