@@ -53,7 +53,7 @@ fn render_by<H: Hands>(hands: &H, scene: &Scene, frame: &mut Frame) -> Result<()
     ensures ok { OnOk result (Shows scene.now frame.new) }
     ensures err { OnErr result (frame.new ≡ frame.old) }
 {
-    let parts = hands.parts_of(pixel_count(scene, screen_of(scene)));
+    let parts = hands.parts_of(scene, pixel_count(scene, screen_of(scene)));
     let mut surfaces = surfaces_of(*frame.bytes.allocator(), scene, parts)?;
     draw_rect(
         hands,
@@ -106,7 +106,7 @@ fn render_region_by<H: Hands>(
     ensures ok { OnOk result (ShowsIn scene.now region.now frame.old frame.new) }
     ensures err { OnErr result (frame.new ≡ frame.old) }
 {
-    let parts = hands.parts_of(most_pixels(scene, region.rects()));
+    let parts = hands.parts_of(scene, most_pixels(scene, region.rects()));
     let mut surfaces = surfaces_of(*frame.bytes.allocator(), scene, parts)?;
     draw_rects(hands, scene, frame, region.rects(), surfaces.as_mut_slice());
     Ok(())

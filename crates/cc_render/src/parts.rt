@@ -12,16 +12,16 @@ use std::alloc::{AllocError, Global};
 use std::marker::{Send, Sync};
 use std::thread::{Threads, join_mut};
 
-/// The least pixels of a part: fewer are drawn before a thread has started.
-const LEAST_PIXELS: usize = 65536;
+/// The least pixels of a part, counted once for each pass: fewer are drawn before a thread has started.
+const LEAST_PIXELS: usize = 524288;
 
 /// Who draws the pixels of an area.
 pub(crate) trait Hands {
     /// What they need, to draw.
     ghost can_draw: { Self → Type 0 };
 
-    /// How many parts an area of so many pixels is drawn in.
-    fn parts_of(&self, pixels: usize) -> usize
+    /// How many parts an area of so many pixels of a scene is drawn in.
+    fn parts_of(&self, scene: &Scene, pixels: usize) -> usize
         ensures { 1 ≤ result };
 
     /// Draws the pixels of a scene in an area of the bytes of a band; the other pixels stay. Each part may take
@@ -41,7 +41,7 @@ pub(crate) struct OneThread;
 impl Hands for OneThread {
     ghost can_draw = { λ h. Unit {0} };
 
-    fn parts_of(&self, _pixels: usize) -> usize {
+    fn parts_of(&self, _scene: &Scene, _pixels: usize) -> usize {
         1
     }
 
@@ -67,8 +67,8 @@ pub(crate) struct ManyThreads<'r, R> {
 impl<'r, R: Threads + Sync> Hands for ManyThreads<'r, R> {
     ghost can_draw = { λ h. IsSync R.row };
 
-    fn parts_of(&self, pixels: usize) -> usize {
-        self.most.min(pixels / LEAST_PIXELS).max(1)
+    fn parts_of(&self, scene: &Scene, pixels: usize) -> usize {
+        self.most.min(parts_worth(scene, pixels)).max(1)
     }
 
     fn draw(
@@ -105,6 +105,11 @@ pub(crate) fn pixels_of(at: Area) -> usize
     requires tall { at.h ≤ 2048 }
 {
     at.w * at.h
+}
+
+// how many parts are worth a thread each where so many pixels of a scene are drawn
+fn parts_worth(scene: &Scene, pixels: usize) -> usize {
+    pixels.saturating_mul(scene.passes().len()) / LEAST_PIXELS
 }
 
 // how many of some rows the first of so many parts have
@@ -190,7 +195,7 @@ fn draw_parts<R: Threads + Sync>(
 {
     let Place { band, at } = place;
     let width = scene.w() as usize;
-    let parts = surfaces.len().min(pixels_of(at) / LEAST_PIXELS);
+    let parts = surfaces.len().min(parts_worth(scene, pixels_of(at)));
     if parts < 2 {
         draw_area(scene, bytes, band, at, &mut surfaces[0]);
         return;
