@@ -3,10 +3,12 @@
 ghost use Rattle.std.specs.Prelude.{◌≡◌, ◌*◌, ◌<◌, length, IfOk, OnOk, IsTrue};
 ghost use Rattle.cc_recorder.specs.inner.Packed.{IsPacked, IsPackedOutside};
 
-use cc_packing::pack_run;
+use cc_packing::pack_run_in_parts;
 use cc_painter::Rows;
 use cc_render::Frame;
 use std::alloc::{AllocError, Global};
+use std::marker::Sync;
+use std::thread::Threads;
 
 // Where a row of a picture of width `w` begins.
 fn start_of(row: u32, w: u32) -> usize
@@ -16,7 +18,7 @@ fn start_of(row: u32, w: u32) -> usize
 }
 
 // Packs some rows of a frame, of which the others are packed already.
-fn pack_rows(packed: &mut [u8], frame: &Frame, rows: Rows)
+fn pack_rows<R: Threads + Sync>(rt: &R, packed: &mut [u8], frame: &Frame, rows: Rows, parts: usize)
     requires { IsPackedOutside rows frame.now packed.old }
     ensures { IsPacked frame.now packed.new }
 {
@@ -24,11 +26,16 @@ fn pack_rows(packed: &mut [u8], frame: &Frame, rows: Rows)
     let top = rows.top.min(bottom);
     let from = start_of(top, frame.w());
     let to = start_of(bottom, frame.w());
-    pack_run(packed, frame.bytes(), from, to);
+    pack_run_in_parts(rt, packed, frame.bytes(), from, to, parts);
 }
 
 /// The packed pixels of a frame. An error is want of memory.
-fn pack_whole(alloc: Global, frame: &Frame) -> Result<Vec<u8>, AllocError>
+fn pack_whole<R: Threads + Sync>(
+    rt: &R,
+    alloc: Global,
+    frame: &Frame,
+    parts: usize,
+) -> Result<Vec<u8>, AllocError>
     ensures { IfOk result (λ packed. IsPacked frame.now packed.items) }
 {
     let rows = Rows {
@@ -36,7 +43,7 @@ fn pack_whole(alloc: Global, frame: &Frame) -> Result<Vec<u8>, AllocError>
         bottom: frame.h(),
     };
     let mut packed = vec![in alloc; 0u8; 3 * start_of(frame.h(), frame.w())]?;
-    pack_rows(packed.as_mut_slice(), frame, rows);
+    pack_rows(rt, packed.as_mut_slice(), frame, rows, parts);
     Ok(packed)
 }
 
@@ -52,23 +59,24 @@ fn can_stay(packed: &[u8], frame: &Frame, w: u32, h: u32) -> bool
 
 /// Packs the pixels of a frame. Where there are those of the frame before it, of this size, only the rows that
 /// changed are packed. An error is want of memory, and there are no packed pixels then.
-pub(crate) fn repack(
+pub(crate) fn repack<R: Threads + Sync>(
+    rt: &R,
     packed: &mut Vec<u8>,
     frame: &Frame,
     changed: Rows,
-    w: u32,
-    h: u32,
+    size: (u32, u32),
+    parts: usize,
 ) -> Result<(), AllocError>
-    requires { 0 < length packed.old.items → frame.now.w ≡ w → frame.now.h ≡ h → IsPackedOutside changed frame.now packed.old.items }
+    requires { 0 < length packed.old.items → frame.now.w ≡ size.0 → frame.now.h ≡ size.1 → IsPackedOutside changed frame.now packed.old.items }
     ensures full { OnOk result (IsPacked frame.now packed.new.items) }
     ensures held { 0 < length packed.new.items → IsPacked frame.now packed.new.items }
 {
-    if can_stay(packed, frame, w, h) {
-        pack_rows(packed.as_mut_slice(), frame, changed);
+    if can_stay(packed, frame, size.0, size.1) {
+        pack_rows(rt, packed.as_mut_slice(), frame, changed, parts);
         return Ok(());
     }
     packed.clear();
-    let whole = pack_whole(*packed.allocator(), frame)?;
+    let whole = pack_whole(rt, *packed.allocator(), frame, parts)?;
     *packed = whole;
     Ok(())
 }

@@ -50,7 +50,8 @@ impl Recorded {
 }
 
 // Writes what was entered since the last time.
-fn write_news<K: Sink>(
+fn write_news<R: Threads + Sync, K: Sink>(
+    rt: &R,
     recorder: &mut Recorder,
     single: &mut SingleThread,
     out: &mut K,
@@ -64,7 +65,7 @@ fn write_news<K: Sink>(
     single.core().is_legal();
     let from = single.written();
     let scenes = single.take_scenes();
-    recorder.write_entries(out, single.history(), from, scenes)
+    recorder.write_entries(rt, out, single.history(), from, scenes)
 }
 
 // Plays what an input brings, and writes it.
@@ -82,7 +83,7 @@ fn record_input<R: Threads + Sync, K: Sink>(
     ensures cause { WriteCause (K.faults out.old) (K.faults out.new) result }
 {
     match play_input(rt, single, input) {
-        Ok(()) => write_news(recorder, single, out),
+        Ok(()) => write_news(rt, recorder, single, out),
         Err(_) => Err(WriteStop::Memory),
     }
 }
@@ -125,7 +126,7 @@ fn record_end<R: Threads + Sync, K: Sink>(
     ensures cause { WriteCause (K.faults out.old) (K.faults out.new) result }
 {
     match end_run(rt, single) {
-        Ok(()) => write_news(recorder, single, out),
+        Ok(()) => write_news(rt, recorder, single, out),
         Err(_) => Err(WriteStop::Memory),
     }
 }
@@ -162,7 +163,7 @@ fn prepare(
     ensures lines { IfOk result (λ p. p.1.lines.items ≡ header (compact_text (parts_data script.now.value))) }
 {
     let text = print_script(alloc, script)?;
-    let recorder = Recorder::new(alloc, text.as_slice())?;
+    let recorder = Recorder::new(alloc, text.as_slice(), workers as usize)?;
     let single = SingleThread::new(alloc, Arc::try_clone(script)?, workers)?;
     Ok((single, recorder))
 }
@@ -220,8 +221,8 @@ fn record_with<R: Threads + Sync, K: Sink>(
 
 /// Plays an accepted script in lockstep with so many workers, and writes its recording as it is made: the two
 /// header lines, the line of each event, and the image of what it shows behind that of a draw. Where it stops
-/// early, the sink gained a front of it. Tiles that come next are made ahead, in as many threads as there are
-/// workers; the recording is the same for every number of them.
+/// early, the sink gained a front of it. Tiles that come next are made ahead and images are drawn in as many
+/// threads as there are workers; the recording is the same for every number of them.
 pub fn record_lockstep<R: Threads + Sync, K: Sink>(
     rt: &R,
     alloc: Global,

@@ -8,7 +8,8 @@ use crate::image::repack;
 use cc_painter::Painter;
 use cc_scene::Scene;
 use std::alloc::{AllocError, Global};
-use std::marker::Model;
+use std::marker::{Model, Sync};
+use std::thread::Threads;
 
 /// A painter, and the packed pixels of its frame. Only the rows that a drawing may have changed are packed
 /// again.
@@ -60,17 +61,30 @@ impl Pictures {
         &self.packed
     }
 
-    /// Makes the picture of a scene. An error is want of memory.
-    pub fn show(&mut self, scene: Scene) -> Result<(), AllocError>
+    /// Makes the picture of a scene, in so many parts at the most, each by a thread of its own where it can be
+    /// started. Where there is one part, none is started. An error is want of memory.
+    pub fn show<R: Threads + Sync>(
+        &mut self,
+        rt: &R,
+        scene: Scene,
+        parts: usize,
+    ) -> Result<(), AllocError>
         ensures shown { OnOk result (ShowsWhole scene self.new.frame) }
         ensures packed { OnOk result (IsPacked self.new.frame self.new.packed) }
     {
         let (w, h) = (self.w(), self.h());
-        if let Err(refused) = self.painter.paint(scene) {
+        if let Err(refused) = self.painter.paint_in_parts(rt, scene, parts) {
             self.packed.clear();
             return Err(refused);
         }
         let changed = self.painter.changed_rows();
-        repack(&mut self.packed, self.painter.frame(), changed, w, h)
+        repack(
+            rt,
+            &mut self.packed,
+            self.painter.frame(),
+            changed,
+            (w, h),
+            parts,
+        )
     }
 }

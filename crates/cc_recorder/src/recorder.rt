@@ -14,6 +14,8 @@ use cc_io::Sink;
 use cc_record::{push_event, push_image_head};
 use cc_scene::Scene;
 use std::alloc::{AllocError, Global};
+use std::marker::Sync;
+use std::thread::Threads;
 use std::vec::IntoIter;
 
 /// What is held between two pieces of a recording.
@@ -23,6 +25,8 @@ pub(crate) struct Recorder {
     pub(crate) lines: Vec<u8>,
     /// the picture of the last draw
     pictures: Pictures,
+    /// in how many parts a picture is made at the most
+    parts: usize,
 }
 
 // Whether the event shows a picture.
@@ -54,52 +58,64 @@ pub fn header_of(alloc: Global, script: &[u8]) -> Result<Vec<u8>, AllocError>
 }
 
 impl Recorder {
-    /// A recorder that holds the two lines before the events, the second of which is this text of a script. An
-    /// error is want of memory.
-    pub(crate) fn new(alloc: Global, script: &[u8]) -> Result<Recorder, AllocError>
+    /// A recorder that holds the two lines before the events, the second of which is this text of a script, and
+    /// makes each picture in so many parts at the most. An error is want of memory.
+    pub(crate) fn new(alloc: Global, script: &[u8], parts: usize) -> Result<Recorder, AllocError>
         ensures { IfOk result (λ recorder. recorder.lines.items ≡ header script.now) }
     {
         Ok(Recorder {
             lines: header_of(alloc, script)?,
             pictures: Pictures::new(alloc)?,
+            parts,
         })
     }
 
     // Makes the picture of a scene, and adds the head of its image to the lines.
-    fn draw(&mut self, scene: Scene) -> Result<(), AllocError>
+    fn draw<R: Threads + Sync>(&mut self, rt: &R, scene: Scene) -> Result<(), AllocError>
         ensures { OnOk result (self.new.lines.items ++ self.new.pictures.packed ≡ self.old.lines.items ++ scene_image scene) }
     {
-        self.pictures.show(scene)?;
+        self.pictures.show(rt, scene, self.parts)?;
         push_image_head(&mut self.lines, self.pictures.w(), self.pictures.h())
     }
 
     // Writes the image of a scene.
-    fn write_image<K: Sink>(&mut self, out: &mut K, scene: Scene) -> Result<(), WriteStop>
+    fn write_image<R: Threads + Sync, K: Sink>(
+        &mut self,
+        rt: &R,
+        out: &mut K,
+        scene: Scene,
+    ) -> Result<(), WriteStop>
         ensures bytes { WritesPart (K.held out.old) (K.held out.new) (self.old.lines.items ++ scene_image scene) self.new.lines.items result }
         ensures grows { K.faults out.old ≤ K.faults out.new }
         ensures cause { WriteCause (K.faults out.old) (K.faults out.new) result }
     {
-        match self.draw(scene) {
+        match self.draw(rt, scene) {
             Ok(()) => put_behind(out, &mut self.lines, self.pictures.packed()),
             Err(_) => Err(WriteStop::Memory),
         }
     }
 
     // Writes the image of a scene, if there is one.
-    fn write_shown<K: Sink>(&mut self, out: &mut K, scene: Option<Scene>) -> Result<(), WriteStop>
+    fn write_shown<R: Threads + Sync, K: Sink>(
+        &mut self,
+        rt: &R,
+        out: &mut K,
+        scene: Option<Scene>,
+    ) -> Result<(), WriteStop>
         ensures bytes { WritesPart (K.held out.old) (K.held out.new) (self.old.lines.items ++ image_if scene) self.new.lines.items result }
         ensures grows { K.faults out.old ≤ K.faults out.new }
         ensures cause { WriteCause (K.faults out.old) (K.faults out.new) result }
     {
         match scene {
-            Some(scene) => self.write_image(out, scene),
+            Some(scene) => self.write_image(rt, out, scene),
             None => flush_many(out, &mut self.lines),
         }
     }
 
     // Writes the line of an event, and behind that of a draw the image of the next scene.
-    fn write_event<K: Sink>(
+    fn write_event<R: Threads + Sync, K: Sink>(
         &mut self,
+        rt: &R,
         out: &mut K,
         event: &Event,
         scenes: &mut IntoIter<Scene, Global>,
@@ -112,15 +128,16 @@ impl Recorder {
         ensures cause { WriteCause (K.faults out.old) (K.faults out.new) result }
     {
         match push_event(&mut self.lines, event) {
-            Ok(()) => self.write_shown(out, next_scene(event, scenes)),
+            Ok(()) => self.write_shown(rt, out, next_scene(event, scenes)),
             Err(_) => Err(WriteStop::Memory),
         }
     }
 
     /// Writes the entries of a history from a place on. The scenes are those of the draws among them, the
     /// oldest first.
-    pub(crate) fn write_entries<K: Sink>(
+    pub(crate) fn write_entries<R: Threads + Sync, K: Sink>(
         &mut self,
+        rt: &R,
         out: &mut K,
         history: &History,
         from: usize,
@@ -135,7 +152,7 @@ impl Recorder {
             let Some(entry) = history.entry(at) else {
                 return Ok(());
             };
-            if let Err(stop) = self.write_event(out, &entry.event, &mut queue) {
+            if let Err(stop) = self.write_event(rt, out, &entry.event, &mut queue) {
                 return Err(stop);
             }
         }

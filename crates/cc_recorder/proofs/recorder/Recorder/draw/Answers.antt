@@ -8,7 +8,7 @@ use Rattle.cc_recorder.proofs.Shows.{drawn_image}
 use Rattle.cc_recorder.proofs.recorder.Recorder.draw.Goals as goal
 
 pub returns : goal.returns
-returns c =
+returns g c =
     let f : FrameView = c.show.new.self.frame in
     let packed : List ℕ = c.show.new.self.packed in
     let lines : List ℕ = c.args.self.now.lines.items in
