@@ -14,7 +14,9 @@ use cc_core::Core;
 use cc_io::Sink;
 use cc_lock::{Pass, TurnLock};
 use std::alloc::Global;
+use std::marker::Sync;
 use std::sync::Wait;
+use std::thread::Threads;
 
 /// The compositor: it plays the inputs, sends and takes the main frames, draws, and writes what it and the
 /// others enter.
@@ -28,8 +30,8 @@ pub struct CompActor<'a, K: Sink> {
 
 impl<'a, K: Sink> CompActor<'a, K> {
     /// The compositor with a pass of actor 0 that has entered nothing, and with the sink that takes the
-    /// recording behind its two header lines.
-    pub fn new(alloc: Global, pass: Pass<Core>, out: &'a mut K) -> CompActor<'a, K>
+    /// recording behind its two header lines. It makes each image in so many parts at the most.
+    pub fn new(alloc: Global, pass: Pass<Core>, out: &'a mut K, parts: usize) -> CompActor<'a, K>
         requires actor { pass.actor ≡ 0 }
         requires fresh { pass.mine ≡ [] }
         ensures pass { result.pass ≡ Some pass }
@@ -41,14 +43,14 @@ impl<'a, K: Sink> CompActor<'a, K> {
             pass: Some(pass),
             out,
             lines: Lines::new(alloc),
-            drawer: Drawer::new(alloc),
+            drawer: Drawer::new(alloc, parts),
         }
     }
 
     /// One turn: enters the first event of the compositor that may come, and after giving the turn up writes
     /// the lines of all entries that were not written, with the image behind the line of its own draw. It waits
     /// while another actor holds the turn.
-    pub fn turn<R: Wait>(&mut self, rt: &R, lock: &TurnLock<Core>) -> Turned
+    pub fn turn<R: Threads + Wait + Sync>(&mut self, rt: &R, lock: &TurnLock<Core>) -> Turned
         requires { Of self.old.pass (MayTurn lock.now.id self.old.lines.written) }
         ensures turn { CompTurns self.old.pass self.new.pass self.old.lines.written self.new.lines.written (K.held self.old.out.now) (K.held self.new.out.now) result }
         ensures over { KnowsEnd self.new.pass self.new.lines.over result }
@@ -62,6 +64,7 @@ impl<'a, K: Sink> CompActor<'a, K> {
         };
         let (pass, played) = hold(rt, lock, pass, &mut self.lines);
         let answer = write(
+            rt,
             self.out,
             &mut self.drawer,
             self.lines.text.as_slice(),

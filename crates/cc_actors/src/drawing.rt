@@ -7,6 +7,8 @@ use cc_record::push_image_head;
 use cc_recorder::Pictures;
 use cc_scene::Scene;
 use std::alloc::{AllocError, Global};
+use std::marker::Sync;
+use std::thread::Threads;
 
 /// Draws one scene after another, and has the head of the image of the last.
 #[derive(Drop)]
@@ -14,15 +16,18 @@ pub struct Drawer {
     alloc: Global,
     /// draws the scenes; None before the first
     pictures: Option<Pictures>,
+    /// in how many parts a scene is drawn at the most
+    pub(crate) parts: usize,
     pub(crate) head: Vec<u8>,
 }
 
 impl Drawer {
-    /// Nothing was drawn yet.
-    pub(crate) fn new(alloc: Global) -> Drawer {
+    /// Nothing was drawn yet; each scene is drawn in so many parts at the most.
+    pub(crate) fn new(alloc: Global, parts: usize) -> Drawer {
         Drawer {
             alloc,
             pictures: None,
+            parts,
             head: Vec::new(alloc),
         }
     }
@@ -41,15 +46,18 @@ impl Drawer {
     }
 }
 
-/// Makes the picture of a scene, and makes these bytes the head of its image. An error is want of memory.
-pub(crate) fn draw(
+/// Makes the picture of a scene in so many parts at the most, and makes these bytes the head of its image. An
+/// error is want of memory.
+pub(crate) fn draw<R: Threads + Sync>(
+    rt: &R,
     pictures: &mut Pictures,
     head: &mut Vec<u8>,
     scene: Scene,
+    parts: usize,
 ) -> Result<(), AllocError>
     ensures { OnOk result (head.new.items ++ pictures.new.packed ≡ scene_image scene) }
 {
-    pictures.show(scene)?;
+    pictures.show(rt, scene, parts)?;
     head.clear();
     push_image_head(head, pictures.w(), pictures.h())
 }

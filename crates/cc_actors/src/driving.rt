@@ -15,12 +15,14 @@ use cc_bell::Bell;
 use cc_core::Core;
 use cc_io::{Gate, Sink};
 use cc_lock::TurnLock;
+use std::marker::Sync;
 use std::sync::Wait;
+use std::thread::Threads;
 
 /// Turns of the compositor on the calling thread, until one answers `Ended`, `Memory` or `WriteFault`, which is
 /// the answer. The others take their turns on threads of their own. The compositor rings the bell where it has
 /// entered an event, and where it is blocked, it sleeps at the bell until another has.
-pub fn drive_compositor<R: Wait, K: Sink>(
+pub fn drive_compositor<R: Threads + Wait + Sync, K: Sink>(
     rt: &R,
     lock: &TurnLock<Core>,
     bell: &Bell,
@@ -95,7 +97,11 @@ pub fn drive_worker<R: Wait, G: Gate>(
 }
 
 // One turn of the compositor, and its answer where that is the last.
-fn step<R: Wait, K: Sink>(rt: &R, lock: &TurnLock<Core>, comp: &mut CompActor<K>) -> Option<Turned>
+fn step<R: Threads + Wait + Sync, K: Sink>(
+    rt: &R,
+    lock: &TurnLock<Core>,
+    comp: &mut CompActor<K>,
+) -> Option<Turned>
     requires { Of comp.old.pass (MayTurn lock.now.id comp.old.lines.written) }
     ensures turn { GoesOrEnds comp.old.pass comp.new.pass comp.old.lines.written comp.new.lines.written (K.held comp.old.out.now) (K.held comp.new.out.now) result }
     ensures grows { K.faults comp.old.out.now ≤ K.faults comp.new.out.now }
@@ -123,7 +129,7 @@ fn turn_workers<R: Wait, G: Gate>(rt: &R, lock: &TurnLock<Core>, workers: &mut [
 
 /// Turns of all actors on the calling thread, the compositor's first, until one of the compositor answers
 /// `Ended`, `Memory` or `WriteFault`, which is the answer.
-pub fn drive<R: Wait, K: Sink, G: Gate>(
+pub fn drive<R: Threads + Wait + Sync, K: Sink, G: Gate>(
     rt: &R,
     lock: &TurnLock<Core>,
     comp: &mut CompActor<K>,

@@ -12,6 +12,8 @@ use crate::turned::Turned;
 use cc_io::{PutFault, Sink};
 use cc_recorder::{Pictures, WriteStop};
 use cc_scene::Scene;
+use std::marker::Sync;
+use std::thread::Threads;
 
 // Puts a piece.
 fn put<K: Sink>(out: &mut K, piece: &[u8]) -> Result<(), WriteStop>
@@ -66,11 +68,13 @@ fn put_both<K: Sink>(out: &mut K, head: &[u8], pixels: &[u8]) -> Turned
 }
 
 // Draws a scene, and puts its image.
-fn put_picture<K: Sink>(
+fn put_picture<R: Threads + Sync, K: Sink>(
+    rt: &R,
     out: &mut K,
     pictures: &mut Pictures,
     head: &mut Vec<u8>,
     scene: Scene,
+    parts: usize,
 ) -> Turned
     ensures bytes { Wrote (K.held out.old) (K.held out.new) (scene_image scene) result }
     ensures answer { GoesOrGivesUp result }
@@ -78,14 +82,19 @@ fn put_picture<K: Sink>(
     ensures cause { FaultCause (K.faults out.old) (K.faults out.new) result }
     ensures place { K.place out.new ≡ K.place out.old }
 {
-    match draw(pictures, head, scene) {
+    match draw(rt, pictures, head, scene, parts) {
         Ok(()) => put_both(out, head.as_slice(), pictures.packed()),
         Err(_) => Turned::Memory,
     }
 }
 
 // The same, with the drawer's pictures.
-fn put_image<K: Sink>(out: &mut K, drawer: &mut Drawer, scene: Scene) -> Turned
+fn put_image<R: Threads + Sync, K: Sink>(
+    rt: &R,
+    out: &mut K,
+    drawer: &mut Drawer,
+    scene: Scene,
+) -> Turned
     ensures bytes { Wrote (K.held out.old) (K.held out.new) (scene_image scene) result }
     ensures answer { GoesOrGivesUp result }
     ensures grows { K.faults out.old ≤ K.faults out.new }
@@ -95,13 +104,19 @@ fn put_image<K: Sink>(out: &mut K, drawer: &mut Drawer, scene: Scene) -> Turned
     let Ok(mut pictures) = drawer.take_pictures() else {
         return Turned::Memory;
     };
-    let answer = put_picture(out, &mut pictures, &mut drawer.head, scene);
+    let parts = drawer.parts;
+    let answer = put_picture(rt, out, &mut pictures, &mut drawer.head, scene, parts);
     drawer.keep(pictures);
     answer
 }
 
 // Puts the image of what was drawn, if anything was, and answers for what was played.
-fn show<K: Sink>(out: &mut K, drawer: &mut Drawer, played: Played) -> Turned
+fn show<R: Threads + Sync, K: Sink>(
+    rt: &R,
+    out: &mut K,
+    drawer: &mut Drawer,
+    played: Played,
+) -> Turned
     ensures bytes { Wrote (K.held out.old) (K.held out.new) (image_in played) result }
     ensures answer { Answers played result }
     ensures grows { K.faults out.old ≤ K.faults out.new }
@@ -112,13 +127,19 @@ fn show<K: Sink>(out: &mut K, drawer: &mut Drawer, played: Played) -> Turned
         Played::Ended => Turned::Ended,
         Played::Blocked => Turned::Blocked,
         Played::Plain => Turned::Went,
-        Played::Shown(scene) => put_image(out, drawer, scene),
+        Played::Shown(scene) => put_image(rt, out, drawer, scene),
         Played::Memory => Turned::Memory,
     }
 }
 
 // Puts the lines, and then the image of what was drawn, if anything was, and answers for what was played.
-fn put_played<K: Sink>(out: &mut K, drawer: &mut Drawer, lines: &[u8], played: Played) -> Turned
+fn put_played<R: Threads + Sync, K: Sink>(
+    rt: &R,
+    out: &mut K,
+    drawer: &mut Drawer,
+    lines: &[u8],
+    played: Played,
+) -> Turned
     ensures bytes { Wrote (K.held out.old) (K.held out.new) (lines.now ++ image_in played) result }
     ensures answer { Answers played result }
     ensures grows { K.faults out.old ≤ K.faults out.new }
@@ -126,14 +147,15 @@ fn put_played<K: Sink>(out: &mut K, drawer: &mut Drawer, lines: &[u8], played: P
     ensures place { K.place out.new ≡ K.place out.old }
 {
     match put(out, lines) {
-        Ok(()) => show(out, drawer, played),
+        Ok(()) => show(rt, out, drawer, played),
         Err(stop) => refused(stop),
     }
 }
 
 /// Puts the lines, and then the image of what was drawn, if anything was, and answers for what was played.
 /// Where memory was refused before, nothing is put.
-pub(crate) fn write<K: Sink>(
+pub(crate) fn write<R: Threads + Sync, K: Sink>(
+    rt: &R,
     out: &mut K,
     drawer: &mut Drawer,
     lines: &[u8],
@@ -148,6 +170,6 @@ pub(crate) fn write<K: Sink>(
     if let Played::Memory = played {
         Turned::Memory
     } else {
-        put_played(out, drawer, lines, played)
+        put_played(rt, out, drawer, lines, played)
     }
 }

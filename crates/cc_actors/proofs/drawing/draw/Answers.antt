@@ -7,7 +7,7 @@ use Rattle.cc_actors.proofs.Gained.{ok_then}
 use Rattle.cc_actors.proofs.drawing.draw.Goals as goal
 
 pub returns : goal.returns
-returns c =
+returns g c =
     let f = c.show.new.self.frame in
     let packed : List ℕ = c.show.new.self.packed in
     let old : List ℕ = c.clear.new.self.items in
