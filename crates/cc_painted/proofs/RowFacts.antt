@@ -1,11 +1,11 @@
 -- What laying a layer over a row makes of each of its pixels.
-use Rattle.std.proofs.Common.{ℕ, ℤ, pos, ◌≡◌, ◌+◌, ◌-◌, ◌*◌, ◌<◌, ◌≤◌, ◌==◌, ◌+ℤ◌, ◌-ℤ◌, Bool, true, false, cond, List, refl, ap, sym, ◌∙◌, arith}
+use Rattle.std.proofs.Common.{ℕ, ℤ, pos, ◌≡◌, ◌+◌, ◌-◌, ◌*◌, ◌<◌, ◌≤◌, ◌+ℤ◌, ◌-ℤ◌, Bool, true, false, cond, List, refl, ap, sym, ◌∙◌, arith}
 use Rattle.std.proofs.lemmas.Int.{ints}
 use Rattle.std.proofs.lemmas.Bool.Decides.{nat_tests}
 use Rattle.cc_geom.specs.declared.rect.Point.{Point}
 use Rattle.cc_geom.specs.declared.rect.Rect.{Rect}
 use Rattle.cc_geom.specs.Covers.{covers}
-use Rattle.cc_pixel.specs.Colours.{Parts, blend, clear}
+use Rattle.cc_pixel.specs.Colours.{blend, clear}
 use Rattle.cc_pixel.specs.Rows.{pixel}
 use Rattle.cc_pixel.specs.Surfaces.{EachPixel, holds, within}
 use Rattle.cc_pixel.specs.declared.surface.Area.{Area}
@@ -15,26 +15,7 @@ use Rattle.cc_display.specs.Content.{content, IsRaster}
 use Rattle.cc_display.specs.Shared.{IsOutside, IsShared}
 use Rattle.cc_display.specs.declared.part.Part.{Part}
 use Rattle.cc_edit.specs.Paintings.{Placed, colour_there, shown}
-use Rattle.cc_event.proofs.BoolFacts.{same_number, other_number}
 use Rattle.cc_painted.specs.inner.Sheets.{patched}
-
--- one pixel of a row that gets a colour
-pub put_there : (k width : ℕ) (c : Parts) (old new : List ℕ) → k < width
-    → EachPixel width 1 (within (record { x = k; y = 0; w = 1; h = 1 }) 1 (λ x y below. c)) old new → pixel new k ≡ c
-put_there k width c old new lt each =
-    let same : 0 * width + k ≡ k = omega arith in
-    let here : holds (record { x = k; y = 0; w = 1; h = 1 }) k 0 ≡ true = grind (arith, nat_tests) in
-    ap (pixel new) (sym same) ∙ each k 0 lt (omega arith) ∙ ap (λ (b : Bool). cond b c (pixel old (0 * width + k))) here
-
-pub put_elsewhere : (k width : ℕ) (c : Parts) (old new : List ℕ) (j : ℕ) → j < width → (j ≡ k → ⊥)
-    → EachPixel width 1 (within (record { x = k; y = 0; w = 1; h = 1 }) 1 (λ x y below. c)) old new → pixel new j ≡ pixel old j
-put_elsewhere k width c old new j lt other each =
-    let same : 0 * width + j ≡ j = omega arith in
-    let not_here : holds (record { x = k; y = 0; w = 1; h = 1 }) j 0 ≡ false = elsewhere k j other in
-    ap (pixel new) (sym same) ∙ each j 0 lt (omega arith) ∙ ap (λ (b : Bool). cond b c (pixel old (0 * width + j))) not_here ∙ ap (pixel old) same
-  where
-    elsewhere : (k j : ℕ) → (j ≡ k → ⊥) → holds (record { x = k; y = 0; w = 1; h = 1 }) j 0 ≡ false
-    elsewhere k j other = grind (arith, nat_tests, other)
 
 -- what the items of a layer show in a row of it
 rastered : (l : Placed) (width : ℕ) (from : Point) (bytes : List ℕ) → IsRaster l.items (record { x = from.x; y = from.y; w = pos width; h = pos 1 }) bytes
@@ -110,19 +91,3 @@ laid tile l width y part from row columns new shared from-is each-column each x 
         ∙ ap (blend (pixel row x)) (each-column (x - part.at.x) inside
         ∙ ap (λ (q : Point). colour_there tile l (record { x = q.x +ℤ pos (x - part.at.x); y = q.y })) from-is
         ∙ ap (λ (z : ℤ). colour_there tile l (record { x = z; y = pos y -ℤ l.by.y })) across)
-
--- one pixel more is drawn
-pub one_drawn : (f : ℕ → Parts → Parts) (k width : ℕ) (old mid new : List ℕ) → k < width → pixel new k ≡ f k (pixel mid k)
-    → ((j : ℕ) → j < width → (j ≡ k → ⊥) → pixel new j ≡ pixel mid j)
-    → ((j : ℕ) → j < k → pixel mid j ≡ f j (pixel old j)) → ((j : ℕ) → j < width → k ≤ j → pixel mid j ≡ pixel old j)
-    → (j : ℕ) → j < k + 1 → pixel new j ≡ f j (pixel old j)
-one_drawn f k width old mid new inside here others before behind j lt = at_test (j == k) refl
-  where
-    at_test : (b : Bool) → (j == k) ≡ b → pixel new j ≡ f j (pixel old j)
-    at_test true is =
-        let same : j ≡ k = same_number j k is in
-        ap (pixel new) same ∙ here ∙ ap (f k) (behind k inside (omega arith)) ∙ ap (λ (n : ℕ). f n (pixel old n)) (sym same)
-    at_test false is =
-        let no = other_number j k is in
-        let less : j < k = omega (arith, lt, no) in
-        others j (omega (arith, less, inside)) (λ e. absurd (omega (arith, less, e))) ∙ before j less

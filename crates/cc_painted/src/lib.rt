@@ -6,6 +6,7 @@
 
 mod fronts;
 mod line;
+mod missing;
 mod picture;
 mod sheet;
 mod stack;

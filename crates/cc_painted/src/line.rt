@@ -1,67 +1,19 @@
 //! A layer laid over a row of the screen.
 
-ghost use Rattle.std.specs.Prelude.{◌≡◌, ◌≢◌, ◌≤◌, ◌<◌, ◌*◌, ◌^◌, ℕ, pos, neg_ℤ, ◌≤ℤ◌, ◌+ℤ◌, length};
+ghost use Rattle.std.specs.Prelude.{◌≡◌, ◌≤◌, ◌<◌, ◌*◌, ◌^◌, ℕ, pos, neg_ℤ, ◌≤ℤ◌, ◌+ℤ◌, length};
 ghost use Rattle.cc_geom.specs.Covers.{IsSound};
 ghost use Rattle.cc_pixel.specs.Colours.{blend};
 ghost use Rattle.cc_pixel.specs.Rows.{pixel, ArePremultiplied};
 ghost use Rattle.cc_tree.specs.Placement.{IsWithin, minus};
 ghost use Rattle.cc_display.specs.Shared.{IsShared};
-ghost use Rattle.cc_edit.specs.TreePainting.{place_at};
-ghost use Rattle.cc_edit.specs.Paintings.{has_place, colour_there};
-ghost use Rattle.cc_painted.specs.inner.Sheets.{patched, colour_in};
+ghost use Rattle.cc_edit.specs.Paintings.{colour_there};
+ghost use Rattle.cc_painted.specs.inner.Sheets.{colour_in};
 
+use crate::missing::draw_missing;
 use crate::sheet::Sheet;
 use cc_display::{Part, shared_part};
-use cc_geom::{Place, Point, Rect, TileKey};
-use cc_pixel::{Area, Colour, fill_area, image_over_area};
-
-// Whether one of the keys names this place.
-fn is_among(keys: &[TileKey], place: Place) -> bool
-    ensures { result ≡ has_place keys.now place }
-{
-    keys.iter().any(|key| key.x == place.x && key.y == place.y)
-}
-
-// The place of a point of a layer, in tiles of this size.
-fn place_of(tile: u32, x: i32, y: i32) -> Place
-    requires { 1 ≤ tile }
-    ensures { result ≡ place_at tile (record { x = x; y = y }) }
-{
-    Place {
-        x: x.unsigned_abs() / tile,
-        y: y.unsigned_abs() / tile,
-    }
-}
-
-// Gives pixel k of a row a colour.
-fn put_pixel(row: &mut [u8], width: usize, k: usize, colour: Colour)
-    requires size { length row.old ≡ 4 * width }
-    requires inside { k < width }
-    ensures there { pixel row.new k ≡ colour }
-    ensures others { (j : ℕ) → j < width → j ≢ k → pixel row.new j ≡ pixel row.old j }
-    ensures premultiplied { ArePremultiplied row.old → ArePremultiplied row.new }
-{
-    let at = Area {
-        x: k,
-        y: 0,
-        w: 1,
-        h: 1,
-    };
-    fill_area(row, width, 1, at, colour);
-}
-
-// The point `k` columns to the right of a point.
-fn right_of(from: Point, k: usize) -> Point
-    requires low { neg_ℤ (pos (2 ^ 29)) ≤ℤ from.x }
-    requires high { from.x ≤ℤ pos (2 ^ 29) }
-    requires near { k < 2048 }
-    ensures { result ≡ record { x = from.x +ℤ pos k; y = from.y } }
-{
-    Point {
-        x: from.x + k as i32,
-        y: from.y,
-    }
-}
+use cc_geom::{Point, Rect};
+use cc_pixel::image_over_area;
 
 // One row of points, from a point on.
 fn row_from(from: Point, width: usize) -> Rect
@@ -93,38 +45,6 @@ fn screen_row(width: usize, y: u32) -> Rect
         y: y as i32,
         w: width as i32,
         h: 1,
-    }
-}
-
-// Draws pixel k of a row of a layer, which is this point of it, where its tile is missing.
-fn draw_if_missing(sheet: &Sheet, tile: u32, at: Point, width: usize, k: usize, row: &mut [u8])
-    requires cut { 1 ≤ tile }
-    requires size { length row.old ≡ 4 * width }
-    requires inside { k < width }
-    ensures there { pixel row.new k ≡ patched tile sheet.now.placed at (pixel row.old k) }
-    ensures others { (j : ℕ) → j < width → j ≢ k → pixel row.new j ≡ pixel row.old j }
-    ensures premultiplied { ArePremultiplied row.old → ArePremultiplied row.new }
-{
-    if is_among(sheet.missing(), place_of(tile, at.x, at.y)) {
-        put_pixel(row, width, k, sheet.colour());
-    }
-}
-
-// Draws those pixels of a row of a layer, from this point of it on, that lie in its missing tiles.
-fn draw_missing(sheet: &Sheet, tile: u32, from: Point, width: usize, row: &mut [u8])
-    requires cut { 1 ≤ tile }
-    requires low { neg_ℤ (pos (2 ^ 29)) ≤ℤ from.x }
-    requires high { from.x ≤ℤ pos (2 ^ 29) }
-    requires few { width ≤ 2048 }
-    requires size { length row.old ≡ 4 * width }
-    ensures pixels { (k : ℕ) → k < width → pixel row.new k ≡ patched tile sheet.now.placed (record { x = from.x +ℤ pos k; y = from.y }) (pixel row.old k) }
-    ensures premultiplied { ArePremultiplied row.old → ArePremultiplied row.new }
-{
-    if sheet.missing().is_empty() {
-        return;
-    }
-    for k in 0..width {
-        draw_if_missing(sheet, tile, right_of(from, k), width, k, row);
     }
 }
 

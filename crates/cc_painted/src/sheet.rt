@@ -1,6 +1,8 @@
 //! Layers in their places on the screen, with the groups that they are blended in.
 
 ghost use Rattle.std.specs.Prelude.{◌≡◌, ◌≤◌, ◌<◌, ◌*◌, ◌==◌, ◌&&◌, ℤ, pos, filter, length, get_or, map, All, IfOk, IfSome, MatchOption};
+ghost use Rattle.std.specs.List.Sorted.{IsNonDecreasingBy};
+ghost use Rattle.cc_geom.specs.declared.tile.Place.{Place};
 ghost use Rattle.cc_geom.specs.Covers.{covers, IsSound};
 ghost use Rattle.cc_geom.specs.Gaps.{shifted};
 ghost use Rattle.cc_geom.specs.Sides.{IsSide};
@@ -8,7 +10,7 @@ ghost use Rattle.cc_tree.specs.OffsetMap.{offset_at, AreOffsets};
 ghost use Rattle.cc_tree.specs.Placement.{IsWithin};
 ghost use Rattle.cc_edit.specs.Layers.{parts_of};
 ghost use Rattle.cc_edit.specs.TreePainting.{colour_at, lets_through, groups_in, opacity_in};
-ghost use Rattle.cc_edit.specs.Paintings.{Shows};
+ghost use Rattle.cc_edit.specs.Paintings.{Shows, has_place};
 ghost use Rattle.cc_painted.specs.inner.Sheets.{effects_of, colour_in, ready, HaveOpacities, IsSheetOf};
 
 use cc_display::DisplayList;
@@ -30,7 +32,7 @@ pub(crate) struct Sheet {
     // what is drawn where a tile is missing
     colour: Colour,
     list: Arc<DisplayList>,
-    // the keys of its missing tiles
+    // the keys of its missing tiles, by rising row
     missing: Vec<TileKey>,
     // the effects below 255 that it lies in, the outermost first
     groups: Vec<Group>,
@@ -38,6 +40,7 @@ pub(crate) struct Sheet {
 
 impl Model for Sheet {
     ghost use Rattle.std.specs.Prelude.{◌*◌, ◌≤◌, length};
+    ghost use Rattle.std.specs.List.Sorted.{IsNonDecreasingBy};
     ghost use Rattle.cc_geom.specs.Covers.{IsSound};
     ghost use Rattle.cc_tree.specs.Placement.{IsWithin};
     ghost use Rattle.cc_painted.specs.inner.Sheets.{SheetModel};
@@ -46,7 +49,7 @@ impl Model for Sheet {
 
     ghost view = { λ s. record { placed = record { area = s.area; by = s.by; colour = s.colour; items = s.list.value; missing = s.missing.items }; groups = s.groups.items } };
 
-    ghost invariant = { λ s. IsSound s.area × IsWithin (256 * 1114112) s.by × (length s.groups.items ≤ 256) };
+    ghost invariant = { λ s. IsSound s.area × IsWithin (256 * 1114112) s.by × (length s.groups.items ≤ 256) × IsNonDecreasingBy (λ k. k.y) s.missing.items };
 }
 
 // The keys of a layer.
@@ -57,6 +60,26 @@ fn keys_of(alloc: Global, keys: &[TileKey], layer: u32) -> Result<Vec<TileKey>, 
         .filter(|key| key.layer == layer)
         .copied()
         .collect(alloc)
+}
+
+// The keys of a layer, by rising row.
+fn rows_of(alloc: Global, keys: &[TileKey], layer: u32) -> Result<Vec<TileKey>, AllocError>
+    ensures same { IfOk result (λ own. (place : Place) → has_place own.items place ≡ has_place (filter (λ k. k.layer == layer) keys.now) place) }
+    ensures rising { IfOk result (λ own. IsNonDecreasingBy (λ k. k.y) own.items) }
+{
+    let mut own = keys_of(alloc, keys, layer)?;
+    own.sort_unstable_by_key(|key| key.y);
+    Ok(own)
+}
+
+// The keys of one row, of keys by rising row.
+fn in_row(keys: &[TileKey], row: u32) -> &[TileKey]
+    requires { IsNonDecreasingBy (λ k. k.y) keys.now }
+    ensures { result.now ≡ filter (λ k. k.y == row) keys.now }
+{
+    let (_, rest) = keys.split_at(keys.partition_point(|key| key.y < row));
+    let (own, _) = rest.split_at(rest.partition_point(|key| key.y <= row));
+    own
 }
 
 // The bounds of a layer of this size, moved.
@@ -108,7 +131,7 @@ fn sheet_of(
     let by = props.translation(layer.transform, offsets);
     let clip = props.clip_of(layer.clip, offsets);
     let area = cut(moved_bounds(layer.w, layer.h, by), clip);
-    let own = keys_of(alloc, missing, layer.id)?;
+    let own = rows_of(alloc, missing, layer.id)?;
     let list = Arc::try_clone(&layer.list)?;
     Ok(Sheet {
         area,
@@ -187,11 +210,11 @@ impl Sheet {
         &self.list
     }
 
-    /// The keys of its missing tiles.
-    pub(crate) fn missing(&self) -> &[TileKey]
-        ensures { result.now ≡ self.now.placed.missing }
+    /// The keys of its missing tiles of this row: two searches among all of them.
+    pub(crate) fn missing_in(&self, row: u32) -> &[TileKey]
+        ensures { result.now ≡ filter (λ k. k.y == row) self.now.placed.missing }
     {
-        self.missing.as_slice()
+        in_row(self.missing.as_slice(), row)
     }
 
     /// The group that the layer lies in at a depth, where there is one.
