@@ -4,7 +4,6 @@ pub mod TileSteps
 pub mod MainSteps
 pub mod HostFacts
 pub mod EmptyTrees
-pub mod EventFacts
 pub mod DueEvents
 pub mod StateFacts
 pub mod ShownPages

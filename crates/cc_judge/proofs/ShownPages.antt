@@ -1,6 +1,5 @@
 -- The page that is shown, and the offsets of its scrollers.
-use Rattle.std.proofs.Common.{◌≡◌, ℕ, List, Option, Some, None, refl, sym, ◌∙◌, ap}
-use Rattle.std.specs.Prelude.{option_copied}
+use Rattle.std.proofs.Common.{◌≡◌, ℕ, List, Option, Some, None, refl, ◌∙◌, ap}
 use Rattle.cc_geom.specs.declared.rect.Point.{Point}
 use Rattle.cc_tree.specs.OffsetMap.{offset_at}
 use Rattle.cc_edit.specs.Pages.{Page}

@@ -30,12 +30,10 @@ use Rattle.cc_judge.specs.declared.main_side.MainSide.{MainSide}
 use Rattle.cc_judge.specs.inner.Tiles.{Holds, HaveSameKeys}
 use Rattle.cc_judge.specs.inner.Mains.{IsMain}
 use Rattle.cc_judge.specs.inner.States.{Keeps, entry, is_quiet, IsState, IsReadyFor, HasKind, needs_queue}
-use Rattle.cc_judge.specs.inner.SameEvents.{same_event}
 use Rattle.cc_judge.specs.declared.state.State.{State}
 use Rattle.cc_event.proofs.BoolFacts.{not_both, and_both}
 use Rattle.cc_log.specs.Runs.{Run, past, with_entry, new_run}
 use Rattle.cc_log.proofs.LogSteps.{past_more}
-use Rattle.cc_judge.proofs.EventFacts.{event_itself}
 use Rattle.cc_judge.proofs.MainSteps.{main_stays}
 pub use Rattle.cc_judge.proofs.HostFacts.{on_ok}
 
@@ -147,11 +145,11 @@ none_comes s n h e none x = apart (none ∙ next_can s n h e x)
     apart : {X : Type 0} {y : X} → None ≡ Some y → ⊥
     apart p = absurd cc
 
-pub other_comes : (s : ScriptModel) (n : ℕ) (h : List Entry) (e : Entry) (x : Event) → Some x ≡ can s h (kind_of e.event) e.actor → same_event x e.event ≡ false → Next s n h e → ⊥
-other_comes s n h e x is f next =
+pub other_comes : (s : ScriptModel) (n : ℕ) (h : List Entry) (e : Entry) (x : Event) → Some x ≡ can s h (kind_of e.event) e.actor → (x ≡ e.event → ⊥) → Next s n h e → ⊥
+other_comes s n h e x is other next =
     let some : Some x ≡ Some e.event = is ∙ next_can s n h e next in
     let same : x ≡ e.event = cc in
-    not_both (same_event x x) (event_itself x) (ap (same_event x) same ∙ f)
+    other same
 
 pub has_kind : (n a : ℕ) (e : Event) → a ≡ actor_of e → a < 2 + n → HasKind n (kind_of e) a
 has_kind n a (event.Ready k) own within = own

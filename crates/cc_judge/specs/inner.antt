@@ -1,5 +1,4 @@
 pub mod Tiles
 pub mod Mains
 pub mod Hosts
-pub mod SameEvents
 pub mod States

@@ -20,4 +20,5 @@ mod steps;
 mod tile_keys;
 
 pub use judge::Judge;
+pub use same_events::same_event;
 pub use shown::Shown;

@@ -1,370 +1,264 @@
 //! Whether two events are one.
 
-ghost use Rattle.std.specs.Prelude.{◌≡◌, ◌==◌, ◌&&◌};
-ghost use Rattle.std.specs.Ordering.{int_eq};
-ghost use Rattle.cc_geom.specs.KeyLists as key_lists;
-ghost use Rattle.cc_judge.specs.inner.SameEvents as spec;
+ghost use Rattle.std.specs.Prelude.{◌≡◌};
+ghost use Rattle.std.specs.Bool.{Decides};
+ghost use Rattle.cc_event.specs.declared.event.Event.TheVariants as kind;
 
 use cc_edit::Move;
-use cc_event::Event;
-use cc_geom::{Point, TileKey};
+use cc_event::{Event, Moves};
+use cc_geom::{Keys, TileKey};
 
-// Whether two numbers of pixels are one.
-fn same_pixels(a: i64, b: i64) -> bool
-    ensures { result ≡ int_eq a b }
+// Whether two lists have the same keys in the same order.
+fn same_keys(keys: &[TileKey], others: &[TileKey]) -> bool
+    ensures { Decides result (keys.now ≡ others.now) }
 {
-    a == b
-}
-
-// Whether two numbers of pixels along a screen are one.
-fn same_amount(a: i32, b: i32) -> bool
-    ensures { result ≡ int_eq a b }
-{
-    a == b
-}
-
-// Whether two moves are equally long.
-fn same_steps(a: &Move, b: &Move) -> bool
-    ensures { result ≡ spec.same_pair a.now.dx a.now.dy b.now.dx b.now.dy }
-{
-    same_pixels(a.dx, b.dx) && same_pixels(a.dy, b.dy)
-}
-
-// Whether two points are one.
-fn same_point(a: Point, b: Point) -> bool
-    ensures { result ≡ spec.same_pair a.x a.y b.x b.y }
-{
-    same_amount(a.x, b.x) && same_amount(a.y, b.y)
-}
-
-// Whether two moves are one.
-fn same_move(a: &Move, b: &Move) -> bool
-    ensures { result ≡ spec.same_move a.now b.now }
-{
-    let steps = same_steps(a, b);
-    a.scroller == b.scroller && steps
+    let mut rest = keys;
+    let mut left = others;
+    while let Some((key, more)) = rest.split_first() {
+        match left.split_first() {
+            Some((other, after)) if *key == *other => {
+                rest = more;
+                left = after;
+            }
+            _ => return false,
+        }
+    }
+    left.is_empty()
 }
 
 // Whether two lists have the same moves in the same order.
-fn same_moves(a: &[Move], b: &[Move]) -> bool
-    ensures { result ≡ spec.same_moves a.now b.now }
+fn same_moves(moves: &[Move], others: &[Move]) -> bool
+    ensures { Decides result (moves.now ≡ others.now) }
 {
-    let mut rest = a;
-    let mut left = b;
-    while let Some((one, more)) = rest.split_first() {
+    let mut rest = moves;
+    let mut left = others;
+    while let Some((step, more)) = rest.split_first() {
         match left.split_first() {
-            Some((other, after)) => {
-                if !same_move(one, other) {
-                    return false;
-                }
+            Some((other, after)) if *step == *other => {
                 rest = more;
                 left = after;
             }
-            None => return false,
+            _ => return false,
         }
     }
     left.is_empty()
 }
 
-// Whether two keys are one.
-fn same_key(a: TileKey, b: TileKey) -> bool
-    ensures { result ≡ key_lists.same_key a b }
+// Whether an event is a begin for this input.
+fn is_begin(event: &Event, input: u32) -> bool
+    ensures { Decides result (kind.Begin input ≡ event.now) }
 {
-    let row = a.layer == b.layer && a.x == b.x;
-    row && a.y == b.y && a.stamp == b.stamp
+    match event {
+        Event::Begin { input: other_input } => input == *other_input,
+        _ => false,
+    }
 }
 
-// Whether two lists have the same keys in the same order.
-fn same_keys(a: &[TileKey], b: &[TileKey]) -> bool
-    ensures { result ≡ spec.same_keys a.now b.now }
+// Whether an event is a send of this frame with these pulls.
+fn is_send(event: &Event, frame: u32, pulls: &Moves) -> bool
+    ensures { Decides result (kind.Send frame pulls.now ≡ event.now) }
 {
-    let mut rest = a;
-    let mut left = b;
-    while let Some((one, more)) = rest.split_first() {
-        match left.split_first() {
-            Some((other, after)) => {
-                if !same_key(*one, *other) {
-                    return false;
-                }
-                rest = more;
-                left = after;
-            }
-            None => return false,
+    match event {
+        Event::Send {
+            frame: other_frame,
+            pulls: other_pulls,
+        } => frame == *other_frame && same_moves(pulls.as_slice(), other_pulls.as_slice()),
+        _ => false,
+    }
+}
+
+// Whether an event is a ready of this frame.
+fn is_ready(event: &Event, frame: u32) -> bool
+    ensures { Decides result (kind.Ready frame ≡ event.now) }
+{
+    match event {
+        Event::Ready { frame: other_frame } => frame == *other_frame,
+        _ => false,
+    }
+}
+
+// Whether an event is an abort of this frame.
+fn is_abort(event: &Event, frame: u32) -> bool
+    ensures { Decides result (kind.Abort frame ≡ event.now) }
+{
+    match event {
+        Event::Abort { frame: other_frame } => frame == *other_frame,
+        _ => false,
+    }
+}
+
+// Whether an event is a commit of this frame.
+fn is_commit(event: &Event, frame: u32) -> bool
+    ensures { Decides result (kind.Commit frame ≡ event.now) }
+{
+    match event {
+        Event::Commit { frame: other_frame } => frame == *other_frame,
+        _ => false,
+    }
+}
+
+// Whether an event is an activation of this frame with these moves.
+fn is_activate(event: &Event, frame: u32, clamps: &Moves) -> bool
+    ensures { Decides result (kind.Activate frame clamps.now ≡ event.now) }
+{
+    match event {
+        Event::Activate {
+            frame: other_frame,
+            clamps: other_clamps,
+        } => frame == *other_frame && same_moves(clamps.as_slice(), other_clamps.as_slice()),
+        _ => false,
+    }
+}
+
+// Whether an event is a scroll by so much.
+fn is_scroll(event: &Event, input: u32, dx: i32, dy: i32) -> bool
+    ensures { Decides result (kind.Scroll input dx dy ≡ event.now) }
+{
+    match event {
+        Event::Scroll {
+            input: other_input,
+            dx: other_dx,
+            dy: other_dy,
+        } => input == *other_input && dx == *other_dx && dy == *other_dy,
+        _ => false,
+    }
+}
+
+// Whether an event is a wheel at this target, of which this is left and these are the parts.
+fn is_wheel(event: &Event, input: u32, target: u32, rest: (i32, i32), parts: &Moves) -> bool
+    ensures { Decides result (kind.Wheel input target rest.0 rest.1 parts.now ≡ event.now) }
+{
+    match event {
+        Event::Wheel {
+            input: for_input,
+            target: layer,
+            rest_x,
+            rest_y,
+            moves,
+        } => {
+            let place = *for_input == input && *layer == target;
+            let left = *rest_x == rest.0 && *rest_y == rest.1;
+            place && left && same_moves(parts.as_slice(), moves.as_slice())
         }
-    }
-    left.is_empty()
-}
-
-// Whether an event is the beginning of an impl frame for this draw.
-fn is_begin(event: &Event, number: u32) -> bool
-    ensures { result ≡ spec.is_begin number event.now }
-{
-    match event {
-        Event::Begin { input } => number == *input,
         _ => false,
     }
 }
 
-// Whether an event is the `Ready` of this frame.
-fn is_ready(event: &Event, number: u32) -> bool
-    ensures { result ≡ spec.is_ready number event.now }
+// Whether an event is a start of this tile.
+fn is_start(event: &Event, worker: u32, key: TileKey, evicted: &Keys) -> bool
+    ensures { Decides result (kind.Start worker key evicted.now ≡ event.now) }
 {
     match event {
-        Event::Ready { frame } => number == *frame,
+        Event::Start {
+            worker: other_worker,
+            key: other_key,
+            evicted: other_evicted,
+        } => worker == *other_worker
+            && key == *other_key
+            && same_keys(evicted.as_slice(), other_evicted.as_slice()),
         _ => false,
     }
 }
 
-// Whether an event is the `Abort` of this frame.
-fn is_abort(event: &Event, number: u32) -> bool
-    ensures { result ≡ spec.is_abort number event.now }
+// Whether an event is the end of this tile.
+fn is_done(event: &Event, worker: u32, key: TileKey) -> bool
+    ensures { Decides result (kind.DoneTile worker key ≡ event.now) }
 {
     match event {
-        Event::Abort { frame } => number == *frame,
+        Event::DoneTile {
+            worker: other_worker,
+            key: other_key,
+        } => worker == *other_worker && key == *other_key,
         _ => false,
     }
 }
 
-// Whether an event is the `Commit` of this frame.
-fn is_commit(event: &Event, number: u32) -> bool
-    ensures { result ≡ spec.is_commit number event.now }
+// Whether an event is a draw without these tiles.
+fn is_draw(event: &Event, input: u32, missing: &Keys) -> bool
+    ensures { Decides result (kind.Draw input missing.now ≡ event.now) }
 {
     match event {
-        Event::Commit { frame } => number == *frame,
+        Event::Draw {
+            input: other_input,
+            missing: other_missing,
+        } => input == *other_input && same_keys(missing.as_slice(), other_missing.as_slice()),
         _ => false,
     }
 }
 
-// Whether an event is the skip of this draw.
-fn is_skip(event: &Event, number: u32) -> bool
-    ensures { result ≡ spec.is_skip number event.now }
+// Whether an event is a skip for this input.
+fn is_skip(event: &Event, input: u32) -> bool
+    ensures { Decides result (kind.Skip input ≡ event.now) }
 {
     match event {
-        Event::Skip { input } => number == *input,
+        Event::Skip { input: other_input } => input == *other_input,
         _ => false,
     }
 }
 
 // Whether an event is the end of this await.
-fn is_await(event: &Event, number: u32) -> bool
-    ensures { result ≡ spec.is_await number event.now }
+fn is_await(event: &Event, input: u32) -> bool
+    ensures { Decides result (kind.Await input ≡ event.now) }
 {
     match event {
-        Event::Await { input } => number == *input,
+        Event::Await { input: other_input } => input == *other_input,
         _ => false,
     }
 }
 
 // Whether an event is the end of this settle.
-fn is_settle(event: &Event, number: u32) -> bool
-    ensures { result ≡ spec.is_settle number event.now }
+fn is_settle(event: &Event, input: u32) -> bool
+    ensures { Decides result (kind.Settle input ≡ event.now) }
 {
     match event {
-        Event::Settle { input } => number == *input,
+        Event::Settle { input: other_input } => input == *other_input,
         _ => false,
     }
 }
 
-// Whether an event is the stop of this actor.
-fn is_stop(event: &Event, number: u32) -> bool
-    ensures { result ≡ spec.is_stop number event.now }
+// Whether an event is a stop of this actor.
+fn is_stop(event: &Event, actor: u32) -> bool
+    ensures { Decides result (kind.Stop actor ≡ event.now) }
 {
     match event {
-        Event::Stop { actor } => number == *actor,
+        Event::Stop { actor: other_actor } => actor == *other_actor,
         _ => false,
     }
 }
 
-// Whether an event is a plain beginning.
-fn is_begin_plain(event: &Event) -> bool
-    ensures { result ≡ spec.is_begin_plain event.now }
+/// Whether two events are one.
+pub fn same_event(one: &Event, other: &Event) -> bool
+    ensures { Decides result (one.now ≡ other.now) }
 {
-    match event {
-        Event::BeginPlain => true,
-        _ => false,
-    }
-}
-
-// Whether an event is one that drew nothing.
-fn is_no_draw(event: &Event) -> bool
-    ensures { result ≡ spec.is_no_draw event.now }
-{
-    match event {
-        Event::NoDraw => true,
-        _ => false,
-    }
-}
-
-// Whether an event is the end of an impl frame.
-fn is_finish(event: &Event) -> bool
-    ensures { result ≡ spec.is_finish event.now }
-{
-    match event {
-        Event::Finish => true,
-        _ => false,
-    }
-}
-
-// Whether an event is the end of the run.
-fn is_end(event: &Event) -> bool
-    ensures { result ≡ spec.is_end event.now }
-{
-    match event {
-        Event::End => true,
-        _ => false,
-    }
-}
-
-// Whether an event is the `Send` of this frame with these pulls.
-fn is_send(event: &Event, number: u32, moves: &[Move]) -> bool
-    ensures { result ≡ spec.is_send number moves.now event.now }
-{
-    match event {
-        Event::Send { frame, pulls } => {
-            let same = same_moves(moves, pulls.as_slice());
-            number == *frame && same
-        }
-        _ => false,
-    }
-}
-
-// Whether an event is the `Activate` of this frame with these moves.
-fn is_activate(event: &Event, number: u32, moves: &[Move]) -> bool
-    ensures { result ≡ spec.is_activate number moves.now event.now }
-{
-    match event {
-        Event::Activate { frame, clamps } => {
-            let same = same_moves(moves, clamps.as_slice());
-            number == *frame && same
-        }
-        _ => false,
-    }
-}
-
-// Whether an event is this scroll.
-fn is_scroll(event: &Event, number: u32, by: Point) -> bool
-    ensures { result ≡ spec.is_scroll number by.x by.y event.now }
-{
-    match event {
-        Event::Scroll { input, dx, dy } => {
-            let same = same_point(by, Point { x: *dx, y: *dy });
-            number == *input && same
-        }
-        _ => false,
-    }
-}
-
-// Whether an event is the start of this key by this worker, for which these are given up.
-fn is_start(event: &Event, number: u32, tile: TileKey, gone: &[TileKey]) -> bool
-    ensures { result ≡ spec.is_start number tile gone.now event.now }
-{
-    match event {
-        Event::Start {
-            worker,
-            key,
-            evicted,
-        } => {
-            let one = same_key(tile, *key);
-            let same = same_keys(gone, evicted.as_slice());
-            number == *worker && one && same
-        }
-        _ => false,
-    }
-}
-
-// Whether an event is the end of this key by this worker.
-fn is_done(event: &Event, number: u32, tile: TileKey) -> bool
-    ensures { result ≡ spec.is_done number tile event.now }
-{
-    match event {
-        Event::DoneTile { worker, key } => {
-            let one = same_key(tile, *key);
-            number == *worker && one
-        }
-        _ => false,
-    }
-}
-
-// Whether an event is this draw with these missing tiles.
-fn is_draw(event: &Event, number: u32, keys: &[TileKey]) -> bool
-    ensures { result ≡ spec.is_draw number keys.now event.now }
-{
-    match event {
-        Event::Draw { input, missing } => {
-            let same = same_keys(keys, missing.as_slice());
-            number == *input && same
-        }
-        _ => false,
-    }
-}
-
-// Whether an event is this wheel, which hits this layer, leaves this rest and moves scrollers so.
-fn is_wheel(event: &Event, number: u32, layer: u32, left: Point, turned: &[Move]) -> bool
-    ensures { result ≡ spec.is_wheel number layer left.x left.y turned.now event.now }
-{
-    match event {
-        Event::Wheel {
-            input,
-            target,
-            rest_x,
-            rest_y,
-            moves,
-        } => {
-            let place = number == *input && layer == *target;
-            let rest = same_point(
-                left,
-                Point {
-                    x: *rest_x,
-                    y: *rest_y,
-                },
-            );
-            let same = same_moves(turned, moves.as_slice());
-            let all = rest && same;
-            place && all
-        }
-        _ => false,
-    }
-}
-
-/// Whether an event is the other.
-pub(crate) fn same_event(event: &Event, other: &Event) -> bool
-    ensures { result ≡ spec.same_event event.now other.now }
-{
-    match event {
+    match one {
         Event::Begin { input } => is_begin(other, *input),
-        Event::BeginPlain => is_begin_plain(other),
-        Event::Send { frame, pulls } => is_send(other, *frame, pulls.as_slice()),
+        Event::BeginPlain => matches!(other, Event::BeginPlain),
+        Event::Send { frame, pulls } => is_send(other, *frame, pulls),
         Event::Ready { frame } => is_ready(other, *frame),
         Event::Abort { frame } => is_abort(other, *frame),
         Event::Commit { frame } => is_commit(other, *frame),
-        Event::Activate { frame, clamps } => is_activate(other, *frame, clamps.as_slice()),
-        Event::Scroll { input, dx, dy } => is_scroll(other, *input, Point { x: *dx, y: *dy }),
+        Event::Activate { frame, clamps } => is_activate(other, *frame, clamps),
+        Event::Scroll { input, dx, dy } => is_scroll(other, *input, *dx, *dy),
         Event::Wheel {
             input,
             target,
             rest_x,
             rest_y,
             moves,
-        } => {
-            let left = Point {
-                x: *rest_x,
-                y: *rest_y,
-            };
-            is_wheel(other, *input, *target, left, moves.as_slice())
-        }
+        } => is_wheel(other, *input, *target, (*rest_x, *rest_y), moves),
         Event::Start {
             worker,
             key,
             evicted,
-        } => is_start(other, *worker, *key, evicted.as_slice()),
+        } => is_start(other, *worker, *key, evicted),
         Event::DoneTile { worker, key } => is_done(other, *worker, *key),
-        Event::Draw { input, missing } => is_draw(other, *input, missing.as_slice()),
+        Event::Draw { input, missing } => is_draw(other, *input, missing),
         Event::Skip { input } => is_skip(other, *input),
-        Event::NoDraw => is_no_draw(other),
-        Event::Finish => is_finish(other),
+        Event::NoDraw => matches!(other, Event::NoDraw),
+        Event::Finish => matches!(other, Event::Finish),
         Event::Await { input } => is_await(other, *input),
         Event::Settle { input } => is_settle(other, *input),
-        Event::End => is_end(other),
+        Event::End => matches!(other, Event::End),
         Event::Stop { actor } => is_stop(other, *actor),
     }
 }

@@ -1,10 +1,12 @@
--- What is left of both lists is the same where the lists are.
+-- What is left of both lists is the same exactly where the lists are.
 use Rattle.std.proofs.Common.{◌≡◌, length}
-use Rattle.cc_judge.specs.inner.SameEvents.{same_keys}
 use Rattle.cc_judge.proofs.same_events.same_keys.Given as goal
 
-abbrev pub invariant-loop-one : goal.invariant-loop-one
-invariant-loop-one l = same_keys l.rest l.left ≡ same_keys l.a l.b
+abbrev pub invariant-loop-key : goal.invariant-loop-key
+invariant-loop-key l = record {
+  back : l.rest ≡ l.left → l.keys ≡ l.others;
+  forth : l.keys ≡ l.others → l.rest ≡ l.left;
+}
 
-abbrev pub decreases-loop-one : goal.decreases-loop-one
-decreases-loop-one l = length l.rest
+abbrev pub decreases-loop-key : goal.decreases-loop-key
+decreases-loop-key l = length l.rest

@@ -1,10 +1,12 @@
--- What is left of both lists is the same where the lists are.
+-- What is left of both lists is the same exactly where the lists are.
 use Rattle.std.proofs.Common.{◌≡◌, length}
-use Rattle.cc_judge.specs.inner.SameEvents.{same_moves}
 use Rattle.cc_judge.proofs.same_events.same_moves.Given as goal
 
-abbrev pub invariant-loop-one : goal.invariant-loop-one
-invariant-loop-one l = same_moves l.rest l.left ≡ same_moves l.a l.b
+abbrev pub invariant-loop-step : goal.invariant-loop-step
+invariant-loop-step l = record {
+  back : l.rest ≡ l.left → l.moves ≡ l.others;
+  forth : l.moves ≡ l.others → l.rest ≡ l.left;
+}
 
-abbrev pub decreases-loop-one : goal.decreases-loop-one
-decreases-loop-one l = length l.rest
+abbrev pub decreases-loop-step : goal.decreases-loop-step
+decreases-loop-step l = length l.rest

@@ -4,7 +4,6 @@ use Rattle.cc_event.specs.declared.event.Event.{Event}
 use Rattle.cc_event.specs.EventFields.{kind_of, actor_of}
 use Rattle.cc_log.specs.Runs.{past, now, with_entry}
 use Rattle.cc_log.proofs.LogSteps.{next_is}
-use Rattle.cc_judge.proofs.EventFacts.{one_event}
 use Rattle.cc_judge.proofs.StateFacts.{other_comes}
 use Rattle.cc_judge.proofs.state.State.enter_event.Goals as goal
 
@@ -13,7 +12,7 @@ follow-requires c =
     let r = c.args.self.now.log in
     let e = c.args.entry.now.event in
     let a = c.args.entry.now.actor in
-    let same : c.args.event ≡ e = one_event c.args.event e (sym c.same_event-same.ensures ∙ c.if-same.true) in
+    let same : c.args.event ≡ e = c.same_event-same.ensures.0 c.if-same.true in
     record {
       state = c.requires.state;
       is_now = subst (λ (z : Event). now r (kind_of z) a ≡ Some c.args.event) (sym same) (sym c.requires.due);
@@ -26,10 +25,10 @@ returns-in_ok-follow-clause-enters c =
     let r = c.args.self.now.log in
     let e = c.args.entry.now.event in
     let a = c.args.entry.now.actor in
-    let same : c.args.event ≡ e = one_event c.args.event e (sym c.same_event-same.ensures ∙ c.if-same.true) in
+    let same : c.args.event ≡ e = c.same_event-same.ensures.0 c.if-same.true in
     (next_is r.script r.workers (past r) a e (sym c.requires.due ∙ ap Some same) c.requires.actor c.requires.within, c.in_ok-follow.ensures.log ∙ ap (with_entry r a) same)
 
 pub returns-else-same-clause-enters : goal.returns-else-same-clause-enters
 returns-else-same-clause-enters c =
     let r = c.args.self.now.log in
-    (λ x. other_comes r.script r.workers (past r) c.args.entry.now c.args.event c.requires.due (sym c.same_event-same.ensures ∙ c.if-same.false) x, refl)
+    (λ x. other_comes r.script r.workers (past r) c.args.entry.now c.args.event c.requires.due (λ same. absurd (cc (c.same_event-same.ensures.1 same, c.if-same.false))) x, refl)
