@@ -1,8 +1,8 @@
 -- Which entries a run takes, and where a walk stops.
-use Rattle.std.proofs.Common.{ℕ, zero, suc, ◌+◌, ◌<◌, ◌≡◌, Bool, true, false, cond, not, ◌&&◌, Some, None, List, [], ◌∷◌, ◌++◌, length, get_or, take, drop, refl, ap, sym, ◌∙◌, subst, arith, append_assoc, drop-cons, take-append-drop}
-use Rattle.std.specs.Prelude.{Option, slice_get, reverse}
+use Rattle.std.proofs.Common.{ℕ, zero, suc, ◌+◌, ◌<◌, ◌≡◌, Bool, true, false, cond, not, ◌&&◌, Some, None, List, [], ◌∷◌, ◌++◌, length, get_or, take, drop, refl, ap, sym, ◌∙◌, subst, arith, drop-cons, take-append-drop}
+use Rattle.std.specs.Prelude.{Option, slice_get}
 use Rattle.std.specs.Bool.{Decides}
-use Rattle.std.proofs.lemmas.List.{length-take-le, take_at}
+use Rattle.std.proofs.lemmas.List.{length-take-le}
 use Rattle.cc_event.specs.declared.event.Event.{Event}
 use Rattle.cc_event.specs.declared.event.Event.TheVariants as event
 use Rattle.cc_event.specs.declared.history.Entry.{Entry}
@@ -10,9 +10,10 @@ use Rattle.cc_event.specs.EventFields.{kind_of, actor_of}
 use Rattle.cc_event.specs.Scans.{has_ended}
 use Rattle.cc_event.specs.Scripts.{ScriptModel}
 use Rattle.cc_event.specs.Due.{due}
-use Rattle.cc_event.specs.Legal.{sched, is_open, can, Next, Legal, IsLegal}
-use Rattle.cc_log.specs.Runs.{Run, past, now, with_entry, Entered}
+use Rattle.cc_event.specs.Legal.{is_open, can, Next, Legal}
+use Rattle.cc_log.specs.Runs.{Run, past, with_entry, Entered}
 use Rattle.cc_single.specs.Singles.{HasKind}
+use Rattle.cc_judge.specs.Judging.{Enters}
 use Rattle.cc_walks.specs.Walks.{StopsAt, Takes}
 
 -- ---- an entry that may come
@@ -83,6 +84,11 @@ taken old new e true entered tells =
 taken old new e false entered tells = λ next.
     let same : entered.event ≡ e.event = cc (next_now old.script old.workers (past old) e next, entered.is_now) in
     absurd (cc ((tells old.entries (record { actor = e.actor; event = entered.event }) (ap (λ (r : Run). r.entries) entered.is_entered)).1 same))
+
+-- what a judge says of an entry tells whether the entry may come
+pub judged : (old new : Run) (e : Entry) (b : Bool) → Enters old e new b → Takes old e new b
+judged old new e true enters = enters.1
+judged old new e false enters = enters.0
 
 -- ---- where a walk stops
 

@@ -1,19 +1,10 @@
 //! The entries of a history's lines, and lines that are changed.
 
 use crate::fault::LineFault;
-use cc_event::{Entry, Event};
+use cc_event::Entry;
+use cc_parts::entry_of;
 use cc_record::read_event;
 use std::alloc::{AllocError, Global};
-
-/// The actor whose event it is.
-fn actor_of(event: &Event) -> u32 {
-    match event {
-        Event::Ready { .. } | Event::Abort { .. } => 1,
-        Event::Start { worker, .. } | Event::DoneTile { worker, .. } => worker.saturating_add(2),
-        Event::Stop { actor } => *actor,
-        _ => 0,
-    }
-}
 
 /// The entries of lines, each by the actor whose event it is.
 pub fn entries(alloc: Global, lines: &str) -> Result<Vec<Entry>, LineFault> {
@@ -21,11 +12,7 @@ pub fn entries(alloc: Global, lines: &str) -> Result<Vec<Entry>, LineFault> {
     for line in lines.split("; ") {
         let line = format!(in alloc; "{line}\n")?;
         let event = read_event(alloc, line.as_bytes())?.ok_or(LineFault::NoEvent)?;
-        let entry = Entry {
-            actor: actor_of(&event),
-            event,
-        };
-        entries.push(entry).map_err(AllocError::from)?;
+        entries.push(entry_of(event)).map_err(AllocError::from)?;
     }
     Ok(entries)
 }

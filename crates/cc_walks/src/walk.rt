@@ -10,8 +10,8 @@ ghost use Rattle.cc_walks.specs.Walks.{EndsAt, Takes};
 
 use crate::asked::answer;
 use crate::fault::LineFault;
-use crate::same::same_event;
 use cc_event::{Entry, Event, History, Script};
+use cc_judge::same_event;
 use cc_lockstep::EnterFault;
 use cc_log::kind_of;
 use cc_sched::Kind;

@@ -1,6 +1,7 @@
 //! The lines of the table, one after another.
 
 use crate::fault::LineFault;
+use crate::judged::judged_at;
 use crate::lines::{changed, entries};
 use crate::walk::{asked_after, stops_at};
 use cc_event::Script;
@@ -43,7 +44,23 @@ impl Walks {
         }
     }
 
-    /// Walks through a history, and tells where it stops at another entry than the one that is wanted.
+    /// Tells where who goes through a history stops at another entry than the one that is wanted.
+    fn compare<R: Print>(
+        &mut self,
+        rt: &R,
+        line: usize,
+        who: &str,
+        told: Option<usize>,
+        wanted: Option<usize>,
+    ) {
+        if told != wanted {
+            let _ = rt.println(format_args!("line {line}, {who}: {told:?} for {wanted:?}"));
+            self.tally.count_wrong(line);
+        }
+    }
+
+    /// Walks through a history, asks the judge about it, and tells where one of them stops at another entry
+    /// than the one that is wanted.
     fn walk<R: Print>(
         &mut self,
         rt: &R,
@@ -54,13 +71,12 @@ impl Walks {
         let Some(script) = &self.script else {
             return Err(LineFault::NothingAbove);
         };
-        let script = Arc::try_clone(script)?;
+        let (walked, judged) = (Arc::try_clone(script)?, Arc::try_clone(script)?);
         let entries = entries(self.alloc, lines)?;
-        let told = stops_at(self.alloc, script, self.workers, entries.as_slice())?;
-        if told != wanted {
-            let _ = rt.println(format_args!("line {line}: {told:?} for {wanted:?}"));
-            self.tally.count_wrong(line);
-        }
+        let stops = stops_at(self.alloc, walked, self.workers, entries.as_slice())?;
+        let refused = judged_at(self.alloc, judged, self.workers, entries.as_slice())?;
+        self.compare(rt, line, "the compositor", stops, wanted);
+        self.compare(rt, line, "the judge", refused, wanted);
         self.entries = self.entries.saturating_add(entries.len());
         Ok(())
     }
