@@ -114,7 +114,8 @@ pub fn to_key(numbers: &[i64]) -> Option<TileKey>
     }
 }
 
-/// Keys of four numbers each.
+/// Keys of four numbers each. The list takes no more memory than they need, since a long recording has millions
+/// of such lists.
 #[tactic(auto, using(crate::proofs::ListSteps::keys_more, crate::proofs::ListSteps::keys_none, crate::proofs::ListSteps::keys_end))]
 pub fn to_keys(alloc: Global, numbers: &[i64]) -> Result<Option<Keys>, AllocError>
     ensures { IfOk result (λ keys. keys ≡ spec.keys_of numbers.now) }
@@ -130,7 +131,8 @@ pub fn to_keys(alloc: Global, numbers: &[i64]) -> Result<Option<Keys>, AllocErro
         }
         rest = behind(rest, 4);
     }
-    Ok(Some(keys))
+    let exact = keys.copy()?;
+    Ok(Some(exact))
 }
 
 /// Numbers as a move; None where they are not three that fit.
