@@ -11,14 +11,11 @@ use Rattle.cc_raster.specs.Images.{Image}
 use Rattle.cc_store.specs.declared.held.Held.{Held}
 use Rattle.cc_store.specs.declared.held.Tile.{Tile}
 use Rattle.cc_store.specs.inner.Rows.{ready_rows, ready_of}
-use Rattle.cc_store.specs.inner.TileTables.{rows, is_made, Rises}
+use Rattle.cc_store.specs.inner.TileTables.{rows, is_made, made_keys, Rises}
 use Rattle.cc_store.proofs.SlabRows.{image_at}
 use Rattle.cc_store.proofs.KeptRows.{made_is_shown}
 use Rattle.cc_store.proofs.Parts.{keys_ready}
 use Rattle.cc_store.proofs.TableSteps.{held_map, sorted}
-
-abbrev pub made_keys : (ℕ → Option Tile) → List Held → List TileKey
-made_keys g hs = map (λ h. h.key) (filter (λ h. is_made (g h.place)) hs)
 
 one_key : (h : Held) (b : Bool) → map (λ (h : Held). h.key) (cond b (h ∷ []) []) ≡ cond b (h.key ∷ []) []
 one_key h true = refl

@@ -8,6 +8,7 @@
 
 mod held;
 mod pins;
+mod ready_keys;
 mod search;
 mod store;
 #[cfg(test)]
@@ -16,4 +17,5 @@ mod tile_table;
 mod tiles;
 mod walks;
 
+pub use ready_keys::ReadyKeys;
 pub use store::TileStore;

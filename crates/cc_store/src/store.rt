@@ -5,6 +5,7 @@ ghost use Rattle.std.specs.FinMap as map;
 ghost use Rattle.cc_store.specs.Stores.{image_of, is_in_flight, is_pinned, used, empty_store, pinned_to, MayStart, started, done_with, kept};
 
 use crate::pins::Pins;
+use crate::ready_keys::ReadyKeys;
 use crate::tile_table::TileTable;
 use cc_geom::{Keys, TileKey};
 use cc_raster::TileImage;
@@ -78,6 +79,13 @@ impl TileStore {
         ensures { IfOk result (λ keys. keys ≡ map.keys self.now.ready) }
     {
         self.table.ready_keys(self.alloc)
+    }
+
+    /// The ready keys, in their order, one after another. Takes no memory.
+    pub fn each_ready(&self) -> ReadyKeys<'_>
+        ensures { result ≡ map.keys self.now.ready }
+    {
+        self.table.each_ready()
     }
 
     /// Starts `key`: it is in flight, and the evicted keys are not ready. There must be room, the key must

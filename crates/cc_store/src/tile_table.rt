@@ -8,6 +8,7 @@ ghost use Rattle.cc_store.specs.inner.Rows.{ready_of, if_live, if_not_named};
 ghost use Rattle.cc_store.specs.inner.TileTables.{shown};
 
 use crate::held::{Held, Tile};
+use crate::ready_keys::ReadyKeys;
 use crate::search::{search, search_near};
 use crate::tiles::{give, is_made};
 use crate::walks::{drop_unmarked, mark};
@@ -186,5 +187,15 @@ impl TileTable {
             }
         }
         Ok(keys)
+    }
+
+    /// The keys that have an image, in their order, one after another.
+    pub(crate) fn each_ready(&self) -> ReadyKeys<'_>
+        ensures { result ≡ fin.keys (ready_of self.now.held) }
+    {
+        ReadyKeys {
+            rest: &self.held,
+            tiles: &self.tiles,
+        }
     }
 }

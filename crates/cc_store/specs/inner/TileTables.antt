@@ -1,5 +1,5 @@
 -- How a tile store lays out what it holds.
-use Rattle.std.specs.Prelude.{◌≡◌, ◌<◌, ◌≤◌, ℕ, suc, ◌-◌, min, Bool, false, not, ◌||◌, is_some, Option, Some, None, option_map, List, [], ◌∷◌, map, length, take, drop, refl}
+use Rattle.std.specs.Prelude.{◌≡◌, ◌<◌, ◌≤◌, ℕ, suc, ◌-◌, min, Bool, false, not, ◌||◌, is_some, Option, Some, None, option_map, List, [], ◌∷◌, map, filter, length, take, drop, refl}
 use Rattle.std.specs.declared.cmp.Ordering.TheVariants.{Less}
 use Rattle.std.specs.Option.{option_and_then}
 use Rattle.std.specs.Ordering.{eq_by_cmp}
@@ -98,6 +98,10 @@ also_marked key h = record h { live = h.live || eq_by_cmp key_cmp h.key key }
 abbrev pub is_made : Option Tile → Bool
 is_made None = false
 is_made (Some t) = is_some t.image
+
+-- the keys whose tiles have an image
+abbrev pub made_keys : (ℕ → Option Tile) → List Held → List TileKey
+made_keys tiles held = map (λ h. h.key) (filter (λ h. is_made (tiles h.place)) held)
 
 -- the key is marked, or its image is being made
 abbrev pub stays : (ℕ → Option Tile) → Held → Bool

@@ -1,7 +1,7 @@
 -- The keys so far that have an image.
 use Rattle.std.proofs.Common.{◌≡◌, take}
 use Rattle.slab.specs.Slab.{get}
-use Rattle.cc_store.proofs.MadeKeys.{made_keys}
+use Rattle.cc_store.specs.inner.TileTables.{made_keys}
 use Rattle.cc_store.proofs.tile_table.TileTable.ready_keys.Given as goal
 
 abbrev pub invariant-loop-one : goal.invariant-loop-one
