@@ -1,7 +1,5 @@
 -- An abort where the pending commit sets no scroller outright leaves the tiles and what an activation needs.
-use Rattle.std.proofs.Common.{◌≡◌, ℕ, ◌==◌, true, false, List, [], ◌∷◌, length, refl, sym, ap, subst, arith}
-use Rattle.cc_geom.specs.declared.tile.TileKey.{TileKey}
-use Rattle.cc_priority.specs.Alike.{Alike}
+use Rattle.std.proofs.Common.{◌≡◌, ℕ, ◌==◌, true, false, List, [], ◌∷◌, length, refl, ap, arith}
 use Rattle.cc_event.specs.declared.history.Entry.{Entry}
 use Rattle.cc_event.specs.Scripts.{ScriptModel}
 use Rattle.cc_event.specs.Frames.{pending}
@@ -10,11 +8,11 @@ use Rattle.cc_event.specs.Tiles.{visible_in, required}
 use Rattle.cc_event.specs.Legal.{Legal}
 use Rattle.cc_event.proofs.BoolFacts.{same_number}
 use Rattle.cc_steps.specs.Events.{abort}
-use Rattle.cc_steps.proofs.TreesAfter.{abort_pending, abort_choice}
+use Rattle.cc_steps.proofs.TreesAfter.{abort_active, abort_pending, abort_choice}
 use Rattle.cc_rows.specs.Rows.{is_among}
 use Rattle.cc_rebuild.proofs.SameTiles.{same_tiles}
 use Rattle.cc_tilemanager.specs.Managers.{Managed, Manages}
-use Rattle.cc_tilemanager.proofs.OtherTiles.{requeued}
+use Rattle.cc_tilemanager.proofs.OtherTiles.{reseen, stays_foreseen}
 
 -- an empty list names no scroller
 pub none_named : (ids : List ℕ) → (length ids == 0) ≡ true → (sc : ℕ) → is_among ids sc ≡ false
@@ -23,7 +21,9 @@ none_named (i ∷ is) e sc = let z : length (i ∷ is) ≡ 0 = same_number (leng
 
 module _ (s : ScriptModel) (n : ℕ) (h : List Entry) (a k : ℕ) (legal : Legal s n (abort a k ∷ h)) (none : (sc : ℕ) → clobbers s (pending h) sc ≡ false) where
   pub tiles_stay : (m : Managed) → Manages s h m → Manages s (abort a k ∷ h) m
-  tiles_stay m holds = requeued s h (abort a k ∷ h) m m.queue holds (same_tiles s h (abort a k) refl) (subst (Alike m.queue) (sym (abort_choice s n h a k legal none)) holds.queue)
+  tiles_stay m holds =
+      reseen s h (abort a k ∷ h) m m.outlook holds (same_tiles s h (abort a k) refl)
+      (stays_foreseen s h (abort a k ∷ h) m.outlook (abort_active s n h a k legal) (abort_pending s n h a k legal none) (abort_choice s n h a k legal none) holds.outlook)
 
   pub needs_stay : required s (abort a k ∷ h) ≡ required s h
   needs_stay = ap visible_in (abort_pending s n h a k legal none)

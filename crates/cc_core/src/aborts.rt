@@ -31,7 +31,7 @@ impl Core {
         Ok(())
     }
 
-    // Enters the abort of a frame, with the queue for what there is to choose from then.
+    // Enters the abort of a frame, with the ranks of what there is to choose from then.
     fn abort_moving(&mut self, frame: u32, standing: Standing) -> Result<(), AllocError>
         requires is_now { now self.old kind.Abort 1 ≡ Some (event.Abort frame) }
         requires stands { Stands self.old.script (abort 1 frame ∷ past self.old) standing }
@@ -39,17 +39,9 @@ impl Core {
         ensures err { OnErr result (self.new ≡ self.old) }
     {
         let event = Event::Abort { frame };
-        let next = enter_seen(
-            self.alloc,
-            &mut self.log,
-            &self.host,
-            &standing,
-            &self.tiles,
-            1,
-            event,
-        )?;
+        let next = enter_seen(self.alloc, &mut self.log, &self.host, &standing, 1, event)?;
         self.host.stand(standing);
-        self.tiles.requeue(next.queue);
+        self.tiles.rerank(next.ranks);
         self.required = next.required;
         Ok(())
     }

@@ -44,7 +44,7 @@ impl Core {
     fn activated_tiles(&self, frame: u32) -> Result<Activation, AllocError>
         requires waits { pending (past self.now) ≡ Some frame }
         requires may { is_some (now self.now kind.Activate 0) ≡ true }
-        ensures { IfOk result (λ next. AreForActivation self.now.script (past self.now) 0 frame (next_clamps self.now.script (past self.now)) next.pins next.live next.queue) }
+        ensures { IfOk result (λ next. AreForActivation self.now.script (past self.now) 0 frame (next_clamps self.now.script (past self.now)) next.pins next.live next.ranks) }
     {
         // The contract alone speaks of the frame.
         let _ = frame;
@@ -53,14 +53,12 @@ impl Core {
         let Some(pending) = seen.pending.as_ref() else {
             unreachable!()
         };
-        let in_flight = self.log.progress().in_flight;
         activation_of(
             self.alloc,
             self.log.script(),
             pending,
             &self.required,
             &self.tiles,
-            in_flight,
         )
     }
 
@@ -101,9 +99,9 @@ impl Core {
         let (clamps, standing) = self.activated_scrollers(frame)?;
         let next = self.activated_tiles(frame)?;
         self.log.enter(0, Event::Activate { frame, clamps })?;
-        let Activation { pins, live, queue } = next;
+        let Activation { pins, live, ranks } = next;
         self.host.activate(standing);
-        self.tiles.activate(pins, &live, queue);
+        self.tiles.activate(pins, &live, ranks);
         self.required = Keys::new(self.alloc);
         Ok(())
     }

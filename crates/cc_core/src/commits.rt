@@ -77,13 +77,12 @@ impl Core {
             &mut self.log,
             &self.host,
             self.host.standing(),
-            &self.tiles,
             0,
             event,
         );
         match entered {
             Ok(next) => {
-                self.tiles.requeue(next.queue);
+                self.tiles.rerank(next.ranks);
                 self.required = next.required;
                 Ok(())
             }

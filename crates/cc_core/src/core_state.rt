@@ -215,6 +215,16 @@ impl Core {
     pub fn first(&self) -> Option<TileKey>
         ensures { result ≡ option_map rank_key (first self.now.script (past self.now)) }
     {
+        self.log.is_legal();
         self.tiles.next_start()
+    }
+
+    /// Makes the raster queue, where there are ranks alone, so that the next question for a key costs less. An
+    /// error is want of memory; the run stays in any case.
+    pub(crate) fn refresh(&mut self) -> Result<(), AllocError>
+        ensures { self.new ≡ self.old }
+    {
+        self.log.is_legal();
+        self.tiles.refresh()
     }
 }

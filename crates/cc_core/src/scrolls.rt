@@ -74,17 +74,9 @@ impl Core {
         let standing = self.host.standing().moved(self.alloc, pages, &moves)?;
         let input = self.log.next_input();
         let event = scroll_event(input, taken);
-        let next = enter_seen(
-            self.alloc,
-            &mut self.log,
-            &self.host,
-            &standing,
-            &self.tiles,
-            0,
-            event,
-        )?;
+        let next = enter_seen(self.alloc, &mut self.log, &self.host, &standing, 0, event)?;
         self.host.stand(standing);
-        self.tiles.requeue(next.queue);
+        self.tiles.rerank(next.ranks);
         self.required = next.required;
         Ok(())
     }

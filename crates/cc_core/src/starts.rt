@@ -35,10 +35,8 @@ impl Core {
         Ok(())
     }
 
-    /// A worker that holds nothing starts the next key. The answer is its job: a display list on the rect of
-    /// the tile, which shows it as every page of the script does that has the key. None exactly where
-    /// `next_start` is None. An error is want of memory, and nothing was entered.
-    pub fn start(&mut self, worker: u32) -> Result<Option<Job>, AllocError>
+    // The same as `start`, whether or not the raster queue is made.
+    fn start_next(&mut self, worker: u32) -> Result<Option<Job>, AllocError>
         requires worker { worker < self.old.workers }
         requires free { held worker (past self.old) ≡ None }
         ensures starts { IfOk result (λ job. Starts self.old worker self.new job) }
@@ -52,5 +50,18 @@ impl Core {
                 Ok(Some(job))
             }
         }
+    }
+
+    /// A worker that holds nothing starts the next key. The answer is its job: a display list on the rect of
+    /// the tile, which shows it as every page of the script does that has the key. None exactly where
+    /// `next_start` is None. An error is want of memory, and nothing was entered.
+    pub fn start(&mut self, worker: u32) -> Result<Option<Job>, AllocError>
+        requires worker { worker < self.old.workers }
+        requires free { held worker (past self.old) ≡ None }
+        ensures starts { IfOk result (λ job. Starts self.old worker self.new job) }
+        ensures err { OnErr result (self.new ≡ self.old) }
+    {
+        self.refresh()?;
+        self.start_next(worker)
     }
 }

@@ -34,6 +34,7 @@ impl Core {
     pub fn upcoming(&self, most: u32) -> Result<Vec<Job>, AllocError>
         ensures { IfOk result (λ jobs. AreUpcoming self.now most jobs.items) }
     {
+        self.log.is_legal();
         let ranks = self.tiles.upcoming(most)?;
         let mut jobs = Vec::with_capacity(self.alloc, ranks.len())?;
         for rank in ranks.as_slice() {

@@ -61,17 +61,9 @@ impl Core {
             .moved(self.alloc, pages, moves.as_slice())?;
         let input = self.log.next_input();
         let event = wheel_event(input, wheel.target, wheel.rest, moves);
-        let next = enter_seen(
-            self.alloc,
-            &mut self.log,
-            &self.host,
-            &standing,
-            &self.tiles,
-            0,
-            event,
-        )?;
+        let next = enter_seen(self.alloc, &mut self.log, &self.host, &standing, 0, event)?;
         self.host.stand(standing);
-        self.tiles.requeue(next.queue);
+        self.tiles.rerank(next.ranks);
         self.required = next.required;
         Ok(())
     }

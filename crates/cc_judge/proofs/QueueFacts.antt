@@ -17,7 +17,7 @@ use Rattle.cc_event.specs.Tiles.{in_flight}
 use Rattle.cc_event.proofs.BoolFacts.{or_either, or_right}
 use Rattle.cc_event.proofs.TileCourse.{tile_course, holder}
 use Rattle.cc_rebuild.specs.inner.Queued.{AreTilesAt}
-use Rattle.cc_rebuild.proofs.KeyOrders.{in_order_sorted}
+use Rattle.cc_tilemanager.proofs.KeyOrders.{in_order_sorted}
 use Rattle.cc_judge.specs.declared.tile_keys.TileKeys.{TileKeys}
 use Rattle.cc_judge.specs.inner.Tiles.{Holds, held_keys, store_of}
 

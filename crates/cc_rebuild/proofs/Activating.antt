@@ -1,24 +1,18 @@
 -- The trees and the tiles after an activation.
-use Rattle.std.proofs.Common.{◌≡◌, ℕ, true, ◌&&◌, None, List, ◌∷◌, length, sym, ◌∙◌, ap, subst}
-use Rattle.std.specs.List.Sorted.{IsSorted}
+use Rattle.std.proofs.Common.{◌≡◌, ℕ, true, ◌&&◌, None, List, ◌∷◌, sym, ◌∙◌, ap, subst}
 use Rattle.cc_geom.specs.declared.tile.TileKey.{TileKey}
-use Rattle.cc_geom.specs.KeyLists.{has_key, AreDistinct}
-use Rattle.cc_geom.specs.KeyOrder.{key_cmp}
+use Rattle.cc_geom.specs.KeyLists.{has_key}
 use Rattle.cc_edit.specs.declared.moves.Move.{Move}
 use Rattle.cc_store.specs.Stores.{is_ready}
 use Rattle.cc_event.specs.declared.history.Entry.{Entry}
 use Rattle.cc_event.specs.Scripts.{ScriptModel}
-use Rattle.cc_event.specs.Accepted.{IsAccepted}
 use Rattle.cc_event.specs.Legal.{Legal}
 use Rattle.cc_event.specs.Frames.{page, pulls_of, up_to}
-use Rattle.cc_event.specs.Tiles.{active_tree, pending_tree, keys_of, in_flight, ready, required}
-use Rattle.cc_event.proofs.KeyFacts.{has_filter}
+use Rattle.cc_event.specs.Tiles.{active_tree, pending_tree, keys_of, ready}
 use Rattle.cc_steps.specs.Events.{activate}
 use Rattle.cc_steps.proofs.TreesAfter.{activate_active, none_is_pending}
-use Rattle.cc_steps.proofs.ReadyAfter.{activate_ready}
 use Rattle.cc_ranks.specs.SeenTrees.{SeenTreeModel, IsSeenTree, IsSeenWhere}
 use Rattle.cc_tilemanager.specs.Managers.{Managed, Manages}
-use Rattle.cc_rebuild.specs.inner.Queued.{AreTilesAt}
 
 module _ (s : ScriptModel) (n : ℕ) (h : List Entry) (a k : ℕ) (ms : List Move) (legal : Legal s n (activate a k ms ∷ h)) where
   pub active_then : (r : SeenTreeModel) → IsSeenTree (pending_tree s h) r → IsSeenTree (active_tree s (activate a k ms ∷ h)) r
@@ -30,19 +24,3 @@ module _ (s : ScriptModel) (n : ℕ) (h : List Entry) (a k : ℕ) (ms : List Mov
   pub live_there : (m : Managed) (live : List TileKey) → Manages s h m → ((q : TileKey) → has_key live q ≡ (is_ready m.store q && has_key (keys_of (pending_tree s h)) q))
       → (q : TileKey) → has_key (ready s h) q ≡ true → has_key live q ≡ has_key (keys_of (pending_tree s h)) q
   live_there m live holds are q t = are q ∙ ap (λ b. b && has_key (keys_of (pending_tree s h)) q) (holds.ready q ∙ t)
-
-  pub tiles_then : (m : Managed) (live pins : List TileKey) (flying : ℕ) → IsAccepted s → Manages s h m → AreDistinct live → IsSorted key_cmp live
-      → ((q : TileKey) → has_key live q ≡ (is_ready m.store q && has_key (keys_of (pending_tree s h)) q))
-      → ((q : TileKey) → has_key pins q ≡ has_key (required s h) q) → flying ≡ length (in_flight h)
-      → AreTilesAt s (activate a k ms ∷ h) m.store live pins flying
-  tiles_then m live pins flying acc holds once order are needed as_many =
-      let there : (q : TileKey) → has_key (ready s (activate a k ms ∷ h)) q ≡ (has_key (ready s h) q && has_key (keys_of (pending_tree s h)) q) =
-      λ q. ap (λ ks. has_key ks q) (activate_ready s n h a k ms acc legal) ∙ has_filter (has_key (keys_of (pending_tree s h))) (ready s h) q in
-      record {
-        once = once;
-        order = order;
-        ready = λ q. are q ∙ (ap (λ b. b && has_key (keys_of (pending_tree s h)) q) (holds.ready q) ∙ sym (there q));
-        in_flight = holds.in_flight;
-        as_many = as_many;
-        pinned = needed;
-      }

@@ -1,9 +1,7 @@
--- For which past a queue is made anew, and what an activation takes.
-use Rattle.std.specs.Prelude.{◌≡◌, ℕ, Bool, true, false, List, ◌∷◌, length, Option}
+-- For which past the ranks are made anew, and what an activation takes.
+use Rattle.std.specs.Prelude.{◌≡◌, ℕ, Bool, true, false, List, ◌∷◌, Option}
 use Rattle.cc_geom.specs.declared.tile.TileKey.{TileKey}
 use Rattle.cc_geom.specs.KeyLists.{has_key}
-use Rattle.cc_priority.specs.Choice.{Choice}
-use Rattle.cc_priority.specs.Alike.{Alike}
 use Rattle.cc_edit.specs.declared.moves.Move.{Move}
 use Rattle.cc_event.specs.declared.event.Event.{Event}
 use Rattle.cc_event.specs.declared.event.Event.TheVariants as event
@@ -12,10 +10,10 @@ use Rattle.cc_event.specs.Scripts.{ScriptModel}
 use Rattle.cc_event.specs.Legal.{Legal}
 use Rattle.cc_event.specs.Tiles.{active_tree, pending_tree, keys_of, required}
 use Rattle.cc_event.specs.Tiles as model
-use Rattle.cc_event.specs.Ranking.{choice}
 use Rattle.cc_steps.specs.Events.{activate}
 use Rattle.cc_ranks.specs.SeenTrees.{SeenTreeModel, IsSeenTree, IsSeenWhere}
-use Rattle.cc_tilemanager.specs.Managers.{Managed, Manages, HaveSameTiles}
+use Rattle.cc_tilemanager.specs.Choices.{Ranked}
+use Rattle.cc_tilemanager.specs.Managers.{Managed, Manages, AreRanksAt}
 
 -- the event sends, commits and activates no main frame, and starts and ends no tile
 abbrev pub leaves_tiles : Event → Bool
@@ -26,20 +24,14 @@ leaves_tiles (event.Start w q evicted) = false
 leaves_tiles (event.DoneTile w q) = false
 leaves_tiles _ = true
 
--- the manager stands for a past of a run, and these trees are those after another past, after which the same keys are ready, in flight and pinned
-pub record RequeuesNow (s : ScriptModel) (active pending : Option SeenTreeModel) (m : Managed) (flying : ℕ) : Type 0 where
-  pub workers : ℕ
+-- these trees are those after a past
+pub record RanksNow (s : ScriptModel) (active pending : Option SeenTreeModel) : Type 0 where
   pub past : List Entry
-  pub next : List Entry
-  pub legal : Legal s workers next
-  pub manages : Manages s past m
-  pub same : HaveSameTiles s past next
-  pub seen_active : IsSeenWhere (active_tree s next) active
-  pub seen_pending : IsSeenWhere (pending_tree s next) pending
-  pub as_many : flying ≡ length (model.in_flight next)
+  pub seen_active : IsSeenWhere (active_tree s past) active
+  pub seen_pending : IsSeenWhere (pending_tree s past) pending
 
 -- the manager stands for a past of a run, after which a commit may be activated now, whose tree is this and needs these keys
-pub record ActivatesNow (s : ScriptModel) (pending : SeenTreeModel) (needed : List TileKey) (m : Managed) (flying : ℕ) : Type 0 where
+pub record ActivatesNow (s : ScriptModel) (pending : SeenTreeModel) (needed : List TileKey) (m : Managed) : Type 0 where
   pub workers : ℕ
   pub past : List Entry
   pub actor : ℕ
@@ -49,10 +41,9 @@ pub record ActivatesNow (s : ScriptModel) (pending : SeenTreeModel) (needed : Li
   pub manages : Manages s past m
   pub seen : IsSeenTree (pending_tree s past) pending
   pub keys : needed ≡ required s past
-  pub as_many : flying ≡ length (model.in_flight past)
 
--- what a tile manager that stands for the past takes for the activation: the pins are the keys that it needs, of the ready keys those of its tree are live, and the queue is the one after it
-pub record AreForActivation (s : ScriptModel) (h : List Entry) (actor k : ℕ) (clamps : List Move) (pinned kept : List TileKey) (next : Choice) : Type 0 where
+-- what a tile manager that stands for the past takes for the activation: the pins are the keys that it needs, of the ready keys those of its tree are live, and the ranks are those after it
+pub record AreForActivation (s : ScriptModel) (h : List Entry) (actor k : ℕ) (clamps : List Move) (pinned kept : List TileKey) (next : Ranked) : Type 0 where
   pub pins : (q : TileKey) → has_key pinned q ≡ has_key (required s h) q
   pub live : (q : TileKey) → has_key (model.ready s h) q ≡ true → has_key kept q ≡ has_key (keys_of (pending_tree s h)) q
-  pub queue : Alike next (choice s (activate actor k clamps ∷ h))
+  pub ranks : AreRanksAt s (activate actor k clamps ∷ h) next

@@ -1,6 +1,6 @@
 //! What an activation brings to the tiles.
 
-ghost use Rattle.std.specs.Prelude.{◌≡◌, ℕ, List, ◌∷◌, length, IfOk};
+ghost use Rattle.std.specs.Prelude.{◌≡◌, ℕ, List, ◌∷◌, IfOk};
 ghost use Rattle.cc_edit.specs.declared.moves.Move.{Move};
 ghost use Rattle.cc_event.specs.declared.history.Entry.{Entry};
 ghost use Rattle.cc_event.specs.Scripts.{ScriptModel};
@@ -13,12 +13,11 @@ ghost use Rattle.cc_tilemanager.specs.Managers.{Manages};
 ghost use Rattle.cc_rebuild.specs.Rebuilds.{ActivatesNow, AreForActivation};
 
 use crate::live::kept_live;
-use crate::rebuild::{Tiles, rebuilt};
+use crate::rebuild::reranked;
 use cc_event::Script;
 use cc_geom::Keys;
 use cc_ranks::SeenTree;
-use cc_rasterq::RasterQueue;
-use cc_tilemanager::{Pins, TileManager};
+use cc_tilemanager::{Pins, Ranks, TileManager};
 use std::alloc::{AllocError, Global};
 
 /// What `TileManager::activate` takes.
@@ -28,33 +27,26 @@ pub struct Activation {
     pub pins: Pins,
     /// the ready keys that stay
     pub live: Keys,
-    /// the queue for what is then to choose from
-    pub queue: RasterQueue,
+    /// the ranks of which the queue is then to be made
+    pub ranks: Ranks,
 }
 
 /// What the activation of a pending tree brings to the tiles: the keys that it needs, which are `required`,
-/// are pinned, of the ready keys those stay that the tree has, and the queue is that of this tree alone.
-/// `in_flight` is how many keys are being made. An error is want of memory.
+/// are pinned, of the ready keys those stay that the tree has, and the ranks are those of this tree alone.
+/// An error is want of memory.
 pub fn activation_of(
     alloc: Global,
     script: &Script,
     pending: &SeenTree<'_>,
     required: &Keys,
     manager: &TileManager,
-    in_flight: u32,
 ) -> Result<Activation, AllocError>
-    requires { ActivatesNow script.now pending.now required.now manager.now in_flight }
-    ensures { IfOk result (λ all. (s : ScriptModel) (workers : ℕ) (h : List Entry) (actor k : ℕ) (clamps : List Move) → Legal s workers (activate actor k clamps ∷ h) → script.now ≡ s → Manages s h manager.now → IsSeenTree (pending_tree s h) pending.now → required.now ≡ model.required s h → in_flight ≡ length (model.in_flight h) → AreForActivation s h actor k clamps all.pins all.live all.queue) }
+    requires { ActivatesNow script.now pending.now required.now manager.now }
+    ensures { IfOk result (λ all. (s : ScriptModel) (workers : ℕ) (h : List Entry) (actor k : ℕ) (clamps : List Move) → Legal s workers (activate actor k clamps ∷ h) → script.now ≡ s → Manages s h manager.now → IsSeenTree (pending_tree s h) pending.now → required.now ≡ model.required s h → AreForActivation s h actor k clamps all.pins all.live all.ranks) }
 {
     script.is_accepted();
     let live = kept_live(alloc, manager, pending)?;
     let pins = Pins::of(alloc, required)?;
-    let tiles = Tiles {
-        manager,
-        ready: &live,
-        pins: &pins,
-        in_flight,
-    };
-    let queue = rebuilt(alloc, script, Some(pending), None, tiles)?;
-    Ok(Activation { pins, live, queue })
+    let ranks = reranked(alloc, script, Some(pending), None)?;
+    Ok(Activation { pins, live, ranks })
 }

@@ -1,21 +1,20 @@
-//! The raster queue for a past: rebuilt from both trees as they are seen and from the tiles that are there.
+//! The ranks for a past, of both trees as they are seen, of which a raster queue is to be made; and what an
+//! activation brings to the tiles.
 //!
 //! A start or its end changes a queue a little, which `cc_rasterq` does in place. What moves or exchanges a
-//! tree (a scroll, a wheel, an abort, a commit, an activation) changes the ranks of all its tiles: then the
-//! queue is made anew. The ranks are those near the viewports alone, and of each the tile manager is asked
-//! whether its key is ready or being made, so the work grows with the tiles near the viewports and the ready
-//! keys, not with the size of the layers.
+//! tree (a scroll, a wheel, an abort, a commit, an activation) changes the ranks of all its tiles: then they
+//! are made anew. The ranks are those near the viewports alone, so the work grows with the tiles near the
+//! viewports, not with the size of the layers.
 //!
-//! A queue is made before its event is entered and handed to the tile manager after it: making it takes
-//! memory, handing it over takes none.
+//! Ranks are made before their event is entered and handed to the tile manager after it: making them takes
+//! memory, handing them over takes none.
 #![tactic(auto)]
 
 mod activations;
 mod laws;
 mod live;
-mod picks;
 mod rebuild;
 
 pub use activations::{Activation, activation_of};
 pub use laws::{commits_keep_the_tiles, most_events_keep_the_tiles};
-pub use rebuild::requeued;
+pub use rebuild::reranked;

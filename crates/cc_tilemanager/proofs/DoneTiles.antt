@@ -32,7 +32,10 @@ use Rattle.cc_event.proofs.TileCourse.{tile_course}
 use Rattle.cc_steps.specs.Events.{done}
 use Rattle.cc_steps.specs.ShownKeys.{Shows}
 use Rattle.cc_steps.proofs.Dones.{flies, ready_done, done_live, done_dead}
-use Rattle.cc_tilemanager.specs.Managers.{Managed, Manages, tile_made}
+use Rattle.cc_tilemanager.specs.declared.outlook.Outlook.{Outlook}
+use Rattle.cc_tilemanager.specs.declared.outlook.Outlook.TheVariants as outlook
+use Rattle.cc_tilemanager.specs.Managers.{Managed, Manages, Foresees, live_ranks, tile_made}
+use Rattle.cc_tilemanager.specs.inner.Outlooks.{MayFinish, HasFinished}
 use Rattle.cc_tilemanager.proofs.Bools.{some_put, taken_away, is_some_if, some_key}
 
 module _ (s : ScriptModel) (n : ℕ) (h : List Entry) (a w : ℕ) (i : Image) (legal : Legal s n (done a w i.key ∷ h)) (m : Managed) (holds : Manages s h m) where
@@ -45,35 +48,61 @@ module _ (s : ScriptModel) (n : ℕ) (h : List Entry) (a w : ℕ) (i : Image) (l
   pub is_flying : is_in_flight m.store key ≡ true
   is_flying = holds.in_flight key ∙ flying
 
-  pub some_flies : 1 ≤ m.queue.in_flight
-  some_flies = let e : m.queue.in_flight ≡ length (in_flight h) = holds.queue.in_flight in let l = some_key (in_flight h) key flying in omega (arith, e, l)
+  module _ (queue : Choice) (same_now : Alike queue (choice s h)) where
+    pub some_flies : 1 ≤ queue.in_flight
+    some_flies = let e : queue.in_flight ≡ length (in_flight h) = same_now.in_flight in let l = some_key (in_flight h) key flying in omega (arith, e, l)
 
-  -- the key is neither wanted nor ready
+    -- the key is neither wanted nor ready
 
-  not_wanted : has_key (map rank_key m.queue.wanted) key ≡ false
-  not_wanted = is_false (has_key (map rank_key m.queue.wanted) key) (λ t.
-      let (r, j, e) = in_map rank_key key m.queue.wanted (in_has (map rank_key m.queue.wanted) key t) in
-      let (k, l, o) = in_filter_map (rank s h) r (filter (is_unmade s h) (live_keys s h)) (holds.queue.wanted.there r j) in
-      let (x, u) = in_filter (is_unmade s h) k (live_keys s h) l in
-      let is : k ≡ key = sym (key_of_rank k (rank s h k) r (key_ranked s h k) o) ∙ e in
-      not_both (has_key (in_flight h) k) (ap (has_key (in_flight h)) is ∙ flying) (not_true (has_key (in_flight h) k) (and_right (not (has_key (ready s h) k)) (not (has_key (in_flight h) k)) u)))
+    not_wanted : has_key (map rank_key queue.wanted) key ≡ false
+    not_wanted = is_false (has_key (map rank_key queue.wanted) key) (λ t.
+        let (r, j, e) = in_map rank_key key queue.wanted (in_has (map rank_key queue.wanted) key t) in
+        let (k, l, o) = in_filter_map (rank s h) r (filter (is_unmade s h) (live_keys s h)) (same_now.wanted.there r j) in
+        let (x, u) = in_filter (is_unmade s h) k (live_keys s h) l in
+        let is : k ≡ key = sym (key_of_rank k (rank s h k) r (key_ranked s h k) o) ∙ e in
+        not_both (has_key (in_flight h) k) (ap (has_key (in_flight h)) is ∙ flying) (not_true (has_key (in_flight h) k) (and_right (not (has_key (ready s h) k)) (not (has_key (in_flight h) k)) u)))
 
-  not_ready : has_key (map tile_key m.queue.ready) key ≡ false
-  not_ready = is_false (has_key (map tile_key m.queue.ready) key) (λ t.
-      let (u, j, e) = in_map tile_key key m.queue.ready (in_has (map tile_key m.queue.ready) key t) in
-      let (k, l, v) = in_map (ready_tile s h) u (ready s h) (holds.queue.ready.there u j) in
-      let is : k ≡ key = ap (λ (z : Tile). z.key) v ∙ e in
-      not_both (has_key (made h) key) (ready_made s h key (ap (has_key (ready s h)) (sym is) ∙ has_in (ready s h) k l)) ((tile_course s n h legal.0).apart key flying))
+    not_ready : has_key (map tile_key queue.ready) key ≡ false
+    not_ready = is_false (has_key (map tile_key queue.ready) key) (λ t.
+        let (u, j, e) = in_map tile_key key queue.ready (in_has (map tile_key queue.ready) key t) in
+        let (k, l, v) = in_map (ready_tile s h) u (ready s h) (same_now.ready.there u j) in
+        let is : k ≡ key = ap (λ (z : Tile). z.key) v ∙ e in
+        not_both (has_key (made h) key) (ready_made s h key (ap (has_key (ready s h)) (sym is) ∙ has_in (ready s h) k l)) ((tile_course s n h legal.0).apart key flying))
 
-  pub is_new : IsNew m.queue key
-  is_new = record { not_wanted = not_wanted; not_ready = not_ready }
+    pub is_new : IsNew queue key
+    is_new = record { not_wanted = not_wanted; not_ready = not_ready }
 
-  pub new_tile : (tile : Option Tile) → tile ≡ tile_made s h key → IfSome tile (λ t. IsNew m.queue t.key)
-  new_tile tile e = subst (λ o. IfSome o (λ t. IsNew m.queue t.key)) (sym e) (by_live (has_key (live_keys s h) key))
+    pub new_tile : (tile : Option Tile) → tile ≡ tile_made s h key → IfSome tile (λ t. IsNew queue t.key)
+    new_tile tile e = subst (λ o. IfSome o (λ t. IsNew queue t.key)) (sym e) (by_live (has_key (live_keys s h) key))
+      where
+        by_live : (b : Bool) → IfSome (cond b (Some (ready_tile s h key)) None) (λ t. IsNew queue t.key)
+        by_live true = is_new
+        by_live false = tt
+
+    pub finished_then : (live : Bool) → has_key (live_keys s h) key ≡ live → (next : Choice) → Alike next (alike.finished queue (cond live (Some (ready_tile s h key)) None)) → Alike next (choice s (done a w key ∷ h))
+    finished_then true e next same =
+        alike_stay.through next (alike.finished queue (Some (ready_tile s h key))) (choice s (done a w key ∷ h)) same
+        (alike_stay.through (alike.finished queue (Some (ready_tile s h key))) (alike.finished (choice s h) (Some (ready_tile s h key))) (choice s (done a w key ∷ h))
+        (alike_stay.finished queue (choice s h) (Some (ready_tile s h key)) same_now) (done_live s n h a w key legal e))
+    finished_then false e next same =
+        alike_stay.through next (alike.finished queue None) (choice s (done a w key ∷ h)) same
+        (alike_stay.through (alike.finished queue None) (alike.finished (choice s h) None) (choice s (done a w key ∷ h))
+        (alike_stay.finished queue (choice s h) None same_now) (done_dead s n h a w key legal e))
+
+  pub may_finish : (tile : Option Tile) → tile ≡ tile_made s h key → MayFinish m.outlook tile
+  may_finish tile e = by_outlook m.outlook holds.outlook
     where
-      by_live : (b : Bool) → IfSome (cond b (Some (ready_tile s h key)) None) (λ t. IsNew m.queue t.key)
-      by_live true = is_new
-      by_live false = tt
+      by_outlook : (o : Outlook) → Foresees o (choice s h) (live_ranks s h) → MayFinish o tile
+      by_outlook (outlook.Queue queue) f = (some_flies queue f, new_tile queue f tile e)
+      by_outlook (outlook.Ranks r) f = tt
+
+  outlook_then : (next : Outlook) → HasFinished m.outlook (tile_made s h key) next → Foresees next (choice s (done a w key ∷ h)) (live_ranks s (done a w key ∷ h))
+  outlook_then next = by_outlook m.outlook holds.outlook next
+    where
+      by_outlook : (o : Outlook) → Foresees o (choice s h) (live_ranks s h) → (next : Outlook) → HasFinished o (tile_made s h key) next → Foresees next (choice s (done a w key ∷ h)) (live_ranks s (done a w key ∷ h))
+      by_outlook (outlook.Queue queue) f (outlook.Queue d) same = finished_then queue f (has_key (live_keys s h) key) refl d same
+      by_outlook (outlook.Queue queue) f (outlook.Ranks r) same = absurd same
+      by_outlook (outlook.Ranks r) f next same = subst (λ o. Foresees o (choice s (done a w key ∷ h)) (live_ranks s (done a w key ∷ h))) (sym same) (record { members = f.members; budget_is = f.budget_is })
 
   -- after it
 
@@ -98,19 +127,9 @@ module _ (s : ScriptModel) (n : ℕ) (h : List Entry) (a w : ℕ) (i : Image) (l
     images_then true spare k j e = put_image (eq_by_cmp key_cmp k key) k j refl (sym (image_of-done_with m.store spare k i true) ∙ e)
     images_then false spare k j e = holds.images k j (sym (image_of-done_with m.store spare k i false) ∙ e)
 
-    queue_then : (live : Bool) → has_key (live_keys s h) key ≡ live → (queue : Choice) → Alike queue (alike.finished m.queue (cond live (Some (ready_tile s h key)) None)) → Alike queue (choice s (done a w key ∷ h))
-    queue_then true e queue same =
-        alike_stay.through queue (alike.finished m.queue (Some (ready_tile s h key))) (choice s (done a w key ∷ h)) same
-        (alike_stay.through (alike.finished m.queue (Some (ready_tile s h key))) (alike.finished (choice s h) (Some (ready_tile s h key))) (choice s (done a w key ∷ h))
-        (alike_stay.finished m.queue (choice s h) (Some (ready_tile s h key)) holds.queue) (done_live s n h a w key legal e))
-    queue_then false e queue same =
-        alike_stay.through queue (alike.finished m.queue None) (choice s (done a w key ∷ h)) same
-        (alike_stay.through (alike.finished m.queue None) (alike.finished (choice s h) None) (choice s (done a w key ∷ h))
-        (alike_stay.finished m.queue (choice s h) None holds.queue) (done_dead s n h a w key legal e))
-
-    held_then : (spare : ℕ) (queue : Choice) → Alike queue (alike.finished m.queue (tile_made s h key))
-        → Manages s (done a w key ∷ h) (record { store = stored (has_key (live_keys s h) key) spare; pinned = m.pinned; queue = queue })
-    held_then spare queue same = record {
+    held_then : (spare : ℕ) (next : Outlook) → HasFinished m.outlook (tile_made s h key) next
+        → Manages s (done a w key ∷ h) (record { store = stored (has_key (live_keys s h) key) spare; pinned = m.pinned; outlook = next })
+    held_then spare next same = record {
       ready = λ k. ready_then (has_key (live_keys s h) key) spare k ∙ sym (ready_done s n h a w key legal k);
       in_flight = λ k.
           is_in_flight-done_with m.store spare k i (has_key (live_keys s h) key)
@@ -119,12 +138,12 @@ module _ (s : ScriptModel) (n : ℕ) (h : List Entry) (a w : ℕ) (i : Image) (l
       pinned = holds.pinned;
       unpinned = holds.unpinned;
       images = images_then (has_key (live_keys s h) key) spare;
-      queue = queue_then (has_key (live_keys s h) key) refl queue same;
+      outlook = outlook_then next same;
     }
 
-    pub done_holds : (tile : Option Tile) (spare : ℕ) (queue : Choice) → tile ≡ tile_made s h key → Alike queue (alike.finished m.queue tile)
-        → Manages s (done a w key ∷ h) (record { store = stored (is_some tile) spare; pinned = m.pinned; queue = queue })
-    done_holds tile spare queue e same =
+    pub done_holds : (tile : Option Tile) (spare : ℕ) (next : Outlook) → tile ≡ tile_made s h key → HasFinished m.outlook tile next
+        → Manages s (done a w key ∷ h) (record { store = stored (is_some tile) spare; pinned = m.pinned; outlook = next })
+    done_holds tile spare next e same =
         let live : is_some tile ≡ has_key (live_keys s h) key = ap is_some e ∙ is_some_if (has_key (live_keys s h) key) (ready_tile s h key) in
-        subst (λ b. Manages s (done a w key ∷ h) (record { store = stored b spare; pinned = m.pinned; queue = queue })) (sym live)
-        (held_then spare queue (subst (λ (o : Option Tile). Alike queue (alike.finished m.queue o)) e same))
+        subst (λ b. Manages s (done a w key ∷ h) (record { store = stored b spare; pinned = m.pinned; outlook = next })) (sym live)
+        (held_then spare next (subst (λ (o : Option Tile). HasFinished m.outlook o next) e same))

@@ -5,3 +5,8 @@ pub mod OtherTiles
 pub mod PinFacts
 pub mod Neighbours
 pub mod ReadyKeys
+pub mod KeyOrders
+pub mod RankedKeys
+pub mod AmongRanks
+pub mod Counts
+pub mod AlikeChoices

@@ -4,7 +4,8 @@ use Rattle.std.specs.Ordering.{is_lt, is_eq}
 use Rattle.std.specs.declared.cmp.Ordering.{Ordering}
 use Rattle.std.specs.declared.cmp.Ordering.TheVariants.{Less, Equal, Greater}
 use Rattle.std.specs.FinMap as fin
-use Rattle.std.specs.FinMap.{entries, entries_sorted, contains_key-keys, is_sorted}
+use Rattle.std.specs.FinMap.{entries, entries_sorted, len-entries, contains_key-keys, is_sorted}
+use Rattle.std.proofs.lemmas.List.{length-map}
 use Rattle.std.specs.FinMap.Entries.{below_all}
 use Rattle.cc_geom.specs.declared.tile.TileKey.{TileKey}
 use Rattle.cc_geom.specs.KeyOrder.{key_cmp}
@@ -57,6 +58,9 @@ module _ (s : Store) where
 
   pub keys_once : AreDistinct (fin.keys s.ready)
   keys_once = rising_once (fin.keys s.ready) keys_in_order
+
+  pub keys_count : length (fin.keys s.ready) ≡ fin.len s.ready
+  keys_count = length-map (entries s.ready) (λ e. e.0) ∙ sym (len-entries s.ready)
 
   pub keys_ready : (q : TileKey) → has_key (fin.keys s.ready) q ≡ is_ready s q
   keys_ready q = has_key_ties (fin.keys s.ready) q ∙ sym (contains_key-keys s.ready q)

@@ -1,5 +1,5 @@
 -- A manager starts a tile.
-use Rattle.std.proofs.Common.{ℕ, ◌≤◌, not, ◌&&◌, ◌||◌, is_some, List, ◌∷◌, map, sym, ◌∙◌, ap}
+use Rattle.std.proofs.Common.{ℕ, ◌≤◌, not, ◌&&◌, ◌||◌, is_some, List, ◌∷◌, map, sym, ◌∙◌, ap, subst}
 use Rattle.cc_geom.specs.declared.tile.TileKey.{TileKey}
 use Rattle.cc_geom.specs.KeyLists.{has_key}
 use Rattle.cc_geom.proofs.KeyLists.{same_ties}
@@ -19,7 +19,10 @@ use Rattle.cc_event.specs.Ranking.{choice}
 use Rattle.cc_event.proofs.DueFacts.{AtStart, at_start}
 use Rattle.cc_steps.specs.Events.{start}
 use Rattle.cc_steps.proofs.Starts.{new_key, gone_ready, has_ready_next, start_alike}
-use Rattle.cc_tilemanager.specs.Managers.{Managed, Manages}
+use Rattle.cc_tilemanager.specs.declared.outlook.Outlook.{Outlook}
+use Rattle.cc_tilemanager.specs.declared.outlook.Outlook.TheVariants as outlook
+use Rattle.cc_tilemanager.specs.Managers.{Managed, Manages, Foresees, live_ranks}
+use Rattle.cc_tilemanager.specs.inner.Outlooks.{MayStartNext, HasStarted}
 use Rattle.cc_tilemanager.proofs.Bools.{some_left, left_some}
 
 module _ (s : ScriptModel) (n : ℕ) (h : List Entry) (a w : ℕ) (q : TileKey) (ks : List TileKey) (legal : Legal s n (start a w q ks ∷ h)) (m : Managed) (holds : Manages s h m) where
@@ -35,16 +38,38 @@ module _ (s : ScriptModel) (n : ℕ) (h : List Entry) (a w : ℕ) (q : TileKey) 
     evicted_not_pinned = λ k t. holds.unpinned k;
   }
 
-  pub may_start_with : MayStartWith m.queue q ks
-  may_start_with = record {
-    rank = d.rank;
-    wanted = holds.queue.wanted.back d.rank (first_is_one.there (choice s h) d.rank d.is_first).wanted;
-    key = sym d.key;
-    evicted = d.gives_up ∙ ap (map victim_key) (sym (order_is_free.evicted m.queue (choice s h) d.rank (alike_stay.same_choice m.queue (choice s h) holds.queue)));
-  }
+  module _ (queue : Choice) (alike_now : Alike queue (choice s h)) where
+    pub may_start_with : MayStartWith queue q ks
+    may_start_with = record {
+      rank = d.rank;
+      wanted = alike_now.wanted.back d.rank (first_is_one.there (choice s h) d.rank d.is_first).wanted;
+      key = sym d.key;
+      evicted = d.gives_up ∙ ap (map victim_key) (sym (order_is_free.evicted queue (choice s h) d.rank (alike_stay.same_choice queue (choice s h) alike_now)));
+    }
 
-  pub start_holds : (spare : ℕ) (queue : Choice) → Alike queue (alike.started m.queue q ks) → Manages s (start a w q ks ∷ h) (record { store = stores.started m.store q ks spare; pinned = m.pinned; queue = queue })
-  start_holds spare queue same = record {
+    pub queue_then : (next : Choice) → Alike next (alike.started queue q ks) → Alike next (choice s (start a w q ks ∷ h))
+    queue_then next same =
+        alike_stay.through next (alike.started queue q ks) (choice s (start a w q ks ∷ h)) same
+        (alike_stay.through (alike.started queue q ks) (alike.started (choice s h) q ks) (choice s (start a w q ks ∷ h))
+        (alike_stay.started queue (choice s h) q ks alike_now) (start_alike s n h a w q ks legal))
+
+  pub may_start_next : MayStartNext m.outlook q ks
+  may_start_next = by_outlook m.outlook holds.outlook
+    where
+      by_outlook : (o : Outlook) → Foresees o (choice s h) (live_ranks s h) → MayStartNext o q ks
+      by_outlook (outlook.Queue queue) f = may_start_with queue f
+      by_outlook (outlook.Ranks r) f = tt
+
+  outlook_then : (next : Outlook) → HasStarted m.outlook q ks next → Foresees next (choice s (start a w q ks ∷ h)) (live_ranks s (start a w q ks ∷ h))
+  outlook_then next = by_outlook m.outlook holds.outlook next
+    where
+      by_outlook : (o : Outlook) → Foresees o (choice s h) (live_ranks s h) → (next : Outlook) → HasStarted o q ks next → Foresees next (choice s (start a w q ks ∷ h)) (live_ranks s (start a w q ks ∷ h))
+      by_outlook (outlook.Queue queue) f (outlook.Queue d) same = queue_then queue f d same
+      by_outlook (outlook.Queue queue) f (outlook.Ranks r) same = absurd same
+      by_outlook (outlook.Ranks r) f next same = subst (λ o. Foresees o (choice s (start a w q ks ∷ h)) (live_ranks s (start a w q ks ∷ h))) (sym same) (record { members = f.members; budget_is = f.budget_is })
+
+  pub start_holds : (spare : ℕ) (next : Outlook) → HasStarted m.outlook q ks next → Manages s (start a w q ks ∷ h) (record { store = stores.started m.store q ks spare; pinned = m.pinned; outlook = next })
+  start_holds spare next same = record {
     ready = λ k.
         ap is_some (image_of-started m.store spare k q ks)
         ∙ (some_left (not (has_key ks k)) (image_of m.store k)
@@ -53,8 +78,5 @@ module _ (s : ScriptModel) (n : ℕ) (h : List Entry) (a w : ℕ) (q : TileKey) 
     pinned = holds.pinned;
     unpinned = holds.unpinned;
     images = λ k i e. holds.images k i (left_some (not (has_key ks k)) (image_of m.store k) i (sym (image_of-started m.store spare k q ks) ∙ e));
-    queue =
-        alike_stay.through queue (alike.started m.queue q ks) (choice s (start a w q ks ∷ h)) same
-        (alike_stay.through (alike.started m.queue q ks) (alike.started (choice s h) q ks) (choice s (start a w q ks ∷ h))
-        (alike_stay.started m.queue (choice s h) q ks holds.queue) (start_alike s n h a w q ks legal));
+    outlook = outlook_then next same;
   }

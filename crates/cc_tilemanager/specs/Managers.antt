@@ -1,8 +1,10 @@
 -- What contracts see of a tile manager, and when it stands for the tiles of a run.
-use Rattle.std.specs.Prelude.{◌≡◌, ℕ, false, cond, Option, Some, None, List, ◌∷◌, refl}
+use Rattle.std.specs.Prelude.{◌≡◌, ℕ, false, cond, Option, Some, None, List, ◌∷◌, filter_map, refl}
 use Rattle.std.specs.Coded.{Coded, code_by, coded×}
 use Rattle.cc_geom.specs.declared.tile.TileKey.{TileKey}
 use Rattle.cc_geom.specs.KeyLists.{has_key}
+use Rattle.cc_priority.specs.declared.rank.Rank.{Rank}
+use Rattle.cc_priority.specs.Ordered.{SameMembers}
 use Rattle.cc_priority.specs.Tiles.{Tile}
 use Rattle.cc_priority.specs.Choice.{Choice}
 use Rattle.cc_priority.specs.Alike.{Alike}
@@ -12,38 +14,64 @@ use Rattle.cc_event.specs.declared.history.Entry.{Entry}
 use Rattle.cc_event.specs.Scripts.{ScriptModel}
 use Rattle.cc_event.specs.Legal.{Legal}
 use Rattle.cc_event.specs.Tiles.{live_keys, in_flight, ready, pinned}
-use Rattle.cc_event.specs.Ranking.{choice, ready_tile}
+use Rattle.cc_event.specs.Ranking.{choice, rank, ready_tile}
 use Rattle.cc_steps.specs.Events.{start, done}
 use Rattle.cc_steps.specs.ShownKeys.{Shows}
+use Rattle.cc_tilemanager.specs.Choices.{Ranked, choice_among}
+use Rattle.cc_tilemanager.specs.declared.outlook.Outlook.{Outlook}
+use Rattle.cc_tilemanager.specs.declared.outlook.Outlook.TheVariants as outlook
 
--- the store of the tiles, the pinned keys, and what the raster queue stands for
+-- the store of the tiles, the pinned keys, and what tells the next tile: a queue, or the ranks of which one is to be made
 pub record Managed : Type 0 where
   pub store : Store
   pub pinned : List TileKey
-  pub queue : Choice
+  pub outlook : Outlook
 
 -- it is coded as the tuple of its fields
-abbrev pub managed_code : Coded Store → Coded (List TileKey) → Coded Choice → Coded Managed
-managed_code store pinned queue =
+abbrev pub managed_code : Coded Store → Coded (List TileKey) → Coded Outlook → Coded Managed
+managed_code store pinned outlook =
     code_by
-    (Store × (List TileKey × Choice))
-    (coded× store (coded× pinned queue))
-    (λ m. (m.store, (m.pinned, m.queue)))
-    (λ p. record { store = p.0; pinned = p.1.0; queue = p.1.1 })
+    (Store × (List TileKey × Outlook))
+    (coded× store (coded× pinned outlook))
+    (λ m. (m.store, (m.pinned, m.outlook)))
+    (λ p. record { store = p.0; pinned = p.1.0; outlook = p.1.1 })
     (λ _. refl)
 
--- the manager has an image that shows it for each of the ready keys, these keys in flight and pinned, and a queue for this choice
-pub record HoldsTiles (s : ScriptModel) (m : Managed) (made flying pins : List TileKey) (c : Choice) : Type 0 where
+-- the ranks of the live keys that have one
+abbrev pub live_ranks : ScriptModel → List Entry → List Rank
+live_ranks s h = filter_map (rank s h) (live_keys s h)
+
+-- the ranks are these, with this budget
+pub record AreRanks (r : Ranked) (live : List Rank) (budget : ℕ) : Type 0 where
+  pub members : SameMembers r.ranks live
+  pub budget_is : r.budget ≡ budget
+
+-- they are those of the live keys after this past
+abbrev pub AreRanksAt : ScriptModel → List Entry → Ranked → Type 0
+AreRanksAt s h r = AreRanks r (live_ranks s h) s.budget
+
+-- the queue is for this choice, or a queue is to be made of these ranks
+abbrev pub Foresees : Outlook → Choice → List Rank → Type 0
+Foresees (outlook.Queue queue) c live = Alike queue c
+Foresees (outlook.Ranks ranks) c live = AreRanks ranks live c.budget
+
+-- what there is to choose from by an outlook, a store and pinned keys
+abbrev pub foreseen : Store → List TileKey → Outlook → Choice
+foreseen store pins (outlook.Queue queue) = queue
+foreseen store pins (outlook.Ranks ranks) = choice_among store pins ranks
+
+-- the manager has an image that shows it for each of the ready keys, these keys in flight and pinned, and a queue for this choice, or the ranks of the live keys of which it is to be made
+pub record HoldsTiles (s : ScriptModel) (m : Managed) (made flying pins : List TileKey) (c : Choice) (live : List Rank) : Type 0 where
   pub ready : (q : TileKey) → is_ready m.store q ≡ has_key made q
   pub in_flight : (q : TileKey) → is_in_flight m.store q ≡ has_key flying q
   pub pinned : (q : TileKey) → has_key m.pinned q ≡ has_key pins q
   pub unpinned : (q : TileKey) → is_pinned m.store q ≡ false
   pub images : (q : TileKey) (i : Image) → image_of m.store q ≡ Some i → (i.key ≡ q) × Shows s q i.rect i.list
-  pub queue : Alike m.queue c
+  pub outlook : Foresees m.outlook c live
 
 -- it stands for the tiles of a run of the script after this past
 abbrev pub Manages : ScriptModel → List Entry → Managed → Type 0
-Manages s h m = HoldsTiles s m (ready s h) (in_flight h) (pinned s h) (choice s h)
+Manages s h m = HoldsTiles s m (ready s h) (in_flight h) (pinned s h) (choice s h) (live_ranks s h)
 
 -- the manager stands for a run in which a worker may start the key now, for which these keys are given up
 pub record StartsNow (m : Managed) (q : TileKey) (evicted : List TileKey) : Type 0 where

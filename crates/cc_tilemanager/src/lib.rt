@@ -11,9 +11,14 @@
 mod laws;
 mod manager;
 mod near;
+mod outlook;
+mod picks;
 mod pins;
+mod ranks;
+mod stays;
 
 pub use laws::sends_keep_the_tiles;
 pub use manager::TileManager;
 pub use near::has_near;
 pub use pins::Pins;
+pub use ranks::Ranks;

@@ -8,7 +8,6 @@ ghost use Rattle.cc_geom.specs.KeyOrder.{key_cmp};
 ghost use Rattle.cc_priority.specs.declared.rank.Rank.{Rank as Ranking};
 ghost use Rattle.cc_priority.specs.Ranks.{rank_cmp};
 ghost use Rattle.cc_priority.specs.Ordered.{IsInOrder, in_order};
-ghost use Rattle.cc_priority.specs.Alike.{Alike};
 ghost use Rattle.cc_edit.specs.declared.moves.Move.{Move};
 ghost use Rattle.cc_rasterq.specs.Queues.{rank_key};
 ghost use Rattle.cc_store.specs.Stores.{image_of, is_ready, is_in_flight};
@@ -17,12 +16,14 @@ ghost use Rattle.cc_event.specs.Scripts.{ScriptModel};
 ghost use Rattle.cc_event.specs.Accepted.{IsAccepted};
 ghost use Rattle.cc_event.specs.Legal.{Legal};
 ghost use Rattle.cc_event.specs.Tiles.{pending_tree, keys_of, used, ready, required, are_ready};
-ghost use Rattle.cc_event.specs.Ranking.{choice, first, evicted_for, wanted};
+ghost use Rattle.cc_event.specs.Ranking.{first, evicted_for, wanted};
 ghost use Rattle.cc_steps.specs.Events.{start, done, activate};
 ghost use Rattle.cc_steps.specs.ShownKeys.{Shows};
-ghost use Rattle.cc_tilemanager.specs.Managers.{Manages, StartsNow, DoneNow, HaveSameTiles, tile_made};
+ghost use Rattle.cc_tilemanager.specs.Managers.{Manages, StartsNow, DoneNow, HaveSameTiles, AreRanksAt, tile_made};
 
+use crate::outlook::Outlook;
 use crate::pins::Pins;
+use crate::ranks::Ranks;
 use cc_geom::{Keys, TileKey};
 use cc_priority::{Rank, ReadyTile};
 use cc_raster::TileImage;
@@ -40,20 +41,20 @@ use std::sync::Arc;
 pub struct TileManager {
     store: TileStore,
     pins: Pins,
-    queue: RasterQueue,
+    outlook: Outlook,
 }
 
 impl Model for TileManager {
     ghost use Rattle.cc_store.specs.contracts.store.TileStore as the_store;
-    ghost use Rattle.cc_rasterq.specs.contracts.queue.RasterQueue as the_queue;
+    ghost use Rattle.cc_tilemanager.specs.contracts.outlook.Outlook as the_outlook;
     ghost use Rattle.cc_tilemanager.specs.contracts.pins.Pins as the_pins;
     ghost use Rattle.cc_tilemanager.specs.Managers.{Managed, managed_code};
 
     ghost Value = { Managed };
 
-    ghost coded = { managed_code the_store.the_row.coded the_pins.the_row.coded the_queue.the_row.coded };
+    ghost coded = { managed_code the_store.the_row.coded the_pins.the_row.coded the_outlook.the_row.coded };
 
-    ghost view = { λ m. record { store = m.store; pinned = m.pins; queue = m.queue } };
+    ghost view = { λ m. record { store = m.store; pinned = m.pins; outlook = m.outlook } };
 }
 
 // Whether each of these keys has an image, which is asked of one after another.
@@ -104,29 +105,29 @@ impl TileManager {
         Ok(TileManager {
             store: TileStore::new(alloc),
             pins: Pins::new(alloc),
-            queue,
+            outlook: Outlook::Queue(queue),
         })
     }
 
     /// The key that starts next; None exactly where none may start.
     pub fn next_start(&self) -> Option<TileKey>
-        ensures { (s : ScriptModel) (h : List Entry) → Manages s h self.now → result ≡ option_map rank_key (first s h) }
+        ensures { (s : ScriptModel) (workers : ℕ) (h : List Entry) → Legal s workers h → Manages s h self.now → result ≡ option_map rank_key (first s h) }
     {
-        self.queue.first()
+        self.outlook.first(&self.store, &self.pins)
     }
 
     /// The keys that are given up for the next one, the worst first. An error is want of memory.
     pub fn evicted(&self, key: TileKey) -> Result<Keys, AllocError>
-        ensures { (s : ScriptModel) (h : List Entry) (r : Ranking) → Manages s h self.now → first s h ≡ Some r → r.key ≡ key → IfOk result (λ keys. keys ≡ evicted_for s h r) }
+        ensures { (s : ScriptModel) (workers : ℕ) (h : List Entry) (r : Ranking) → Legal s workers h → Manages s h self.now → first s h ≡ Some r → r.key ≡ key → IfOk result (λ keys. keys ≡ evicted_for s h r) }
     {
-        self.queue.evicted(key)
+        self.outlook.evicted(&self.store, &self.pins, key)
     }
 
     /// The first ranks that are wanted, at most so many, in rising order. An error is want of memory.
     pub fn upcoming(&self, most: u32) -> Result<Vec<Rank>, AllocError>
-        ensures { (s : ScriptModel) (h : List Entry) → Manages s h self.now → IfOk result (λ ranks. ranks.items ≡ take most (in_order rank_cmp (wanted s h))) }
+        ensures { (s : ScriptModel) (workers : ℕ) (h : List Entry) → Legal s workers h → Manages s h self.now → IfOk result (λ ranks. ranks.items ≡ take most (in_order rank_cmp (wanted s h))) }
     {
-        self.queue.wanted(most)
+        self.outlook.wanted(&self.store, &self.pins, most)
     }
 
     /// The image of a key; None exactly where the key is not ready.
@@ -163,7 +164,7 @@ impl TileManager {
     pub fn are_ready(&self, keys: &Keys) -> bool
         ensures { (s : ScriptModel) (h : List Entry) → Manages s h self.now → result ≡ are_ready s h keys.now }
     {
-        all_ready(&self.store, keys, self.queue.first())
+        all_ready(&self.store, keys, self.outlook.at_hand())
     }
 
     /// The keys that have an image, each once, in key order. An error is want of memory.
@@ -206,7 +207,7 @@ impl TileManager {
         ensures { (s : ScriptModel) (workers : ℕ) (h : List Entry) (actor w : ℕ) → Manages s h self.old → Legal s workers (start actor w key evicted.now ∷ h) → Manages s (start actor w key evicted.now ∷ h) self.new }
     {
         self.store.start(key, evicted);
-        self.queue.started(key, evicted);
+        self.outlook.start(key, evicted);
     }
 
     /// A worker is done with an image. `tile` is its tile, or None where its key is no longer live; then the
@@ -216,24 +217,37 @@ impl TileManager {
         ensures { (s : ScriptModel) (workers : ℕ) (h : List Entry) (actor w : ℕ) → Manages s h self.old → Legal s workers (done actor w image.value.key ∷ h) → tile ≡ tile_made s h image.value.key → Shows s image.value.key image.value.rect image.value.list → Manages s (done actor w image.value.key ∷ h) self.new }
     {
         self.store.done(image, tile.is_some());
-        self.queue.finished(tile);
+        self.outlook.finish(tile);
     }
 
-    /// Takes another queue, for a past after which the same keys are ready, in flight and pinned. Takes no
+    /// Takes other ranks, for a past after which the same keys are ready, in flight and pinned. Takes no
     /// memory.
-    pub fn requeue(&mut self, queue: RasterQueue)
-        ensures { (s : ScriptModel) (h g : List Entry) → Manages s h self.old → HaveSameTiles s h g → Alike queue (choice s g) → Manages s g self.new }
+    pub fn rerank(&mut self, ranks: Ranks)
+        ensures { (s : ScriptModel) (h g : List Entry) → Manages s h self.old → HaveSameTiles s h g → AreRanksAt s g ranks → Manages s g self.new }
     {
-        self.queue = queue;
+        self.outlook = Outlook::Ranks(ranks);
+    }
+
+    /// Makes the queue, where there are ranks alone: the next question costs less. An error is want of memory,
+    /// and the manager is as it was.
+    pub fn refresh(&mut self) -> Result<(), AllocError>
+        ensures same { (s : ScriptModel) (workers : ℕ) (h : List Entry) → Legal s workers h → Manages s h self.old → Manages s h self.new }
+        ensures refused { OnErr result (self.new ≡ self.old) }
+    {
+        if let Outlook::Ranks(ranks) = &self.outlook {
+            let queue = ranks.queue(&self.store, &self.pins)?;
+            self.outlook = Outlook::Queue(queue);
+        }
+        Ok(())
     }
 
     /// The pending tree becomes the active one: the keys that it needs are pinned, the ready keys that are
-    /// not in `live` are dropped, and the queue is the one for what is then to choose from. Takes no memory.
-    pub fn activate(&mut self, pins: Pins, live: &Keys, queue: RasterQueue)
-        ensures { (s : ScriptModel) (workers : ℕ) (h : List Entry) (actor k : ℕ) (clamps : List Move) → IsAccepted s → Legal s workers (activate actor k clamps ∷ h) → Manages s h self.old → ((q : Key) → has_key pins q ≡ has_key (required s h) q) → ((q : Key) → has_key (ready s h) q ≡ true → has_key live.now q ≡ has_key (keys_of (pending_tree s h)) q) → Alike queue (choice s (activate actor k clamps ∷ h)) → Manages s (activate actor k clamps ∷ h) self.new }
+    /// not in `live` are dropped, and the ranks are those of its keys. Takes no memory.
+    pub fn activate(&mut self, pins: Pins, live: &Keys, ranks: Ranks)
+        ensures { (s : ScriptModel) (workers : ℕ) (h : List Entry) (actor k : ℕ) (clamps : List Move) → IsAccepted s → Legal s workers (activate actor k clamps ∷ h) → Manages s h self.old → ((q : Key) → has_key pins q ≡ has_key (required s h) q) → ((q : Key) → has_key (ready s h) q ≡ true → has_key live.now q ≡ has_key (keys_of (pending_tree s h)) q) → AreRanksAt s (activate actor k clamps ∷ h) ranks → Manages s (activate actor k clamps ∷ h) self.new }
     {
         self.store.keep(live);
         self.pins = pins;
-        self.queue = queue;
+        self.outlook = Outlook::Ranks(ranks);
     }
 }

@@ -2,6 +2,7 @@
 use Rattle.std.specs.Prelude.{◌≡◌, ℕ, suc, true, Option, Some, None, List}
 use Rattle.cc_geom.specs.declared.rect.Point.{Point}
 use Rattle.cc_geom.specs.declared.tile.TileKey.{TileKey}
+use Rattle.cc_priority.specs.declared.rank.Rank.{Rank}
 use Rattle.cc_priority.specs.Choice.{Choice}
 use Rattle.cc_sched.specs.declared.states.MainState.{MainState}
 use Rattle.cc_sched.specs.Kinds.{is_sent, is_ready_to_commit}
@@ -21,7 +22,7 @@ use Rattle.cc_event.specs.Legal.{sched}
 use Rattle.cc_event.specs.Tiles.{in_flight, ready, pinned, required}
 use Rattle.cc_event.specs.Ranking.{choice}
 use Rattle.cc_event.specs.Values.{values}
-use Rattle.cc_tilemanager.specs.Managers.{Managed, HoldsTiles}
+use Rattle.cc_tilemanager.specs.Managers.{Managed, HoldsTiles, live_ranks}
 use Rattle.cc_host.specs.Hosts.{HostModel, HostsAt}
 
 -- what a core keeps beside its log
@@ -43,12 +44,12 @@ IsPrepared s ps k None = ⊥
 IsPrepared s ps k (Some c) = IsPreparedFor s ps k c
 
 -- the trees stand, the tiles are there, the main side was told this, and the pending tree needs these keys
-pub record CoreOf (s : ScriptModel) (kept : Kept) (ps : ℕ → List Move) (on wait : Option ℕ) (value : ℕ → Axis → Synced) (at then : ℕ → Point) (made flying pins : List TileKey) (c : Choice) (main : MainState) (last : Option ℕ) (needs : List TileKey) : Type 0 where
+pub record CoreOf (s : ScriptModel) (kept : Kept) (ps : ℕ → List Move) (on wait : Option ℕ) (value : ℕ → Axis → Synced) (at then : ℕ → Point) (made flying pins : List TileKey) (c : Choice) (live : List Rank) (main : MainState) (last : Option ℕ) (needs : List TileKey) : Type 0 where
   pub host : HostsAt s kept.host ps on wait value at then
-  pub tiles : HoldsTiles s kept.tiles made flying pins c
+  pub tiles : HoldsTiles s kept.tiles made flying pins c live
   pub told : is_sent main ≡ true → (k : ℕ) → last ≡ Some k → kept.told ≡ ps k
   pub prepared : is_ready_to_commit main ≡ true → (k : ℕ) → last ≡ Some k → IsPrepared s ps k kept.prepared
   pub required : kept.required ≡ needs
 
 abbrev pub IsCore : ScriptModel → List Entry → Kept → Type 0
-IsCore s h kept = CoreOf s kept (pulls_of h) (active h) (pending h) (λ sc ax. values s sc ax h) (active_offsets s h) (pending_offsets s h) (ready s h) (in_flight h) (pinned s h) (choice s h) (sched h).main_state (newest sends h) (required s h)
+IsCore s h kept = CoreOf s kept (pulls_of h) (active h) (pending h) (λ sc ax. values s sc ax h) (active_offsets s h) (pending_offsets s h) (ready s h) (in_flight h) (pinned s h) (choice s h) (live_ranks s h) (sched h).main_state (newest sends h) (required s h)

@@ -1,11 +1,9 @@
--- For which past a queue is rebuilt, and what is found among ranks.
-use Rattle.std.specs.Prelude.{◌≡◌, ◌<◌, ℕ, List, length, Option, Some, None, get_or}
+-- For which past a queue is rebuilt.
+use Rattle.std.specs.Prelude.{◌≡◌, ℕ, List, length, Option}
 use Rattle.std.specs.List.Sorted.{IsSorted}
 use Rattle.cc_geom.specs.declared.tile.TileKey.{TileKey}
 use Rattle.cc_geom.specs.KeyLists.{has_key, AreDistinct}
 use Rattle.cc_geom.specs.KeyOrder.{key_cmp}
-use Rattle.cc_priority.specs.declared.rank.Rank.{Rank}
-use Rattle.cc_priority.specs.Ordered.{In}
 use Rattle.cc_store.specs.Stores.{Store, is_in_flight}
 use Rattle.cc_event.specs.declared.history.Entry.{Entry}
 use Rattle.cc_event.specs.Scripts.{ScriptModel}
@@ -31,13 +29,3 @@ pub record RebuildsNow (s : ScriptModel) (active pending : Option SeenTreeModel)
   pub seen_active : IsSeenWhere (active_tree s past) active
   pub seen_pending : IsSeenWhere (pending_tree s past) pending
   pub tiles : AreTilesAt s past store kept pins flying
-
--- one of the ranks is of this key, or none is
-abbrev pub IsRankAmong : List Rank → TileKey → Option Rank → Type 0
-IsRankAmong rs q (Some r) = In r rs × (r.key ≡ q)
-IsRankAmong rs q None = (r : Rank) → In r rs → r.key ≡ q → ⊥
-
--- the rank at this index is of this key, or none is
-abbrev pub IsRankAt : List Rank → TileKey → Option ℕ → Type 0
-IsRankAt rs q (Some at) = (at < length rs) × ((d : Rank) → (get_or rs at d).key ≡ q)
-IsRankAt rs q None = (r : Rank) → In r rs → r.key ≡ q → ⊥

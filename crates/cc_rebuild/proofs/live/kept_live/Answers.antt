@@ -6,7 +6,7 @@ use Rattle.cc_geom.specs.KeyOrder.{key_cmp}
 use Rattle.cc_edit.proofs.KeptPages.{weaken}
 use Rattle.cc_event.specs.Tiles.{keys_of}
 use Rattle.cc_event.proofs.KeyFacts.{has_filter, distinct_filter}
-use Rattle.cc_rebuild.proofs.KeyOrders.{filter_sorted}
+use Rattle.cc_tilemanager.proofs.KeyOrders.{filter_sorted}
 use Rattle.cc_rebuild.proofs.live.kept_live.Goals as goal
 
 pub returns-clause-once : goal.returns-clause-once

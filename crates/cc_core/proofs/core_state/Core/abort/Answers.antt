@@ -1,5 +1,5 @@
 -- What stands is moved, and both ways enter the abort.
-use Rattle.std.proofs.Common.{◌≡◌, ℕ, false, List, ◌∷◌, Some, refl, sym, ◌∙◌, ap, subst, arith}
+use Rattle.std.proofs.Common.{◌≡◌, ℕ, false, List, ◌∷◌, Some, refl, sym, ◌∙◌, subst, arith}
 use Rattle.cc_sched.specs.declared.kind.Kind.TheVariants as kind
 use Rattle.cc_event.specs.declared.event.Event.TheVariants as event
 use Rattle.cc_event.specs.declared.history.Entry.{Entry}
@@ -8,11 +8,7 @@ use Rattle.cc_event.specs.Scrolls.{clobbers}
 use Rattle.cc_event.specs.Legal.{Legal}
 use Rattle.cc_steps.specs.Events.{abort}
 use Rattle.cc_standing.specs.Standings.{StandingModel, Stands}
-use Rattle.cc_rebuild.proofs.SameTiles.{same_tiles}
-use Rattle.cc_tilemanager.specs.Managers.{Manages}
-use Rattle.cc_host.specs.Hosts.{Hosts}
 use Rattle.cc_log.specs.Runs.{Run, past, now}
-use Rattle.cc_core.proofs.CoreSteps.{one_more, refused}
 use Rattle.cc_core.proofs.MayCome.{comes_next}
 use Rattle.cc_core.proofs.QuietAborts.{none_named}
 use Rattle.cc_core.proofs.core_state.Core.abort.Goals as goal

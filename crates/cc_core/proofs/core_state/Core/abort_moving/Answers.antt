@@ -1,4 +1,4 @@
--- What stands has moved, and the queue follows.
+-- What stands has moved, and the ranks follow.
 use Rattle.std.proofs.Common.{◌≡◌, ℕ, List, ◌∷◌, Some, refl, sym, subst, arith}
 use Rattle.cc_sched.specs.declared.kind.Kind.TheVariants as kind
 use Rattle.cc_event.specs.declared.event.Event.TheVariants as event
@@ -24,9 +24,6 @@ enter_seen-requires c =
       is_now = may_come;
       actor = refl;
       within = omega arith;
-      manages = c.self.invariant.tiles;
-      same = same_tiles r.script h (abort 1 k) refl;
-      flying = refl;
       hosts = record { active = c.self.invariant.host.active; pending = c.self.invariant.host.pending; standing = stood; outright = c.self.invariant.host.outright };
     }
 
@@ -41,6 +38,6 @@ invariant_of-self-2 c =
     let may_come : now r kind.Abort 1 ≡ Some (event.Abort k) = subst (λ (z : Run). now z kind.Abort 1 ≡ Some (event.Abort k)) (sym c.self.view_is) c.requires.is_now in
     let stood : Stands r.script (abort 1 k ∷ h) c.args.standing = subst (λ (z : Run). Stands z.script (abort 1 k ∷ past z) c.args.standing) (sym c.self.view_is) c.requires.stands in
     let hosts : Hosts r.script (abort 1 k ∷ h) c.stand.new.self = c.stand.ensures.keeps r.script h (abort 1 k) refl refl refl c.self.invariant.host stood in
-    let holds : Manages r.script (abort 1 k ∷ h) c.requeue.new.self = c.requeue.ensures r.script h (abort 1 k ∷ h) c.self.invariant.tiles (same_tiles r.script h (abort 1 k) refl) c.in_ok-next.ensures.outlook.queue in
-    one_more (record { host = c.stand.new.self; tiles = c.requeue.new.self; told = c.self.inside.told; prepared = c.self.inside.prepared; required = c.in_ok-next.next.required }) r c.enter_seen.new.log 1 (event.Abort k) c.in_ok-next.ensures.entered
-    (abort_core r.script h (record { host = c.self.inside.host; tiles = c.self.inside.tiles; told = c.self.inside.told; prepared = c.self.inside.prepared; required = c.self.inside.required }) c.self.invariant c.stand.new.self c.requeue.new.self c.in_ok-next.next.required k hosts holds c.in_ok-next.ensures.outlook.required)
+    let holds : Manages r.script (abort 1 k ∷ h) c.rerank.new.self = c.rerank.ensures r.script h (abort 1 k ∷ h) c.self.invariant.tiles (same_tiles r.script h (abort 1 k) refl) c.in_ok-next.ensures.outlook.ranks in
+    one_more (record { host = c.stand.new.self; tiles = c.rerank.new.self; told = c.self.inside.told; prepared = c.self.inside.prepared; required = c.in_ok-next.next.required }) r c.enter_seen.new.log 1 (event.Abort k) c.in_ok-next.ensures.entered
+    (abort_core r.script h (record { host = c.self.inside.host; tiles = c.self.inside.tiles; told = c.self.inside.told; prepared = c.self.inside.prepared; required = c.self.inside.required }) c.self.invariant c.stand.new.self c.rerank.new.self c.in_ok-next.next.required k hosts holds c.in_ok-next.ensures.outlook.required)

@@ -12,7 +12,6 @@ use Rattle.cc_standing.specs.Standings.{StandingModel, Stands}
 use Rattle.cc_ranks.specs.SeenTrees.{SeenTreeModel, IsSeenTree, IsSeenWhere}
 use Rattle.cc_rebuild.specs.Rebuilds.{ActivatesNow, AreForActivation}
 use Rattle.cc_host.specs.Hosts.{Hosts, with_standing}
-use Rattle.cc_log.specs.declared.progress.Progress.{Progress}
 use Rattle.cc_log.specs.Runs.{Run, past, now}
 use Rattle.cc_core.proofs.ActivationSteps.{of_activation}
 use Rattle.cc_core.proofs.core_state.Core.activated_tiles.Goals as goal
@@ -29,7 +28,7 @@ activation_of-requires c =
     let seen = c.in_ok-seen.ensures.trees r.script h hosts in
     let is_there : c.in_ok-seen.seen.pending ≡ Some c.in-Some.pending.now = sym c.as_ref.ensures.value ∙ ap option_copied c.in-Some.is in
     let tree : IsSeenTree (pending_tree r.script h) c.in-Some.pending.now = subst (λ (o : Option SeenTreeModel). IsSeenWhere (pending_tree r.script h) o) is_there seen.pending in
-    subst (λ (s : ScriptModel). ActivatesNow s c.in-Some.pending.now c.self.inside.required c.self.inside.tiles c.progress-in_flight.result.in_flight) (sym (c.deref.ensures ∙ c.script.ensures))
+    subst (λ (s : ScriptModel). ActivatesNow s c.in-Some.pending.now c.self.inside.required c.self.inside.tiles) (sym (c.deref.ensures ∙ c.script.ensures))
     (record {
       workers = r.workers;
       past = h;
@@ -40,7 +39,6 @@ activation_of-requires c =
       manages = c.self.invariant.tiles;
       seen = tree;
       keys = c.self.invariant.required;
-      as_many = ap (λ (p : Progress). p.in_flight) c.progress-in_flight.ensures;
     })
 
 pub returns : goal.returns
@@ -58,6 +56,6 @@ returns c =
     let legal = (of_activation r.script r.workers h c.args.frame (next_clamps r.script h) c.is_legal.ensures.legal may waits refl).legal in
     weaken c.activation_of.result
     (λ next brings.
-    subst (λ (z : Run). AreForActivation z.script (past z) 0 c.args.frame (next_clamps z.script (past z)) next.pins next.live next.queue) c.self.view_is
-    (brings r.script r.workers h 0 c.args.frame (next_clamps r.script h) legal (c.deref.ensures ∙ c.script.ensures) c.self.invariant.tiles tree c.self.invariant.required (ap (λ (p : Progress). p.in_flight) c.progress-in_flight.ensures)))
+    subst (λ (z : Run). AreForActivation z.script (past z) 0 c.args.frame (next_clamps z.script (past z)) next.pins next.live next.ranks) c.self.view_is
+    (brings r.script r.workers h 0 c.args.frame (next_clamps r.script h) legal (c.deref.ensures ∙ c.script.ensures) c.self.invariant.tiles tree c.self.invariant.required))
     c.activation_of.ensures

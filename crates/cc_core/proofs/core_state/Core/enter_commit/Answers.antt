@@ -47,9 +47,6 @@ enter_seen-entered-requires c =
       is_now = may_come;
       actor = refl;
       within = omega arith;
-      manages = c.self.invariant.tiles;
-      same = is.same;
-      flying = refl;
       hosts = record { active = pushed.active; pending = pushed.pending; standing = subst (λ (st : StandingModel). Stands r.script (commit 0 k ∷ h) st) (sym c.standing.ensures) pushed.standing; outright = pushed.outright };
     }
 
@@ -65,9 +62,9 @@ invariant_of-self-in-Ok-1 c =
     let pushed : Hosts r.script (commit 0 k ∷ h) c.push_prepared.new.host =
     subst (λ (z : ScriptModel). (workers : ℕ) (past : List Entry) (actor : ℕ) → IsAccepted z → Legal z workers (commit actor k ∷ past) → Hosts z past kept.host → IsPrepared z (pulls_of past) k kept.prepared → Hosts z (commit actor k ∷ past) c.push_prepared.new.host)
     same c.in_ok-before.ensures.hosts r.workers h 0 c.is_legal.ensures.accepted is.legal c.self.invariant.host is.is_prepared in
-    let holds : Manages r.script (commit 0 k ∷ h) c.requeue.new.self = c.requeue.ensures r.script h (commit 0 k ∷ h) c.self.invariant.tiles is.same c.in-Ok.ensures.outlook.queue in
-    one_more (record { host = c.push_prepared.new.host; tiles = c.requeue.new.self; told = kept.told; prepared = kept.prepared; required = c.in-Ok.next.required }) r c.enter_seen-entered.new.log 0 (event.Commit k) c.in-Ok.ensures.entered
-    (commit_core r.script h kept c.self.invariant c.push_prepared.new.host c.requeue.new.self c.in-Ok.next.required k pushed holds c.in-Ok.ensures.outlook.required)
+    let holds : Manages r.script (commit 0 k ∷ h) c.rerank.new.self = c.rerank.ensures r.script h (commit 0 k ∷ h) c.self.invariant.tiles is.same c.in-Ok.ensures.outlook.ranks in
+    one_more (record { host = c.push_prepared.new.host; tiles = c.rerank.new.self; told = kept.told; prepared = kept.prepared; required = c.in-Ok.next.required }) r c.enter_seen-entered.new.log 0 (event.Commit k) c.in-Ok.ensures.entered
+    (commit_core r.script h kept c.self.invariant c.push_prepared.new.host c.rerank.new.self c.in-Ok.next.required k pushed holds c.in-Ok.ensures.outlook.required)
 
 pub invariant_of-self-in-Err : goal.invariant_of-self-in-Err
 invariant_of-self-in-Err c =

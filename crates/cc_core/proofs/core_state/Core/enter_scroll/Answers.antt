@@ -1,4 +1,4 @@
--- A scroll moves what stands, and the queue follows.
+-- A scroll moves what stands, and the ranks follow.
 use Rattle.std.proofs.Common.{◌≡◌, ℕ, ℤ, true, List, [], ◌∷◌, Some, refl, sym, ◌∙◌, ap, subst, arith}
 use Rattle.std.proofs.lemmas.Int.{to_z-of_z}
 use Rattle.cc_sched.specs.declared.kind.Kind.TheVariants as kind
@@ -68,14 +68,11 @@ enter_seen-requires c =
     let is_event : c.scroll_event-event.result ≡ e = c.scroll_event-event.ensures in
     let before = subst (λ (st : StandingModel). Stands r.script h st) (sym c.standing-2.ensures) c.self.invariant.host.standing in
     let moved : Stands r.script (entry 0 e ∷ h) c.in_ok-standing.standing = c.in_ok-standing.ensures r.script r.workers h (entry 0 e) of.legal refl (of.moves ∙ ap (λ (m : Move). m ∷ []) (sym c.move_by.ensures)) before pages in
-    subst (λ (z : Event). EntersNow r 0 z c.self.inside.host c.in_ok-standing.standing c.self.inside.tiles) (sym is_event)
+    subst (λ (z : Event). EntersNow r 0 z c.self.inside.host c.in_ok-standing.standing) (sym is_event)
     (record {
       is_now = of.may_come;
       actor = refl;
       within = omega arith;
-      manages = c.self.invariant.tiles;
-      same = same_tiles r.script h (entry 0 e) refl;
-      flying = refl;
       hosts = record { active = c.self.invariant.host.active; pending = c.self.invariant.host.pending; standing = moved; outright = c.self.invariant.host.outright };
     })
 
@@ -101,12 +98,12 @@ invariant_of-self-2 c =
     let is_event : c.scroll_event-event.result ≡ e = c.scroll_event-event.ensures in
     let before = subst (λ (st : StandingModel). Stands r.script h st) (sym c.standing-2.ensures) c.self.invariant.host.standing in
     let moved : Stands r.script (entry 0 e ∷ h) c.in_ok-standing.standing = c.in_ok-standing.ensures r.script r.workers h (entry 0 e) of.legal refl (of.moves ∙ ap (λ (m : Move). m ∷ []) (sym c.move_by.ensures)) before pages in
-    let outlook : IsOutlookAfter r 0 e c.in_ok-next.next.queue c.in_ok-next.next.required = subst (λ (z : Event). IsOutlookAfter r 0 z c.in_ok-next.next.queue c.in_ok-next.next.required) is_event c.in_ok-next.ensures.outlook in
+    let outlook : IsOutlookAfter r 0 e c.in_ok-next.next.ranks c.in_ok-next.next.required = subst (λ (z : Event). IsOutlookAfter r 0 z c.in_ok-next.next.ranks c.in_ok-next.next.required) is_event c.in_ok-next.ensures.outlook in
     let entered : c.enter_seen.new.log ≡ with_entry r 0 e = subst (λ (z : Event). c.enter_seen.new.log ≡ with_entry r 0 z) is_event c.in_ok-next.ensures.entered in
     let hosts : Hosts r.script (entry 0 e ∷ h) c.stand.new.self = c.stand.ensures.keeps r.script h (entry 0 e) refl refl refl c.self.invariant.host moved in
-    let holds : Manages r.script (entry 0 e ∷ h) c.requeue.new.self = c.requeue.ensures r.script h (entry 0 e ∷ h) c.self.invariant.tiles (same_tiles r.script h (entry 0 e) refl) outlook.queue in
-    one_more (record { host = c.stand.new.self; tiles = c.requeue.new.self; told = c.self.inside.told; prepared = c.self.inside.prepared; required = c.in_ok-next.next.required }) r c.enter_seen.new.log 0 e entered
-    (scroll_core r.script h (record { host = c.self.inside.host; tiles = c.self.inside.tiles; told = c.self.inside.told; prepared = c.self.inside.prepared; required = c.self.inside.required }) c.self.invariant c.stand.new.self c.requeue.new.self c.in_ok-next.next.required i x y hosts holds outlook.required)
+    let holds : Manages r.script (entry 0 e ∷ h) c.rerank.new.self = c.rerank.ensures r.script h (entry 0 e ∷ h) c.self.invariant.tiles (same_tiles r.script h (entry 0 e) refl) outlook.ranks in
+    one_more (record { host = c.stand.new.self; tiles = c.rerank.new.self; told = c.self.inside.told; prepared = c.self.inside.prepared; required = c.in_ok-next.next.required }) r c.enter_seen.new.log 0 e entered
+    (scroll_core r.script h (record { host = c.self.inside.host; tiles = c.self.inside.tiles; told = c.self.inside.told; prepared = c.self.inside.prepared; required = c.self.inside.required }) c.self.invariant c.stand.new.self c.rerank.new.self c.in_ok-next.next.required i x y hosts holds outlook.required)
 
 pub returns-clause-ok : goal.returns-clause-ok
 returns-clause-ok c =

@@ -8,4 +8,4 @@ use Rattle.cc_core.proofs.core_state.Core.first.Goals as goal
 pub returns : goal.returns
 returns c =
     let r = c.self.inside.log in
-    c.next_start.ensures r.script (past r) c.self.invariant.tiles ∙ ap (λ (z : Run). option_map rank_key (first z.script (past z))) c.self.view_is
+    c.next_start.ensures r.script r.workers (past r) c.is_legal.ensures.legal c.self.invariant.tiles ∙ ap (λ (z : Run). option_map rank_key (first z.script (past z))) c.self.view_is

@@ -27,7 +27,7 @@ start-requires-clause-next c =
     let free : held w (past r) ≡ None = subst (λ (z : Run). held w (past z) ≡ None) (sym c.self.view_is) c.requires.free in
     let first : IsFirst r.script (past r) q = next_first r.script (past r) q (subst (λ (z : Run). next_key z ≡ Some q) (sym c.self.view_is) c.requires.next) in
     let within : w < r.workers = subst (λ (z : Run). w < z.workers) (sym c.self.view_is) c.requires.worker in
-    let gone = c.in_ok-evicted.ensures r.script (past r) first.rank c.self.invariant.tiles first.is_first first.key in
+    let gone = c.in_ok-evicted.ensures r.script r.workers (past r) first.rank c.is_legal.ensures.legal c.self.invariant.tiles first.is_first first.key in
     record {
       script = r.script;
       workers = r.workers;
@@ -48,7 +48,7 @@ invariant_of-self-2 c =
     let free : held w (past r) ≡ None = subst (λ (z : Run). held w (past z) ≡ None) (sym c.self.view_is) c.requires.free in
     let first : IsFirst r.script (past r) q = next_first r.script (past r) q (subst (λ (z : Run). next_key z ≡ Some q) (sym c.self.view_is) c.requires.next) in
     let within : w < r.workers = subst (λ (z : Run). w < z.workers) (sym c.self.view_is) c.requires.worker in
-    let gone = c.in_ok-evicted.ensures r.script (past r) first.rank c.self.invariant.tiles first.is_first first.key in
+    let gone = c.in_ok-evicted.ensures r.script r.workers (past r) first.rank c.is_legal.ensures.legal c.self.invariant.tiles first.is_first first.key in
     let legal : Legal r.script r.workers (start (2 + w) w q ks ∷ past r) =
     comes_next r.script r.workers (past r) (2 + w) (event.Start w q ks) c.is_legal.ensures.legal (start_now r.script (past r) first.going w free first.rank first.is_first q first.key ks gone) refl (omega (arith, within)) in
     let started : Manages r.script (start (2 + w) w q ks ∷ past r) c.start.new.self =

@@ -1,34 +1,28 @@
--- The store takes the image, and the queue the tile.
+-- The store takes the image, and the outlook the tile.
 use Rattle.std.proofs.Common.{◌∷◌, ◌∙◌, ap, sym, subst}
 use Rattle.cc_store.specs.Stores.{done_with}
 use Rattle.cc_steps.specs.Events.{done}
 use Rattle.cc_tilemanager.specs.Managers.{Managed, Manages}
-use Rattle.cc_tilemanager.proofs.DoneTiles.{is_flying, some_flies, new_tile, done_holds}
+use Rattle.cc_tilemanager.proofs.DoneTiles.{is_flying, may_finish, done_holds}
 use Rattle.cc_tilemanager.proofs.manager.TileManager.done.Goals as goal
 
 pub done-requires : goal.done-requires
 done-requires c =
     let r = c.requires in
-    let m : Managed = record { store = c.self.inside.store; pinned = c.self.inside.pins; queue = c.self.inside.queue } in
+    let m : Managed = record { store = c.self.inside.store; pinned = c.self.inside.pins; outlook = c.self.inside.outlook } in
     is_flying r.script r.workers r.past r.actor r.worker c.args.image.value r.legal m (subst (Manages r.script r.past) (sym c.self.view_is) r.manages)
 
-pub finished-requires-clause-some : goal.finished-requires-clause-some
-finished-requires-clause-some c =
+pub finish-requires : goal.finish-requires
+finish-requires c =
     let r = c.requires in
-    let m : Managed = record { store = c.self.inside.store; pinned = c.self.inside.pins; queue = c.self.inside.queue } in
-    some_flies r.script r.workers r.past r.actor r.worker c.args.image.value r.legal m (subst (Manages r.script r.past) (sym c.self.view_is) r.manages)
-
-pub finished-requires-clause-new : goal.finished-requires-clause-new
-finished-requires-clause-new c =
-    let r = c.requires in
-    let m : Managed = record { store = c.self.inside.store; pinned = c.self.inside.pins; queue = c.self.inside.queue } in
-    new_tile r.script r.workers r.past r.actor r.worker c.args.image.value r.legal m (subst (Manages r.script r.past) (sym c.self.view_is) r.manages) c.args.tile r.is_tile
+    let m : Managed = record { store = c.self.inside.store; pinned = c.self.inside.pins; outlook = c.self.inside.outlook } in
+    may_finish r.script r.workers r.past r.actor r.worker c.args.image.value r.legal m (subst (Manages r.script r.past) (sym c.self.view_is) r.manages) c.args.tile r.is_tile
 
 pub returns : goal.returns
 returns c = λ s n h a w holds legal is_tile shows.
-    let m : Managed = record { store = c.self.inside.store; pinned = c.self.inside.pins; queue = c.self.inside.queue } in
+    let m : Managed = record { store = c.self.inside.store; pinned = c.self.inside.pins; outlook = c.self.inside.outlook } in
     let i = c.args.image.value in
     let spare = c.done.new.self.spare in
     let stored = c.done.ensures.store ∙ ap (λ b. done_with c.self.inside.store i b spare) c.is_some.ensures in
-    subst (λ store. Manages s (done a w i.key ∷ h) (record { store = store; pinned = c.self.inside.pins; queue = c.finished.new.self })) (sym stored)
-    (done_holds s n h a w i legal m (subst (Manages s h) (sym c.self.view_is) holds) shows c.args.tile spare c.finished.new.self is_tile c.finished.ensures)
+    subst (λ store. Manages s (done a w i.key ∷ h) (record { store = store; pinned = c.self.inside.pins; outlook = c.finish.new.self })) (sym stored)
+    (done_holds s n h a w i legal m (subst (Manages s h) (sym c.self.view_is) holds) shows c.args.tile spare c.finish.new.self is_tile c.finish.ensures)

@@ -6,5 +6,5 @@ use Rattle.cc_tilemanager.proofs.manager.TileManager.used.Goals as goal
 
 pub returns : goal.returns
 returns c = λ s n h legal holds.
-    let m : Managed = record { store = c.self.inside.store; pinned = c.self.inside.pins; queue = c.self.inside.queue } in
+    let m : Managed = record { store = c.self.inside.store; pinned = c.self.inside.pins; outlook = c.self.inside.outlook } in
     c.used.ensures ∙ used_is s n h m legal (subst (Manages s h) (sym c.self.view_is) holds)

@@ -1,0 +1,30 @@
+-- What a start and its end do to an outlook.
+use Rattle.std.specs.Prelude.{◌≡◌, ◌≤◌, Option, List, IfSome}
+use Rattle.cc_geom.specs.declared.tile.TileKey.{TileKey}
+use Rattle.cc_priority.specs.Tiles.{Tile}
+use Rattle.cc_priority.specs.Alike.{Alike, started, finished}
+use Rattle.cc_rasterq.specs.Queues.{IsNew, MayStartWith}
+use Rattle.cc_tilemanager.specs.declared.outlook.Outlook.{Outlook}
+use Rattle.cc_tilemanager.specs.declared.outlook.Outlook.TheVariants as outlook
+
+-- the key may start, where these keys are given up for it
+abbrev pub MayStartNext : Outlook → TileKey → List TileKey → Type 0
+MayStartNext (outlook.Queue c) q ks = MayStartWith c q ks
+MayStartNext (outlook.Ranks r) q ks = Unit {0}
+
+-- a queue has started the key; ranks stay
+abbrev pub HasStarted : Outlook → TileKey → List TileKey → Outlook → Type 0
+HasStarted (outlook.Queue c) q ks (outlook.Queue d) = Alike d (started c q ks)
+HasStarted (outlook.Queue c) q ks (outlook.Ranks r) = ⊥
+HasStarted (outlook.Ranks r) q ks new = new ≡ outlook.Ranks r
+
+-- a tile in flight may be made: where it is given, its key was neither wanted nor ready
+abbrev pub MayFinish : Outlook → Option Tile → Type 0
+MayFinish (outlook.Queue c) tile = (1 ≤ c.in_flight) × IfSome tile (λ t. IsNew c t.key)
+MayFinish (outlook.Ranks r) tile = Unit {0}
+
+-- a queue has finished the tile; ranks stay
+abbrev pub HasFinished : Outlook → Option Tile → Outlook → Type 0
+HasFinished (outlook.Queue c) tile (outlook.Queue d) = Alike d (finished c tile)
+HasFinished (outlook.Queue c) tile (outlook.Ranks r) = ⊥
+HasFinished (outlook.Ranks r) tile new = new ≡ outlook.Ranks r
