@@ -1,23 +1,25 @@
 -- How many of the ready tiles may be given up, and the best of some ranks.
-use Rattle.std.proofs.Common.{◌≡◌, inl, inr, ℕ, suc, ◌+◌, ◌-◌, ◌≤◌, Bool, true, false, cond, not, ◌&&◌, ◌||◌, Option, Some, None, List, [], ◌∷◌, length, get_or, drop, map, filter, refl, sym, ◌∙◌, ap, subst, add-one, arith, drop-cons}
+use Rattle.std.proofs.Common.{◌≡◌, inl, inr, ℕ, suc, ◌+◌, ◌<◌, Bool, true, false, cond, not, ◌&&◌, ◌||◌, Option, Some, None, List, [], ◌∷◌, ◌++◌, length, get_or, take, map, filter, refl, sym, ◌∙◌, ap, subst, arith, append-nil}
 use Rattle.std.specs.List.{find}
 use Rattle.std.specs.FinMap as fin
 use Rattle.std.specs.declared.cmp.Ordering.{Ordering}
 use Rattle.std.specs.declared.cmp.Ordering.TheVariants.{Less, Equal, Greater}
 use Rattle.std.proofs.lemmas.List.{length-map}
+use Rattle.std.proofs.lemmas.List.Elements.{filter_more}
 use Rattle.cc_geom.specs.declared.tile.TileKey.{TileKey}
 use Rattle.cc_geom.specs.KeyLists.{same_key, has_key, AreDistinct}
 use Rattle.cc_geom.proofs.KeyLists.{one_key}
 use Rattle.cc_priority.specs.declared.rank.Bin.{Bin}
 use Rattle.cc_priority.specs.declared.rank.Rank.{Rank}
-use Rattle.cc_priority.specs.Ranks.{at_order, least}
-use Rattle.cc_priority.specs.Ordered.{In, with_member, in_order}
+use Rattle.cc_priority.specs.Ranks.{at_order, rank_cmp, least}
+use Rattle.cc_priority.specs.Ordered.{In, SameMembers, with_member, in_order}
 use Rattle.cc_priority.specs.Laws.{IsOrder}
 use Rattle.cc_priority.specs.Tiles.{Tile}
 use Rattle.cc_priority.specs.Choice.{victim_of, victim_key, victim_by, gives_way, is_worse, worst_cmp, worst_first, least_of}
 use Rattle.cc_priority.specs.Alike.{is_of}
-use Rattle.cc_priority.proofs.InOrder.{in_map, in_order_members}
-use Rattle.cc_priority.proofs.RankOrders.{worst_order}
+use Rattle.cc_priority.proofs.InOrder.{in_map, in_order_members, orders_fix}
+use Rattle.cc_priority.proofs.Members.{in_append, in_append_left, in_append_right}
+use Rattle.cc_priority.proofs.RankOrders.{rank_order, worst_order, IsLeastOf, least_of_is}
 use Rattle.cc_rasterq.specs.Queues.{rank_key}
 use Rattle.cc_store.specs.Stores.{Store, is_ready}
 use Rattle.cc_event.proofs.BoolFacts.{not_both}
@@ -29,21 +31,31 @@ use Rattle.cc_tilemanager.specs.inner.Places.{IsRankAmong}
 use Rattle.cc_tilemanager.proofs.RankedKeys.{find_among}
 use Rattle.cc_tilemanager.proofs.ReadyKeys.{keys_once, keys_ready}
 
--- the best of some ranks, from the best of the later ones
+-- the best of some ranks, and of one more behind them
 
-pub best_more : (f : Rank → Bool) (ranks : List Rank) (left : ℕ) (d : Rank) (best : Option Rank) → 1 ≤ left → left ≤ length ranks → best ≡ least_of (filter f (drop left ranks))
-    → cond (f (get_or ranks (left - 1) d)) (least (Some (get_or ranks (left - 1) d)) best) best ≡ least_of (filter f (drop (left - 1) ranks))
-best_more f ranks left d best some within old = go (f (get_or ranks (left - 1) d)) ∙ ap (λ (rs : List Rank). least_of (filter f rs)) (sym rest)
+least_one : (xs ys : List Rank) (o p : Option Rank) → SameMembers xs ys → IsLeastOf xs o → IsLeastOf ys p → o ≡ p
+least_one xs ys None None same f g = refl
+least_one xs ys None (Some q) same f g = absurd (f q (same.back q g.one))
+least_one xs ys (Some r) None same f g = absurd (g r (same.there r f.one))
+least_one xs ys (Some r) (Some q) same f g =
+    ap Some ((orders_fix rank_cmp rank_order).least r q ys (record { one = same.there r f.one; none_before = λ y i l. f.none_before y (same.back y i) l }) g)
+
+least_same : (xs ys : List Rank) → SameMembers xs ys → least_of xs ≡ least_of ys
+least_same xs ys same = least_one xs ys (least_of xs) (least_of ys) same (least_of_is xs) (least_of_is ys)
+
+behind : (r : Rank) (xs : List Rank) → SameMembers (r ∷ xs) (xs ++ r ∷ [])
+behind r xs = record {
+  there = λ x i. elim i [ inl e ↦ in_append_right x xs (r ∷ []) (inl e) | inr j ↦ in_append_left x xs (r ∷ []) j ];
+  back = λ x i. elim (in_append x xs (r ∷ []) i) [ inl j ↦ inr j | inr j ↦ elim j [ inl e ↦ inl e | inr k ↦ absurd k ] ];
+}
+
+pub best_more : (f : Rank → Bool) (rs : List Rank) (i : ℕ) (d : Rank) (best : Option Rank) → i < length rs → best ≡ least_of (filter f (take i rs))
+    → cond (f (get_or rs i d)) (least (Some (get_or rs i d)) best) best ≡ least_of (filter f (take (i + 1) rs))
+best_more f rs i d best lt old = by_test (f (get_or rs i d)) ∙ sym (ap least_of (filter_more f rs i d lt))
   where
-    next : suc (left - 1) ≡ left
-    next = let e : (left - 1) + 1 ≡ left = omega (arith, some) in sym (add-one (left - 1)) ∙ e
-
-    rest : drop (left - 1) ranks ≡ get_or ranks (left - 1) d ∷ drop left ranks
-    rest = drop-cons ranks (left - 1) d (omega (arith, some, within)) ∙ ap (λ (n : ℕ). get_or ranks (left - 1) d ∷ drop n ranks) next
-
-    go : (b : Bool) → cond b (least (Some (get_or ranks (left - 1) d)) best) best ≡ least_of (cond b (get_or ranks (left - 1) d ∷ filter f (drop left ranks)) (filter f (drop left ranks)))
-    go true = ap (λ (o : Option Rank). least (Some (get_or ranks (left - 1) d)) o) old
-    go false = old
+    by_test : (b : Bool) → cond b (least (Some (get_or rs i d)) best) best ≡ least_of (filter f (take i rs) ++ cond b (get_or rs i d ∷ []) [])
+    by_test true = ap (least (Some (get_or rs i d))) old ∙ least_same (get_or rs i d ∷ filter f (take i rs)) (filter f (take i rs) ++ get_or rs i d ∷ []) (behind (get_or rs i d) (filter f (take i rs)))
+    by_test false = old ∙ ap least_of (sym (append-nil (filter f (take i rs))))
 
 -- as many pass a test as pass it with another and without it
 

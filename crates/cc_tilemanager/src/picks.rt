@@ -38,8 +38,8 @@ pub(crate) fn in_key_order(ranks: Vec<Rank>) -> Vec<Rank>
     ordered
 }
 
-// Whether a key is being made, of which there are so many.
-fn is_made_now(store: &TileStore, in_flight: u32, key: TileKey) -> bool
+/// Whether a key is being made, of which there are so many.
+pub(crate) fn is_made_now(store: &TileStore, in_flight: u32, key: TileKey) -> bool
     requires { in_flight ≡ 0 → is_in_flight store.now key ≡ false }
     ensures { result ≡ is_in_flight store.now key }
 {

@@ -5,20 +5,21 @@
 //! once, and takes no memory.
 
 ghost use Rattle.std.specs.Prelude.{◌≡◌, ◌+◌, ◌-◌, cond, map, filter, length, take, Some, option_map, IfOk};
+ghost use Rattle.std.specs.FinSet as set;
 ghost use Rattle.cc_geom.specs.KeyLists.{AreDistinct};
 ghost use Rattle.cc_priority.specs.declared.rank.Rank.{Rank as Ranking};
-ghost use Rattle.cc_priority.specs.Ranks as ranks;
 ghost use Rattle.cc_priority.specs.Ranks.{rank_cmp};
 ghost use Rattle.cc_priority.specs.Ordered.{in_order};
+ghost use Rattle.cc_priority.specs.Ranks as ranks;
 ghost use Rattle.cc_priority.specs.Choice as choosing;
 ghost use Rattle.cc_priority.specs.Choice.{gives_way, used, least_of};
 ghost use Rattle.cc_priority.specs.Alike.{Alike};
 ghost use Rattle.cc_rasterq.specs.Queues.{rank_key, AreEvictedFor};
 ghost use Rattle.cc_tilemanager.specs.Choices.{is_missing, choice_among};
 
-use crate::picks::{in_key_order, missing, ready_tiles};
+use crate::picks::{in_key_order, is_made_now, missing, ready_tiles};
 use crate::pins::Pins;
-use crate::stays::{staying, unpinned};
+use crate::stays::{ready_count, staying, unpinned};
 use cc_geom::{Keys, TileKey};
 use cc_priority::{Bin, Rank, least};
 use cc_rasterq::RasterQueue;
@@ -46,34 +47,50 @@ impl Model for Ranks {
     ghost invariant = { λ r. AreDistinct (map rank_key r.ranks.items) };
 }
 
-// Whether a key is neither ready nor being made.
-fn is_missing(store: &TileStore, key: TileKey) -> bool
-    ensures { result ≡ is_missing store.now key }
+// How many keys are being made.
+fn in_flight(store: &TileStore) -> u32
+    ensures { result ≡ set.len store.now.in_flight }
 {
-    store.ready(key).is_none() && !store.in_flight(key)
+    store.used() - ready_count(store)
 }
 
-// The better of a rank, where its key is missing, and another.
-fn better(store: &TileStore, rank: Rank, other: Option<Rank>) -> Option<Rank>
+// Whether a key is neither ready, which is looked for at `near` first, nor being made, of which there are so many.
+fn is_missing(store: &TileStore, near: &mut usize, in_flight: u32, key: TileKey) -> bool
+    requires { in_flight ≡ set.len store.now.in_flight }
+    ensures { result ≡ is_missing store.now key }
+{
+    let is_ready = store.ready_near(near, key).is_some();
+    !is_ready && !is_made_now(store, in_flight, key)
+}
+
+// The better of a rank, where its key is missing, and another. `near` and `in_flight` are as in `is_missing`.
+fn better(
+    store: &TileStore,
+    near: &mut usize,
+    in_flight: u32,
+    rank: Rank,
+    other: Option<Rank>,
+) -> Option<Rank>
+    requires { in_flight ≡ set.len store.now.in_flight }
     ensures { result ≡ cond (is_missing store.now rank.key) (ranks.least (Some rank) other) other }
 {
-    if is_missing(store, rank.key) {
+    if is_missing(store, near, in_flight, rank.key) {
         least(Some(rank), other)
     } else {
         other
     }
 }
 
-// The best of the ranks whose keys are neither ready nor being made.
+// The best of the ranks whose keys are neither ready nor being made. They stand nearly in the order of their
+// keys, so that most are found or missed without a search.
 fn best_missing(store: &TileStore, ranks: &[Rank]) -> Option<Rank>
     ensures { result ≡ least_of (filter (λ r. is_missing store.now r.key) ranks.now) }
 {
+    let in_flight = in_flight(store);
+    let mut near = 0;
     let mut best = None;
-    let mut left = ranks.len();
-    while left > 0 {
-        let at = left - 1;
-        best = better(store, ranks[at], best);
-        left = at;
+    for rank in ranks {
+        best = better(store, &mut near, in_flight, *rank, best);
     }
     best
 }

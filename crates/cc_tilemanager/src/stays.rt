@@ -9,6 +9,20 @@ use crate::pins::Pins;
 use cc_priority::{Bin, Rank};
 use cc_store::TileStore;
 
+/// How many keys are ready.
+pub(crate) fn ready_count(store: &TileStore) -> u32
+    ensures { result ≡ fin.len store.now.ready }
+{
+    // There are no more, so that the count fits.
+    let _ = store.used();
+    let mut count = 0;
+    let mut keys = store.each_ready();
+    while let Some(_) = keys.next() {
+        count += 1;
+    }
+    count
+}
+
 /// How many of the ready keys are not pinned.
 pub(crate) fn unpinned(store: &TileStore, pins: &Pins) -> usize
     ensures { result ≡ length (filter (λ q. not (has_key pins.now q)) (fin.keys store.now.ready)) }
