@@ -16,3 +16,4 @@ mod vectors;
 pub use colour::colour_over_area;
 pub use fade::{faded_over, scale_into};
 pub use rows::rows_over_area;
+pub use sixteen::are_sixteen_opaque;

@@ -7,9 +7,9 @@ ghost use Rattle.cc_pixel.specs.Rows.{pixel, ArePremultiplied};
 use crate::four::four_at;
 use cc_pixel::lanes::{are_clear, are_opaque};
 
-/// Whether sixteen pixels of a row, from pixel `k` on, are opaque
+/// Whether sixteen pixels of a row, from pixel `k` on, are opaque.
 #[inline(always)]
-pub(crate) fn are_sixteen_opaque(row: &[u8], k: usize) -> bool
+pub fn are_sixteen_opaque(row: &[u8], k: usize) -> bool
     requires inside { 4 * (k + 16) ≤ length row.now }
     requires premultiplied { ArePremultiplied row.now }
     ensures { IsTrue result → (j : ℕ) → j < 16 → (below : Parts) → pixel row.now (k + j) ≡ blend below (pixel row.now (k + j)) }
@@ -37,7 +37,7 @@ fn are_four_opaque(row: &[u8], k: usize) -> bool
     are_opaque(four_at(row, k))
 }
 
-/// Whether sixteen pixels of a row, from pixel `k` on, are clear
+/// Whether sixteen pixels of a row, from pixel `k` on, are clear.
 #[inline(always)]
 pub(crate) fn are_sixteen_clear(row: &[u8], k: usize) -> bool
     requires inside { 4 * (k + 16) ≤ length row.now }
