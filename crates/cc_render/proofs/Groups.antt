@@ -4,13 +4,14 @@ use Rattle.cc_geom.specs.declared.Rect.{Rect}
 use Rattle.cc_geom.specs.Covers.{covers}
 use Rattle.cc_pixel.specs.Colours.{Parts, blend, scaled, clear, times_255}
 use Rattle.cc_pixel.specs.Rows.{pixel}
-use Rattle.cc_pixel.specs.Surfaces.{EachPixel, within, holds}
+use Rattle.cc_pixel.specs.Surfaces.{within, holds}
 use Rattle.cc_pixel.proofs.Fills.{same_parts}
 use Rattle.cc_pixel.proofs.Blends.{clear_shows}
 use Rattle.cc_display.specs.declared.Part.{Part}
 use Rattle.cc_display.specs.Bitmaps.{near}
 use Rattle.cc_display.specs.Shared.{IsShared, IsOutside}
-use Rattle.cc_render.specs.inner.Drawing.{SurfaceView, colour_of, colours, EachPoint}
+use Rattle.cc_render.specs.inner.Drawing.{SurfaceView, colour_of, colours}
+use Rattle.cc_render.specs.inner.Masks.{EachOpen, EachOpenPoint}
 use Rattle.cc_scene.specs.Views.{grouped}
 use Rattle.cc_scene.specs.Pixels.{quad_over}
 use Rattle.cc_render.proofs.Tiles.{from_left, from_top}
@@ -41,26 +42,26 @@ part_place pass area part x y shared h =
     ∙ ap (λ (k : ℕ). pixel pass.bytes ((y - part.at.y + part.above) * near pass.rect.w + k)) (shared.column x (from_left part x y h)))
 
 -- the part of a pass that lies in the area, drawn where it lies
-pub group_part_shown : (area : Rect) (pass : SurfaceView) (part : Part) (opacity : ℕ) (old new : List ℕ) → IsShared pass.rect area part
-    → EachPixel (near area.w) (near area.h)
+pub group_part_shown : (area : Rect) (pass : SurfaceView) (part : Part) (opacity : ℕ) (tops : List ℕ) (number : ℕ) (old new : List ℕ) → IsShared pass.rect area part
+    → EachOpen (near area.w) (near area.h) tops number
     (within part.at part.at.h (λ x y below. blend below (scaled (pixel pass.bytes ((y - part.at.y + part.above) * near pass.rect.w + (x - part.at.x + part.left))) opacity)))
     old new
-    → EachPoint area (λ x y below. blend below (scaled (colour_of pass x y) opacity)) old new
+    → EachOpenPoint area tops number (λ x y below. blend below (scaled (colour_of pass x y) opacity)) old new
 unfolding colour_of
-group_part_shown area pass part opacity old new shared each x y xw yh =
+group_part_shown area pass part opacity tops number old new shared each x y xw yh seen =
     let px = area.x +ℤ pos x in
     let py = area.y +ℤ pos y in
     let there = pixel pass.bytes (near (py -ℤ pass.rect.y) * near pass.rect.w + near (px -ℤ pass.rect.x)) in
-    each x y xw yh
+    each x y xw yh seen
     ∙ faded_at (holds part.at x y) (pixel pass.bytes ((y - part.at.y + part.above) * near pass.rect.w + (x - part.at.x + part.left))) there (colour_of pass px py)
     (pixel old (y * near area.w + x)) opacity (λ h. part_place pass area part x y shared h)
     (ap (λ (b : Bool). cond b there clear) (shared.points x y xw yh))
 
 -- a pass that lies outside of the area
-pub group_outside : (area : Rect) (pass : SurfaceView) (opacity : ℕ) (old : List ℕ) → IsOutside pass.rect area
-    → EachPoint area (λ x y below. blend below (scaled (colour_of pass x y) opacity)) old old
+pub group_outside : (area : Rect) (pass : SurfaceView) (opacity : ℕ) (tops : List ℕ) (number : ℕ) (old : List ℕ) → IsOutside pass.rect area
+    → EachOpenPoint area tops number (λ x y below. blend below (scaled (colour_of pass x y) opacity)) old old
 unfolding colour_of
-group_outside area pass opacity old out x y xw yh =
+group_outside area pass opacity tops number old out x y xw yh seen =
     let px = area.x +ℤ pos x in
     let py = area.y +ℤ pos y in
     let there = pixel pass.bytes (near (py -ℤ pass.rect.y) * near pass.rect.w + near (px -ℤ pass.rect.x)) in

@@ -1,5 +1,7 @@
 pub mod Rows
 pub mod Tiles
+pub mod OpenSteps
+pub mod MarkSteps
 pub mod Hulls
 pub mod QuadSteps
 pub mod Groups

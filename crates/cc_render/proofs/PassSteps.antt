@@ -1,5 +1,5 @@
 -- Passes, one more at a time.
-use Rattle.std.proofs.Common.{◌≡◌, ℕ, zero, suc, ◌+◌, ◌*◌, ◌/◌, ◌<◌, ◌≤◌, ℤ, pos, ◌+ℤ◌, ◌-ℤ◌, Bool, true, false, cond, List, [], ◌∷◌, ◌++◌, length, take, drop, set, get_or, refl, sym, ◌∙◌, ap, subst, arith, inl, inr}
+use Rattle.std.proofs.Common.{◌≡◌, ℕ, zero, suc, ◌+◌, ◌*◌, ◌<◌, ◌≤◌, ℤ, pos, ◌+ℤ◌, ◌-ℤ◌, Bool, true, false, cond, List, [], ◌∷◌, ◌++◌, length, take, drop, set, get_or, refl, sym, ◌∙◌, ap, subst, arith, inl, inr}
 use Rattle.std.specs.Prelude.{All, slice_index}
 use Rattle.std.proofs.lemmas.Bool.{cases_lt}
 use Rattle.std.proofs.lemmas.List.{get_or-map, get_or-drop, get_or_append_left, length-append, length-drop, length-map, take_more, take_more_set, take_all, map-append}
@@ -15,7 +15,7 @@ use Rattle.cc_scene.specs.declared.RenderPass.{RenderPass}
 use Rattle.cc_scene.specs.Views.{QuadView, pass_view, passes_view}
 use Rattle.cc_scene.specs.Pixels.{quads_over, passes_at}
 use Rattle.cc_scene.proofs.Steps.{passes_push}
-use Rattle.cc_render.specs.inner.Drawing.{SurfaceView, colour_of, colours, CanBeDrawn, AreRoomy, PassesCanBeDrawn, EachPoint, ShowsQuads, ShowsPass, ShowPasses}
+use Rattle.cc_render.specs.inner.Drawing.{SurfaceView, colour_of, colours, CanBeDrawn, AreRoomy, PassesCanBeDrawn, ShowsQuads, ShowsPass, ShowPasses}
 use Rattle.cc_render.proofs.QuadSteps.{place_below}
 use Rattle.cc_render.proofs.Hulls.{place_in}
 
@@ -50,20 +50,14 @@ front_premultiplied n new old len fit front whole i lt =
           omega arith
     ]
 
--- quads drawn over pixels of one colour
-pub shows_quads : (area : Rect) (passes : List SurfaceView) (below : Parts) (quads : List QuadView) (blank new rest : List ℕ)
-    → length blank ≡ byte_count area.w area.h → length new ≡ length blank
-    → ((k : ℕ) → k < length blank / 4 → pixel blank k ≡ below)
-    → EachPoint area (λ x y below. quads_over (colours passes x y) x y below quads) blank new
+-- quads drawn into the first of some bytes
+pub shows_quads : (area : Rect) (passes : List SurfaceView) (below : Parts) (quads : List QuadView) (new rest : List ℕ)
+    → length new ≡ byte_count area.w area.h
+    → ShowsQuads area passes below quads new
     → ShowsQuads area passes below quads (new ++ rest)
-shows_quads area passes below quads blank new rest size same filled each x y xw yh =
-    let k = y * near area.w + x in
-    let px = area.x +ℤ pos x in
-    let py = area.y +ℤ pos y in
+shows_quads area passes below quads new rest size each x y xw yh =
     let room : 4 * (y * near area.w + x) + 4 ≤ 4 * (near area.w * near area.h) = place_below (near area.w) (near area.h) x y xw yh in
-    pixel_of_front new rest k (omega arith)
-    ∙ each x y xw yh
-    ∙ ap (λ (c : Parts). quads_over (colours passes px py) px py c quads) (filled k (omega arith))
+    pixel_of_front new rest (y * near area.w + x) (omega arith) ∙ each x y xw yh
 
 -- quads drawn on a rect outside of which they draw nothing
 pub pass_shown : (area hull : Rect) (passes : List SurfaceView) (quads : List QuadView) (s : SurfaceView) → s.rect ≡ hull

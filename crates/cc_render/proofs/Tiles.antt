@@ -8,7 +8,7 @@ use Rattle.cc_geom.specs.Covers.{covers}
 use Rattle.cc_geom.proofs.Spans.{inside, both}
 use Rattle.cc_pixel.specs.Colours.{Parts, blend}
 use Rattle.cc_pixel.specs.Rows.{pixel}
-use Rattle.cc_pixel.specs.Surfaces.{EachPixel, within, in_rows, holds}
+use Rattle.cc_pixel.specs.Surfaces.{within, in_rows, holds}
 use Rattle.cc_pixel.specs.declared.Area.{Area}
 use Rattle.cc_display.specs.Content.{content}
 use Rattle.cc_display.specs.Bitmaps.{near}
@@ -17,7 +17,8 @@ use Rattle.cc_display.specs.declared.Part.{Part}
 use Rattle.cc_raster.specs.Images.{Image, IsRow, AreSameRows, IsOneColour, shown}
 use Rattle.cc_scene.specs.Pixels.{placed_pixel}
 use Rattle.cc_scene.specs.Sound.{IsTaken}
-use Rattle.cc_render.specs.inner.Drawing.{rows_from, part_pixel, EachPoint, laid_on}
+use Rattle.cc_render.specs.inner.Drawing.{rows_from, part_pixel, laid_on}
+use Rattle.cc_render.specs.inner.Masks.{EachOpen, EachOpenPoint}
 
 -- two colours that are equal where a test holds
 pub where_held : (t : Bool) (c d below : Parts) → (t ≡ true → c ≡ d) → cond t c below ≡ cond t d below
@@ -49,7 +50,7 @@ pub from_top : (part : Part) (x y : ℕ) → holds part.at x y ≡ true → part
 from_top part x y h = grind (arith, nat_tests)
 
 -- a pixel of the part
-pixel_taken : (image : Image) (at area : Rect) (from : Point) (part : Part) (x y : ℕ) → IsTaken image at from → IsShared at area part
+pub pixel_taken : (image : Image) (at area : Rect) (from : Point) (part : Part) (x y : ℕ) → IsTaken image at from → IsShared at area part
     → x < near area.w → y < near area.h → holds part.at x y ≡ true
     → part_pixel image (taken part from) x y ≡ placed_pixel image at from (area.x +ℤ pos x) (area.y +ℤ pos y)
 pixel_taken image at area from part x y t shared xw yh h =
@@ -63,13 +64,13 @@ pixel_taken image at area from part x y t shared xw yh h =
     ∙ ap (λ (z : ℤ). content image.list (image.rect.x +ℤ (from.x +ℤ ((area.x +ℤ pos x) -ℤ at.x))) z) row
 
 -- a part of a tile's image, drawn where its rect lies
-pub tile_shown : (image : Image) (at area : Rect) (from : Point) (part : Part) (old new : List ℕ) → IsTaken image at from → IsShared at area part
-    → EachPixel (near area.w) (near area.h) (within part.at part.at.h (λ x y below. blend below (part_pixel image (taken part from) x y))) old new
-    → EachPoint area (laid_on at (placed_pixel image at from)) old new
-tile_shown image at area from part old new t shared each x y xw yh =
+pub tile_shown : (image : Image) (at area : Rect) (from : Point) (part : Part) (tops : List ℕ) (number : ℕ) (old new : List ℕ) → IsTaken image at from → IsShared at area part
+    → EachOpen (near area.w) (near area.h) tops number (within part.at part.at.h (λ x y below. blend below (part_pixel image (taken part from) x y))) old new
+    → EachOpenPoint area tops number (laid_on at (placed_pixel image at from)) old new
+tile_shown image at area from part tops number old new t shared each x y xw yh seen =
     let before = pixel old (y * near area.w + x) in
     let drawn = blend before (placed_pixel image at from (area.x +ℤ pos x) (area.y +ℤ pos y)) in
-    each x y xw yh
+    each x y xw yh seen
     ∙ where_held (holds part.at x y) (blend before (part_pixel image (taken part from) x y)) drawn before
     (λ h. ap (blend before) (pixel_taken image at area from part x y t shared xw yh h))
     ∙ ap (λ (b : Bool). cond b drawn before) (sym (shared.points x y xw yh))
@@ -83,7 +84,7 @@ place_at start from at len end point low fit le lt =
     (omega (arith, ints), omega (arith, ints))
 
 -- a part of an image of one colour has that colour
-solid_pixel : (image : Image) (at : Rect) (from : Point) (c : Parts) (x y : ℤ) → IsTaken image at from → IsOneColour image.list image.rect c
+pub solid_pixel : (image : Image) (at : Rect) (from : Point) (c : Parts) (x y : ℤ) → IsTaken image at from → IsOneColour image.list image.rect c
     → covers at x y ≡ true → c ≡ placed_pixel image at from x y
 solid_pixel image at from c x y t one h =
     let k = both _ _ h in
@@ -96,14 +97,14 @@ solid_pixel image at from c x y t one h =
     ∙ ap (content image.list (image.rect.x +ℤ (from.x +ℤ (x -ℤ at.x)))) row.1
 
 -- an image of one colour is drawn as that colour
-pub solid_shown : (image : Image) (at area : Rect) (from : Point) (c : Parts) (old new : List ℕ) → IsTaken image at from
-    → IsOneColour image.list image.rect c → EachPoint area (laid_on at (λ x y. c)) old new
-    → EachPoint area (laid_on at (placed_pixel image at from)) old new
-solid_shown image at area from c old new t one each x y xw yh =
+pub solid_shown : (image : Image) (at area : Rect) (from : Point) (c : Parts) (tops : List ℕ) (number : ℕ) (old new : List ℕ) → IsTaken image at from
+    → IsOneColour image.list image.rect c → EachOpenPoint area tops number (laid_on at (λ x y. c)) old new
+    → EachOpenPoint area tops number (laid_on at (placed_pixel image at from)) old new
+solid_shown image at area from c tops number old new t one each x y xw yh seen =
     let px = area.x +ℤ pos x in
     let py = area.y +ℤ pos y in
     let before = pixel old (y * near area.w + x) in
-    each x y xw yh
+    each x y xw yh seen
     ∙ where_held (covers at px py) (blend before c) (blend before (placed_pixel image at from px py)) before
     (λ h. ap (blend before) (solid_pixel image at from c px py t one h))
 
@@ -121,7 +122,7 @@ column_high : (at : Area) (row rows x y : ℕ) → in_rows (rows_from at row row
 column_high at row rows x y h = grind (arith, nat_tests)
 
 -- the pixel of a row of the image, and of the rows that are equal to it
-band_pixel : (image : Image) (part : Part) (row rows : ℕ) (bytes : List ℕ) (x y : ℕ) → IsRow image.list image.rect (part.above + row) bytes
+pub band_pixel : (image : Image) (part : Part) (row rows : ℕ) (bytes : List ℕ) (x y : ℕ) → IsRow image.list image.rect (part.above + row) bytes
     → ((k : ℕ) → k < rows → AreSameRows image.list image.rect (part.above + row) (part.above + row + k))
     → part.left + part.at.w ≤ near image.rect.w → in_rows (rows_from part.at row rows) rows x y ≡ true
     → pixel bytes (x - part.at.x + part.left) ≡ part_pixel image part x y
@@ -137,15 +138,15 @@ band_pixel image part row rows bytes x y is equal fit h =
     ∙ ap (λ (n : ℕ). shown image.list image.rect (x - part.at.x + part.left) n) below
 
 -- a row of the image, drawn in the rows of the part that are equal to it
-pub band_shown : (w h : ℕ) (image : Image) (part : Part) (row rows : ℕ) (bytes old new : List ℕ)
+pub band_shown : (w h : ℕ) (image : Image) (part : Part) (row rows : ℕ) (bytes : List ℕ) (tops : List ℕ) (number : ℕ) (old new : List ℕ)
     → IsRow image.list image.rect (part.above + row) bytes
     → ((k : ℕ) → k < rows → AreSameRows image.list image.rect (part.above + row) (part.above + row + k))
     → part.left + part.at.w ≤ near image.rect.w
-    → EachPixel w h (within (rows_from part.at row rows) rows (λ x y below. blend below (pixel bytes (x - part.at.x + part.left)))) old new
-    → EachPixel w h (within (rows_from part.at row rows) rows (λ x y below. blend below (part_pixel image part x y))) old new
-band_shown w h image part row rows bytes old new is equal fit each x y xw yh =
+    → EachOpen w h tops number (within (rows_from part.at row rows) rows (λ x y below. blend below (pixel bytes (x - part.at.x + part.left)))) old new
+    → EachOpen w h tops number (within (rows_from part.at row rows) rows (λ x y below. blend below (part_pixel image part x y))) old new
+band_shown w h image part row rows bytes tops number old new is equal fit each x y xw yh seen =
     let before = pixel old (y * w + x) in
-    each x y xw yh
+    each x y xw yh seen
     ∙ where_held (in_rows (rows_from part.at row rows) rows x y) (blend before (pixel bytes (x - part.at.x + part.left)))
     (blend before (part_pixel image part x y)) before
     (λ t. ap (blend before) (band_pixel image part row rows bytes x y is equal fit t))

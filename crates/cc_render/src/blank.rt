@@ -1,13 +1,18 @@
 //! Filling a surface with one colour.
 
-ghost use Rattle.std.specs.Prelude.{◌≡◌, ℕ, ◌<◌, ◌/◌, ◌%◌, length, IsTrue};
+ghost use Rattle.std.specs.Prelude.{◌≡◌, ℕ, ◌*◌, ◌<◌, ◌≤◌, ◌/◌, ◌%◌, length, IsTrue};
 ghost use Rattle.cc_pixel.specs.Rows.{pixel, ArePremultiplied};
+ghost use Rattle.cc_render.specs.inner.Masks.{EachOpen};
 
-use cc_pixel::{Colour, fill_row};
+use crate::mask::Mask;
+use crate::open::paint_open;
+use crate::paint::Paint;
+use cc_display::Part;
+use cc_pixel::{Area, Colour, fill_row};
 
 /// Gives each pixel one colour; byte by byte where its four bytes are equal, as those of transparent pixels and of
 /// white are.
-pub(crate) fn fill(surface: &mut [u8], colour: Colour)
+fn fill(surface: &mut [u8], colour: Colour)
     requires { length surface.old % 4 ≡ 0 }
     ensures size { length surface.new ≡ length surface.old }
     ensures pixels { (k : ℕ) → k < length surface.old / 4 → pixel surface.new k ≡ colour }
@@ -18,6 +23,39 @@ pub(crate) fn fill(surface: &mut [u8], colour: Colour)
         surface.fill(byte);
     } else {
         fill_row(surface, colour);
+    }
+}
+
+/// Gives each pixel of a surface that has to be drawn one colour.
+pub(crate) fn fill_open(
+    surface: &mut [u8],
+    width: usize,
+    height: usize,
+    colour: Colour,
+    mask: &Mask,
+)
+    requires size { length surface.old ≡ 4 * (width * height) }
+    requires wide { width ≤ 2048 }
+    requires low { height ≤ 64 }
+    ensures size { length surface.new ≡ length surface.old }
+    ensures pixels { EachOpen width height mask.now.tops 0 (λ x y below. colour) surface.old surface.new }
+    ensures premultiplied { ArePremultiplied surface.old → ArePremultiplied surface.new }
+{
+    if mask.highest() == 0 {
+        fill(surface, colour);
+    } else {
+        let at = Area {
+            x: 0,
+            y: 0,
+            w: width,
+            h: height,
+        };
+        let whole = Part {
+            at,
+            left: 0,
+            above: 0,
+        };
+        paint_open(surface, width, height, whole, &Paint::Fill(colour), mask, 0);
     }
 }
 

@@ -6,9 +6,13 @@ ghost use Rattle.cc_pixel.specs.Colours.{blend, scaled};
 ghost use Rattle.cc_pixel.specs.Rows.{pixel, ArePremultiplied};
 ghost use Rattle.cc_pixel.specs.Surfaces.{IsPart, IsInside, EachPixel, within};
 ghost use Rattle.cc_display.specs.Bitmaps.{near, byte_count};
-ghost use Rattle.cc_render.specs.inner.Drawing.{colour_of, EachPoint};
+ghost use Rattle.cc_render.specs.inner.Drawing.{colour_of};
+ghost use Rattle.cc_render.specs.inner.Masks.{EachOpenPoint};
 
 use crate::copy::place_of;
+use crate::mask::Mask;
+use crate::open::paint_open;
+use crate::paint::Paint;
 use crate::size::{height_of, width_of};
 use crate::surface::Surface;
 use cc_display::{Part, shared_part};
@@ -16,47 +20,64 @@ use cc_geom::Rect;
 use cc_surface::faded_over;
 
 /// Lays the colours of a pass, faded to an opacity, over the pixels of an area.
-pub(crate) fn draw_group(surface: &mut [u8], area: Rect, pass: &Surface, opacity: u8)
+pub(crate) fn draw_group(
+    surface: &mut [u8],
+    area: Rect,
+    pass: &Surface,
+    opacity: u8,
+    mask: &Mask,
+    number: usize,
+)
     requires area { IsSound area }
+    requires wide { near area.w ≤ 2048 }
+    requires low { near area.h ≤ 64 }
     requires size { length surface.old ≡ byte_count area.w area.h }
-    ensures pixels { EachPoint area (λ x y below. blend below (scaled (colour_of pass.now x y) opacity)) surface.old surface.new }
+    ensures pixels { EachOpenPoint area mask.now.tops number (λ x y below. blend below (scaled (colour_of pass.now x y) opacity)) surface.old surface.new }
     ensures premultiplied { ArePremultiplied surface.old → ArePremultiplied surface.new }
 {
     let rect = pass.rect();
     if let Some(part) = shared_part(rect, area) {
-        fade_part(
+        let paint = Paint::Pass {
+            bytes: pass.bytes(),
+            width: width_of(rect),
+            height: height_of(rect),
+            opacity,
+        };
+        paint_open(
             surface,
             width_of(area),
             height_of(area),
-            pass,
             part,
-            opacity,
+            &paint,
+            mask,
+            number,
         );
     }
 }
 
-// lays the pixels of a part of a pass, faded, over those of the part's area
-fn fade_part(
+/// Lays the pixels of a part of a pass, faded, over those of the part's area. The bytes of the pass have this width
+/// and height.
+pub(crate) fn fade_part(
     surface: &mut [u8],
     width: usize,
     height: usize,
-    pass: &Surface,
+    bytes: &[u8],
+    pass_width: usize,
+    pass_height: usize,
     part: Part,
     opacity: u8,
 )
     requires size { length surface.old ≡ 4 * (width * height) }
     requires inside { IsInside part.at width height }
-    requires columns { part.left + part.at.w ≤ near pass.now.rect.w }
-    requires rows { part.above + part.at.h ≤ near pass.now.rect.h }
+    requires columns { part.left + part.at.w ≤ pass_width }
+    requires rows { part.above + part.at.h ≤ pass_height }
+    requires room { 4 * (pass_width * pass_height) ≤ length bytes.now }
+    requires premultiplied { ArePremultiplied bytes.now }
     ensures pixels { EachPixel width height
-        (within part.at part.at.h (λ x y below. blend below (scaled (pixel pass.now.bytes ((y - part.at.y + part.above) * near pass.now.rect.w + (x - part.at.x + part.left))) opacity)))
+        (within part.at part.at.h (λ x y below. blend below (scaled (pixel bytes.now ((y - part.at.y + part.above) * pass_width + (x - part.at.x + part.left))) opacity)))
         surface.old surface.new }
     ensures premultiplied { ArePremultiplied surface.old → ArePremultiplied surface.new }
 {
-    let rect = pass.rect();
-    let pass_width = width_of(rect);
-    let pass_height = height_of(rect);
-    let bytes = pass.bytes();
     for row in 0..part.at.h {
         let place = place_of(width, height, part.at.x, part.at.y + row, part.at.w);
         let from = place_of(

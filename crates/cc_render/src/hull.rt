@@ -66,7 +66,7 @@ fn with_quad(hull: Hull, quad: &Quad, area: Rect, passes: &[Surface]) -> Hull
 }
 
 // a rect outside of which a quad leaves transparent pixels transparent
-fn quad_rect(quad: &Quad, passes: &[Surface]) -> Rect
+pub(crate) fn quad_rect(quad: &Quad, passes: &[Surface]) -> Rect
     requires { CanBeDrawn (length passes.now) (quad_view quad.now) }
     ensures sound { IsSound result }
     ensures outside { (x y : ℤ) → covers result x y ≡ false → quad_over (colours passes.now x y) x y clear (quad_view quad.now) ≡ clear }

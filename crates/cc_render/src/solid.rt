@@ -2,23 +2,37 @@
 
 ghost use Rattle.std.specs.Prelude.{◌≡◌, ℕ, ◌*◌, ◌≤◌, length, IsTrue};
 ghost use Rattle.cc_geom.specs.Covers.{IsSound};
-ghost use Rattle.cc_pixel.specs.Colours.{clear};
+ghost use Rattle.cc_pixel.specs.Colours.{Parts, blend, clear};
 ghost use Rattle.cc_pixel.specs.Rows.{ArePremultiplied};
 ghost use Rattle.cc_display.specs.Bitmaps.{near, byte_count};
-ghost use Rattle.cc_render.specs.inner.Drawing.{EachPoint, laid_on};
+ghost use Rattle.cc_display.specs.declared.Part.{Part};
+ghost use Rattle.cc_render.specs.inner.Drawing.{laid_on};
+ghost use Rattle.cc_render.specs.inner.Masks.{EachOpenPoint};
+ghost use Rattle.cc_render.specs.inner.Paints.{painted, CanPaint};
 
+use crate::mask::Mask;
+use crate::open::paint_open;
+use crate::paint::Paint;
 use crate::size::{height_of, width_of};
 use cc_display::shared_part;
 use cc_geom::Rect;
-use cc_pixel::{Colour, fill_area};
-use cc_surface::colour_over_area;
+use cc_pixel::Colour;
 
 /// Draws one colour where `at` lies in an area.
-pub(crate) fn draw_solid(surface: &mut [u8], area: Rect, at: Rect, colour: Colour)
+pub(crate) fn draw_solid(
+    surface: &mut [u8],
+    area: Rect,
+    at: Rect,
+    colour: Colour,
+    mask: &Mask,
+    number: usize,
+)
     requires area { IsSound area }
+    requires wide { near area.w ≤ 2048 }
+    requires low { near area.h ≤ 64 }
     requires at { IsSound at }
     requires size { length surface.old ≡ byte_count area.w area.h }
-    ensures pixels { EachPoint area (laid_on at (λ x y. colour)) surface.old surface.new }
+    ensures pixels { EachOpenPoint area mask.now.tops number (laid_on at (λ x y. colour)) surface.old surface.new }
     ensures premultiplied { ArePremultiplied surface.old → ArePremultiplied surface.new }
 {
     if is_clear(colour) {
@@ -29,10 +43,26 @@ pub(crate) fn draw_solid(surface: &mut [u8], area: Rect, at: Rect, colour: Colou
     };
     let width = width_of(area);
     let height = height_of(area);
+    paint_open(
+        surface,
+        width,
+        height,
+        part,
+        &paint_of(colour),
+        mask,
+        number,
+    );
+}
+
+// the paint of a colour
+fn paint_of(colour: Colour) -> Paint<'static>
+    ensures can { (part : Part) → CanPaint result part }
+    ensures value { (part : Part) (x y : ℕ) (below : Parts) → painted result part x y below ≡ blend below colour }
+{
     if colour.a() == 255 {
-        fill_area(surface, width, height, part.at, colour);
+        Paint::Fill(colour)
     } else {
-        colour_over_area(surface, width, height, part.at, colour);
+        Paint::Colour(colour)
     }
 }
 

@@ -12,6 +12,7 @@ ghost use Rattle.cc_render.specs.inner.Drawing.{AreRoomy, PassesCanBeDrawn, Show
 ghost use Rattle.cc_render.specs.inner.Strips.{HasRoom, AreReady, ShowsScene, IsDrawn};
 
 use crate::copy::copy_area;
+use crate::mask::Mask;
 use crate::passes::{draw_over, draw_pass, draw_passes};
 use crate::surface::Surface;
 use cc_geom::Rect;
@@ -34,6 +35,8 @@ pub(crate) struct Surfaces {
     // those of the passes before the root
     passes: Vec<Surface>,
     root: Surface,
+    // what opaque quads hide of the pass in hand
+    mask: Mask,
     // the most rows of a strip
     rows: usize,
 }
@@ -50,6 +53,7 @@ impl Surfaces {
         Ok(Surfaces {
             passes: inner_surfaces(alloc, inner, pixels)?,
             root: Surface::new(alloc, pixels)?,
+            mask: Mask::new(alloc)?,
             rows,
         })
     }
@@ -176,6 +180,7 @@ fn draw_run(
     surfaces: &mut Surfaces,
 )
     requires area { IsIn 2048 2048 area }
+    requires low { near area.h ≤ 64 }
     requires count { 4 * count ≡ byte_count area.w area.h }
     requires there { 4 * (place + count) ≤ length bytes.old }
     requires room { HasRoom (byte_count area.w area.h) (length scene.now.passes) surfaces.old }
@@ -191,6 +196,7 @@ fn draw_run(
 // root
 fn draw_into(scene: &Scene, bytes: &mut [u8], area: Rect, surfaces: &mut Surfaces)
     requires area { IsIn 2048 2048 area }
+    requires low { near area.h ≤ 64 }
     requires size { byte_count area.w area.h ≤ length bytes.old }
     requires room { HasRoom (byte_count area.w area.h) (length scene.now.passes) surfaces.old }
     ensures pixels { ShowsScene scene.now area bytes.new }
@@ -201,9 +207,16 @@ fn draw_into(scene: &Scene, bytes: &mut [u8], area: Rect, surfaces: &mut Surface
     let Some((root, inner)) = scene.passes().split_last() else {
         return;
     };
-    draw_inner(inner, area, &mut surfaces.passes);
+    draw_inner(inner, area, &mut surfaces.passes, &mut surfaces.mask);
     let below = scene.background();
-    draw_over(bytes, below, area, &root.quads, &surfaces.passes);
+    draw_over(
+        bytes,
+        below,
+        area,
+        &root.quads,
+        &surfaces.passes,
+        &mut surfaces.mask,
+    );
 }
 
 // draws the pixels of a scene in columns of a frame
@@ -239,6 +252,7 @@ fn rect_of(band: Band, at: Area) -> Rect
 // draws the pixels of an area of all passes of a scene; those of the root are the scene's
 fn draw_scene(scene: &Scene, area: Rect, surfaces: &mut Surfaces)
     requires area { IsIn 2048 2048 area }
+    requires low { near area.h ≤ 64 }
     requires room { HasRoom (byte_count area.w area.h) (length scene.now.passes) surfaces.old }
     ensures pixels { ShowsScene scene.now area surfaces.new.root.bytes }
     ensures room { (n : ℕ) → HasRoom n (length scene.now.passes) surfaces.old → HasRoom n (length scene.now.passes) surfaces.new }
@@ -247,19 +261,21 @@ fn draw_scene(scene: &Scene, area: Rect, surfaces: &mut Surfaces)
     let Some((root, inner)) = scene.passes().split_last() else {
         return;
     };
-    draw_inner(inner, area, &mut surfaces.passes);
+    draw_inner(inner, area, &mut surfaces.passes, &mut surfaces.mask);
     draw_pass(
         &mut surfaces.root,
         scene.background(),
         area,
         &root.quads,
         &surfaces.passes,
+        &mut surfaces.mask,
     );
 }
 
 // draws the pixels of an area of the passes before the root
-fn draw_inner(passes: &[RenderPass], area: Rect, surfaces: &mut Vec<Surface>)
+fn draw_inner(passes: &[RenderPass], area: Rect, surfaces: &mut Vec<Surface>, mask: &mut Mask)
     requires area { IsIn 2048 2048 area }
+    requires low { near area.h ≤ 64 }
     requires each { length surfaces.old.items ≡ length passes.now }
     requires quads { PassesCanBeDrawn (passes_view passes.now) }
     requires room { AreRoomy (byte_count area.w area.h) surfaces.old.items }
@@ -267,5 +283,5 @@ fn draw_inner(passes: &[RenderPass], area: Rect, surfaces: &mut Vec<Surface>)
     ensures count { length surfaces.new.items ≡ length surfaces.old.items }
     ensures room { (n : ℕ) → AreRoomy n surfaces.old.items → AreRoomy n surfaces.new.items }
 {
-    draw_passes(passes, area, surfaces.as_mut_slice());
+    draw_passes(passes, area, surfaces.as_mut_slice(), mask);
 }

@@ -4,43 +4,64 @@ ghost use Rattle.std.specs.Prelude.{◌≡◌, ℕ, ◌+◌, ◌*◌, ◌<◌, �
 ghost use Rattle.cc_geom.specs.Covers.{IsSound};
 ghost use Rattle.cc_pixel.specs.Colours.{blend};
 ghost use Rattle.cc_pixel.specs.Rows.{ArePremultiplied};
-ghost use Rattle.cc_pixel.specs.Surfaces.{IsInside, EachPixel, within};
+ghost use Rattle.cc_pixel.specs.Surfaces.{IsInside, within};
 ghost use Rattle.cc_display.specs.Bitmaps.{near, byte_count};
 ghost use Rattle.cc_scene.specs.Pixels.{placed_pixel};
 ghost use Rattle.cc_scene.specs.Sound.{IsTaken};
 ghost use Rattle.cc_raster.specs.Images.{AreSameRows};
-ghost use Rattle.cc_render.specs.inner.Drawing.{rows_from, part_pixel, EachPoint, laid_on};
+ghost use Rattle.cc_render.specs.inner.Drawing.{rows_from, part_pixel, laid_on};
+ghost use Rattle.cc_render.specs.inner.Masks.{EachOpen, EachOpenPoint};
 
+use crate::mask::Mask;
+use crate::open::paint_open;
+use crate::paint::Paint;
 use crate::size::{count, height_of, width_of};
 use crate::solid::draw_solid;
 use cc_display::{Part, shared_part};
 use cc_geom::{Point, Rect};
 use cc_pixel::Area;
 use cc_raster::TileImage;
-use cc_surface::rows_over_area;
 
 /// Draws the part of an image from `from` on where `at` lies in an area.
-pub(crate) fn draw_tile(surface: &mut [u8], area: Rect, image: &TileImage, at: Rect, from: Point)
+pub(crate) fn draw_tile(
+    surface: &mut [u8],
+    area: Rect,
+    image: &TileImage,
+    at: Rect,
+    from: Point,
+    mask: &Mask,
+    number: usize,
+)
     requires area { IsSound area }
+    requires wide { near area.w ≤ 2048 }
+    requires low { near area.h ≤ 64 }
     requires at { IsSound at }
     requires taken { IsTaken image.now at from }
     requires size { length surface.old ≡ byte_count area.w area.h }
-    ensures pixels { EachPoint area (laid_on at (placed_pixel image.now at from)) surface.old surface.new }
+    ensures pixels { EachOpenPoint area mask.now.tops number (laid_on at (placed_pixel image.now at from)) surface.old surface.new }
     ensures premultiplied { ArePremultiplied surface.old → ArePremultiplied surface.new }
 {
     let Some(part) = shared_part(at, area) else {
         return;
     };
     if let Some(colour) = image.solid() {
-        draw_solid(surface, area, at, colour);
+        draw_solid(surface, area, at, colour, mask, number);
         return;
     }
     let part = taken_part(part, from);
-    draw_part(surface, width_of(area), height_of(area), image, part);
+    draw_part(
+        surface,
+        width_of(area),
+        height_of(area),
+        image,
+        part,
+        mask,
+        number,
+    );
 }
 
 // the part with its columns and rows counted in the image, of which the rect takes what is from `from` on
-fn taken_part(part: Part, from: Point) -> Part
+pub(crate) fn taken_part(part: Part, from: Point) -> Part
     requires from_left { pos 0 ≤ℤ from.x }
     requires from_top { pos 0 ≤ℤ from.y }
     requires columns { part.left ≤ 2 ^ 29 }
@@ -64,25 +85,35 @@ fn later(place: usize, by: i32) -> usize
 }
 
 // draws a part of an image, each row that it keeps over all rows that are equal to it
-fn draw_part(surface: &mut [u8], width: usize, height: usize, image: &TileImage, part: Part)
+fn draw_part(
+    surface: &mut [u8],
+    width: usize,
+    height: usize,
+    image: &TileImage,
+    part: Part,
+    mask: &Mask,
+    quad: usize,
+)
     requires size { length surface.old ≡ 4 * (width * height) }
+    requires wide { width ≤ 2048 }
+    requires low { height ≤ 64 }
     requires inside { IsInside part.at width height }
     requires columns { part.left + part.at.w ≤ near image.now.rect.w }
     requires rows { part.above + part.at.h ≤ near image.now.rect.h }
-    ensures pixels { EachPixel width height (within part.at part.at.h (λ x y below. blend below (part_pixel image.now part x y))) surface.old surface.new }
+    ensures pixels { EachOpen width height mask.now.tops quad (within part.at part.at.h (λ x y below. blend below (part_pixel image.now part x y))) surface.old surface.new }
     ensures premultiplied { ArePremultiplied surface.old → ArePremultiplied surface.new }
 {
     let mut done = 0;
     while done < part.at.h {
         let row = row_number(image, part, done);
         let rows = equal_rows_at(image, row, part.at.h - done);
-        draw_band(surface, width, height, image, part, done, rows);
+        draw_band(surface, width, height, image, part, done, rows, mask, quad);
         done += rows;
     }
 }
 
 // the row of an image that belongs to a row of a part of it
-fn row_number(image: &TileImage, part: Part, row: usize) -> u32
+pub(crate) fn row_number(image: &TileImage, part: Part, row: usize) -> u32
     requires rows { part.above + part.at.h ≤ near image.now.rect.h }
     requires there { row < part.at.h }
     ensures { result ≡ part.above + row }
@@ -93,7 +124,7 @@ fn row_number(image: &TileImage, part: Part, row: usize) -> u32
 }
 
 // how many rows of an image, from a row on, are kept as that row, at most so many
-fn equal_rows_at(image: &TileImage, row: u32, most: usize) -> usize
+pub(crate) fn equal_rows_at(image: &TileImage, row: u32, most: usize) -> usize
     requires row { row < near image.now.rect.h }
     requires some { 1 ≤ most }
     ensures some { 1 ≤ result }
@@ -113,15 +144,19 @@ fn draw_band(
     part: Part,
     row: usize,
     rows: usize,
+    mask: &Mask,
+    quad: usize,
 )
     requires size { length surface.old ≡ 4 * (width * height) }
+    requires wide { width ≤ 2048 }
+    requires low { height ≤ 64 }
     requires inside { IsInside part.at width height }
     requires columns { part.left + part.at.w ≤ near image.now.rect.w }
     requires below { part.above + part.at.h ≤ near image.now.rect.h }
     requires some { 1 ≤ rows }
     requires there { row + rows ≤ part.at.h }
     requires equal { (k : ℕ) → k < rows → AreSameRows image.now.list image.now.rect (part.above + row) (part.above + row + k) }
-    ensures pixels { EachPixel width height (within (rows_from part.at row rows) rows (λ x y below. blend below (part_pixel image.now part x y))) surface.old surface.new }
+    ensures pixels { EachOpen width height mask.now.tops quad (within (rows_from part.at row rows) rows (λ x y below. blend below (part_pixel image.now part x y))) surface.old surface.new }
     ensures premultiplied { ArePremultiplied surface.old → ArePremultiplied surface.new }
 {
     let at = Area {
@@ -132,5 +167,18 @@ fn draw_band(
     };
     let number = row_number(image, part, row);
     let pixels = image.row(number);
-    rows_over_area(surface, width, height, at, pixels, part.left);
+    let band = Part {
+        at,
+        left: part.left,
+        above: part.above + row,
+    };
+    paint_open(
+        surface,
+        width,
+        height,
+        band,
+        &Paint::Row(pixels),
+        mask,
+        quad,
+    );
 }

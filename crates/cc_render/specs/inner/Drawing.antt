@@ -17,6 +17,10 @@ use Rattle.cc_scene.specs.Sound.{IsTaken}
 abbrev pub rows_from : Area → ℕ → ℕ → Area
 rows_from at r n = record { x = at.x; y = at.y + r; w = at.w; h = n }
 
+-- columns `c` to `c + n` of an area
+abbrev pub columns_from : Area → ℕ → ℕ → Area
+columns_from at c n = record { x = at.x + c; y = at.y; w = n; h = at.h }
+
 -- the pixel of an image that belongs to a pixel of a part of it: `left` and `above` count columns and rows of the image
 abbrev pub part_pixel : Image → Part → ℕ → ℕ → Parts
 part_pixel image part x y = shown image.list image.rect (x - part.at.x + part.left) (y - part.at.y + part.above)

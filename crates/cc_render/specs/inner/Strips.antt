@@ -18,6 +18,7 @@ pub record HasRoom (n passes : ℕ) (s : Surfaces) : Type 0 where
 -- the surfaces have room for a strip of a scene of as many rows as they say
 pub record AreReady (s : SceneView) (r : Surfaces) : Type 0 where
   pub some : 1 ≤ r.rows
+  pub low : r.rows ≤ 64
   pub room : HasRoom (4 * (s.w * r.rows)) (length s.passes) r
 
 -- the pixels of a surface are those of a scene in an area

@@ -1,14 +1,18 @@
--- The quads so far are drawn.
-use Rattle.std.specs.Prelude.{take, fold}
-use Rattle.cc_pixel.specs.Rows.{ArePremultiplied}
+-- The quads so far are drawn where they are seen.
+use Rattle.std.specs.Prelude.{ℕ, ◌+◌, ◌*◌, ◌<◌, ◌≤◌, ◌≡◌, pos, ◌+ℤ◌, take, fold}
+use Rattle.cc_pixel.specs.Rows.{pixel, ArePremultiplied}
+use Rattle.cc_display.specs.Bitmaps.{near}
 use Rattle.cc_scene.specs.Views.{quad_view}
 use Rattle.cc_scene.specs.Pixels.{quad_over}
 use Rattle.cc_scene.specs.declared.Quad.{Quad}
-use Rattle.cc_render.specs.inner.Drawing.{colours, EachPoint}
+use Rattle.cc_render.specs.inner.Drawing.{colours}
+use Rattle.cc_render.specs.inner.Masks.{top}
 use Rattle.cc_render.proofs.quads.draw_quads.Given as given
 
-abbrev pub invariant-loop-quad : given.invariant-loop-quad
-invariant-loop-quad l = record {
-  pixels : EachPoint l.area (λ x y below. fold (λ c (q : Quad). quad_over (colours l.passes x y) x y c (quad_view q)) below (take l.quad-index l.quads)) l.initial.surface l.surface;
+abbrev pub invariant-loop-k : given.invariant-loop-k
+invariant-loop-k l = record {
+  pixels : (x y : ℕ) → x < near l.area.w → y < near l.area.h → top l.mask.tops x y ≤ l.k
+      → pixel l.surface (y * near l.area.w + x)
+      ≡ fold (λ c (q : Quad). quad_over (colours l.passes (l.area.x +ℤ pos x) (l.area.y +ℤ pos y)) (l.area.x +ℤ pos x) (l.area.y +ℤ pos y) c (quad_view q)) l.fn.below (take l.k l.quads);
   premultiplied : ArePremultiplied l.initial.surface → ArePremultiplied l.surface;
 }

@@ -2,14 +2,14 @@
 use Rattle.std.proofs.Common.{◌+◌, pos, arith}
 use Rattle.std.proofs.lemmas.Int.{clamps}
 use Rattle.cc_scene.specs.Pixels.{scene_pixel}
-use Rattle.cc_render.proofs.Rows.{rows_more}
+use Rattle.cc_render.proofs.Rows.{all_rows_more}
 use Rattle.cc_render.proofs.strip.draw_area.Goals as goal
 
 pub loop-done-preserved : goal.loop-done-preserved
 loop-done-preserved c = record {
   rows = omega (arith, clamps);
   pixels =
-      rows_more c.args.scene.now.w c.args.band.rows c.args.at c.loop-done.done c.min-rows.result (λ x y below. scene_pixel c.args.scene.now (pos x) (pos (c.args.band.top + y)))
+      all_rows_more c.args.scene.now.w c.args.band.rows c.args.at c.loop-done.done c.min-rows.result (λ x y below. scene_pixel c.args.scene.now (pos x) (pos (c.args.band.top + y)))
       c.args.bytes.now c.loop-done.bytes c.draw_strip.new.bytes c.loop-done.invariant.pixels c.draw_strip.ensures.pixels;
   premultiplied = λ old. c.draw_strip.ensures.premultiplied (c.loop-done.invariant.premultiplied old);
   ready = c.draw_strip.ensures.ready;

@@ -26,6 +26,7 @@ returns-clause-pixels c =
 pub returns-clause-ready : goal.returns-clause-ready
 returns-clause-ready c = record {
   some = rw (c.draw_scene.ensures.rows) (c.requires.ready.some);
+  low = rw (c.draw_scene.ensures.rows) (c.requires.ready.low);
   room =
       less_room _ _ _ _ (same_size c.args.scene.now.w _ _ c.draw_scene.ensures.rows) (c.draw_scene.ensures.room _ c.requires.ready.room);
 }

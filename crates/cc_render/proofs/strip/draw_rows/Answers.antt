@@ -24,6 +24,7 @@ returns-clause-premultiplied c = c.draw_run.ensures.pixels.2.premultiplied
 pub returns-clause-ready : goal.returns-clause-ready
 returns-clause-ready c = record {
   some = rw (c.draw_run.ensures.rows) (c.requires.ready.some);
+  low = rw (c.draw_run.ensures.rows) (c.requires.ready.low);
   room =
       less_room _ _ _ _ (same_size c.args.scene.now.w _ _ c.draw_run.ensures.rows) (c.draw_run.ensures.room _ c.requires.ready.room);
 }

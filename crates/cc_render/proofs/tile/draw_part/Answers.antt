@@ -1,9 +1,10 @@
 -- Each band adds what it draws to what was drawn.
 use Rattle.std.proofs.Common.{ℕ, ◌≡◌, ◌+◌, ◌<◌, subst, arith}
 use Rattle.cc_pixel.specs.Colours.{Parts, blend}
-use Rattle.cc_pixel.specs.Surfaces.{EachPixel, within}
+use Rattle.cc_pixel.specs.Surfaces.{within}
 use Rattle.cc_raster.specs.Images.{AreSameRows}
 use Rattle.cc_render.specs.inner.Drawing.{part_pixel}
+use Rattle.cc_render.specs.inner.Masks.{EachOpen}
 use Rattle.cc_render.proofs.Rows.{rows_more}
 use Rattle.cc_render.proofs.tile.draw_part.Goals as goal
 
@@ -16,7 +17,7 @@ pub loop-done-preserved : goal.loop-done-preserved
 loop-done-preserved c = record {
   inside = omega (arith, c.equal_rows_at-rows.ensures.most);
   pixels =
-      rows_more c.args.width c.args.height c.args.part.at c.loop-done.done c.equal_rows_at-rows.result
+      rows_more c.args.width c.args.height c.args.mask.now.tops c.args.quad c.args.part.at c.loop-done.done c.equal_rows_at-rows.result
       (λ x y below. blend below (part_pixel c.args.image.now c.args.part x y)) c.args.surface.now c.loop-done.surface c.draw_band.new.surface
       c.loop-done.invariant.pixels c.draw_band.ensures.pixels;
   premultiplied = λ old. c.draw_band.ensures.premultiplied (c.loop-done.invariant.premultiplied old);
@@ -26,5 +27,5 @@ pub returns-clause-pixels : goal.returns-clause-pixels
 returns-clause-pixels c =
     let f : ℕ → ℕ → Parts → Parts = λ x y below. blend below (part_pixel c.args.image.now c.args.part x y) in
     let all : c.loop-done.done ≡ c.args.part.at.h = omega (arith, c.loop-done.invariant.inside, c.loop-done-test.false) in
-    subst (λ (n : ℕ). EachPixel c.args.width c.args.height (within c.args.part.at n f) c.args.surface.now c.loop-done.surface) all
+    subst (λ (n : ℕ). EachOpen c.args.width c.args.height c.args.mask.now.tops c.args.quad (within c.args.part.at n f) c.args.surface.now c.loop-done.surface) all
     c.loop-done.invariant.pixels

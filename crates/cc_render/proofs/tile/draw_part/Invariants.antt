@@ -1,14 +1,15 @@
 use Rattle.std.proofs.Common.{◌≤◌, ◌-◌}
 use Rattle.cc_pixel.specs.Colours.{blend}
 use Rattle.cc_pixel.specs.Rows.{ArePremultiplied}
-use Rattle.cc_pixel.specs.Surfaces.{EachPixel, within}
+use Rattle.cc_pixel.specs.Surfaces.{within}
 use Rattle.cc_render.specs.inner.Drawing.{part_pixel}
+use Rattle.cc_render.specs.inner.Masks.{EachOpen}
 use Rattle.cc_render.proofs.tile.draw_part.Given as given
 
 abbrev pub invariant-loop-done : given.invariant-loop-done
 invariant-loop-done l = record {
   inside : l.done ≤ l.part.at.h;
-  pixels : EachPixel l.width l.height (within l.part.at l.done (λ x y below. blend below (part_pixel l.image l.part x y))) l.fn.surface l.surface;
+  pixels : EachOpen l.width l.height l.mask.tops l.quad (within l.part.at l.done (λ x y below. blend below (part_pixel l.image l.part x y))) l.fn.surface l.surface;
   premultiplied : ArePremultiplied l.fn.surface → ArePremultiplied l.surface;
 }
 
