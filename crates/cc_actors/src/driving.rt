@@ -18,10 +18,15 @@ use cc_lock::TurnLock;
 use std::marker::Sync;
 use std::sync::Wait;
 use std::thread::Threads;
+use std::time::Duration;
+
+// How many milliseconds the compositor sleeps at most. Nobody rings when a worker has started a tile, or when the sink
+// has place again for what it keeps; at its next turn the compositor writes the one and moves the other on.
+const NAP: u64 = 5;
 
 /// Turns of the compositor on the calling thread, until one answers `Ended`, `Memory` or `WriteFault`, which is
 /// the answer. The others take their turns on threads of their own. The compositor rings the bell where it has
-/// entered an event, and where it is blocked, it sleeps at the bell until another has.
+/// entered an event, and where it is blocked, it sleeps at the bell until another has, or for a moment.
 pub fn drive_compositor<R: Threads + Wait + Sync, K: Sink>(
     rt: &R,
     lock: &TurnLock<Core>,
@@ -40,7 +45,7 @@ pub fn drive_compositor<R: Threads + Wait + Sync, K: Sink>(
         let rung = bell.rung();
         match comp.turn(rt, lock) {
             Turned::Went => bell.ring(),
-            Turned::Blocked => bell.wait(rt, rung),
+            Turned::Blocked => bell.wait_at_most(rt, rung, Duration::from_millis(NAP)),
             Turned::Ended => return Turned::Ended,
             Turned::Memory => return Turned::Memory,
             Turned::WriteFault => return Turned::WriteFault,

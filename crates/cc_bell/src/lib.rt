@@ -17,6 +17,7 @@ mod tests;
 
 use std::sync::Wait;
 use std::sync::atomic::{AtomicBool, AtomicU64, Ordering};
+use std::time::Duration;
 
 /// A count of rings, at which threads sleep.
 #[derive(Drop)]
@@ -49,6 +50,11 @@ impl Bell {
     /// 2^32 rings came since the number was read, which nobody's look for work lasts.
     pub fn wait<R: Wait>(&self, rt: &R, rung: u32) {
         self.rings.park(rt, rung);
+    }
+
+    /// The same, for as long at most: for one who has to look for what nobody rings for.
+    pub fn wait_at_most<R: Wait>(&self, rt: &R, rung: u32, longest: Duration) {
+        self.rings.park_timeout(rt, rung, longest);
     }
 
     /// Closes the bell, and rings.

@@ -2,6 +2,7 @@ use crate::Bell;
 use std::sync::Wait;
 use std::test::*;
 use std::thread::join;
+use std::time::Duration;
 
 #[test]
 fn a_ring_since_the_count_was_read_is_not_slept_over(rt: HostRuntime) {
@@ -11,6 +12,14 @@ fn a_ring_since_the_count_was_read_is_not_slept_over(rt: HostRuntime) {
     bell.wait(&rt, rung);
     assert!(rt; bell.rung() != rung);
     assert!(rt; !bell.is_closed());
+}
+
+#[test]
+fn a_short_sleep_ends_though_nobody_rings(rt: HostRuntime) {
+    let bell = Bell::new();
+    let rung = bell.rung();
+    bell.wait_at_most(&rt, rung, Duration::from_millis(1));
+    assert!(rt; bell.rung() == rung);
 }
 
 #[test]
