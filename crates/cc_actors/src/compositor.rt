@@ -81,6 +81,11 @@ impl<'a, K: Sink> CompActor<'a, K> {
         self.lines.over
     }
 
+    // Whether the main side or a worker might do something when the last turn was given up.
+    pub(crate) fn may_others_go(&self) -> bool {
+        self.lines.others_may_go
+    }
+
     /// The pass, and the sink.
     pub fn pass(self) -> (Pass<Core>, &'a mut K)
         requires { IsSome self.pass }

@@ -24,9 +24,17 @@ use std::time::Duration;
 // has place again for what it keeps; at its next turn the compositor writes the one and moves the other on.
 const NAP: u64 = 5;
 
+// Rings where that is of use.
+fn ring_if(bell: &Bell, is_of_use: bool) {
+    if is_of_use {
+        bell.ring();
+    }
+}
+
 /// Turns of the compositor on the calling thread, until one answers `Ended`, `Memory` or `WriteFault`, which is
 /// the answer. The others take their turns on threads of their own. The compositor rings the bell where it has
-/// entered an event, and where it is blocked, it sleeps at the bell until another has, or for a moment.
+/// entered an event and another may do something, and where it is blocked, it sleeps at the bell until another has
+/// entered one, or for a moment.
 pub fn drive_compositor<R: Threads + Wait + Sync, K: Sink>(
     rt: &R,
     lock: &TurnLock<Core>,
@@ -44,7 +52,7 @@ pub fn drive_compositor<R: Threads + Wait + Sync, K: Sink>(
     for _ in rt.forever() {
         let rung = bell.rung();
         match comp.turn(rt, lock) {
-            Turned::Went => bell.ring(),
+            Turned::Went => ring_if(bell, comp.may_others_go()),
             Turned::Blocked => bell.wait_at_most(rt, rung, Duration::from_millis(NAP)),
             Turned::Ended => return Turned::Ended,
             Turned::Memory => return Turned::Memory,

@@ -14,6 +14,8 @@ pub struct Lines {
     pub(crate) written: usize,
     /// whether the run was played to its end, when the compositor last held it
     pub(crate) over: bool,
+    /// whether the main side or a worker might do something then
+    pub(crate) others_may_go: bool,
 }
 
 impl Lines {
@@ -25,6 +27,7 @@ impl Lines {
             text: Vec::new(alloc),
             written: 0,
             over: false,
+            others_may_go: false,
         }
     }
 

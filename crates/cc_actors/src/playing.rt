@@ -79,6 +79,12 @@ fn play(core: &mut Core) -> Played
     }
 }
 
+// Whether the main side or a worker may do something: end the frame in flight, start a tile, or hear that the
+// run has ended.
+fn may_others_go(core: &Core) -> bool {
+    core.in_flight().is_some() || core.next_start().is_some() || core.ended()
+}
+
 // Plays, and gathers the lines of what was not written.
 fn compose(core: &mut Core, lines: &mut Lines) -> Played
     ensures plays { Plays core.old core.new result }
@@ -87,6 +93,7 @@ fn compose(core: &mut Core, lines: &mut Lines) -> Played
 {
     let played = play(core);
     lines.over = core.is_over();
+    lines.others_may_go = may_others_go(core);
     match lines.gather(core.history()) {
         Ok(()) => played,
         Err(_) => Played::Memory,
