@@ -30,8 +30,8 @@ pub struct CompActor<'a, K: Sink> {
 
 impl<'a, K: Sink> CompActor<'a, K> {
     /// The compositor with a pass of actor 0 that has entered nothing, and with the sink that takes the
-    /// recording behind its two header lines. It makes each image in so many parts at the most.
-    pub fn new(alloc: Global, pass: Pass<Core>, out: &'a mut K, parts: usize) -> CompActor<'a, K>
+    /// recording behind its two header lines.
+    pub fn new(alloc: Global, pass: Pass<Core>, out: &'a mut K) -> CompActor<'a, K>
         requires actor { pass.actor ≡ 0 }
         requires fresh { pass.mine ≡ [] }
         ensures pass { result.pass ≡ Some pass }
@@ -43,13 +43,13 @@ impl<'a, K: Sink> CompActor<'a, K> {
             pass: Some(pass),
             out,
             lines: Lines::new(alloc),
-            drawer: Drawer::new(alloc, parts),
+            drawer: Drawer::new(alloc),
         }
     }
 
     /// One turn: enters the first event of the compositor that may come, and after giving the turn up writes
-    /// the lines of all entries that were not written, with the image behind the line of its own draw. It waits
-    /// while another actor holds the turn.
+    /// the lines of all entries that were not written, with the image behind the line of its own draw. A large
+    /// image is made in as many parts as the run has workers. It waits while another actor holds the turn.
     pub fn turn<R: Threads + Wait + Sync>(&mut self, rt: &R, lock: &TurnLock<Core>) -> Turned
         requires { Of self.old.pass (MayTurn lock.now.id self.old.lines.written) }
         ensures turn { CompTurns self.old.pass self.new.pass self.old.lines.written self.new.lines.written (K.held self.old.out.now) (K.held self.new.out.now) result }
@@ -63,6 +63,7 @@ impl<'a, K: Sink> CompActor<'a, K> {
             unreachable!()
         };
         let (pass, played) = hold(rt, lock, pass, &mut self.lines);
+        self.drawer.parts = self.lines.workers;
         let answer = write(
             rt,
             self.out,

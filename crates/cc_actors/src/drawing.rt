@@ -22,12 +22,12 @@ pub struct Drawer {
 }
 
 impl Drawer {
-    /// Nothing was drawn yet; each scene is drawn in so many parts at the most.
-    pub(crate) fn new(alloc: Global, parts: usize) -> Drawer {
+    /// Nothing was drawn yet.
+    pub(crate) fn new(alloc: Global) -> Drawer {
         Drawer {
             alloc,
             pictures: None,
-            parts,
+            parts: 1,
             head: Vec::new(alloc),
         }
     }

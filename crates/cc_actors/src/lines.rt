@@ -16,6 +16,8 @@ pub struct Lines {
     pub(crate) over: bool,
     /// whether the main side or a worker might do something then
     pub(crate) others_may_go: bool,
+    /// how many workers the run has
+    pub(crate) workers: usize,
 }
 
 impl Lines {
@@ -28,6 +30,7 @@ impl Lines {
             written: 0,
             over: false,
             others_may_go: false,
+            workers: 1,
         }
     }
 

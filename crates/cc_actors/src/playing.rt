@@ -94,6 +94,7 @@ fn compose(core: &mut Core, lines: &mut Lines) -> Played
     let played = play(core);
     lines.over = core.is_over();
     lines.others_may_go = may_others_go(core);
+    lines.workers = core.workers() as usize;
     match lines.gather(core.history()) {
         Ok(()) => played,
         Err(_) => Played::Memory,

@@ -45,7 +45,7 @@ pub(crate) fn take_back<T>(x: &mut T)
 {}
 
 // The compositor's turns up to the last.
-fn compose<R: Wait, K: Sink>(
+fn compose<R: Threads + Wait + Sync, K: Sink>(
     rt: &R,
     alloc: Global,
     lock: &TurnLock<Core>,
@@ -67,7 +67,7 @@ fn compose<R: Wait, K: Sink>(
 }
 
 // The same with the ring's end, and with the pass in its place. Then the end mark is raised.
-fn compose_all<R: Wait>(
+fn compose_all<R: Threads + Wait + Sync>(
     rt: &R,
     alloc: Global,
     lock: &TurnLock<Core>,
