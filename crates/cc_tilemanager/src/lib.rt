@@ -1,9 +1,9 @@
 //! The tiles of a run: their images, and which of them is made next.
 //!
-//! A [`TileManager`] has the store of tiles, the keys that are pinned and the raster queue, and keeps the
-//! three in step with the history of a run. Each call that stands for an event takes no memory, so it may
-//! follow the entry of that event; what needs memory is taken before, by calls of their own. It knows no
-//! page: ranks, live keys and the keys that an activation needs are handed in.
+//! A [`TileManager`] has the store of tiles, the keys that are pinned, and the raster queue or the ranks of which
+//! it is to be made, and keeps them in step with the history of a run. Each call that stands for an event takes
+//! no memory, so it may follow the entry of that event; what needs memory is taken before, by calls of their own.
+//! It knows no page: ranks, live keys and the keys that an activation needs are handed in.
 //!
 //! The name is that of Chromium's `cc/tiles/tile_manager.h`, which schedules raster work under a budget.
 #![tactic(auto)]

@@ -33,8 +33,8 @@ use std::alloc::{AllocError, Global};
 use std::marker::Model;
 use std::sync::Arc;
 
-/// The tiles of a run: the ready keys with their images, the keys in flight, the pinned keys, and the raster
-/// queue, which tells the next tile and what is given up for it.
+/// The tiles of a run: the ready keys with their images, the keys in flight, the pinned keys, and what tells the
+/// next tile and what is given up for it: the raster queue, or the ranks of which it is to be made.
 ///
 /// Contracts say for which runs it stands, by the script and the past: `Manages`.
 #[derive(Drop)]
