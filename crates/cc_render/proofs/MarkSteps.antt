@@ -159,7 +159,7 @@ quad_marked area quads k n q old new wide marked lt number e marks x y j xw yh i
     ]
 
 -- a mask of zeros
-pub none_marked : (area : Rect) (quads : List Quad) (tops : List ℕ) → ((i : ℕ) → slice_index tops i ≡ 0) → AreMarked area quads tops
+pub none_marked : (area : Rect) (quads : List Quad) (tops : List ℕ) → ((i : ℕ) → slice_index tops i ≤ 0) → AreMarked area quads tops
 unfolding top
 none_marked area quads tops zeros x y k xw yh is = let none = zeros (y / 8 * 129 + x / 16) in absurd (omega arith)
 
@@ -168,3 +168,7 @@ pub zeros : (n i : ℕ) → slice_index (replicate n 0) i ≡ 0
 zeros zero i = refl
 zeros (suc n) zero = refl
 zeros (suc n) (suc i) = zeros n i
+
+-- nothing is left where the highest number is 0
+pub none_left : (tops : List ℕ) (highest : ℕ) → ((i : ℕ) → slice_index tops i ≤ highest) → highest ≤ 0 → (i : ℕ) → slice_index tops i ≤ 0
+none_left tops highest bound none i = let b = bound i in omega arith

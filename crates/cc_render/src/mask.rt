@@ -73,13 +73,21 @@ impl Mask {
         requires quads { All (CanBeDrawn (length passes.now)) (quads_view quads.now) }
         ensures { AreMarked area quads.now self.new.tops }
     {
-        self.highest = marked(self.tops.as_mut_slice(), area, quads, passes);
+        let highest = self.highest;
+        self.highest = marked(self.tops.as_mut_slice(), highest, area, quads, passes);
     }
 }
 
-// the highest number of a mask after it was made for some quads of an area
-fn marked(tops: &mut [usize], area: Rect, quads: &[Quad], passes: &[Surface]) -> usize
+// the highest number of a mask after it was made for some quads of an area; none was above `highest` before
+fn marked(
+    tops: &mut [usize],
+    highest: usize,
+    area: Rect,
+    quads: &[Quad],
+    passes: &[Surface],
+) -> usize
     requires tops { length tops.old ≡ 1032 }
+    requires bound { (i : ℕ) → slice_index tops.old i ≤ highest }
     requires area { IsSound area }
     requires wide { near area.w ≤ 2048 }
     requires low { near area.h ≤ 64 }
@@ -88,33 +96,48 @@ fn marked(tops: &mut [usize], area: Rect, quads: &[Quad], passes: &[Surface]) ->
     ensures bound { (i : ℕ) → slice_index tops.new i ≤ result }
     ensures marked { AreMarked area quads.now tops.new }
 {
-    clear(tops);
-    mark_deep(tops, area, quads, passes);
-    highest_of(tops)
+    clear(tops, highest);
+    mark_deep(tops, area, quads, passes)
+}
+
+// gives all numbers 0, of which none is above `highest`
+#[tactic(auto, using(crate::proofs::MarkSteps::none_left))]
+fn clear(tops: &mut [usize], highest: usize)
+    requires bound { (i : ℕ) → slice_index tops.old i ≤ highest }
+    ensures size { length tops.new ≡ length tops.old }
+    ensures none { (i : ℕ) → slice_index tops.new i ≤ 0 }
+{
+    if highest > 0 {
+        fill_zeros(tops);
+    }
 }
 
 // gives all numbers 0
-fn clear(tops: &mut [usize])
+fn fill_zeros(tops: &mut [usize])
     ensures size { length tops.new ≡ length tops.old }
-    ensures zeros { (i : ℕ) → slice_index tops.new i ≡ 0 }
+    ensures none { (i : ℕ) → slice_index tops.new i ≤ 0 }
 {
     tops.fill(0);
 }
 
-// marks what the opaque ones of some quads hide, where that pays
-fn mark_deep(tops: &mut [usize], area: Rect, quads: &[Quad], passes: &[Surface])
+// the highest number after the marking of what the opaque ones of some quads hide, where that pays
+fn mark_deep(tops: &mut [usize], area: Rect, quads: &[Quad], passes: &[Surface]) -> usize
     requires tops { length tops.old ≡ 1032 }
+    requires none { (i : ℕ) → slice_index tops.old i ≤ 0 }
     requires area { IsSound area }
     requires wide { near area.w ≤ 2048 }
     requires low { near area.h ≤ 64 }
     requires quads { All (CanBeDrawn (length passes.now)) (quads_view quads.now) }
     requires marked { AreMarked area quads.now tops.old }
     ensures size { length tops.new ≡ 1032 }
+    ensures bound { (i : ℕ) → slice_index tops.new i ≤ result }
     ensures marked { AreMarked area quads.now tops.new }
 {
-    if is_deep(area, quads, passes) {
-        mark_quads(tops, area, quads, passes);
+    if !is_deep(area, quads, passes) {
+        return 0;
     }
+    mark_quads(tops, area, quads, passes);
+    highest_of(tops)
 }
 
 // whether quads lie above one another in many places of an area
