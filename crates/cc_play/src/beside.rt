@@ -1,6 +1,7 @@
 //! The compositor on the calling thread, and the presenter beside it.
 
 ghost use Rattle.std.specs.Prelude.{◌≡◌, ◌≤◌, ℕ, List, [], Option, Some};
+ghost use Rattle.std.specs.Thread.{IsSync};
 ghost use Rattle.cc_present.specs.Ring.{OneRing, SameSink, taken, whole};
 ghost use Rattle.cc_present.specs.Answers.{FaultRose};
 ghost use Rattle.cc_core.specs.Origins.{Origin};
@@ -111,7 +112,13 @@ pub(crate) fn run_beside<R: Threads + Wait + Sync, K: Sink + Send>(
     let (served, ending) = join_mut(
         rt,
         &mut || presenter.serve(rt, out),
-        &mut || compose_all(rt, alloc, lock, bell, &mut place, &mut sink),
+        &mut || -> Ending
+            requires sync { IsSync R.row }
+            requires first { Of place (IsFirst lock.now.id) }
+            ensures drove { OfBoth place.entry place.exit (λ p q. Drove p q (Some (whole sink.entry)) (Some (whole sink.exit)) result) }
+            ensures calm { FaultCause 0 0 result.last }
+            ensures ring { SameSink sink.entry sink.exit }
+        { compose_all(rt, alloc, lock, bell, &mut place, &mut sink) },
     );
     let Some(pass) = place else { unreachable!() };
     Ran {
