@@ -7,21 +7,18 @@ ghost use Rattle.cc_scene.specs.Views.{quads_view};
 ghost use Rattle.cc_render.specs.inner.Drawing.{CanBeDrawn};
 ghost use Rattle.cc_render.specs.inner.Masks.{AreMarked};
 
-use crate::hull::quad_rect;
 use crate::marks::mark_quads;
-use crate::size::{height_of, width_of};
 use crate::surface::Surface;
-use cc_display::shared_part;
 use cc_geom::Rect;
-use cc_scene::Quad;
+use cc_scene::{Quad, Scene};
 use std::alloc::{AllocError, Global};
 use std::marker::Model;
 
 /// How many numbers a mask has: those of the blocks of 64 rows, 129 in each row of them.
 const COUNT: usize = 1032;
 
-/// How often the quads of an area have to cover it on average for a mask to pay.
-const DEPTH: usize = 3;
+/// How often the tiles and rects of a pass have to cover the screen on average for a mask to pay.
+const DEPTH: i32 = 3;
 
 /// For each block of sixteen columns and eight rows of an area, which quad is the first that has to be drawn there, as
 /// it is opaque on the whole block: its number, counted from 1, or 0 where all have to be, and the background.
@@ -30,6 +27,8 @@ pub(crate) struct Mask {
     tops: Vec<usize>,
     // none of them exceeds it
     highest: usize,
+    // of each pass of the scene, whether a mask pays
+    deep: Vec<bool>,
 }
 
 impl Model for Mask {
@@ -43,10 +42,15 @@ impl Model for Mask {
 }
 
 impl Mask {
-    /// Takes the memory for a mask.
-    pub(crate) fn new(alloc: Global) -> Result<Mask, AllocError> {
+    /// Takes the memory for the masks of a scene.
+    pub(crate) fn new(alloc: Global, scene: &Scene) -> Result<Mask, AllocError> {
         let tops = vec![in alloc; 0usize; COUNT]?;
-        Ok(Mask { tops, highest: 0 })
+        let deep = deep_passes(alloc, scene)?;
+        Ok(Mask {
+            tops,
+            highest: 0,
+            deep,
+        })
     }
 
     /// The numbers, row by row of blocks.
@@ -65,7 +69,16 @@ impl Mask {
         self.highest
     }
 
-    /// Marks what the opaque ones of some quads hide of an area. The passes before theirs have surfaces.
+    // whether a mask pays for the pass of this number
+    fn is_deep(&self, number: usize) -> bool {
+        match self.deep.get(number) {
+            Some(deep) => *deep,
+            None => false,
+        }
+    }
+
+    /// Marks what the opaque ones of a pass's quads hide of an area, where that pays. The passes before it have
+    /// surfaces.
     pub(crate) fn mark(&mut self, area: Rect, quads: &[Quad], passes: &[Surface])
         requires area { IsSound area }
         requires wide { near area.w ≤ 2048 }
@@ -74,14 +87,17 @@ impl Mask {
         ensures { AreMarked area quads.now self.new.tops }
     {
         let highest = self.highest;
-        self.highest = marked(self.tops.as_mut_slice(), highest, area, quads, passes);
+        let deep = self.is_deep(passes.len());
+        self.highest = marked(self.tops.as_mut_slice(), highest, deep, area, quads, passes);
     }
 }
 
-// the highest number of a mask after it was made for some quads of an area; none was above `highest` before
+// the highest number of a mask after it was made for some quads of an area, or cleared where it does not pay; none
+// was above `highest` before
 fn marked(
     tops: &mut [usize],
     highest: usize,
+    deep: bool,
     area: Rect,
     quads: &[Quad],
     passes: &[Surface],
@@ -97,7 +113,11 @@ fn marked(
     ensures marked { AreMarked area quads.now tops.new }
 {
     clear(tops, highest);
-    mark_deep(tops, area, quads, passes)
+    if deep {
+        mark_deep(tops, area, quads, passes)
+    } else {
+        0
+    }
 }
 
 // gives all numbers 0, of which none is above `highest`
@@ -120,38 +140,20 @@ fn fill_zeros(tops: &mut [usize])
     tops.fill(0);
 }
 
-// the highest number after the marking of what the opaque ones of some quads hide, where that pays
+// the highest number after the marking of what the opaque ones of some quads hide
 fn mark_deep(tops: &mut [usize], area: Rect, quads: &[Quad], passes: &[Surface]) -> usize
     requires tops { length tops.old ≡ 1032 }
-    requires none { (i : ℕ) → slice_index tops.old i ≤ 0 }
     requires area { IsSound area }
     requires wide { near area.w ≤ 2048 }
     requires low { near area.h ≤ 64 }
     requires quads { All (CanBeDrawn (length passes.now)) (quads_view quads.now) }
     requires marked { AreMarked area quads.now tops.old }
-    ensures size { length tops.new ≡ 1032 }
+    ensures size { length tops.new ≡ length tops.old }
     ensures bound { (i : ℕ) → slice_index tops.new i ≤ result }
     ensures marked { AreMarked area quads.now tops.new }
 {
-    if !is_deep(area, quads, passes) {
-        return 0;
-    }
     mark_quads(tops, area, quads, passes);
     highest_of(tops)
-}
-
-// whether quads lie above one another in many places of an area
-fn is_deep(area: Rect, quads: &[Quad], passes: &[Surface]) -> bool
-    requires area { IsSound area }
-    requires quads { All (CanBeDrawn (length passes.now)) (quads_view quads.now) }
-{
-    let mut sum: usize = 0;
-    for quad in quads {
-        if let Some(part) = shared_part(quad_rect(quad, passes), area) {
-            sum = sum.saturating_add(part.at.w.saturating_mul(part.at.h));
-        }
-    }
-    sum / DEPTH > width_of(area).saturating_mul(height_of(area))
 }
 
 // the highest of some numbers
@@ -163,4 +165,28 @@ fn highest_of(tops: &[usize]) -> usize
         highest = highest.max(*top);
     }
     highest
+}
+
+// of each pass of a scene, whether its tiles and rects lie above one another in many places
+fn deep_passes(alloc: Global, scene: &Scene) -> Result<Vec<bool>, AllocError> {
+    let pixels = scene.w().saturating_mul(scene.h()) as i32;
+    let mut deep = Vec::with_capacity(alloc, scene.passes().len())?;
+    for pass in scene.passes() {
+        deep.push(pixels_of(pass.quads.as_slice()) / DEPTH > pixels)?;
+    }
+    Ok(deep)
+}
+
+// how many pixels the tiles and rects of some quads have together
+fn pixels_of(quads: &[Quad]) -> i32 {
+    let mut sum: i32 = 0;
+    for quad in quads {
+        match quad {
+            Quad::Tile { at, .. } | Quad::Solid { at, .. } => {
+                sum = sum.saturating_add(at.w.saturating_mul(at.h));
+            }
+            Quad::Group { .. } => {}
+        }
+    }
+    sum
 }

@@ -9,7 +9,7 @@ use crate::strip::{Band, Surfaces, draw_area};
 use cc_pixel::Area;
 use cc_scene::Scene;
 use std::alloc::{AllocError, Global};
-use std::marker::{Send, Sync};
+use std::marker::Sync;
 use std::thread::{Threads, join_mut};
 
 /// The least pixels of a part, counted once for each pass: fewer are drawn before a thread has started.

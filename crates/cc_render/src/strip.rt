@@ -53,7 +53,7 @@ impl Surfaces {
         Ok(Surfaces {
             passes: inner_surfaces(alloc, inner, pixels)?,
             root: Surface::new(alloc, pixels)?,
-            mask: Mask::new(alloc)?,
+            mask: Mask::new(alloc, scene)?,
             rows,
         })
     }
