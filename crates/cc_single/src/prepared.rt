@@ -14,6 +14,28 @@ use std::alloc::{AllocError, Global};
 use std::sync::Arc;
 use std::thread::Threads;
 
+/// How many pixels a thread of its own has to make at least: fewer are made before it has started.
+const LEAST_PIXELS: usize = 131072;
+
+// how many pixels the images of some jobs have
+fn pixels_of(jobs: &[Job]) -> usize {
+    let mut pixels: usize = 0;
+    for job in jobs {
+        let size = job.rect.w.saturating_mul(job.rect.h);
+        pixels = pixels.saturating_add(size.max(0) as usize);
+    }
+    pixels
+}
+
+// in how many parts the images of some jobs are made: as many as there are workers, where each is worth a thread
+fn parts_of(jobs: &[Job], workers: u32) -> u32
+    requires { (1 ≤ workers) × (workers ≤ 16) }
+    ensures { (1 ≤ result) × (result ≤ 16) }
+{
+    let worth = pixels_of(jobs) / LEAST_PIXELS;
+    worth.clamp(1, workers as usize) as u32
+}
+
 /// The images of tiles that come next.
 #[derive(Drop)]
 pub(crate) struct Prepared {
@@ -102,8 +124,8 @@ impl Prepared {
         }
     }
 
-    /// Makes the images of the tiles that come next, in as many parts as there are workers, where that of the next
-    /// one was not made. An error is want of memory, and the images are as they were.
+    /// Makes the images of the tiles that come next, in at most as many parts as there are workers, where that of the
+    /// next one was not made. An error is want of memory, and the images are as they were.
     pub(crate) fn prepare<R: Threads + Sync>(
         &mut self,
         rt: &R,
@@ -121,7 +143,8 @@ impl Prepared {
             return Ok(());
         }
         let jobs = core.upcoming(self.most(core))?;
-        self.images = run_all(rt, alloc, jobs, core.workers())?;
+        let parts = parts_of(jobs.as_slice(), core.workers());
+        self.images = run_all(rt, alloc, jobs, parts)?;
         Ok(())
     }
 }
