@@ -114,8 +114,7 @@ pub fn to_key(numbers: &[i64]) -> Option<TileKey>
     }
 }
 
-/// Keys of four numbers each. The list takes no more memory than they need, since a long recording has millions
-/// of such lists.
+/// Keys of four numbers each.
 #[tactic(auto, using(crate::proofs::ListSteps::keys_more, crate::proofs::ListSteps::keys_none, crate::proofs::ListSteps::keys_end))]
 pub fn to_keys(alloc: Global, numbers: &[i64]) -> Result<Option<Keys>, AllocError>
     ensures { IfOk result (λ keys. keys ≡ spec.keys_of numbers.now) }
@@ -131,8 +130,7 @@ pub fn to_keys(alloc: Global, numbers: &[i64]) -> Result<Option<Keys>, AllocErro
         }
         rest = behind(rest, 4);
     }
-    let exact = keys.copy()?;
-    Ok(Some(exact))
+    Ok(Some(keys))
 }
 
 /// Numbers as a move; None where they are not three that fit.
