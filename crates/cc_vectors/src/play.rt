@@ -13,8 +13,11 @@ use std::thread::Threads;
 #[derive(Drop)]
 pub struct Played {
     outcome: Outcome,
+    // the output, or its pictures where the case asks for a legal recording
     out: MemSink,
     notes: MemSink,
+    // whether the output is what the case asks for: a legal recording, or anything
+    accepted: bool,
 }
 
 /// What of a run is not as its case says.
@@ -22,6 +25,8 @@ pub struct Played {
 pub enum Difference {
     Status,
     Notes,
+    /// The output is no legal recording, and was to be one.
+    Legality,
     Output,
 }
 
@@ -98,18 +103,18 @@ fn run_over<R: Threads + Wait + Sync>(
     Ok((outcome, out))
 }
 
-/// The pictures of a recording; none where it is not legal.
+/// The pictures of a recording; None where it is not legal.
 fn pictures_of<R: Threads + Wait + Sync>(
     rt: &R,
     alloc: Global,
     recording: &[u8],
-) -> Result<MemSink, AllocError> {
-    let (judged, nothing) = run_over(rt, alloc, "check", recording)?;
+) -> Result<Option<MemSink>, AllocError> {
+    let (judged, _) = run_over(rt, alloc, "check", recording)?;
     if judged.status() != 0 {
-        return Ok(nothing);
+        return Ok(None);
     }
     let (_, pictures) = run_over(rt, alloc, "frames", recording)?;
-    Ok(pictures)
+    Ok(Some(pictures))
 }
 
 /// The run of this number.
@@ -132,13 +137,18 @@ pub fn play<R: Threads + Wait + Sync>(
         &mut notes,
         &OpenGate,
     );
+    let mut accepted = true;
     if case.recording {
-        out = pictures_of(rt, alloc, out.bytes())?;
+        match pictures_of(rt, alloc, out.bytes())? {
+            Some(pictures) => out = pictures,
+            None => accepted = false,
+        }
     }
     Ok(Played {
         outcome,
         out,
         notes,
+        accepted,
     })
 }
 
@@ -173,6 +183,9 @@ impl Played {
         let line = case.note.as_ref().map(|line| line.as_str());
         if !holds_line(self.notes.bytes(), line, case.notes_room) {
             return Some(Difference::Notes);
+        }
+        if !self.accepted {
+            return Some(Difference::Legality);
         }
         if !case
             .output
