@@ -1,4 +1,6 @@
 pub mod Lists
+pub mod Acts
+pub mod Shares
 pub mod DrawnPlaces
 pub mod OwnTiles
 pub mod ByLayer

@@ -18,6 +18,15 @@ always P f xs k d lt = f (get_or xs k d)
 pub both_all : {A : Type 0} (P Q : A → Type 0) (xs : List A) → All P xs → All Q xs → All (λ x. P x × Q x) xs
 both_all P Q xs a b k d lt = (a k d lt, b k d lt)
 
+-- what holds of two lists that are joined holds of each
+pub all_front : {A : Type 0} (P : A → Type 0) (xs ys : List A) → All P (xs ++ ys) → All P xs
+all_front P [] ys h = All-nil P
+all_front P (x ∷ xs) ys h = All-cons P x xs (All-head P x (xs ++ ys) h) (all_front P xs ys (All-tail P x (xs ++ ys) h))
+
+pub all_back : {A : Type 0} (P : A → Type 0) (xs ys : List A) → All P (xs ++ ys) → All P ys
+all_back P [] ys h = h
+all_back P (x ∷ xs) ys h = all_back P xs ys (All-tail P x (xs ++ ys) h)
+
 -- what holds of each piece holds of all
 pub all_flat : {A B : Type 0} (P : B → Type 0) (f : A → List B) (xs : List A) → All (λ x. All P (f x)) xs → All P (flat_map f xs)
 all_flat P f [] h = All-nil P
@@ -41,6 +50,12 @@ alike_more {A} {B} {C} f g ys more y xs i x made lt is was same =
     ∙ ap (λ (cs : List C). cs ++ f y ∷ []) was
     ∙ ap (λ (c : C). map g (take i xs) ++ c ∷ []) (same ∙ ap g is)
     ∙ sym (map_more g xs i x lt)
+
+-- one more of a list under two maps
+pub mapped_more : {A B C : Type 0} (f : B → C) (g : A → B) (xs : List A) (i : ℕ) (x : A) → i < length xs → x ≡ get_or xs i x → map f (map g (take (i + 1) xs)) ≡ map f (map g (take i xs)) ++ f (g x) ∷ []
+mapped_more {A} {B} {C} f g xs i x lt is =
+    ap (map f) (map_more g xs i x lt ∙ ap (λ (y : A). map g (take i xs) ++ g y ∷ []) (sym is))
+    ∙ map-append f (map g (take i xs)) (g x ∷ [])
 
 -- elements of lists that are joined
 pub index_front : {A : Type 0} (xs ys : List A) (k : ℕ) (d : A) → k < length xs → slice_index_or (xs ++ ys) k d ≡ slice_index_or xs k d

@@ -2,8 +2,7 @@
 use Rattle.std.proofs.Common.{ℕ, ℤ, ◌≡◌, ◌⊎◌, inl, inr, ◌+◌, ◌==◌, Bool, true, false, cond, Some, List, [], ◌∷◌, ◌++◌, length, map, find, All, refl, ap, sym, ◌∙◌, subst, arith}
 use Rattle.std.specs.List.{list_any}
 use Rattle.std.proofs.lemmas.List.{length-append}
-use Rattle.std.proofs.lemmas.Simd.{map-map}
-use Rattle.std.proofs.lemmas.List.Elements.{All-head, All-tail, All-map, All-same, All-weaker}
+use Rattle.std.proofs.lemmas.List.Elements.{All-head, All-tail, All-same, All-weaker}
 use Rattle.cc_geom.specs.declared.rect.Point.{Point}
 use Rattle.cc_geom.specs.declared.rect.Rect.{Rect}
 use Rattle.cc_geom.specs.declared.tile.TileKey.{TileKey}
@@ -21,13 +20,14 @@ use Rattle.cc_edit.proofs.SampleColours.{same_items}
 use Rattle.cc_visible.specs.Visible.{viewport, grid_of}
 use Rattle.cc_scene.specs.Views.{QuadView}
 use Rattle.cc_scene.specs.Pixels.{quads_over, scene_pixel}
-use Rattle.cc_scene.specs.Sound.{Fits, AreSound, IsScene}
+use Rattle.cc_scene.specs.Sound.{AreSound, IsScene}
 use Rattle.cc_scene.proofs.Steps.{scene_last, sound_append}
 use Rattle.cc_quads.specs.declared.parts.LayerParts.{LayerParts}
 use Rattle.cc_quads.specs.Shown.{Tile, missing_keys, AreRight}
 use Rattle.cc_quads.specs.inner.LayerQuads.{layer_quads}
-use Rattle.cc_quads.specs.inner.Passes.{groups_of, own_quads, own_colour, ActAsOne, IsLayer, HaveOpacities, AreBuilt}
-use Rattle.cc_quads.proofs.Lists.{all_mapped, both_all}
+use Rattle.cc_quads.specs.inner.Passes.{groups_of, own_colour, IsLayer, HaveQuads, HaveOpacities, AreBuilt}
+use Rattle.cc_quads.proofs.Lists.{both_all}
+use Rattle.cc_quads.proofs.Shares.{IsOne, layers_are, colours_are}
 use Rattle.cc_quads.proofs.LayerActs.{shown_colour, layer_as_one, layer_shows}
 use Rattle.cc_quads.proofs.TileFits.{layer_fits}
 use Rattle.cc_quads.proofs.PageTiles.{found_each, grids_sound}
@@ -45,21 +45,15 @@ module _ (p : Page) (offset : ℕ → Point) (ts : List Tile) (page : IsPage p) 
 
   -- ---- the layers act as one
 
-  IsOne : List QuadView → Type 0
-  IsOne qs = ActAsOne (viewport p) qs × All (Fits p.view.w p.view.h 0) qs
+  one_each : All (λ l. IsOne p.view.w p.view.h (viewport p) (layer_quads p offset ts l)) p.layers
+  unfolding IsFound
+  one_each = All-weaker IsFound (λ l. IsOne p.view.w p.view.h (viewport p) (layer_quads p offset ts l)) (λ l f. (layer_as_one p offset ts l right page.distinct f.0 f.1, layer_fits p offset ts l right page.distinct f.0)) p.layers each_found
 
-  one_each : All (λ l. IsOne (layer_quads p offset ts l)) p.layers
-  unfolding IsFound IsOne
-  one_each = All-weaker IsFound (λ l. IsOne (layer_quads p offset ts l)) (λ l f. (layer_as_one p offset ts l right page.distinct f.0 f.1, layer_fits p offset ts l right page.distinct f.0)) p.layers each_found
-
-  pub layers_of : (parts : List LayerParts) → map own_quads parts ≡ map (layer_quads p offset ts) p.layers → All (IsLayer p.view.w p.view.h (viewport p)) parts
-  unfolding IsOne
-  layers_of parts quads =
-      All-weaker (λ l. IsOne (own_quads l)) (IsLayer p.view.w p.view.h (viewport p)) (λ l one. record { acts = one.0; fit = one.1 }) parts
-      (all_mapped IsOne own_quads parts (All-same IsOne (map own_quads parts) (map (layer_quads p offset ts) p.layers) quads (All-map IsOne (layer_quads p offset ts) p.layers one_each)))
+  pub layers_of : (parts : List LayerParts) → HaveQuads (map (layer_quads p offset ts) p.layers) parts → All (IsLayer p.view.w p.view.h (viewport p)) parts
+  layers_of parts quads = layers_are p.view.w p.view.h (viewport p) (layer_quads p offset ts) p.layers parts one_each quads
 
   -- what was built of the layers, from no pass on
-  pub root_built : (slice parts : List LayerParts) (old new : List (List QuadView)) (root : List QuadView) → slice ≡ parts → old ≡ [] → map own_quads parts ≡ map (layer_quads p offset ts) p.layers
+  pub root_built : (slice parts : List LayerParts) (old new : List (List QuadView)) (root : List QuadView) → slice ≡ parts → old ≡ [] → HaveQuads (map (layer_quads p offset ts) p.layers) parts
       → ((w h : ℕ) (view : Rect) → All (IsLayer w h view) slice → AreBuilt w h view 0 slice old new root) → AreBuilt p.view.w p.view.h (viewport p) 0 parts [] new root
   root_built slice parts old new root same none quads make =
       subst (λ (ls : List LayerParts). AreBuilt p.view.w p.view.h (viewport p) 0 ls [] new root) same
@@ -72,13 +66,11 @@ module _ (p : Page) (offset : ℕ → Point) (ts : List Tile) (page : IsPage p) 
   map_where f g [] h = refl
   map_where {A} {B} f g (x ∷ xs) h = ap (λ (y : B). y ∷ map f xs) (All-head (λ x. f x ≡ g x) x xs h) ∙ ap (λ (ys : List B). g x ∷ ys) (map_where f g xs (All-tail (λ x. f x ≡ g x) x xs h))
 
-  pub own_colours : (parts : List LayerParts) (x y : ℤ) → map own_quads parts ≡ map (layer_quads p offset ts) p.layers → covers (viewport p) x y ≡ true
+  pub own_colours : (parts : List LayerParts) (x y : ℤ) → HaveQuads (map (layer_quads p offset ts) p.layers) parts → covers (viewport p) x y ≡ true
       → map (own_colour x y) parts ≡ map (shown_colour p offset (missing_keys ts) x y) p.layers
   unfolding IsFound
   own_colours parts x y quads seen =
-      sym (map-map (λ (qs : List QuadView). quads_over [] x y clear qs) own_quads parts)
-      ∙ ap (map (λ (qs : List QuadView). quads_over [] x y clear qs)) quads
-      ∙ map-map (λ (qs : List QuadView). quads_over [] x y clear qs) (layer_quads p offset ts) p.layers
+      colours_are p.view.w p.view.h (viewport p) (layer_quads p offset ts) x y p.layers parts one_each quads
       ∙ map_where (λ l. quads_over [] x y clear (layer_quads p offset ts l)) (shown_colour p offset (missing_keys ts) x y) p.layers
       (All-weaker IsFound (λ l. quads_over [] x y clear (layer_quads p offset ts l) ≡ shown_colour p offset (missing_keys ts) x y l) (λ l f. layer_shows p offset ts l right page.distinct f.0 x y f.1 seen) p.layers each_found)
 
@@ -97,7 +89,7 @@ module _ (p : Page) (offset : ℕ → Point) (ts : List Tile) (page : IsPage p) 
 
   pub scene_shown : (parts : List LayerParts) (passes : List (List QuadView)) (root : List QuadView) (background : Parts) (w h : ℕ) → AreEffects p.props.effects
       → map groups_of parts ≡ map (λ l. groups_in p.props.effects l.effect) p.layers → HaveOpacities (opacity_in p.props.effects) parts
-      → map own_quads parts ≡ map (layer_quads p offset ts) p.layers
+      → HaveQuads (map (layer_quads p offset ts) p.layers) parts
       → AreBuilt p.view.w p.view.h (viewport p) 0 parts [] passes root
       → (x y : ℤ) → covers (viewport p) x y ≡ true
       → scene_pixel (record { w = w; h = h; background = background; passes = passes ++ root ∷ [] }) x y ≡ paint p offset (missing_keys ts) background x y

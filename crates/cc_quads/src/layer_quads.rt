@@ -1,6 +1,6 @@
-//! The quads of one layer: one for each of its tiles that are shown.
+//! The quads of one layer, which show its tiles.
 
-ghost use Rattle.std.specs.Prelude.{◌≡◌, ◌==◌, ◌*◌, ◌-ℤ◌, FitsSigned, IsTrue, IfOk, All, map, filter};
+ghost use Rattle.std.specs.Prelude.{◌≡◌, ◌==◌, ◌*◌, ◌-ℤ◌, ◌∷◌, [], FitsSigned, IsTrue, IfOk, All, map, filter};
 ghost use Rattle.std.specs.List.Sorted.{IsNonDecreasingBy};
 ghost use mir.Syntax.{w32};
 ghost use Rattle.cc_geom.specs.Covers.{IsSound};
@@ -8,14 +8,17 @@ ghost use Rattle.cc_geom.specs.Grids.{has};
 ghost use Rattle.cc_geom.specs.Sides.{IsSide};
 ghost use Rattle.cc_tree.specs.OffsetMap.{offset_at, AreOffsets};
 ghost use Rattle.cc_edit.specs.Layers.{parts_of};
-ghost use Rattle.cc_scene.specs.Views.{quad_view, quads_view};
+ghost use Rattle.cc_scene.specs.Views.{tiled, quad_view, quads_view};
 ghost use Rattle.cc_quads.specs.Shown.{tile_of, place_named};
+ghost use Rattle.cc_quads.specs.inner.Joins.{ActAs};
 ghost use Rattle.cc_quads.specs.inner.LayerQuads as spec;
 
+use crate::joining::add_quad;
 use crate::shown::Shown;
 use cc_edit::{Layer, LayerTree};
 use cc_geom::{Grid, Place, Point, Rect};
 use cc_pixel::Colour;
+use cc_raster::TileImage;
 use cc_scene::Quad;
 use cc_tree::Offsets;
 use cc_visible::{clip_in, grid_of, moved_place};
@@ -85,10 +88,25 @@ fn corner(part: Rect, whole: Rect) -> Point
     Point { x, y }
 }
 
+// The part of an image from a pixel on, as a plain rect where the image has one colour.
+#[tactic(auto, using(crate::proofs::Acts::act_plain, crate::proofs::Acts::act_same))]
+fn part_of(image: &Arc<TileImage>, at: Rect, from: Point) -> Result<Quad, AllocError>
+    ensures { IfOk result (λ quad. ActAs (quad_view quad ∷ []) (tiled image.now.value at from ∷ [])) }
+{
+    match image.solid() {
+        Some(colour) => Ok(Quad::Solid { at, colour }),
+        None => {
+            let image = Arc::try_clone(image)?;
+            Ok(Quad::Tile { image, at, from })
+        }
+    }
+}
+
 // The part of a tile that is drawn, or the layer's colour there where the tile is missing.
+#[tactic(auto, using(crate::proofs::Acts::act_same))]
 fn quad_of(spot: &LayerSpot, shown: &Shown) -> Result<Quad, AllocError>
     requires { IsTrue (has spot.now.grid (place_named (tile_of shown.now))) }
-    ensures { IfOk result (λ quad. quad_view quad ≡ spec.quad_of spot.now (tile_of shown.now)) }
+    ensures { IfOk result (λ quad. ActAs (quad_view quad ∷ []) (spec.quad_of spot.now (tile_of shown.now) ∷ [])) }
 {
     let place = Place {
         x: shown.key.x,
@@ -96,15 +114,15 @@ fn quad_of(spot: &LayerSpot, shown: &Shown) -> Result<Quad, AllocError>
     };
     let whole = moved_place(spot.grid, place, spot.by);
     let at = whole.intersect(spot.clip);
+    let from = corner(at, whole);
     match &shown.image {
         None => Ok(Quad::Solid {
             at,
             colour: spot.colour,
         }),
         Some(image) => {
-            let image = Arc::try_clone(image)?;
-            let from = corner(at, whole);
-            Ok(Quad::Tile { image, at, from })
+            let quad = part_of(image, at, from)?;
+            Ok(quad)
         }
     }
 }
@@ -119,22 +137,22 @@ fn tiles_on(shown: &[Shown], id: u32) -> &[Shown]
     own
 }
 
-// The quads of these tiles of one layer.
+// Quads that show these tiles of one layer.
 fn quads_at(alloc: Global, spot: &LayerSpot, tiles: &[Shown]) -> Result<Vec<Quad>, AllocError>
     requires { All (λ s. IsTrue (has spot.now.grid (place_named (tile_of s)))) tiles.now }
-    ensures { IfOk result (λ quads. quads_view quads.items ≡ map (spec.quad_of spot.now) (map tile_of tiles.now)) }
+    ensures { IfOk result (λ quads. ActAs (quads_view quads.items) (map (spec.quad_of spot.now) (map tile_of tiles.now))) }
 {
     let mut quads = Vec::new(alloc);
     for tile in tiles {
-        quads.push(quad_of(spot, tile)?)?;
+        add_quad(&mut quads, quad_of(spot, tile)?)?;
     }
     Ok(quads)
 }
 
-/// The quads of the layer with this id, which lies so, in the order of its tiles. The tiles stand by rising
-/// layer, and those of this layer are looked up among them: the work grows with the logarithm of their
-/// number, and with the number of the layer's own. The layer's grid is to have the places of its tiles. An
-/// error is want of memory.
+/// Quads that show the tiles of the layer with this id, which lies so; tiles of one colour that are
+/// neighbours make one quad. The tiles stand by rising layer, and those of this layer are looked up among
+/// them: the work grows with the logarithm of their number, and with the number of the layer's own. The
+/// layer's grid is to have the places of its tiles. An error is want of memory.
 pub(crate) fn quads_on(
     alloc: Global,
     spot: &LayerSpot,
@@ -143,7 +161,7 @@ pub(crate) fn quads_on(
 ) -> Result<Vec<Quad>, AllocError>
     requires order { IsNonDecreasingBy (λ s. s.key.layer) shown.now }
     requires there { All (λ s. s.key.layer ≡ id → IsTrue (has spot.now.grid (place_named (tile_of s)))) shown.now }
-    ensures { IfOk result (λ quads. quads_view quads.items ≡ spec.quads_on spot.now id (map tile_of shown.now)) }
+    ensures { IfOk result (λ quads. ActAs (quads_view quads.items) (spec.quads_on spot.now id (map tile_of shown.now))) }
 {
     quads_at(alloc, spot, tiles_on(shown, id))
 }

@@ -6,8 +6,9 @@ ghost use Rattle.cc_tree.specs.OffsetMap.{offset_at, AreOffsets};
 ghost use Rattle.cc_edit.specs.Layers.{parts_of, has_id};
 ghost use Rattle.cc_edit.specs.TreePainting.{groups_in, opacity_in};
 ghost use Rattle.cc_quads.specs.Shown.{tile_of, AreRight};
+ghost use Rattle.cc_quads.specs.inner.Joins.{ActAs};
 ghost use Rattle.cc_quads.specs.inner.LayerQuads.{layer_quads};
-ghost use Rattle.cc_quads.specs.inner.Passes.{groups_of, own_quads, HaveOpacities};
+ghost use Rattle.cc_quads.specs.inner.Passes.{groups_of, own_quads, HaveQuads, HaveOpacities};
 
 use crate::layer_quads::{quads_on, spot_of};
 use crate::shown::Shown;
@@ -21,7 +22,7 @@ use std::alloc::{AllocError, Global};
 pub(crate) struct LayerParts {
     /// The effects below 255 that the layer lies in, the outermost first.
     pub groups: Vec<Group>,
-    /// The layer's own quads, in the order of its tiles.
+    /// The layer's own quads.
     pub quads: Vec<Quad>,
 }
 
@@ -40,7 +41,7 @@ fn parts_in(
     ensures groups { IfOk result (λ parts. groups_of parts ≡ groups_in tree.now.props.effects layer.now.effect) }
     ensures opacities { IfOk result (λ parts. All (λ g. opacity_in tree.now.props.effects g.effect ≡ g.opacity) parts.groups.items) }
     ensures few { IfOk result (λ parts. length parts.groups.items ≤ 256) }
-    ensures quads { IfOk result (λ parts. own_quads parts ≡ layer_quads tree.now (offset_at offsets.now) (map tile_of shown.now) (parts_of layer.now)) }
+    ensures quads { IfOk result (λ parts. ActAs (own_quads parts) (layer_quads tree.now (offset_at offsets.now) (map tile_of shown.now) (parts_of layer.now))) }
 {
     tree.is_page();
     let props = tree.props();
@@ -64,7 +65,7 @@ pub(crate) fn layer_parts(
     ensures groups { IfOk result (λ parts. map groups_of parts.items ≡ map (λ l. groups_in tree.now.props.effects l.effect) tree.now.layers) }
     ensures opacities { IfOk result (λ parts. HaveOpacities (opacity_in tree.now.props.effects) parts.items) }
     ensures few { IfOk result (λ parts. All (λ l. length l.groups.items ≤ 256) parts.items) }
-    ensures quads { IfOk result (λ parts. map own_quads parts.items ≡ map (layer_quads tree.now (offset_at offsets.now) (map tile_of shown.now)) tree.now.layers) }
+    ensures quads { IfOk result (λ parts. HaveQuads (map (layer_quads tree.now (offset_at offsets.now) (map tile_of shown.now)) tree.now.layers) parts.items) }
 {
     tree.is_page();
     let layers = tree.layers();

@@ -1,5 +1,5 @@
 -- The passes that layers in nested groups make.
-use Rattle.std.specs.Prelude.{◌≡◌, ℕ, ℤ, true, List, [], ◌++◌, length, map, All}
+use Rattle.std.specs.Prelude.{◌≡◌, ℕ, ℤ, true, List, [], ◌∷◌, ◌++◌, length, map, All}
 use Rattle.cc_geom.specs.declared.rect.Rect.{Rect}
 use Rattle.cc_geom.specs.Covers.{covers}
 use Rattle.cc_pixel.specs.Colours.{Parts, blend, clear}
@@ -8,6 +8,7 @@ use Rattle.cc_scene.specs.Views.{QuadView, quads_view}
 use Rattle.cc_scene.specs.Pixels.{quads_over, passes_at}
 use Rattle.cc_scene.specs.Sound.{Fits, AreSound}
 use Rattle.cc_quads.specs.declared.parts.LayerParts.{LayerParts}
+use Rattle.cc_quads.specs.inner.Joins.{ActAs}
 
 -- the groups that a layer lies in, the outermost first, and its own quads
 abbrev pub groups_of : LayerParts → List ℕ
@@ -28,6 +29,13 @@ ActAsOne view qs = (passes : List Parts) (x y : ℤ) (below : Parts) → covers 
 pub record IsLayer (w h : ℕ) (view : Rect) (l : LayerParts) : Type 0 where
   pub acts : ActAsOne view (own_quads l)
   pub fit : All (Fits w h 0) (own_quads l)
+
+-- the quads of each layer act as these
+abbrev pub HaveQuads : List (List QuadView) → List LayerParts → Type 0
+HaveQuads [] [] = Unit {0}
+HaveQuads [] (l ∷ ls) = ⊥
+HaveQuads (qs ∷ more) [] = ⊥
+HaveQuads (qs ∷ more) (l ∷ ls) = ActAs (own_quads l) qs × HaveQuads more ls
 
 -- each group of each layer has the opacity of its effect
 abbrev pub HaveOpacities : (ℕ → ℕ) → List LayerParts → Type 0

@@ -1,9 +1,10 @@
--- The quads of the tiles so far.
-use Rattle.std.proofs.Common.{◌≡◌, map, take}
+-- The quads act as those of the tiles so far.
+use Rattle.std.proofs.Common.{map, take}
 use Rattle.cc_scene.specs.Views.{quads_view}
 use Rattle.cc_quads.specs.Shown.{tile_of}
+use Rattle.cc_quads.specs.inner.Joins.{ActAs}
 use Rattle.cc_quads.specs.inner.LayerQuads as spec
 use Rattle.cc_quads.proofs.layer_quads.quads_at.Given as goal
 
 abbrev pub invariant-loop-tile : goal.invariant-loop-tile
-invariant-loop-tile l = quads_view l.quads.items ≡ map (spec.quad_of l.spot) (map tile_of (take l.tile-index l.tiles))
+invariant-loop-tile l = ActAs (quads_view l.quads.items) (map (spec.quad_of l.spot) (map tile_of (take l.tile-index l.tiles)))

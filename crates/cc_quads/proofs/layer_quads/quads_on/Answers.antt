@@ -1,9 +1,10 @@
 -- The tiles that were looked up are those of the layer.
-use Rattle.std.proofs.Common.{◌≡◌, List, map, ap, ◌∙◌, subst}
+use Rattle.std.proofs.Common.{List, map, ap, ◌∙◌, subst}
 use Rattle.std.specs.Prelude.{IsTrue, IfOk}
 use Rattle.cc_geom.specs.Grids.{has}
 use Rattle.cc_scene.specs.Views.{QuadView, quads_view}
 use Rattle.cc_quads.specs.Shown.{Tile, tile_of, place_named}
+use Rattle.cc_quads.specs.inner.Joins.{ActAs}
 use Rattle.cc_quads.specs.inner.LayerQuads as spec
 use Rattle.cc_quads.proofs.ByLayer.{own_all, own_shown}
 use Rattle.cc_quads.proofs.layer_quads.quads_on.Goals as goal
@@ -13,6 +14,6 @@ quads_at-requires c = own_all (λ s. IsTrue (has c.args.spot.now.grid (place_nam
 
 pub returns : goal.returns
 returns c =
-    subst (λ (qs : List QuadView). IfOk c.quads_at.result (λ quads. quads_view quads.items ≡ qs))
+    subst (λ (qs : List QuadView). IfOk c.quads_at.result (λ quads. ActAs (quads_view quads.items) qs))
     (ap (λ (ts : List Tile). map (spec.quad_of c.args.spot.now) ts) (ap (map tile_of) c.tiles_on.ensures ∙ own_shown c.args.id c.args.shown.now))
     c.quads_at.ensures

@@ -1,5 +1,5 @@
 -- One layer more has its share, and in the end all have.
-use Rattle.std.proofs.Common.{◌≡◌, ◌≤◌, Some, List, find, map, length, All, ap, sym, ◌∙◌, subst, arith}
+use Rattle.std.proofs.Common.{◌≡◌, ◌≤◌, Some, List, find, map, take, length, All, ap, sym, ◌∙◌, subst, arith}
 use Rattle.std.proofs.lemmas.List.{take_all}
 use Rattle.std.proofs.lemmas.List.Elements.{All-push, All-same}
 use Rattle.std.proofs.lemmas.Simd.{map-map}
@@ -11,8 +11,9 @@ use Rattle.cc_scene.specs.Views.{QuadView}
 use Rattle.cc_quads.specs.declared.parts.LayerParts.{LayerParts}
 use Rattle.cc_quads.specs.Shown.{tile_of}
 use Rattle.cc_quads.specs.inner.LayerQuads.{layer_quads}
-use Rattle.cc_quads.specs.inner.Passes.{groups_of, own_quads}
+use Rattle.cc_quads.specs.inner.Passes.{groups_of, HaveQuads}
 use Rattle.cc_quads.proofs.Lists.{alike_more, all_mapped}
+use Rattle.cc_quads.proofs.Shares.{have_more}
 use Rattle.cc_quads.proofs.PageTiles.{found_each}
 use Rattle.cc_quads.proofs.parts.layer_parts.Goals as goal
 
@@ -36,7 +37,7 @@ loop-layer-preserved c =
       groups = alike_more groups_of (λ (l : Layer). groups_in p.props.effects l.effect) c.loop-layer.parts.items c.push.new.self.items c.in_ok-parts_in.field-0 c.layers-layers.result.now c.loop-layer.layer-index c.layer-item.result made c.loop-layer-test.true c.layer-item.is old.groups new.groups;
       opacities = All-same P c.push.new.self.items _ made (All-push P c.loop-layer.parts.items c.in_ok-parts_in.field-0 old.opacities new.opacities);
       few = All-same (λ (l : LayerParts). length l.groups.items ≤ 256) c.push.new.self.items _ made (All-push (λ (l : LayerParts). length l.groups.items ≤ 256) c.loop-layer.parts.items c.in_ok-parts_in.field-0 old.few new.few);
-      quads = alike_more own_quads (λ (l : Layer). layer_quads p (offset_at c.args.offsets.now) (map tile_of c.args.shown.now) (parts_of l)) c.loop-layer.parts.items c.push.new.self.items c.in_ok-parts_in.field-0 c.layers-layers.result.now c.loop-layer.layer-index c.layer-item.result made c.loop-layer-test.true c.layer-item.is old.quads new.quads;
+      quads = have_more (λ (l : Layer). layer_quads p (offset_at c.args.offsets.now) (map tile_of c.args.shown.now) (parts_of l)) c.loop-layer.parts.items c.push.new.self.items c.in_ok-parts_in.field-0 c.layers-layers.result.now c.loop-layer.layer-index c.layer-item.result made c.loop-layer-test.true c.layer-item.is old.quads new.quads;
     }
 
 pub returns-clause-groups : goal.returns-clause-groups
@@ -53,7 +54,8 @@ returns-clause-quads c =
     let p = c.args.tree.now in
     let ls = c.layers-layers.result.now in
     let f : PageLayer → List QuadView = layer_quads p (offset_at c.args.offsets.now) (map tile_of c.args.shown.now) in
-    c.loop-layer.invariant.quads
-    ∙ ap (map (λ (l : Layer). f (parts_of l))) (take_all c.loop-layer.layer-index ls (omega arith))
+    let all : map (λ (l : Layer). f (parts_of l)) (take c.loop-layer.layer-index ls) ≡ map f p.layers =
+    ap (map (λ (l : Layer). f (parts_of l))) (take_all c.loop-layer.layer-index ls (omega arith))
     ∙ sym (map-map f parts_of ls)
-    ∙ ap (map f) c.layers-layers.ensures
+    ∙ ap (map f) c.layers-layers.ensures in
+    subst (λ (qss : List (List QuadView)). HaveQuads qss c.loop-layer.parts.items) all c.loop-layer.invariant.quads

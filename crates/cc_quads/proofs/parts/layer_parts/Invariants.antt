@@ -5,7 +5,7 @@ use Rattle.cc_edit.specs.Layers.{parts_of}
 use Rattle.cc_edit.specs.TreePainting.{groups_in, opacity_in}
 use Rattle.cc_quads.specs.Shown.{tile_of}
 use Rattle.cc_quads.specs.inner.LayerQuads.{layer_quads}
-use Rattle.cc_quads.specs.inner.Passes.{groups_of, own_quads, HaveOpacities}
+use Rattle.cc_quads.specs.inner.Passes.{groups_of, HaveQuads, HaveOpacities}
 use Rattle.cc_quads.proofs.parts.layer_parts.Given as goal
 
 abbrev pub invariant-loop-layer : goal.invariant-loop-layer
@@ -13,5 +13,5 @@ invariant-loop-layer l = record {
   groups : map groups_of l.parts.items ≡ map (λ k. groups_in l.tree.props.effects k.effect) (take l.layer-index l.layers);
   opacities : HaveOpacities (opacity_in l.tree.props.effects) l.parts.items;
   few : All (λ k. length k.groups.items ≤ 256) l.parts.items;
-  quads : map own_quads l.parts.items ≡ map (λ k. layer_quads l.tree (offset_at l.offsets) (map tile_of l.shown) (parts_of k)) (take l.layer-index l.layers);
+  quads : HaveQuads (map (λ k. layer_quads l.tree (offset_at l.offsets) (map tile_of l.shown) (parts_of k)) (take l.layer-index l.layers)) l.parts.items;
 }
