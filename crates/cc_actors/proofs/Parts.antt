@@ -15,9 +15,8 @@ use Rattle.cc_event.specs.Texts.{event_line}
 use Rattle.cc_event.proofs.BoolFacts.{other_number}
 use Rattle.cc_event.proofs.DueFacts.{entry}
 use Rattle.cc_core.specs.Replies.{IsPicture, is_draw}
-use Rattle.cc_single.specs.Singles.{AreScenes}
-use Rattle.cc_recorder.specs.inner.Scenes.{scene_image, shown_piece}
-use Rattle.cc_recorder.proofs.DrawnScenes.{scenes_shown}
+use Rattle.cc_recorder.specs.inner.Scenes.{scene_image}
+use Rattle.cc_recorder.proofs.DrawnScenes.{draw_image}
 use Rattle.cc_actors.specs.Seats.{entry_of, entries_of, past_of}
 use Rattle.cc_actors.specs.Writing.{part}
 use Rattle.cc_actors.specs.inner.Steps.{lines_of}
@@ -40,12 +39,8 @@ plain_piece s h e f = append-nil (event_line e)
 
 -- a draw adds its line and the image of its picture
 drawn_piece : (s : ScriptModel) (n : ℕ) (h : List Entry) (e : Event) (scene : SceneView) → kind_of e ≡ kind.Draw → Legal s n (entry 0 e ∷ h) → IsPicture s h scene → piece s h e ≡ event_line e ++ scene_image scene
-unfolding shown_piece
-drawn_piece s n h (event.Draw i lacks) scene k legal is =
-    let own : List Entry = entry 0 (event.Draw i lacks) ∷ [] in
-    let are : AreScenes s 1 (entry 0 (event.Draw i lacks) ∷ h) (scene ∷ []) = record { front = []; scene = scene; are = refl; picture = is; earlier = refl } in
-    sym (append-nil (piece s h (event.Draw i lacks)))
-    ∙ (sym (scenes_shown s n h own (scene ∷ []) legal are) ∙ append-nil (event_line (event.Draw i lacks) ++ scene_image scene))
+unfolding piece
+drawn_piece s n h (event.Draw i lacks) scene k legal is = ap (λ (image : List ℕ). event_line (event.Draw i lacks) ++ image) (sym (draw_image s n h 0 i lacks scene legal.1 is))
 drawn_piece s n h _ scene k legal is = absurd (cc)
 
 -- ---- several

@@ -1,7 +1,10 @@
 pub mod DrawnScenes
 pub mod Gains
+pub mod KeptPictures
 pub mod PackedFrames
+pub mod Places
 pub mod PlayedWays
+pub mod QuietEvents
 pub mod RecordedRuns
 pub mod Rows
 pub mod Shows

@@ -1,7 +1,7 @@
 -- Ways that were played and written, one behind the other.
-use Rattle.std.proofs.Common.{◌≡◌, ℕ, List, [], ◌∷◌, ◌++◌, length, refl, ap, sym, ◌∙◌, append_assoc, append-nil, subst}
-use Rattle.std.specs.Prelude.{reverse, Option, Result, Ok, Err}
-use Rattle.std.proofs.lemmas.List.{reverse-append, reverse-reverse}
+use Rattle.std.proofs.Common.{◌≡◌, ℕ, List, [], ◌∷◌, ◌++◌, length, take, refl, ap, sym, ◌∙◌, append_assoc, append-nil, subst}
+use Rattle.std.specs.Prelude.{reverse, Option, Result, Ok, Err, OnOk}
+use Rattle.std.proofs.lemmas.List.{reverse-append, reverse-reverse, take_at}
 use mathlib.Core.List.{reverse_aux, reverse_aux-eq}
 use Rattle.cc_io.specs.Pieces.{GainsPrefix}
 use Rattle.cc_event.specs.declared.history.Entry.{Entry}
@@ -13,9 +13,12 @@ use Rattle.cc_lockstep.proofs.Fronts.{Grows}
 use Rattle.cc_lockstep.proofs.Following.{then'}
 use Rattle.cc_log.specs.Runs.{Run, past}
 use Rattle.cc_single.specs.Singles.{SingleModel, walk_of}
+use Rattle.cc_recorder.specs.declared.recorder.Recorder.{Recorder}
 use Rattle.cc_recorder.specs.inner.Parts.{WritesPart}
+use Rattle.cc_recorder.specs.inner.Repeats.{Keeps}
 use Rattle.cc_recorder.specs.inner.Ways.{IsWritten, HasPlayed, PlaysAll, WritesWay}
 use Rattle.cc_recorder.proofs.Gains.{appends_nothing, gains_nothing, gains_longer, parts_join}
+use Rattle.cc_recorder.proofs.KeptPictures.{keeps_longer}
 
 -- ---- entries, one list behind another
 
@@ -43,17 +46,17 @@ entries_grown old new news is =
 
 -- ---- ways
 
-played_both : {X E : Type 0} (result : Result X E) (old : Run) (mid new : SingleModel) (a b : List Entry) → HasPlayed old a mid → PlaysAll mid.run b new result → PlaysAll old (a ++ b) new result
-played_both (Ok x) old mid new a b first more = record {
+played_both : {X E : Type 0} (result : Result X E) (old : Run) (mid new : SingleModel) (a b : List Entry) (r q : Recorder) → HasPlayed old a mid r → PlaysAll mid.run b new q result → PlaysAll old (a ++ b) new q result
+played_both (Ok x) old mid new a b r q first more = record {
   script = more.script ∙ first.script;
   played = more.played ∙ ap (λ (h : List Entry). reverse b ++ h) first.played ∙ sym (past_both a b (past old));
   written = more.written;
 }
-played_both (Err stop) old mid new a b first more = tt
+played_both (Err stop) old mid new a b r q first more = tt
 
-module _ {X E : Type 0} (P Q : Way) (old mid new : SingleModel) (before between after : Option (List ℕ)) (lines held left : List ℕ) where
+module _ {X E : Type 0} (P Q : Way) (old mid new : SingleModel) (before between after : Option (List ℕ)) (lines : List ℕ) (held left : Recorder) where
   -- one way was played and written, and then another
-  pub ways_join : (x : X) (result : Result X E) → WritesWay {X = X} {E = E} P old mid before between lines held (Ok x) → WritesWay Q mid new between after held left result → WritesWay (then' P Q) old new before after lines left result
+  pub ways_join : (x : X) (result : Result X E) → WritesWay {X = X} {E = E} P old mid before between lines held (Ok x) → WritesWay Q mid new between after held.lines.items left result → WritesWay (then' P Q) old new before after lines left result
   ways_join x result first more =
       let s : ScriptModel = old.run.script in
       let h : List Entry = past old.run in
@@ -66,15 +69,15 @@ module _ {X E : Type 0} (P Q : Way) (old mid new : SingleModel) (before between 
       record {
         news = first.news ++ more.news;
         way = (past mid.run, from, subst (λ (g : List Entry). Q s (past mid.run) g) there way);
-        plays = played_both result old.run mid new first.news more.news first.plays more.plays;
+        plays = played_both result old.run mid new first.news more.news held left first.plays more.plays;
         bytes =
-            subst (λ (w : List ℕ). WritesPart before after (lines ++ w) left result) (sym (pieces_both s h first.news more.news))
-            (parts_join result before between after lines (pieces s h first.news) held (pieces s (reverse first.news ++ h) more.news) left first.bytes
-            (subst (λ (w : List ℕ). WritesPart between after (held ++ w) left result) same more.bytes));
+            subst (λ (w : List ℕ). WritesPart before after (lines ++ w) left.lines.items result) (sym (pieces_both s h first.news more.news))
+            (parts_join result before between after lines (pieces s h first.news) held.lines.items (pieces s (reverse first.news ++ h) more.news) left.lines.items first.bytes
+            (subst (λ (w : List ℕ). WritesPart between after (held.lines.items ++ w) left.lines.items result) same more.bytes));
       }
 
 -- writing stopped in the first way
-pub ways_stop : {X E : Type 0} (P Q : Way) (old mid new : SingleModel) (before after : Option (List ℕ)) (lines held left : List ℕ) (stop : E)
+pub ways_stop : {X E : Type 0} (P Q : Way) (old mid new : SingleModel) (before after : Option (List ℕ)) (lines : List ℕ) (held left : Recorder) (stop : E)
     → ((s : ScriptModel) → Good s (P s)) → ((s : ScriptModel) → Grows (Q s)) → CanFollow (then' P Q) (walk_of old)
     → WritesWay {X = X} {E = E} P old mid before after lines held (Err stop) → WritesWay {X = X} {E = E} (then' P Q) old new before after lines left (Err stop)
 ways_stop {X} {E} P Q old mid new before after lines held left stop good grows can first =
@@ -97,7 +100,7 @@ ways_stop {X} {E} P Q old mid new before after lines held left stop good grows c
     }
 
 -- after one way was played, the other can be followed
-pub can_after : {X E : Type 0} (P Q : Way) (old mid : SingleModel) (before after : Option (List ℕ)) (lines held : List ℕ) (x : X) → ((s : ScriptModel) → Good s (P s))
+pub can_after : {X E : Type 0} (P Q : Way) (old mid : SingleModel) (before after : Option (List ℕ)) (lines : List ℕ) (held : Recorder) (x : X) → ((s : ScriptModel) → Good s (P s))
     → CanFollow (then' P Q) (walk_of old) → WritesWay {X = X} {E = E} P old mid before after lines held (Ok x) → CanFollow Q (walk_of mid)
 can_after P Q old mid before after lines held x good can first =
     let s : ScriptModel = old.run.script in
@@ -108,7 +111,7 @@ can_after P Q old mid before after lines held x good can first =
     record { end = can.end; way = subst (λ (z : ScriptModel). Q z (past mid.run) can.end) (sym first.plays.script) (subst (λ (g : List Entry). Q s g can.end) one q) }
 
 -- nothing was played for want of memory, and nothing written
-pub way_refused : {X E : Type 0} (P : Way) (old new : SingleModel) (before : Option (List ℕ)) (lines held : List ℕ) (stop : E) → ((s : ScriptModel) → Grows (P s)) → CanFollow P (walk_of old)
+pub way_refused : {X E : Type 0} (P : Way) (old new : SingleModel) (before : Option (List ℕ)) (lines : List ℕ) (held : Recorder) (stop : E) → ((s : ScriptModel) → Grows (P s)) → CanFollow P (walk_of old)
     → WritesWay {X = X} {E = E} P old new before before lines held (Err stop)
 way_refused {X} {E} P old new before lines held stop grows can =
     let s : ScriptModel = old.run.script in
@@ -123,20 +126,35 @@ way_refused {X} {E} P old new before lines held stop grows can =
     }
 
 -- where nothing is left of a way, nothing is written
-pub way_over : {X E : Type 0} (P : Way) (now : SingleModel) (held : Option (List ℕ)) (lines : List ℕ) (x : X) → IsWritten now → P now.run.script (past now.run) (past now.run) → WritesWay {X = X} {E = E} P now now held held lines lines (Ok x)
-way_over P now held lines x written way = record {
+pub way_over : {X E : Type 0} (P : Way) (now : SingleModel) (held : Option (List ℕ)) (r : Recorder) (x : X) → IsWritten now r → P now.run.script (past now.run) (past now.run) → WritesWay {X = X} {E = E} P now now held held r.lines.items r (Ok x)
+way_over P now held r x written way = record {
   news = [];
   way = way;
   plays = record { script = refl; played = refl; written = written };
-  bytes = ([], sym (append-nil lines), appends_nothing held);
+  bytes = ([], sym (append-nil r.lines.items), appends_nothing held);
 }
 
+-- a way was followed from where all was written: the picture of the last draw is kept after what was written
+pub kept_since : (P : Way) (old mid : SingleModel) (r : Recorder) → ((s : ScriptModel) → Grows (P s)) → IsWritten old r → Follows P (walk_of old) (walk_of mid)
+    → Keeps mid.run.script (reverse (take mid.written mid.run.entries)) mid.run.entries r.last
+kept_since P old mid r grows written follows =
+    let more = grows old.run.script (past old.run) (past mid.run) follows.way in
+    let news : List Entry = reverse more.0 in
+    let end : past mid.run ≡ reverse news ++ past old.run = more.1 ∙ ap (λ (g : List Entry). g ++ past old.run) (sym (reverse-reverse more.0)) in
+    let entries : mid.run.entries ≡ old.run.entries ++ news = entries_grown old.run mid.run news end in
+    let front : take mid.written mid.run.entries ≡ old.run.entries =
+    ap (λ (es : List Entry). take mid.written es) entries ∙ take_at old.run.entries news mid.written (sym (follows.written ∙ written.all)) in
+    subst (λ (z : ScriptModel). Keeps z (reverse (take mid.written mid.run.entries)) mid.run.entries r.last) (sym follows.same)
+    (subst (λ (es : List Entry). Keeps old.run.script (reverse es) mid.run.entries r.last) (sym front)
+    (subst (λ (es : List Entry). Keeps old.run.script (past old.run) es r.last) (sym entries)
+    (keeps_longer old.run.script (past old.run) old.run.entries news r.last written.keeps)))
+
 -- a way was followed, and then the entries behind those that were written were written
-pub way_written : {X E : Type 0} (P : Way) (old mid new : SingleModel) (before after : Option (List ℕ)) (lines held : List ℕ) (result : Result X E)
-    → ((s : ScriptModel) → Grows (P s)) → IsWritten old → Follows P (walk_of old) (walk_of mid) → new.run ≡ mid.run → IsWritten new
-    → ((news : List Entry) → mid.run.entries ≡ old.run.entries ++ news → mid.written ≡ length old.run.entries → WritesPart before after (lines ++ pieces mid.run.script (past old.run) news) held result)
-    → WritesWay P old new before after lines held result
-way_written {X} {E} P old mid new before after lines held result grows all follows same written writes =
+pub way_written : {X E : Type 0} (P : Way) (old mid new : SingleModel) (before after : Option (List ℕ)) (lines : List ℕ) (r q : Recorder) (result : Result X E)
+    → ((s : ScriptModel) → Grows (P s)) → IsWritten old r → Follows P (walk_of old) (walk_of mid) → new.run ≡ mid.run → OnOk result (IsWritten new q)
+    → ((news : List Entry) → mid.run.entries ≡ old.run.entries ++ news → mid.written ≡ length old.run.entries → WritesPart before after (lines ++ pieces mid.run.script (past old.run) news) q.lines.items result)
+    → WritesWay P old new before after lines q result
+way_written {X} {E} P old mid new before after lines r q result grows all follows same written writes =
     let s : ScriptModel = old.run.script in
     let h : List Entry = past old.run in
     let more = grows s h (past mid.run) follows.way in
@@ -145,10 +163,10 @@ way_written {X} {E} P old mid new before after lines held result grows all follo
     record {
       news = news;
       way = subst (λ (g : List Entry). P s h g) end follows.way;
-      plays = played result news end;
-      bytes = subst (λ (z : ScriptModel). WritesPart before after (lines ++ pieces z h news) held result) follows.same (writes news (entries_grown old.run mid.run news end) (follows.written ∙ all));
+      plays = played result news end written;
+      bytes = subst (λ (z : ScriptModel). WritesPart before after (lines ++ pieces z h news) q.lines.items result) follows.same (writes news (entries_grown old.run mid.run news end) (follows.written ∙ all.all));
     }
   where
-    played : (r : Result X E) (news : List Entry) → past mid.run ≡ reverse news ++ past old.run → PlaysAll old.run news new r
-    played (Ok x) news end = record { script = ap (λ (r : Run). r.script) same ∙ follows.same; played = ap (λ (r : Run). past r) same ∙ end; written = written }
-    played (Err e) news end = tt
+    played : (x : Result X E) (news : List Entry) → past mid.run ≡ reverse news ++ past old.run → OnOk x (IsWritten new q) → PlaysAll old.run news new q x
+    played (Ok x) news end written = record { script = ap (λ (r : Run). r.script) same ∙ follows.same; played = ap (λ (r : Run). past r) same ∙ end; written = written }
+    played (Err e) news end written = tt

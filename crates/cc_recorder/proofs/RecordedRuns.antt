@@ -1,6 +1,6 @@
 -- The whole run of a script, and its recording.
 use Rattle.std.proofs.Common.{inl, inr, ◌≡◌, ℕ, ◌≤◌, List, [], ◌++◌, refl, ap, sym, ◌∙◌, append-nil, subst, arith}
-use Rattle.std.specs.Prelude.{reverse, Option, Result, Ok, Err, IfOk, ⊤}
+use Rattle.std.specs.Prelude.{reverse, Option, None, Result, Ok, Err, IfOk, ⊤}
 use Rattle.std.proofs.lemmas.List.{reverse-reverse}
 use Rattle.cc_io.specs.Pieces.{GainsPrefix}
 use Rattle.cc_event.specs.declared.history.Entry.{Entry}
@@ -19,7 +19,9 @@ use Rattle.cc_recorder.specs.Recordings.{IsLockstepRecording, Records}
 use Rattle.cc_recorder.specs.declared.writing.WriteStop.{WriteStop}
 use Rattle.cc_recorder.specs.declared.writing.WriteStop.TheVariants.{Fault, Memory}
 use Rattle.cc_recorder.specs.Writing.{PutsAll, WriteCause}
+use Rattle.cc_recorder.specs.declared.recorder.Recorder.{Recorder}
 use Rattle.cc_recorder.specs.inner.Parts.{WritesPart}
+use Rattle.cc_recorder.specs.inner.Repeats.{KeepsFrom}
 use Rattle.cc_recorder.specs.inner.Ways.{IsFresh, IsWritten, PlaysAll, WritesWay, recorded_run, whole_played}
 use Rattle.cc_recorder.proofs.Gains.{gains_nothing, written_after}
 
@@ -27,8 +29,12 @@ use Rattle.cc_recorder.proofs.Gains.{gains_nothing, written_after}
 abbrev fresh : ScriptModel → ℕ → SingleModel
 fresh s n = record { run = new_run s n; written = 0 }
 
-pub fresh_written : (s : ScriptModel) (m : SingleModel) → IsFresh s m → IsWritten m
-fresh_written s m (n, is) = subst (λ (z : SingleModel). IsWritten z) (sym is) refl
+pub fresh_written : (s : ScriptModel) (m : SingleModel) (r : Recorder) → IsFresh s m → r.last.place ≡ None → IsWritten m r
+fresh_written s m r (n, is) none =
+    subst (λ (z : SingleModel). IsWritten z r) (sym is) (record {
+      all = refl;
+      keeps = subst (λ (o : Option ℕ). KeepsFrom s [] [] r.last.pictures o) (sym none) tt;
+    })
 
 -- it can play the whole run
 pub fresh_can : (s : ScriptModel) (m : SingleModel) (inputs : List Input) → IsFresh s m → IsAccepted s → inputs ≡ s.inputs → CanFollow (whole_played inputs) (walk_of m)
@@ -48,14 +54,14 @@ records_nothing s held accepted =
     (recording s l.0, (l.0, l.1, refl), gains_nothing held (recording s l.0))
 
 -- what was played is the lockstep history, and what was written behind the header is of its recording
-record IsRecorded {X E : Type 0} (s : ScriptModel) (new : SingleModel) (old after : Option (List ℕ)) (held : List ℕ) (result : Result X E) : Type 0 where
+record IsRecorded {X E : Type 0} (s : ScriptModel) (new : SingleModel) (old after : Option (List ℕ)) (held : Recorder) (result : Result X E) : Type 0 where
   history : List Entry
   lockstep : IsLockstep s history
   workers : ℕ
-  plays : PlaysAll (new_run s workers) history new result
-  bytes : WritesPart old after (recording s history) held result
+  plays : PlaysAll (new_run s workers) history new held result
+  bytes : WritesPart old after (recording s history) held.lines.items result
 
-module _ {X E : Type 0} (s : ScriptModel) (inputs : List Input) (start new : SingleModel) (old after : Option (List ℕ)) (lines held : List ℕ) (is : IsFresh s start) (all : inputs ≡ s.inputs) (line : lines ≡ header (script_text s)) where
+module _ {X E : Type 0} (s : ScriptModel) (inputs : List Input) (start new : SingleModel) (old after : Option (List ℕ)) (lines : List ℕ) (held : Recorder) (is : IsFresh s start) (all : inputs ≡ s.inputs) (line : lines ≡ header (script_text s)) where
   run_recorded : (result : Result X E) → WritesWay (whole_played inputs) start new old after lines held result → IsRecorded s new old after held result
   run_recorded result writes =
       let w : WritesWay (whole_played inputs) (fresh s is.0) new old after lines held result = subst (λ (z : SingleModel). WritesWay (whole_played inputs) z new old after lines held result) is.1 writes in
@@ -66,7 +72,7 @@ module _ {X E : Type 0} (s : ScriptModel) (inputs : List Input) (start new : Sin
         lockstep = way;
         workers = is.0;
         plays = w.plays;
-        bytes = subst (λ (z : List ℕ). WritesPart old after z held result) (whole_of s lines w.news line) w.bytes;
+        bytes = subst (λ (z : List ℕ). WritesPart old after z held.lines.items result) (whole_of s lines w.news line) w.bytes;
       }
 
   -- a front of the recording was written
@@ -76,11 +82,11 @@ module _ {X E : Type 0} (s : ScriptModel) (inputs : List Input) (start new : Sin
       (recording s r.history, (r.history, r.lockstep, refl), r.bytes)
 
   -- all was written but for what was held back, which was put then, or a front of it
-  pub run_put : {Y F : Type 0} (x : X) (end : Option (List ℕ)) (result : Result Y F) → WritesWay {X = X} {E = E} (whole_played inputs) start new old after lines held (Ok x) → PutsAll after end held result
+  pub run_put : {Y F : Type 0} (x : X) (end : Option (List ℕ)) (result : Result Y F) → WritesWay {X = X} {E = E} (whole_played inputs) start new old after lines held (Ok x) → PutsAll after end held.lines.items result
       → (whole : List ℕ) × IsLockstepRecording s whole × PutsAll old end whole result
   run_put x end result writes puts =
       let r = run_recorded (Ok x) writes in
-      (recording s r.history, (r.history, r.lockstep, refl), written_after result old after end r.bytes.0 held (recording s r.history) r.bytes.2 puts r.bytes.1)
+      (recording s r.history, (r.history, r.lockstep, refl), written_after result old after end r.bytes.0 held.lines.items (recording s r.history) r.bytes.2 puts r.bytes.1)
 
   -- the entries are the lockstep history
   pub run_lockstep : (x : X) → WritesWay {X = X} {E = E} (whole_played inputs) start new old after lines held (Ok x) → IsLockstep s new.run.entries

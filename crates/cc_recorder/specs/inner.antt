@@ -1,4 +1,6 @@
 pub mod Packed
 pub mod Parts
+pub mod Repeats
 pub mod Scenes
+pub mod Steps
 pub mod Ways

@@ -8,6 +8,7 @@
 #![tactic(auto)]
 
 mod image;
+mod last_draw;
 mod lockstep;
 mod pictures;
 mod recorder;

@@ -1,6 +1,6 @@
 //! Scripts, played in lockstep and recorded.
 
-ghost use Rattle.std.specs.Prelude.{◌≡◌, ◌≤◌, ◌++◌, List, length, reverse, IfOk};
+ghost use Rattle.std.specs.Prelude.{◌≡◌, ◌≤◌, ◌++◌, List, None, length, reverse, take, IfOk, OnOk};
 ghost use Rattle.serde_json.specs.Written.{compact_text};
 ghost use Rattle.cc_event.specs.declared.history.Entry.{Entry};
 ghost use Rattle.cc_event.specs.Lockstep.{IsLockstep};
@@ -11,6 +11,7 @@ ghost use Rattle.cc_single.specs.Singles.{walk_of};
 ghost use Rattle.cc_recorder.specs.Recordings.{Records};
 ghost use Rattle.cc_recorder.specs.Writing.{WriteCause};
 ghost use Rattle.cc_recorder.specs.inner.Parts.{WritesPart};
+ghost use Rattle.cc_recorder.specs.inner.Repeats.{Keeps};
 ghost use Rattle.cc_recorder.specs.inner.Ways.{IsFresh, IsWritten, WritesWay, recorded_run, whole_played};
 
 use crate::recorder::Recorder;
@@ -56,8 +57,9 @@ fn write_news<R: Threads + Sync, K: Sink>(
     single: &mut SingleThread,
     out: &mut K,
 ) -> Result<(), WriteStop>
+    requires keeps { Keeps single.old.run.script (reverse (take single.old.written single.old.run.entries)) single.old.run.entries recorder.old.last }
     ensures run { single.new.run ≡ single.old.run }
-    ensures written { IsWritten single.new }
+    ensures written { OnOk result (IsWritten single.new recorder.new) }
     ensures bytes { (done news : List Entry) → single.old.run.entries ≡ done ++ news → single.old.written ≡ length done → WritesPart (K.held out.old) (K.held out.new) (recorder.old.lines.items ++ pieces single.old.run.script (reverse done) news) recorder.new.lines.items result }
     ensures grows { K.faults out.old ≤ K.faults out.new }
     ensures cause { WriteCause (K.faults out.old) (K.faults out.new) result }
@@ -65,7 +67,7 @@ fn write_news<R: Threads + Sync, K: Sink>(
     single.core().is_legal();
     let from = single.written();
     let scenes = single.take_scenes();
-    recorder.write_entries(rt, out, single.history(), from, scenes)
+    recorder.write_entries(rt, out, single.core(), from, scenes)
 }
 
 // Plays what an input brings, and writes it.
@@ -77,8 +79,8 @@ fn record_input<R: Threads + Sync, K: Sink>(
     out: &mut K,
 ) -> Result<(), WriteStop>
     requires can { CanFollow (input_played input.now) (walk_of single.old) }
-    requires written { IsWritten single.old }
-    ensures bytes { WritesWay (input_played input.now) single.old single.new (K.held out.old) (K.held out.new) recorder.old.lines.items recorder.new.lines.items result }
+    requires written { IsWritten single.old recorder.old }
+    ensures bytes { WritesWay (input_played input.now) single.old single.new (K.held out.old) (K.held out.new) recorder.old.lines.items recorder.new result }
     ensures grows { K.faults out.old ≤ K.faults out.new }
     ensures cause { WriteCause (K.faults out.old) (K.faults out.new) result }
 {
@@ -97,8 +99,8 @@ fn record_inputs<R: Threads + Sync, K: Sink>(
     out: &mut K,
 ) -> Result<(), WriteStop>
     requires can { CanFollow (inputs_from inputs.now) (walk_of single.old) }
-    requires written { IsWritten single.old }
-    ensures bytes { WritesWay (inputs_from inputs.now) single.old single.new (K.held out.old) (K.held out.new) recorder.old.lines.items recorder.new.lines.items result }
+    requires written { IsWritten single.old recorder.old }
+    ensures bytes { WritesWay (inputs_from inputs.now) single.old single.new (K.held out.old) (K.held out.new) recorder.old.lines.items recorder.new result }
     ensures grows { K.faults out.old ≤ K.faults out.new }
     ensures cause { WriteCause (K.faults out.old) (K.faults out.new) result }
 {
@@ -120,8 +122,8 @@ fn record_end<R: Threads + Sync, K: Sink>(
     out: &mut K,
 ) -> Result<(), WriteStop>
     requires can { CanFollow run_end (walk_of single.old) }
-    requires written { IsWritten single.old }
-    ensures bytes { WritesWay run_end single.old single.new (K.held out.old) (K.held out.new) recorder.old.lines.items recorder.new.lines.items result }
+    requires written { IsWritten single.old recorder.old }
+    ensures bytes { WritesWay run_end single.old single.new (K.held out.old) (K.held out.new) recorder.old.lines.items recorder.new result }
     ensures grows { K.faults out.old ≤ K.faults out.new }
     ensures cause { WriteCause (K.faults out.old) (K.faults out.new) result }
 {
@@ -140,8 +142,8 @@ fn record_run<R: Threads + Sync, K: Sink>(
     out: &mut K,
 ) -> Result<(), WriteStop>
     requires can { CanFollow (whole_played inputs.now) (walk_of single.old) }
-    requires written { IsWritten single.old }
-    ensures bytes { WritesWay (whole_played inputs.now) single.old single.new (K.held out.old) (K.held out.new) recorder.old.lines.items recorder.new.lines.items result }
+    requires written { IsWritten single.old recorder.old }
+    ensures bytes { WritesWay (whole_played inputs.now) single.old single.new (K.held out.old) (K.held out.new) recorder.old.lines.items recorder.new result }
     ensures grows { K.faults out.old ≤ K.faults out.new }
     ensures cause { WriteCause (K.faults out.old) (K.faults out.new) result }
 {
@@ -161,6 +163,7 @@ fn prepare(
     requires { (1 ≤ workers) × (workers ≤ 16) }
     ensures fresh { IfOk result (λ p. IsFresh script.now.value p.0) }
     ensures lines { IfOk result (λ p. p.1.lines.items ≡ header (compact_text (parts_data script.now.value))) }
+    ensures none { IfOk result (λ p. p.1.last.place ≡ None) }
 {
     let text = print_script(alloc, script)?;
     let recorder = Recorder::new(alloc, text.as_slice(), workers as usize)?;
@@ -178,6 +181,7 @@ fn record_whole<R: Threads + Sync, K: Sink>(
 ) -> Result<(), WriteStop>
     requires fresh { IsFresh script.now single.old }
     requires lines { recorder.old.lines.items ≡ header (compact_text (parts_data script.now)) }
+    requires none { recorder.old.last.place ≡ None }
     ensures bytes { Records script.now (K.held out.old) (K.held out.new) result }
     ensures history { IfOk result (λ whole. IsLockstep script.now single.new.run.entries) }
     ensures grows { K.faults out.old ≤ K.faults out.new }
@@ -209,6 +213,7 @@ fn record_with<R: Threads + Sync, K: Sink>(
 ) -> Result<Recorded, WriteStop>
     requires fresh { IsFresh script.now prepared.0 }
     requires lines { prepared.1.lines.items ≡ header (compact_text (parts_data script.now)) }
+    requires none { prepared.1.last.place ≡ None }
     ensures bytes { Records script.now (K.held out.old) (K.held out.new) result }
     ensures history { IfOk result (IsLockstep script.now) }
     ensures grows { K.faults out.old ≤ K.faults out.new }

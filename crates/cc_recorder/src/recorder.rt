@@ -1,15 +1,20 @@
 //! Entries of a history, written with the pictures of their draws.
 
-ghost use Rattle.std.specs.Prelude.{◌≡◌, ◌≤◌, ◌++◌, drop, length, IfOk, OnOk};
+ghost use Rattle.std.specs.Prelude.{◌≡◌, ◌≤◌, ◌++◌, List, None, drop, length, reverse, slice_get, take, IfOk, OnOk};
 ghost use Rattle.std.specs.Vec.Iter.{into_iter_items, into_iter_len};
-ghost use Rattle.cc_event.specs.Recordings.{header};
+ghost use Rattle.cc_event.specs.Recordings.{header, image_behind, piece, pieces};
+ghost use Rattle.cc_event.specs.Scripts.{ScriptModel};
+ghost use Rattle.cc_event.specs.declared.history.Entry.{Entry};
+ghost use Rattle.cc_log.specs.Runs.{past};
 ghost use Rattle.cc_recorder.specs.Writing.{PutsAll, WriteCause};
-ghost use Rattle.cc_recorder.specs.inner.Parts.{WritesPart};
-ghost use Rattle.cc_recorder.specs.inner.Scenes.{is_draw as is_draw_of, scene_image, scene_of, left_behind, image_if, shown_piece, shown_pieces};
+ghost use Rattle.cc_recorder.specs.inner.Repeats.{Keeps};
+ghost use Rattle.cc_recorder.specs.inner.Scenes.{AllCome, Comes, is_draw as is_draw_of, scene_image, scene_of, left_behind, image_if};
+ghost use Rattle.cc_recorder.specs.inner.Steps.{DrawsOn, WritesOn};
 
-use crate::pictures::Pictures;
+use crate::last_draw::LastDraw;
 use crate::writing::{WriteStop, flush, flush_many, put_behind};
-use cc_event::{Event, History};
+use cc_core::Core;
+use cc_event::{Entry, Event, History};
 use cc_io::Sink;
 use cc_record::{push_event, push_image_head};
 use cc_scene::Scene;
@@ -23,8 +28,8 @@ use std::vec::IntoIter;
 pub(crate) struct Recorder {
     /// the lines that were not put yet
     pub(crate) lines: Vec<u8>,
-    /// the picture of the last draw
-    pictures: Pictures,
+    /// the last draw, with its picture
+    pub(crate) last: LastDraw,
     /// in how many parts a picture is made at the most
     parts: usize,
 }
@@ -61,100 +66,127 @@ impl Recorder {
     /// A recorder that holds the two lines before the events, the second of which is this text of a script, and
     /// makes each picture in so many parts at the most. An error is want of memory.
     pub(crate) fn new(alloc: Global, script: &[u8], parts: usize) -> Result<Recorder, AllocError>
-        ensures { IfOk result (λ recorder. recorder.lines.items ≡ header script.now) }
+        ensures lines { IfOk result (λ recorder. recorder.lines.items ≡ header script.now) }
+        ensures none { IfOk result (λ recorder. recorder.last.place ≡ None) }
     {
         Ok(Recorder {
             lines: header_of(alloc, script)?,
-            pictures: Pictures::new(alloc)?,
+            last: LastDraw::new(alloc)?,
             parts,
         })
     }
 
-    // Makes the picture of a scene, and adds the head of its image to the lines.
-    fn draw<R: Threads + Sync>(&mut self, rt: &R, scene: Scene) -> Result<(), AllocError>
-        ensures { OnOk result (self.new.lines.items ++ self.new.pictures.packed ≡ self.old.lines.items ++ scene_image scene) }
+    // Makes the picture of a draw, and adds the head of its image to the lines.
+    fn draw<R: Threads + Sync>(
+        &mut self,
+        rt: &R,
+        history: &History,
+        at: usize,
+        entry: &Entry,
+        scene: Scene,
+    ) -> Result<(), AllocError>
+        requires { slice_get history.now.entries at ≡ Some entry.now }
+        ensures { OnOk result ((s : ScriptModel) (h : List Entry) → Keeps s h history.now.entries self.old.last → scene_image scene ≡ image_behind s h entry.now.event → DrawsOn s h history.now.entries (self.old.lines.items ++ image_behind s h entry.now.event) self.new) }
     {
-        self.pictures.show(rt, scene, self.parts)?;
-        push_image_head(&mut self.lines, self.pictures.w(), self.pictures.h())
+        self.last.show(rt, history, at, entry, scene, self.parts)?;
+        let (w, h) = (self.last.pictures.w(), self.last.pictures.h());
+        push_image_head(&mut self.lines, w, h)
     }
 
-    // Writes the image of a scene.
+    // Writes the image of a draw.
     fn write_image<R: Threads + Sync, K: Sink>(
         &mut self,
         rt: &R,
         out: &mut K,
+        history: &History,
+        at: usize,
+        entry: &Entry,
         scene: Scene,
     ) -> Result<(), WriteStop>
-        ensures bytes { WritesPart (K.held out.old) (K.held out.new) (self.old.lines.items ++ scene_image scene) self.new.lines.items result }
+        requires { slice_get history.now.entries at ≡ Some entry.now }
+        ensures written { (s : ScriptModel) (h : List Entry) → Keeps s h history.now.entries self.old.last → scene_image scene ≡ image_behind s h entry.now.event → WritesOn s h history.now.entries (K.held out.old) (K.held out.new) (self.old.lines.items ++ image_behind s h entry.now.event) self.new result }
         ensures grows { K.faults out.old ≤ K.faults out.new }
         ensures cause { WriteCause (K.faults out.old) (K.faults out.new) result }
     {
-        match self.draw(rt, scene) {
-            Ok(()) => put_behind(out, &mut self.lines, self.pictures.packed()),
+        match self.draw(rt, history, at, entry, scene) {
+            Ok(()) => put_behind(out, &mut self.lines, self.last.pictures.packed()),
             Err(_) => Err(WriteStop::Memory),
         }
     }
 
-    // Writes the image of a scene, if there is one.
+    // Writes the image of an entry, if it has a scene.
     fn write_shown<R: Threads + Sync, K: Sink>(
         &mut self,
         rt: &R,
         out: &mut K,
+        history: &History,
+        at: usize,
+        entry: &Entry,
         scene: Option<Scene>,
     ) -> Result<(), WriteStop>
-        ensures bytes { WritesPart (K.held out.old) (K.held out.new) (self.old.lines.items ++ image_if scene) self.new.lines.items result }
+        requires { slice_get history.now.entries at ≡ Some entry.now }
+        ensures written { (s : ScriptModel) (h : List Entry) → Keeps s h history.now.entries self.old.last → image_if scene ≡ image_behind s h entry.now.event → WritesOn s h history.now.entries (K.held out.old) (K.held out.new) (self.old.lines.items ++ image_behind s h entry.now.event) self.new result }
         ensures grows { K.faults out.old ≤ K.faults out.new }
         ensures cause { WriteCause (K.faults out.old) (K.faults out.new) result }
     {
         match scene {
-            Some(scene) => self.write_image(rt, out, scene),
+            Some(scene) => self.write_image(rt, out, history, at, entry, scene),
             None => flush_many(out, &mut self.lines),
         }
     }
 
-    // Writes the line of an event, and behind that of a draw the image of the next scene.
-    fn write_event<R: Threads + Sync, K: Sink>(
-        &mut self,
-        rt: &R,
-        out: &mut K,
-        event: &Event,
-        scenes: &mut IntoIter<Scene, Global>,
-    ) -> Result<(), WriteStop>
-        requires { into_iter_len scenes.old ≡ length (into_iter_items scenes.old) }
-        ensures bytes { WritesPart (K.held out.old) (K.held out.new) (self.old.lines.items ++ shown_piece event.now (into_iter_items scenes.old)) self.new.lines.items result }
-        ensures left { OnOk result (into_iter_items scenes.new ≡ left_behind event.now (into_iter_items scenes.old)) }
-        ensures count { OnOk result (into_iter_len scenes.new ≡ length (into_iter_items scenes.new)) }
-        ensures grows { K.faults out.old ≤ K.faults out.new }
-        ensures cause { WriteCause (K.faults out.old) (K.faults out.new) result }
-    {
-        match push_event(&mut self.lines, event) {
-            Ok(()) => self.write_shown(rt, out, next_scene(event, scenes)),
-            Err(_) => Err(WriteStop::Memory),
-        }
-    }
-
-    /// Writes the entries of a history from a place on. The scenes are those of the draws among them, the
-    /// oldest first.
-    pub(crate) fn write_entries<R: Threads + Sync, K: Sink>(
+    // Writes the line of an entry, and behind that of a draw its image. The next scene is that of the next draw.
+    fn write_entry<R: Threads + Sync, K: Sink>(
         &mut self,
         rt: &R,
         out: &mut K,
         history: &History,
-        from: usize,
-        scenes: Vec<Scene>,
+        at: usize,
+        entry: &Entry,
+        scenes: &mut IntoIter<Scene, Global>,
     ) -> Result<(), WriteStop>
-        ensures bytes { WritesPart (K.held out.old) (K.held out.new) (self.old.lines.items ++ shown_pieces (drop from history.now.entries) scenes.items) self.new.lines.items result }
+        requires there { slice_get history.now.entries at ≡ Some entry.now }
+        requires count { into_iter_len scenes.old ≡ length (into_iter_items scenes.old) }
+        ensures written { (s : ScriptModel) (h : List Entry) → Keeps s h history.now.entries self.old.last → Comes s h entry.now (into_iter_items scenes.old) → WritesOn s h history.now.entries (K.held out.old) (K.held out.new) (self.old.lines.items ++ piece s h entry.now.event) self.new result }
+        ensures left { OnOk result (into_iter_items scenes.new ≡ left_behind entry.now.event (into_iter_items scenes.old)) }
+        ensures count { OnOk result (into_iter_len scenes.new ≡ length (into_iter_items scenes.new)) }
         ensures grows { K.faults out.old ≤ K.faults out.new }
         ensures cause { WriteCause (K.faults out.old) (K.faults out.new) result }
     {
+        match push_event(&mut self.lines, &entry.event) {
+            Ok(()) => {
+                let scene = next_scene(&entry.event, scenes);
+                self.write_shown(rt, out, history, at, entry, scene)
+            }
+            Err(_) => Err(WriteStop::Memory),
+        }
+    }
+
+    /// Writes the entries of a run from a place on. The scenes are those of the draws among them, the oldest first.
+    pub(crate) fn write_entries<R: Threads + Sync, K: Sink>(
+        &mut self,
+        rt: &R,
+        out: &mut K,
+        core: &Core,
+        from: usize,
+        scenes: Vec<Scene>,
+    ) -> Result<(), WriteStop>
+        requires keeps { Keeps core.now.script (reverse (take from core.now.entries)) core.now.entries self.old.last }
+        requires come { AllCome core.now.script (reverse (take from core.now.entries)) (drop from core.now.entries) scenes.items }
+        ensures written { WritesOn core.now.script (past core.now) core.now.entries (K.held out.old) (K.held out.new) (self.old.lines.items ++ pieces core.now.script (reverse (take from core.now.entries)) (drop from core.now.entries)) self.new result }
+        ensures grows { K.faults out.old ≤ K.faults out.new }
+        ensures cause { WriteCause (K.faults out.old) (K.faults out.new) result }
+    {
+        let history = core.history();
         let mut queue = scenes.into_iter();
         for at in from..history.len() {
             let Some(entry) = history.entry(at) else {
                 return Ok(());
             };
-            if let Err(stop) = self.write_event(rt, out, &entry.event, &mut queue) {
+            if let Err(stop) = self.write_entry(rt, out, history, at, entry, &mut queue) {
                 return Err(stop);
             }
+            self.last.follow(&entry.event);
         }
         Ok(())
     }

@@ -1,12 +1,13 @@
--- What entries add to a recording, where the scenes of their draws are given, the oldest first.
-use Rattle.std.specs.Prelude.{ℕ, pos, Bool, true, false, cond, List, [], ◌∷◌, ◌++◌, Option, Some, None}
+-- The scenes of the draws among some entries, the oldest first.
+use Rattle.std.specs.Prelude.{◌≡◌, ℕ, pos, Bool, true, false, cond, List, [], ◌∷◌, ⊤, Option, Some, None}
 use Rattle.cc_scene.specs.Views.{SceneView}
 use Rattle.cc_scene.specs.Pixels.{scene_pixel}
 use Rattle.cc_event.specs.declared.event.Event.{Event}
 use Rattle.cc_event.specs.declared.event.Event.TheVariants as event
 use Rattle.cc_event.specs.declared.history.Entry.{Entry}
-use Rattle.cc_event.specs.Recordings.{image}
-use Rattle.cc_event.specs.Texts.{event_line}
+use Rattle.cc_event.specs.Scripts.{ScriptModel}
+use Rattle.cc_event.specs.Recordings.{image, image_behind}
+use Rattle.cc_recorder.specs.inner.Repeats.{StaysShown}
 
 -- whether an event shows a picture
 abbrev pub is_draw : Event → Bool
@@ -38,11 +39,12 @@ abbrev pub image_if : Option SceneView → List ℕ
 image_if None = []
 image_if (Some scene) = scene_image scene
 
--- what an event adds: its line, and behind that of a draw the image of its scene
-unfoldable pub shown_piece : Event → List SceneView → List ℕ
-shown_piece e scenes = event_line e ++ image_if (scene_of e scenes)
+-- an entry that comes after a past, with the scenes of the draws from it on: its scene has the image of what the screen shows, and a quiet one leaves what the screen shows as it is
+pub record Comes (s : ScriptModel) (h : List Entry) (e : Entry) (scenes : List SceneView) : Type 0 where
+  pub image : image_if (scene_of e.event scenes) ≡ image_behind s h e.event
+  pub stays : StaysShown s h e
 
--- what these entries add, one after another
-abbrev pub shown_pieces : List Entry → List SceneView → List ℕ
-shown_pieces [] scenes = []
-shown_pieces (e ∷ es) scenes = shown_piece e.event scenes ++ shown_pieces es (left_behind e.event scenes)
+-- these entries come after a past, one after another, with the scenes of their draws
+abbrev pub AllCome : ScriptModel → List Entry → List Entry → List SceneView → Type 0
+AllCome s h [] scenes = ⊤
+AllCome s h (e ∷ es) scenes = Comes s h e scenes × AllCome s (e ∷ h) es (left_behind e.event scenes)

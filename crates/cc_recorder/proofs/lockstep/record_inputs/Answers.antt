@@ -30,7 +30,7 @@ returns-in-Err-clause-bytes g c =
     c.loop-input.invariant.extends _ _ _ _
     (subst
     (λ (is : List Input).
-    WritesWay {X = ⊤} {E = WriteStop} (inputs_from is) c.loop-input.single c.record_input.new.single (g.K.Sink.held c.loop-input.out) (g.K.Sink.held c.record_input.new.out) c.loop-input.recorder.lines.items c.record_input.new.recorder.lines.items (Err c.in-Err.stop))
+    WritesWay {X = ⊤} {E = WriteStop} (inputs_from is) c.loop-input.single c.record_input.new.single (g.K.Sink.held c.loop-input.out) (g.K.Sink.held c.record_input.new.out) c.loop-input.recorder.lines.items c.record_input.new.recorder (Err c.in-Err.stop))
     (sym c.in-Some.ensures.cases.0)
     (ways_stop (input_played i) (inputs_from after) _ _ _ _ _ _ _ _ _ (input_good i) (inputs_grow after) can c.in-Err.ensures.bytes))
 

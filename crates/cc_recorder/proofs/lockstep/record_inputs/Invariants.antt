@@ -4,14 +4,15 @@ use Rattle.std.specs.Prelude.{Option, Result, ⊤}
 use Rattle.cc_lockstep.specs.Walks.{CanFollow, inputs_from}
 use Rattle.cc_recorder.specs.declared.writing.WriteStop.{WriteStop}
 use Rattle.cc_single.specs.Singles.{SingleModel, walk_of}
+use Rattle.cc_recorder.specs.declared.recorder.Recorder.{Recorder}
 use Rattle.cc_recorder.specs.inner.Ways.{IsWritten, WritesWay}
 use Rattle.cc_recorder.proofs.lockstep.record_inputs.Given as goal
 
 abbrev pub invariant-loop-input : goal.invariant-loop-input
 invariant-loop-input g l = record {
   can : CanFollow (inputs_from l.rest) (walk_of l.single);
-  written : IsWritten l.single;
-  extends : (new : SingleModel) (after : Option (List ℕ)) (left : List ℕ) (result : Result ⊤ WriteStop)
+  written : IsWritten l.single l.recorder;
+  extends : (new : SingleModel) (after : Option (List ℕ)) (left : Recorder) (result : Result ⊤ WriteStop)
       → WritesWay (inputs_from l.rest) l.single new (g.K.Sink.held l.out) after l.recorder.lines.items left result
       → WritesWay (inputs_from l.inputs) l.fn.single new (g.K.Sink.held l.fn.out) after l.fn.recorder.lines.items left result;
   grows : g.K.Sink.faults l.fn.out ≤ g.K.Sink.faults l.out;

@@ -8,7 +8,7 @@ pub record_run-requires-clause-can : goal.record_run-requires-clause-can
 record_run-requires-clause-can g c κs within = fresh_can c.args.script.now c.args.single.now c.inputs.result.now c.requires.fresh c.is_accepted.ensures.accepted c.inputs.ensures
 
 pub record_run-requires-clause-written : goal.record_run-requires-clause-written
-record_run-requires-clause-written g c κs within = fresh_written c.args.script.now c.args.single.now c.requires.fresh
+record_run-requires-clause-written g c κs within = fresh_written c.args.script.now c.args.single.now c.args.recorder.now c.requires.fresh c.requires.none
 
 pub returns-in-Err-clause-bytes : goal.returns-in-Err-clause-bytes
 returns-in-Err-clause-bytes g c =

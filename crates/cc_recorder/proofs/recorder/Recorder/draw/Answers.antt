@@ -1,17 +1,18 @@
--- The frame that shows the scene has its image.
+-- The picture has the image of the draw.
 use Rattle.std.proofs.Common.{◌≡◌, ℕ, List, ◌++◌}
-use Rattle.cc_event.specs.Recordings.{image_head}
-use Rattle.cc_render.specs.Frames.{FrameView}
+use Rattle.cc_event.specs.Recordings.{image_head, image_behind}
 use Rattle.cc_lockstep.proofs.Following.{then_on_ok}
-use Rattle.cc_recorder.specs.inner.Scenes.{scene_image}
-use Rattle.cc_recorder.proofs.Shows.{drawn_image}
+use Rattle.cc_recorder.proofs.KeptPictures.{drawn_text}
 use Rattle.cc_recorder.proofs.recorder.Recorder.draw.Goals as goal
 
 pub returns : goal.returns
 returns g c =
-    let f : FrameView = c.show.new.self.frame in
-    let packed : List ℕ = c.show.new.self.packed in
     let lines : List ℕ = c.args.self.now.lines.items in
     let text : List ℕ = c.push_image_head.new.text.items in
-    then_on_ok c.push_image_head.result (text ≡ lines ++ image_head c.w.result c.h.result) (text ++ packed ≡ lines ++ scene_image c.args.scene) c.push_image_head.ensures.text
-    (drawn_image c.args.scene f packed lines text c.w.result c.h.result c.w.ensures c.h.ensures c.in_ok-show.ensures.shown c.in_ok-show.ensures.packed)
+    then_on_ok c.push_image_head.result (text ≡ lines ++ image_head c.w-w.result c.h-h.result) _ c.push_image_head.ensures.text
+    (λ made s h keeps behind.
+    let shows = c.in_ok-show.ensures s h keeps behind in
+    record {
+      text = drawn_text c.show.new.self.pictures lines text (image_behind s h c.args.entry.now.event) c.w-w.result c.h-h.result c.w-w.ensures c.h-h.ensures made shows.image;
+      keeps = shows.keeps;
+    })
