@@ -1,5 +1,5 @@
 -- The rows are one run of pixels.
-use Rattle.std.proofs.Common.{◌≤◌, ◌*◌, arith}
+use Rattle.std.proofs.Common.{arith}
 use Rattle.std.proofs.lemmas.Int.{clamps}
 use Rattle.cc_recorder.proofs.PackedFrames.{run_of_rows, rows_fit}
 use Rattle.cc_recorder.proofs.image.pack_rows.Goals as goal
