@@ -82,7 +82,7 @@ impl<'a, K: Sink> CompActor<'a, K> {
         self.lines.over
     }
 
-    // Whether the main side or a worker might do something when the last turn was given up.
+    // Whether the last turn entered an event after which the main side or a worker might do something.
     pub(crate) fn may_others_go(&self) -> bool {
         self.lines.others_may_go
     }

@@ -14,7 +14,7 @@ pub struct Lines {
     pub(crate) written: usize,
     /// whether the run was played to its end, when the compositor last held it
     pub(crate) over: bool,
-    /// whether the main side or a worker might do something then
+    /// whether an event was entered then after which the main side or a worker might do something
     pub(crate) others_may_go: bool,
     /// how many workers the run has
     pub(crate) workers: usize,
