@@ -9,6 +9,7 @@ use crate::holding::settle;
 use crate::lines::Lines;
 use crate::playing::hold;
 use crate::turned::Turned;
+use crate::wakes::Wakes;
 use crate::writing::write;
 use cc_core::Core;
 use cc_io::Sink;
@@ -82,9 +83,9 @@ impl<'a, K: Sink> CompActor<'a, K> {
         self.lines.over
     }
 
-    // Whether the last turn entered an event after which the main side or a worker might do something.
-    pub(crate) fn may_others_go(&self) -> bool {
-        self.lines.others_may_go
+    // Whom to wake up after the last turn.
+    pub(crate) fn wakes(&self) -> Wakes {
+        self.lines.wakes
     }
 
     /// The pass, and the sink.

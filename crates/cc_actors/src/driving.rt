@@ -11,7 +11,8 @@ use crate::compositor::CompActor;
 use crate::main_actor::MainActor;
 use crate::raster_actor::RasterActor;
 use crate::turned::Turned;
-use cc_bell::Bell;
+use crate::wakes::Wakes;
+use cc_bell::{Bell, Post};
 use cc_core::Core;
 use cc_io::{Gate, Sink};
 use cc_lock::TurnLock;
@@ -24,17 +25,31 @@ use std::time::Duration;
 // has place again for what it keeps; at its next turn the compositor writes the one and moves the other on.
 const NAP: u64 = 5;
 
-// Rings where that is of use.
-fn ring_if(bell: &Bell, is_of_use: bool) {
-    if is_of_use {
-        bell.ring();
+// Where the main side and the workers sleep at the bell. The compositor sleeps at the first post.
+const MAIN: Post = Post::Second;
+
+const WORKERS: Post = Post::Third;
+
+// Wakes the others up that have something to do.
+fn wake(bell: &Bell, wakes: Wakes) {
+    if wakes.main {
+        bell.ring_at(MAIN);
+    }
+    if wakes.workers {
+        bell.ring_at(WORKERS);
     }
 }
 
+// The same, and sleeps until another has entered something, or for a moment.
+fn wake_and_sleep<R: Wait>(rt: &R, bell: &Bell, wakes: Wakes, rung: u32) {
+    wake(bell, wakes);
+    bell.wait_at_most(rt, rung, Duration::from_millis(NAP));
+}
+
 /// Turns of the compositor on the calling thread, until one answers `Ended`, `Memory` or `WriteFault`, which is
-/// the answer. The others take their turns on threads of their own. The compositor rings the bell where it has
-/// entered an event and another may do something, and where it is blocked, it sleeps at the bell until another has
-/// entered one, or for a moment.
+/// the answer. The others take their turns on threads of their own. The compositor rings the bell for the main side
+/// where it has sent a frame, and for the workers where it has begun a draw or is blocked, and a tile may start.
+/// Where it is blocked, it sleeps at the bell until another has entered an event, or for a moment.
 pub fn drive_compositor<R: Threads + Wait + Sync, K: Sink>(
     rt: &R,
     lock: &TurnLock<Core>,
@@ -52,8 +67,8 @@ pub fn drive_compositor<R: Threads + Wait + Sync, K: Sink>(
     for _ in rt.forever() {
         let rung = bell.rung();
         match comp.turn(rt, lock) {
-            Turned::Went => ring_if(bell, comp.may_others_go()),
-            Turned::Blocked => bell.wait_at_most(rt, rung, Duration::from_millis(NAP)),
+            Turned::Went => wake(bell, comp.wakes()),
+            Turned::Blocked => wake_and_sleep(rt, bell, comp.wakes(), rung),
             Turned::Ended => return Turned::Ended,
             Turned::Memory => return Turned::Memory,
             Turned::WriteFault => return Turned::WriteFault,
@@ -62,29 +77,29 @@ pub fn drive_compositor<R: Threads + Wait + Sync, K: Sink>(
     unreachable!()
 }
 
-/// Turns of the main side, until the bell is closed, or one answers `Ended` or `Memory`. It rings the bell where
-/// it has entered an event, and where it is blocked, it sleeps at the bell.
+/// Turns of the main side, until the bell is closed, or one answers `Ended` or `Memory`. It rings the bell for the
+/// compositor where it has entered an event, and where it is blocked, it sleeps at the bell.
 pub fn drive_main<R: Wait>(rt: &R, lock: &TurnLock<Core>, bell: &Bell, main: &mut MainActor)
     requires { Of main.old.pass (MainIsReady lock.now.id main.old.host) }
     ensures { Of main.new.pass (MainIsReady lock.now.id main.new.host) }
 {
     for _ in rt.forever() {
-        let rung = bell.rung();
+        let rung = bell.rung_at(MAIN);
         if bell.is_closed() {
             return;
         }
         match main.turn(rt, lock) {
             Turned::Went => bell.ring(),
-            Turned::Blocked => bell.wait(rt, rung),
-            Turned::Memory => return bell.ring(),
+            Turned::Blocked => bell.wait_at(rt, MAIN, rung),
+            Turned::Memory => return bell.ring_all(),
             Turned::Ended | Turned::WriteFault => return,
         }
     }
     unreachable!()
 }
 
-/// Turns of a worker, until the bell is closed, or one answers `Ended` or `Memory`. It rings the bell where it
-/// has entered an event, and where it is blocked, it sleeps at the bell.
+/// Turns of a worker, until the bell is closed, or one answers `Ended` or `Memory`. It rings the bell for the
+/// compositor where it has entered an event, and where it is blocked, it sleeps at the bell.
 pub fn drive_worker<R: Wait, G: Gate>(
     rt: &R,
     lock: &TurnLock<Core>,
@@ -95,14 +110,14 @@ pub fn drive_worker<R: Wait, G: Gate>(
     ensures { Of worker.new.pass (WorkIsReady lock.now.id worker.new.worker) }
 {
     for _ in rt.forever() {
-        let rung = bell.rung();
+        let rung = bell.rung_at(WORKERS);
         if bell.is_closed() {
             return;
         }
         match worker.turn(rt, lock) {
             Turned::Went => bell.ring(),
-            Turned::Blocked => bell.wait(rt, rung),
-            Turned::Memory => return bell.ring(),
+            Turned::Blocked => bell.wait_at(rt, WORKERS, rung),
+            Turned::Memory => return bell.ring_all(),
             Turned::Ended | Turned::WriteFault => return,
         }
     }

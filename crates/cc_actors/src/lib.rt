@@ -19,6 +19,7 @@ mod main_actor;
 mod playing;
 mod raster_actor;
 mod turned;
+mod wakes;
 mod writing;
 
 pub use compositor::CompActor;

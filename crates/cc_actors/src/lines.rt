@@ -3,6 +3,7 @@
 ghost use Rattle.std.specs.Prelude.{◌≡◌, ◌++◌, drop, OnOk};
 ghost use Rattle.cc_actors.specs.inner.Steps.{GathersAll, lines_of};
 
+use crate::wakes::Wakes;
 use cc_event::History;
 use cc_record::push_event;
 use std::alloc::{AllocError, Global};
@@ -14,8 +15,8 @@ pub struct Lines {
     pub(crate) written: usize,
     /// whether the run was played to its end, when the compositor last held it
     pub(crate) over: bool,
-    /// whether an event was entered then after which the main side or a worker might do something
-    pub(crate) others_may_go: bool,
+    /// whom the compositor wakes up after that
+    pub(crate) wakes: Wakes,
     /// how many workers the run has
     pub(crate) workers: usize,
 }
@@ -29,7 +30,7 @@ impl Lines {
             text: Vec::new(alloc),
             written: 0,
             over: false,
-            others_may_go: false,
+            wakes: Wakes::new(),
             workers: 1,
         }
     }

@@ -79,17 +79,6 @@ fn play(core: &mut Core) -> Played
     }
 }
 
-// Whether what was played lets the main side or a worker do something: end the frame in flight, start a tile, or
-// hear that the run has ended. Where nothing was entered the core is not asked.
-fn lets_others_go(played: &Played, core: &Core) -> bool {
-    match played {
-        Played::Plain | Played::Shown(_) => {
-            core.in_flight().is_some() || core.ended() || core.next_start().is_some()
-        }
-        Played::Ended | Played::Blocked | Played::Memory => false,
-    }
-}
-
 // Plays, and gathers the lines of what was not written.
 fn compose(core: &mut Core, lines: &mut Lines) -> Played
     ensures plays { Plays core.old core.new result }
@@ -98,7 +87,7 @@ fn compose(core: &mut Core, lines: &mut Lines) -> Played
 {
     let played = play(core);
     lines.over = core.is_over();
-    lines.others_may_go = lets_others_go(&played, core);
+    lines.wakes.renew(&played, core);
     lines.workers = core.workers() as usize;
     match lines.gather(core.history()) {
         Ok(()) => played,

@@ -6,6 +6,9 @@
 //! was seen by it. A change behind the look is rung behind the number was read, so the count has moved on, and
 //! the wait returns at once, or the ring finds the sleeper and wakes it.
 //!
+//! A bell has three posts at which threads sleep ([`Post`]), and is rung at one of them, so that nobody wakes up who
+//! could do nothing. Where all sleep at the first post, the plain calls are enough.
+//!
 //! A bell that is closed stays so: there will be nothing to do again.
 //!
 //! No clause says anything of a bell. What its waits are for holds however they return; that they return is
@@ -19,10 +22,23 @@ use std::sync::Wait;
 use std::sync::atomic::{AtomicBool, AtomicU64, Ordering};
 use std::time::Duration;
 
-/// A count of rings, at which threads sleep.
+/// Where threads sleep at a bell. Those at one post wake up together.
+#[derive(Clone, Copy, Debug, Drop, PartialEq)]
+pub enum Post {
+    /// That of the plain calls.
+    First,
+    /// Another.
+    Second,
+    /// A third.
+    Third,
+}
+
+/// A count of rings for each post, at which threads sleep.
 #[derive(Drop)]
 pub struct Bell {
-    rings: AtomicU64,
+    first: AtomicU64,
+    second: AtomicU64,
+    third: AtomicU64,
     closed: AtomicBool,
 }
 
@@ -30,37 +46,72 @@ impl Bell {
     /// A bell that was not rung, and is open.
     pub fn new() -> Bell {
         Bell {
-            rings: AtomicU64::new(0),
+            first: AtomicU64::new(0),
+            second: AtomicU64::new(0),
+            third: AtomicU64::new(0),
             closed: AtomicBool::new(false),
         }
     }
 
-    /// How often the bell was rung, modulo 2^32. It is read before one looks for work.
+    // The count of rings at a post.
+    fn rings(&self, post: Post) -> &AtomicU64 {
+        match post {
+            Post::First => &self.first,
+            Post::Second => &self.second,
+            Post::Third => &self.third,
+        }
+    }
+
+    /// How often the bell was rung at the first post, modulo 2^32. It is read before one looks for work.
     pub fn rung(&self) -> u32 {
-        (self.rings.load(Ordering::SeqCst) % (1 << 32)) as u32
+        self.rung_at(Post::First)
     }
 
-    /// Rings: all who wait wake up.
+    /// The same at any post.
+    pub fn rung_at(&self, post: Post) -> u32 {
+        (self.rings(post).load(Ordering::SeqCst) % (1 << 32)) as u32
+    }
+
+    /// Rings at the first post: all who wait there wake up.
     pub fn ring(&self) {
-        self.rings.fetch_add(1, Ordering::SeqCst);
-        self.rings.wake_all();
+        self.ring_at(Post::First);
     }
 
-    /// Sleeps while the bell has been rung so often. It may also return for no reason; it does not where just
-    /// 2^32 rings came since the number was read, which nobody's look for work lasts.
+    /// The same at any post.
+    pub fn ring_at(&self, post: Post) {
+        let rings = self.rings(post);
+        rings.fetch_add(1, Ordering::SeqCst);
+        rings.wake_all();
+    }
+
+    /// Sleeps at the first post while the bell has been rung there so often. It may also return for no reason; it
+    /// does not where just 2^32 rings came since the number was read, which nobody's look for work lasts.
     pub fn wait<R: Wait>(&self, rt: &R, rung: u32) {
-        self.rings.park(rt, rung);
+        self.wait_at(rt, Post::First, rung);
     }
 
-    /// The same, for as long at most: for one who has to look for what nobody rings for.
+    /// The same at any post.
+    pub fn wait_at<R: Wait>(&self, rt: &R, post: Post, rung: u32) {
+        self.rings(post).park(rt, rung);
+    }
+
+    /// Sleeps at the first post as `wait` does, for as long at most: for one who has to look for what nobody
+    /// rings for.
     pub fn wait_at_most<R: Wait>(&self, rt: &R, rung: u32, longest: Duration) {
-        self.rings.park_timeout(rt, rung, longest);
+        self.first.park_timeout(rt, rung, longest);
     }
 
-    /// Closes the bell, and rings.
+    /// Rings at each post.
+    pub fn ring_all(&self) {
+        self.ring_at(Post::First);
+        self.ring_at(Post::Second);
+        self.ring_at(Post::Third);
+    }
+
+    /// Closes the bell, and rings at each post.
     pub fn close(&self) {
         self.closed.store(true, Ordering::SeqCst);
-        self.ring();
+        self.ring_all();
     }
 
     /// Whether the bell was closed. What was done before it was closed is seen by whoever has found it so.

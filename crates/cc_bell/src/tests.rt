@@ -1,4 +1,4 @@
-use crate::Bell;
+use crate::{Bell, Post};
 use std::sync::Wait;
 use std::test::*;
 use std::thread::join;
@@ -20,6 +20,20 @@ fn a_short_sleep_ends_though_nobody_rings(rt: HostRuntime) {
     let rung = bell.rung();
     bell.wait_at_most(&rt, rung, Duration::from_millis(1));
     assert!(rt; bell.rung() == rung);
+}
+
+#[test]
+fn each_post_has_a_count_of_its_own(rt: HostRuntime) {
+    let bell = Bell::new();
+    let first = bell.rung();
+    let second = bell.rung_at(Post::Second);
+    let third = bell.rung_at(Post::Third);
+    bell.ring_at(Post::Third);
+    bell.wait_at(&rt, Post::Third, third);
+    assert!(rt; bell.rung_at(Post::Third) != third);
+    assert!(rt; bell.rung() == first && bell.rung_at(Post::Second) == second);
+    bell.close();
+    assert!(rt; bell.rung() != first && bell.rung_at(Post::Second) != second);
 }
 
 #[test]
