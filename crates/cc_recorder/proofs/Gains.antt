@@ -4,7 +4,7 @@ use Rattle.std.specs.Prelude.{Option, Result, Ok, Err}
 use Rattle.std.specs.Io.KnownBytes.{Appends}
 use Rattle.cc_io.specs.Pieces.{GainsPrefix}
 use Rattle.cc_recorder.specs.Writing.{PutsAll}
-use Rattle.cc_recorder.specs.inner.Parts.{WritesPart}
+use Rattle.cc_recorder.specs.inner.Parts.{Half, WritesPart}
 
 -- a piece and then another are both together
 pub gains_both : (old mid new : Option (List ℕ)) (a b : List ℕ) → Appends old mid a → Appends mid new b → Appends old new (a ++ b)
@@ -44,10 +44,6 @@ pub behind_written : {X E : Type 0} (result : Result X E) (old mid new : Option 
 behind_written (Ok x) old mid new a b held first empty more = (a ++ b, ap (λ w. (a ++ b) ++ w) empty ∙ append-nil (a ++ b), gains_both old mid new a b first more)
 behind_written (Err stop) old mid new a b held first empty more = gains_front old mid new a b [] (a ++ b) first more (append-nil (a ++ b))
 
--- what was gained and what is held back are the lines before and a part of the whole
-abbrev pub Half : Option (List ℕ) → Option (List ℕ) → List ℕ → List ℕ → Type 0
-Half old new whole held = (gained : List ℕ) × (gained ++ held ≡ whole) × Appends old new gained
-
 joins : (gained held lines p q : List ℕ) → gained ++ held ≡ lines ++ p → gained ++ (held ++ q) ≡ lines ++ (p ++ q)
 joins gained held lines p q e = sym (append_assoc gained held q) ∙ ap (λ w. w ++ q) e ∙ append_assoc lines p q
 
@@ -57,6 +53,10 @@ parts_join (Ok x) old mid new lines p held q after first more =
     (first.0 ++ more.0, append_assoc first.0 more.0 after ∙ ap (λ w. first.0 ++ w) more.1 ∙ joins first.0 held lines p q first.1, gains_both old mid new first.0 more.0 first.2 more.2)
 parts_join (Err stop) old mid new lines p held q after first more =
     gains_front old mid new first.0 (held ++ q) [] (lines ++ (p ++ q)) first.2 more (append-nil (first.0 ++ (held ++ q)) ∙ joins first.0 held lines p q first.1)
+
+-- bytes more that are held back are bytes more of the whole
+pub half_longer : (old new : Option (List ℕ)) (a b held : List ℕ) → Half old new a held → Half old new (a ++ b) (held ++ b)
+half_longer old new a b held half = (half.0, sym (append_assoc half.0 held b) ∙ ap (λ w. w ++ b) half.1, half.2)
 
 -- one more piece was written: what was gained of it is added, and what is held back of it takes the place of what was held back before
 pub piece_moves : (done lines gained held piece rest all whole : List ℕ) → gained ++ held ≡ lines ++ piece → all ≡ piece ++ rest → done ++ (lines ++ all) ≡ whole → (done ++ gained) ++ (held ++ rest) ≡ whole

@@ -20,10 +20,10 @@ use Rattle.cc_recorder.specs.declared.writing.WriteStop.{WriteStop}
 use Rattle.cc_recorder.specs.declared.writing.WriteStop.TheVariants.{Fault, Memory}
 use Rattle.cc_recorder.specs.Writing.{PutsAll, WriteCause}
 use Rattle.cc_recorder.specs.declared.recorder.Recorder.{Recorder}
-use Rattle.cc_recorder.specs.inner.Parts.{WritesPart}
+use Rattle.cc_recorder.specs.inner.Parts.{Half, WritesPart}
 use Rattle.cc_recorder.specs.inner.Repeats.{KeepsFrom}
 use Rattle.cc_recorder.specs.inner.Ways.{IsFresh, IsWritten, PlaysAll, WritesWay, recorded_run, whole_played}
-use Rattle.cc_recorder.proofs.Gains.{gains_nothing, written_after}
+use Rattle.cc_recorder.proofs.Gains.{gains_longer, gains_nothing, parts_join, written_after}
 
 -- a compositor before anything was entered
 abbrev fresh : ScriptModel → ℕ → SingleModel
@@ -43,9 +43,9 @@ fresh_can s m inputs (n, is) accepted all =
 
 -- ---- the recording
 
-whole_of : (s : ScriptModel) (lines : List ℕ) (history : List Entry) → lines ≡ header (script_text s) → lines ++ pieces s [] history ≡ recording s history
+whole_of : (s : ScriptModel) (history : List Entry) → header (script_text s) ++ pieces s [] history ≡ recording s history
 unfolding recording recorded
-whole_of s lines history is = ap (λ (front : List ℕ). front ++ pieces s [] history) is
+whole_of s history = refl
 
 -- nothing was written yet
 pub records_nothing : (s : ScriptModel) (held : Option (List ℕ)) → IsAccepted s → (whole : List ℕ) × IsLockstepRecording s whole × GainsPrefix held held whole
@@ -53,43 +53,51 @@ records_nothing s held accepted =
     let l = lockstep_there s accepted in
     (recording s l.0, (l.0, l.1, refl), gains_nothing held (recording s l.0))
 
--- what was played is the lockstep history, and what was written behind the header is of its recording
-record IsRecorded {X E : Type 0} (s : ScriptModel) (new : SingleModel) (old after : Option (List ℕ)) (held : Recorder) (result : Result X E) : Type 0 where
+-- a front of the lines before the events was written
+pub records_front : (s : ScriptModel) (old new : Option (List ℕ)) → IsAccepted s → GainsPrefix old new (header (script_text s)) → (whole : List ℕ) × IsLockstepRecording s whole × GainsPrefix old new whole
+records_front s old new accepted front =
+    let l = lockstep_there s accepted in
+    (recording s l.0, (l.0, l.1, refl), subst (λ (w : List ℕ). GainsPrefix old new w) (whole_of s l.0) (gains_longer old new (header (script_text s)) (pieces s [] l.0) front))
+
+-- what was played is the lockstep history, and what was written is what it adds behind these lines
+record IsRecorded {X E : Type 0} (s : ScriptModel) (new : SingleModel) (before after : Option (List ℕ)) (lines : List ℕ) (held : Recorder) (result : Result X E) : Type 0 where
   history : List Entry
   lockstep : IsLockstep s history
   workers : ℕ
   plays : PlaysAll (new_run s workers) history new held result
-  bytes : WritesPart old after (recording s history) held.lines.items result
+  bytes : WritesPart before after (lines ++ pieces s [] history) held.lines.items result
 
-module _ {X E : Type 0} (s : ScriptModel) (inputs : List Input) (start new : SingleModel) (old after : Option (List ℕ)) (lines : List ℕ) (held : Recorder) (is : IsFresh s start) (all : inputs ≡ s.inputs) (line : lines ≡ header (script_text s)) where
-  run_recorded : (result : Result X E) → WritesWay (whole_played inputs) start new old after lines held result → IsRecorded s new old after held result
+module _ {X E : Type 0} (s : ScriptModel) (inputs : List Input) (start new : SingleModel) (before after : Option (List ℕ)) (lines : List ℕ) (held : Recorder) (is : IsFresh s start) (all : inputs ≡ s.inputs) where
+  run_recorded : (result : Result X E) → WritesWay (whole_played inputs) start new before after lines held result → IsRecorded s new before after lines held result
   run_recorded result writes =
-      let w : WritesWay (whole_played inputs) (fresh s is.0) new old after lines held result = subst (λ (z : SingleModel). WritesWay (whole_played inputs) z new old after lines held result) is.1 writes in
+      let w : WritesWay (whole_played inputs) (fresh s is.0) new before after lines held result = subst (λ (z : SingleModel). WritesWay (whole_played inputs) z new before after lines held result) is.1 writes in
       let way : WholeRun s [] (reverse w.news) =
       subst (λ (inputs : List Input). whole_played inputs s [] (reverse w.news)) all (subst (λ (h : List Entry). whole_played inputs s [] h) (append-nil (reverse w.news)) w.way) in
-      record {
-        history = w.news;
-        lockstep = way;
-        workers = is.0;
-        plays = w.plays;
-        bytes = subst (λ (z : List ℕ). WritesPart old after z held.lines.items result) (whole_of s lines w.news line) w.bytes;
-      }
+      record { history = w.news; lockstep = way; workers = is.0; plays = w.plays; bytes = w.bytes }
 
-  -- a front of the recording was written
-  pub run_stopped : (stop : E) → WritesWay {X = X} {E = E} (whole_played inputs) start new old after lines held (Err stop) → (whole : List ℕ) × IsLockstepRecording s whole × GainsPrefix old after whole
-  run_stopped stop writes =
-      let r = run_recorded (Err stop) writes in
-      (recording s r.history, (r.history, r.lockstep, refl), r.bytes)
+  -- these lines are what is held back of the lines before the events
+  module _ (old : Option (List ℕ)) (front : Half old before (header (script_text s)) lines) where
+    behind_header : (result : Result X E) (history : List Entry) → WritesPart before after (lines ++ pieces s [] history) held.lines.items result → WritesPart old after (recording s history) held.lines.items result
+    behind_header result history bytes =
+        subst (λ (w : List ℕ). WritesPart old after w held.lines.items result) (whole_of s history)
+        (parts_join result old before after [] (header (script_text s)) lines (pieces s [] history) held.lines.items front bytes)
 
-  -- all was written but for what was held back, which was put then, or a front of it
-  pub run_put : {Y F : Type 0} (x : X) (end : Option (List ℕ)) (result : Result Y F) → WritesWay {X = X} {E = E} (whole_played inputs) start new old after lines held (Ok x) → PutsAll after end held.lines.items result
-      → (whole : List ℕ) × IsLockstepRecording s whole × PutsAll old end whole result
-  run_put x end result writes puts =
-      let r = run_recorded (Ok x) writes in
-      (recording s r.history, (r.history, r.lockstep, refl), written_after result old after end r.bytes.0 held.lines.items (recording s r.history) r.bytes.2 puts r.bytes.1)
+    -- a front of the recording was written
+    pub run_stopped : (stop : E) → WritesWay {X = X} {E = E} (whole_played inputs) start new before after lines held (Err stop) → (whole : List ℕ) × IsLockstepRecording s whole × GainsPrefix old after whole
+    run_stopped stop writes =
+        let r = run_recorded (Err stop) writes in
+        (recording s r.history, (r.history, r.lockstep, refl), behind_header (Err stop) r.history r.bytes)
+
+    -- all was written but for what was held back, which was put then, or a front of it
+    pub run_put : {Y F : Type 0} (x : X) (end : Option (List ℕ)) (result : Result Y F) → WritesWay {X = X} {E = E} (whole_played inputs) start new before after lines held (Ok x)
+        → PutsAll after end held.lines.items result → (whole : List ℕ) × IsLockstepRecording s whole × PutsAll old end whole result
+    run_put x end result writes puts =
+        let r = run_recorded (Ok x) writes in
+        let half : Half old after (recording s r.history) held.lines.items = behind_header (Ok x) r.history r.bytes in
+        (recording s r.history, (r.history, r.lockstep, refl), written_after result old after end half.0 held.lines.items (recording s r.history) half.2 puts half.1)
 
   -- the entries are the lockstep history
-  pub run_lockstep : (x : X) → WritesWay {X = X} {E = E} (whole_played inputs) start new old after lines held (Ok x) → IsLockstep s new.run.entries
+  pub run_lockstep : (x : X) → WritesWay {X = X} {E = E} (whole_played inputs) start new before after lines held (Ok x) → IsLockstep s new.run.entries
   run_lockstep x writes =
       let r = run_recorded (Ok x) writes in
       let entries : new.run.entries ≡ r.history =

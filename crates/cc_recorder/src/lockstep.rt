@@ -1,6 +1,6 @@
 //! Scripts, played in lockstep and recorded.
 
-ghost use Rattle.std.specs.Prelude.{◌≡◌, ◌≤◌, ◌++◌, List, None, length, reverse, take, IfOk, OnOk};
+ghost use Rattle.std.specs.Prelude.{◌≡◌, ◌≤◌, ℕ, ◌++◌, List, None, Option, codes, length, reverse, take, IfOk, OnOk};
 ghost use Rattle.serde_json.specs.Written.{compact_text};
 ghost use Rattle.cc_event.specs.declared.history.Entry.{Entry};
 ghost use Rattle.cc_event.specs.Lockstep.{IsLockstep};
@@ -10,7 +10,7 @@ ghost use Rattle.cc_lockstep.specs.Walks.{CanFollow, input_played, inputs_from, 
 ghost use Rattle.cc_single.specs.Singles.{walk_of};
 ghost use Rattle.cc_recorder.specs.Recordings.{Records};
 ghost use Rattle.cc_recorder.specs.Writing.{WriteCause};
-ghost use Rattle.cc_recorder.specs.inner.Parts.{WritesPart};
+ghost use Rattle.cc_recorder.specs.inner.Parts.{Half, WritesPart};
 ghost use Rattle.cc_recorder.specs.inner.Repeats.{Keeps};
 ghost use Rattle.cc_recorder.specs.inner.Ways.{IsFresh, IsWritten, WritesWay, recorded_run, whole_played};
 
@@ -153,26 +153,27 @@ fn record_run<R: Threads + Sync, K: Sink>(
     record_end(rt, recorder, single, out)
 }
 
-// The compositor of a script with so many workers, before anything was entered, and a recorder that holds the
-// two lines before the events.
+// The compositor of a script with so many workers, before anything was entered, a recorder that holds the name
+// of the format, and the text of the script.
 fn prepare(
     alloc: Global,
     script: &Arc<Script>,
     workers: u32,
-) -> Result<(SingleThread, Recorder), AllocError>
+) -> Result<(SingleThread, Recorder, Vec<u8>), AllocError>
     requires { (1 ≤ workers) × (workers ≤ 16) }
     ensures fresh { IfOk result (λ p. IsFresh script.now.value p.0) }
-    ensures lines { IfOk result (λ p. p.1.lines.items ≡ header (compact_text (parts_data script.now.value))) }
+    ensures name { IfOk result (λ p. p.1.lines.items ≡ codes "cc1\n") }
     ensures none { IfOk result (λ p. p.1.last.place ≡ None) }
+    ensures text { IfOk result (λ p. p.2.items ≡ compact_text (parts_data script.now.value)) }
 {
     let text = print_script(alloc, script)?;
-    let recorder = Recorder::new(alloc, text.as_slice(), workers as usize)?;
+    let recorder = Recorder::new(alloc, workers as usize)?;
     let single = SingleThread::new(alloc, Arc::try_clone(script)?, workers)?;
-    Ok((single, recorder))
+    Ok((single, recorder, text))
 }
 
-// Plays and writes the whole run of a script, and puts what is left.
-fn record_whole<R: Threads + Sync, K: Sink>(
+// Plays and writes the whole run of a script behind the lines before the events, and puts what is left.
+fn record_events<R: Threads + Sync, K: Sink>(
     rt: &R,
     recorder: &mut Recorder,
     single: &mut SingleThread,
@@ -180,9 +181,8 @@ fn record_whole<R: Threads + Sync, K: Sink>(
     out: &mut K,
 ) -> Result<(), WriteStop>
     requires fresh { IsFresh script.now single.old }
-    requires lines { recorder.old.lines.items ≡ header (compact_text (parts_data script.now)) }
     requires none { recorder.old.last.place ≡ None }
-    ensures bytes { Records script.now (K.held out.old) (K.held out.new) result }
+    ensures bytes { (start : Option (List ℕ)) → Half start (K.held out.old) (header (compact_text (parts_data script.now))) recorder.old.lines.items → Records script.now start (K.held out.new) result }
     ensures history { IfOk result (λ whole. IsLockstep script.now single.new.run.entries) }
     ensures grows { K.faults out.old ≤ K.faults out.new }
     ensures cause { WriteCause (K.faults out.old) (K.faults out.new) result }
@@ -192,6 +192,33 @@ fn record_whole<R: Threads + Sync, K: Sink>(
         return Err(stop);
     }
     recorder.finish(out)
+}
+
+// Writes the whole recording of a script with this text.
+fn record_whole<R: Threads + Sync, K: Sink>(
+    rt: &R,
+    recorder: &mut Recorder,
+    single: &mut SingleThread,
+    script: &Script,
+    text: Vec<u8>,
+    out: &mut K,
+) -> Result<(), WriteStop>
+    requires fresh { IsFresh script.now single.old }
+    requires name { recorder.old.lines.items ≡ codes "cc1\n" }
+    requires none { recorder.old.last.place ≡ None }
+    requires text { text.items ≡ compact_text (parts_data script.now) }
+    ensures bytes { Records script.now (K.held out.old) (K.held out.new) result }
+    ensures history { IfOk result (λ whole. IsLockstep script.now single.new.run.entries) }
+    ensures grows { K.faults out.old ≤ K.faults out.new }
+    ensures cause { WriteCause (K.faults out.old) (K.faults out.new) result }
+{
+    script.is_accepted();
+    let begun = recorder.begin(out, text.as_slice());
+    drop(text);
+    match begun {
+        Ok(()) => record_events(rt, recorder, single, script, out),
+        Err(stop) => Err(stop),
+    }
 }
 
 // The run, if all of it was written.
@@ -207,20 +234,21 @@ fn end_with(single: SingleThread, written: Result<(), WriteStop>) -> Result<Reco
 // Records the run of a script with a compositor and a recorder that are at its beginning.
 fn record_with<R: Threads + Sync, K: Sink>(
     rt: &R,
-    prepared: (SingleThread, Recorder),
+    prepared: (SingleThread, Recorder, Vec<u8>),
     script: &Script,
     out: &mut K,
 ) -> Result<Recorded, WriteStop>
     requires fresh { IsFresh script.now prepared.0 }
-    requires lines { prepared.1.lines.items ≡ header (compact_text (parts_data script.now)) }
+    requires name { prepared.1.lines.items ≡ codes "cc1\n" }
     requires none { prepared.1.last.place ≡ None }
+    requires text { prepared.2.items ≡ compact_text (parts_data script.now) }
     ensures bytes { Records script.now (K.held out.old) (K.held out.new) result }
     ensures history { IfOk result (IsLockstep script.now) }
     ensures grows { K.faults out.old ≤ K.faults out.new }
     ensures cause { WriteCause (K.faults out.old) (K.faults out.new) result }
 {
-    let (mut single, mut recorder) = prepared;
-    let written = record_whole(rt, &mut recorder, &mut single, script, out);
+    let (mut single, mut recorder, text) = prepared;
+    let written = record_whole(rt, &mut recorder, &mut single, script, text, out);
     end_with(single, written)
 }
 

@@ -1,12 +1,13 @@
 //! Entries of a history, written with the pictures of their draws.
 
-ghost use Rattle.std.specs.Prelude.{◌≡◌, ◌≤◌, ◌++◌, List, None, drop, length, reverse, slice_get, take, IfOk, OnOk};
+ghost use Rattle.std.specs.Prelude.{◌≡◌, ◌≤◌, ◌++◌, List, None, codes, drop, length, reverse, slice_get, take, IfOk, OnOk};
 ghost use Rattle.std.specs.Vec.Iter.{into_iter_items, into_iter_len};
 ghost use Rattle.cc_event.specs.Recordings.{header, image_behind, piece, pieces};
 ghost use Rattle.cc_event.specs.Scripts.{ScriptModel};
 ghost use Rattle.cc_event.specs.declared.history.Entry.{Entry};
 ghost use Rattle.cc_log.specs.Runs.{past};
 ghost use Rattle.cc_recorder.specs.Writing.{PutsAll, WriteCause};
+ghost use Rattle.cc_recorder.specs.inner.Parts.{WritesPart};
 ghost use Rattle.cc_recorder.specs.inner.Repeats.{Keeps};
 ghost use Rattle.cc_recorder.specs.inner.Scenes.{AllCome, Comes, is_draw as is_draw_of, scene_image, scene_of, left_behind, image_if};
 ghost use Rattle.cc_recorder.specs.inner.Steps.{DrawsOn, WritesOn};
@@ -63,17 +64,35 @@ pub fn header_of(alloc: Global, script: &[u8]) -> Result<Vec<u8>, AllocError>
 }
 
 impl Recorder {
-    /// A recorder that holds the two lines before the events, the second of which is this text of a script, and
-    /// makes each picture in so many parts at the most. An error is want of memory.
-    pub(crate) fn new(alloc: Global, script: &[u8], parts: usize) -> Result<Recorder, AllocError>
-        ensures lines { IfOk result (λ recorder. recorder.lines.items ≡ header script.now) }
+    /// A recorder that holds the name of the format, and makes each picture in so many parts at the most. An error
+    /// is want of memory.
+    pub(crate) fn new(alloc: Global, parts: usize) -> Result<Recorder, AllocError>
+        ensures name { IfOk result (λ recorder. recorder.lines.items ≡ codes "cc1\n") }
         ensures none { IfOk result (λ recorder. recorder.last.place ≡ None) }
     {
         Ok(Recorder {
-            lines: header_of(alloc, script)?,
+            lines: Vec::from_slice(alloc, b"cc1\n")?,
             last: LastDraw::new(alloc)?,
             parts,
         })
+    }
+
+    /// Writes the two lines before the events, the second of which is this text of a script. The text may be long,
+    /// so it is put as it is.
+    pub(crate) fn begin<K: Sink>(&mut self, out: &mut K, script: &[u8]) -> Result<(), WriteStop>
+        requires { self.old.lines.items ≡ codes "cc1\n" }
+        ensures bytes { WritesPart (K.held out.old) (K.held out.new) (header script.now) self.new.lines.items result }
+        ensures last { self.new.last ≡ self.old.last }
+        ensures grows { K.faults out.old ≤ K.faults out.new }
+        ensures cause { WriteCause (K.faults out.old) (K.faults out.new) result }
+    {
+        if let Err(stop) = put_behind(out, &mut self.lines, script) {
+            return Err(stop);
+        }
+        match self.lines.push(b'\n') {
+            Ok(()) => Ok(()),
+            Err(_) => Err(WriteStop::Memory),
+        }
     }
 
     // Makes the picture of a draw, and adds the head of its image to the lines.

@@ -1,26 +1,22 @@
--- The whole run was played and written, or a front of it.
-use Rattle.std.specs.Prelude.{⊤}
-use Rattle.cc_recorder.specs.declared.writing.WriteStop.{WriteStop}
-use Rattle.cc_recorder.proofs.RecordedRuns.{fresh_can, fresh_written, run_stopped, run_put, run_lockstep, where_ok}
+-- The lines before the events, and then the events.
+use Rattle.std.proofs.Common.{ℕ, List, ap, ◌∙◌, subst}
+use Rattle.cc_io.specs.Pieces.{GainsPrefix}
+use Rattle.cc_event.specs.Recordings.{header}
+use Rattle.cc_recorder.specs.declared.last_draw.LastDraw.{LastDraw}
+use Rattle.cc_recorder.specs.inner.Parts.{Half}
+use Rattle.cc_recorder.proofs.RecordedRuns.{records_front}
 use Rattle.cc_recorder.proofs.lockstep.record_whole.Goals as goal
 
-pub record_run-requires-clause-can : goal.record_run-requires-clause-can
-record_run-requires-clause-can g c κs within = fresh_can c.args.script.now c.args.single.now c.inputs.result.now c.requires.fresh c.is_accepted.ensures.accepted c.inputs.ensures
+pub record_events-requires-clause-none : goal.record_events-requires-clause-none
+record_events-requires-clause-none g c κs within = ap (λ (last : LastDraw). last.place) c.in-Ok.ensures.last ∙ c.requires.none
 
-pub record_run-requires-clause-written : goal.record_run-requires-clause-written
-record_run-requires-clause-written g c κs within = fresh_written c.args.script.now c.args.single.now c.args.recorder.now c.requires.fresh c.requires.none
+pub returns-in-Ok-clause-bytes : goal.returns-in-Ok-clause-bytes
+returns-in-Ok-clause-bytes g c =
+    c.record_events.ensures.bytes (g.K.Sink.held c.args.out.now)
+    (subst (λ (text : List ℕ). Half (g.K.Sink.held c.args.out.now) (g.K.Sink.held c.begin-begun.new.out) (header text) c.begin-begun.new.self.lines.items)
+    (c.as_slice.ensures.value ∙ c.requires.text) c.in-Ok.ensures.bytes)
 
 pub returns-in-Err-clause-bytes : goal.returns-in-Err-clause-bytes
 returns-in-Err-clause-bytes g c =
-    run_stopped {X = ⊤} {E = WriteStop} c.args.script.now c.inputs.result.now c.args.single.now _ _ _ c.args.recorder.now.lines.items _ c.requires.fresh c.inputs.ensures c.requires.lines
-    c.in-Err.stop c.in-Err.ensures.bytes
-
-pub returns-clause-bytes : goal.returns-clause-bytes
-returns-clause-bytes g c =
-    run_put {X = ⊤} {E = WriteStop} c.args.script.now c.inputs.result.now c.args.single.now _ _ _ c.args.recorder.now.lines.items _ c.requires.fresh c.inputs.ensures c.requires.lines
-    tt _ c.finish.result c.in_default.ensures.bytes c.finish.ensures.bytes
-
-pub returns-clause-history : goal.returns-clause-history
-returns-clause-history g c =
-    where_ok _ c.finish.result (run_lockstep {X = ⊤} {E = WriteStop} c.args.script.now c.inputs.result.now c.args.single.now _ _ _ c.args.recorder.now.lines.items _ c.requires.fresh c.inputs.ensures c.requires.lines
-    tt c.in_default.ensures.bytes)
+    records_front c.args.script.now _ _ c.is_accepted.ensures.accepted
+    (subst (λ (text : List ℕ). GainsPrefix (g.K.Sink.held c.args.out.now) (g.K.Sink.held c.begin-begun.new.out) (header text)) (c.as_slice.ensures.value ∙ c.requires.text) c.in-Err.ensures.bytes)

@@ -3,9 +3,9 @@ use Rattle.std.proofs.Common.{◌≡◌, ◌≤◌, ◌++◌, length, take, drop
 use Rattle.std.specs.Prelude.{reverse}
 use Rattle.std.specs.Vec.Iter.{into_iter_items, into_iter_len}
 use Rattle.cc_event.specs.Recordings.{pieces}
+use Rattle.cc_recorder.specs.inner.Parts.{Half}
 use Rattle.cc_recorder.specs.inner.Repeats.{Keeps}
 use Rattle.cc_recorder.specs.inner.Scenes.{AllCome}
-use Rattle.cc_recorder.proofs.Gains.{Half}
 use Rattle.cc_recorder.proofs.recorder.Recorder.write_entries.Given as goal
 
 abbrev pub invariant-loop-at : goal.invariant-loop-at
