@@ -10,7 +10,7 @@ use std::marker::Sync;
 use std::thread::{Threads, join_mut};
 
 /// The least pixels of a part: fewer are packed before a thread has started.
-const LEAST_PIXELS: usize = 524288;
+const LEAST_PIXELS: usize = 196608;
 
 /// Packs the pixels of a row as `pack_run` does, in so many parts at the most, each by a thread of its own where
 /// it can be started. A part has pixels enough to be worth a thread; where there is one part, none is started.

@@ -13,7 +13,7 @@ use std::marker::Sync;
 use std::thread::{Threads, join_mut};
 
 /// The least pixels of a part, counted once for each pass: fewer are drawn before a thread has started.
-const LEAST_PIXELS: usize = 524288;
+const LEAST_PIXELS: usize = 196608;
 
 /// Who draws the pixels of an area.
 pub(crate) trait Hands {
