@@ -1,5 +1,7 @@
 //! Whom the compositor wakes up.
 
+ghost use Rattle.std.specs.Prelude.{◌≡◌};
+
 use crate::playing::Played;
 use cc_core::Core;
 
@@ -33,7 +35,9 @@ impl Wakes {
     /// Finds out whom to wake up after what was played: the main side where a main frame was sent, the workers where
     /// a draw was begun or nothing may be entered, and a tile may start; and all where the run has ended. Most
     /// scrolls are followed by another, which changes again what may start: behind those nobody asks.
-    pub(crate) fn renew(&mut self, played: &Played, core: &Core) {
+    pub(crate) fn renew(&mut self, played: &Played, core: &mut Core)
+        ensures { core.new ≡ core.old }
+    {
         self.main = false;
         self.workers = false;
         match played {
@@ -44,7 +48,9 @@ impl Wakes {
     }
 
     // The same after an event that shows nothing.
-    fn heed(&mut self, core: &Core) {
+    fn heed(&mut self, core: &mut Core)
+        ensures { core.new ≡ core.old }
+    {
         let progress = core.progress();
         let begins = progress.begun != self.begun;
         self.main = progress.has_ended || progress.sends != self.sends;
@@ -53,11 +59,14 @@ impl Wakes {
         self.begun = progress.begun;
     }
 
-    // Whether a tile may start, where anything was entered, by whomever, since this was asked last.
-    fn may_start(&mut self, core: &Core) -> bool {
+    // Whether a tile may start, where anything was entered, by whomever, since this was asked last. Where memory is
+    // refused, one may.
+    fn may_start(&mut self, core: &mut Core) -> bool
+        ensures { core.new ≡ core.old }
+    {
         let entries = core.history().len();
         let anew = entries != self.asked;
         self.asked = entries;
-        anew && core.next_start().is_some()
+        anew && !matches!(core.next_start(), Ok(None))
     }
 }

@@ -1,6 +1,6 @@
 -- What a core keeps stays right with each entry.
 use Rattle.std.proofs.Common.{◌≡◌, ℕ, Bool, true, false, cond, List, [], ◌∷◌, ◌++◌, Some, None, Result, Ok, Err, refl, sym, ◌∙◌, ap, subst}
-use Rattle.std.specs.Prelude.{IfOk, OnOk, OnErr, ⊤}
+use Rattle.std.specs.Prelude.{IfOk, IfSome, OnOk, OnErr, ⊤}
 use Rattle.std.specs.declared.alloc.AllocError.{AllocError}
 use Rattle.cc_sched.specs.declared.kind.Kind.{Kind}
 use Rattle.cc_geom.specs.declared.tile.TileKey.{TileKey}
@@ -16,7 +16,6 @@ use Rattle.cc_event.specs.Tiles.{required, visible_in}
 use Rattle.cc_event.specs.Legal.{Legal}
 use Rattle.cc_event.proofs.BoolFacts.{is_same}
 use Rattle.cc_event.proofs.DueFacts.{entry, at_ready}
-use Rattle.cc_visible.specs.Visible.{visible_keys}
 use Rattle.cc_steps.specs.Events.{send, start, done}
 use Rattle.cc_steps.proofs.TreesAfter.{send_pending}
 use Rattle.cc_log.specs.Runs.{Run, past, with_entry, is_plain, Plays}
@@ -25,16 +24,9 @@ use Rattle.cc_tilemanager.specs.Managers.{Managed, Manages}
 use Rattle.cc_host.specs.Hosts.{HostModel, Hosts}
 use Rattle.cc_core.specs.inner.Cores.{Kept, IsPreparedFor, IsCore}
 
--- nothing is needed where there is no page
-none_needed : (s : ScriptModel) → required s [] ≡ []
-unfolding visible_keys
-none_needed s = refl
-
 -- at the beginning
-pub begin_core : (s : ScriptModel) (host : HostModel) (m : Managed) (needed : List TileKey) → Hosts s [] host → Manages s [] m → needed ≡ []
-    → IsCore s [] (record { host = host; tiles = m; told = []; prepared = None; required = needed })
-begin_core s host m needed hosts holds none =
-    record { host = hosts; tiles = holds; told = λ t k e. absurd cc; prepared = λ t k e. absurd cc; required = none ∙ sym (none_needed s) }
+pub begin_core : (s : ScriptModel) (host : HostModel) (m : Managed) → Hosts s [] host → Manages s [] m → IsCore s [] (record { host = host; tiles = m; told = []; prepared = None; required = None })
+begin_core s host m hosts holds = record { host = hosts; tiles = holds; told = λ t k e. absurd cc; prepared = λ t k e. absurd cc; required = tt }
 
 module _ (kept : Kept) where
   -- a core of a run
@@ -82,7 +74,7 @@ send_core s n h a k ms told kept host legal core hosts holds is = record {
   tiles = holds;
   told = λ t j e. let same : k ≡ j = cc in is ∙ sym (ap (λ b. cond b ms (pulls_of h j)) (is_same k j same));
   prepared = λ t j e. absurd cc;
-  required = core.required ∙ sym (ap (λ t. visible_in t) (send_pending s n h a k ms legal));
+  required = subst (λ needs. IfSome kept.required (λ ks. ks ≡ needs)) (sym (ap (λ t. visible_in t) (send_pending s n h a k ms legal))) core.required;
 }
 
 -- a core whose frame is ready
@@ -95,6 +87,11 @@ ready_core s n h k c kept legal core is = record {
   prepared = λ t j e. let last = (at_ready s n h 1 k legal.1).last in let same : k ≡ j = cc in subst (λ i. IsPreparedFor s (pulls_of h) i c) same is;
   required = core.required;
 }
+
+-- a core with the keys that are needed
+pub with_required : (s : ScriptModel) (h : List Entry) (kept : Kept) (ks : List TileKey) → IsCore s h kept → ks ≡ required s h
+    → IsCore s h (record { host = kept.host; tiles = kept.tiles; told = kept.told; prepared = kept.prepared; required = Some ks })
+with_required s h kept ks core needs = record { host = core.host; tiles = core.tiles; told = core.told; prepared = core.prepared; required = needs }
 
 -- a core with other tiles
 pub with_tiles : (s : ScriptModel) (h : List Entry) (kept : Kept) (m : Managed) → IsCore s h kept → Manages s h m

@@ -11,3 +11,4 @@ pub mod Pictures
 pub mod ActivationSteps
 pub mod CommitSteps
 pub mod QuietAborts
+pub mod StandingHosts

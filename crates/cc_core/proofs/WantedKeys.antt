@@ -1,5 +1,5 @@
--- Wanted ranks are of live keys, and where no commit is pending nothing is needed for an activation.
-use Rattle.std.proofs.Common.{◌≡◌, inl, inr, ℕ, zero, suc, true, List, [], ◌∷◌, filter, take, None, ◌∙◌, ap}
+-- Wanted ranks are of live keys.
+use Rattle.std.proofs.Common.{◌≡◌, inl, inr, ℕ, zero, suc, true, List, [], ◌∷◌, filter, take, ◌∙◌, ap}
 use Rattle.cc_geom.specs.KeyLists.{has_key}
 use Rattle.cc_priority.specs.declared.rank.Rank.{Rank}
 use Rattle.cc_priority.specs.Ranks.{rank_cmp}
@@ -7,18 +7,12 @@ use Rattle.cc_priority.specs.Ordered.{In, in_order}
 use Rattle.cc_priority.proofs.InOrder.{in_filter, in_order_members}
 use Rattle.cc_priority.proofs.Members.{in_filter_map}
 use Rattle.cc_priority.proofs.RankOrders.{rank_order}
-use Rattle.cc_edit.specs.declared.moves.Move.{Move}
 use Rattle.cc_event.specs.declared.history.Entry.{Entry}
 use Rattle.cc_event.specs.Scripts.{ScriptModel}
-use Rattle.cc_event.specs.Legal.{Legal}
-use Rattle.cc_event.specs.Frames.{page, pulls_of, pending, up_to}
-use Rattle.cc_event.specs.Tiles.{pending_tree, live_keys, required}
+use Rattle.cc_event.specs.Tiles.{live_keys}
 use Rattle.cc_event.specs.Ranking.{rank, is_unmade, wanted}
 use Rattle.cc_event.proofs.KeyFacts.{has_in}
 use Rattle.cc_event.proofs.RankFacts.{rank_key, key_of_rank}
-use Rattle.cc_steps.specs.Events.{activate}
-use Rattle.cc_steps.proofs.TreesAfter.{none_is_pending}
-use Rattle.cc_core.proofs.EmptyTrees.{shows_nothing}
 
 wanted_live : (s : ScriptModel) (h : List Entry) (r : Rank) → In r (wanted s h) → has_key (live_keys s h) r.key ≡ true
 wanted_live s h r i =
@@ -36,11 +30,3 @@ in_take x (suc n) (y ∷ ys) (inr i) = inr (in_take x n ys i)
 
 pub upcoming_live : (s : ScriptModel) (h : List Entry) (most : ℕ) (r : Rank) → In r (take most (in_order rank_cmp (wanted s h))) → has_key (live_keys s h) r.key ≡ true
 upcoming_live s h most r i = wanted_live s h r ((in_order_members rank_cmp rank_order (wanted s h)).there r (in_take r most (in_order rank_cmp (wanted s h)) i))
-
--- where no commit is pending
-
-none_required : (s : ScriptModel) (h : List Entry) → pending h ≡ None → required s h ≡ []
-none_required s h e = shows_nothing (pending_tree s h) (ap (λ o. (page s (pulls_of h) (up_to o)).layers) e)
-
-pub activated_needs : (s : ScriptModel) (n : ℕ) (h : List Entry) (a k : ℕ) (ms : List Move) → Legal s n (activate a k ms ∷ h) → required s (activate a k ms ∷ h) ≡ []
-activated_needs s n h a k ms legal = none_required s (activate a k ms ∷ h) (none_is_pending s n h a k ms legal)

@@ -10,7 +10,6 @@ ghost use Rattle.cc_standing.specs.Standings.{Stands};
 ghost use Rattle.cc_log.specs.Runs.{past, now, with_entry};
 
 use crate::core_state::Core;
-use crate::outlooks::enter_seen;
 use cc_event::Event;
 use cc_standing::Standing;
 use std::alloc::AllocError;
@@ -38,11 +37,10 @@ impl Core {
         ensures ok { OnOk result (self.new ≡ with_entry self.old 1 (event.Abort frame)) }
         ensures err { OnErr result (self.new ≡ self.old) }
     {
-        let event = Event::Abort { frame };
-        let next = enter_seen(self.alloc, &mut self.log, &self.host, &standing, 1, event)?;
+        self.log.enter(1, Event::Abort { frame })?;
         self.host.stand(standing);
-        self.tiles.rerank(next.ranks);
-        self.required = next.required;
+        self.tiles.forget();
+        self.required = None;
         Ok(())
     }
 

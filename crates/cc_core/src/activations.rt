@@ -11,6 +11,7 @@ ghost use Rattle.cc_rebuild.specs.Rebuilds.{AreForActivation};
 ghost use Rattle.cc_log.specs.Runs.{past, now, Entered, Plays};
 
 use crate::core_state::Core;
+use crate::outlooks::visible_of;
 use cc_event::{Event, Moves};
 use cc_geom::Keys;
 use cc_rebuild::{Activation, activation_of};
@@ -19,25 +20,60 @@ use cc_standing::Standing;
 use std::alloc::AllocError;
 
 impl Core {
-    // Whether all that the pending tree needs is ready.
-    fn are_required_ready(&self) -> bool
-        ensures { result ≡ are_ready self.now.script (past self.now) (required self.now.script (past self.now)) }
+    // The visible keys of the pending tree. An error is want of memory.
+    fn required_keys(&self) -> Result<Keys, AllocError>
+        ensures { IfOk result (λ keys. keys ≡ required self.now.script (past self.now)) }
     {
-        self.tiles.are_ready(&self.required)
+        let seen = self.host.seen(self.alloc, self.host.standing())?;
+        visible_of(self.alloc, seen.pending.as_ref())
     }
 
-    /// The main frame whose commit may be activated now, if there is one.
-    pub(crate) fn activation_now(&self) -> Option<u32>
-        ensures waits { IfSome result (λ frame. pending (past self.now) ≡ Some frame) }
-        ensures may { is_some result ≡ is_some (now self.now kind.Activate 0) }
+    // Finds what the pending tree needs, and keeps it. The answer is whether all of it is ready; an error is want
+    // of memory.
+    fn find_required(&mut self) -> Result<bool, AllocError>
+        ensures ready { IfOk result (λ ready. ready ≡ are_ready self.old.script (past self.old) (required self.old.script (past self.old))) }
+        ensures same { self.new ≡ self.old }
+    {
+        let required = self.required_keys()?;
+        let ready = self.tiles.are_ready(&required);
+        self.required = Some(required);
+        Ok(ready)
+    }
+
+    // Whether all that the pending tree needs is ready. An error is want of memory.
+    fn are_required_ready(&mut self) -> Result<bool, AllocError>
+        ensures ready { IfOk result (λ ready. ready ≡ are_ready self.old.script (past self.old) (required self.old.script (past self.old))) }
+        ensures same { self.new ≡ self.old }
+    {
+        match &self.required {
+            Some(required) => Ok(self.tiles.are_ready(required)),
+            None => self.find_required(),
+        }
+    }
+
+    /// The main frame whose commit may be activated now, if there is one. An error is want of memory; the run
+    /// stays in any case.
+    pub(crate) fn activation_now(&mut self) -> Result<Option<u32>, AllocError>
+        ensures waits { IfOk result (λ found. IfSome found (λ frame. pending (past self.old) ≡ Some frame)) }
+        ensures may { IfOk result (λ found. is_some found ≡ is_some (now self.old kind.Activate 0)) }
+        ensures same { self.new ≡ self.old }
     {
         let open = self.log.is_open(Kind::Activate);
-        let ready = self.are_required_ready();
-        if open && ready {
-            self.log.progress().pending
+        let pending = self.log.progress().pending;
+        if open && pending.is_some() && self.are_required_ready()? {
+            Ok(pending)
         } else {
-            None
+            Ok(None)
         }
+    }
+
+    /// Whether the pending commit may be activated now. An error is want of memory; the run stays in any case.
+    pub(crate) fn may_activate(&mut self) -> Result<bool, AllocError>
+        ensures may { IfOk result (λ may. may ≡ is_some (now self.old kind.Activate 0)) }
+        ensures same { self.new ≡ self.old }
+    {
+        let frame = self.activation_now()?;
+        Ok(frame.is_some())
     }
 
     // What the activation of the pending tree brings to the tiles. An error is want of memory.
@@ -53,11 +89,12 @@ impl Core {
         let Some(pending) = seen.pending.as_ref() else {
             unreachable!()
         };
+        let required = visible_of(self.alloc, Some(pending))?;
         activation_of(
             self.alloc,
             self.log.script(),
             pending,
-            &self.required,
+            &required,
             &self.tiles,
         )
     }
@@ -102,7 +139,7 @@ impl Core {
         let Activation { pins, live, ranks } = next;
         self.host.activate(standing);
         self.tiles.activate(pins, &live, ranks);
-        self.required = Keys::new(self.alloc);
+        self.required = None;
         Ok(())
     }
 
@@ -112,7 +149,7 @@ impl Core {
         ensures plays { IfOk result (λ played. Plays self.old kind.Activate 0 self.new played) }
         ensures err { OnErr result (self.new ≡ self.old) }
     {
-        match self.activation_now() {
+        match self.activation_now()? {
             None => Ok(false),
             Some(frame) => {
                 self.enter_activation(frame)?;

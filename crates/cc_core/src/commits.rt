@@ -14,7 +14,6 @@ ghost use Rattle.cc_core.specs.inner.Cores.{IsPrepared};
 ghost use Rattle.cc_core.specs.inner.Pushes.{PushesNow};
 
 use crate::core_state::Core;
-use crate::outlooks::enter_seen;
 use cc_event::{Commit, Event, Script};
 use cc_host::ImplHost;
 use cc_sched::Kind;
@@ -71,19 +70,10 @@ impl Core {
             frame,
             &self.prepared,
         )?;
-        let event = Event::Commit { frame };
-        let entered = enter_seen(
-            self.alloc,
-            &mut self.log,
-            &self.host,
-            self.host.standing(),
-            0,
-            event,
-        );
-        match entered {
-            Ok(next) => {
-                self.tiles.rerank(next.ranks);
-                self.required = next.required;
+        match self.log.enter(0, Event::Commit { frame }) {
+            Ok(()) => {
+                self.tiles.forget();
+                self.required = None;
                 Ok(())
             }
             Err(refused) => {

@@ -16,6 +16,7 @@ ghost use Rattle.cc_event.specs.Tiles.{used};
 ghost use Rattle.cc_core.specs.Replies as replies;
 ghost use Rattle.cc_core.specs.Replies.{next_key, told_frame, is_played};
 
+use crate::outlooks::look;
 use cc_event::{Commit, Event, History, Moves, Script};
 use cc_geom::{Keys, TileKey};
 use cc_host::ImplHost;
@@ -38,8 +39,8 @@ pub struct Core {
     pub(crate) told: Moves,
     // the commit of the frame in flight, once it is ready
     pub(crate) prepared: Option<Commit>,
-    // the visible keys of the pending tree, which an activation needs
-    pub(crate) required: Keys,
+    // the visible keys of the pending tree, which an activation needs, once they were asked for
+    pub(crate) required: Option<Keys>,
     pub(crate) alloc: Global,
 }
 
@@ -95,7 +96,7 @@ impl Core {
             tiles,
             told: Moves::new(alloc),
             prepared: None,
-            required: Keys::new(alloc),
+            required: None,
             alloc,
         })
     }
@@ -203,28 +204,33 @@ impl Core {
         }
     }
 
-    /// The key that starts next; None exactly where the run has ended or none may start. Takes no memory.
-    pub fn next_start(&self) -> Option<TileKey>
-        ensures { result ≡ next_key self.now }
+    /// The key that starts next; None exactly where the run has ended or none may start. An error is want of
+    /// memory; the run stays in any case.
+    pub fn next_start(&mut self) -> Result<Option<TileKey>, AllocError>
+        ensures key { IfOk result (λ key. key ≡ next_key self.old) }
+        ensures same { self.new ≡ self.old }
     {
-        if self.ended() { None } else { self.first() }
+        if self.ended() { Ok(None) } else { self.first() }
     }
 
     /// The key of the tile that is to be made first, whether or not the run has ended; None exactly where none
-    /// is to be made or no room can be made for one.
-    pub fn first(&self) -> Option<TileKey>
-        ensures { result ≡ option_map rank_key (first self.now.script (past self.now)) }
+    /// is to be made or no room can be made for one. An error is want of memory; the run stays in any case.
+    pub fn first(&mut self) -> Result<Option<TileKey>, AllocError>
+        ensures key { IfOk result (λ key. key ≡ option_map rank_key (first self.old.script (past self.old))) }
+        ensures same { self.new ≡ self.old }
     {
         self.log.is_legal();
-        self.tiles.next_start()
+        look(self.alloc, self.log.script(), &self.host, &mut self.tiles)?;
+        Ok(self.tiles.next_start())
     }
 
-    /// Makes the raster queue, where there are ranks alone, so that the next question for a key costs less. An
-    /// error is want of memory; the run stays in any case.
+    /// Makes the raster queue, so that the next questions for a key cost less. An error is want of memory; the
+    /// run stays in any case.
     pub(crate) fn refresh(&mut self) -> Result<(), AllocError>
         ensures { self.new ≡ self.old }
     {
         self.log.is_legal();
+        look(self.alloc, self.log.script(), &self.host, &mut self.tiles)?;
         self.tiles.refresh()
     }
 }

@@ -4,6 +4,9 @@
 //! their scrollers stand, the tiles with the raster queue, what the main side was told, the commit that it
 //! made ready, and the keys that the pending tree needs. Its calls take all their memory before they enter
 //! their event, and step the rest after it, so that after want of memory a core is as it was.
+//!
+//! Where a tree has moved, the ranks of its tiles and the keys that it needs are looked for once somebody asks:
+//! most scrolls are followed by another before that.
 #![tactic(auto)]
 
 mod aborts;

@@ -1,32 +1,21 @@
-//! What there is to choose from, and what the pending tree needs, once an event has come.
+//! What there is to choose from, which is looked for once it is asked.
 
-ghost use Rattle.std.specs.Prelude.{◌≡◌, List, IfOk, OnOk, OnErr, option_copied};
+ghost use Rattle.std.specs.Prelude.{◌≡◌, true, List, IfOk, OnOk, option_copied};
 ghost use Rattle.cc_event.specs.declared.history.Entry.{Entry};
 ghost use Rattle.cc_event.specs.Scripts.{ScriptModel};
 ghost use Rattle.cc_event.specs.Tiles.{Tree, visible_in};
 ghost use Rattle.cc_ranks.specs.SeenTrees.{IsSeenWhere};
-ghost use Rattle.cc_host.specs.Hosts.{Hosts, with_standing};
-ghost use Rattle.cc_log.specs.Runs.{with_entry};
-ghost use Rattle.cc_core.specs.inner.Outlooks.{LooksNow, IsOutlook, IsOutlookAfter, EntersNow};
+ghost use Rattle.cc_tilemanager.specs.Managers.{Manages, is_seen};
+ghost use Rattle.cc_host.specs.Hosts.{Hosts};
+ghost use Rattle.cc_core.specs.inner.Outlooks.{LooksNow};
 
-use cc_event::{Event, Script};
+use cc_event::Script;
 use cc_geom::Keys;
 use cc_host::ImplHost;
-use cc_log::Log;
 use cc_ranks::SeenTree;
 use cc_rebuild::reranked;
-use cc_standing::Standing;
-use cc_tilemanager::Ranks;
+use cc_tilemanager::TileManager;
 use std::alloc::{AllocError, Global};
-
-/// What there is to choose from after a past, and what the pending tree needs then.
-#[derive(Drop)]
-pub(crate) struct Outlook {
-    /// the ranks of what there is to choose from
-    pub(crate) ranks: Ranks,
-    /// the visible keys of the pending tree
-    pub(crate) required: Keys,
-}
 
 /// The keys of the visible tiles of a tree; none where there is no tree.
 #[tactic(auto, unfolding(cc_visible::specs::Visible::visible_keys))]
@@ -39,37 +28,23 @@ pub(crate) fn visible_of(alloc: Global, tree: Option<&SeenTree<'_>>) -> Result<K
     }
 }
 
-/// The outlook for a past, in which the trees of the host stand so. An error is want of memory.
-fn outlook_of(
+/// Looks where the trees of the host stand, where that was not done since they were moved, and gives the tiles
+/// their ranks. An error is want of memory, and the tiles are as they were.
+pub(crate) fn look(
     alloc: Global,
     script: &Script,
     host: &ImplHost,
-    standing: &Standing,
-) -> Result<Outlook, AllocError>
-    requires { LooksNow script.now host.now standing.now }
-    ensures { IfOk result (λ all. (s : ScriptModel) (h : List Entry) → script.now ≡ s → Hosts s h (with_standing host.now standing.now) → IsOutlook s h all.ranks all.required) }
+    tiles: &mut TileManager,
+) -> Result<(), AllocError>
+    requires { LooksNow script.now host.now }
+    ensures seen { OnOk result (is_seen tiles.new.outlook ≡ true) }
+    ensures same { (s : ScriptModel) (h : List Entry) → script.now ≡ s → Hosts s h host.now → Manages s h tiles.old → Manages s h tiles.new }
 {
-    let seen = host.seen(alloc, standing)?;
-    let required = visible_of(alloc, seen.pending.as_ref())?;
+    if tiles.is_seen() {
+        return Ok(());
+    }
+    let seen = host.seen(alloc, host.standing())?;
     let ranks = reranked(alloc, script, seen.active.as_ref(), seen.pending.as_ref())?;
-    Ok(Outlook { ranks, required })
-}
-
-/// Takes the memory for the time after an event, in which the trees of the host stand so, and enters the event. An error is want of memory, and nothing was entered.
-pub(crate) fn enter_seen(
-    alloc: Global,
-    log: &mut Log,
-    host: &ImplHost,
-    standing: &Standing,
-    actor: u32,
-    event: Event,
-) -> Result<Outlook, AllocError>
-    requires { EntersNow log.old actor event host.now standing.now }
-    ensures outlook { IfOk result (λ next. IsOutlookAfter log.old actor event next.ranks next.required) }
-    ensures entered { OnOk result (log.new ≡ with_entry log.old actor event) }
-    ensures err { OnErr result (log.new ≡ log.old) }
-{
-    let next = outlook_of(alloc, log.script(), host, standing)?;
-    log.enter(actor, event)?;
-    Ok(next)
+    tiles.rerank(ranks);
+    Ok(())
 }

@@ -33,17 +33,27 @@ impl Core {
         self.enter_plain(kind)
     }
 
-    /// Whether the end of a settle may come now.
-    pub(crate) fn may_settle(&self) -> bool
-        ensures { result ≡ is_some (now self.now kind.Settle 0) }
+    /// Whether an event of a plain kind may come now.
+    pub fn may_plain(&self, kind: Kind) -> bool
+        requires { is_plain kind ≡ true }
+        ensures { result ≡ is_some (now self.now kind 0) }
+    {
+        self.log.plain_now(kind).is_some()
+    }
+
+    /// Whether the end of a settle may come now. An error is want of memory; the run stays in any case.
+    pub(crate) fn may_settle(&mut self) -> Result<bool, AllocError>
+        ensures may { IfOk result (λ may. may ≡ is_some (now self.old kind.Settle 0)) }
+        ensures same { self.new ≡ self.old }
     {
         let open = self.log.is_open(Kind::Settle);
         let asked = self.log.input_now() == Some(Input::Settle);
         let landed = self.log.progress().in_flight == 0;
-        let none = self.first().is_none();
-        let now = open && asked;
-        let settled = landed && none;
-        now && settled
+        if open && asked && landed {
+            Ok(self.first()?.is_none())
+        } else {
+            Ok(false)
+        }
     }
 
     /// Enters the end of a settle, where the next input is one and no tile is left to make, and answers
@@ -52,7 +62,7 @@ impl Core {
         ensures plays { IfOk result (λ played. Plays self.old kind.Settle 0 self.new played) }
         ensures err { OnErr result (self.new ≡ self.old) }
     {
-        if self.may_settle() {
+        if self.may_settle()? {
             let input = self.log.next_input();
             self.log.enter(0, Event::Settle { input })?;
             Ok(true)

@@ -71,20 +71,22 @@ impl Core {
         }
     }
 
-    /// Whether an event of this kind of the compositor may come now.
-    pub fn may(&self, kind: Kind) -> bool
+    /// Whether an event of this kind of the compositor may come now. An error is want of memory; the run stays
+    /// in any case.
+    pub fn may(&mut self, kind: Kind) -> Result<bool, AllocError>
         requires { is_own kind ≡ true }
-        ensures { result ≡ is_some (now self.now kind 0) }
+        ensures may { IfOk result (λ may. may ≡ is_some (now self.old kind 0)) }
+        ensures same { self.new ≡ self.old }
     {
         match kind {
-            Kind::Send => self.may_send(),
-            Kind::Commit => self.commit_now().is_some(),
-            Kind::Activate => self.activation_now().is_some(),
-            Kind::Scroll => self.may_scroll(),
-            Kind::Wheel => self.may_wheel(),
-            Kind::Draw => self.draw_now().is_some(),
+            Kind::Send => Ok(self.may_send()),
+            Kind::Commit => Ok(self.commit_now().is_some()),
+            Kind::Activate => self.may_activate(),
+            Kind::Scroll => Ok(self.may_scroll()),
+            Kind::Wheel => Ok(self.may_wheel()),
+            Kind::Draw => Ok(self.draw_now().is_some()),
             Kind::Settle => self.may_settle(),
-            _ => self.log.plain_now(kind).is_some(),
+            _ => Ok(self.may_plain(kind)),
         }
     }
 }

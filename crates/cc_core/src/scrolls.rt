@@ -9,7 +9,6 @@ ghost use Rattle.cc_event.specs.Legal as legal;
 ghost use Rattle.cc_log.specs.Runs.{past, now, Entered, Plays};
 
 use crate::core_state::Core;
-use crate::outlooks::enter_seen;
 use cc_edit::Move;
 use cc_event::{Event, Input};
 use cc_geom::Point;
@@ -74,10 +73,10 @@ impl Core {
         let standing = self.host.standing().moved(self.alloc, pages, &moves)?;
         let input = self.log.next_input();
         let event = scroll_event(input, taken);
-        let next = enter_seen(self.alloc, &mut self.log, &self.host, &standing, 0, event)?;
+        self.log.enter(0, event)?;
         self.host.stand(standing);
-        self.tiles.rerank(next.ranks);
-        self.required = next.required;
+        self.tiles.forget();
+        self.required = None;
         Ok(())
     }
 

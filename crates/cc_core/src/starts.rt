@@ -6,6 +6,7 @@ ghost use Rattle.cc_log.specs.Runs.{past};
 ghost use Rattle.cc_core.specs.Replies.{next_key, StartsKey, Starts};
 
 use crate::core_state::Core;
+use crate::outlooks::look;
 use cc_event::Event;
 use cc_geom::TileKey;
 use cc_raster::Job;
@@ -21,6 +22,7 @@ impl Core {
         ensures err { OnErr result (self.new ≡ self.old) }
     {
         self.log.is_legal();
+        look(self.alloc, self.log.script(), &self.host, &mut self.tiles)?;
         let evicted = self.tiles.evicted(key)?;
         let given_up = evicted.copy()?;
         self.tiles.reserve()?;
@@ -42,7 +44,7 @@ impl Core {
         ensures starts { IfOk result (λ job. Starts self.old worker self.new job) }
         ensures err { OnErr result (self.new ≡ self.old) }
     {
-        match self.next_start() {
+        match self.next_start()? {
             None => Ok(None),
             Some(key) => {
                 let job = self.live_job(key)?;

@@ -9,7 +9,6 @@ ghost use Rattle.cc_event.specs.Legal as legal;
 ghost use Rattle.cc_log.specs.Runs.{past, now, Entered, Plays};
 
 use crate::core_state::Core;
-use crate::outlooks::enter_seen;
 use cc_event::{Event, Input, Moves};
 use cc_geom::Point;
 use cc_sched::Kind;
@@ -61,10 +60,10 @@ impl Core {
             .moved(self.alloc, pages, moves.as_slice())?;
         let input = self.log.next_input();
         let event = wheel_event(input, wheel.target, wheel.rest, moves);
-        let next = enter_seen(self.alloc, &mut self.log, &self.host, &standing, 0, event)?;
+        self.log.enter(0, event)?;
         self.host.stand(standing);
-        self.tiles.rerank(next.ranks);
-        self.required = next.required;
+        self.tiles.forget();
+        self.required = None;
         Ok(())
     }
 

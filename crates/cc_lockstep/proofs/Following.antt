@@ -275,6 +275,12 @@ then_on_ok (Err e) P Q h f = tt
 pub refused : (P : Way) (r m : Run) → ((s : ScriptModel) → Grows (P s)) → CanFollow P r → m ≡ r → IsOnWay P r m
 refused P r m grows c e = on_same P r r m e (begun P r grows c)
 
+-- it is left between two turns
+pub left_between : (W R : Way) (first now mid : Run) → ((s : ScriptModel) → Grows (R s)) → TurnsOf W R first now → mid ≡ now → IsOnWay W first mid
+left_between W R first now mid grows x e =
+    let more = grows first.script now.past x.end x.way in
+    on_same W first now mid e (record { same = x.same; written = x.written; end = x.end; way = x.leads x.end x.way; newer = more.0; beginning = more.1 })
+
 -- the last event was refused
 pub last_refused : (P : Way) (k : Kind) (a : ℕ) (r m n : Run) → ((s : ScriptModel) → Good s (P s)) → CanFollow (then' P (entering k a)) r → Follows P r m → n ≡ m → IsOnWay (then' P (entering k a)) r n
 last_refused P k a r m n good c f e = left_in_rest P (entering k a) r m n f (refused (entering k a) m n (λ s. enters s k a) (rest P (entering k a) r m good c f) e)

@@ -36,9 +36,10 @@ pub trait Compositor {
         requires { actor_for kind ≡ Some actor }
         ensures { Entered kind actor (run self.old) (run self.new) result };
 
-    /// Whether the pending commit can be activated.
-    fn can_activate(&self) -> bool
-        ensures { result ≡ is_possible (run self.now).script kind.Activate 0 (run self.now).past };
+    /// Whether the pending commit can be activated. An error is want of memory. Nothing is entered.
+    fn can_activate(&mut self) -> Result<bool, AllocError>
+        ensures same { run self.new ≡ run self.old }
+        ensures answer { IfOk result (λ answer. answer ≡ is_possible (run self.old).script kind.Activate 0 (run self.old).past) };
 
     /// Whether the next input is an await that is over.
     fn can_await(&self) -> bool
@@ -48,9 +49,10 @@ pub trait Compositor {
     fn waits(&self) -> bool
         ensures { result ≡ is_waiting (run self.now).past };
 
-    /// Whether a tile may start.
-    fn has_first(&self) -> bool
-        ensures { result ≡ is_tile_first (run self.now).script (run self.now).past };
+    /// Whether a tile may start. An error is want of memory. Nothing is entered.
+    fn has_first(&mut self) -> Result<bool, AllocError>
+        ensures same { run self.new ≡ run self.old }
+        ensures answer { IfOk result (λ answer. answer ≡ is_tile_first (run self.old).script (run self.old).past) };
 
     /// Whether a main frame is left to be sent.
     fn is_left(&self) -> bool

@@ -39,7 +39,7 @@ fn activate_where<C: Compositor>(core: &mut C) -> Result<(), AllocError>
     ensures ok { OnOk result (Follows activation_now (C.run core.old) (C.run core.new)) }
     ensures err { OnErr result (IsOnWay activation_now (C.run core.old) (C.run core.new)) }
 {
-    if core.can_activate() {
+    if core.can_activate()? {
         enter(core, Kind::Activate, 0)
     } else {
         Ok(())

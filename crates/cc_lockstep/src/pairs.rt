@@ -52,7 +52,7 @@ pub(crate) fn pairs_until_activation<R: Threads + Sync, C: Compositor>(
     ensures ok { OnOk result (Follows pairs_to_activation (C.run core.old) (C.run core.new)) }
     ensures err { OnErr result (IsOnWay pairs_to_activation (C.run core.old) (C.run core.new)) }
 {
-    while !core.can_activate() {
+    while !core.can_activate()? {
         pair(rt, core)?;
     }
     Ok(())
@@ -67,7 +67,7 @@ pub(crate) fn make_all<R: Threads + Sync, C: Compositor>(
     ensures ok { OnOk result (Follows all_pairs (C.run core.old) (C.run core.new)) }
     ensures err { OnErr result (IsOnWay all_pairs (C.run core.old) (C.run core.new)) }
 {
-    while core.has_first() {
+    while core.has_first()? {
         pair(rt, core)?;
     }
     Ok(())
@@ -84,7 +84,7 @@ pub(crate) fn make_some<R: Threads + Sync, C: Compositor>(
     ensures err { OnErr result (IsOnWay (pairs_at_most most) (C.run core.old) (C.run core.new)) }
 {
     let mut left = most;
-    while left > 0 && core.has_first() {
+    while left > 0 && core.has_first()? {
         pair(rt, core)?;
         left -= 1;
     }

@@ -3,11 +3,11 @@
 //!
 //! A start or its end changes a queue a little, which `cc_rasterq` does in place. What moves or exchanges a
 //! tree (a scroll, a wheel, an abort, a commit, an activation) changes the ranks of all its tiles: then they
-//! are made anew. The ranks are those near the viewports alone, so the work grows with the tiles near the
+//! are to be made anew. The ranks are those near the viewports alone, so the work grows with the tiles near the
 //! viewports, not with the size of the layers.
 //!
-//! Ranks are made before their event is entered and handed to the tile manager after it: making them takes
-//! memory, handing them over takes none.
+//! Making ranks takes memory, handing them to the tile manager takes none. Those of an activation are made before
+//! it is entered, and handed over after it.
 #![tactic(auto)]
 
 mod activations;

@@ -16,20 +16,20 @@ impl Compositor for SingleThread {
         SingleThread::enter(self, kind, actor)
     }
 
-    fn can_activate(&self) -> bool {
+    fn can_activate(&mut self) -> Result<bool, AllocError> {
         self.core.may(Kind::Activate)
     }
 
     fn can_await(&self) -> bool {
-        self.core.may(Kind::Await)
+        self.core.may_plain(Kind::Await)
     }
 
     fn waits(&self) -> bool {
         self.core.progress().pending.is_some()
     }
 
-    fn has_first(&self) -> bool {
-        self.core.first().is_some()
+    fn has_first(&mut self) -> Result<bool, AllocError> {
+        Ok(self.core.first()?.is_some())
     }
 
     fn is_left(&self) -> bool {

@@ -130,13 +130,14 @@ impl Prepared {
         &mut self,
         rt: &R,
         alloc: Global,
-        core: &Core,
+        core: &mut Core,
     ) -> Result<(), AllocError>
-        requires workers { (1 ≤ core.now.workers) × (core.now.workers ≤ 16) }
-        requires stands { ArePrepared core.now.script self.old.images.items }
-        ensures { ArePrepared core.now.script self.new.images.items }
+        requires workers { (1 ≤ core.old.workers) × (core.old.workers ≤ 16) }
+        requires stands { ArePrepared core.old.script self.old.images.items }
+        ensures stands { ArePrepared core.old.script self.new.images.items }
+        ensures same { core.new ≡ core.old }
     {
-        let Some(key) = core.next_start() else {
+        let Some(key) = core.next_start()? else {
             return Ok(());
         };
         if self.place_of(key).is_some() {

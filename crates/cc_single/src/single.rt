@@ -2,6 +2,7 @@
 
 ghost use Rattle.std.specs.Prelude.{◌≡◌, ◌≤◌, ◌-◌, length, IfOk};
 ghost use Rattle.cc_log.specs.Runs.{new_run, past};
+ghost use Rattle.cc_core.specs.Replies.{AreUpcoming};
 ghost use Rattle.cc_single.specs.Singles.{AreScenes};
 
 use crate::main_side::MainSide;
@@ -9,6 +10,7 @@ use crate::shown::Shown;
 use crate::workers::Workers;
 use cc_core::Core;
 use cc_event::{History, Script};
+use cc_raster::Job;
 use cc_scene::Scene;
 use std::alloc::{AllocError, Global};
 use std::marker::Model;
@@ -98,13 +100,21 @@ impl SingleThread {
         self.shown.written
     }
 
+    /// The jobs of the first `most` keys that are to be made, as the core tells them. An error is want of memory.
+    pub fn upcoming(&mut self, most: u32) -> Result<Vec<Job>, AllocError>
+        ensures upcoming { IfOk result (λ jobs. AreUpcoming self.old.run most jobs.items) }
+        ensures same { self.new ≡ self.old }
+    {
+        self.core.upcoming(most)
+    }
+
     /// Makes the images of the tiles that come next, in as many threads as there are workers. Nothing is entered:
     /// the ends of those tiles use them. An error is want of memory.
     pub fn prepare<R: Threads + Sync>(&mut self, rt: &R) -> Result<(), AllocError>
         ensures { self.new ≡ self.old }
     {
         let alloc = self.workers.alloc;
-        self.workers.prepared.prepare(rt, alloc, &self.core)
+        self.workers.prepared.prepare(rt, alloc, &mut self.core)
     }
 
     // There is a worker. A law that does nothing when it runs.

@@ -29,7 +29,7 @@ use Rattle.cc_steps.proofs.SameKeys.{rebuilt_alike}
 use Rattle.cc_tilemanager.specs.declared.outlook.Outlook.{Outlook}
 use Rattle.cc_tilemanager.specs.declared.outlook.Outlook.TheVariants as outlook
 use Rattle.cc_tilemanager.specs.Choices.{Ranked, is_missing, tile_among, choice_among}
-use Rattle.cc_tilemanager.specs.Managers.{Managed, Manages, AreRanksAt, live_ranks, Foresees, foreseen}
+use Rattle.cc_tilemanager.specs.Managers.{Managed, Manages, AreRanksAt, live_ranks, Foresees, foreseen, is_seen}
 use Rattle.cc_tilemanager.proofs.RankedKeys.{rank_is}
 use Rattle.cc_tilemanager.proofs.ReadyKeys.{keys_once, keys_ready}
 
@@ -110,9 +110,11 @@ module _ (s : ScriptModel) (n : ℕ) (h : List Entry) (legal : Legal s n h) (m :
         (λ i. record { wanted = missing_ranks m.store r.ranks; ready = map (sym tiles_are i) kept; in_flight = sym flying i; budget = sym are.budget_is i })
         here
 
-  pub foreseen_alike : Alike (foreseen m.store m.pinned m.outlook) (choice s h)
-  foreseen_alike = by_outlook m.outlook holds.outlook
+  -- what is foreseen is it, where it was looked
+  pub foreseen_alike : is_seen m.outlook ≡ true → Alike (foreseen m.store m.pinned m.outlook) (choice s h)
+  foreseen_alike seen = by_outlook m.outlook seen holds.outlook
     where
-      by_outlook : (o : Outlook) → Foresees o (choice s h) (live_ranks s h) → Alike (foreseen m.store m.pinned o) (choice s h)
-      by_outlook (outlook.Queue queue) f = f
-      by_outlook (outlook.Ranks r) f = among_alike r f
+      by_outlook : (o : Outlook) → is_seen o ≡ true → Foresees o (choice s h) (live_ranks s h) → Alike (foreseen m.store m.pinned o) (choice s h)
+      by_outlook (outlook.Queue queue) seen f = f
+      by_outlook (outlook.Ranks r) seen f = among_alike r f
+      by_outlook outlook.Unseen seen f = absurd cc

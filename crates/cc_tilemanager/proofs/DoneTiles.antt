@@ -95,6 +95,7 @@ module _ (s : ScriptModel) (n : ℕ) (h : List Entry) (a w : ℕ) (i : Image) (l
       by_outlook : (o : Outlook) → Foresees o (choice s h) (live_ranks s h) → MayFinish o tile
       by_outlook (outlook.Queue queue) f = (some_flies queue f, new_tile queue f tile e)
       by_outlook (outlook.Ranks r) f = tt
+      by_outlook outlook.Unseen f = tt
 
   outlook_then : (next : Outlook) → HasFinished m.outlook (tile_made s h key) next → Foresees next (choice s (done a w key ∷ h)) (live_ranks s (done a w key ∷ h))
   outlook_then next = by_outlook m.outlook holds.outlook next
@@ -102,7 +103,9 @@ module _ (s : ScriptModel) (n : ℕ) (h : List Entry) (a w : ℕ) (i : Image) (l
       by_outlook : (o : Outlook) → Foresees o (choice s h) (live_ranks s h) → (next : Outlook) → HasFinished o (tile_made s h key) next → Foresees next (choice s (done a w key ∷ h)) (live_ranks s (done a w key ∷ h))
       by_outlook (outlook.Queue queue) f (outlook.Queue d) same = finished_then queue f (has_key (live_keys s h) key) refl d same
       by_outlook (outlook.Queue queue) f (outlook.Ranks r) same = absurd same
+      by_outlook (outlook.Queue queue) f outlook.Unseen same = absurd same
       by_outlook (outlook.Ranks r) f next same = subst (λ o. Foresees o (choice s (done a w key ∷ h)) (live_ranks s (done a w key ∷ h))) (sym same) (record { members = f.members; budget_is = f.budget_is })
+      by_outlook outlook.Unseen f next same = subst (λ o. Foresees o (choice s (done a w key ∷ h)) (live_ranks s (done a w key ∷ h))) (sym same) tt
 
   -- after it
 

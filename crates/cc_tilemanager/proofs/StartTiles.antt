@@ -59,6 +59,7 @@ module _ (s : ScriptModel) (n : ℕ) (h : List Entry) (a w : ℕ) (q : TileKey) 
       by_outlook : (o : Outlook) → Foresees o (choice s h) (live_ranks s h) → MayStartNext o q ks
       by_outlook (outlook.Queue queue) f = may_start_with queue f
       by_outlook (outlook.Ranks r) f = tt
+      by_outlook outlook.Unseen f = tt
 
   outlook_then : (next : Outlook) → HasStarted m.outlook q ks next → Foresees next (choice s (start a w q ks ∷ h)) (live_ranks s (start a w q ks ∷ h))
   outlook_then next = by_outlook m.outlook holds.outlook next
@@ -66,7 +67,9 @@ module _ (s : ScriptModel) (n : ℕ) (h : List Entry) (a w : ℕ) (q : TileKey) 
       by_outlook : (o : Outlook) → Foresees o (choice s h) (live_ranks s h) → (next : Outlook) → HasStarted o q ks next → Foresees next (choice s (start a w q ks ∷ h)) (live_ranks s (start a w q ks ∷ h))
       by_outlook (outlook.Queue queue) f (outlook.Queue d) same = queue_then queue f d same
       by_outlook (outlook.Queue queue) f (outlook.Ranks r) same = absurd same
+      by_outlook (outlook.Queue queue) f outlook.Unseen same = absurd same
       by_outlook (outlook.Ranks r) f next same = subst (λ o. Foresees o (choice s (start a w q ks ∷ h)) (live_ranks s (start a w q ks ∷ h))) (sym same) (record { members = f.members; budget_is = f.budget_is })
+      by_outlook outlook.Unseen f next same = subst (λ o. Foresees o (choice s (start a w q ks ∷ h)) (live_ranks s (start a w q ks ∷ h))) (sym same) tt
 
   pub start_holds : (spare : ℕ) (next : Outlook) → HasStarted m.outlook q ks next → Manages s (start a w q ks ∷ h) (record { store = stores.started m.store q ks spare; pinned = m.pinned; outlook = next })
   start_holds spare next same = record {

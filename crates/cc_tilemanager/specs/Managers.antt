@@ -1,5 +1,5 @@
 -- What contracts see of a tile manager, and when it stands for the tiles of a run.
-use Rattle.std.specs.Prelude.{◌≡◌, ℕ, false, cond, Option, Some, None, List, ◌∷◌, filter_map, refl}
+use Rattle.std.specs.Prelude.{◌≡◌, ⊤, ℕ, Bool, true, false, cond, Option, Some, None, List, [], ◌∷◌, filter_map, refl}
 use Rattle.std.specs.Coded.{Coded, code_by, coded×}
 use Rattle.cc_geom.specs.declared.tile.TileKey.{TileKey}
 use Rattle.cc_geom.specs.KeyLists.{has_key}
@@ -21,7 +21,7 @@ use Rattle.cc_tilemanager.specs.Choices.{Ranked, choice_among}
 use Rattle.cc_tilemanager.specs.declared.outlook.Outlook.{Outlook}
 use Rattle.cc_tilemanager.specs.declared.outlook.Outlook.TheVariants as outlook
 
--- the store of the tiles, the pinned keys, and what tells the next tile: a queue, or the ranks of which one is to be made
+-- the store of the tiles, the pinned keys, and what tells the next tile: a queue, or the ranks of which one is to be made, or nothing yet
 pub record Managed : Type 0 where
   pub store : Store
   pub pinned : List TileKey
@@ -50,17 +50,28 @@ pub record AreRanks (r : Ranked) (live : List Rank) (budget : ℕ) : Type 0 wher
 abbrev pub AreRanksAt : ScriptModel → List Entry → Ranked → Type 0
 AreRanksAt s h r = AreRanks r (live_ranks s h) s.budget
 
--- the queue is for this choice, or a queue is to be made of these ranks
+-- it was looked what there is to choose from
+abbrev pub is_seen : Outlook → Bool
+is_seen outlook.Unseen = false
+is_seen _ = true
+
+-- the queue is for this choice, or a queue is to be made of these ranks; nothing is told where it was not looked
 abbrev pub Foresees : Outlook → Choice → List Rank → Type 0
 Foresees (outlook.Queue queue) c live = Alike queue c
 Foresees (outlook.Ranks ranks) c live = AreRanks ranks live c.budget
+Foresees outlook.Unseen c live = ⊤
+
+-- nothing to choose from
+abbrev pub nothing : Choice
+nothing = record { wanted = []; ready = []; in_flight = 0; budget = 0 }
 
 -- what there is to choose from by an outlook, a store and pinned keys
 abbrev pub foreseen : Store → List TileKey → Outlook → Choice
 foreseen store pins (outlook.Queue queue) = queue
 foreseen store pins (outlook.Ranks ranks) = choice_among store pins ranks
+foreseen store pins outlook.Unseen = nothing
 
--- the manager has an image that shows it for each of the ready keys, these keys in flight and pinned, and a queue for this choice, or the ranks of the live keys of which it is to be made
+-- the manager has an image that shows it for each of the ready keys, these keys in flight and pinned, and a queue for this choice, or the ranks of the live keys of which it is to be made, where it was looked
 pub record HoldsTiles (s : ScriptModel) (m : Managed) (made flying pins : List TileKey) (c : Choice) (live : List Rank) : Type 0 where
   pub ready : (q : TileKey) → is_ready m.store q ≡ has_key made q
   pub in_flight : (q : TileKey) → is_in_flight m.store q ≡ has_key flying q

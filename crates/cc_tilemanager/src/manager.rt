@@ -19,7 +19,7 @@ ghost use Rattle.cc_event.specs.Tiles.{pending_tree, keys_of, used, ready, requi
 ghost use Rattle.cc_event.specs.Ranking.{first, evicted_for, wanted};
 ghost use Rattle.cc_steps.specs.Events.{start, done, activate};
 ghost use Rattle.cc_steps.specs.ShownKeys.{Shows};
-ghost use Rattle.cc_tilemanager.specs.Managers.{Manages, StartsNow, DoneNow, HaveSameTiles, AreRanksAt, tile_made};
+ghost use Rattle.cc_tilemanager.specs.Managers.{Manages, StartsNow, DoneNow, HaveSameTiles, AreRanksAt, is_seen, tile_made};
 
 use crate::outlook::Outlook;
 use crate::pins::Pins;
@@ -109,8 +109,16 @@ impl TileManager {
         })
     }
 
+    /// Whether it was looked where the trees stand now: what is to be made first is known.
+    pub fn is_seen(&self) -> bool
+        ensures { result ≡ is_seen self.now.outlook }
+    {
+        self.outlook.is_seen()
+    }
+
     /// The key that starts next; None exactly where none may start.
     pub fn next_start(&self) -> Option<TileKey>
+        requires { is_seen self.now.outlook ≡ true }
         ensures { (s : ScriptModel) (workers : ℕ) (h : List Entry) → Legal s workers h → Manages s h self.now → result ≡ option_map rank_key (first s h) }
     {
         self.outlook.first(&self.store, &self.pins)
@@ -118,6 +126,7 @@ impl TileManager {
 
     /// The keys that are given up for the next one, the worst first. An error is want of memory.
     pub fn evicted(&self, key: TileKey) -> Result<Keys, AllocError>
+        requires { is_seen self.now.outlook ≡ true }
         ensures { (s : ScriptModel) (workers : ℕ) (h : List Entry) (r : Ranking) → Legal s workers h → Manages s h self.now → first s h ≡ Some r → r.key ≡ key → IfOk result (λ keys. keys ≡ evicted_for s h r) }
     {
         self.outlook.evicted(&self.store, &self.pins, key)
@@ -125,6 +134,7 @@ impl TileManager {
 
     /// The first ranks that are wanted, at most so many, in rising order. An error is want of memory.
     pub fn upcoming(&self, most: u32) -> Result<Vec<Rank>, AllocError>
+        requires { is_seen self.now.outlook ≡ true }
         ensures { (s : ScriptModel) (workers : ℕ) (h : List Entry) → Legal s workers h → Manages s h self.now → IfOk result (λ ranks. ranks.items ≡ take most (in_order rank_cmp (wanted s h))) }
     {
         self.outlook.wanted(&self.store, &self.pins, most)
@@ -223,9 +233,18 @@ impl TileManager {
     /// Takes other ranks, for a past after which the same keys are ready, in flight and pinned. Takes no
     /// memory.
     pub fn rerank(&mut self, ranks: Ranks)
-        ensures { (s : ScriptModel) (h g : List Entry) → Manages s h self.old → HaveSameTiles s h g → AreRanksAt s g ranks → Manages s g self.new }
+        ensures ranks { (s : ScriptModel) (h g : List Entry) → Manages s h self.old → HaveSameTiles s h g → AreRanksAt s g ranks → Manages s g self.new }
+        ensures seen { is_seen self.new.outlook ≡ true }
     {
         self.outlook = Outlook::Ranks(ranks);
+    }
+
+    /// Forgets the ranks, for a past after which the same keys are ready, in flight and pinned: they are to be
+    /// given by `rerank` before the next question for a key. Takes no memory.
+    pub fn forget(&mut self)
+        ensures { (s : ScriptModel) (h g : List Entry) → Manages s h self.old → HaveSameTiles s h g → Manages s g self.new }
+    {
+        self.outlook = Outlook::Unseen;
     }
 
     /// Makes the queue, where there are ranks alone: the next question costs less. An error is want of memory,

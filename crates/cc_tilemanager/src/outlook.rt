@@ -1,11 +1,11 @@
 //! What tells the next tile: a queue, or the ranks of which one is to be made.
 
-ghost use Rattle.std.specs.Prelude.{◌≡◌, map, take, option_map, IfOk};
+ghost use Rattle.std.specs.Prelude.{◌≡◌, true, map, take, option_map, IfOk};
 ghost use Rattle.cc_priority.specs.Ranks.{rank_cmp};
 ghost use Rattle.cc_priority.specs.Ordered.{in_order};
 ghost use Rattle.cc_priority.specs.Choice as choosing;
 ghost use Rattle.cc_rasterq.specs.Queues.{rank_key, AreEvictedFor};
-ghost use Rattle.cc_tilemanager.specs.Managers.{foreseen};
+ghost use Rattle.cc_tilemanager.specs.Managers.{foreseen, is_seen};
 ghost use Rattle.cc_tilemanager.specs.inner.Outlooks.{MayStartNext, HasStarted, MayFinish, HasFinished};
 
 use crate::pins::Pins;
@@ -22,6 +22,8 @@ pub(crate) enum Outlook {
     Queue(RasterQueue),
     /// the ranks of which a queue is to be made
     Ranks(Ranks),
+    /// nothing: it was not looked yet where the trees stand now
+    Unseen,
 }
 
 // Written out, so that whoever drops an outlook does not name in its proof all that it may hold.
@@ -30,18 +32,31 @@ impl Drop for Outlook {
         match self {
             Outlook::Queue(_) => {}
             Outlook::Ranks(_) => {}
+            Outlook::Unseen => {}
         }
     }
 }
 
 impl Outlook {
+    /// Whether it was looked where the trees stand now.
+    pub(crate) fn is_seen(&self) -> bool
+        ensures { result ≡ is_seen self.now }
+    {
+        match self {
+            Outlook::Queue(_) | Outlook::Ranks(_) => true,
+            Outlook::Unseen => false,
+        }
+    }
+
     /// The key that starts next; None exactly where none may start. Takes no memory.
     pub(crate) fn first(&self, store: &TileStore, pins: &Pins) -> Option<TileKey>
+        requires { is_seen self.now ≡ true }
         ensures { result ≡ option_map rank_key (choosing.first (foreseen store.now pins.now self.now)) }
     {
         match self {
             Outlook::Queue(queue) => queue.first(),
             Outlook::Ranks(ranks) => ranks.first(store, pins),
+            Outlook::Unseen => unreachable!(),
         }
     }
 
@@ -49,7 +64,7 @@ impl Outlook {
     pub(crate) fn at_hand(&self) -> Option<TileKey> {
         match self {
             Outlook::Queue(queue) => queue.first(),
-            Outlook::Ranks(_) => None,
+            Outlook::Ranks(_) | Outlook::Unseen => None,
         }
     }
 
@@ -60,11 +75,13 @@ impl Outlook {
         pins: &Pins,
         key: TileKey,
     ) -> Result<Keys, AllocError>
+        requires { is_seen self.now ≡ true }
         ensures { IfOk result (AreEvictedFor (foreseen store.now pins.now self.now) key) }
     {
         match self {
             Outlook::Queue(queue) => queue.evicted(key),
             Outlook::Ranks(ranks) => ranks.evicted(store, pins, key),
+            Outlook::Unseen => unreachable!(),
         }
     }
 
@@ -75,11 +92,13 @@ impl Outlook {
         pins: &Pins,
         most: u32,
     ) -> Result<Vec<Rank>, AllocError>
+        requires { is_seen self.now ≡ true }
         ensures { IfOk result (λ ranks. ranks.items ≡ take most (in_order rank_cmp (foreseen store.now pins.now self.now).wanted)) }
     {
         match self {
             Outlook::Queue(queue) => queue.wanted(most),
             Outlook::Ranks(ranks) => ranks.wanted(store, pins, most),
+            Outlook::Unseen => unreachable!(),
         }
     }
 
@@ -90,7 +109,7 @@ impl Outlook {
     {
         match self {
             Outlook::Queue(queue) => queue.started(key, evicted),
-            Outlook::Ranks(_) => {}
+            Outlook::Ranks(_) | Outlook::Unseen => {}
         }
     }
 
@@ -101,7 +120,7 @@ impl Outlook {
     {
         match self {
             Outlook::Queue(queue) => queue.finished(tile),
-            Outlook::Ranks(_) => {}
+            Outlook::Ranks(_) | Outlook::Unseen => {}
         }
     }
 }

@@ -1,8 +1,8 @@
 //! The ranks of which a raster queue is to be made.
 //!
-//! A scroll changes all ranks, and most scrolls are followed by another before anybody asks which tile comes next.
-//! So the ranks are kept as they come, in no order. A question that comes before a queue is made goes through them
-//! once, and takes no memory.
+//! What moves a tree changes all ranks, and few questions may come before it is moved again. So the ranks are kept
+//! as they come, in no order. A question that comes before a queue is made goes through them once, and takes no
+//! memory.
 
 ghost use Rattle.std.specs.Prelude.{◌≡◌, ◌+◌, ◌-◌, cond, map, filter, length, take, Some, option_map, IfOk};
 ghost use Rattle.std.specs.FinSet as set;

@@ -3,6 +3,7 @@
 use crate::fault::LineFault;
 use cc_core::Core;
 use cc_geom::TileKey;
+use cc_single::SingleThread;
 use cc_synced::Synced;
 use std::alloc::{AllocError, Global};
 
@@ -14,9 +15,9 @@ fn key_text(alloc: Global, key: TileKey) -> Result<String, AllocError> {
 }
 
 // The keys of the jobs that come next, at most so many, behind a blank each.
-fn upcoming_text(alloc: Global, core: &Core, most: u32) -> Result<String, AllocError> {
+fn upcoming_text(alloc: Global, run: &mut SingleThread, most: u32) -> Result<String, AllocError> {
     let mut text = String::new(alloc);
-    for job in core.upcoming(most)?.as_slice() {
+    for job in run.upcoming(most)?.as_slice() {
         let key = key_text(alloc, job.key)?;
         text.push_str(" ")?;
         text.push_str(key.as_str())?;
@@ -42,15 +43,15 @@ fn values_text(alloc: Global, core: &Core, scroller: u32) -> Result<String, Allo
 
 /// What a compositor answers to `upcoming MOST`, `values SCROLLER` or `used`. An error is want of memory, or a
 /// question that is none of them.
-pub fn answer(alloc: Global, core: &Core, question: &str) -> Result<String, LineFault> {
+pub fn answer(alloc: Global, run: &mut SingleThread, question: &str) -> Result<String, LineFault> {
     if question == "used" {
-        return Ok(format!(in alloc; " {}", core.used())?);
+        return Ok(format!(in alloc; " {}", run.core().used())?);
     }
     let (word, number) = question.split_once(' ').ok_or(LineFault::NoForm)?;
     let number = number.parse::<u32>().map_err(|_| LineFault::NoForm)?;
     match word {
-        "upcoming" => Ok(upcoming_text(alloc, core, number)?),
-        "values" => Ok(values_text(alloc, core, number)?),
+        "upcoming" => Ok(upcoming_text(alloc, run, number)?),
+        "values" => Ok(values_text(alloc, run.core(), number)?),
         _ => Err(LineFault::NoForm),
     }
 }

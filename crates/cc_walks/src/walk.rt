@@ -137,7 +137,7 @@ pub fn asked_after(
 ) -> Result<String, LineFault> {
     let mut run = begin(alloc, script, workers)?;
     let told = match stops_in(&mut run, entries) {
-        Ok(None) => answer(alloc, run.core(), question),
+        Ok(None) => answer(alloc, &mut run, question),
         Ok(Some(_)) => Err(LineFault::Stopped),
         Err(fault) => Err(fault),
     };

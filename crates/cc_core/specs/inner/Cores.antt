@@ -1,5 +1,5 @@
 -- What a core keeps of its history. The record speaks of the values that the model tells of a past, not of the past, so that an event which changes none of them keeps it.
-use Rattle.std.specs.Prelude.{◌≡◌, ℕ, suc, true, Option, Some, None, List}
+use Rattle.std.specs.Prelude.{◌≡◌, ℕ, suc, true, Option, Some, None, IfSome, List}
 use Rattle.cc_geom.specs.declared.rect.Point.{Point}
 use Rattle.cc_geom.specs.declared.tile.TileKey.{TileKey}
 use Rattle.cc_priority.specs.declared.rank.Rank.{Rank}
@@ -31,7 +31,7 @@ pub record Kept : Type 0 where
   pub tiles : Managed
   pub told : List Move
   pub prepared : Option CommitModel
-  pub required : List TileKey
+  pub required : Option (List TileKey)
 
 -- the page after a frame with these pulls, and what the frame changed
 pub record IsPreparedFor (s : ScriptModel) (ps : ℕ → List Move) (k : ℕ) (c : CommitModel) : Type 0 where
@@ -43,13 +43,13 @@ abbrev pub IsPrepared : ScriptModel → (ℕ → List Move) → ℕ → Option C
 IsPrepared s ps k None = ⊥
 IsPrepared s ps k (Some c) = IsPreparedFor s ps k c
 
--- the trees stand, the tiles are there, the main side was told this, and the pending tree needs these keys
+-- the trees stand, the tiles are there, the main side was told this, and these are the keys that the pending tree needs, where they were asked for
 pub record CoreOf (s : ScriptModel) (kept : Kept) (ps : ℕ → List Move) (on wait : Option ℕ) (value : ℕ → Axis → Synced) (at then : ℕ → Point) (made flying pins : List TileKey) (c : Choice) (live : List Rank) (main : MainState) (last : Option ℕ) (needs : List TileKey) : Type 0 where
   pub host : HostsAt s kept.host ps on wait value at then
   pub tiles : HoldsTiles s kept.tiles made flying pins c live
   pub told : is_sent main ≡ true → (k : ℕ) → last ≡ Some k → kept.told ≡ ps k
   pub prepared : is_ready_to_commit main ≡ true → (k : ℕ) → last ≡ Some k → IsPrepared s ps k kept.prepared
-  pub required : kept.required ≡ needs
+  pub required : IfSome kept.required (λ ks. ks ≡ needs)
 
 abbrev pub IsCore : ScriptModel → List Entry → Kept → Type 0
 IsCore s h kept = CoreOf s kept (pulls_of h) (active h) (pending h) (λ sc ax. values s sc ax h) (active_offsets s h) (pending_offsets s h) (ready s h) (in_flight h) (pinned s h) (choice s h) (live_ranks s h) (sched h).main_state (newest sends h) (required s h)

@@ -8,12 +8,11 @@ use Rattle.cc_event.specs.Scripts.{ScriptModel}
 use Rattle.cc_event.specs.Frames.{pending}
 use Rattle.cc_event.specs.Scrolls.{next_clamps}
 use Rattle.cc_event.specs.Tiles.{pending_tree}
-use Rattle.cc_standing.specs.Standings.{StandingModel, Stands}
 use Rattle.cc_ranks.specs.SeenTrees.{SeenTreeModel, IsSeenTree, IsSeenWhere}
 use Rattle.cc_rebuild.specs.Rebuilds.{ActivatesNow, AreForActivation}
-use Rattle.cc_host.specs.Hosts.{Hosts, with_standing}
 use Rattle.cc_log.specs.Runs.{Run, past, now}
 use Rattle.cc_core.proofs.ActivationSteps.{of_activation}
+use Rattle.cc_core.proofs.StandingHosts.{as_it_stands}
 use Rattle.cc_core.proofs.core_state.Core.activated_tiles.Goals as goal
 
 pub activation_of-requires : goal.activation_of-requires
@@ -22,13 +21,10 @@ activation_of-requires c =
     let h : List Entry = past r in
     let waits = subst (λ (z : Run). pending (past z) ≡ Some c.args.frame) (sym c.self.view_is) c.requires.waits in
     let may = subst (λ (z : Run). is_some (now z kind.Activate 0) ≡ true) (sym c.self.view_is) c.requires.may in
-    let stands = subst (λ (st : StandingModel). Stands r.script h st) (sym c.standing.ensures) c.self.invariant.host.standing in
-    let hosts : Hosts r.script h (with_standing c.self.inside.host c.standing.result.now) =
-    record { active = c.self.invariant.host.active; pending = c.self.invariant.host.pending; standing = stands; outright = c.self.invariant.host.outright } in
-    let seen = c.in_ok-seen.ensures.trees r.script h hosts in
+    let seen = c.in_ok-seen.ensures.trees r.script h (as_it_stands r.script h c.self.inside.host c.standing.result.now c.standing.ensures c.self.invariant.host) in
     let is_there : c.in_ok-seen.seen.pending ≡ Some c.in-Some.pending.now = sym c.as_ref.ensures.value ∙ ap option_copied c.in-Some.is in
     let tree : IsSeenTree (pending_tree r.script h) c.in-Some.pending.now = subst (λ (o : Option SeenTreeModel). IsSeenWhere (pending_tree r.script h) o) is_there seen.pending in
-    subst (λ (s : ScriptModel). ActivatesNow s c.in-Some.pending.now c.self.inside.required c.self.inside.tiles) (sym (c.deref.ensures ∙ c.script.ensures))
+    subst (λ (s : ScriptModel). ActivatesNow s c.in-Some.pending.now c.in_ok-required.required c.self.inside.tiles) (sym (c.deref.ensures ∙ c.script.ensures))
     (record {
       workers = r.workers;
       past = h;
@@ -38,7 +34,7 @@ activation_of-requires c =
       legal = (of_activation r.script r.workers h c.args.frame (next_clamps r.script h) c.is_legal.ensures.legal may waits refl).legal;
       manages = c.self.invariant.tiles;
       seen = tree;
-      keys = c.self.invariant.required;
+      keys = c.in_ok-required.ensures (pending_tree r.script h) tree;
     })
 
 pub returns : goal.returns
@@ -47,15 +43,12 @@ returns c =
     let h : List Entry = past r in
     let waits = subst (λ (z : Run). pending (past z) ≡ Some c.args.frame) (sym c.self.view_is) c.requires.waits in
     let may = subst (λ (z : Run). is_some (now z kind.Activate 0) ≡ true) (sym c.self.view_is) c.requires.may in
-    let stands = subst (λ (st : StandingModel). Stands r.script h st) (sym c.standing.ensures) c.self.invariant.host.standing in
-    let hosts : Hosts r.script h (with_standing c.self.inside.host c.standing.result.now) =
-    record { active = c.self.invariant.host.active; pending = c.self.invariant.host.pending; standing = stands; outright = c.self.invariant.host.outright } in
-    let seen = c.in_ok-seen.ensures.trees r.script h hosts in
+    let seen = c.in_ok-seen.ensures.trees r.script h (as_it_stands r.script h c.self.inside.host c.standing.result.now c.standing.ensures c.self.invariant.host) in
     let is_there : c.in_ok-seen.seen.pending ≡ Some c.in-Some.pending.now = sym c.as_ref.ensures.value ∙ ap option_copied c.in-Some.is in
     let tree : IsSeenTree (pending_tree r.script h) c.in-Some.pending.now = subst (λ (o : Option SeenTreeModel). IsSeenWhere (pending_tree r.script h) o) is_there seen.pending in
     let legal = (of_activation r.script r.workers h c.args.frame (next_clamps r.script h) c.is_legal.ensures.legal may waits refl).legal in
     weaken c.activation_of.result
     (λ next brings.
     subst (λ (z : Run). AreForActivation z.script (past z) 0 c.args.frame (next_clamps z.script (past z)) next.pins next.live next.ranks) c.self.view_is
-    (brings r.script r.workers h 0 c.args.frame (next_clamps r.script h) legal (c.deref.ensures ∙ c.script.ensures) c.self.invariant.tiles tree c.self.invariant.required))
+    (brings r.script r.workers h 0 c.args.frame (next_clamps r.script h) legal (c.deref.ensures ∙ c.script.ensures) c.self.invariant.tiles tree (c.in_ok-required.ensures (pending_tree r.script h) tree)))
     c.activation_of.ensures

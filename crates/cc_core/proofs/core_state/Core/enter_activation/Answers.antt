@@ -1,5 +1,5 @@
 -- The pending tree becomes the active one, and nothing is pending then.
-use Rattle.std.proofs.Common.{◌≡◌, ℕ, true, List, ◌∷◌, Some, is_some, refl, sym, ◌∙◌, subst}
+use Rattle.std.proofs.Common.{◌≡◌, ℕ, true, List, ◌∷◌, Some, None, is_some, refl, sym, subst}
 use Rattle.cc_sched.specs.declared.kind.Kind.TheVariants as kind
 use Rattle.cc_edit.specs.declared.moves.Move.{Move}
 use Rattle.cc_event.specs.declared.event.Event.TheVariants as event
@@ -14,7 +14,6 @@ use Rattle.cc_host.specs.Hosts.{Hosts}
 use Rattle.cc_log.specs.Runs.{Run, past, now, Entered}
 use Rattle.cc_core.proofs.CoreSteps.{one_more}
 use Rattle.cc_core.proofs.SeenSteps.{activate_core}
-use Rattle.cc_core.proofs.WantedKeys.{activated_needs}
 use Rattle.cc_core.proofs.ActivationSteps.{OfActivation, of_activation}
 use Rattle.cc_core.proofs.core_state.Core.enter_activation.Goals as goal
 
@@ -56,9 +55,9 @@ invariant_of-self-2 c =
     let hosts : Hosts r.script (activate 0 k ms ∷ h) c.activate.new.self = c.activate.ensures r.script r.workers h 0 k ms activation.legal c.self.invariant.host stands in
     let holds : Manages r.script (activate 0 k ms ∷ h) c.activate-2.new.self =
     c.activate-2.ensures r.script r.workers h 0 k ms c.is_legal.ensures.accepted activation.legal c.self.invariant.tiles brings.pins brings.live brings.ranks in
-    one_more (record { host = c.activate.new.self; tiles = c.activate-2.new.self; told = c.self.inside.told; prepared = c.self.inside.prepared; required = c.new.result }) r c.enter.new.self 0 (event.Activate k ms) c.in_ok-enter.ensures.ok
+    one_more (record { host = c.activate.new.self; tiles = c.activate-2.new.self; told = c.self.inside.told; prepared = c.self.inside.prepared; required = None }) r c.enter.new.self 0 (event.Activate k ms) c.in_ok-enter.ensures.ok
     (activate_core r.script h (record { host = c.self.inside.host; tiles = c.self.inside.tiles; told = c.self.inside.told; prepared = c.self.inside.prepared; required = c.self.inside.required }) c.self.invariant
-    c.activate.new.self c.activate-2.new.self c.new.result k ms hosts holds (c.new.ensures ∙ sym (activated_needs r.script r.workers h 0 k ms activation.legal)))
+    c.activate.new.self c.activate-2.new.self None k ms hosts holds tt)
 
 pub returns-clause-ok : goal.returns-clause-ok
 returns-clause-ok c =

@@ -1,5 +1,5 @@
 -- The commit becomes the pending tree, and is taken back where it is not entered.
-use Rattle.std.proofs.Common.{◌≡◌, ℕ, List, ◌∷◌, Some, refl, sym, ◌∙◌, subst, arith}
+use Rattle.std.proofs.Common.{◌≡◌, ℕ, List, ◌∷◌, Some, None, sym, ◌∙◌, subst}
 use Rattle.cc_sched.specs.declared.kind.Kind.TheVariants as kind
 use Rattle.cc_event.specs.declared.event.Event.TheVariants as event
 use Rattle.cc_event.specs.declared.history.Entry.{Entry}
@@ -8,7 +8,6 @@ use Rattle.cc_event.specs.Accepted.{IsAccepted}
 use Rattle.cc_event.specs.Frames.{pulls_of}
 use Rattle.cc_event.specs.Legal.{Legal}
 use Rattle.cc_steps.specs.Events.{commit}
-use Rattle.cc_standing.specs.Standings.{StandingModel, Stands}
 use Rattle.cc_tilemanager.specs.Managers.{Manages}
 use Rattle.cc_host.specs.Hosts.{Hosts}
 use Rattle.cc_log.specs.Runs.{Run, past, now}
@@ -31,24 +30,8 @@ push_prepared-requires c =
     subst (λ (z : ScriptModel). PushesNow z kept.host k kept.prepared) (sym same)
     (record { workers = r.workers; past = h; actor = 0; accepted = c.is_legal.ensures.accepted; legal = is.legal; hosts = c.self.invariant.host; is_prepared = is.is_prepared })
 
-pub enter_seen-entered-requires : goal.enter_seen-entered-requires
-enter_seen-entered-requires c =
-    let r : Run = c.self.inside.log in
-    let h : List Entry = past r in
-    let k : ℕ = c.args.frame in
-    let kept : Kept = record { host = c.self.inside.host; tiles = c.self.inside.tiles; told = c.self.inside.told; prepared = c.self.inside.prepared; required = c.self.inside.required } in
-    let may_come : now r kind.Commit 0 ≡ Some (event.Commit k) = subst (λ (z : Run). now z kind.Commit 0 ≡ Some (event.Commit k)) (sym c.self.view_is) c.requires in
-    let is : OfCommit r.script r.workers h k kept = of_commit r.script r.workers h k kept c.is_legal.ensures.accepted c.is_legal.ensures.legal c.self.invariant may_come in
-    let same : c.deref.result.now ≡ r.script = c.deref.ensures ∙ c.script.ensures in
-    let pushed : Hosts r.script (commit 0 k ∷ h) c.push_prepared.new.host =
-    subst (λ (z : ScriptModel). (workers : ℕ) (past : List Entry) (actor : ℕ) → IsAccepted z → Legal z workers (commit actor k ∷ past) → Hosts z past kept.host → IsPrepared z (pulls_of past) k kept.prepared → Hosts z (commit actor k ∷ past) c.push_prepared.new.host)
-    same c.in_ok-before.ensures.hosts r.workers h 0 c.is_legal.ensures.accepted is.legal c.self.invariant.host is.is_prepared in
-    record {
-      is_now = may_come;
-      actor = refl;
-      within = omega arith;
-      hosts = record { active = pushed.active; pending = pushed.pending; standing = subst (λ (st : StandingModel). Stands r.script (commit 0 k ∷ h) st) (sym c.standing.ensures) pushed.standing; outright = pushed.outright };
-    }
+pub enter-requires-clause-is_now : goal.enter-requires-clause-is_now
+enter-requires-clause-is_now c = subst (λ (z : Run). now z kind.Commit 0 ≡ Some (event.Commit c.args.frame)) (sym c.self.view_is) c.requires
 
 pub invariant_of-self-in-Ok-1 : goal.invariant_of-self-in-Ok-1
 invariant_of-self-in-Ok-1 c =
@@ -62,9 +45,9 @@ invariant_of-self-in-Ok-1 c =
     let pushed : Hosts r.script (commit 0 k ∷ h) c.push_prepared.new.host =
     subst (λ (z : ScriptModel). (workers : ℕ) (past : List Entry) (actor : ℕ) → IsAccepted z → Legal z workers (commit actor k ∷ past) → Hosts z past kept.host → IsPrepared z (pulls_of past) k kept.prepared → Hosts z (commit actor k ∷ past) c.push_prepared.new.host)
     same c.in_ok-before.ensures.hosts r.workers h 0 c.is_legal.ensures.accepted is.legal c.self.invariant.host is.is_prepared in
-    let holds : Manages r.script (commit 0 k ∷ h) c.rerank.new.self = c.rerank.ensures r.script h (commit 0 k ∷ h) c.self.invariant.tiles is.same c.in-Ok.ensures.outlook.ranks in
-    one_more (record { host = c.push_prepared.new.host; tiles = c.rerank.new.self; told = kept.told; prepared = kept.prepared; required = c.in-Ok.next.required }) r c.enter_seen-entered.new.log 0 (event.Commit k) c.in-Ok.ensures.entered
-    (commit_core r.script h kept c.self.invariant c.push_prepared.new.host c.rerank.new.self c.in-Ok.next.required k pushed holds c.in-Ok.ensures.outlook.required)
+    let holds : Manages r.script (commit 0 k ∷ h) c.forget.new.self = c.forget.ensures r.script h (commit 0 k ∷ h) c.self.invariant.tiles is.same in
+    one_more (record { host = c.push_prepared.new.host; tiles = c.forget.new.self; told = kept.told; prepared = kept.prepared; required = None }) r c.enter.new.self 0 (event.Commit k) c.in-Ok.ensures.ok
+    (commit_core r.script h kept c.self.invariant c.push_prepared.new.host c.forget.new.self None k pushed holds tt)
 
 pub invariant_of-self-in-Err : goal.invariant_of-self-in-Err
 invariant_of-self-in-Err c =
@@ -75,5 +58,5 @@ invariant_of-self-in-Err c =
     let may_come : now r kind.Commit 0 ≡ Some (event.Commit k) = subst (λ (z : Run). now z kind.Commit 0 ≡ Some (event.Commit k)) (sym c.self.view_is) c.requires in
     let is : OfCommit r.script r.workers h k kept = of_commit r.script r.workers h k kept c.is_legal.ensures.accepted c.is_legal.ensures.legal c.self.invariant may_come in
     let before : Hosts r.script h c.take_back.new.self = c.take_back.ensures r.script h kept.host is.none c.self.invariant.host c.in_ok-before.ensures.active c.in_ok-before.ensures.before in
-    refused (record { host = c.take_back.new.self; tiles = kept.tiles; told = kept.told; prepared = kept.prepared; required = kept.required }) r c.enter_seen-entered.new.log c.in-Err.ensures.err
+    refused (record { host = c.take_back.new.self; tiles = kept.tiles; told = kept.told; prepared = kept.prepared; required = kept.required }) r c.enter.new.self c.in-Err.ensures.err
     (record { host = before; tiles = c.self.invariant.tiles; told = c.self.invariant.told; prepared = c.self.invariant.prepared; required = c.self.invariant.required })

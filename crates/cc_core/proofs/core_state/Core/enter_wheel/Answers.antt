@@ -1,5 +1,5 @@
--- A wheel moves what stands, and the ranks follow.
-use Rattle.std.proofs.Common.{◌≡◌, ℕ, ℤ, true, List, ◌∷◌, Some, refl, sym, ◌∙◌, subst, arith}
+-- A wheel moves what stands, and it is to be looked anew.
+use Rattle.std.proofs.Common.{◌≡◌, ℕ, ℤ, true, List, ◌∷◌, Some, None, refl, sym, ◌∙◌, subst}
 use Rattle.std.proofs.lemmas.Int.{to_z-of_z}
 use Rattle.cc_sched.specs.declared.kind.Kind.TheVariants as kind
 use Rattle.cc_edit.specs.declared.moves.Move.{Move}
@@ -7,6 +7,7 @@ use Rattle.cc_event.specs.declared.event.Event.{Event}
 use Rattle.cc_event.specs.declared.event.Event.TheVariants as event
 use Rattle.cc_event.specs.declared.input.Input.TheVariants as input
 use Rattle.cc_event.specs.declared.history.Entry.{Entry}
+use Rattle.cc_event.specs.EventFields.{kind_of}
 use Rattle.cc_event.specs.Due.{next_input, input_now}
 use Rattle.cc_event.specs.Legal.{is_open}
 use Rattle.cc_event.proofs.DueFacts.{entry}
@@ -14,8 +15,7 @@ use Rattle.cc_standing.specs.Standings.{StandingModel, Stands}
 use Rattle.cc_rebuild.proofs.SameTiles.{same_tiles}
 use Rattle.cc_tilemanager.specs.Managers.{Manages}
 use Rattle.cc_host.specs.Hosts.{Hosts}
-use Rattle.cc_log.specs.Runs.{Run, past, with_entry, Entered}
-use Rattle.cc_core.specs.inner.Outlooks.{IsOutlookAfter, EntersNow}
+use Rattle.cc_log.specs.Runs.{Run, past, now, with_entry, Entered}
 use Rattle.cc_core.proofs.CoreSteps.{one_more, refused}
 use Rattle.cc_core.proofs.SeenSteps.{wheel_core}
 use Rattle.cc_core.proofs.InputEvents.{OfWheel, of_wheel}
@@ -60,8 +60,8 @@ moved-requires c =
       moves = (sym c.as_slice.ensures);
     }
 
-pub enter_seen-requires : goal.enter_seen-requires
-enter_seen-requires c =
+pub enter-requires-clause-is_now : goal.enter-requires-clause-is_now
+enter-requires-clause-is_now c =
     let r : Run = c.self.inside.log in
     let h : List Entry = past r in
     let legal = c.is_legal.ensures.legal in
@@ -79,18 +79,10 @@ enter_seen-requires c =
     of_wheel r.script r.workers h c.args.x c.args.y c.args.dx c.args.dy i layer rest_x rest_y ms legal is_open asked c.next_input-input.ensures is.hits is.rest_across is.rest_down (c.in_ok-moves.ensures ∙ is.parts) in
     let e : Event = event.Wheel i layer rest_x rest_y ms in
     let is_event : c.wheel_event-event.result ≡ e = c.wheel_event-event.ensures in
-    let before = subst (λ (st : StandingModel). Stands r.script h st) (sym c.standing-2.ensures) c.self.invariant.host.standing in
-    let moved : Stands r.script (entry 0 e ∷ h) c.in_ok-standing.standing = c.in_ok-standing.ensures r.script r.workers h (entry 0 e) of.legal refl (sym c.as_slice.ensures) before pages in
-    subst (λ (z : Event). EntersNow r 0 z c.self.inside.host c.in_ok-standing.standing) (sym is_event)
-    (record {
-      is_now = of.may_come;
-      actor = refl;
-      within = omega arith;
-      hosts = record { active = c.self.invariant.host.active; pending = c.self.invariant.host.pending; standing = moved; outright = c.self.invariant.host.outright };
-    })
+    subst (λ (z : Event). now r (kind_of z) 0 ≡ Some z) (sym is_event) of.may_come
 
 pub invariant_of-self : goal.invariant_of-self
-invariant_of-self c = refused (record { host = c.self.inside.host; tiles = c.self.inside.tiles; told = c.self.inside.told; prepared = c.self.inside.prepared; required = c.self.inside.required }) c.self.inside.log c.enter_seen.new.log c.in_err-next.ensures.err c.self.invariant
+invariant_of-self c = refused (record { host = c.self.inside.host; tiles = c.self.inside.tiles; told = c.self.inside.told; prepared = c.self.inside.prepared; required = c.self.inside.required }) c.self.inside.log c.enter.new.self c.in_err-enter.ensures.err c.self.invariant
 
 pub invariant_of-self-2 : goal.invariant_of-self-2
 invariant_of-self-2 c =
@@ -113,12 +105,11 @@ invariant_of-self-2 c =
     let is_event : c.wheel_event-event.result ≡ e = c.wheel_event-event.ensures in
     let before = subst (λ (st : StandingModel). Stands r.script h st) (sym c.standing-2.ensures) c.self.invariant.host.standing in
     let moved : Stands r.script (entry 0 e ∷ h) c.in_ok-standing.standing = c.in_ok-standing.ensures r.script r.workers h (entry 0 e) of.legal refl (sym c.as_slice.ensures) before pages in
-    let outlook : IsOutlookAfter r 0 e c.in_ok-next.next.ranks c.in_ok-next.next.required = subst (λ (z : Event). IsOutlookAfter r 0 z c.in_ok-next.next.ranks c.in_ok-next.next.required) is_event c.in_ok-next.ensures.outlook in
-    let entered : c.enter_seen.new.log ≡ with_entry r 0 e = subst (λ (z : Event). c.enter_seen.new.log ≡ with_entry r 0 z) is_event c.in_ok-next.ensures.entered in
+    let entered : c.enter.new.self ≡ with_entry r 0 e = subst (λ (z : Event). c.enter.new.self ≡ with_entry r 0 z) is_event c.in_ok-enter.ensures.ok in
     let hosts : Hosts r.script (entry 0 e ∷ h) c.stand.new.self = c.stand.ensures.keeps r.script h (entry 0 e) refl refl refl c.self.invariant.host moved in
-    let holds : Manages r.script (entry 0 e ∷ h) c.rerank.new.self = c.rerank.ensures r.script h (entry 0 e ∷ h) c.self.invariant.tiles (same_tiles r.script h (entry 0 e) refl) outlook.ranks in
-    one_more (record { host = c.stand.new.self; tiles = c.rerank.new.self; told = c.self.inside.told; prepared = c.self.inside.prepared; required = c.in_ok-next.next.required }) r c.enter_seen.new.log 0 e entered
-    (wheel_core r.script h (record { host = c.self.inside.host; tiles = c.self.inside.tiles; told = c.self.inside.told; prepared = c.self.inside.prepared; required = c.self.inside.required }) c.self.invariant c.stand.new.self c.rerank.new.self c.in_ok-next.next.required i layer rest_x rest_y ms hosts holds outlook.required)
+    let holds : Manages r.script (entry 0 e ∷ h) c.forget.new.self = c.forget.ensures r.script h (entry 0 e ∷ h) c.self.invariant.tiles (same_tiles r.script h (entry 0 e) refl) in
+    one_more (record { host = c.stand.new.self; tiles = c.forget.new.self; told = c.self.inside.told; prepared = c.self.inside.prepared; required = None }) r c.enter.new.self 0 e entered
+    (wheel_core r.script h (record { host = c.self.inside.host; tiles = c.self.inside.tiles; told = c.self.inside.told; prepared = c.self.inside.prepared; required = c.self.inside.required }) c.self.invariant c.stand.new.self c.forget.new.self None i layer rest_x rest_y ms hosts holds tt)
 
 pub returns-clause-ok : goal.returns-clause-ok
 returns-clause-ok c =
@@ -138,6 +129,6 @@ returns-clause-ok c =
     let of : OfWheel r.script r.workers h i layer rest_x rest_y ms =
     of_wheel r.script r.workers h c.args.x c.args.y c.args.dx c.args.dy i layer rest_x rest_y ms legal is_open asked c.next_input-input.ensures is.hits is.rest_across is.rest_down (c.in_ok-moves.ensures ∙ is.parts) in
     let e : Event = event.Wheel i layer rest_x rest_y ms in
-    let is_now : c.enter_seen.new.log ≡ with_entry r 0 e = subst (λ (z : Event). c.enter_seen.new.log ≡ with_entry r 0 z) c.wheel_event-event.ensures c.in_ok-next.ensures.entered in
-    let entered : Entered r kind.Wheel 0 c.enter_seen.new.log = record { event = e; is_now = of.may_come; is_entered = is_now } in
-    subst (λ (z : Run). Entered z kind.Wheel 0 c.enter_seen.new.log) c.self.view_is entered
+    let is_now : c.enter.new.self ≡ with_entry r 0 e = subst (λ (z : Event). c.enter.new.self ≡ with_entry r 0 z) c.wheel_event-event.ensures c.in_ok-enter.ensures.ok in
+    let entered : Entered r kind.Wheel 0 c.enter.new.self = record { event = e; is_now = of.may_come; is_entered = is_now } in
+    subst (λ (z : Run). Entered z kind.Wheel 0 c.enter.new.self) c.self.view_is entered

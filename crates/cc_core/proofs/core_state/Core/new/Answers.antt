@@ -12,8 +12,7 @@ invariant_of-result c =
     let s = c.args.script.value in
     let m = c.in_ok-tiles.tiles in
     let host = c.new-3.result in
-    let needed = c.new-5.result in
-    let first : IsCore s [] (record { host = host; tiles = m; told = []; prepared = None; required = needed }) =
-    begin_core s host m needed (c.new-3.ensures s) (c.in_ok-tiles.ensures s (sym (c.budget-budget.ensures ∙ ap (λ (z : ScriptModel). z.budget) c.deref.ensures))) c.new-5.ensures in
-    subst (λ (r : Run). IsCore r.script (past r) (record { host = host; tiles = m; told = c.new-4.result; prepared = None; required = needed })) (sym c.in_ok-log.ensures)
-    (subst (λ (ms : List Move). IsCore s [] (record { host = host; tiles = m; told = ms; prepared = None; required = needed })) (sym c.new-4.ensures) first)
+    let first : IsCore s [] (record { host = host; tiles = m; told = []; prepared = None; required = None }) =
+    begin_core s host m (c.new-3.ensures s) (c.in_ok-tiles.ensures s (sym (c.budget-budget.ensures ∙ ap (λ (z : ScriptModel). z.budget) c.deref.ensures))) in
+    subst (λ (r : Run). IsCore r.script (past r) (record { host = host; tiles = m; told = c.new-4.result; prepared = None; required = None })) (sym c.in_ok-log.ensures)
+    (subst (λ (ms : List Move). IsCore s [] (record { host = host; tiles = m; told = ms; prepared = None; required = None })) (sym c.new-4.ensures) first)

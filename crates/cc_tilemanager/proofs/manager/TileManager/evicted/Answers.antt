@@ -1,10 +1,10 @@
 -- Alike choices give up the same keys.
-use Rattle.std.proofs.Common.{◌∙◌, ap, sym, subst, map}
+use Rattle.std.proofs.Common.{◌≡◌, true, ◌∙◌, ap, sym, subst, map}
 use Rattle.cc_priority.specs.Choice.{victim_key}
 use Rattle.cc_priority.proofs.Choosing.{first_is_one, order_is_free}
 use Rattle.cc_priority.proofs.StayAlike.{alike_stay}
 use Rattle.cc_event.specs.Ranking.{choice}
-use Rattle.cc_tilemanager.specs.Managers.{Managed, Manages, foreseen}
+use Rattle.cc_tilemanager.specs.Managers.{Managed, Manages, foreseen, is_seen}
 use Rattle.cc_tilemanager.proofs.AmongRanks.{foreseen_alike}
 use Rattle.cc_tilemanager.proofs.Bools.{of_answer}
 use Rattle.cc_tilemanager.proofs.manager.TileManager.evicted.Goals as goal
@@ -13,7 +13,7 @@ pub returns : goal.returns
 returns c = λ s n h r legal holds is_first is_key.
     let m : Managed = record { store = c.self.inside.store; pinned = c.self.inside.pins; outlook = c.self.inside.outlook } in
     let now = foreseen m.store m.pinned m.outlook in
-    let alike = foreseen_alike s n h legal m (subst (Manages s h) (sym c.self.view_is) holds) in
+    let alike = foreseen_alike s n h legal m (subst (Manages s h) (sym c.self.view_is) holds) (subst (λ (z : Managed). is_seen z.outlook ≡ true) (sym c.self.view_is) c.requires) in
     of_answer c.evicted.result (λ keys given.
     given r (alike.wanted.back r (first_is_one.there (choice s h) r is_first).wanted) is_key
     ∙ ap (map victim_key) (order_is_free.evicted now (choice s h) r (alike_stay.same_choice now (choice s h) alike))) c.evicted.ensures

@@ -15,4 +15,4 @@ returns-in_ok-queue-clause-same c = λ s n h legal holds.
     let here = subst (λ o. Manages s h (record { store = c.self.inside.store; pinned = c.self.inside.pins; outlook = o })) c.in-Ranks.is (subst (Manages s h) (sym c.self.view_is) holds) in
     let next = c.in_ok-queue.queue in
     reseen s h h m (outlook.Queue next) here (record { ready = λ q. refl; in_flight = λ q. refl; pinned = λ q. refl })
-    (alike_stay.through next (choice_among m.store m.pinned c.in-Ranks.ranks) (choice s h) c.in_ok-queue.ensures (foreseen_alike s n h legal m here))
+    (alike_stay.through next (choice_among m.store m.pinned c.in-Ranks.ranks) (choice s h) c.in_ok-queue.ensures (foreseen_alike s n h legal m here refl))

@@ -5,7 +5,7 @@ use Rattle.cc_tilemanager.specs.Managers.{Managed, Manages}
 use Rattle.cc_tilemanager.proofs.OtherTiles.{reseen}
 use Rattle.cc_tilemanager.proofs.manager.TileManager.rerank.Goals as goal
 
-pub returns : goal.returns
-returns c = λ s h g holds same are.
+pub returns-clause-ranks : goal.returns-clause-ranks
+returns-clause-ranks c = λ s h g holds same are.
     let m : Managed = record { store = c.self.inside.store; pinned = c.self.inside.pins; outlook = c.self.inside.outlook } in
     reseen s h g m (outlook.Ranks c.args.ranks) (subst (Manages s h) (sym c.self.view_is) holds) same are

@@ -1,7 +1,7 @@
 -- Alike choices want the same ranks.
-use Rattle.std.proofs.Common.{◌∙◌, ap, sym, subst, take}
+use Rattle.std.proofs.Common.{◌≡◌, true, ◌∙◌, ap, sym, subst, take}
 use Rattle.cc_event.specs.Ranking.{choice}
-use Rattle.cc_tilemanager.specs.Managers.{Managed, Manages, foreseen}
+use Rattle.cc_tilemanager.specs.Managers.{Managed, Manages, foreseen, is_seen}
 use Rattle.cc_tilemanager.proofs.AlikeChoices.{same_wanted}
 use Rattle.cc_tilemanager.proofs.AmongRanks.{foreseen_alike}
 use Rattle.cc_tilemanager.proofs.Bools.{of_answer}
@@ -10,5 +10,5 @@ use Rattle.cc_tilemanager.proofs.manager.TileManager.upcoming.Goals as goal
 pub returns : goal.returns
 returns c = λ s n h legal holds.
     let m : Managed = record { store = c.self.inside.store; pinned = c.self.inside.pins; outlook = c.self.inside.outlook } in
-    let alike = foreseen_alike s n h legal m (subst (Manages s h) (sym c.self.view_is) holds) in
+    let alike = foreseen_alike s n h legal m (subst (Manages s h) (sym c.self.view_is) holds) (subst (λ (z : Managed). is_seen z.outlook ≡ true) (sym c.self.view_is) c.requires) in
     of_answer c.wanted.result (λ ranks given. given ∙ ap (take c.args.most) (same_wanted (foreseen m.store m.pinned m.outlook) (choice s h) alike)) c.wanted.ensures
