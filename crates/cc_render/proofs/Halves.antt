@@ -28,7 +28,7 @@ byte_first n xs ys i len lt = grind (arith, common_steps)
 byte_second : (n : ℕ) (xs ys : List ℕ) (i j : ℕ) → length xs ≡ n → i ≡ n + j → slice_index (xs ++ ys) i ≡ slice_index ys j
 byte_second n xs ys i j len at = rw at (grind (arith, common_steps))
 
-pixel_first : (m : ℕ) (xs ys : List ℕ) (k : ℕ) → length xs ≡ 4 * m → k < m → pixel (xs ++ ys) k ≡ pixel xs k
+pub pixel_first : (m : ℕ) (xs ys : List ℕ) (k : ℕ) → length xs ≡ 4 * m → k < m → pixel (xs ++ ys) k ≡ pixel xs k
 pixel_first m xs ys k len lt =
     same_parts (pixel (xs ++ ys) k) (pixel xs k)
     (byte_first (4 * m) xs ys (4 * k) len (omega arith))
@@ -36,7 +36,7 @@ pixel_first m xs ys k len lt =
     (byte_first (4 * m) xs ys (4 * k + 2) len (omega arith))
     (byte_first (4 * m) xs ys (4 * k + 3) len (omega arith))
 
-pixel_second : (m : ℕ) (xs ys : List ℕ) (k j : ℕ) → length xs ≡ 4 * m → k ≡ m + j → pixel (xs ++ ys) k ≡ pixel ys j
+pub pixel_second : (m : ℕ) (xs ys : List ℕ) (k j : ℕ) → length xs ≡ 4 * m → k ≡ m + j → pixel (xs ++ ys) k ≡ pixel ys j
 pixel_second m xs ys k j len at =
     same_parts (pixel (xs ++ ys) k) (pixel ys j)
     (byte_second (4 * m) xs ys (4 * k) (4 * j) len (omega arith))
@@ -44,14 +44,14 @@ pixel_second m xs ys k j len at =
     (byte_second (4 * m) xs ys (4 * k + 2) (4 * j + 2) len (omega arith))
     (byte_second (4 * m) xs ys (4 * k + 3) (4 * j + 3) len (omega arith))
 
-premultiplied_first : (m : ℕ) (xs ys : List ℕ) → length xs ≡ 4 * m → ArePremultiplied (xs ++ ys) → ArePremultiplied xs
+pub premultiplied_first : (m : ℕ) (xs ys : List ℕ) → length xs ≡ 4 * m → ArePremultiplied (xs ++ ys) → ArePremultiplied xs
 premultiplied_first m xs ys len all i lt =
     let low = all i (omega (arith, length-append xs ys)) in
     let here = byte_first (4 * m) xs ys i len (omega arith) in
     let there = byte_first (4 * m) xs ys (alpha_place i) len (omega arith) in
     omega arith
 
-premultiplied_second : (m : ℕ) (xs ys : List ℕ) → length xs ≡ 4 * m → ArePremultiplied (xs ++ ys) → ArePremultiplied ys
+pub premultiplied_second : (m : ℕ) (xs ys : List ℕ) → length xs ≡ 4 * m → ArePremultiplied (xs ++ ys) → ArePremultiplied ys
 premultiplied_second m xs ys len all i lt =
     let low = all (4 * m + i) (omega (arith, length-append xs ys)) in
     let here = byte_second (4 * m) xs ys (4 * m + i) i len refl in
@@ -59,7 +59,7 @@ premultiplied_second m xs ys len all i lt =
     let there = byte_second (4 * m) xs ys (alpha_place (4 * m + i)) (alpha_place i) len place in
     omega arith
 
-premultiplied_both : (m : ℕ) (xs ys : List ℕ) → length xs ≡ 4 * m → ArePremultiplied xs → ArePremultiplied ys → ArePremultiplied (xs ++ ys)
+pub premultiplied_both : (m : ℕ) (xs ys : List ℕ) → length xs ≡ 4 * m → ArePremultiplied xs → ArePremultiplied ys → ArePremultiplied (xs ++ ys)
 premultiplied_both m xs ys len first second i lt =
     elim (cases_lt i (4 * m)) as (λ _. slice_index (xs ++ ys) i ≤ slice_index (xs ++ ys) (alpha_place i)) [
       | inl low ↦
@@ -85,7 +85,7 @@ in_lower : (at : Area) (rows x y j : ℕ) → rows ≤ at.h → y ≡ at.y + row
 in_lower at rows x y j le is = grind (arith, nat_tests)
 
 -- where the pixel of a row below stands
-place_below : (w x top j y : ℕ) → y ≡ top + j → y * w + x ≡ w * top + (j * w + x)
+pub place_below : (w x top j y : ℕ) → y ≡ top + j → y * w + x ≡ w * top + (j * w + x)
 place_below w x top j y e = rw e (grind arith)
 
 times_sum : (w a b : ℕ) → w * (a + b) ≡ w * a + w * b

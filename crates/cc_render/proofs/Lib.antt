@@ -9,3 +9,4 @@ pub mod PassSteps
 pub mod SceneSteps
 pub mod FrameSteps
 pub mod Halves
+pub mod CopySteps

@@ -1,2 +1,3 @@
+pub mod CopiedRows
 pub mod Frames
 pub mod inner

@@ -33,8 +33,8 @@ pub(crate) fn place_of(width: usize, height: usize, x: usize, y: usize, run: usi
     y * width + x
 }
 
-// gives `n` pixels from pixel `k` on those of a picture from its pixel `from` on
-fn copy_run(surface: &mut [u8], k: usize, n: usize, picture: &[u8], from: usize)
+/// Gives `n` pixels from pixel `k` on those of a picture from its pixel `from` on.
+pub(crate) fn copy_run(surface: &mut [u8], k: usize, n: usize, picture: &[u8], from: usize)
     requires there { 4 * (k + n) ≤ length surface.old }
     requires given { 4 * (from + n) ≤ length picture.now }
     requires premultiplied { ArePremultiplied picture.now }

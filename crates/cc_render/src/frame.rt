@@ -1,11 +1,13 @@
 //! Frames.
 
-ghost use Rattle.std.specs.Prelude.{◌≡◌, ℕ, ◌*◌, length, IfOk, ◌<◌, ◌≤◌, ◌^◌};
+ghost use Rattle.std.specs.Prelude.{◌≡◌, ℕ, ◌+◌, ◌*◌, length, IfOk, ◌<◌, ◌≤◌, ◌^◌};
 ghost use Rattle.cc_pixel.specs.Rows.{pixel, ArePremultiplied};
 ghost use Rattle.cc_scene.specs.Sound.{IsSide};
 ghost use Rattle.cc_render.specs.Frames;
-ghost use Rattle.cc_render.specs.Frames.{FrameView, IsFrame, IsOfSize, EachIs, black};
+ghost use Rattle.cc_render.specs.Frames.{FrameView, IsFrame, IsOfSize, EachIs, frame_pixel, black};
+ghost use Rattle.cc_render.specs.CopiedRows.{row_before};
 
+use crate::moving::move_rows;
 use cc_pixel::{Colour, fill_row};
 use std::alloc::{AllocError, Global};
 use std::marker::Model;
@@ -63,6 +65,26 @@ impl Frame {
         ensures premultiplied { ArePremultiplied result.now }
     {
         &self.bytes
+    }
+
+    /// Gives `count` rows from row `to` on the pixels that as many rows from row `from` on had; the other rows
+    /// stay.
+    pub fn copy_rows(&mut self, from: u32, to: u32, count: u32)
+        requires from { from + count ≤ self.old.h }
+        requires to { to + count ≤ self.old.h }
+        ensures size { IsOfSize self.old.w self.old.h self.new }
+        ensures pixels { EachIs (λ x y. frame_pixel self.old x (row_before from to count y)) self.new }
+    {
+        let (width, height) = (self.w as usize, self.h as usize);
+        let bytes = self.bytes.as_mut_slice();
+        move_rows(
+            bytes,
+            width,
+            height,
+            from as usize,
+            to as usize,
+            count as usize,
+        );
     }
 }
 

@@ -18,6 +18,7 @@ mod group;
 mod hull;
 mod marks;
 mod mask;
+mod moving;
 mod open;
 mod paint;
 mod parts;
