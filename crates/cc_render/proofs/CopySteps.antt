@@ -18,24 +18,24 @@ row_behind : (from to n y : ℕ) → to + n ≤ y → row_before from to n y ≡
 unfolding row_before
 row_behind from to n y le = grind (arith, nat_tests)
 
-row_in : (from to n y j : ℕ) → y ≡ to + j → j < n → row_before from to n y ≡ from + j
+pub row_in : (from to n y j : ℕ) → y ≡ to + j → j < n → row_before from to n y ≡ from + j
 unfolding row_before
 row_in from to n y j e lt = grind (arith, nat_tests)
 
 pub row_none : (from to y : ℕ) → row_before from to 0 y ≡ y
 row_none from to y = elim (cases_lt y to) as (λ _. row_before from to 0 y ≡ y) [
-    | inl lt ↦ row_above from to 0 y lt
-    | inr le ↦ row_behind from to 0 y (omega arith)
-  ]
+  | inl lt ↦ row_above from to 0 y lt
+  | inr le ↦ row_behind from to 0 y (omega arith)
+]
 
 pub row_same : (from to n y : ℕ) → from ≡ to → row_before from to n y ≡ y
 row_same from to n y e = elim (cases_lt y to) as (λ _. row_before from to n y ≡ y) [
-    | inl lt ↦ row_above from to n y lt
-    | inr le ↦ elim (cases_lt (y - to) n) as (λ _. row_before from to n y ≡ y) [
-          | inl more ↦ row_in from to n y (y - to) (omega arith) more ∙ omega arith
-          | inr less ↦ row_behind from to n y (omega arith)
-        ]
+  | inl lt ↦ row_above from to n y lt
+  | inr le ↦ elim (cases_lt (y - to) n) as (λ _. row_before from to n y ≡ y) [
+    | inl more ↦ row_in from to n y (y - to) (omega arith) more ∙ omega arith
+    | inr less ↦ row_behind from to n y (omega arith)
   ]
+]
 
 -- the row behind those that went up goes up too
 row_up : (from to n y : ℕ) → to < from → row_before from to n (row_before (from + n) (to + n) 1 y) ≡ row_before from to (n + 1) y
@@ -49,14 +49,14 @@ row_up from to n y higher =
             | inr le ↦ row_in from to n y (y - to) (omega arith) (omega arith) ∙ sym (row_in from to (n + 1) y (y - to) (omega arith) (omega arith))
           ]
       | inr le ↦ elim (cases_lt y (to + n + 1)) as (λ _. Goal) [
-            | inl lt ↦
-                let is : y ≡ to + n + 0 = omega arith in
-                let here : row_before (from + n) (to + n) 1 y ≡ from + n = row_in (from + n) (to + n) 1 y 0 is (omega arith) ∙ omega arith in
-                ap (row_before from to n) here ∙ row_behind from to n (from + n) (omega arith) ∙ sym (row_in from to (n + 1) y n (omega arith) (omega arith))
-            | inr behind ↦
-                ap (row_before from to n) (row_behind (from + n) (to + n) 1 y (omega arith))
-                ∙ row_behind from to n y (omega arith) ∙ sym (row_behind from to (n + 1) y (omega arith))
-          ]
+        | inl lt ↦
+            let is : y ≡ to + n + 0 = omega arith in
+            let here : row_before (from + n) (to + n) 1 y ≡ from + n = row_in (from + n) (to + n) 1 y 0 is (omega arith) ∙ omega arith in
+            ap (row_before from to n) here ∙ row_behind from to n (from + n) (omega arith) ∙ sym (row_in from to (n + 1) y n (omega arith) (omega arith))
+        | inr behind ↦
+            ap (row_before from to n) (row_behind (from + n) (to + n) 1 y (omega arith))
+            ∙ row_behind from to n y (omega arith) ∙ sym (row_behind from to (n + 1) y (omega arith))
+      ]
     ]
 
 -- the row before those that went down goes down too
@@ -68,30 +68,30 @@ row_down from to n y lower =
           ap (row_before (from + 1) (to + 1) n) (row_above from to 1 y lt)
           ∙ row_above (from + 1) (to + 1) n y (omega arith) ∙ sym (row_above from to (n + 1) y lt)
       | inr le ↦ elim (cases_lt y (to + 1)) as (λ _. Goal) [
-            | inl lt ↦
-                let here : row_before from to 1 y ≡ from = row_in from to 1 y 0 (omega arith) (omega arith) ∙ omega arith in
-                ap (row_before (from + 1) (to + 1) n) here ∙ row_above (from + 1) (to + 1) n from (omega arith)
-                ∙ sym (row_in from to (n + 1) y 0 (omega arith) (omega arith) ∙ omega arith)
-            | inr behind ↦
-                ap (row_before (from + 1) (to + 1) n) (row_behind from to 1 y behind)
-                ∙ elim (cases_lt y (to + 1 + n)) as (λ _. row_before (from + 1) (to + 1) n y ≡ row_before from to (n + 1) y) [
-                  | inl more ↦
-                      row_in (from + 1) (to + 1) n y (y - (to + 1)) (omega arith) (omega arith)
-                      ∙ omega arith ∙ sym (row_in from to (n + 1) y (y - to) (omega arith) (omega arith))
-                  | inr less ↦ row_behind (from + 1) (to + 1) n y less ∙ sym (row_behind from to (n + 1) y (omega arith))
-                ]
-          ]
+        | inl lt ↦
+            let here : row_before from to 1 y ≡ from = row_in from to 1 y 0 (omega arith) (omega arith) ∙ omega arith in
+            ap (row_before (from + 1) (to + 1) n) here ∙ row_above (from + 1) (to + 1) n from (omega arith)
+            ∙ sym (row_in from to (n + 1) y 0 (omega arith) (omega arith) ∙ omega arith)
+        | inr behind ↦
+            ap (row_before (from + 1) (to + 1) n) (row_behind from to 1 y behind)
+            ∙ elim (cases_lt y (to + 1 + n)) as (λ _. row_before (from + 1) (to + 1) n y ≡ row_before from to (n + 1) y) [
+              | inl more ↦
+                  row_in (from + 1) (to + 1) n y (y - (to + 1)) (omega arith) (omega arith)
+                  ∙ omega arith ∙ sym (row_in from to (n + 1) y (y - to) (omega arith) (omega arith))
+              | inr less ↦ row_behind (from + 1) (to + 1) n y less ∙ sym (row_behind from to (n + 1) y (omega arith))
+            ]
+      ]
     ]
 
 -- a row was a row of the picture before
 row_there : (from to h y : ℕ) → from < h → y < h → row_before from to 1 y < h
 row_there from to h y there lt = elim (cases_lt y to) as (λ _. row_before from to 1 y < h) [
-    | inl above ↦ let e = row_above from to 1 y above in omega arith
-    | inr le ↦ elim (cases_lt y (to + 1)) as (λ _. row_before from to 1 y < h) [
-          | inl here ↦ let e = row_in from to 1 y 0 (omega arith) (omega arith) in omega arith
-          | inr behind ↦ let e = row_behind from to 1 y behind in omega arith
-        ]
+  | inl above ↦ let e = row_above from to 1 y above in omega arith
+  | inr le ↦ elim (cases_lt y (to + 1)) as (λ _. row_before from to 1 y < h) [
+    | inl here ↦ let e = row_in from to 1 y 0 (omega arith) (omega arith) in omega arith
+    | inr behind ↦ let e = row_behind from to 1 y behind in omega arith
   ]
+]
 
 -- ---- one row more
 
@@ -144,15 +144,15 @@ one_up w h from to above below new higher len new_len part x y xw yh =
           elim (cases_lt y to) as (λ _. Goal) [
             | inl high ↦ stays (row_above from to 1 y high) (front ∙ part.before k (among_rows w x y to xw high) ∙ sym was)
             | inr le ↦ elim (cases_lt y (to + 1)) as (λ _. Goal) [
-                  | inl here ↦
-                      let is : y ≡ to = omega arith in
-                      let at : k ≡ w * to + x = ap (λ (r : ℕ). r * w + x) is ∙ sym (row_column w x to) in
-                      let row : row_before from to 1 y ≡ from = row_in from to 1 y 0 (omega arith) (omega arith) ∙ omega arith in
-                      let source : from * w + x ≡ m + (0 + x) = place_below w x from 0 from (omega arith) ∙ omega arith in
-                      front ∙ ap (pixel new) at ∙ part.inside x xw ∙ sym (pixel_second m above below (from * w + x) (0 + x) len source)
-                      ∙ ap (λ (r : ℕ). pixel all (r * w + x)) (sym row)
-                  | inr low ↦ stays (row_behind from to 1 y low) (front ∙ part.behind k (lower_row w x to y (omega arith)) ∙ sym was)
-                ]
+              | inl here ↦
+                  let is : y ≡ to = omega arith in
+                  let at : k ≡ w * to + x = ap (λ (r : ℕ). r * w + x) is ∙ sym (row_column w x to) in
+                  let row : row_before from to 1 y ≡ from = row_in from to 1 y 0 (omega arith) (omega arith) ∙ omega arith in
+                  let source : from * w + x ≡ m + (0 + x) = place_below w x from 0 from (omega arith) ∙ omega arith in
+                  front ∙ ap (pixel new) at ∙ part.inside x xw ∙ sym (pixel_second m above below (from * w + x) (0 + x) len source)
+                  ∙ ap (λ (r : ℕ). pixel all (r * w + x)) (sym row)
+              | inr low ↦ stays (row_behind from to 1 y low) (front ∙ part.behind k (lower_row w x to y (omega arith)) ∙ sym was)
+            ]
           ]
       | inr le ↦
           let j = y - from in

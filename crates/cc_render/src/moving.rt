@@ -32,14 +32,7 @@ pub(crate) fn move_rows(
 }
 
 // copies rows to higher ones, from the first on
-fn move_up(
-    bytes: &mut [u8],
-    width: usize,
-    height: usize,
-    from: usize,
-    to: usize,
-    count: usize,
-)
+fn move_up(bytes: &mut [u8], width: usize, height: usize, from: usize, to: usize, count: usize)
     requires size { length bytes.old ≡ 4 * (width * height) }
     requires small { 4 * (width * height) < 2 ^ 64 }
     requires from { from + count ≤ height }
@@ -55,14 +48,7 @@ fn move_up(
 }
 
 // copies rows to lower ones, from the last on
-fn move_down(
-    bytes: &mut [u8],
-    width: usize,
-    height: usize,
-    from: usize,
-    to: usize,
-    count: usize,
-)
+fn move_down(bytes: &mut [u8], width: usize, height: usize, from: usize, to: usize, count: usize)
     requires size { length bytes.old ≡ 4 * (width * height) }
     requires small { 4 * (width * height) < 2 ^ 64 }
     requires to { to + count ≤ height }
