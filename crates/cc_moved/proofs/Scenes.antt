@@ -204,5 +204,5 @@ alike_moved s old new before after damage first region above under by none top e
     let high = rows.high in (
       record { low = omega (arith, ints); high = omega (arith, ints) },
       ap (scene_pixel new x) (sym still) ∙ sym (cut.pixels x y rows) ∙ sym (alike x y there next.0) ∙ moved.pixels x y rows
-      ∙ ap (λ (d : ℤ). scene_pixel old x (y -ℤ d)) b,
+          ∙ ap (λ (d : ℤ). scene_pixel old x (y -ℤ d)) b,
     )

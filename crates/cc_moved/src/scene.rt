@@ -9,11 +9,7 @@ use cc_scene::{Quad, RenderPass, Scene};
 use std::alloc::{AllocError, Global};
 
 /// A scene that shows between some rows what another shows so many rows higher. An error is want of memory.
-pub(crate) fn moved(
-    alloc: Global,
-    scene: &Scene,
-    cut: Cut,
-) -> Result<Scene, AllocError>
+pub(crate) fn moved(alloc: Global, scene: &Scene, cut: Cut) -> Result<Scene, AllocError>
     requires cut { IsCut cut.by cut.top cut.end }
     requires end { cut.end ≤ℤ pos scene.now.h }
     ensures { IfOk result (λ after. IsMoved cut.by cut.top cut.end scene.now after) }
@@ -47,11 +43,7 @@ fn moved_passes(
 }
 
 // the quads of a pass, moved and cut
-fn moved_quads(
-    alloc: Global,
-    quads: &[Quad],
-    cut: Cut,
-) -> Result<Vec<Quad>, AllocError>
+fn moved_quads(alloc: Global, quads: &[Quad], cut: Cut) -> Result<Vec<Quad>, AllocError>
     requires cut { IsCut cut.by cut.top cut.end }
     requires shown { All IsShown (quads_view quads.now) }
     ensures act { IfOk result (λ after. ActMoved cut.by cut.top cut.end (quads_view quads.now) (quads_view after.items)) }
@@ -65,11 +57,7 @@ fn moved_quads(
 }
 
 // adds a quad that is moved and cut behind others
-fn add_moved(
-    quad: &Quad,
-    cut: Cut,
-    after: &mut Vec<Quad>,
-) -> Result<(), AllocError>
+fn add_moved(quad: &Quad, cut: Cut, after: &mut Vec<Quad>) -> Result<(), AllocError>
     requires cut { IsCut cut.by cut.top cut.end }
     requires shown { IsShown (quad_view quad.now) }
     ensures act { OnOk result ((qs : List QuadView) → ActMoved cut.by cut.top cut.end qs (quads_view after.old.items) → ActMoved cut.by cut.top cut.end (qs ++ quad_view quad.now ∷ []) (quads_view after.new.items)) }

@@ -1,5 +1,5 @@
 -- Frames that show one scene, and so another one too.
-use Rattle.std.proofs.Common.{◌≡◌, ℕ, ◌<◌, ℤ, pos, Bool, true, false, cond, List, refl, sym, ◌∙◌, ap, subst, arith}
+use Rattle.std.proofs.Common.{◌≡◌, ℕ, ◌+◌, ◌-◌, ◌<◌, ℤ, pos, ◌-ℤ◌, Bool, true, false, cond, List, refl, sym, ◌∙◌, ap, subst, arith}
 use Rattle.std.specs.Prelude.{Option, Some, IfSome}
 use Rattle.std.proofs.lemmas.Int.{ints}
 use Rattle.cc_geom.specs.declared.Rect.{Rect}
@@ -11,6 +11,11 @@ use Rattle.cc_scene.specs.Views.{SceneView}
 use Rattle.cc_scene.specs.Pixels.{scene_pixel}
 use Rattle.cc_render.specs.Frames.{FrameView, IsOfSize, ShowsIn, frame_pixel}
 use Rattle.cc_damage.specs.Damage.{AreAlikeOutside, screen}
+use Rattle.cc_render.specs.Frames.{EachIs}
+use Rattle.cc_render.specs.CopiedRows.{row_before}
+use Rattle.cc_render.proofs.CopySteps.{row_in}
+use Rattle.cc_moved.specs.declared.shift.Shift.{Shift}
+use Rattle.cc_moved.specs.Moved.{IsShift, AreAlikeMoved, fall}
 use Rattle.cc_occlude.specs.Culled.{IsCulled}
 use Rattle.cc_render.proofs.Hulls.{differs}
 use Rattle.cc_painter.specs.Painters.{ShowsWhole, HoldsCulled, IsKeptOutside, has_row}
@@ -40,6 +45,35 @@ redrawn old s region before after wide tall shown alike size drawn = record {
       drawn x y xw yh
       ∙ by_place (covered region (pos x) (pos y)) (scene_pixel s (pos x) (pos y)) (frame_pixel before x y)
       (λ out. shown.pixels x y (omega arith) (omega arith) ∙ alike (pos x) (pos y) (on_screen old x y (omega arith) (omega arith)) out);
+}
+
+-- rows of a frame of the scene before were moved, and the rest was drawn
+pub redrawn_moved : (old s : SceneView) (shift : Shift) (region : List Rect) (before mid after : FrameView) → old.w ≡ s.w → old.h ≡ s.h → ShowsWhole old before
+    → IsShift s.h shift → AreAlikeMoved shift region old s → IsOfSize before.w before.h mid
+    → EachIs (λ x y. frame_pixel before x (row_before shift.from shift.to shift.count y)) mid
+    → IsOfSize s.w s.h after → ShowsIn s region mid after → ShowsWhole s after
+redrawn_moved old s shift region before mid after wide tall shown is alike same moved size drawn = record {
+  size = size;
+  pixels = λ x y xw yh.
+      let sw = size.wide in
+      let sh = size.tall in
+      let bw = shown.size.wide in
+      let bh = shown.size.tall in
+      let mw = same.wide in
+      let mh = same.tall in
+      let inside = is.before in
+      drawn x y xw yh
+      ∙ by_place (covered region (pos x) (pos y)) (scene_pixel s (pos x) (pos y)) (frame_pixel mid x y)
+      (λ out.
+      let here = alike (pos x) (pos y) (on_screen s x y (omega arith) (omega arith)) out in
+      let low = here.0.low in
+      let high = here.0.high in
+      let j = y - shift.to in
+      let from : row_before shift.from shift.to shift.count y ≡ shift.from + j =
+      row_in shift.from shift.to shift.count y j (omega (arith, ints)) (omega (arith, ints)) in
+      let row : pos (shift.from + j) ≡ pos y -ℤ fall shift = omega (arith, ints) in
+      moved x y (omega arith) (omega arith) ∙ ap (frame_pixel before x) from ∙ shown.pixels x (shift.from + j) (omega arith) (omega (arith, ints))
+      ∙ ap (scene_pixel old (pos x)) row ∙ sym here.1);
 }
 
 -- a scene without its hidden quads was drawn

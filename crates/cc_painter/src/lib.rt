@@ -15,6 +15,7 @@ mod held;
 mod painting;
 mod redrawing;
 mod rows;
+mod worth;
 
 pub use painting::Painter;
 pub use rows::Rows;

@@ -2,6 +2,7 @@
 
 ghost use Rattle.std.specs.Prelude.{◌≡◌, IfSome, IfOk, OnOk, IsTrue};
 ghost use Rattle.cc_render.specs.Frames.{IsOfSize};
+ghost use Rattle.cc_moved.specs.Moved.{IsShift};
 ghost use Rattle.cc_occlude.specs.Culled.{IsCulled};
 ghost use Rattle.cc_painter.specs.Painters.{ShowsWhole, IsKeptOutside};
 ghost use Rattle.cc_painter.specs.inner.Helds.{culled_of};
@@ -10,7 +11,9 @@ use crate::changes::{all_rows, rows_of};
 use crate::hands::Hands;
 use crate::held::Held;
 use crate::rows::Rows;
+use crate::worth::pays;
 use cc_damage::damage_of;
+use cc_moved::{Shift, damage_of_shift, shift_of};
 use cc_render::Frame;
 use cc_scene::Scene;
 use std::alloc::{AllocError, Global};
@@ -52,7 +55,7 @@ fn redraw<H: Hands>(
 {
     match held {
         Some(old) if are_of_one_size(old.culled(), scene) => {
-            draw_damage(hands, alloc, frame, old.culled(), scene)
+            draw_change(hands, alloc, frame, old.culled(), scene)
         }
         _ => draw_whole(hands, alloc, frame, scene),
     }
@@ -93,6 +96,55 @@ fn fit(alloc: Global, frame: &mut Frame, scene: &Scene) -> Result<(), AllocError
     let new = Frame::new(alloc, scene.w(), scene.h())?;
     *frame = new;
     Ok(())
+}
+
+// draws where a scene differs from the one of its size that the frame shows, which may have been scrolled
+fn draw_change<H: Hands>(
+    hands: &H,
+    alloc: Global,
+    frame: &mut Frame,
+    old: &Scene,
+    scene: &Scene,
+) -> Result<Rows, AllocError>
+    requires can { H.can_draw hands.now }
+    requires wide { old.now.w ≡ scene.now.w }
+    requires tall { old.now.h ≡ scene.now.h }
+    requires shown { ShowsWhole old.now frame.old }
+    ensures shown { OnOk result (ShowsWhole scene.now frame.new) }
+    ensures kept { IfOk result (λ rows. IsKeptOutside rows frame.old frame.new) }
+{
+    match shift_of(old, scene) {
+        Some(shift) => draw_shift(hands, alloc, frame, old, scene, shift),
+        None => draw_damage(hands, alloc, frame, old, scene),
+    }
+}
+
+// moves rows of the frame and draws the rest, where that is less than the damage; else draws the damage
+fn draw_shift<H: Hands>(
+    hands: &H,
+    alloc: Global,
+    frame: &mut Frame,
+    old: &Scene,
+    scene: &Scene,
+    shift: Shift,
+) -> Result<Rows, AllocError>
+    requires can { H.can_draw hands.now }
+    requires wide { old.now.w ≡ scene.now.w }
+    requires tall { old.now.h ≡ scene.now.h }
+    requires shift { IsShift scene.now.h shift }
+    requires shown { ShowsWhole old.now frame.old }
+    ensures shown { OnOk result (ShowsWhole scene.now frame.new) }
+    ensures kept { IfOk result (λ rows. IsKeptOutside rows frame.old frame.new) }
+{
+    let rest = damage_of_shift(alloc, old, scene, shift)?;
+    let damage = damage_of(alloc, old, scene)?;
+    if !pays(&rest, &damage) {
+        hands.draw_region(scene, frame, &damage)?;
+        return Ok(rows_of(&damage));
+    }
+    frame.copy_rows(shift.from, shift.to, shift.count);
+    hands.draw_region(scene, frame, &rest)?;
+    Ok(all_rows(frame))
 }
 
 // draws where a scene differs from the one of its size that the frame shows

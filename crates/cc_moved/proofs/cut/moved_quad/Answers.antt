@@ -38,9 +38,9 @@ returns-in_ok-image-in-Some c =
     ActMoved c.args.cut.by c.args.cut.top c.args.cut.end (tiled c.in-Tile.image.value c.in-Tile.at c.in-Tile.from ∷ []) (tiled i place start ∷ [])
     × AlsoFit c.args.cut.end (tiled c.in-Tile.image.value c.in-Tile.at c.in-Tile.from ∷ []) (tiled i place start ∷ [])) (sym c.in_ok-image-in-Some.ensures) (
       tile_moved c.args.cut.by c.args.cut.top c.args.cut.end c.in-Tile.image.value c.in-Tile.at place c.in-Tile.from start c.in-Some.ensures c.start_of-from.ensures.x
-      c.start_of-from.ensures.y,
+          c.start_of-from.ensures.y,
       tile_fits c.args.cut.by c.args.cut.top c.args.cut.end c.in-Tile.image.value c.in-Tile.at place c.in-Tile.from start c.requires.cut c.in-Some.ensures
-      c.start_of-from.ensures.x c.start_of-from.ensures.y,
+          c.start_of-from.ensures.x c.start_of-from.ensures.y,
     ))
 
 pub returns-in-None : goal.returns-in-None
