@@ -27,7 +27,7 @@ impl Core {
         ensures err { OnErr result (self.new ≡ self.old) }
     {
         // A draw that begins is followed by questions for the next tile.
-        if kind == Kind::BeginDraw {
+        if kind == Kind::BeginDraw && self.may_plain(kind) {
             self.refresh()?;
         }
         self.enter_plain(kind)
