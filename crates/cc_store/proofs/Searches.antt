@@ -12,7 +12,7 @@ use Rattle.cc_store.specs.declared.held.Held.{Held}
 use Rattle.cc_store.specs.inner.TileTables.{Before, After, Rises, StandsAt, IsGapFor}
 use Rattle.cc_geom.proofs.KeyOrders.{key_total, key_ties}
 use Rattle.cc_store.proofs.KeyOrders.{ties_itself, flips, flips_back}
-use Rattle.cc_store.proofs.HeldLists.{split_before, split_after}
+use Rattle.cc_store.proofs.HeldLists.{after_more, split_before, split_after}
 
 -- no key is below the one before it
 next_after : (k : TileKey) (hs : List Held) (d : Held) → After k hs → 0 < length hs → is_lt (key_cmp (get_or hs 0 d).key k) ≡ false
@@ -69,3 +69,23 @@ searched hs key (Err at) rises range result =
         after = all_after key hs at parted.1;
       };
     }
+
+at_after : (k : TileKey) (hs : List Held) (at : ℕ) (d : Held) → After k hs → at < length hs → key_cmp k (get_or hs at d).key ≡ Less
+at_after k [] at d a lt = absurd (omega arith)
+at_after k (h ∷ hs) zero d a lt = a.0
+at_after k (h ∷ hs) (suc at) d a lt = at_after k hs at d a.1 (omega arith)
+
+-- the key before an index tells of all before it
+pub below_before : (hs : List Held) (key : TileKey) (at : ℕ) → Rises hs → at < length hs → ((d : Held) → key_cmp (get_or hs at d).key key ≡ Less) → Before key (take (suc at) hs)
+below_before [] key at r lt is = absurd (omega arith)
+below_before (h ∷ hs) key zero r lt is = (is h, tt)
+below_before (h ∷ hs) key (suc at) r lt is =
+    let later = below_before hs key at r.1 (omega arith) is in
+    (key_total.trans h.key (get_or hs at h).key key (at_after h.key hs at h r.0 (omega arith)) (is h), later)
+
+-- the key at an index tells of all from it on
+pub above_from : (hs : List Held) (key : TileKey) (at : ℕ) → Rises hs → ((d : Held) → at < length hs → key_cmp key (get_or hs at d).key ≡ Less) → After key (drop at hs)
+above_from [] key zero r is = tt
+above_from [] key (suc at) r is = tt
+above_from (h ∷ hs) key zero r is = let first = is h (omega arith) in (first, after_more key h.key hs first r.0)
+above_from (h ∷ hs) key (suc at) r is = above_from hs key at r.1 (λ d lt. is d (omega arith))
