@@ -11,7 +11,6 @@ use Rattle.cc_geom.specs.declared.tile.TileKey.{TileKey}
 use Rattle.cc_geom.specs.KeyOrder.{key_cmp}
 use Rattle.cc_store.specs.declared.held.Held.{Held}
 use Rattle.cc_store.specs.declared.held.Tile.{Tile}
-use Rattle.cc_geom.specs.KeyLists.{has_key}
 use Rattle.cc_store.specs.inner.Rows.{if_live}
 use Rattle.cc_store.specs.inner.TileTables.{shown, rows, After, Rises, AreKept, AreSame, is_made, stays, marked}
 use Rattle.cc_store.proofs.KeyOrders.{tied}
@@ -125,16 +124,16 @@ same_both true x = refl
 same_both false x = refl
 
 -- the walk leaves the live keys and those without an image
-module _ (g : ℕ → Option Tile) (live : List TileKey) where
+module _ (g : ℕ → Option Tile) (live : TileKey → Bool) where
   abbrev walked : List Held → List Held
   walked hs = filter (stays g) (map (marked live) hs)
 
-  pub find_walked : (q : TileKey) (hs : List Held) → Rises hs → find key_cmp q (rows g (walked hs)) ≡ if_live (has_key live q) (find key_cmp q (rows g hs))
-  find_walked q [] r = nothing (has_key live q)
+  pub find_walked : (q : TileKey) (hs : List Held) → Rises hs → find key_cmp q (rows g (walked hs)) ≡ if_live (live q) (find key_cmp q (rows g hs))
+  find_walked q [] r = nothing (live q)
   find_walked q (h ∷ hs) r =
       pushed (stays g (marked live h))
-      ∙ ap (λ b. cond b (cond (eq_by_cmp key_cmp q h.key) (Some (image_at g h)) (find key_cmp q (rows g (walked hs)))) (find key_cmp q (rows g (walked hs)))) (ap (λ b. has_key live h.key || not b) (made_is_shown (g h.place)))
-      ∙ ap (λ o. cond (has_key live h.key || not (is_some (image_at g h))) (cond (eq_by_cmp key_cmp q h.key) (Some (image_at g h)) o) o) (find_walked q hs r.1)
+      ∙ ap (λ b. cond b (cond (eq_by_cmp key_cmp q h.key) (Some (image_at g h)) (find key_cmp q (rows g (walked hs)))) (find key_cmp q (rows g (walked hs)))) (ap (λ b. live h.key || not b) (made_is_shown (g h.place)))
+      ∙ ap (λ o. cond (live h.key || not (is_some (image_at g h))) (cond (eq_by_cmp key_cmp q h.key) (Some (image_at g h)) o) o) (find_walked q hs r.1)
       ∙ by_key (eq_by_cmp key_cmp q h.key) refl
     where
       pushed : (b : Bool) → find key_cmp q (rows g (cond b (marked live h ∷ walked hs) (walked hs))) ≡ cond b (cond (eq_by_cmp key_cmp q h.key) (Some (image_at g h)) (find key_cmp q (rows g (walked hs)))) (find key_cmp q (rows g (walked hs)))
@@ -142,11 +141,11 @@ module _ (g : ℕ → Option Tile) (live : List TileKey) where
       pushed false = refl
 
       by_key : (here : Bool) → eq_by_cmp key_cmp q h.key ≡ here
-          → cond (has_key live h.key || not (is_some (image_at g h))) (cond here (Some (image_at g h)) (if_live (has_key live q) (find key_cmp q (rows g hs)))) (if_live (has_key live q) (find key_cmp q (rows g hs)))
-          ≡ if_live (has_key live q) (cond here (Some (image_at g h)) (find key_cmp q (rows g hs)))
+          → cond (live h.key || not (is_some (image_at g h))) (cond here (Some (image_at g h)) (if_live (live q) (find key_cmp q (rows g hs)))) (if_live (live q) (find key_cmp q (rows g hs)))
+          ≡ if_live (live q) (cond here (Some (image_at g h)) (find key_cmp q (rows g hs)))
       by_key true e =
           let k : q ≡ h.key = tied q h.key e in
           let none = find_after (image_at g) q hs (subst (λ z. After z hs) (sym k) r.0) in
-          subst (λ z. cond (has_key live z || not (is_some (image_at g h))) (Some (image_at g h)) (if_live (has_key live q) (find key_cmp q (rows g hs))) ≡ if_live (has_key live q) (Some (image_at g h))) k
-          (step (has_key live q) (image_at g h) (find key_cmp q (rows g hs)) none)
-      by_key false e = same_both (has_key live h.key || not (is_some (image_at g h))) (if_live (has_key live q) (find key_cmp q (rows g hs)))
+          subst (λ z. cond (live z || not (is_some (image_at g h))) (Some (image_at g h)) (if_live (live q) (find key_cmp q (rows g hs))) ≡ if_live (live q) (Some (image_at g h))) k
+          (step (live q) (image_at g h) (find key_cmp q (rows g hs)) none)
+      by_key false e = same_both (live h.key || not (is_some (image_at g h))) (if_live (live q) (find key_cmp q (rows g hs)))

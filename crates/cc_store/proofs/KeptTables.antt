@@ -10,7 +10,6 @@ use Rattle.cc_geom.specs.declared.tile.TileKey.{TileKey}
 use Rattle.cc_geom.specs.KeyOrder.{key_cmp}
 use Rattle.cc_store.specs.declared.held.Held.{Held}
 use Rattle.cc_store.specs.declared.held.Tile.{Tile}
-use Rattle.cc_geom.specs.KeyLists.{has_key}
 use Rattle.cc_store.specs.inner.Rows.{if_live}
 use Rattle.cc_store.specs.inner.TileTables.{shown, rows, After, Rises, AreKept, AreSame, HasTileOf, IsTileTable, stays, marked}
 use Rattle.cc_store.proofs.Marks.{rises_marked}
@@ -51,7 +50,7 @@ module _ (test : Held → Bool) where
   length_filter (h ∷ hs) = length_either h (filter test hs) (length hs) (test h) (length_filter hs)
 
 -- marks leave the places with their tiles
-pub kept_marked : (g : ℕ → Option Tile) (live : List TileKey) (hs : List Held) → AreKept g hs → AreKept g (map (marked live) hs)
+pub kept_marked : (g : ℕ → Option Tile) (live : TileKey → Bool) (hs : List Held) → AreKept g hs → AreKept g (map (marked live) hs)
 kept_marked g live [] k = tt
 kept_marked g live (h ∷ hs) k = (k.0, kept_marked g live hs k.1)
 
@@ -63,7 +62,7 @@ rows_same : (g new : ℕ → Option Tile) (hs : List Held) → AreSame g new hs 
 rows_same g new [] s = refl
 rows_same g new (h ∷ hs) s = λ i. (h.key, option_and_then shown (s.0 i)) ∷ rows_same g new hs s.1 i
 
-module _ (first new : Slab Tile) (held now : List Held) (live : List TileKey) (table : IsTileTable first held)
+module _ (first new : Slab Tile) (held now : List Held) (live : TileKey → Bool) (table : IsTileTable first held)
     (is : now ≡ filter (stays (get first)) (map (marked live) held)) (same : AreSame (get first) (get new) now) where
   pub kept_table : IsTileTable new now
   kept_table =
@@ -77,19 +76,19 @@ module _ (first new : Slab Tile) (held now : List Held) (live : List TileKey) (t
         few = omega (arith, table.few, ap length is, length_filter test marks, length-map held (marked live));
       }
 
-  pub kept_map : (q : TileKey) → fin.get (held_map new now) q ≡ if_live (has_key live q) (fin.get (held_map first held) q)
+  pub kept_map : (q : TileKey) → fin.get (held_map new now) q ≡ if_live (live q) (fin.get (held_map first held) q)
   kept_map q =
       get-from_sorted key_cmp (rows (get new) now) q (sorted new now kept_table.rises)
       ∙ ap (fin.find key_cmp q) (rows_same (get first) (get new) now same ∙ ap (rows (get first)) is)
       ∙ find_walked (get first) live q held table.rises
-      ∙ ap (if_live (has_key live q)) (sym (get-from_sorted key_cmp (rows (get first) held) q (sorted first held table.rises)))
+      ∙ ap (if_live (live q)) (sym (get-from_sorted key_cmp (rows (get first) held) q (sorted first held table.rises)))
 
 -- a list that was lent whole, as it comes back
 pub lent : (n : ℕ) (new rest : List Held) → length new ≡ n → take n (new ++ rest) ≡ new
 lent n new rest e = take-append-le n new rest (omega arith) ∙ take_all n new (omega arith)
 
 -- the held keys after the marks were set on the list that was lent
-pub marked_back : (live : List TileKey) (held shown marks again rest : List Held) (n : ℕ) → marks ≡ map (marked live) shown → shown ≡ held → length shown ≡ n
+pub marked_back : (live : TileKey → Bool) (held shown marks again rest : List Held) (n : ℕ) → marks ≡ map (marked live) shown → shown ≡ held → length shown ≡ n
     → again ≡ take n (marks ++ rest) → again ≡ map (marked live) held
 marked_back live held shown marks again rest n made is long back =
     back ∙ lent n marks rest (ap length made ∙ length-map shown (marked live) ∙ long) ∙ made ∙ ap (map (marked live)) is

@@ -42,6 +42,10 @@ module _ {X : Type 0} where
   has_image (Some None) e = cc
   has_image (Some (Some x)) e = refl
 
+  -- a ready key is not in flight
+  pub not_flying : (m : FinMap key_cmp (Option X)) (q : TileKey) → is_some (get (ready_of m) q) ≡ true → is_flying (get m q) ≡ false
+  not_flying m q ready = has_image (get m q) (ap is_some (sym (get_ready m q)) ∙ ready)
+
   nothing_left : (b : Bool) → if_not_named {X = X} b None ≡ None
   nothing_left true = refl
   nothing_left false = refl
@@ -81,7 +85,7 @@ module _ {X : Type 0} where
       started_flying ready = same_set key_total key_ties _ _ (λ q.
           contains_flying new q
           ∙ ap is_flying (found q)
-          ∙ start_flying (eq_by_cmp key_cmp q key) (has_key evicted q) (get m q) (λ e. has_image (get m q) (ap is_some (sym (get_ready m q)) ∙ ready q e))
+          ∙ start_flying (eq_by_cmp key_cmp q key) (has_key evicted q) (get m q) (λ e. not_flying m q (ready q e))
           ∙ ap (λ b. eq_by_cmp key_cmp q key || b) (sym (contains_flying m q))
           ∙ sym (contains-insert key_total (flying_of m) key q))
 

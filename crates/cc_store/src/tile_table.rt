@@ -1,11 +1,11 @@
 //! The held keys with their tiles.
 
-ghost use Rattle.std.specs.Prelude.{◌≡◌, ◌≤◌, ◌+◌, Some, None, IsSome, IfOk, OnOk, OnErr, option_map};
+ghost use Rattle.std.specs.Prelude.{◌≡◌, ◌≤◌, ◌+◌, true, false, Some, None, IsSome, IfOk, OnOk, OnErr, option_map};
 ghost use Rattle.cc_geom.specs.declared.tile.TileKey.{TileKey};
 ghost use Rattle.std.specs.FinMap as fin;
 ghost use Rattle.cc_geom.specs.KeyLists.{has_key};
-ghost use Rattle.cc_store.specs.inner.Rows.{ready_of, if_live, if_not_named};
-ghost use Rattle.cc_store.specs.inner.TileTables.{shown};
+ghost use Rattle.cc_store.specs.inner.Rows.{ready_of, is_flying, if_live, if_not_named};
+ghost use Rattle.cc_store.specs.inner.TileTables.{shown, mark_of};
 
 use crate::held::{Held, Tile};
 use crate::ready_keys::ReadyKeys;
@@ -21,6 +21,9 @@ use std::sync::Arc;
 
 /// The most keys.
 const MOST: usize = u32::MAX as usize;
+
+/// So many keys are taken out one by one; for more of them one walk over all keys costs less.
+const FEW: usize = 4;
 
 /// Keys with their tiles, which contracts see as a map from each key to its image, or to none while that is
 /// being made.
@@ -153,13 +156,37 @@ impl TileTable {
         }
     }
 
-    /// Drops these keys with their tiles, where they are held.
-    pub(crate) fn remove_all(&mut self, keys: &[TileKey])
+    // Drops these keys with their tiles, where they are held, one by one.
+    fn remove_each(&mut self, keys: &[TileKey])
         ensures held { (q : TileKey) → fin.get self.new.held q ≡ if_not_named (has_key keys.now q) (fin.get self.old.held q) }
         ensures spare { self.old.spare ≤ self.new.spare }
     {
         for key in keys {
             self.remove(*key);
+        }
+    }
+
+    // Drops images with their keys: those of the list where it isn't of live keys, else those of all others. Keys
+    // whose images are being made stay.
+    fn sift(&mut self, named: &[TileKey], live: bool)
+        ensures held { (q : TileKey) → fin.get self.new.held q ≡ if_live (mark_of named.now live q) (fin.get self.old.held q) }
+        ensures spare { self.old.spare ≤ self.new.spare }
+    {
+        mark(&mut self.held, named, live);
+        let kept = drop_unmarked(&mut self.held, &mut self.tiles);
+        self.held.truncate(kept);
+    }
+
+    /// Drops these keys with their tiles, where they are held. None of them is being made.
+    pub(crate) fn remove_all(&mut self, keys: &[TileKey])
+        requires made { (q : TileKey) → has_key keys.now q ≡ true → is_flying (fin.get self.old.held q) ≡ false }
+        ensures held { (q : TileKey) → fin.get self.new.held q ≡ if_not_named (has_key keys.now q) (fin.get self.old.held q) }
+        ensures spare { self.old.spare ≤ self.new.spare }
+    {
+        if keys.len() <= FEW {
+            self.remove_each(keys);
+        } else {
+            self.sift(keys, false);
         }
     }
 
@@ -169,9 +196,7 @@ impl TileTable {
         ensures held { (q : TileKey) → fin.get self.new.held q ≡ if_live (has_key live.now q) (fin.get self.old.held q) }
         ensures spare { self.old.spare ≤ self.new.spare }
     {
-        mark(&mut self.held, live);
-        let kept = drop_unmarked(&mut self.held, &mut self.tiles);
-        self.held.truncate(kept);
+        self.sift(live, true);
     }
 
     /// The keys that have an image, in their order. An error is want of memory.

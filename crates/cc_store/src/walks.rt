@@ -1,8 +1,8 @@
 //! Walks over the held keys that keep the live ones.
 
-ghost use Rattle.std.specs.Prelude.{◌≡◌, ◌≤◌, [], map, filter, take, length};
+ghost use Rattle.std.specs.Prelude.{◌≡◌, ◌≤◌, map, filter, take, length};
 ghost use Rattle.slab.specs.Slab.{get, slab_len};
-ghost use Rattle.cc_store.specs.inner.TileTables.{Rises, AreKept, AreSame, marked, also_marked, stays};
+ghost use Rattle.cc_store.specs.inner.TileTables.{Rises, AreKept, AreSame, marked, marked_one, mark_of, stays};
 
 use crate::held::{Held, Tile};
 use crate::search::search_near;
@@ -10,36 +10,37 @@ use crate::tiles::is_made;
 use cc_geom::TileKey;
 use slab::Slab;
 
-/// Takes all marks away.
-fn clear(held: &mut [Held])
-    ensures { held.new ≡ map (marked []) held.old }
+/// Says of all keys alike whether they are live.
+fn mark_all(held: &mut [Held], live: bool)
+    ensures { held.new ≡ map (marked (λ _. live)) held.old }
 {
     for one in held.iter_mut() {
-        one.live = false;
+        one.live = live;
     }
 }
 
-/// Marks this key, where it is there. A key that stands at index `near` is found without a search, and `near` is then
-/// the index behind it.
-fn mark_one(held: &mut [Held], near: &mut usize, key: TileKey)
+/// Says of this key whether it is live, where it is there. A key that stands at index `near` is found without a
+/// search, and `near` is then the index behind it.
+fn mark_one(held: &mut [Held], near: &mut usize, key: TileKey, live: bool)
     requires { Rises held.old }
-    ensures { held.new ≡ map (also_marked key) held.old }
+    ensures { held.new ≡ map (marked_one key live) held.old }
 {
     if let Ok(at) = search_near(held, *near, key) {
-        held[at].live = true;
+        held[at].live = live;
         *near = at + 1;
     }
 }
 
-/// Marks the keys of the list and no others. Where they stand in key order, most are found without a search.
-pub(crate) fn mark(held: &mut [Held], live: &[TileKey])
+/// Says of the keys of the list whether they are live, and of all others the opposite. Where the list stands in key
+/// order, most are found without a search.
+pub(crate) fn mark(held: &mut [Held], named: &[TileKey], live: bool)
     requires { Rises held.old }
-    ensures { held.new ≡ map (marked live.now) held.old }
+    ensures { held.new ≡ map (marked (mark_of named.now live)) held.old }
 {
-    clear(held);
+    mark_all(held, !live);
     let mut near = 0;
-    for key in live {
-        mark_one(held, &mut near, *key);
+    for key in named {
+        mark_one(held, &mut near, *key, live);
     }
 }
 

@@ -1,5 +1,5 @@
 -- How a tile store lays out what it holds.
-use Rattle.std.specs.Prelude.{◌≡◌, ◌<◌, ◌≤◌, ℕ, suc, ◌-◌, min, Bool, false, not, ◌||◌, is_some, Option, Some, None, option_map, List, [], ◌∷◌, map, filter, length, take, drop, refl}
+use Rattle.std.specs.Prelude.{◌≡◌, ◌<◌, ◌≤◌, ℕ, suc, ◌-◌, min, Bool, false, not, ◌||◌, if◌then◌else◌, is_some, Option, Some, None, option_map, List, [], ◌∷◌, map, filter, length, take, drop, refl}
 use Rattle.std.specs.declared.cmp.Ordering.TheVariants.{Less}
 use Rattle.std.specs.Option.{option_and_then}
 use Rattle.std.specs.Ordering.{eq_by_cmp}
@@ -86,13 +86,17 @@ pub record IsTileTable (tiles : Slab Tile) (held : List Held) : Type 0 where
   pub kept : AreKept (get tiles) held
   pub few : length held ≤ 4294967295
 
--- the mark says whether the key is one of the list
-abbrev pub marked : List TileKey → Held → Held
-marked live h = record h { live = has_key live h.key }
+-- the mark says whether the key is live
+abbrev pub marked : (TileKey → Bool) → Held → Held
+marked live h = record h { live = live h.key }
 
--- this key is marked too
-abbrev pub also_marked : TileKey → Held → Held
-also_marked key h = record h { live = h.live || eq_by_cmp key_cmp h.key key }
+-- this key gets another mark
+abbrev pub marked_one : TileKey → Bool → Held → Held
+marked_one key live h = record h { live = if eq_by_cmp key_cmp h.key key then live else h.live }
+
+-- the mark of the keys of a list, and of all others the opposite
+abbrev pub mark_of : List TileKey → Bool → TileKey → Bool
+mark_of named live k = if has_key named k then live else not live
 
 -- the tile has its image
 abbrev pub is_made : Option Tile → Bool
