@@ -1,5 +1,5 @@
 -- The rows that a picture keeps.
-use Rattle.std.proofs.Common.{◌≡◌, ℕ, zero, suc, ◌<◌, ◌≤◌, ◌+◌, ◌*◌, ◌-◌, inl, inr, List, length, take, drop, slice_index, sym, ◌∙◌, ap, subst, arith}
+use Rattle.std.proofs.Common.{◌≡◌, ℕ, zero, suc, ◌<◌, ◌≤◌, ◌+◌, ◌*◌, inl, inr, List, length, take, drop, slice_index, sym, ◌∙◌, ap, subst, arith}
 use Rattle.std.proofs.Math.Nat.{zero-mul, mul-le-mul_left}
 use Rattle.std.proofs.lemmas.Bool.{cases_lt}
 use Rattle.std.proofs.lemmas.Int.{clamps}
@@ -11,7 +11,7 @@ use Rattle.cc_display.specs.declared.Item.{Item}
 use Rattle.cc_display.specs.Bitmaps.{near}
 use Rattle.cc_raster.specs.Images.{shown, IsRow, HasTwoColours, row_bytes}
 use Rattle.cc_raster.specs.Images.{AreSameRows}
-use Rattle.cc_raster.specs.inner.Bands.{AreKept}
+use Rattle.cc_raster.specs.inner.Bands.{AreKept, IsEnd}
 use Rattle.cc_raster.proofs.RowBytes.{pixel_part, part_premultiplied}
 
 -- the end of a row lies inside the bytes
@@ -64,17 +64,17 @@ rows_kept list r places bytes kept count low size ready pixels = record {
     turned w y x = grind arith
 
 -- the rows of one place show the colour of the first
-pub same_colour : (list : List Item) (r : Rect) (places bytes : List ℕ) (y n : ℕ) (c : Parts) → AreKept list r places bytes
-    → y + n ≤ near r.h → ((k : ℕ) → k < n → slice_index places (y + k) ≡ slice_index places y)
-    → ((x j : ℕ) → x < near r.w → j < y → shown list r x j ≡ c) → ((x : ℕ) → x < near r.w → shown list r x y ≡ c)
-    → (x j : ℕ) → x < near r.w → j < y + n → shown list r x j ≡ c
-same_colour list r places bytes y n c kept fit equal before here x j low lt =
+pub same_colour : (list : List Item) (r : Rect) (places bytes : List ℕ) (y end : ℕ) (c : Parts) → AreKept list r places bytes
+    → IsEnd places y end → ((x j : ℕ) → x < near r.w → j < y → shown list r x j ≡ c) → ((x : ℕ) → x < near r.w → shown list r x y ≡ c)
+    → (x j : ℕ) → x < near r.w → j < end → shown list r x j ≡ c
+same_colour list r places bytes y end c kept stop before here x j low lt =
     elim (cases_lt j y) as (λ _. shown list r x j ≡ c) [
       | inl less ↦ before x j low less
       | inr from ↦
-          let place : y + (j - y) ≡ j = omega arith in
-          let same = kept_agree list r places bytes y (y + (j - y)) kept (omega arith) (omega arith) (equal (j - y) (omega arith)) in
-          ap (shown list r x) (sym place) ∙ sym (same x low) ∙ here x low
+          let some = stop.some in
+          let inside = stop.inside in
+          let same = kept_agree list r places bytes y j kept (omega (arith, kept.count)) (omega (arith, kept.count)) (stop.equal j from lt) in
+          sym (same x low) ∙ here x low
     ]
 
 -- a pixel that differs from the first

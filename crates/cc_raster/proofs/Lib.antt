@@ -1,5 +1,6 @@
 pub mod RowBytes
 pub mod KeptRows
 pub mod Places
+pub mod Ends
 pub mod Draws
 pub mod Batches

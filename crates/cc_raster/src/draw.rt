@@ -158,18 +158,3 @@ fn place_at(places: &[u32], kept: usize, y: usize) -> usize
         None => kept,
     }
 }
-
-/// How many rows from row y on have the place of row y.
-pub(crate) fn equal_places_at(places: &[u32], y: usize) -> usize
-    requires { y < length places.now }
-    ensures some { 1 ≤ result }
-    ensures inside { y + result ≤ length places.now }
-    ensures equal { (k : ℕ) → k < result → slice_index places.now (y + k) ≡ slice_index places.now y }
-{
-    let first = places[y];
-    let mut rows = 1;
-    while y + rows < places.len() && places[y + rows] == first {
-        rows += 1;
-    }
-    rows
-}

@@ -6,9 +6,8 @@ ghost use Rattle.cc_display.specs.Bitmaps.{near};
 ghost use Rattle.cc_raster.specs.Images.{Image, IsRow, IsOneColour, HasTwoColours};
 ghost use Rattle.cc_raster.specs.Images.{AreSameRows};
 
-use crate::draw::equal_places_at;
 use crate::pixels::{one_colour, row_at, width_of};
-use crate::rows::{Rows, kept_rows};
+use crate::rows::{Rows, end_of, kept_rows};
 use cc_display::DisplayList;
 use cc_geom::{Rect, TileKey};
 use cc_pixel::Colour;
@@ -31,13 +30,13 @@ pub struct TileImage {
 impl Model for TileImage {
     ghost use Rattle.cc_geom.specs.Covers.{IsSound};
     ghost use Rattle.cc_raster.specs.Images.{Image};
-    ghost use Rattle.cc_raster.specs.inner.Bands.{AreKept, IsSolid};
+    ghost use Rattle.cc_raster.specs.inner.Bands.{AreKept, AreEnds, IsSolid};
 
     ghost Value = { Image };
 
     ghost view = { λ i. record { key = i.key; rect = i.rect; list = i.list.value } };
 
-    ghost invariant = { λ i. IsSound i.rect × AreKept i.list.value i.rect i.rows.places.items i.rows.bytes.items × IsSolid i.list.value i.rect i.solid };
+    ghost invariant = { λ i. IsSound i.rect × AreKept i.list.value i.rect i.rows.places.items i.rows.bytes.items × AreEnds i.rows.places.items i.rows.ends.items × IsSolid i.list.value i.rect i.solid };
 }
 
 impl TileImage {
@@ -100,7 +99,7 @@ impl TileImage {
         ensures inside { y + result ≤ near self.now.rect.h }
         ensures equal { (k : ℕ) → k < result → AreSameRows self.now.list self.now.rect y (y + k) }
     {
-        equal_places_at(&self.rows.places, y as usize) as u32
+        end_of(&self.rows, y as usize) - y
     }
 
     /// The colour of all pixels; None exactly where two of them differ. A picture without pixels answers

@@ -5,10 +5,9 @@ ghost use Rattle.cc_geom.specs.Covers.{IsSound};
 ghost use Rattle.cc_pixel.specs.Rows.{pixel, ArePremultiplied};
 ghost use Rattle.cc_display.specs.Bitmaps.{near};
 ghost use Rattle.cc_raster.specs.Images.{IsRow, row_bytes};
-ghost use Rattle.cc_raster.specs.inner.Bands.{AreKept, IsSolid};
+ghost use Rattle.cc_raster.specs.inner.Bands.{AreKept, AreEnds, IsSolid};
 
-use crate::draw::equal_places_at;
-use crate::rows::Rows;
+use crate::rows::{Rows, end_of};
 use cc_display::DisplayList;
 use cc_geom::Rect;
 use cc_pixel::{Colour, colour_at};
@@ -27,6 +26,7 @@ pub(crate) fn row_at(bytes: &[u8], width: usize, place: usize) -> &[u8]
 pub(crate) fn one_colour(list: &DisplayList, rect: Rect, rows: &Rows) -> Option<Colour>
     requires sound { IsSound rect }
     requires kept { AreKept list.now rect rows.now.places.items rows.now.bytes.items }
+    requires ends { AreEnds rows.now.places.items rows.now.ends.items }
     ensures { IsSolid list.now rect result }
 {
     let places = rows.places.as_slice();
@@ -39,7 +39,7 @@ pub(crate) fn one_colour(list: &DisplayList, rect: Rect, rows: &Rows) -> Option<
         if let Some(_other) = first_other(row_of(list, rect, rows, y), first) {
             return None;
         }
-        y += equal_places_at(places, y);
+        y = end_of(rows, y) as usize;
     }
     Some(first)
 }

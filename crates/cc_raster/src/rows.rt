@@ -5,7 +5,7 @@ ghost use Rattle.cc_geom.specs.Covers.{IsSound};
 ghost use Rattle.cc_pixel.specs.Colours.{clear};
 ghost use Rattle.cc_pixel.specs.Rows.{pixel, ArePremultiplied};
 ghost use Rattle.cc_display.specs.Bitmaps.{near};
-ghost use Rattle.cc_raster.specs.inner.Bands.{AreLevel, AreSteps, AreKept, IsCount};
+ghost use Rattle.cc_raster.specs.inner.Bands.{AreLevel, AreSteps, AreKept, IsEnd, AreEnds, IsCount};
 
 use crate::changes::changing_rows;
 use crate::draw::draw_items;
@@ -19,6 +19,8 @@ use std::alloc::{AllocError, Global};
 pub(crate) struct Rows {
     /// For each row of the picture the place of its bytes among the rows that are kept.
     pub(crate) places: Vec<u32>,
+    /// For each row of the picture the row behind the last that is kept as it.
+    pub(crate) ends: Vec<u32>,
     /// The bytes of the rows that are kept.
     pub(crate) bytes: Vec<u8>,
 }
@@ -26,12 +28,18 @@ pub(crate) struct Rows {
 /// The rows of what the list shows on the rect.
 pub(crate) fn kept_rows(alloc: Global, list: &DisplayList, rect: Rect) -> Result<Rows, AllocError>
     requires { IsSound rect }
-    ensures { IfOk result (λ rows. AreKept list.now rect rows.places.items rows.bytes.items) }
+    ensures kept { IfOk result (λ rows. AreKept list.now rect rows.places.items rows.bytes.items) }
+    ensures ends { IfOk result (λ rows. AreEnds rows.places.items rows.ends.items) }
 {
     let changes = changing_rows(alloc, list, rect)?;
     let places = places_of(alloc, &changes)?;
     let bytes = drawn_rows(alloc, list, rect, &places)?;
-    Ok(Rows { places, bytes })
+    let ends = ends_of(alloc, &places)?;
+    Ok(Rows {
+        places,
+        ends,
+        bytes,
+    })
 }
 
 // the place of each row: that of the row above where the row is not marked, else the next
@@ -61,6 +69,35 @@ fn next_place(places: &[u32], changes: &[bool]) -> u32
         Some(last) => *last,
         None => 0,
     }
+}
+
+// the end of each row: rows that have one place have one end
+fn ends_of(alloc: Global, places: &[u32]) -> Result<Vec<u32>, AllocError>
+    requires { length places.now ≤ 2 ^ 29 }
+    ensures { IfOk result (λ ends. AreEnds places.now ends.items) }
+{
+    let mut ends = Vec::with_capacity(alloc, places.len())?;
+    while ends.len() < places.len() {
+        let row = ends.len();
+        let end = row + equal_places_at(places, row);
+        ends.resize(end, end as u32)?;
+    }
+    Ok(ends)
+}
+
+// how many rows from row y on have the place of row y
+fn equal_places_at(places: &[u32], y: usize) -> usize
+    requires { y < length places.now }
+    ensures some { 1 ≤ result }
+    ensures inside { y + result ≤ length places.now }
+    ensures equal { (k : ℕ) → k < result → slice_index places.now (y + k) ≡ slice_index places.now y }
+{
+    let first = places[y];
+    let mut rows = 1;
+    while y + rows < places.len() && places[y + rows] == first {
+        rows += 1;
+    }
+    rows
 }
 
 // the bytes of the rows that are kept
@@ -110,4 +147,13 @@ fn clear_rows(alloc: Global, width: usize, rows: usize) -> Result<Vec<u8>, Alloc
     ensures premultiplied { IfOk result (λ bytes. ArePremultiplied bytes.items) }
 {
     vec![in alloc; 0u8; 4 * (width * rows)]
+}
+
+/// The row behind the last that is kept as row y.
+pub(crate) fn end_of(rows: &Rows, y: usize) -> u32
+    requires ends { AreEnds rows.now.places.items rows.now.ends.items }
+    requires inside { y < length rows.now.places.items }
+    ensures { IsEnd rows.now.places.items y result }
+{
+    rows.ends[y]
 }

@@ -53,3 +53,14 @@ pub record AreKept (list : List Item) (r : Rect) (places bytes : List ℕ) : Typ
 abbrev pub IsSolid : List Item → Rect → Option Parts → Type 0
 IsSolid list r None = HasTwoColours list r
 IsSolid list r (Some c) = IsOneColour list r c
+
+-- the rows from row y to before row `end` are of the picture, and have the place of row y
+pub record IsEnd (places : List ℕ) (y end : ℕ) : Type 0 where
+  pub some : y < end
+  pub inside : end ≤ length places
+  pub equal : (z : ℕ) → y ≤ z → z < end → slice_index places z ≡ slice_index places y
+
+-- the end of each row
+pub record AreEnds (places ends : List ℕ) : Type 0 where
+  pub count : length ends ≡ length places
+  pub each : (y : ℕ) → y < length places → IsEnd places y (slice_index ends y)

@@ -1,6 +1,6 @@
 -- Each row has the colour of the first pixel, or one that differs is found.
 use Rattle.std.proofs.Common.{length, sym, ap, subst, ◌∙◌, arith}
-use Rattle.cc_raster.specs.inner.Bands.{AreKept}
+use Rattle.cc_raster.specs.inner.Bands.{AreKept, IsEnd}
 use Rattle.cc_raster.proofs.KeptRows.{same_colour, two_colours}
 use Rattle.cc_raster.proofs.pixels.one_colour.Goals as goal
 
@@ -18,10 +18,12 @@ loop-y-preserved c =
     let size = c.row_of-in-loop-y.ensures.size in
     let kept : AreKept c.args.list.now c.args.rect c.as_slice-places.result.now c.args.rows.now.bytes.items =
     subst (λ places. AreKept c.args.list.now c.args.rect places c.args.rows.now.bytes.items) (sym c.as_slice-places.ensures.value) c.requires.kept in
+    let stop : IsEnd c.as_slice-places.result.now c.loop-y.y c.end_of-y.result =
+    subst (λ places. IsEnd places c.loop-y.y c.end_of-y.result) (sym c.as_slice-places.ensures.value) c.end_of-y.ensures in
     record {
-      inside = c.equal_places_at-y.ensures.inside;
+      inside = stop.inside;
       colour =
-          same_colour c.args.list.now c.args.rect c.as_slice-places.result.now c.args.rows.now.bytes.items c.loop-y.y c.equal_places_at-y.result
-          c.colour_at-first.result kept (omega (arith, c.equal_places_at-y.ensures.inside, kept.count)) c.equal_places_at-y.ensures.equal
-          c.loop-y.invariant.colour (λ x lt. sym (c.row_of-in-loop-y.ensures.pixels x lt) ∙ c.in_default.ensures x (omega (arith, size)));
+          same_colour c.args.list.now c.args.rect c.as_slice-places.result.now c.args.rows.now.bytes.items c.loop-y.y c.end_of-y.result
+          c.colour_at-first.result kept stop c.loop-y.invariant.colour
+          (λ x lt. sym (c.row_of-in-loop-y.ensures.pixels x lt) ∙ c.in_default.ensures x (omega (arith, size)));
     }

@@ -1,5 +1,5 @@
 -- The rows that share a place are equal.
-use Rattle.std.proofs.Common.{ℕ, ◌≡◌, ◌<◌, ◌+◌, List, length, slice_index, sym, ap, subst, arith}
+use Rattle.std.proofs.Common.{◌<◌, ◌+◌, sym, subst, arith}
 use Rattle.cc_display.specs.Bitmaps.{near}
 use Rattle.cc_raster.specs.Images.{Image}
 use Rattle.cc_raster.specs.Images.{AreSameRows}
@@ -10,11 +10,9 @@ pub returns-clause-equal : goal.returns-clause-equal
 returns-clause-equal c = λ k lt.
     let below : c.args.y < near c.self.inside.rect.h = subst (λ (i : Image). c.args.y < near i.rect.h) (sym c.self.view_is) c.requires in
     let kept = c.self.invariant.1 in
-    let places = c.deref.ensures.value in
-    let inside = c.equal_places_at.ensures.inside in
-    let equal : slice_index c.self.inside.rows.places.items (c.args.y + k) ≡ slice_index c.self.inside.rows.places.items c.args.y =
-    subst (λ (ps : List ℕ). slice_index ps (c.args.y + k) ≡ slice_index ps c.args.y) places (c.equal_places_at.ensures.equal k lt) in
+    let stop = c.end_of.ensures in
+    let inside = stop.inside in
     let agree =
     kept_agree c.self.inside.list.value c.self.inside.rect c.self.inside.rows.places.items c.self.inside.rows.bytes.items c.args.y (c.args.y + k) kept below
-    (omega (arith, inside, ap length places, kept.count)) equal in
+    (omega (arith, kept.count)) (stop.equal (c.args.y + k) (omega arith) (omega arith)) in
     subst (λ (i : Image). AreSameRows i.list i.rect c.args.y (c.args.y + k)) c.self.view_is agree

@@ -1,5 +1,5 @@
 use Rattle.std.proofs.Common.{ℕ, ◌≡◌, ◌≤◌, ◌<◌, ◌+◌, ◌-◌, length, slice_index}
-use Rattle.cc_raster.proofs.draw.equal_places_at.Given as given
+use Rattle.cc_raster.proofs.rows.equal_places_at.Given as given
 
 abbrev pub invariant-loop-rows : given.invariant-loop-rows
 invariant-loop-rows l = record {
