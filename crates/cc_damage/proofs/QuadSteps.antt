@@ -14,7 +14,7 @@ use Rattle.cc_pixel.specs.Colours.{Parts, blend, scaled, clear, times_255}
 use Rattle.cc_pixel.proofs.Blends.{clear_shows}
 use Rattle.cc_display.specs.declared.Item.{Item}
 use Rattle.cc_display.specs.Content.{painted, content, rect_of, colour_of}
-use Rattle.cc_raster.specs.Images.{Image}
+use Rattle.cc_raster.specs.Images.{Image, ShowAlike}
 use Rattle.cc_scene.specs.declared.Quad.{Quad}
 use Rattle.cc_scene.specs.Views.{QuadView, tiled, plain, grouped, quad_view, quads_view}
 use Rattle.cc_scene.specs.Pixels.{placed_pixel, quad_over, quads_over}
@@ -22,7 +22,7 @@ use Rattle.cc_scene.specs.Sound.{IsTaken, Fits}
 use Rattle.cc_scene.proofs.Steps.{quads_append}
 use Rattle.cc_areas.specs.Areas.{Holds}
 use Rattle.cc_areas.proofs.RectSteps.{not_either}
-use Rattle.cc_damage.specs.inner.Alike.{PaintAlike, PaintsNothing, ShowAlike, AreSameImages, ActAlike, ActWithin}
+use Rattle.cc_damage.specs.inner.Alike.{PaintAlike, PaintsNothing, AreSameImages, ActAlike, ActWithin}
 use Rattle.cc_damage.proofs.AreaSteps.{neither, neither_of}
 
 -- two rects whose parts are equal

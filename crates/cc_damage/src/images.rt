@@ -3,20 +3,36 @@
 ghost use Rattle.std.specs.Prelude.{◌≡◌, ℕ, ◌<◌, true, All, length, IsTrue};
 ghost use Rattle.cc_geom.specs.Covers.{covers, IsSound};
 ghost use Rattle.cc_display.specs.Content.{IsSoundItem};
-ghost use Rattle.cc_damage.specs.inner.Alike.{PaintAlike, PaintsNothing, ShowAlike, AreSameImages};
+ghost use Rattle.cc_raster.specs.Images.{ShowAlike};
+ghost use Rattle.cc_damage.specs.inner.Alike.{PaintAlike, PaintsNothing, AreSameImages};
 
 use cc_display::{Bitmap, DisplayList, Item};
 use cc_geom::{Point, Rect};
 use cc_pixel::Colour;
 use cc_raster::TileImage;
 
-/// Whether two images have one rect and show the same there. Items of their display lists that lie outside
-/// the rect are not looked into.
+/// How many bytes of the rows of two images are compared in the time in which one item of their lists is: the lists lie
+/// in a processor's cache, as all images of a layer share them, and the rows do not.
+const BYTES_OF_ITEM: usize = 8;
+
+/// Whether two images have one rect and show the same there. Their rows are compared where they are few, else their
+/// display lists, of which items that lie outside the rect are not looked into.
 pub(crate) fn are_same_images(a: &TileImage, b: &TileImage) -> bool
     ensures { IsTrue result → AreSameImages a.now b.now }
 {
     let rect = a.rect();
-    is_same_rect(rect, b.rect()) && show_alike(a.list(), b.list(), rect)
+    if !is_same_rect(rect, b.rect()) {
+        return false;
+    }
+    if has_few_bytes(a) {
+        return a.has_same_rows(b);
+    }
+    show_alike(a.list(), b.list(), rect)
+}
+
+// whether the rows of an image are compared sooner than the items of its list
+fn has_few_bytes(image: &TileImage) -> bool {
+    image.solid().is_some() || image.kept_bytes() / BYTES_OF_ITEM <= image.list().items().len()
 }
 
 // whether two lists show the same on a rect
@@ -44,10 +60,14 @@ fn paint_alike(a: &Item, b: &Item, rect: Rect) -> bool
     requires rect { IsSound rect }
     ensures { IsTrue result → PaintAlike rect a.now b.now }
 {
+    // Two rects of one colour are told sooner than where they lie, two bitmaps are not.
+    if are_one_fill(a, b) {
+        return true;
+    }
     if lies_outside(a, rect) && lies_outside(b, rect) {
         return true;
     }
-    is_same_item(a, b)
+    are_one_bitmap(a, b)
 }
 
 // whether an item has no point of a rect
@@ -63,6 +83,13 @@ fn lies_outside(item: &Item, rect: Rect) -> bool
 pub(crate) fn is_same_item(a: &Item, b: &Item) -> bool
     ensures { IsTrue result → a.now ≡ b.now }
 {
+    are_one_fill(a, b) || are_one_bitmap(a, b)
+}
+
+// whether two items are one rect of one colour
+fn are_one_fill(a: &Item, b: &Item) -> bool
+    ensures { IsTrue result → a.now ≡ b.now }
+{
     match (a, b) {
         (
             Item::Rect { rect, colour },
@@ -71,6 +98,15 @@ pub(crate) fn is_same_item(a: &Item, b: &Item) -> bool
                 colour: second,
             },
         ) => is_same_rect(*rect, *other) && is_same_colour(*colour, *second),
+        _ => false,
+    }
+}
+
+// whether two items are one bitmap
+fn are_one_bitmap(a: &Item, b: &Item) -> bool
+    ensures { IsTrue result → a.now ≡ b.now }
+{
+    match (a, b) {
         (Item::Bitmap(bitmap), Item::Bitmap(other)) => is_same_bitmap(bitmap, other),
         _ => false,
     }

@@ -1,7 +1,8 @@
 -- What contracts see of the picture of a tile, and its pixels.
-use Rattle.std.specs.Prelude.{◌≡◌, ◌≢◌, ◌<◌, ℕ, ◌*◌, pos, ◌+ℤ◌, List, length, take, drop}
+use Rattle.std.specs.Prelude.{◌≡◌, ◌≢◌, ◌<◌, ℕ, ◌*◌, ℤ, pos, ◌+ℤ◌, true, List, length, take, drop}
 use Rattle.cc_geom.specs.declared.Rect.{Rect}
 use Rattle.cc_geom.specs.declared.TileKey.{TileKey}
+use Rattle.cc_geom.specs.Covers.{covers}
 use Rattle.cc_pixel.specs.Colours.{Parts}
 use Rattle.cc_pixel.specs.Rows.{pixel, ArePremultiplied}
 use Rattle.cc_display.specs.declared.Item.{Item}
@@ -45,3 +46,7 @@ row_bytes w y bytes = take (4 * w) (drop (4 * (w * y)) bytes)
 -- rows y and z of what the list shows on the rect are equal
 abbrev pub AreSameRows : List Item → Rect → ℕ → ℕ → Type 0
 AreSameRows list r y z = (x : ℕ) → x < near r.w → shown list r x y ≡ shown list r x z
+
+-- two lists of items show the same at each point of a rect
+abbrev pub ShowAlike : Rect → List Item → List Item → Type 0
+ShowAlike r is js = (x y : ℤ) → covers r x y ≡ true → content is x y ≡ content js x y

@@ -1,13 +1,13 @@
 //! The picture of one tile.
 
-ghost use Rattle.std.specs.Prelude.{◌≡◌, ℕ, ◌+◌, ◌<◌, ◌≤◌, IfOk, MatchOption};
+ghost use Rattle.std.specs.Prelude.{◌≡◌, ℕ, ◌+◌, ◌<◌, ◌≤◌, IfOk, IsTrue, MatchOption};
 ghost use Rattle.cc_geom.specs.Covers.{IsSound};
 ghost use Rattle.cc_display.specs.Bitmaps.{near};
 ghost use Rattle.cc_raster.specs.Images.{Image, IsRow, IsOneColour, HasTwoColours};
-ghost use Rattle.cc_raster.specs.Images.{AreSameRows};
+ghost use Rattle.cc_raster.specs.Images.{AreSameRows, ShowAlike};
 
-use crate::pixels::{one_colour, row_at, width_of};
-use crate::rows::{Rows, end_of, kept_rows};
+use crate::pixels::{is_same_colour, one_colour, row_at, width_of};
+use crate::rows::{Rows, are_same_rows, end_of, kept_rows};
 use cc_display::DisplayList;
 use cc_geom::{Rect, TileKey};
 use cc_pixel::Colour;
@@ -100,6 +100,24 @@ impl TileImage {
         ensures equal { (k : ℕ) → k < result → AreSameRows self.now.list self.now.rect y (y + k) }
     {
         end_of(&self.rows, y as usize) - y
+    }
+
+    /// How many bytes the rows have that are kept.
+    pub fn kept_bytes(&self) -> usize {
+        self.rows.bytes.len()
+    }
+
+    /// Whether another picture of the same rect keeps the same rows, or has the same one colour. Where it does not, the
+    /// two may still show the same.
+    pub fn has_same_rows(&self, other: &TileImage) -> bool
+        requires { self.now.rect ≡ other.now.rect }
+        ensures { IsTrue result → ShowAlike self.now.rect self.now.list other.now.list }
+    {
+        match (self.solid, other.solid) {
+            (Some(colour), Some(second)) => is_same_colour(colour, second),
+            (None, None) => are_same_rows(&self.rows, &other.rows),
+            _ => false,
+        }
     }
 
     /// The colour of all pixels; None exactly where two of them differ. A picture without pixels answers

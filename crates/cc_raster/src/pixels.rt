@@ -62,15 +62,15 @@ fn first_other(row: &[u8], colour: Colour) -> Option<usize>
         (λ k. (k < length row.now / 4) × (pixel row.now k ≢ colour)) }
 {
     for k in 0..row.len() / 4 {
-        if !is_same(colour_at(row, k), colour) {
+        if !is_same_colour(colour_at(row, k), colour) {
             return Some(k);
         }
     }
     None
 }
 
-// whether two colours are equal
-fn is_same(a: Colour, b: Colour) -> bool
+/// Whether two colours are equal.
+pub(crate) fn is_same_colour(a: Colour, b: Colour) -> bool
     ensures { IsTrue result ↔ (a ≡ b) }
 {
     a == b

@@ -1,6 +1,6 @@
 //! The rows that a picture keeps: of equal rows that follow one another only the first.
 
-ghost use Rattle.std.specs.Prelude.{◌≡◌, ℕ, ◌+◌, ◌*◌, ◌<◌, ◌≤◌, ◌^◌, length, true, false, cond, slice_index, slice_index_or, IfOk};
+ghost use Rattle.std.specs.Prelude.{◌≡◌, ℕ, ◌+◌, ◌*◌, ◌<◌, ◌≤◌, ◌^◌, length, true, false, cond, slice_index, slice_index_or, IsTrue, IfOk};
 ghost use Rattle.cc_geom.specs.Covers.{IsSound};
 ghost use Rattle.cc_pixel.specs.Colours.{clear};
 ghost use Rattle.cc_pixel.specs.Rows.{pixel, ArePremultiplied};
@@ -156,4 +156,12 @@ pub(crate) fn end_of(rows: &Rows, y: usize) -> u32
     ensures { IsEnd rows.now.places.items y result }
 {
     rows.ends[y]
+}
+
+/// Whether two pictures keep the same rows.
+pub(crate) fn are_same_rows(a: &Rows, b: &Rows) -> bool
+    ensures places { IsTrue result → a.now.places.items ≡ b.now.places.items }
+    ensures bytes { IsTrue result → a.now.bytes.items ≡ b.now.bytes.items }
+{
+    a.places == b.places && a.bytes == b.bytes
 }

@@ -6,8 +6,8 @@ use Rattle.cc_geom.specs.Common.{nothing}
 use Rattle.cc_region.specs.Points.{covered}
 use Rattle.cc_pixel.specs.Colours.{Parts, clear}
 use Rattle.cc_display.specs.declared.Item.{Item}
-use Rattle.cc_display.specs.Content.{painted, content}
-use Rattle.cc_raster.specs.Images.{Image}
+use Rattle.cc_display.specs.Content.{painted}
+use Rattle.cc_raster.specs.Images.{Image, ShowAlike}
 use Rattle.cc_scene.specs.Views.{QuadView}
 use Rattle.cc_scene.specs.Pixels.{quad_over, quads_over}
 
@@ -18,10 +18,6 @@ PaintsNothing r i = (x y : ℤ) → covers r x y ≡ true → (below : Parts) �
 -- two items paint the same at each point of a rect
 abbrev pub PaintAlike : Rect → Item → Item → Type 0
 PaintAlike r i j = (x y : ℤ) → covers r x y ≡ true → (below : Parts) → painted x y below i ≡ painted x y below j
-
--- two lists of items show the same at each point of a rect
-abbrev pub ShowAlike : Rect → List Item → List Item → Type 0
-ShowAlike r is js = (x y : ℤ) → covers r x y ≡ true → content is x y ≡ content js x y
 
 -- two images have one rect and show the same there
 pub record AreSameImages (i j : Image) : Type 0 where
