@@ -10,3 +10,4 @@ pub mod Changes
 pub mod NewChoice
 pub mod Slots
 pub mod Halves
+pub mod Parting

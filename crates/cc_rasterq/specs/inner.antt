@@ -1,3 +1,4 @@
 pub mod Listing
 pub mod Victims
 pub mod Orders
+pub mod Waiting

@@ -12,9 +12,9 @@ ghost use Rattle.cc_rasterq.specs.Queues.{rank_key, EachKeyOnce, IsNew, AreEvict
 
 use crate::listed::Listed;
 use crate::victim::Victim;
+use crate::victims;
 use crate::victims::{count_up_to, give_up, has_for, keep, no_victims, staying, worst};
-use crate::wanted::{best, forget, no_ranks, place_of};
-use crate::{victims, wanted};
+use crate::wanted::Wanted;
 use cc_geom::{Keys, TileKey};
 use cc_priority::{Bin, Rank, ReadyTile};
 use std::alloc::{AllocError, Global};
@@ -24,7 +24,7 @@ use std::marker::Model;
 #[derive(Drop)]
 pub struct RasterQueue {
     // The best first.
-    wanted: Listed<Rank>,
+    wanted: Wanted,
     // The ready tiles that are never given up: the pinned ones and the visible ones.
     staying: Vec<ReadyTile>,
     // All other ready tiles, the worst first.
@@ -52,7 +52,7 @@ impl RasterQueue {
         ensures { result ≡ record { wanted = []; ready = []; in_flight = 0; budget = 0 } }
     {
         RasterQueue {
-            wanted: no_ranks(alloc),
+            wanted: Wanted::new(alloc),
             staying: Vec::new(alloc),
             victims: no_victims(alloc),
             in_flight: 0,
@@ -76,7 +76,7 @@ impl RasterQueue {
         ensures refused { OnErr result (self.new ≡ self.old) }
     {
         let room = wanted.len() + ready.len() + in_flight as usize;
-        let ranks = wanted::sorted(self.alloc, wanted, room)?;
+        let ranks = Wanted::of(self.alloc, wanted, room)?;
         let kept = staying(self.alloc, ready, room)?;
         let others = victims::sorted(self.alloc, ready, room)?;
         self.wanted = ranks;
@@ -92,7 +92,7 @@ impl RasterQueue {
         ensures key { result ≡ option_map (λ r. r.key) (first_rank self.now) }
         ensures none { IsNone result ↔ NoneStarts self.now }
     {
-        let Some(rank) = self.wanted.front() else {
+        let Some(rank) = self.wanted.first() else {
             return None;
         };
         if self.may_start(rank.bin) {
@@ -106,7 +106,7 @@ impl RasterQueue {
     pub fn wanted(&self, most: u32) -> Result<Vec<Rank>, AllocError>
         ensures { IfOk result (λ ranks. ranks.items ≡ take most (in_order rank_cmp self.now.wanted)) }
     {
-        best(self.alloc, &self.wanted, most as usize)
+        self.wanted.best(self.alloc, most as usize)
     }
 
     /// The keys that are given up for a wanted one, the worst first; none for a key that is not wanted. An
@@ -115,10 +115,9 @@ impl RasterQueue {
         ensures wanted { IfOk result (AreEvictedFor self.now key) }
         ensures unwanted { has_key (map rank_key self.now.wanted) key ≡ false → IfOk result (λ keys. keys ≡ []) }
     {
-        match place_of(&self.wanted, key) {
+        match self.wanted.rank_of(key) {
             None => Ok(Keys::new(self.alloc)),
-            Some(at) => {
-                let rank = self.wanted.get(at);
+            Some(rank) => {
                 let count = count_up_to(&self.victims, rank.bin, self.over_budget());
                 worst(self.alloc, &self.victims, count)
             }
@@ -131,7 +130,7 @@ impl RasterQueue {
         requires { MayStartWith self.old key evicted.now }
         ensures { Alike self.new (started self.old key evicted.now) }
     {
-        forget(&mut self.wanted, key);
+        self.wanted.forget(key);
         give_up(&mut self.victims, &mut self.wanted, evicted.len());
         self.in_flight += 1;
     }

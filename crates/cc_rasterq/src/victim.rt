@@ -4,7 +4,7 @@ ghost use Rattle.std.specs.Prelude.{◌≡◌, ◌<◌, false};
 ghost use Rattle.cc_rasterq.specs.inner.Orders.{stays};
 ghost use Rattle.cc_rasterq.specs.inner.Victims.{tile_of, key_of, is_worse_than};
 
-use crate::wanted::front_of;
+use crate::ranked::front_of;
 use cc_geom::TileKey;
 use cc_priority::{Bin, Rank, ReadyTile};
 use std::cmp::Reverse;

@@ -1,7 +1,6 @@
-use Rattle.std.proofs.Common.{◌≡◌, ◌≤◌, ◌+◌, ◌-◌, ◌∙◌, ℕ, length, filter, min, take, map, get_or, false, sym, ap, subst, arith}
+use Rattle.std.proofs.Common.{◌≡◌, ◌≤◌, ◌+◌, ◌-◌, ◌∙◌, ℕ, length, filter, min, take, map, false, sym, ap, subst, arith}
 use Rattle.cc_geom.specs.declared.tile.TileKey.{TileKey}
 use Rattle.cc_geom.specs.KeyLists.{has_key}
-use Rattle.cc_geom.proofs.KeyLists.{one_key}
 use Rattle.cc_priority.specs.declared.rank.Rank.{Rank}
 use Rattle.cc_priority.specs.Ordered.{In}
 use Rattle.cc_priority.specs.Choice.{Choice, used, victim_key, evicted}
@@ -11,8 +10,7 @@ use Rattle.cc_rasterq.specs.inner.Victims.{key_of, is_worse_than}
 use Rattle.cc_rasterq.specs.inner.Orders.{times, choice_of}
 use Rattle.cc_rasterq.proofs.Changes.{prefix_passes}
 use Rattle.cc_rasterq.proofs.VictimOrders.{worse_first}
-use Rattle.cc_rasterq.proofs.Places.{in_at}
-use Rattle.cc_rasterq.proofs.Forgotten.{found_at, found_nowhere, one_rank}
+use Rattle.cc_rasterq.proofs.Forgotten.{one_rank}
 use Rattle.cc_rasterq.proofs.Picking.{evicted_is, given_keys}
 use Rattle.cc_rasterq.proofs.Times.{times_in, times_none}
 use Rattle.cc_rasterq.proofs.RoomFor.{if_ok}
@@ -20,29 +18,20 @@ use Rattle.cc_rasterq.proofs.queue.RasterQueue.evicted.Goals as goal
 
 pub returns-in-None-clause-wanted : goal.returns-in-None-clause-wanted
 returns-in-None-clause-wanted c =
-    λ r i k. absurd (found_nowhere c.args.key c.self.inside.wanted.items (sym c.in-None.ensures) r (subst (λ (z : Choice). In r z.wanted) (sym c.self.view_is) i) k)
-
--- the rank at the place stands there, and is of the key
-placed : (c : goal.After-worst) → In c.get-rank.result c.self.inside.wanted.items × (c.get-rank.result.key ≡ c.args.key)
-placed c =
-    let (l, t) = found_at c.args.key c.self.inside.wanted.items c.in-Some.at (sym c.in-Some.ensures) in
-    let s : Rank = get_or c.self.inside.wanted.items c.in-Some.at c.get-rank.result in
-    let e : c.get-rank.result ≡ s = c.get-rank.ensures in
-    subst (λ (z : Rank). In z c.self.inside.wanted.items × (z.key ≡ c.args.key)) (sym e)
-    (in_at c.self.inside.wanted.items c.in-Some.at c.get-rank.result l, one_key s.key c.args.key (t c.get-rank.result))
+    λ r i k. absurd (c.in-None.ensures r (subst (λ (z : Choice). In r z.wanted) (sym c.self.view_is) i) k)
 
 pub returns-in-Some-clause-wanted : goal.returns-in-Some-clause-wanted
 returns-in-Some-clause-wanted c =
     if_ok c.worst.result
     (λ keys is r i k.
-    let n : ℕ = length (filter (is_worse_than c.get-rank.result.bin) c.self.inside.victims.items) in
-    let (there, of_key) = placed c in
+    let n : ℕ = length (filter (is_worse_than c.in-Some.rank.bin) c.self.inside.victims.items) in
+    let (there, of_key) = c.in-Some.ensures in
     let once : times c.args.key (map rank_key c.self.inside.wanted.items) ≤ 1 = let o = c.self.invariant.once c.args.key in omega arith in
-    let same : c.get-rank.result ≡ r = one_rank c.args.key c.self.inside.wanted.items once c.get-rank.result r there (subst (λ (z : Choice). In r z.wanted) (sym c.self.view_is) i) of_key k in
+    let same : c.in-Some.rank ≡ r = one_rank c.args.key c.self.inside.wanted.items once c.in-Some.rank r there (subst (λ (z : Choice). In r z.wanted) (sym c.self.view_is) i) of_key k in
     let over : c.over_budget.result ≡ (used (choice_of c.self.inside.wanted.items c.self.inside.staying.items c.self.inside.victims.items c.self.inside.in_flight c.self.inside.budget) + 1) - c.self.inside.budget =
     subst (λ (z : Choice). c.over_budget.result ≡ (used z + 1) - z.budget) (sym c.self.view_is) c.over_budget.ensures in
-    let e = evicted_is c.self.inside.wanted.items c.self.inside.staying.items c.self.inside.victims.items c.self.inside.in_flight c.self.inside.budget c.self.invariant.all_stay c.self.invariant.worst_first c.get-rank.result n c.over_budget.result (prefix_passes (is_worse_than c.get-rank.result.bin) c.self.inside.victims.items (worse_first c.get-rank.result.bin c.self.inside.victims.items c.self.invariant.worst_first)) over in
-    let f : keys ≡ map victim_key (evicted (choice_of c.self.inside.wanted.items c.self.inside.staying.items c.self.inside.victims.items c.self.inside.in_flight c.self.inside.budget) c.get-rank.result) =
+    let e = evicted_is c.self.inside.wanted.items c.self.inside.staying.items c.self.inside.victims.items c.self.inside.in_flight c.self.inside.budget c.self.invariant.all_stay c.self.invariant.worst_first c.in-Some.rank n c.over_budget.result (prefix_passes (is_worse_than c.in-Some.rank.bin) c.self.inside.victims.items (worse_first c.in-Some.rank.bin c.self.inside.victims.items c.self.invariant.worst_first)) over in
+    let f : keys ≡ map victim_key (evicted (choice_of c.self.inside.wanted.items c.self.inside.staying.items c.self.inside.victims.items c.self.inside.in_flight c.self.inside.budget) c.in-Some.rank) =
     is ∙ ap (λ n. map key_of (take n c.self.inside.victims.items)) c.count_up_to-count.ensures ∙ sym (ap (map victim_key) e ∙ given_keys (take (min c.over_budget.result n) c.self.inside.victims.items)) in
     subst (λ (z : Choice). keys ≡ map victim_key (evicted z r)) c.self.view_is (subst (λ (z : Rank). keys ≡ map victim_key (evicted (choice_of c.self.inside.wanted.items c.self.inside.staying.items c.self.inside.victims.items c.self.inside.in_flight c.self.inside.budget) z)) same f))
     c.worst.ensures
@@ -50,7 +39,7 @@ returns-in-Some-clause-wanted c =
 pub returns-in-Some-clause-unwanted : goal.returns-in-Some-clause-unwanted
 returns-in-Some-clause-unwanted c =
     λ h.
-    let (there, of_key) = placed c in
+    let (there, of_key) = c.in-Some.ensures in
     let z = times_none c.args.key (map rank_key c.self.inside.wanted.items) (subst (λ (z : Choice). has_key (map rank_key z.wanted) c.args.key ≡ false) (sym c.self.view_is) h) in
-    let o = times_in c.args.key (map rank_key c.self.inside.wanted.items) (subst (λ (k : TileKey). In k (map rank_key c.self.inside.wanted.items)) of_key (map_in rank_key c.get-rank.result c.self.inside.wanted.items there)) in
+    let o = times_in c.args.key (map rank_key c.self.inside.wanted.items) (subst (λ (k : TileKey). In k (map rank_key c.self.inside.wanted.items)) of_key (map_in rank_key c.in-Some.rank c.self.inside.wanted.items there)) in
     absurd (omega arith)
