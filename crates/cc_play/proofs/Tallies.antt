@@ -1,5 +1,5 @@
 -- The counts of a history, entry by entry.
-use Rattle.std.proofs.Common.{◌≡◌, ℕ, zero, suc, ◌+◌, ◌≤◌, List, [], ◌∷◌, length, drop, Some, refl, ap, sym, arith, add-one}
+use Rattle.std.proofs.Common.{◌≡◌, ℕ, zero, suc, ◌+◌, ◌≤◌, ◌⊎◌, inl, inr, List, [], ◌∷◌, length, drop, Some, refl, ap, sym, arith, add-one}
 use Rattle.std.specs.List.{slice_get}
 use Rattle.cc_event.specs.declared.history.Entry.{Entry}
 use Rattle.cc_play.specs.Demos.{images, missing, images_in, missing_in}
@@ -36,3 +36,12 @@ images_whole xs at before whole le all = let none : images (drop at xs) ≡ 0 = 
 
 pub missing_whole : (xs : List Entry) (at before whole : ℕ) → length xs ≤ at → before + missing (drop at xs) ≡ whole → before ≡ whole
 missing_whole xs at before whole le all = let none : missing (drop at xs) ≡ 0 = ap missing (none_left xs at le) in omega (arith, none, all)
+
+-- what is over with the entry in hand is over with all
+pub over_whole : (xs : List Entry) (at : ℕ) (e : Entry) (limit seen lacking : ℕ) → slice_get xs at ≡ Some e → seen + images (drop at xs) ≡ images xs → lacking + missing (drop at xs) ≡ missing xs → limit ≤ seen + images_in e.event ⊎ limit ≤ lacking + missing_in e.event → limit ≤ images xs ⊎ limit ≤ missing xs
+over_whole xs at e limit seen lacking is seen-all lacking-all (inl over) =
+    let all : (seen + images_in e.event) + images (drop (at + 1) xs) ≡ images xs = images_more xs at e seen (seen + images_in e.event) (images xs) is refl seen-all in
+    inl (omega (arith, all, over))
+over_whole xs at e limit seen lacking is seen-all lacking-all (inr over) =
+    let all : (lacking + missing_in e.event) + missing (drop (at + 1) xs) ≡ missing xs = missing_more xs at e lacking (lacking + missing_in e.event) (missing xs) is refl lacking-all in
+    inr (omega (arith, all, over))

@@ -1,6 +1,6 @@
 //! What a history holds, counted.
 
-ghost use Rattle.std.specs.Prelude.{◌≡◌, ◌+◌, IfSome};
+ghost use Rattle.std.specs.Prelude.{◌≡◌, ◌≤◌, ◌+◌, ◌^◌, ◌⊎◌, MatchOption};
 ghost use Rattle.cc_play.specs.Demos as demos;
 
 use cc_event::{Event, History};
@@ -34,18 +34,22 @@ fn missing_in(event: &Event) -> u64
     }
 }
 
-// The counts with those of an event; None where they do not fit.
+// The counts with those of an event; None where one of them is 2^64 or more.
 fn with_event(before: Tally, event: &Event) -> Option<Tally>
-    ensures { IfSome result (λ t. (t.images ≡ before.images + demos.images_in event.now) × (t.missing ≡ before.missing + demos.missing_in event.now)) }
+    ensures { MatchOption result
+        (2 ^ 64 ≤ before.images + demos.images_in event.now ⊎ 2 ^ 64 ≤ before.missing + demos.missing_in event.now)
+        (λ t. (t.images ≡ before.images + demos.images_in event.now) × (t.missing ≡ before.missing + demos.missing_in event.now)) }
 {
     let images = before.images.checked_add(images_in(event))?;
     let missing = before.missing.checked_add(missing_in(event))?;
     Some(Tally { images, missing })
 }
 
-/// The counts of a history; None where they do not fit.
+/// The counts of a history; None only where one of them is 2^64 or more.
 pub fn tally_of(history: &History) -> Option<Tally>
-    ensures { IfSome result (λ t. (t.images ≡ demos.images history.now.entries) × (t.missing ≡ demos.missing history.now.entries)) }
+    ensures { MatchOption result
+        (2 ^ 64 ≤ demos.images history.now.entries ⊎ 2 ^ 64 ≤ demos.missing history.now.entries)
+        (λ t. (t.images ≡ demos.images history.now.entries) × (t.missing ≡ demos.missing history.now.entries)) }
 {
     let mut tally = Tally {
         images: 0,
@@ -53,7 +57,7 @@ pub fn tally_of(history: &History) -> Option<Tally>
     };
     for at in 0..history.len() {
         let Some(entry) = history.entry(at) else {
-            return None;
+            unreachable!()
         };
         tally = with_event(tally, &entry.event)?;
     }

@@ -3,7 +3,7 @@ use Rattle.std.proofs.Common.{◌≡◌, ◌≤◌, List, length, Some, rules, a
 use Rattle.std.specs.List.{slice_get}
 use Rattle.cc_event.specs.declared.history.Entry.{Entry}
 use Rattle.cc_play.specs.Demos.{images, missing}
-use Rattle.cc_play.proofs.Tallies.{images_more, missing_more, images_whole, missing_whole}
+use Rattle.cc_play.proofs.Tallies.{images_more, missing_more, images_whole, missing_whole, over_whole}
 use Rattle.cc_play.proofs.tally.tally_of.Goals as goal
 
 pub loop-at-preserved : goal.loop-at-preserved
@@ -23,3 +23,11 @@ returns c =
     let i = c.loop-at.invariant in
     let whole : length xs ≤ c.loop-at.at = omega (arith, c.loop-at-test.false, c.len-at-end.ensures) in
     (images_whole xs c.loop-at.at c.loop-at.tally.images (images xs) whole i.0, missing_whole xs c.loop-at.at c.loop-at.tally.missing (missing xs) whole i.1)
+
+pub returns-in_err-tally : goal.returns-in_err-tally
+returns-in_err-tally c =
+    let xs : List Entry = c.args.history.now.entries in
+    let i = c.loop-at.invariant in
+    let is : slice_get xs c.loop-at.at ≡ Some c.in-Some.entry.now = search rules in
+    let over = over_whole xs c.loop-at.at c.in-Some.entry.now 18446744073709551616 c.loop-at.tally.images c.loop-at.tally.missing is i.0 i.1 in
+    search (rules, over, c.in_err-tally.ensures, c.from_residual.ensures)
