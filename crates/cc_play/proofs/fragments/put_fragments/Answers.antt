@@ -2,7 +2,8 @@
 use Rattle.std.proofs.Common.{◌++◌, arith}
 use Rattle.std.specs.List.{flat_map}
 use Rattle.cc_play.specs.inner.Fragments.{fragment_text}
-use Rattle.cc_play.proofs.Gains.{gains_both, gains_front, piece_moves}
+use Rattle.cc_recorder.proofs.Gains.{gains_both, gains_front}
+use Rattle.cc_play.proofs.Gains.{piece_moves}
 use Rattle.cc_play.proofs.fragments.put_fragments.Goals as goal
 
 pub returns-in-Err-clause-bytes : goal.returns-in-Err-clause-bytes

@@ -2,7 +2,8 @@
 use Rattle.std.proofs.Common.{◌++◌, length, subst, arith}
 use Rattle.std.specs.List.{flat_map}
 use Rattle.cc_parts.specs.Spans.{span_bytes, AreWithin}
-use Rattle.cc_play.proofs.Gains.{gains_both, gains_front, piece_moves}
+use Rattle.cc_recorder.proofs.Gains.{gains_both, gains_front}
+use Rattle.cc_play.proofs.Gains.{piece_moves}
 use Rattle.cc_play.proofs.images.put_images.Goals as goal
 
 pub put_image-requires : goal.put_image-requires
