@@ -120,10 +120,7 @@ fn quad_of(spot: &LayerSpot, shown: &Shown) -> Result<Quad, AllocError>
             at,
             colour: spot.colour,
         }),
-        Some(image) => {
-            let quad = part_of(image, at, from)?;
-            Ok(quad)
-        }
+        Some(image) => part_of(image, at, from),
     }
 }
 
