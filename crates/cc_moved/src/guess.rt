@@ -21,7 +21,7 @@ pub fn shift_of(old: &Scene, new: &Scene) -> Option<Shift>
     ensures { IfSome result (λ shift. IsShift new.now.h shift) }
 {
     let (before, after) = (old.passes(), new.passes());
-    if quads_of(before) > MOST_QUADS || quads_of(after) > MOST_QUADS {
+    if count_of_quads(before) > MOST_QUADS || count_of_quads(after) > MOST_QUADS {
         return None;
     }
     let by = distance_of(before, after)?;
@@ -33,7 +33,7 @@ pub fn shift_of(old: &Scene, new: &Scene) -> Option<Shift>
 }
 
 // how many quads some passes have
-fn quads_of(passes: &[RenderPass]) -> usize {
+fn count_of_quads(passes: &[RenderPass]) -> usize {
     let mut count = 0usize;
     for pass in passes {
         count = count.saturating_add(pass.quads.len());
@@ -79,11 +79,11 @@ fn shift_by(old: &Scene, new: &Scene, by: i32, height: u32) -> Option<Shift>
     let end = after.end.min(before.end.saturating_add(by));
     let from = count_of(top.saturating_sub(by));
     let to = count_of(top);
-    rows_of(from, to, count_of(end.saturating_sub(top)), height)
+    shift_within(from, to, count_of(end.saturating_sub(top)), height)
 }
 
 // so many rows, from a row on and to a row; None where there are none or they are not a screen's
-fn rows_of(from: u32, to: u32, count: u32, height: u32) -> Option<Shift>
+fn shift_within(from: u32, to: u32, count: u32, height: u32) -> Option<Shift>
     ensures { IfSome result (λ shift. IsShift height shift) }
 {
     if count == 0 || from > height || to > height {
