@@ -50,7 +50,7 @@ use Rattle.cc_event.proofs.RankFacts.{tree_rank, key_of_rank}
 use Rattle.cc_steps.specs.Choices.{rank_in_both}
 use Rattle.cc_ranks.specs.Areas.{IsNear}
 use Rattle.cc_ranks.specs.SeenTrees.{SeenLayerModel, SeenTreeModel, IsLayerOf, AreLayersOf, IsSeenTree, IsSeenWhere}
-use Rattle.cc_ranks.specs.inner.Lists.{rank_where, ranks_where, or_better, alone, ranks_both, tile_seen, layer_at, layer_has, rank_on_layer, IsNarrow, IsPageWhere}
+use Rattle.cc_ranks.specs.inner.Lists.{rank_where, ranks_where, or_better, better_on, alone, alone_on, ranks_both, tile_seen, layer_at, layer_has, rank_on_layer, IsNarrow, IsPageWhere}
 use Rattle.cc_ranks.proofs.SeenLayers.{rank_is, tile_is}
 use Rattle.cc_ranks.proofs.SeenRanks.{ranked_as, IsSeenWell, HaveOwnIds, flat_has, has_flat, flat_once, once_append}
 
@@ -195,6 +195,19 @@ own_ids t b a (l ∷ ls) (v ∷ vs) d o = (
 pub none_better : (s : ScriptModel) (rs : List Rank) → filter_map (or_better s None) rs ≡ rs
 none_better s [] = refl
 none_better s (r ∷ rs) = ap (λ zs. r ∷ zs) (none_better s rs)
+
+-- where no tree is active all ranks are of it alone
+pub none_alone : (s : ScriptModel) (rs : List Rank) → filter_map (alone s None) rs ≡ rs
+none_alone s [] = refl
+none_alone s (r ∷ rs) = ap (λ zs. r ∷ zs) (none_alone s rs)
+
+-- by the layers of a tree that is there
+module _ (s : ScriptModel) (z : SeenTreeModel) (b : Borders) (p : Page) (vs : List SeenLayerModel) (rs qs : List Rank) (e : b ≡ borders s p) (f : p ≡ z.page) (g : vs ≡ z.layers) (h : rs ≡ qs) where
+  pub better_in : filter_map (better_on b vs) rs ≡ filter_map (or_better s (Some z)) qs
+  better_in = (λ i. filter_map (better_on (e i) (g i)) (h i)) ∙ (λ i. filter_map (better_on (borders s (f i)) z.layers) qs)
+
+  pub alone_in : filter_map (alone_on b vs) rs ≡ filter_map (alone s (Some z)) qs
+  alone_in = (λ i. filter_map (alone_on (e i) (g i)) (h i)) ∙ (λ i. filter_map (alone_on (borders s (f i)) z.layers) qs)
 
 -- ---- one tree, which may be missing
 

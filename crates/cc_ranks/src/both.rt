@@ -1,6 +1,7 @@
 //! The keys and the ranks of an active and a pending tree, either of which may be missing.
 
 ghost use Rattle.std.specs.Prelude.{◌≡◌, ◌++◌, filter_map, map, IfOk, option_copied};
+ghost use Rattle.cc_geom.specs.Covers.{IsSound};
 ghost use Rattle.cc_geom.specs.KeyLists.{has_key, AreDistinct};
 ghost use Rattle.cc_priority.specs.declared.rank.Rank.{Rank as RankModel};
 ghost use Rattle.cc_priority.specs.Ordered.{SameMembers};
@@ -10,12 +11,14 @@ ghost use Rattle.cc_ranks.specs.SeenTrees.{IsSeenWhere};
 ghost use Rattle.cc_ranks.specs.inner.Lists as spec;
 
 use crate::found::borders;
+use crate::layer::SeenLayer;
 use crate::near::ranks_near;
 use crate::ready::ready_tile;
+use crate::run::LayerRun;
 use crate::tree::SeenTree;
 use cc_event::Script;
 use cc_geom::TileKey;
-use cc_priority::{Rank, ReadyTile, Side, least};
+use cc_priority::{Borders, Rank, ReadyTile, Side, least};
 use std::alloc::{AllocError, Global};
 
 /// An active and a pending tree, either of which may be missing.
@@ -121,23 +124,28 @@ fn with_better(
 {
     match pending {
         None => Ok(ranks),
-        Some(_) => all_better(alloc, script, pending, ranks.as_slice()),
+        Some(tree) => {
+            let borders = borders(script, tree.page());
+            all_better(alloc, &borders, tree.layers(), ranks.as_slice())
+        }
     }
 }
 
-// Ranks of the active tree, each as the better one that its key has in the pending tree.
+// Ranks, each as the better one that its key has in a pending tree of these layers.
 fn all_better(
     alloc: Global,
-    script: &Script,
-    pending: Option<&SeenTree<'_>>,
+    borders: &Borders,
+    layers: &[SeenLayer<'_>],
     ranks: &[Rank],
 ) -> Result<Vec<Rank>, AllocError>
-    ensures { IfOk result (λ all. all.items ≡ filter_map (spec.or_better script.now (option_copied pending.entry)) ranks.now) }
+    requires { IsSound borders.now.viewport }
+    ensures { IfOk result (λ all. all.items ≡ filter_map (spec.better_on borders.now layers.now) ranks.now) }
 {
     let mut all = Vec::with_capacity(alloc, ranks.len())?;
+    let mut run = LayerRun::new(layers);
     let mut rest = ranks;
     while let Some((rank, others)) = rest.split_first() {
-        let other = rank_where(script, Side::Pending, pending, rank.key);
+        let other = run.rank(borders, Side::Pending, rank.key);
         if let Some(better) = least(Some(*rank), other) {
             all.push(better)?;
         }
@@ -155,10 +163,34 @@ fn with_alone(
 ) -> Result<Vec<Rank>, AllocError>
     ensures { IfOk result (λ all. all.items ≡ before.items ++ filter_map (spec.alone script.now (option_copied active.entry)) ranks.now) }
 {
+    match active {
+        None => {
+            let mut all = before;
+            all.extend_from_slice(ranks)?;
+            Ok(all)
+        }
+        Some(tree) => {
+            let borders = borders(script, tree.page());
+            all_alone(&borders, tree.layers(), ranks, before)
+        }
+    }
+}
+
+// Ranks, and those others behind them whose keys have none in an active tree of these layers.
+fn all_alone(
+    borders: &Borders,
+    layers: &[SeenLayer<'_>],
+    ranks: &[Rank],
+    before: Vec<Rank>,
+) -> Result<Vec<Rank>, AllocError>
+    requires { IsSound borders.now.viewport }
+    ensures { IfOk result (λ all. all.items ≡ before.items ++ filter_map (spec.alone_on borders.now layers.now) ranks.now) }
+{
     let mut all = before;
+    let mut run = LayerRun::new(layers);
     let mut rest = ranks;
     while let Some((rank, others)) = rest.split_first() {
-        if rank_where(script, Side::Active, active, rank.key).is_none() {
+        if run.rank(borders, Side::Active, rank.key).is_none() {
             all.push(*rank)?;
         }
         rest = others;

@@ -49,21 +49,18 @@ pub(crate) fn has_on(layer: Option<&SeenLayer<'_>>, key: TileKey) -> bool
     }
 }
 
-/// The rank that a layer of a page, which may be missing, gives a key.
+/// The rank that a layer, which may be missing, gives a key.
 pub(crate) fn rank_on(
-    script: &Script,
-    page: &LayerTree,
+    borders: &Borders,
     side: Side,
     layer: Option<&SeenLayer<'_>>,
     key: TileKey,
 ) -> Option<Rank>
-    ensures { result ≡ spec.rank_on_layer (ranking.borders script.now page.now) side (option_copied layer.entry) key }
+    requires { IsSound borders.now.viewport }
+    ensures { result ≡ spec.rank_on_layer borders.now side (option_copied layer.entry) key }
 {
     match layer {
         None => None,
-        Some(layer) => {
-            let borders = borders(script, page);
-            layer_rank(&borders, side, layer, key)
-        }
+        Some(layer) => layer_rank(borders, side, layer, key),
     }
 }

@@ -15,6 +15,7 @@ mod near;
 mod placed;
 mod placed_trees;
 mod ready;
+mod run;
 mod tree;
 
 pub use both::{SeenTrees, is_live, ranked, tile};

@@ -1,6 +1,6 @@
 //! The ranks of the tiles near the viewport of a tree.
 
-ghost use Rattle.std.specs.Prelude.{◌≡◌, ◌≤◌, ◌≤ℤ◌, ◌+◌, ◌++◌, ◌-ℤ◌, ◌+ℤ◌, ◌*◌, pos, [], filter_map, IsTrue, IfOk, All};
+ghost use Rattle.std.specs.Prelude.{◌≡◌, ◌≤◌, ◌≤ℤ◌, ◌+◌, ◌++◌, ◌-ℤ◌, ◌+ℤ◌, ◌*◌, pos, [], filter_map, IsTrue, IfOk, OnOk, All};
 ghost use Rattle.std.specs.List.{flat_map, cons_option};
 ghost use Rattle.cc_geom.specs.Covers.{IsSound};
 ghost use Rattle.cc_geom.specs.Grids.{has};
@@ -57,18 +57,14 @@ fn area_near(borders: &Borders) -> Rect
     area_of(borders)
 }
 
-// Ranks, with one more behind them, if there is one.
-fn with_rank(before: Vec<Rank>, rank: Option<Rank>) -> Result<Vec<Rank>, AllocError>
-    ensures { IfOk result (λ ranks. ranks.items ≡ before.items ++ cons_option rank []) }
+// Puts a rank behind others, if there is one.
+fn push_rank(ranks: &mut Vec<Rank>, rank: Option<Rank>) -> Result<(), AllocError>
+    ensures { OnOk result (ranks.new.items ≡ ranks.old.items ++ cons_option rank []) }
 {
-    match rank {
-        None => Ok(before),
-        Some(rank) => {
-            let mut ranks = before;
-            ranks.push(rank)?;
-            Ok(ranks)
-        }
+    if let Some(rank) = rank {
+        ranks.push(rank)?;
     }
+    Ok(())
 }
 
 // The rank of a place of a layer, which it is to have.
@@ -81,39 +77,38 @@ fn place_rank(borders: &Borders, side: Side, layer: &SeenLayer<'_>, place: Place
     rank_in(borders, side, &seen, layer.key_at(place))
 }
 
-// Ranks, and those of these places of a layer behind them.
-fn with_places(
+// Puts the ranks of these places of a layer behind others.
+fn push_places(
+    ranks: &mut Vec<Rank>,
     borders: &Borders,
     side: Side,
     layer: &SeenLayer<'_>,
     places: &[Place],
-    before: Vec<Rank>,
-) -> Result<Vec<Rank>, AllocError>
+) -> Result<(), AllocError>
     requires viewport { IsSound borders.now.viewport }
     requires there { All (λ p. IsTrue (has layer.now.grid p)) places.now }
-    ensures { IfOk result (λ ranks. ranks.items ≡ before.items ++ filter_map (spec.place_rank borders.now side layer.now) places.now) }
+    ensures { OnOk result (ranks.new.items ≡ ranks.old.items ++ filter_map (spec.place_rank borders.now side layer.now) places.now) }
 {
-    let mut ranks = before;
     ranks.reserve(places.len())?;
     for place in places {
-        ranks = with_rank(ranks, place_rank(borders, side, layer, *place))?;
+        push_rank(ranks, place_rank(borders, side, layer, *place))?;
     }
-    Ok(ranks)
+    Ok(())
 }
 
-// Ranks, and those of a layer's places near the viewport behind them.
-fn with_layer(
+// Puts the ranks of a layer's places near the viewport behind others.
+fn push_layer(
     alloc: Global,
+    ranks: &mut Vec<Rank>,
     borders: &Borders,
     side: Side,
     layer: &SeenLayer<'_>,
-    before: Vec<Rank>,
-) -> Result<Vec<Rank>, AllocError>
+) -> Result<(), AllocError>
     requires { IsNarrow borders.now }
-    ensures { IfOk result (λ ranks. ranks.items ≡ before.items ++ spec.near_ranks borders.now side layer.now) }
+    ensures { OnOk result (ranks.new.items ≡ ranks.old.items ++ spec.near_ranks borders.now side layer.now) }
 {
     let places = layer.places_near(alloc, area_near(borders))?;
-    with_places(borders, side, layer, places.as_slice(), before)
+    push_places(ranks, borders, side, layer, places.as_slice())
 }
 
 /// The ranks of the places of these layers near the viewport. An error is want of memory.
@@ -128,7 +123,7 @@ pub(crate) fn ranks_near(
 {
     let mut ranks = Vec::new(alloc);
     for layer in layers {
-        ranks = with_layer(alloc, borders, side, layer, ranks)?;
+        push_layer(alloc, &mut ranks, borders, side, layer)?;
     }
     Ok(ranks)
 }

@@ -11,7 +11,7 @@ ghost use Rattle.cc_event.specs.Ranking as ranking;
 ghost use Rattle.cc_ranks.specs.SeenTrees.{AreCut, IsPlaced};
 ghost use Rattle.cc_ranks.specs.inner.Lists.{Found};
 
-use crate::found::{has_on, rank_on};
+use crate::found::{borders, has_on, rank_on};
 use crate::layer::SeenLayer;
 use cc_edit::LayerTree;
 use cc_event::Script;
@@ -92,6 +92,6 @@ impl<'a> PlacedTree<'a> {
     {
         self.page.is_page();
         let layer = self.layer(key.layer);
-        rank_on(script, self.page, side, layer.as_ref(), key)
+        rank_on(&borders(script, self.page), side, layer.as_ref(), key)
     }
 }

@@ -10,7 +10,7 @@ ghost use Rattle.cc_event.specs.Ranking as ranking;
 ghost use Rattle.cc_ranks.specs.SeenTrees.{AreCut, IsTiled, IsSeenTree};
 ghost use Rattle.cc_ranks.specs.inner.Lists as spec;
 
-use crate::found::{has_on, rank_on};
+use crate::found::{borders, has_on, rank_on};
 use crate::layer::{SeenLayer, layer_at};
 use cc_edit::LayerTree;
 use cc_event::Script;
@@ -110,7 +110,7 @@ impl<'a> SeenTree<'a> {
         ensures { result ≡ spec.seen_rank (ranking.borders script.now self.now.page) side self.now.layers key }
     {
         let layer = layer_at(self.layers.as_slice(), key.layer);
-        rank_on(script, self.page, side, layer, key)
+        rank_on(&borders(script, self.page), side, layer, key)
     }
 
     /// The rank of a key in the tree of this side; None exactly where the tree lacks the key, or its tile

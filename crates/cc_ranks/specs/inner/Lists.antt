@@ -65,6 +65,14 @@ abbrev pub rank_where : ScriptModel → Side → Option SeenTreeModel → TileKe
 rank_where s a None q = None
 rank_where s a (Some r) q = seen_rank (borders s r.page) a r.layers q
 
+-- a rank, or the better one that its key has in a pending tree of these layers
+abbrev pub better_on : Borders → List SeenLayerModel → Rank → Option Rank
+better_on b vs r = least (Some r) (seen_rank b side.Pending vs r.key)
+
+-- a rank, where its key has none in an active tree of these layers
+abbrev pub alone_on : Borders → List SeenLayerModel → Rank → Option Rank
+alone_on b vs r = cond (is_some (seen_rank b side.Active vs r.key)) None (Some r)
+
 -- the rank of a place of a layer
 abbrev pub place_rank : Borders → Side → SeenLayerModel → Place → Option Rank
 place_rank b a v place = rank_of b a (tile_seen v place) (key_of v.stamps v.id place)

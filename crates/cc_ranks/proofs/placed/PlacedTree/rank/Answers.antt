@@ -1,6 +1,8 @@
 use Rattle.std.proofs.Common.{ap, ◌∙◌, subst}
+use Rattle.std.specs.Prelude.{option_copied}
 use Rattle.cc_edit.specs.Pages.{Page}
 use Rattle.cc_edit.specs.Sound.{AreDistinct}
+use Rattle.cc_priority.specs.declared.tile.Borders.{Borders}
 use Rattle.cc_event.specs.Ranking.{borders}
 use Rattle.cc_ranks.specs.SeenTrees.{PlacedModel}
 use Rattle.cc_ranks.specs.inner.Lists.{rank_on_layer}
@@ -12,6 +14,7 @@ returns-clause-value c = λ t is.
     let s = c.args.script.now in
     let page = ap (λ (m : PlacedModel). m.page) c.self.view_is ∙ is.page in
     c.rank_on.ensures
+    ∙ ap (λ (b : Borders). rank_on_layer b c.args.side (option_copied c.as_ref.result) c.args.key) c.borders.ensures.value
     ∙ ap (λ o. rank_on_layer (borders s c.self.inside.page.now) c.args.side o c.args.key) c.as_ref.ensures.value
     ∙ ap (λ (p : Page). rank_on_layer (borders s p) c.args.side c.layer-layer.result c.args.key) page
     ∙ rank_found s c.args.side t c.layer-layer.result c.args.key (subst (λ (p : Page). AreDistinct p.layers) page c.is_page.ensures.distinct) (c.layer-layer.ensures t is)

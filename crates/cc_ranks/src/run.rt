@@ -1,0 +1,59 @@
+//! The ranks that layers give keys, of which many in a row are of one layer.
+
+ghost use Rattle.std.specs.Prelude.{◌≡◌};
+ghost use Rattle.cc_geom.specs.Covers.{IsSound};
+ghost use Rattle.cc_ranks.specs.inner.Lists as spec;
+
+use crate::found::rank_on;
+use crate::layer::{SeenLayer, layer_at};
+use cc_geom::TileKey;
+use cc_priority::{Borders, Rank, Side};
+use std::marker::Model;
+
+/// Layers, of which the one that was looked for last is at hand.
+#[derive(Drop)]
+pub(crate) struct LayerRun<'b, 'a> {
+    layers: &'b [SeenLayer<'a>],
+    // the number that was looked for last
+    id: u32,
+    // its layer
+    layer: Option<&'b SeenLayer<'a>>,
+}
+
+impl<'b, 'a> Model for LayerRun<'b, 'a> {
+    ghost use Rattle.std.specs.Prelude.{◌≡◌, List, option_copied};
+    ghost use Rattle.cc_ranks.specs.SeenTrees.{SeenLayerModel};
+    ghost use Rattle.cc_ranks.specs.inner.Lists.{layer_at};
+
+    ghost Value = { List SeenLayerModel };
+
+    ghost view = { λ r. r.layers.now };
+
+    ghost invariant = { λ r. option_copied r.layer ≡ layer_at r.id r.layers.now };
+}
+
+impl<'b, 'a> LayerRun<'b, 'a> {
+    /// These layers.
+    pub(crate) fn new(layers: &'b [SeenLayer<'a>]) -> LayerRun<'b, 'a>
+        ensures { result ≡ layers.now }
+    {
+        LayerRun {
+            layers,
+            id: 0,
+            layer: layer_at(layers, 0),
+        }
+    }
+
+    /// The rank that one of them gives a key.
+    pub(crate) fn rank(&mut self, borders: &Borders, side: Side, key: TileKey) -> Option<Rank>
+        requires { IsSound borders.now.viewport }
+        ensures rank { result ≡ spec.seen_rank borders.now side self.old key }
+        ensures same { self.new ≡ self.old }
+    {
+        if key.layer != self.id {
+            self.layer = layer_at(self.layers, key.layer);
+            self.id = key.layer;
+        }
+        rank_on(borders, side, self.layer, key)
+    }
+}
