@@ -42,3 +42,4 @@ pub mod Gathers
 pub mod FrameTells
 pub mod PullBounds
 pub mod ListedStamps
+mod SharedLists
