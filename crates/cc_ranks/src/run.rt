@@ -1,10 +1,10 @@
-//! The ranks that layers give keys, of which many in a row are of one layer.
+//! What layers say of keys, of which many in a row are of one layer.
 
-ghost use Rattle.std.specs.Prelude.{◌≡◌};
+ghost use Rattle.std.specs.Prelude.{◌≡◌, option_copied};
 ghost use Rattle.cc_geom.specs.Covers.{IsSound};
 ghost use Rattle.cc_ranks.specs.inner.Lists as spec;
 
-use crate::found::rank_on;
+use crate::found::{has_on, rank_on};
 use crate::layer::{SeenLayer, layer_at};
 use cc_geom::TileKey;
 use cc_priority::{Borders, Rank, Side};
@@ -44,16 +44,34 @@ impl<'b, 'a> LayerRun<'b, 'a> {
         }
     }
 
+    // The layer of this number, which is looked for where it is not at hand.
+    fn find(&mut self, id: u32) -> Option<&'b SeenLayer<'a>>
+        ensures layer { option_copied result ≡ spec.layer_at id self.old }
+        ensures same { self.new ≡ self.old }
+    {
+        if id != self.id {
+            self.layer = layer_at(self.layers, id);
+            self.id = id;
+        }
+        self.layer
+    }
+
+    /// Whether one of them has a key.
+    pub(crate) fn has(&mut self, key: TileKey) -> bool
+        ensures has { result ≡ spec.seen_has self.old key }
+        ensures same { self.new ≡ self.old }
+    {
+        let layer = self.find(key.layer);
+        has_on(layer, key)
+    }
+
     /// The rank that one of them gives a key.
     pub(crate) fn rank(&mut self, borders: &Borders, side: Side, key: TileKey) -> Option<Rank>
         requires { IsSound borders.now.viewport }
         ensures rank { result ≡ spec.seen_rank borders.now side self.old key }
         ensures same { self.new ≡ self.old }
     {
-        if key.layer != self.id {
-            self.layer = layer_at(self.layers, key.layer);
-            self.id = key.layer;
-        }
-        rank_on(borders, side, self.layer, key)
+        let layer = self.find(key.layer);
+        rank_on(borders, side, layer, key)
     }
 }

@@ -1,6 +1,6 @@
 //! A tree as its tiles are seen.
 
-ghost use Rattle.std.specs.Prelude.{◌≡◌, ◌++◌, map, IfOk, OnOk};
+ghost use Rattle.std.specs.Prelude.{◌≡◌, ◌++◌, map, filter, IfOk, OnOk};
 ghost use Rattle.std.specs.List.{flat_map};
 ghost use Rattle.cc_edit.specs.Layers.{parts_of};
 ghost use Rattle.cc_geom.specs.KeyLists as key_lists;
@@ -12,6 +12,7 @@ ghost use Rattle.cc_ranks.specs.inner.Lists as spec;
 
 use crate::found::{borders, has_on, rank_on};
 use crate::layer::{SeenLayer, layer_at};
+use crate::run::LayerRun;
 use cc_edit::LayerTree;
 use cc_event::Script;
 use cc_geom::{Keys, TileKey};
@@ -105,6 +106,14 @@ impl<'a> SeenTree<'a> {
         self.layers_have(key)
     }
 
+    /// Those of the keys that it has, in their order. An error is want of memory.
+    pub fn those_of(&self, alloc: Global, keys: &Keys) -> Result<Keys, AllocError>
+        ensures { IfOk result (λ own. (t : Tree) → IsSeenTree t self.now → own ≡ filter (key_lists.has_key (keys_of t)) keys.now) }
+    {
+        self.page.is_page();
+        keys_on(alloc, self.layers.as_slice(), keys.as_slice())
+    }
+
     /// The rank that one of its layers gives a key.
     pub(crate) fn layers_rank(&self, script: &Script, side: Side, key: TileKey) -> Option<Rank>
         ensures { result ≡ spec.seen_rank (ranking.borders script.now self.now.page) side self.now.layers key }
@@ -132,6 +141,23 @@ impl<'a> SeenTree<'a> {
         let order = by_id(alloc, all)?;
         visible_keys(alloc, self.layers.as_slice(), order.as_slice())
     }
+}
+
+// Those of the keys that one of the layers has, in their order. Keys of one layer stand together, so that it is
+// looked for once.
+fn keys_on(alloc: Global, layers: &[SeenLayer<'_>], keys: &[TileKey]) -> Result<Keys, AllocError>
+    ensures { IfOk result (λ own. own ≡ filter (spec.seen_has layers.now) keys.now) }
+{
+    let mut own = Keys::new(alloc);
+    let mut run = LayerRun::new(layers);
+    for key in keys {
+        if run.has(*key) {
+            if let Err((full, _)) = own.push(*key) {
+                return Err(full);
+            }
+        }
+    }
+    Ok(own)
 }
 
 // The keys of the visible tiles of layers, in the order of these.

@@ -1,6 +1,6 @@
 //! The ready keys that a tree has.
 
-ghost use Rattle.std.specs.Prelude.{◌≡◌, ◌&&◌, filter, IfOk};
+ghost use Rattle.std.specs.Prelude.{◌≡◌, ◌&&◌, IfOk};
 ghost use Rattle.std.specs.List.Sorted.{IsSorted};
 ghost use Rattle.cc_geom.specs.declared.tile.TileKey.{TileKey as Key};
 ghost use Rattle.cc_geom.specs.KeyLists.{has_key, AreDistinct};
@@ -14,21 +14,6 @@ use cc_ranks::SeenTree;
 use cc_tilemanager::TileManager;
 use std::alloc::{AllocError, Global};
 
-// Those of the keys that a tree has, in their order.
-fn live_of(alloc: Global, tree: &SeenTree<'_>, keys: &Keys) -> Result<Keys, AllocError>
-    ensures { IfOk result (λ live. (t : Tree) → IsSeenTree t tree.now → live ≡ filter (has_key (keys_of t)) keys.now) }
-{
-    let mut live = Keys::new(alloc);
-    for key in keys.as_slice() {
-        if tree.has(*key) {
-            if let Err(refused) = live.push(*key) {
-                return Err(refused.0);
-            }
-        }
-    }
-    Ok(live)
-}
-
 /// The ready keys that a tree has, each once, in key order. An error is want of memory.
 pub(crate) fn kept_live(
     alloc: Global,
@@ -40,5 +25,5 @@ pub(crate) fn kept_live(
     ensures keys { IfOk result (λ live. (t : Tree) → IsSeenTree t tree.now → (q : Key) → has_key live q ≡ (is_ready manager.now.store q && has_key (keys_of t) q)) }
 {
     let ready = manager.ready_keys()?;
-    live_of(alloc, tree, &ready)
+    tree.those_of(alloc, &ready)
 }

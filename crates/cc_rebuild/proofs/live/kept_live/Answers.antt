@@ -11,15 +11,15 @@ use Rattle.cc_rebuild.proofs.live.kept_live.Goals as goal
 
 pub returns-clause-once : goal.returns-clause-once
 returns-clause-once c =
-    weaken c.live_of.result (λ live is t seen. subst AreDistinct (sym (is t seen)) (distinct_filter (has_key (keys_of t)) c.in_ok-ready.ready c.in_ok-ready.ensures.once)) c.live_of.ensures
+    weaken c.those_of.result (λ live is t seen. subst AreDistinct (sym (is t seen)) (distinct_filter (has_key (keys_of t)) c.in_ok-ready.ready c.in_ok-ready.ensures.once)) c.those_of.ensures
 
 pub returns-clause-order : goal.returns-clause-order
 returns-clause-order c =
-    weaken c.live_of.result (λ live is t seen. subst (IsSorted key_cmp) (sym (is t seen)) (filter_sorted (has_key (keys_of t)) c.in_ok-ready.ready c.in_ok-ready.ensures.order)) c.live_of.ensures
+    weaken c.those_of.result (λ live is t seen. subst (IsSorted key_cmp) (sym (is t seen)) (filter_sorted (has_key (keys_of t)) c.in_ok-ready.ready c.in_ok-ready.ensures.order)) c.those_of.ensures
 
 pub returns-clause-keys : goal.returns-clause-keys
 returns-clause-keys c =
-    weaken c.live_of.result
+    weaken c.those_of.result
     (λ live is t seen q.
     ap (λ ks. has_key ks q) (is t seen) ∙ (has_filter (has_key (keys_of t)) c.in_ok-ready.ready q ∙ ap (λ b. b && has_key (keys_of t) q) (c.in_ok-ready.ensures.keys q)))
-    c.live_of.ensures
+    c.those_of.ensures
