@@ -62,6 +62,10 @@ fn put_once<K: Sink>(sink: &mut K, piece: &[u8]) -> Result<(), PutFault> {
     sink.put(piece)
 }
 
+fn put_owned_once<K: Sink>(sink: &mut K, piece: Vec<u8>) -> Result<(), PutFault> {
+    sink.put_owned(piece)
+}
+
 #[test]
 fn memory_gives_in_steps_and_fails_as_told(rt: HostRuntime) -> Result<(), Fail> {
     let bytes = vec![in rt.alloc(); 1, 2, 3, 4, 5]?;
@@ -93,7 +97,11 @@ fn memory_takes_up_to_its_limit_and_fails_as_told(rt: HostRuntime) -> Result<(),
     let mut endless = MemSink::endless(rt.alloc());
     assert_eq!(rt; put_once(&mut endless, &[1, 2]), Ok(()));
     assert_eq!(rt; put_once(&mut endless, &[3]), Ok(()));
-    assert_eq!(rt; endless.bytes(), [1, 2, 3].as_slice());
+    assert_eq!(rt;
+        put_owned_once(&mut endless, vec![in rt.alloc(); 4, 5]?),
+        Ok(())
+    );
+    assert_eq!(rt; endless.bytes(), [1, 2, 3, 4, 5].as_slice());
     Ok(())
 }
 

@@ -43,4 +43,16 @@ pub trait Sink {
         ensures refused { refusals self.old ≤ refusals self.new }
         ensures cause { PutCause (faults self.old) (faults self.new) (refusals self.old) (refusals self.new) result }
         ensures place { place self.new ≡ place self.old };
+
+    /// Appends the whole piece, as `put` does. A sink that keeps its pieces keeps this one, without
+    /// a copy.
+    fn put_owned(&mut self, piece: Vec<u8>) -> Result<(), PutFault>
+        ensures bytes { PutAppends (held self.old) (held self.new) piece.items result }
+        ensures grows { faults self.old ≤ faults self.new }
+        ensures refused { refusals self.old ≤ refusals self.new }
+        ensures cause { PutCause (faults self.old) (faults self.new) (refusals self.old) (refusals self.new) result }
+        ensures place { place self.new ≡ place self.old }
+    {
+        self.put(&piece)
+    }
 }

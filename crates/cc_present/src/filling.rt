@@ -1,6 +1,8 @@
 //! Putting pieces into a ring, without waiting.
-ghost use Rattle.std.specs.Prelude.{Some, ◌≡◌, ◌≤◌, ◌++◌, ◌∷◌, [], MatchResult};
+ghost use Rattle.std.specs.Prelude.{Some, ◌≡◌, ◌≤◌};
+ghost use Rattle.cc_io.specs.Counts.{Rose};
 ghost use Rattle.cc_io.specs.Pieces.{NotFailed, PutAppends, PutCause};
+ghost use Rattle.cc_io.specs.declared.writing.PutFault.TheVariants.{Memory};
 ghost use Rattle.cc_present.specs.Ring.{PutsPiece, SameSink, pieces_of, ring_filled, whole};
 
 use crate::ends::{Label, RingSink};
@@ -24,22 +26,39 @@ impl RingSink {
         }
     }
 
-    /// Takes in a piece of its own: into the ring, or behind the kept ones.
-    fn take_in(&mut self, piece: &[u8]) -> Result<(), AllocError>
+    /// A put is refused for want of memory.
+    fn refuse(&mut self, error: AllocError) -> PutFault
         ensures ring { SameSink self.old self.new }
-        ensures bytes { MatchResult result (λ _. whole self.new ≡ whole self.old ++ piece.now) (λ _. whole self.new ≡ whole self.old) }
-        ensures pieces { MatchResult result (λ _. pieces_of self.new ≡ pieces_of self.old ++ piece.now ∷ []) (λ _. pieces_of self.new ≡ pieces_of self.old) }
-        ensures refused { self.new.refused ≡ self.old.refused }
+        ensures bytes { whole self.new ≡ whole self.old }
+        ensures pieces { pieces_of self.new ≡ pieces_of self.old }
+        ensures fault { result ≡ Memory error }
+        ensures refused { self.old.refused ≤ self.new.refused }
+        ensures cause { Rose self.old.refused self.new.refused }
     {
-        let own = Vec::from_slice(self.alloc, piece)?;
+        self.refused = self.refused.saturating_add(1);
+        PutFault::Memory(error)
+    }
+
+    /// Takes in a piece, unless it is empty: into the ring, or behind the kept ones.
+    fn take_in(&mut self, piece: Vec<u8>) -> Result<(), PutFault>
+        ensures ring { SameSink self.old self.new }
+        ensures bytes { PutAppends (Some (whole self.old)) (Some (whole self.new)) piece.items result }
+        ensures refused { self.old.refused ≤ self.new.refused }
+        ensures cause { PutCause 0 0 self.old.refused self.new.refused result }
+        ensures answers { NotFailed result }
+        ensures pieces { PutsPiece (pieces_of self.old) (pieces_of self.new) piece.items result }
+    {
+        if piece.is_empty() {
+            return Ok(());
+        }
         if self.kept.is_empty() && !self.producer.is_full() {
-            self.producer.push_reserved(own);
+            self.producer.push_reserved(piece);
             self.bell.ring();
             return Ok(());
         }
-        match self.kept.push_back(own) {
+        match self.kept.push_back(piece) {
             Ok(()) => Ok(()),
-            Err(_) => Err(AllocError),
+            Err(_) => Err(self.refuse(AllocError)),
         }
     }
 
@@ -82,15 +101,23 @@ impl Sink for RingSink {
         ensures pieces { PutsPiece (pieces_of self.old) (pieces_of self.new) piece.now result }
     {
         self.move_on();
-        if piece.is_empty() {
-            return Ok(());
+        match Vec::from_slice(self.alloc, piece) {
+            Ok(copy) => self.take_in(copy),
+            Err(error) => Err(self.refuse(error)),
         }
-        match self.take_in(piece) {
-            Ok(()) => Ok(()),
-            Err(error) => {
-                self.refused = self.refused.saturating_add(1);
-                Err(PutFault::Memory(error))
-            }
-        }
+    }
+
+    /// The same as `put`, of a copy of the piece; this one takes no copy.
+    fn put_owned(&mut self, piece: Vec<u8>) -> Result<(), PutFault>
+        ensures bytes { PutAppends (Some (whole self.old)) (Some (whole self.new)) piece.items result }
+        ensures grows { 0 ≤ 0 }
+        ensures refused { self.old.refused ≤ self.new.refused }
+        ensures cause { PutCause 0 0 self.old.refused self.new.refused result }
+        ensures place { SameSink self.old self.new }
+        ensures answers { NotFailed result }
+        ensures pieces { PutsPiece (pieces_of self.old) (pieces_of self.new) piece.items result }
+    {
+        self.move_on();
+        self.take_in(piece)
     }
 }

@@ -82,6 +82,20 @@ fn what_is_in_the_ring_is_served_before_the_end(rt: HostRuntime) -> Result<(), F
 }
 
 #[test]
+fn owned_pieces_go_in_their_turn(rt: HostRuntime) -> Result<(), Fail> {
+    let (mut sink, mut presenter) = ring(rt.alloc())?;
+    assert_eq!(rt; sink.put(&[1]), Ok(()));
+    assert_eq!(rt; sink.put_owned(vec![in rt.alloc(); 2, 3]?), Ok(()));
+    assert_eq!(rt; sink.put_owned(Vec::new(rt.alloc())), Ok(()));
+    assert_eq!(rt; sink.put(&[4]), Ok(()));
+    sink.end();
+    let mut out = MemSink::endless(rt.alloc());
+    assert_eq!(rt; presenter.serve(&rt, &mut out), Presented::Written);
+    assert_eq!(rt; out.bytes(), [1, 2, 3, 4].as_slice());
+    Ok(())
+}
+
+#[test]
 fn a_thousand_pieces_go_through(rt: HostRuntime) -> Result<(), Fail> {
     let pieces = pieces_of(rt.alloc(), 1000, 2741, 5000)?;
     let mut out = MemSink::endless(rt.alloc());
