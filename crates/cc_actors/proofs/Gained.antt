@@ -1,6 +1,6 @@
 -- What a sink gained by a turn.
 use Rattle.std.proofs.Common.{ℕ, List, [], ◌++◌, append-nil}
-use Rattle.std.specs.Prelude.{Option, Result, Ok, Err, OnOk}
+use Rattle.std.specs.Prelude.{Option}
 use Rattle.std.specs.Io.KnownBytes.{Appends}
 use Rattle.cc_io.specs.Pieces.{GainsPrefix}
 use Rattle.cc_recorder.specs.declared.writing.WriteStop.{WriteStop}
@@ -10,10 +10,6 @@ use Rattle.cc_actors.specs.declared.turned.Turned.{Turned}
 use Rattle.cc_actors.specs.declared.turned.Turned.TheVariants as turned
 use Rattle.cc_actors.specs.Writing.{Wrote}
 use Rattle.cc_actors.specs.inner.Steps.{answer_at}
-
-pub ok_then : {X E : Type 0} (r : Result X E) (P Q : Type 0) → OnOk r P → (P → Q) → OnOk r Q
-ok_then (Ok x) P Q p f = f p
-ok_then (Err e) P Q p f = tt
 
 -- some bytes, and then others or a front of them
 pub wrote_behind : (t : Turned) (old mid new : Option (List ℕ)) (a b : List ℕ) → Appends old mid a → Wrote mid new b t → Wrote old new (a ++ b) t

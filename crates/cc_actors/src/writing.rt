@@ -6,11 +6,11 @@ ghost use Rattle.cc_recorder.specs.inner.Scenes.{scene_image};
 ghost use Rattle.cc_actors.specs.Writing.{FaultCause, Wrote};
 ghost use Rattle.cc_actors.specs.inner.Steps.{Answers, answer_at, image_in, text_for, GoesOrGivesUp};
 
-use crate::drawing::{Drawer, draw};
+use crate::drawing::Drawer;
 use crate::playing::Played;
 use crate::turned::Turned;
 use cc_io::{PutFault, Sink};
-use cc_recorder::{Pictures, WriteStop};
+use cc_recorder::WriteStop;
 use cc_scene::Scene;
 use std::marker::Sync;
 use std::thread::Threads;
@@ -40,55 +40,21 @@ fn refused(stop: WriteStop) -> Turned
 }
 
 // Puts the last piece of a turn.
-fn put_last<K: Sink>(out: &mut K, piece: &[u8]) -> Turned
-    ensures bytes { Wrote (K.held out.old) (K.held out.new) piece.now result }
+fn put_last<K: Sink>(out: &mut K, piece: Vec<u8>) -> Turned
+    ensures bytes { Wrote (K.held out.old) (K.held out.new) piece.items result }
     ensures answer { GoesOrGivesUp result }
     ensures grows { K.faults out.old ≤ K.faults out.new }
     ensures cause { FaultCause (K.faults out.old) (K.faults out.new) result }
     ensures place { K.place out.new ≡ K.place out.old }
 {
-    match put(out, piece) {
+    match out.put_owned(piece) {
         Ok(()) => Turned::Went,
-        Err(stop) => refused(stop),
-    }
-}
-
-// Puts the head of an image and its pixels.
-fn put_both<K: Sink>(out: &mut K, head: &[u8], pixels: &[u8]) -> Turned
-    ensures bytes { Wrote (K.held out.old) (K.held out.new) (head.now ++ pixels.now) result }
-    ensures answer { GoesOrGivesUp result }
-    ensures grows { K.faults out.old ≤ K.faults out.new }
-    ensures cause { FaultCause (K.faults out.old) (K.faults out.new) result }
-    ensures place { K.place out.new ≡ K.place out.old }
-{
-    match put(out, head) {
-        Ok(()) => put_last(out, pixels),
-        Err(stop) => refused(stop),
+        Err(PutFault::Failed) => Turned::WriteFault,
+        Err(PutFault::Memory(_)) => Turned::Memory,
     }
 }
 
 // Draws a scene, and puts its image.
-fn put_picture<R: Threads + Sync, K: Sink>(
-    rt: &R,
-    out: &mut K,
-    pictures: &mut Pictures,
-    head: &mut Vec<u8>,
-    scene: Scene,
-    parts: usize,
-) -> Turned
-    ensures bytes { Wrote (K.held out.old) (K.held out.new) (scene_image scene) result }
-    ensures answer { GoesOrGivesUp result }
-    ensures grows { K.faults out.old ≤ K.faults out.new }
-    ensures cause { FaultCause (K.faults out.old) (K.faults out.new) result }
-    ensures place { K.place out.new ≡ K.place out.old }
-{
-    match draw(rt, pictures, head, scene, parts) {
-        Ok(()) => put_both(out, head.as_slice(), pictures.packed()),
-        Err(_) => Turned::Memory,
-    }
-}
-
-// The same, with the drawer's pictures.
 fn put_image<R: Threads + Sync, K: Sink>(
     rt: &R,
     out: &mut K,
@@ -101,13 +67,10 @@ fn put_image<R: Threads + Sync, K: Sink>(
     ensures cause { FaultCause (K.faults out.old) (K.faults out.new) result }
     ensures place { K.place out.new ≡ K.place out.old }
 {
-    let Ok(mut pictures) = drawer.take_pictures() else {
-        return Turned::Memory;
-    };
-    let parts = drawer.parts;
-    let answer = put_picture(rt, out, &mut pictures, &mut drawer.head, scene, parts);
-    drawer.keep(pictures);
-    answer
+    match drawer.draw(rt, scene) {
+        Ok(image) => put_last(out, image),
+        Err(_) => Turned::Memory,
+    }
 }
 
 // Puts the image of what was drawn, if anything was, and answers for what was played.

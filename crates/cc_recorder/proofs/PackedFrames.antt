@@ -75,6 +75,12 @@ packed_image f packed is =
     ap (λ (xs : List ℕ). image_head f.w f.h ++ xs)
     (sym (take_all (3 * (f.h * f.w)) packed (omega arith)) ∙ rows_prefix f packed f.h is (omega arith))
 
+-- how many bytes the packed pixels of a frame are, where its pixels were counted
+pub packed_size : (count w h : ℕ) (f : FrameView) → count ≡ h * w → w ≡ f.w → h ≡ f.h → 3 * count ≡ 3 * (f.w * f.h)
+packed_size count w h f counted wide tall =
+    let turned : f.h * f.w ≡ f.w * f.h = grind arith in
+    ap (λ (n : ℕ). 3 * n) (counted ∙ ap (λ (n : ℕ). n * w) tall ∙ ap (λ (n : ℕ). f.h * n) wide ∙ turned)
+
 -- ---- rows that are packed again
 
 -- a packed pixel stays where its bytes do

@@ -10,7 +10,8 @@ use Rattle.cc_recorder.specs.inner.Packed.{IsPacked}
 use Rattle.cc_recorder.proofs.PackedFrames.{packed_image}
 use Rattle.cc_recorder.proofs.Rows.{image_alike}
 
-shown_whole : (s : SceneView) (f : FrameView) → ShowsWhole s f → image (frame_pixel f) f.w f.h ≡ scene_image s
+-- the image of a frame that shows a scene is the scene's
+pub shown_whole : (s : SceneView) (f : FrameView) → ShowsWhole s f → image (frame_pixel f) f.w f.h ≡ scene_image s
 unfolding scene_image
 shown_whole s f shows =
     image_alike f.w f.h (frame_pixel f) (λ x y. scene_pixel s (pos x) (pos y)) shows.pixels

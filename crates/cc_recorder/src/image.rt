@@ -1,10 +1,13 @@
 //! The pixels of a frame, packed as an image has them.
 
-ghost use Rattle.std.specs.Prelude.{◌≡◌, ◌*◌, ◌<◌, length, IfOk, OnOk, IsTrue};
+ghost use Rattle.std.specs.Prelude.{◌≡◌, ◌+◌, ◌*◌, ◌<◌, length, IfOk, OnOk, IsTrue};
+ghost use Rattle.cc_event.specs.Recordings.{image, image_head};
+ghost use Rattle.cc_render.specs.Frames.{frame_pixel};
 ghost use Rattle.cc_recorder.specs.inner.Packed.{IsPacked, IsPackedOutside};
 
 use cc_packing::pack_run_in_parts;
 use cc_painter::Rows;
+use cc_record::push_image_head;
 use cc_render::Frame;
 use std::alloc::{AllocError, Global};
 use std::marker::Sync;
@@ -29,6 +32,25 @@ fn pack_rows<R: Threads + Sync>(rt: &R, packed: &mut [u8], frame: &Frame, rows: 
     pack_run_in_parts(rt, packed, frame.bytes(), from, to, parts);
 }
 
+// Packs all pixels of a frame.
+fn pack_all<R: Threads + Sync>(rt: &R, packed: &mut [u8], frame: &Frame, parts: usize)
+    requires { length packed.old ≡ 3 * (frame.now.w * frame.now.h) }
+    ensures { IsPacked frame.now packed.new }
+{
+    let rows = Rows {
+        top: 0,
+        bottom: frame.h(),
+    };
+    pack_rows(rt, packed, frame, rows, parts);
+}
+
+// How many bytes the packed pixels of a frame are.
+fn packed_len(frame: &Frame) -> usize
+    ensures { result ≡ 3 * (frame.now.w * frame.now.h) }
+{
+    3 * start_of(frame.h(), frame.w())
+}
+
 /// The packed pixels of a frame. An error is want of memory.
 fn pack_whole<R: Threads + Sync>(
     rt: &R,
@@ -38,13 +60,36 @@ fn pack_whole<R: Threads + Sync>(
 ) -> Result<Vec<u8>, AllocError>
     ensures { IfOk result (λ packed. IsPacked frame.now packed.items) }
 {
-    let rows = Rows {
-        top: 0,
-        bottom: frame.h(),
-    };
-    let mut packed = vec![in alloc; 0u8; 3 * start_of(frame.h(), frame.w())]?;
-    pack_rows(rt, packed.as_mut_slice(), frame, rows, parts);
+    let mut packed = vec![in alloc; 0u8; packed_len(frame)]?;
+    pack_all(rt, packed.as_mut_slice(), frame, parts);
     Ok(packed)
+}
+
+// Writes the image of a frame over these bytes; this is its head.
+fn pack_image<R: Threads + Sync>(rt: &R, bytes: &mut [u8], head: &[u8], frame: &Frame, parts: usize)
+    requires head { head.now ≡ image_head frame.now.w frame.now.h }
+    requires room { length bytes.old ≡ length head.now + 3 * (frame.now.w * frame.now.h) }
+    ensures { bytes.new ≡ image (frame_pixel frame.now) frame.now.w frame.now.h }
+{
+    let (front, packed) = bytes.split_at_mut(head.len());
+    front.copy_from_slice(head);
+    pack_all(rt, packed, frame, parts);
+}
+
+/// The image of a frame. An error is want of memory.
+pub(crate) fn image_of<R: Threads + Sync>(
+    rt: &R,
+    alloc: Global,
+    frame: &Frame,
+    parts: usize,
+) -> Result<Vec<u8>, AllocError>
+    ensures { IfOk result (λ bytes. bytes.items ≡ image (frame_pixel frame.now) frame.now.w frame.now.h) }
+{
+    let mut head = Vec::new(alloc);
+    push_image_head(&mut head, frame.w(), frame.h())?;
+    let mut bytes = vec![in alloc; 0u8; head.len() + packed_len(frame)]?;
+    pack_image(rt, bytes.as_mut_slice(), &head, frame, parts);
+    Ok(bytes)
 }
 
 // Whether there are packed pixels, and a frame is of this size.

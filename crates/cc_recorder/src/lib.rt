@@ -5,16 +5,19 @@
 //!
 //! In: an accepted script and a sink. Out: the sink gained the script's recording, or where it failed or memory
 //! was refused, a front of it.
+//!
+//! An [`ImagePainter`] gives the images of scenes to whoever writes a recording in another way.
 #![tactic(auto)]
 
 mod image;
+mod image_painter;
 mod last_draw;
 mod lockstep;
 mod pictures;
 mod recorder;
 mod writing;
 
+pub use image_painter::ImagePainter;
 pub use lockstep::{Recorded, record_lockstep};
-pub use pictures::Pictures;
 pub use recorder::header_of;
 pub use writing::{WriteStop, put_all};
