@@ -10,15 +10,6 @@ use cc_sched::Kind;
 use std::alloc::AllocError;
 
 impl Core {
-    // Enters the event of a plain kind, where one may come now, and answers whether there was one.
-    fn enter_plain(&mut self, kind: Kind) -> Result<bool, AllocError>
-        requires { is_plain kind ≡ true }
-        ensures plays { IfOk result (λ played. Plays self.old kind 0 self.new played) }
-        ensures err { OnErr result (self.new ≡ self.old) }
-    {
-        self.log.enter_plain(kind)
-    }
-
     /// Enters the event of a plain kind, where one may come now, and answers whether there was one. An error
     /// is want of memory, and nothing was entered.
     pub fn play_plain(&mut self, kind: Kind) -> Result<bool, AllocError>
@@ -26,11 +17,7 @@ impl Core {
         ensures plays { IfOk result (λ played. Plays self.old kind 0 self.new played) }
         ensures err { OnErr result (self.new ≡ self.old) }
     {
-        // A draw that begins is followed by questions for the next tile.
-        if kind == Kind::BeginDraw && self.may_plain(kind) {
-            self.refresh()?;
-        }
-        self.enter_plain(kind)
+        self.log.enter_plain(kind)
     }
 
     /// Whether an event of a plain kind may come now.

@@ -1,6 +1,6 @@
 -- A plain event changes nothing of what is kept.
 use Rattle.cc_core.proofs.CoreSteps.{played}
-use Rattle.cc_core.proofs.core_state.Core.enter_plain.Goals as goal
+use Rattle.cc_core.proofs.core_state.Core.play_plain.Goals as goal
 
 pub invariant_of-self : goal.invariant_of-self
 invariant_of-self c =
