@@ -1,5 +1,5 @@
 -- The ranks of two trees together.
-use Rattle.std.proofs.Common.{◌≡◌, ◌⊎◌, inl, inr, ℕ, ◌*◌, ◌-◌, ◌<◌, ◌≤◌, ◌==◌, nat_lt, ℤ, pos, ◌+ℤ◌, ◌-ℤ◌, ◌<ℤ◌, int_lt, Bool, true, false, cond, ◌&&◌, min, option_map, Option, Some, None, is_some, List, [], ◌∷◌, ◌++◌, length, map, filter_map, find, refl, sym, ◌∙◌, ap, subst, arith}
+use Rattle.std.proofs.Common.{◌≡◌, ◌⊎◌, inl, inr, ℕ, ◌*◌, ◌-◌, ◌<◌, ◌≤◌, nat_lt, ℤ, pos, ◌+ℤ◌, ◌-ℤ◌, ◌<ℤ◌, int_lt, Bool, true, false, cond, ◌&&◌, min, option_map, Option, Some, None, is_some, List, [], ◌∷◌, ◌++◌, length, map, filter_map, find, refl, sym, ◌∙◌, ap, subst, arith}
 use Rattle.std.specs.Prelude.{nat_le}
 use Rattle.std.specs.List.{flat_map, cons_option, AllByRecursion}
 use Rattle.std.specs.Int.{int_max, int_min}
@@ -44,13 +44,14 @@ use Rattle.cc_event.specs.Ranges.{in_range, is_in_ranges, head_in_range, main_in
 use Rattle.cc_event.specs.Accepted.{IsAccepted}
 use Rattle.cc_event.specs.Tiles.{Tree, keys_of, page_keys}
 use Rattle.cc_event.specs.Ranking.{place_named, borders, rank_on, rank_in}
-use Rattle.cc_event.proofs.BoolFacts.{and_left, and_right, is_below, is_same, not_both, or_neither, or_left_false, or_right_false}
+use Rattle.cc_event.proofs.BoolFacts.{and_left, and_right, is_below, not_both, or_neither, or_left_false, or_right_false}
 use Rattle.cc_event.proofs.KeyFacts.{in_has}
 use Rattle.cc_event.proofs.RankFacts.{tree_rank, key_of_rank}
 use Rattle.cc_steps.specs.Choices.{rank_in_both}
 use Rattle.cc_ranks.specs.Areas.{IsNear}
 use Rattle.cc_ranks.specs.SeenTrees.{SeenLayerModel, SeenTreeModel, IsLayerOf, AreLayersOf, IsSeenTree, IsSeenWhere}
 use Rattle.cc_ranks.specs.inner.Lists.{rank_where, ranks_where, or_better, better_on, alone, alone_on, ranks_both, tile_seen, layer_at, layer_has, rank_on_layer, IsNarrow, IsPageWhere}
+use Rattle.cc_ranks.proofs.VisibleKeys.{has_its_id}
 use Rattle.cc_ranks.proofs.SeenLayers.{rank_is, tile_is}
 use Rattle.cc_ranks.proofs.SeenRanks.{ranked_as, IsSeenWell, HaveOwnIds, flat_has, has_flat, flat_once, once_append}
 
@@ -169,15 +170,6 @@ each_in P (y ∷ ys) x a (inl e) = subst P (sym e) a.0
 each_in P (y ∷ ys) x a (inr i) = each_in P ys x a.1 i
 
 -- layers with ids of their own are seen with ids of their own
-has_its_id : (l : PageLayer) (ls : List PageLayer) → In l ls → has_layer l.id ls ≡ true
-has_its_id l [] i = absurd i
-has_its_id l (k ∷ ks) (inl e) = ap (λ (b : Bool). is_some (cond b (Some k) (find (has_id l.id) ks))) (is_same k.id l.id (ap (λ (z : PageLayer). z.id) (sym e)))
-has_its_id l (k ∷ ks) (inr i) = by_test (k.id == l.id) (has_its_id l ks i)
-  where
-    by_test : (b : Bool) → has_layer l.id ks ≡ true → is_some (cond b (Some k) (find (has_id l.id) ks)) ≡ true
-    by_test true r = refl
-    by_test false r = r
-
 own_ids : (t : Tree) (b : Borders) (a : Side) (ls : List PageLayer) (vs : List SeenLayerModel) → sound.AreDistinct ls → AreLayersOf t ls vs → HaveOwnIds b a vs
 own_ids t b a [] [] d o = tt
 own_ids t b a [] (v ∷ vs) d o = absurd o

@@ -109,7 +109,8 @@ in_by_id x (l ∷ ls) i = by_or (in_put x l (by_id ls) i) (in_by_id x ls)
     by_or (inl e) r = inl e
     by_or (inr j) r = inr (r j)
 
-has_its_id : (l : PageLayer) (ls : List PageLayer) → In l ls → has_layer l.id ls ≡ true
+-- a list of layers has the id of each
+pub has_its_id : (l : PageLayer) (ls : List PageLayer) → In l ls → has_layer l.id ls ≡ true
 has_its_id l [] i = absurd i
 has_its_id l (k ∷ ks) (inl e) = ap (λ (b : Bool). is_some (cond b (Some k) (find (has_id l.id) ks))) (is_same k.id l.id (ap (λ (z : PageLayer). z.id) (sym e)))
 has_its_id l (k ∷ ks) (inr i) = by_test (k.id == l.id) (has_its_id l ks i)
