@@ -3,7 +3,7 @@
 
 usage: tools/believed.py [--words] [--of CRATE/FILE:FUNCTION]
 
-It begins with the names in the `ensures` clauses of the function (cc_play/program.rt:run if none is named) and
+It begins with the names in the `ensures` clauses of the function (player_run/program.rt:run if none is named) and
 follows each to its definition, by the `ghost use` lines of the source and the `use` lines of the specs, and so on
 through the names in those definitions. It prints each file of specs/ with the lines of it that count, and the whole
 in lines and in pages of 50 lines; with --words each word too. It fails where a word that the clauses themselves name
@@ -185,7 +185,7 @@ def told_words(text, names):
 def main():
     words = argparse.ArgumentParser(description=__doc__, formatter_class=argparse.RawDescriptionHelpFormatter)
     words.add_argument("--words", action="store_true", help="each word too")
-    words.add_argument("--of", default="cc_play/program.rt:run", help="CRATE/FILE:FUNCTION, the file below src/")
+    words.add_argument("--of", default="player_run/program.rt:run", help="CRATE/FILE:FUNCTION, the file below src/")
     words = words.parse_args()
     file, function = words.of.rsplit(":", 1)
     crate, rest = file.split("/", 1)

@@ -2,8 +2,8 @@
 //! pictures; or a script that is made of a number.
 #![tactic(auto)]
 
-use cc_io::{OpenGate, Sink, StdSink, StdSource};
-use cc_play::run;
+use player_io::{OpenGate, Sink, StdSink, StdSource};
+use player_run::run;
 use std::alloc::{AllocError, Global};
 use std::env::{Env, FillError};
 use std::process::ExitCode;

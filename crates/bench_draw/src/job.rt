@@ -1,0 +1,150 @@
+//! What the program is asked to do.
+
+ghost use Rattle.std.specs.Prelude.{◌≤◌, IfSome};
+ghost use Rattle.bench_draw.specs.Jobs.{IsSmall};
+
+use crate::hits::PageSize;
+
+/// The most pixels of a row.
+pub(crate) const MOST_PIXELS: usize = 65536;
+
+/// The most items of a list.
+pub(crate) const MOST_ITEMS: usize = 256;
+
+/// What the items of a list are.
+#[derive(Clone, Copy, Debug, PartialEq, Eq)]
+pub(crate) enum Kind {
+    /// Opaque rects.
+    Opaque,
+    /// Translucent rects.
+    Translucent,
+    /// Translucent bitmaps.
+    Bitmap,
+}
+
+/// One job, done so many times.
+#[derive(Clone, Copy, Debug)]
+pub(crate) enum Job {
+    /// A row of so many pixels is laid over another.
+    Over {
+        pixels: usize,
+        times: u32,
+    },
+    /// A row of so many pixels is faded.
+    Scale {
+        pixels: usize,
+        times: u32,
+    },
+    /// A row of so many pixels gets one colour.
+    Fill {
+        pixels: usize,
+        times: u32,
+    },
+    /// A list of so many items is rasterised.
+    Raster {
+        kind: Kind,
+        items: usize,
+        times: u32,
+    },
+    /// A scene of layers of so many items is drawn.
+    Scene {
+        in_groups: bool,
+        items: usize,
+        layers: u32,
+        times: u32,
+    },
+    /// A point of a page is asked which layer it hits.
+    Target {
+        size: PageSize,
+        times: u32,
+    },
+    /// A wheel turns at a point of a page.
+    Wheel {
+        size: PageSize,
+        times: u32,
+    },
+}
+
+/// A number up to a limit.
+fn number(word: &str, most: usize) -> Option<usize>
+    ensures { IfSome result (λ n. n ≤ most) }
+{
+    let n = word.parse::<usize>().ok()?;
+    if n <= most { Some(n) } else { None }
+}
+
+/// How often a job is done.
+fn times(word: &str) -> Option<u32> {
+    word.parse::<u32>().ok()
+}
+
+fn kind_of(word: &str) -> Option<Kind> {
+    match word {
+        "opaque" => Some(Kind::Opaque),
+        "translucent" => Some(Kind::Translucent),
+        "bitmap" => Some(Kind::Bitmap),
+        _ => None,
+    }
+}
+
+impl Job {
+    /// The job that the words name, if they name one.
+    pub(crate) fn of_words(words: &[String]) -> Option<Job>
+        ensures { IfSome result IsSmall }
+    {
+        match words {
+            [name, first, second] => Job::of_row(name.as_str(), first.as_str(), second.as_str()),
+            [name, first, second, third] if name.as_str() == "raster" => Some(Job::Raster {
+                kind: kind_of(first.as_str())?,
+                items: number(second.as_str(), MOST_ITEMS)?,
+                times: times(third.as_str())?,
+            }),
+            [name, first, second, third] if name.as_str() == "scene" => Some(Job::Scene {
+                in_groups: false,
+                items: number(first.as_str(), MOST_ITEMS)?,
+                layers: times(second.as_str())?,
+                times: times(third.as_str())?,
+            }),
+            [name, first, second, third] if name.as_str() == "groups" => Some(Job::Scene {
+                in_groups: true,
+                items: number(first.as_str(), MOST_ITEMS)?,
+                layers: times(second.as_str())?,
+                times: times(third.as_str())?,
+            }),
+            [name, layers, nodes, depth, count] => {
+                let size = PageSize {
+                    layers: times(layers.as_str())?,
+                    nodes: times(nodes.as_str())?,
+                    depth: times(depth.as_str())?,
+                };
+                Job::of_page(name.as_str(), size, times(count.as_str())?)
+            }
+            _ => None,
+        }
+    }
+
+    /// The job on a row of this name.
+    fn of_row(name: &str, pixels: &str, count: &str) -> Option<Job>
+        ensures { IfSome result IsSmall }
+    {
+        let pixels = number(pixels, MOST_PIXELS)?;
+        let times = times(count)?;
+        match name {
+            "over" => Some(Job::Over { pixels, times }),
+            "scale" => Some(Job::Scale { pixels, times }),
+            "fill" => Some(Job::Fill { pixels, times }),
+            _ => None,
+        }
+    }
+
+    /// The job on a page of this name.
+    fn of_page(name: &str, size: PageSize, times: u32) -> Option<Job>
+        ensures { IfSome result IsSmall }
+    {
+        match name {
+            "target" => Some(Job::Target { size, times }),
+            "wheel" => Some(Job::Wheel { size, times }),
+            _ => None,
+        }
+    }
+}

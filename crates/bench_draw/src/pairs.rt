@@ -1,0 +1,236 @@
+//! Pairs of thrown scenes: the damage from one to the other is drawn over the frame of the first.
+
+ghost use Rattle.std.specs.Prelude.{◌≡◌, IsTrue, IfOk};
+ghost use Rattle.viz_scene.specs.Views.{SceneView};
+ghost use Rattle.viz_render.specs.Frames.{IsOfSize};
+
+use crate::pool::pool_of;
+use crate::scenes::Dice;
+use crate::sketch::Sketch;
+use geom::Point;
+use region::Region;
+use std::alloc::{AllocError, Global};
+use std::io;
+use std::sync::Arc;
+use tile_raster::TileImage;
+use viz_damage::damage_of;
+use viz_occlusion::cull;
+use viz_painter::Painter;
+use viz_render::{Frame, render, render_region};
+use viz_scene::Scene;
+
+/// What came out of some pairs.
+#[derive(Clone, Copy)]
+struct Figures {
+    /// How many pairs were tried.
+    pairs: u64,
+    /// How many sketches made no scene.
+    skipped: u64,
+    /// How many pairs have another frame than that of the second scene after its damage was drawn.
+    wrong: u64,
+    /// How many a painter shows otherwise.
+    shown_otherwise: u64,
+    /// How many points the damage of all pairs has.
+    damaged: u64,
+    /// How many points of all pairs have another colour.
+    changed: u64,
+    /// How many points the damage of culled scenes has.
+    culled: u64,
+}
+
+// what came out of one pair
+#[derive(Clone, Copy)]
+struct Trial {
+    is_right: bool,
+    damaged: u64,
+    changed: u64,
+}
+
+// the frame of a scene
+fn drawn(alloc: Global, scene: &Scene) -> Result<Frame, AllocError>
+    ensures { IfOk result (λ frame. IsOfSize scene.now.w scene.now.h frame) }
+{
+    let mut frame = Frame::new(alloc, scene.w(), scene.h())?;
+    render(scene, &mut frame)?;
+    Ok(frame)
+}
+
+// the points of a region on a frame
+fn area_of(region: &Region, frame: &Frame) -> u64 {
+    let mut area = 0u64;
+    for y in 0..frame.h() {
+        for x in 0..frame.w() {
+            let at = Point {
+                x: x as i32,
+                y: y as i32,
+            };
+            if region.covers(at) {
+                area = area.wrapping_add(1);
+            }
+        }
+    }
+    area
+}
+
+// a byte of a picture
+fn byte_at(bytes: &[u8], at: usize) -> u8 {
+    match bytes.get(at) {
+        Some(byte) => *byte,
+        None => 0,
+    }
+}
+
+// in how many pixels two pictures differ
+fn differing(a: &[u8], b: &[u8]) -> u64 {
+    let mut count = 0u64;
+    let mut differs = false;
+    for at in 0..a.len() {
+        if byte_at(a, at) != byte_at(b, at) {
+            differs = true;
+        }
+        if at % 4 == 3 {
+            if differs {
+                count = count.wrapping_add(1);
+            }
+            differs = false;
+        }
+    }
+    count
+}
+
+// draws the damage of the second scene over the frame of the first
+fn try_damage(alloc: Global, old: &Scene, new: &Scene) -> Result<Trial, AllocError>
+    requires wide { old.now.w ≡ new.now.w }
+    requires tall { old.now.h ≡ new.now.h }
+{
+    let before = drawn(alloc, old)?;
+    let after = drawn(alloc, new)?;
+    let mut frame = drawn(alloc, old)?;
+    let region = damage_of(alloc, old, new)?;
+    render_region(new, &mut frame, &region)?;
+    Ok(Trial {
+        is_right: frame.bytes() == after.bytes(),
+        damaged: area_of(&region, &after),
+        changed: differing(before.bytes(), after.bytes()),
+    })
+}
+
+// whether a painter that shows the scene has the right frame
+fn shows(alloc: Global, painter: &mut Painter, scene: Scene) -> Result<bool, AllocError> {
+    let wanted = drawn(alloc, &scene)?;
+    let frame = painter.show(scene)?;
+    Ok(frame.bytes() == wanted.bytes())
+}
+
+// whether two scenes are of one size
+fn are_of_one_size(a: &Scene, b: &Scene) -> bool
+    ensures wide { IsTrue result → a.now.w ≡ b.now.w }
+    ensures tall { IsTrue result → a.now.h ≡ b.now.h }
+{
+    a.w() == b.w() && a.h() == b.h()
+}
+
+impl Figures {
+    /// Nothing was tried.
+    const NONE: Figures = Figures {
+        pairs: 0,
+        skipped: 0,
+        wrong: 0,
+        shown_otherwise: 0,
+        damaged: 0,
+        changed: 0,
+        culled: 0,
+    };
+
+    /// Counts a pair.
+    fn count(&mut self, trial: Trial, culled: Trial, is_shown: bool) {
+        self.pairs = self.pairs.wrapping_add(1);
+        if !trial.is_right || !culled.is_right {
+            self.wrong = self.wrong.wrapping_add(1);
+        }
+        if !is_shown {
+            self.shown_otherwise = self.shown_otherwise.wrapping_add(1);
+        }
+        self.damaged = self.damaged.wrapping_add(trial.damaged);
+        self.changed = self.changed.wrapping_add(trial.changed);
+        self.culled = self.culled.wrapping_add(culled.damaged);
+    }
+}
+
+// the same trial of both scenes without their hidden quads
+fn try_culled(alloc: Global, old: &Scene, new: &Scene) -> Result<Trial, AllocError>
+    requires wide { old.now.w ≡ new.now.w }
+    requires tall { old.now.h ≡ new.now.h }
+{
+    let before = cull(alloc, old)?;
+    let after = cull(alloc, new)?;
+    try_damage(alloc, &before, &after)
+}
+
+// tries a pair in each way
+fn try_pair(
+    alloc: Global,
+    painter: &mut Painter,
+    old: Scene,
+    new: Scene,
+    figures: &mut Figures,
+) -> Result<(), AllocError> {
+    if !are_of_one_size(&old, &new) {
+        figures.skipped = figures.skipped.wrapping_add(1);
+        return Ok(());
+    }
+    let trial = try_damage(alloc, &old, &new)?;
+    let culled = try_culled(alloc, &old, &new)?;
+    let first = shows(alloc, painter, old)?;
+    let second = shows(alloc, painter, new)?;
+    figures.count(trial, culled, first && second);
+    Ok(())
+}
+
+// throws a sketch and one that follows on it, and tries their scenes
+fn try_throw(
+    alloc: Global,
+    pool: &[Arc<TileImage>],
+    painter: &mut Painter,
+    seed: u64,
+    figures: &mut Figures,
+) -> Result<(), AllocError> {
+    let mut dice = Dice::new(seed);
+    let sketch = Sketch::thrown(alloc, &mut dice)?;
+    let next = sketch.next(alloc, &mut dice)?;
+    match (sketch.scene(alloc, pool)?, next.scene(alloc, pool)?) {
+        (Some(old), Some(new)) => try_pair(alloc, painter, old, new, figures),
+        _ => {
+            figures.skipped = figures.skipped.wrapping_add(1);
+            Ok(())
+        }
+    }
+}
+
+// what comes out of so many pairs
+fn figures_of(alloc: Global, count: u32, seed: u32) -> Result<Figures, AllocError> {
+    let pool = pool_of(alloc)?;
+    let mut painter = Painter::new(alloc, 1, 1)?;
+    let mut figures = Figures::NONE;
+    for turn in 0..u32::MAX {
+        if figures.pairs >= count as u64 {
+            break;
+        }
+        let number = (seed as u64) << 32 | turn as u64;
+        try_throw(alloc, pool.as_slice(), &mut painter, number, &mut figures)?;
+    }
+    Ok(figures)
+}
+
+/// Tries so many pairs of scenes and tells what came out: how many are wrong, and how many points are damaged
+/// and how many have another colour, in all.
+pub(crate) fn tell(rt: &HostRuntime, count: u32, seed: u32) -> io::Result<()> {
+    let figures = figures_of(rt.alloc(), count, seed)?;
+    let (pairs, skipped) = (figures.pairs, figures.skipped);
+    let (wrong, otherwise) = (figures.wrong, figures.shown_otherwise);
+    let (damaged, changed, culled) = (figures.damaged, figures.changed, figures.culled);
+    println!(rt; "{pairs} pairs of scenes, {skipped} sketches made none")?;
+    println!(rt; "{wrong} wrong, {otherwise} shown otherwise")?;
+    println!(rt; "points: {damaged} damaged, {culled} without hidden quads, {changed} changed")?;
+    Ok(())
+}

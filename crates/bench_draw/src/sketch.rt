@@ -1,0 +1,318 @@
+//! Sketches of scenes: thrown, and changed by a few throws.
+
+ghost use Rattle.std.specs.Prelude.{◌≡◌, ◌≤◌, IfSome, IfOk};
+
+use crate::pool::{IMAGES, colour_of};
+use crate::scenes::Dice;
+use geom::{Point, Rect};
+use pixel::Colour;
+use std::alloc::{AllocError, Global};
+use std::sync::Arc;
+use tile_raster::TileImage;
+use viz_fits::scene_of;
+use viz_scene::{Quad, RenderPass, Scene};
+
+/// The side of the screen, in pixels.
+const SIDE: u32 = 32;
+
+/// A quad, or the end of a pass.
+#[derive(Clone, Copy)]
+pub(crate) enum Part {
+    /// A part of an image of the pool.
+    Tile {
+        /// The number of the image.
+        image: u32,
+        /// Where it lies.
+        at: Rect,
+        /// From which pixel of the image on.
+        from: Point,
+    },
+    /// A rect of one colour.
+    Solid {
+        /// Where it lies.
+        at: Rect,
+        /// Its colour.
+        colour: Colour,
+    },
+    /// A pass as a whole.
+    Group {
+        /// Its number.
+        pass: u32,
+        /// What it is faded to.
+        opacity: u8,
+    },
+    /// The end of a pass.
+    End,
+}
+
+/// A scene by its parts, which may be none.
+#[derive(Drop)]
+pub(crate) struct Sketch {
+    background: Colour,
+    parts: Vec<Part>,
+}
+
+// a rect of a cell of the screen, or any on it
+fn place_of(dice: &mut Dice) -> Rect {
+    if dice.throw() % 2 == 0 {
+        return Rect {
+            x: 16 * (dice.throw() % 2) as i32,
+            y: 16 * (dice.throw() % 2) as i32,
+            w: 16,
+            h: 16,
+        };
+    }
+    Rect {
+        x: (dice.throw() % 17) as i32,
+        y: (dice.throw() % 17) as i32,
+        w: (dice.throw() % 17) as i32,
+        h: (dice.throw() % 17) as i32,
+    }
+}
+
+// a pixel of an image from which as much as a rect can be taken
+fn start_of(dice: &mut Dice, at: Rect) -> Point {
+    let across = 16i32.saturating_sub(at.w).saturating_add(1).max(1) as u32;
+    let down = 16i32.saturating_sub(at.h).saturating_add(1).max(1) as u32;
+    Point {
+        x: (dice.throw() % across) as i32,
+        y: (dice.throw() % down) as i32,
+    }
+}
+
+// a quad of the pass of this number
+fn part_of(dice: &mut Dice, number: u32) -> Part {
+    let at = place_of(dice);
+    match dice.throw() % 8 {
+        0 | 1 if number > 0 => Part::Group {
+            pass: dice.throw() % number,
+            opacity: (dice.throw() % 256) as u8,
+        },
+        2 | 3 => Part::Solid {
+            at,
+            colour: colour_of(dice),
+        },
+        _ => Part::Tile {
+            image: dice.throw() % IMAGES,
+            at,
+            from: start_of(dice, at),
+        },
+    }
+}
+
+// a part that is moved a little, or shows something else
+fn changed(dice: &mut Dice, part: Part) -> Part {
+    match part {
+        Part::Tile { image, at, from } => match dice.throw() % 3 {
+            0 => Part::Tile {
+                image: dice.throw() % IMAGES,
+                at,
+                from,
+            },
+            1 => Part::Tile {
+                image: image ^ 1,
+                at,
+                from,
+            },
+            _ => Part::Tile {
+                image,
+                at: moved(dice, at),
+                from,
+            },
+        },
+        Part::Solid { at, colour } => match dice.throw() % 2 {
+            0 => Part::Solid {
+                at,
+                colour: colour_of(dice),
+            },
+            _ => Part::Solid {
+                at: moved(dice, at),
+                colour,
+            },
+        },
+        Part::Group { pass, .. } => Part::Group {
+            pass,
+            opacity: (dice.throw() % 256) as u8,
+        },
+        Part::End => Part::End,
+    }
+}
+
+// a rect moved by up to two pixels
+fn moved(dice: &mut Dice, at: Rect) -> Rect {
+    let dx = (dice.throw() % 5) as i32 - 2;
+    let dy = (dice.throw() % 5) as i32 - 2;
+    Rect {
+        x: at.x.saturating_add(dx),
+        y: at.y.saturating_add(dy),
+        w: at.w,
+        h: at.h,
+    }
+}
+
+// adds so many quads of the pass of this number, and its end
+fn add_pass(
+    dice: &mut Dice,
+    number: u32,
+    count: u32,
+    parts: &mut Vec<Part>,
+) -> Result<(), AllocError> {
+    for _quad in 0..count {
+        parts.push(part_of(dice, number))?;
+    }
+    parts.push(Part::End)?;
+    Ok(())
+}
+
+// the parts of a scene of up to three passes
+fn parts_of(alloc: Global, dice: &mut Dice) -> Result<Vec<Part>, AllocError> {
+    let mut parts = Vec::new(alloc);
+    for number in 0..1 + dice.throw() % 3 {
+        let count = 1 + dice.throw() % 6;
+        add_pass(dice, number, count, &mut parts)?;
+    }
+    Ok(parts)
+}
+
+// some parts, of which one is gone, is another one, or has another one before it
+fn with_change(alloc: Global, dice: &mut Dice, parts: &[Part]) -> Result<Vec<Part>, AllocError> {
+    let place = dice.throw() as usize % parts.len().max(1);
+    let kind = dice.throw() % 6;
+    let mut after = Vec::new(alloc);
+    for at in 0..parts.len() {
+        let part = parts[at];
+        if at != place {
+            after.push(part)?;
+        } else {
+            change_at(dice, kind, part, &mut after)?;
+        }
+    }
+    Ok(after)
+}
+
+// what stands in the place of a part
+fn change_at(
+    dice: &mut Dice,
+    kind: u32,
+    part: Part,
+    after: &mut Vec<Part>,
+) -> Result<(), AllocError> {
+    if kind == 0 {
+        return Ok(());
+    }
+    if kind == 1 {
+        after.push(part_of(dice, 1))?;
+        after.push(part)?;
+        return Ok(());
+    }
+    after.push(changed(dice, part))?;
+    Ok(())
+}
+
+// some parts, all moved by one way
+fn scrolled(alloc: Global, dice: &mut Dice, parts: &[Part]) -> Result<Vec<Part>, AllocError> {
+    let by = dice.throw() % 3;
+    let mut after = Vec::new(alloc);
+    for part in parts {
+        after.push(scrolled_part(*part, by as i32))?;
+    }
+    Ok(after)
+}
+
+// a tile that lies so much higher; all else stays
+fn scrolled_part(part: Part, by: i32) -> Part {
+    match part {
+        Part::Tile { image, at, from } => Part::Tile {
+            image,
+            at: Rect {
+                x: at.x,
+                y: at.y.saturating_sub(by),
+                w: at.w,
+                h: at.h,
+            },
+            from,
+        },
+        other => other,
+    }
+}
+
+impl Sketch {
+    /// A thrown sketch.
+    pub(crate) fn thrown(alloc: Global, dice: &mut Dice) -> Result<Sketch, AllocError> {
+        let background = colour_of(dice);
+        let parts = parts_of(alloc, dice)?;
+        Ok(Sketch { background, parts })
+    }
+
+    /// A sketch that follows on this one: mostly with up to three changes.
+    pub(crate) fn next(&self, alloc: Global, dice: &mut Dice) -> Result<Sketch, AllocError> {
+        if dice.throw() % 16 == 0 {
+            return Sketch::thrown(alloc, dice);
+        }
+        let parts = parts_after(alloc, dice, self.parts.as_slice())?;
+        Ok(Sketch {
+            background: self.background,
+            parts,
+        })
+    }
+
+    /// The scene of this sketch. None where its parts make none.
+    pub(crate) fn scene(
+        &self,
+        alloc: Global,
+        pool: &[Arc<TileImage>],
+    ) -> Result<Option<Scene>, AllocError> {
+        let passes = passes_of(alloc, self.parts.as_slice(), pool)?;
+        Ok(scene_of(SIDE, SIDE, self.background, passes))
+    }
+}
+
+// some parts with a few changes
+fn parts_after(alloc: Global, dice: &mut Dice, parts: &[Part]) -> Result<Vec<Part>, AllocError> {
+    let mut after = if dice.throw() % 4 == 0 {
+        scrolled(alloc, dice, parts)?
+    } else {
+        with_change(alloc, dice, parts)?
+    };
+    for _change in 0..dice.throw() % 3 {
+        after = with_change(alloc, dice, after.as_slice())?;
+    }
+    Ok(after)
+}
+
+// the passes of some parts
+fn passes_of(
+    alloc: Global,
+    parts: &[Part],
+    pool: &[Arc<TileImage>],
+) -> Result<Vec<RenderPass>, AllocError> {
+    let mut passes = Vec::new(alloc);
+    let mut quads = Vec::new(alloc);
+    for part in parts {
+        match quad_of(*part, pool)? {
+            Some(quad) => quads.push(quad)?,
+            None => {
+                let done = std::mem::replace(&mut quads, Vec::new(alloc));
+                passes.push(RenderPass { quads: done })?;
+            }
+        }
+    }
+    Ok(passes)
+}
+
+// the quad of a part; None at the end of a pass
+fn quad_of(part: Part, pool: &[Arc<TileImage>]) -> Result<Option<Quad>, AllocError> {
+    match part {
+        Part::Tile { image, at, from } => match pool.get(image as usize) {
+            Some(image) => Ok(Some(Quad::Tile {
+                image: Arc::try_clone(image)?,
+                at,
+                from,
+            })),
+            None => Ok(None),
+        },
+        Part::Solid { at, colour } => Ok(Some(Quad::Solid { at, colour })),
+        Part::Group { pass, opacity } => Ok(Some(Quad::Group { pass, opacity })),
+        Part::End => Ok(None),
+    }
+}

@@ -1,0 +1,78 @@
+//! The jobs on a tile.
+
+ghost use Rattle.std.specs.Prelude.{◌≤◌, IfOk};
+ghost use Rattle.page_display_list.specs.Content.{IsSoundItem};
+
+use crate::job::Kind;
+use crate::rows::grey;
+use geom::Rect;
+use page_display_list::{DisplayList, Item};
+use std::alloc::{AllocError, Global};
+
+/// The tile, which each item covers.
+const TILE: Rect = Rect {
+    x: 0,
+    y: 0,
+    w: 256,
+    h: 256,
+};
+
+/// So many bytes of one value.
+fn bytes_of(alloc: Global, value: u8, count: usize) -> Result<Vec<u8>, AllocError> {
+    vec![in alloc; value; count]
+}
+
+/// One item of a kind, as dark as its level.
+fn item_of(alloc: Global, kind: Kind, level: u8) -> Result<Item, AllocError>
+    ensures { IfOk result IsSoundItem }
+{
+    match kind {
+        Kind::Opaque => Ok(Item::Rect {
+            rect: TILE,
+            colour: grey(255),
+        }),
+        Kind::Translucent => Ok(Item::Rect {
+            rect: TILE,
+            colour: grey(level),
+        }),
+        Kind::Bitmap => {
+            let pixels = bytes_of(alloc, level, 262144)?;
+            match Item::bitmap(TILE, pixels) {
+                Ok(item) => Ok(item),
+                Err(_) => Err(AllocError),
+            }
+        }
+    }
+}
+
+/// A list of so many items of a kind.
+fn list_of(alloc: Global, kind: Kind, items: usize) -> Result<DisplayList, AllocError>
+    requires { items ≤ 256 }
+{
+    let mut list = DisplayList::new(alloc);
+    for _turn in 0..items {
+        let at = list.len();
+        if at < 256 {
+            let item = item_of(alloc, kind, 64)?;
+            if let Err((want, _item)) = list.insert(at, item) {
+                return Err(want);
+            }
+        }
+    }
+    Ok(list)
+}
+
+/// Rasterises a list of items so many times, and adds up the first bytes.
+pub(crate) fn raster(alloc: Global, kind: Kind, items: usize, times: u32) -> Result<u64, AllocError>
+    requires { items ≤ 256 }
+{
+    let list = list_of(alloc, kind, items)?;
+    let mut sum = 0u64;
+    for _turn in 0..times {
+        let bytes = list.raster(TILE)?;
+        if let Some(first) = bytes.as_slice().first() {
+            sum = sum.wrapping_add(*first as u64);
+        }
+    }
+    Ok(sum)
+}

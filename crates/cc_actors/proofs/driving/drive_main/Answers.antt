@@ -1,5 +1,0 @@
--- Where the bell is closed, the main side stays ready.
-use Rattle.cc_actors.proofs.driving.drive_main.Goals as goal
-
-pub returns-then-is_closed : goal.returns-then-is_closed
-returns-then-is_closed g c = c.loop.invariant

@@ -1,5 +1,0 @@
-use Rattle.cc_render.specs.Frames.{IsOfSize}
-use Rattle.cc_bench.proofs.scenes.draw.Given as given
-
-abbrev pub invariant-loop-turn : given.invariant-loop-turn
-invariant-loop-turn l = IsOfSize 1024 1024 l.frame

@@ -1,5 +1,0 @@
-use Rattle.cc_check.proofs.OneReading.{not_bad}
-use Rattle.cc_check.proofs.laws.a_recording_has_no_bad_part.Goals as goal
-
-pub returns : goal.returns
-returns c = not_bad

@@ -1,5 +1,0 @@
-use Rattle.cc_check.proofs.OneReading.{one_reading}
-use Rattle.cc_check.proofs.laws.a_recording_has_one_reading.Goals as goal
-
-pub returns : goal.returns
-returns c = one_reading

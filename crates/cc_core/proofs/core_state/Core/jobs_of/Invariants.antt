@@ -1,7 +1,0 @@
--- The jobs of the ranks so far.
-use Rattle.std.proofs.Common.{take}
-use Rattle.cc_core.proofs.AllJobs.{AreJobsOf}
-use Rattle.cc_core.proofs.core_state.Core.jobs_of.Given as goal
-
-abbrev pub invariant-loop-rank : goal.invariant-loop-rank
-invariant-loop-rank l = AreJobsOf l.self (take l.rank-index l.ranks) l.jobs.items

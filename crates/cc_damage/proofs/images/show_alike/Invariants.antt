@@ -1,7 +1,0 @@
--- The items so far show the same.
-use Rattle.std.specs.Prelude.{take}
-use Rattle.cc_raster.specs.Images.{ShowAlike}
-use Rattle.cc_damage.proofs.images.show_alike.Given as given
-
-abbrev pub invariant-loop-place : given.invariant-loop-place
-invariant-loop-place l = ShowAlike l.rect (take l.place l.items) (take l.place l.others)

@@ -1,5 +1,0 @@
-use Rattle.std.specs.Prelude.{◌≡◌, take}
-use Rattle.cc_display.proofs.list.DisplayList.copy.Given as given
-
-abbrev pub invariant-loop-item : given.invariant-loop-item
-invariant-loop-item l = l.items.items ≡ take l.item-index l.item-items

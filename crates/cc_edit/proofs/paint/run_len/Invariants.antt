@@ -1,8 +1,0 @@
-use Rattle.std.proofs.Common.{◌≡◌, ◌+◌, drop}
-use Rattle.std.specs.List.{prefix_len}
-use Rattle.cc_edit.specs.inner.Runs.{lies_in}
-use Rattle.cc_edit.specs.inner.LayerSamples.{groups_of}
-use Rattle.cc_edit.proofs.paint.run_len.Given as goal
-
-abbrev pub invariant-loop-sample : goal.invariant-loop-sample
-invariant-loop-sample l = (l.len ≡ l.sample-index) × (l.len + prefix_len (lies_in groups_of l.depth l.effect) (drop l.sample-index l.samples) ≡ prefix_len (lies_in groups_of l.depth l.effect) l.samples)

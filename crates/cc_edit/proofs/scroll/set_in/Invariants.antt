@@ -1,9 +1,0 @@
-use Rattle.std.proofs.Common.{◌≡◌, ◌++◌, drop, take}
-use Rattle.cc_tree.specs.Entries.{changed}
-use Rattle.cc_edit.proofs.scroll.set_in.Given as goal
-
-abbrev pub invariant-loop-value : goal.invariant-loop-value
-invariant-loop-value l = record {
-  same : l.values ≡ l.initial.values;
-  rest : take l.value-index l.values ++ changed l.id (λ v. l.at) (drop l.value-index l.values) ≡ changed l.id (λ v. l.at) l.values;
-}

@@ -1,6 +1,0 @@
--- The sides of a layer are in range in every page.
-use Rattle.cc_edit.proofs.Placing.{sizes}
-use Rattle.cc_edit.proofs.tree.LayerTree.are_sized.Goals as goal
-
-pub returns : goal.returns
-returns c = sizes c.args.self.now.props c.args.self.now.used c.args.layers.now c.args.self.now.layers c.requires c.is_page.ensures.layers

@@ -1,9 +1,0 @@
-use Rattle.std.proofs.Common.{ap, map, List}
-use Rattle.cc_tree.specs.Trees.{Trees}
-use Rattle.cc_edit.specs.declared.layer.Layer.{Layer}
-use Rattle.cc_edit.specs.Layers.{parts_of}
-use Rattle.cc_edit.proofs.AfterKeeps.{empty-page}
-use Rattle.cc_edit.proofs.tree.LayerTree.new.Goals as goal
-
-pub invariant_of-result : goal.invariant_of-result
-invariant_of-result c = empty-page _ c.requires (ap (λ (ls : List Layer). map parts_of ls) c.new-layers.ensures.items) c.new-values.ensures.items (ap (λ (t : Trees). t.scrollers) c.new-props.ensures)

@@ -1,7 +1,0 @@
-use Rattle.std.proofs.Common.{sym}
-use Rattle.std.proofs.lemmas.List.{length-map}
-use Rattle.cc_edit.specs.Layers.{parts_of}
-use Rattle.cc_edit.proofs.tree.parting.count_of.Goals as goal
-
-pub returns : goal.returns
-returns c = sym (length-map c.args.layers.now parts_of)

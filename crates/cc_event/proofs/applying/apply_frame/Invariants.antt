@@ -1,6 +1,0 @@
-use Rattle.std.proofs.Common.{drop}
-use Rattle.cc_event.proofs.Leads.{Leads}
-use Rattle.cc_event.proofs.applying.apply_frame.Given as goal
-
-abbrev pub invariant-loop-place : goal.invariant-loop-place
-invariant-loop-place l = Leads l.fn.tree l.commands l.place l.tree (drop l.place l.commands)

@@ -1,8 +1,0 @@
-use Rattle.std.proofs.Common.{drop, ◌≡◌}
-use Rattle.std.specs.List.{list_any}
-use Rattle.cc_edit.specs.Axes.{named_in}
-use Rattle.cc_event.specs.inner.Ending.{is_moved}
-use Rattle.cc_event.proofs.frame.moves_some.Given as goal
-
-abbrev pub invariant-loop-pull : goal.invariant-loop-pull
-invariant-loop-pull l = list_any (is_moved l.before l.after l.pulls) (named_in (drop l.pull-index l.pulls)) ≡ list_any (is_moved l.before l.after l.pulls) (named_in l.pulls)

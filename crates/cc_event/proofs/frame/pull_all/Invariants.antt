@@ -1,6 +1,0 @@
-use Rattle.std.proofs.Common.{drop}
-use Rattle.cc_event.proofs.Gathers.{Pulls}
-use Rattle.cc_event.proofs.frame.pull_all.Given as goal
-
-abbrev pub invariant-loop-pull : goal.invariant-loop-pull
-invariant-loop-pull l = Pulls l.fn.tree l.pulls l.tree (drop l.pull-index l.pulls)

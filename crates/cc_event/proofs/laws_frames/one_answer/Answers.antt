@@ -1,5 +1,0 @@
-use Rattle.cc_event.proofs.OneAnswer.{same_kind, same_next, ready_or_abort}
-use Rattle.cc_event.proofs.laws_frames.one_answer.Goals as goal
-
-pub returns : goal.returns
-returns c = record { of_kind = same_kind; of_actor = same_next; ready_or_abort = ready_or_abort }

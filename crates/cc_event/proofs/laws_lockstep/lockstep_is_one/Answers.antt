@@ -1,5 +1,0 @@
-use Rattle.cc_event.proofs.LockstepWords.{lockstep_legal, lockstep_ends, lockstep_one}
-use Rattle.cc_event.proofs.laws_lockstep.lockstep_is_one.Goals as goal
-
-pub returns : goal.returns
-returns c = record { legal = lockstep_legal; ends = lockstep_ends; one = lockstep_one }

@@ -1,5 +1,0 @@
-use Rattle.cc_event.proofs.PageFacts.{takes_frame}
-use Rattle.cc_event.proofs.laws_pages.accepted_commands_are_taken.Goals as goal
-
-pub returns : goal.returns
-returns c = λ s ps k a. takes_frame s a ps k

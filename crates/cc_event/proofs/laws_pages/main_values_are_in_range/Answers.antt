@@ -1,5 +1,0 @@
-use Rattle.cc_event.proofs.PageRanges.{page_in_range, page_has_later}
-use Rattle.cc_event.proofs.laws_pages.main_values_are_in_range.Goals as goal
-
-pub returns : goal.returns
-returns c = record { values = page_in_range; scrollers = page_has_later }

@@ -1,5 +1,0 @@
-use Rattle.cc_event.proofs.FrameFacts.{no_commands, no_main_move, unchanged_page}
-use Rattle.cc_event.proofs.laws_pages.unchanged_frames_do_nothing.Goals as goal
-
-pub returns : goal.returns
-returns c = record { commands = no_commands; moves = λ s ps k sc ax h. no_main_move s ps k h sc ax; page = unchanged_page }

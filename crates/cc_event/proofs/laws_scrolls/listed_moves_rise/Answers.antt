@@ -1,6 +1,0 @@
-use Rattle.cc_event.proofs.MoveLists.{one_rising_list}
-use Rattle.cc_event.proofs.RisingMoves.{all_rise}
-use Rattle.cc_event.proofs.laws_scrolls.listed_moves_rise.Goals as goal
-
-pub returns : goal.returns
-returns c = record { each = all_rise; one_list = one_rising_list }

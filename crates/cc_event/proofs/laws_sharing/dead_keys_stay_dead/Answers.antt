@@ -1,5 +1,0 @@
-use Rattle.cc_event.proofs.LiveKeys.{stays_dead, still_live}
-use Rattle.cc_event.proofs.laws_sharing.dead_keys_stay_dead.Goals as goal
-
-pub returns : goal.returns
-returns c = record { dead = stays_dead; step = still_live }

@@ -1,8 +1,0 @@
--- What a history holds.
-use Rattle.std.specs.Prelude.{ℕ, List}
-use Rattle.cc_event.specs.declared.history.Entry.{Entry}
-
--- the entries, the oldest first, and how many more there is room for
-pub record Record : Type 0 where
-  pub entries : List Entry
-  pub spare : ℕ

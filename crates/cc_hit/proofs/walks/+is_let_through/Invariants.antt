@@ -1,6 +1,0 @@
--- Each parent is older.
-use Rattle.cc_hit.proofs.ChainWalks.{age}
-use Rattle.cc_hit.proofs.walks.+is_let_through.Given as goal
-
-abbrev pub decreases-is_let_through : goal.decreases-is_let_through
-decreases-is_let_through l = age l.props.now.clips l.clip

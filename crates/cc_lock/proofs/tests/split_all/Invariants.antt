@@ -1,6 +1,0 @@
-use Rattle.std.specs.List.{All}
-use Rattle.cc_lock.specs.PassModels.{IsOf}
-use Rattle.cc_lock.proofs.tests.split_all.Given as goal
-
-abbrev pub invariant-loop : goal.invariant-loop
-invariant-loop g l = IsOf l.lock l.first × All (IsOf l.lock) l.passes.items

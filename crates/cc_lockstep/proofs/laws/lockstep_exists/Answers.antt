@@ -1,6 +1,0 @@
-use Rattle.cc_event.proofs.LockstepWords.{lockstep_one}
-use Rattle.cc_lockstep.proofs.Wholes.{lockstep_there}
-use Rattle.cc_lockstep.proofs.laws.lockstep_exists.Goals as goal
-
-pub returns : goal.returns
-returns c = λ s a. let (history, is) = lockstep_there s a in (history, is, λ other l. lockstep_one s other history l is)

@@ -1,9 +1,0 @@
-use Rattle.cc_lockstep.specs.Measures.{tiles_left}
-use Rattle.cc_lockstep.specs.Walks as ways
-use Rattle.cc_lockstep.proofs.pairs.make_all.Given as goal
-
-abbrev pub invariant-loop-core : goal.invariant-loop-core
-invariant-loop-core g l = ways.Turns ways.all_pairs (g.C.Compositor.run l.fn.core) (g.C.Compositor.run l.core)
-
-abbrev pub decreases-loop-core : goal.decreases-loop-core
-decreases-loop-core g l = tiles_left (g.C.Compositor.run l.core).script (g.C.Compositor.run l.core).past

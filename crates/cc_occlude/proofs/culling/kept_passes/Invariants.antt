@@ -1,8 +1,0 @@
--- The passes so far are kept.
-use Rattle.std.specs.Prelude.{take}
-use Rattle.cc_scene.specs.Views.{passes_view}
-use Rattle.cc_occlude.specs.Culled.{AreAllKept}
-use Rattle.cc_occlude.proofs.culling.kept_passes.Given as given
-
-abbrev pub invariant-loop-pass : given.invariant-loop-pass
-invariant-loop-pass l = AreAllKept (take l.pass-index (passes_view l.passes)) (passes_view l.kept.items)

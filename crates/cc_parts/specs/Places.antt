@@ -1,7 +1,0 @@
--- Places of images.
-use Rattle.cc_parts.specs.declared.cursor.ImageSpan.{ImageSpan}
-use Rattle.cc_parts.specs.declared.place.ImagePlace.{ImagePlace}
-
--- where an image begins
-abbrev pub place_of : ImageSpan → ImagePlace
-place_of m = record { event = m.event; at = m.at }

@@ -1,6 +1,0 @@
--- No lane differs from 0.
-use Rattle.cc_pixel.proofs.LaneTests.{clear_of_mask}
-use Rattle.cc_pixel.proofs.lanes.are_clear.Goals as goal
-
-pub returns : goal.returns
-returns c = clear_of_mask c.args.v c.requires

@@ -1,8 +1,0 @@
--- Sixteen bytes of the row, four pixels.
-use Rattle.cc_pixel.proofs.LaneWise.{filled_lanes}
-use Rattle.cc_pixel.proofs.lanes.fill_lanes.Goals as goal
-
-pub returns : goal.returns
-returns c =
-    filled_lanes c.args.colour c.args.row.now c.four_pixels.result c.args.at c.requires.inside c.requires.whole c.four_pixels.ensures.len
-    c.four_pixels.ensures.lanes

@@ -1,6 +1,0 @@
--- The lower byte of each lane.
-use Rattle.cc_pixel.proofs.LaneWise.{low_lane}
-use Rattle.cc_pixel.proofs.lanes.low_bytes.Goals as goal
-
-pub returns-clause-lanes : goal.returns-clause-lanes
-returns-clause-lanes c = λ j lt. low_lane c.args.v j c.requires lt

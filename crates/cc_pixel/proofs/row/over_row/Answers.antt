@@ -1,9 +1,0 @@
--- All bytes were laid.
-use Rattle.std.proofs.Common.{arith}
-use Rattle.cc_pixel.proofs.Parts.{laid_premultiplied}
-use Rattle.cc_pixel.proofs.row.over_row.Goals as goal
-
-pub returns-clause-premultiplied : goal.returns-clause-premultiplied
-returns-clause-premultiplied c = λ old.
-    laid_premultiplied c.fours.at c.args.src.now c.args.dst.now c.fours.dst c.fours.invariant.laid c.fours.invariant.whole (omega arith)
-    (omega arith) (omega arith) c.requires.premultiplied old

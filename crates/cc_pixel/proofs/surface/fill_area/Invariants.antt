@@ -1,9 +1,0 @@
-use Rattle.cc_pixel.specs.Rows.{ArePremultiplied}
-use Rattle.cc_pixel.specs.Surfaces.{EachPixel, within}
-use Rattle.cc_pixel.proofs.surface.fill_area.Given as given
-
-abbrev pub invariant-loop-row : given.invariant-loop-row
-invariant-loop-row l = record {
-  pixels : EachPixel l.width l.height (within l.at l.row (λ x y below. l.fn.colour)) l.initial.surface l.surface;
-  premultiplied : ArePremultiplied l.initial.surface → ArePremultiplied l.surface;
-}

@@ -1,6 +1,0 @@
--- It is the answer.
-use Rattle.std.proofs.Common.{refl}
-use Rattle.cc_play.proofs.step.done_with.Goals as goal
-
-pub returns : goal.returns
-returns c = refl

@@ -1,6 +1,0 @@
--- How the run ended, and what was put.
-use Rattle.cc_present.specs.Ring.{whole}
-use Rattle.cc_play.proofs.threads.run_crew.Goals as goal
-
-pub returns-clause-ends : goal.returns-clause-ends
-returns-clause-ends g c = λ o stem. c.settle.ensures.ends c.args.crew.pass o (whole c.args.ends.0) (g.K.Sink.held c.args.out.now) stem c.in_ok-ran.ensures.ran

@@ -1,5 +1,0 @@
-use Rattle.cc_priority.proofs.Choosing.{evicted_give_way}
-use Rattle.cc_priority.proofs.laws.pinned_tiles_stay.Goals as goal
-
-pub returns : goal.returns
-returns c = evicted_give_way

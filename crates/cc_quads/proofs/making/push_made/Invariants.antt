@@ -1,9 +1,0 @@
--- The tiles of the places so far were added.
-use Rattle.std.proofs.Common.{◌≡◌, ◌++◌, map, take}
-use Rattle.cc_edit.specs.Layers.{parts_of}
-use Rattle.cc_quads.specs.Shown.{tile_of}
-use Rattle.cc_quads.specs.Made as spec
-use Rattle.cc_quads.proofs.making.push_made.Given as goal
-
-abbrev pub invariant-loop-place : goal.invariant-loop-place
-invariant-loop-place l = map tile_of l.tiles.items ≡ map tile_of l.fn.tiles.items ++ map (spec.made l.tree (parts_of l.layer)) (take l.place-index l.places)

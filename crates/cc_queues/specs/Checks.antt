@@ -1,9 +1,0 @@
--- What is tested before a call of the queue.
-use Rattle.std.specs.Prelude.{List, map, ◌++◌}
-use Rattle.cc_geom.specs.declared.tile.TileKey.{TileKey}
-use Rattle.cc_priority.specs.Choice.{Choice}
-use Rattle.cc_rasterq.specs.Queues.{rank_key, tile_key}
-
--- the wanted keys, and those that are ready
-abbrev pub all_keys : Choice → List TileKey
-all_keys c = map rank_key c.wanted ++ map tile_key c.ready

@@ -1,6 +1,0 @@
-use Rattle.cc_priority.specs.Alike.{is_of}
-use Rattle.cc_rasterq.proofs.Halves.{NoneBelow}
-use Rattle.cc_rasterq.proofs.wanted.place_of.Given as goal
-
-abbrev pub invariant-loop-at : goal.invariant-loop-at
-invariant-loop-at l = NoneBelow (is_of l.key) l.front.items l.at

@@ -1,5 +1,0 @@
-use Rattle.cc_record.proofs.ReadLines.{line_injective}
-use Rattle.cc_record.proofs.laws.a_line_has_one_event.Goals as goal
-
-pub returns : goal.returns
-returns c = line_injective

@@ -1,9 +1,0 @@
-use Rattle.std.proofs.Common.{take}
-use Rattle.cc_region.specs.Lists.{AreJoined, IsRising}
-use Rattle.cc_region.proofs.joining.join_each.Given as goal
-
-abbrev pub invariant-loop-change : goal.invariant-loop-change
-invariant-loop-change l = record {
-  joined : AreJoined l.fn.list.items (take l.change-index l.later) l.list.items;
-  rising : IsRising l.list.items;
-}

@@ -1,6 +1,0 @@
-use Rattle.std.proofs.Common.{take}
-use Rattle.cc_region.specs.Lists.{AllBelow}
-use Rattle.cc_region.proofs.joining.place_of.Given as goal
-
-abbrev pub invariant-loop-i : goal.invariant-loop-i
-invariant-loop-i l = AllBelow l.layer (take l.i l.list)

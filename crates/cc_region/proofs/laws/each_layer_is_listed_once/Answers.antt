@@ -1,5 +1,0 @@
-use Rattle.cc_region.proofs.JoinedLists.{each_once}
-use Rattle.cc_region.proofs.laws.each_layer_is_listed_once.Goals as goal
-
-pub returns : goal.returns
-returns c = each_once

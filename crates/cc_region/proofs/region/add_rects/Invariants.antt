@@ -1,6 +1,0 @@
-use Rattle.std.proofs.Common.{take}
-use Rattle.cc_region.proofs.Covering.{HasGrown}
-use Rattle.cc_region.proofs.region.add_rects.Given as goal
-
-abbrev pub invariant-loop-r : goal.invariant-loop-r
-invariant-loop-r l = HasGrown l.fn.rects.items l.rects.items (take l.r-index l.others)

@@ -1,5 +1,0 @@
-use Rattle.cc_scene.proofs.Hiding.{hidden_drops}
-use Rattle.cc_scene.proofs.laws.hidden_quads_do_not_show.Goals as goal
-
-pub returns : goal.returns
-returns c = hidden_drops

@@ -1,5 +1,0 @@
-use Rattle.cc_script.proofs.ScriptLaws.{parts_again}
-use Rattle.cc_script.proofs.laws.accepted_scripts_read_back.Goals as goal
-
-pub returns : goal.returns
-returns c = λ s a. parts_again s a.ranges

@@ -1,5 +1,0 @@
-use Rattle.cc_script.proofs.ScriptLaws.{parts_are_in_ranges}
-use Rattle.cc_script.proofs.read.parts.read_parts.Goals as goal
-
-pub returns-in-Ok-parts-clause-ranges : goal.returns-in-Ok-parts-clause-ranges
-returns-in-Ok-parts-clause-ranges c = parts_are_in_ranges _ _ c.in-Ok-parts.ensures.value

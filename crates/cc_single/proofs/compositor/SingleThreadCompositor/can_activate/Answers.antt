@@ -1,8 +1,0 @@
--- The run stays.
-use Rattle.std.proofs.Common.{sym, subst}
-use Rattle.cc_log.specs.Runs.{Run}
-use Rattle.cc_single.specs.inner.Sides.{IsSingle}
-use Rattle.cc_single.proofs.compositor.SingleThreadCompositor.can_activate.Goals as goal
-
-pub invariant_of-self : goal.invariant_of-self
-invariant_of-self c = subst (λ (r : Run). IsSingle r c.self.inside.main c.self.inside.workers c.self.inside.shown) (sym c.may.ensures.same) c.self.invariant

@@ -1,5 +1,0 @@
--- The runtime may be lent to several threads.
-use Rattle.cc_single.proofs.compositor.SingleThreadCompositor.make_ahead.Goals as goal
-
-pub prepare-made-requires-sync-R : goal.prepare-made-requires-sync-R
-prepare-made-requires-sync-R g c κs within = record { shared = c.requires.shared }

@@ -1,5 +1,0 @@
-use Rattle.cc_steps.proofs.SameKeys.{rebuilt_alike}
-use Rattle.cc_steps.proofs.laws_choice.rebuilt_choices_are_alike.Goals as goal
-
-pub returns : goal.returns
-returns c = rebuilt_alike

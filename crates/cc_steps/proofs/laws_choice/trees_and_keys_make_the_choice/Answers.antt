@@ -1,5 +1,0 @@
-use Rattle.std.proofs.Common.{refl}
-use Rattle.cc_steps.proofs.laws_choice.trees_and_keys_make_the_choice.Goals as goal
-
-pub returns : goal.returns
-returns c = λ s h. refl

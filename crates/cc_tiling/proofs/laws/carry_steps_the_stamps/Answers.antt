@@ -1,5 +1,0 @@
-use Rattle.cc_tiling.proofs.Stepping.{steps}
-use Rattle.cc_tiling.proofs.laws.carry_steps_the_stamps.Goals as goal
-
-pub returns : goal.returns
-returns c = steps

@@ -1,6 +1,0 @@
-use Rattle.std.proofs.Common.{◌≡◌, map, take}
-use Rattle.cc_tiling.specs.Tiles.{key_of}
-use Rattle.cc_tiling.proofs.stamps.keys_in.Given as goal
-
-abbrev pub invariant-loop-place : goal.invariant-loop-place
-invariant-loop-place l = l.keys.items ≡ map (key_of (record { grid = l.grid; stamps = l.stamps }) l.layer) (take l.place-index l.places)

@@ -1,8 +1,0 @@
-use Rattle.std.proofs.Common.{take}
-use Rattle.cc_geom.specs.Grids.{rect_of}
-use Rattle.cc_region.specs.Points.{touched}
-use Rattle.cc_tiling.specs.inner.Writes.{WritesPlaces}
-use Rattle.cc_tiling.proofs.stamps.stamp_rects.Given as goal
-
-abbrev pub invariant-loop-rect : goal.invariant-loop-rect
-invariant-loop-rect l = WritesPlaces l.grid l.fn.stamps.items l.stamps.items (λ p. touched (take l.rect-index l.rects) (rect_of l.grid p)) l.stamp

@@ -1,8 +1,0 @@
--- The effects are those of the trees.
-use Rattle.std.proofs.Common.{subst, ◌↔◌, IsTrue}
-use Rattle.cc_tree.specs.Nesting.{AreNested}
-use Rattle.cc_tree.specs.Trees.{Trees}
-use Rattle.cc_tree.proofs.trees.PropertyTrees.is_nested.Goals as goal
-
-pub returns : goal.returns
-returns c = subst (λ (t : Trees). IsTrue c.nested_in.result ↔ AreNested t.effects c.args.effects.now) c.self.view_is c.nested_in.ensures

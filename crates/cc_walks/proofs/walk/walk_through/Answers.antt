@@ -1,8 +1,0 @@
--- The walk is that of the run which is given up.
-use Rattle.cc_walks.proofs.walk.walk_through.Goals as goal
-
-pub stops_in-place-requires : goal.stops_in-place-requires
-stops_in-place-requires c = c.requires
-
-pub returns : goal.returns
-returns c = c.stops_in-place.ensures

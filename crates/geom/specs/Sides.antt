@@ -1,0 +1,20 @@
+-- What contracts see of a grid.
+use Rattle.std.specs.Prelude.{ℕ, ◌≤◌}
+use Rattle.geom.specs.Limits.{max_side}
+
+-- a layer's width and height, and the side of the tiles that it is cut into
+pub record Sides : Type 0 where
+  pub w : ℕ
+  pub h : ℕ
+  pub tile : ℕ
+
+-- a length of 1 to 16384 pixels
+pub record IsSide (n : ℕ) : Type 0 where
+  pub low : 1 ≤ n
+  pub high : n ≤ max_side
+
+-- what every grid keeps
+pub record IsGrid (g : Sides) : Type 0 where
+  pub wide : IsSide g.w
+  pub tall : IsSide g.h
+  pub cut : IsSide g.tile

@@ -1,0 +1,109 @@
+-- What a core keeps stays right with each entry.
+use Rattle.std.proofs.Common.{◌≡◌, ℕ, Bool, true, false, cond, List, [], ◌∷◌, ◌++◌, Some, None, Result, Ok, Err, refl, sym, ◌∙◌, ap, subst}
+use Rattle.std.specs.Prelude.{IfOk, IfSome, OnOk, OnErr, ⊤}
+use Rattle.std.specs.declared.alloc.AllocError.{AllocError}
+use Rattle.model_scheduler.specs.declared.kind.Kind.{Kind}
+use Rattle.geom.specs.declared.tile.TileKey.{TileKey}
+use Rattle.page_layers.specs.declared.moves.Move.{Move}
+use Rattle.model_history.specs.declared.event.Event.{Event}
+use Rattle.model_history.specs.declared.event.Event.TheVariants as event
+use Rattle.model_history.specs.declared.history.Entry.{Entry}
+use Rattle.model_history.specs.Scripts.{ScriptModel}
+use Rattle.model_history.specs.Commits.{CommitModel}
+use Rattle.model_history.specs.EventFields.{kind_of}
+use Rattle.model_history.specs.Frames.{pulls_of}
+use Rattle.model_history.specs.Tiles.{required, visible_in}
+use Rattle.model_history.specs.Legal.{Legal}
+use Rattle.model_history.proofs.BoolFacts.{is_same}
+use Rattle.model_history.proofs.DueFacts.{entry, at_ready}
+use Rattle.model_steps.specs.Events.{send, start, done}
+use Rattle.model_steps.proofs.TreesAfter.{send_pending}
+use Rattle.impl_log.specs.Runs.{Run, past, with_entry, is_plain, Plays}
+use Rattle.impl_log.proofs.LogSteps.{past_more, plain_row}
+use Rattle.tile_manager.specs.Managers.{Managed, Manages}
+use Rattle.impl_host.specs.Hosts.{HostModel, Hosts}
+use Rattle.impl_core.specs.inner.Cores.{Kept, IsPreparedFor, IsCore}
+
+-- at the beginning
+pub begin_core : (s : ScriptModel) (host : HostModel) (m : Managed) → Hosts s [] host → Manages s [] m → IsCore s [] (record { host = host; tiles = m; told = []; prepared = None; required = None })
+begin_core s host m hosts holds = record { host = hosts; tiles = holds; told = λ t k e. absurd cc; prepared = λ t k e. absurd cc; required = tt }
+
+module _ (kept : Kept) where
+  -- a core of a run
+  abbrev Keeps : Run → Type 0
+  Keeps r = IsCore r.script (past r) kept
+
+  -- the run with one entry more
+  pub one_more : (r new : Run) (a : ℕ) (e : Event) → new ≡ with_entry r a e → IsCore r.script (entry a e ∷ past r) kept → Keeps new
+  one_more r new a e is c =
+      subst Keeps (sym is) (subst (λ (h : List Entry). IsCore r.script h kept) (sym (past_more r.entries (r.entries ++ entry a e ∷ []) (entry a e) refl)) c)
+
+  -- an entry that was tried
+  pub tried : (r new : Run) (a : ℕ) (e : Event) (x : Result ⊤ AllocError) → OnOk x (new ≡ with_entry r a e) → OnErr x (new ≡ r) → IsCore r.script (entry a e ∷ past r) kept → Keeps r → Keeps new
+  tried r new a e (Ok done) ok err next old = one_more r new a e ok next
+  tried r new a e (Err full) ok err next old = subst Keeps (sym err) old
+
+  -- an entry that was refused
+  pub refused : (r new : Run) → new ≡ r → Keeps r → Keeps new
+  refused r new same c = subst Keeps (sym same) c
+
+  -- a plain event changes nothing of what is kept
+  plain_keeps : (s : ScriptModel) (h : List Entry) (a : ℕ) (e : Event) → is_plain (kind_of e) ≡ true → IsCore s h kept → IsCore s (entry a e ∷ h) kept
+  plain_keeps s h a (event.Begin i) p c = c
+  plain_keeps s h a event.BeginPlain p c = c
+  plain_keeps s h a (event.Skip i) p c = c
+  plain_keeps s h a event.NoDraw p c = c
+  plain_keeps s h a event.Finish p c = c
+  plain_keeps s h a (event.Await i) p c = c
+  plain_keeps s h a event.End p c = c
+  plain_keeps s h a _ p c = absurd cc
+
+  pub played : (r new : Run) (k : Kind) (x : Result Bool AllocError) → is_plain k ≡ true → IfOk x (λ p. Plays r k 0 new p) → OnErr x (new ≡ r) → Keeps r → Keeps new
+  played r new k (Ok true) plain ok err c =
+      let row = plain_row r.script (past r) k ok.event plain ok.is_now in
+      one_more r new 0 ok.event ok.is_entered (plain_keeps r.script (past r) 0 ok.event (ap is_plain row.0 ∙ plain) c)
+  played r new k (Ok false) plain ok err c = refused r new ok.1 c
+  played r new k (Err full) plain ok err c = refused r new err c
+
+-- a core after a send
+pub send_core : (s : ScriptModel) (n : ℕ) (h : List Entry) (a k : ℕ) (ms told : List Move) (kept : Kept) (host : HostModel) → Legal s n (send a k ms ∷ h) → IsCore s h kept → Hosts s (send a k ms ∷ h) host
+    → Manages s (send a k ms ∷ h) kept.tiles → told ≡ ms
+    → IsCore s (send a k ms ∷ h) (record { host = host; tiles = kept.tiles; told = told; prepared = kept.prepared; required = kept.required })
+send_core s n h a k ms told kept host legal core hosts holds is = record {
+  host = hosts;
+  tiles = holds;
+  told = λ t j e. let same : k ≡ j = cc in is ∙ sym (ap (λ b. cond b ms (pulls_of h j)) (is_same k j same));
+  prepared = λ t j e. absurd cc;
+  required = subst (λ needs. IfSome kept.required (λ ks. ks ≡ needs)) (sym (ap (λ t. visible_in t) (send_pending s n h a k ms legal))) core.required;
+}
+
+-- a core whose frame is ready
+pub ready_core : (s : ScriptModel) (n : ℕ) (h : List Entry) (k : ℕ) (c : CommitModel) (kept : Kept) → Legal s n (entry 1 (event.Ready k) ∷ h) → IsCore s h kept → IsPreparedFor s (pulls_of h) k c
+    → IsCore s (entry 1 (event.Ready k) ∷ h) (record { host = kept.host; tiles = kept.tiles; told = kept.told; prepared = Some c; required = kept.required })
+ready_core s n h k c kept legal core is = record {
+  host = core.host;
+  tiles = core.tiles;
+  told = λ t j e. absurd cc;
+  prepared = λ t j e. let last = (at_ready s n h 1 k legal.1).last in let same : k ≡ j = cc in subst (λ i. IsPreparedFor s (pulls_of h) i c) same is;
+  required = core.required;
+}
+
+-- a core with the keys that are needed
+pub with_required : (s : ScriptModel) (h : List Entry) (kept : Kept) (ks : List TileKey) → IsCore s h kept → ks ≡ required s h
+    → IsCore s h (record { host = kept.host; tiles = kept.tiles; told = kept.told; prepared = kept.prepared; required = Some ks })
+with_required s h kept ks core needs = record { host = core.host; tiles = core.tiles; told = core.told; prepared = core.prepared; required = needs }
+
+-- a core with other tiles
+pub with_tiles : (s : ScriptModel) (h : List Entry) (kept : Kept) (m : Managed) → IsCore s h kept → Manages s h m
+    → IsCore s h (record { host = kept.host; tiles = m; told = kept.told; prepared = kept.prepared; required = kept.required })
+with_tiles s h kept m core holds = record { host = core.host; tiles = holds; told = core.told; prepared = core.prepared; required = core.required }
+
+-- a core after a start, and after its end
+
+pub start_core : (s : ScriptModel) (h : List Entry) (a w : ℕ) (q : TileKey) (ks : List TileKey) (kept : Kept) (m : Managed) → IsCore s h kept → Manages s (start a w q ks ∷ h) m
+    → IsCore s (start a w q ks ∷ h) (record { host = kept.host; tiles = m; told = kept.told; prepared = kept.prepared; required = kept.required })
+start_core s h a w q ks kept m core holds = record { host = core.host; tiles = holds; told = core.told; prepared = core.prepared; required = core.required }
+
+pub done_core : (s : ScriptModel) (h : List Entry) (a w : ℕ) (q : TileKey) (kept : Kept) (m : Managed) → IsCore s h kept → Manages s (done a w q ∷ h) m
+    → IsCore s (done a w q ∷ h) (record { host = kept.host; tiles = m; told = kept.told; prepared = kept.prepared; required = kept.required })
+done_core s h a w q kept m core holds = record { host = core.host; tiles = holds; told = core.told; prepared = core.prepared; required = core.required }

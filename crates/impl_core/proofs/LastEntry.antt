@@ -1,0 +1,23 @@
+-- The last entry of a run.
+use Rattle.std.proofs.Common.{◌≡◌, ℕ, suc, ◌-◌, false, List, [], ◌∷◌, length, Some, None, slice_get, refl, sym, ◌∙◌, ap, arith}
+use Rattle.model_history.specs.declared.history.Entry.{Entry}
+use Rattle.impl_core.specs.Replies.{is_end, is_played}
+
+-- the last place of a longer list
+one_further : (n : ℕ) → suc (suc n) - 1 ≡ suc (suc n - 1)
+one_further n = omega arith
+
+pub last_at : (es : List Entry) (e : Entry) → slice_get es (length es - 1) ≡ Some e → is_played es ≡ is_end e.event
+last_at [] e i = absurd cc
+last_at (x ∷ []) e i = let same : x ≡ e = cc in ap (λ (z : Entry). is_end z.event) same
+last_at (x ∷ y ∷ ys) e i = last_at (y ∷ ys) e (sym (ap (slice_get (x ∷ y ∷ ys)) (one_further (length ys))) ∙ i)
+
+-- where there is none, nothing was entered
+pub none_last : (es : List Entry) → slice_get es (length es - 1) ≡ None → is_played es ≡ false
+none_last [] i = refl
+none_last (x ∷ []) i = absurd cc
+none_last (x ∷ y ∷ ys) i = none_last (y ∷ ys) (sym (ap (slice_get (x ∷ y ∷ ys)) (one_further (length ys))) ∙ i)
+
+pub none_entered : (es : List Entry) → length es ≡ 0 → is_played es ≡ false
+none_entered [] i = refl
+none_entered (x ∷ xs) i = absurd cc

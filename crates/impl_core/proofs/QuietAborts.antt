@@ -1,0 +1,29 @@
+-- An abort where the pending commit sets no scroller outright leaves the tiles and what an activation needs.
+use Rattle.std.proofs.Common.{◌≡◌, ℕ, ◌==◌, true, false, List, [], ◌∷◌, length, refl, ap, arith}
+use Rattle.model_history.specs.declared.history.Entry.{Entry}
+use Rattle.model_history.specs.Scripts.{ScriptModel}
+use Rattle.model_history.specs.Frames.{pending}
+use Rattle.model_history.specs.Scrolls.{clobbers}
+use Rattle.model_history.specs.Tiles.{visible_in, required}
+use Rattle.model_history.specs.Legal.{Legal}
+use Rattle.model_history.proofs.BoolFacts.{same_number}
+use Rattle.model_steps.specs.Events.{abort}
+use Rattle.model_steps.proofs.TreesAfter.{abort_active, abort_pending, abort_choice}
+use Rattle.impl_rows.specs.Rows.{is_among}
+use Rattle.tile_prepare.proofs.SameTiles.{same_tiles}
+use Rattle.tile_manager.specs.Managers.{Managed, Manages}
+use Rattle.tile_manager.proofs.OtherTiles.{reseen, stays_foreseen}
+
+-- an empty list names no scroller
+pub none_named : (ids : List ℕ) → (length ids == 0) ≡ true → (sc : ℕ) → is_among ids sc ≡ false
+none_named [] e sc = refl
+none_named (i ∷ is) e sc = let z : length (i ∷ is) ≡ 0 = same_number (length (i ∷ is)) 0 e in absurd (omega (arith, z))
+
+module _ (s : ScriptModel) (n : ℕ) (h : List Entry) (a k : ℕ) (legal : Legal s n (abort a k ∷ h)) (none : (sc : ℕ) → clobbers s (pending h) sc ≡ false) where
+  pub tiles_stay : (m : Managed) → Manages s h m → Manages s (abort a k ∷ h) m
+  tiles_stay m holds =
+      reseen s h (abort a k ∷ h) m m.outlook holds (same_tiles s h (abort a k) refl)
+      (stays_foreseen s h (abort a k ∷ h) m.outlook (abort_active s n h a k legal) (abort_pending s n h a k legal none) (abort_choice s n h a k legal none) holds.outlook)
+
+  pub needs_stay : required s (abort a k ∷ h) ≡ required s h
+  needs_stay = ap visible_in (abort_pending s n h a k legal none)

@@ -1,0 +1,27 @@
+-- The copy of what is prepared is what the frame makes.
+use Rattle.std.proofs.Common.{Result, Ok, Err, sym, ◌∙◌, subst}
+use Rattle.std.specs.Prelude.{OnOk}
+use Rattle.region.specs.Lists.{Changed}
+use Rattle.model_history.specs.Frames.{pulls_of}
+use Rattle.model_history.specs.Stamps.{frame_changes}
+use Rattle.model_history.specs.SameChanges.{SameChanges}
+use Rattle.impl_core.proofs.Prepared.{is_there}
+use Rattle.impl_core.proofs.commits.push_prepared.Goals as goal
+
+-- what holds where a value is answered
+on_ok : {X E : Type 0} {P Q : Type 0} (r : Result X E) → (P → Q) → OnOk r P → OnOk r Q
+on_ok (Ok x) f p = f p
+on_ok (Err e) f p = tt
+
+pub returns-clause-hosts : goal.returns-clause-hosts
+returns-clause-hosts c =
+    on_ok c.push.result
+    (λ hosts workers h actor accepted legal before prepared.
+    let is = is_there c.args.script.now (pulls_of h) c.args.frame c.args.prepared.now c.in-Some.commit prepared c.in-Some.is in
+    hosts c.args.script.now workers h actor accepted legal before
+    (record {
+      page_is = c.in_ok-tree.ensures ∙ c.tree.ensures ∙ is.page;
+      changes = subst (λ (d : Changed). SameChanges d (frame_changes c.args.script.now (pulls_of h) c.args.frame)) (sym (c.in_ok-changes.ensures ∙ c.changes.ensures)) is.changes;
+      commands_are = c.commands.ensures;
+    }))
+    c.push.ensures.hosts

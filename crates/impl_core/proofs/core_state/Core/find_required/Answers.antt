@@ -1,0 +1,18 @@
+-- The keys are kept.
+use Rattle.std.proofs.Common.{◌≡◌, sym, ◌∙◌, ap, subst}
+use Rattle.model_history.specs.Tiles.{required, are_ready}
+use Rattle.impl_log.specs.Runs.{Run, past}
+use Rattle.impl_core.proofs.CoreSteps.{with_required}
+use Rattle.impl_core.proofs.core_state.Core.find_required.Goals as goal
+
+pub returns-clause-ready : goal.returns-clause-ready
+returns-clause-ready c =
+    let r : Run = c.self.inside.log in
+    c.are_ready-ready.ensures r.script (past r) c.self.invariant.tiles
+    ∙ (ap (are_ready r.script (past r)) c.in_ok-required.ensures ∙ ap (λ (z : Run). are_ready z.script (past z) (required c.args.self.now.script (past c.args.self.now))) c.self.view_is)
+
+pub invariant_of-self : goal.invariant_of-self
+invariant_of-self c =
+    let r : Run = c.self.inside.log in
+    with_required r.script (past r) (record { host = c.self.inside.host; tiles = c.self.inside.tiles; told = c.self.inside.told; prepared = c.self.inside.prepared; required = c.self.inside.required }) c.in_ok-required.required c.self.invariant
+    (subst (λ (z : Run). c.in_ok-required.required ≡ required z.script (past z)) (sym c.self.view_is) c.in_ok-required.ensures)

@@ -1,0 +1,55 @@
+-- What a core keeps of its history. The record speaks of the values that the model tells of a past, not of the past, so that an event which changes none of them keeps it.
+use Rattle.std.specs.Prelude.{◌≡◌, ℕ, suc, true, Option, Some, None, IfSome, List}
+use Rattle.geom.specs.declared.rect.Point.{Point}
+use Rattle.geom.specs.declared.tile.TileKey.{TileKey}
+use Rattle.tile_priority.specs.declared.rank.Rank.{Rank}
+use Rattle.tile_priority.specs.Choice.{Choice}
+use Rattle.model_scheduler.specs.declared.states.MainState.{MainState}
+use Rattle.model_scheduler.specs.Kinds.{is_sent, is_ready_to_commit}
+use Rattle.model_scroll_values.specs.declared.Synced.{Synced}
+use Rattle.page_layers.specs.declared.moves.Move.{Move}
+use Rattle.page_layers.specs.Axes.{Axis}
+use Rattle.model_history.specs.declared.history.Entry.{Entry}
+use Rattle.model_history.specs.Scripts.{ScriptModel}
+use Rattle.model_history.specs.Commits.{CommitModel}
+use Rattle.model_history.specs.EventFields.{sends}
+use Rattle.model_history.specs.Scans.{newest}
+use Rattle.model_history.specs.Frames.{page, pulls_of, active, pending}
+use Rattle.model_history.specs.Stamps.{frame_changes}
+use Rattle.model_history.specs.SameChanges.{SameChanges}
+use Rattle.model_history.specs.Scrolls.{active_offsets, pending_offsets}
+use Rattle.model_history.specs.Legal.{sched}
+use Rattle.model_history.specs.Tiles.{in_flight, ready, pinned, required}
+use Rattle.model_history.specs.Ranking.{choice}
+use Rattle.model_history.specs.Values.{values}
+use Rattle.tile_manager.specs.Managers.{Managed, HoldsTiles, live_ranks}
+use Rattle.impl_host.specs.Hosts.{HostModel, HostsAt}
+
+-- what a core keeps beside its log
+pub record Kept : Type 0 where
+  pub host : HostModel
+  pub tiles : Managed
+  pub told : List Move
+  pub prepared : Option CommitModel
+  pub required : Option (List TileKey)
+
+-- the page after a frame with these pulls, and what the frame changed
+pub record IsPreparedFor (s : ScriptModel) (ps : ℕ → List Move) (k : ℕ) (c : CommitModel) : Type 0 where
+  pub page : c.tree ≡ page s ps (suc k)
+  pub changes : SameChanges c.changes (frame_changes s ps k)
+
+-- the same of a commit that may be missing
+abbrev pub IsPrepared : ScriptModel → (ℕ → List Move) → ℕ → Option CommitModel → Type 0
+IsPrepared s ps k None = ⊥
+IsPrepared s ps k (Some c) = IsPreparedFor s ps k c
+
+-- the trees stand, the tiles are there, the main side was told this, and these are the keys that the pending tree needs, where they were asked for
+pub record CoreOf (s : ScriptModel) (kept : Kept) (ps : ℕ → List Move) (on wait : Option ℕ) (value : ℕ → Axis → Synced) (at then : ℕ → Point) (made flying pins : List TileKey) (c : Choice) (live : List Rank) (main : MainState) (last : Option ℕ) (needs : List TileKey) : Type 0 where
+  pub host : HostsAt s kept.host ps on wait value at then
+  pub tiles : HoldsTiles s kept.tiles made flying pins c live
+  pub told : is_sent main ≡ true → (k : ℕ) → last ≡ Some k → kept.told ≡ ps k
+  pub prepared : is_ready_to_commit main ≡ true → (k : ℕ) → last ≡ Some k → IsPrepared s ps k kept.prepared
+  pub required : IfSome kept.required (λ ks. ks ≡ needs)
+
+abbrev pub IsCore : ScriptModel → List Entry → Kept → Type 0
+IsCore s h kept = CoreOf s kept (pulls_of h) (active h) (pending h) (λ sc ax. values s sc ax h) (active_offsets s h) (pending_offsets s h) (ready s h) (in_flight h) (pinned s h) (choice s h) (live_ranks s h) (sched h).main_state (newest sends h) (required s h)

@@ -1,0 +1,100 @@
+//! A commit becomes the pending tree.
+
+ghost use Rattle.std.specs.Prelude.{◌≡◌, ℕ, List, ◌∷◌, Some, option_map, IsSome, IfOk, OnOk, OnErr};
+ghost use Rattle.model_scheduler.specs.declared.kind.Kind.TheVariants as kind;
+ghost use Rattle.model_history.specs.declared.event.Event.TheVariants as event;
+ghost use Rattle.model_history.specs.declared.history.Entry.{Entry};
+ghost use Rattle.model_history.specs.Accepted.{IsAccepted};
+ghost use Rattle.model_history.specs.Frames.{pulls_of};
+ghost use Rattle.model_history.specs.Legal.{Legal};
+ghost use Rattle.model_steps.specs.Events.{commit};
+ghost use Rattle.impl_host.specs.Hosts.{Hosts};
+ghost use Rattle.impl_log.specs.Runs.{now, Entered, Plays};
+ghost use Rattle.impl_core.specs.inner.Cores.{IsPrepared};
+ghost use Rattle.impl_core.specs.inner.Pushes.{PushesNow};
+
+use crate::core_state::Core;
+use impl_host::ImplHost;
+use impl_standing::Standing;
+use model_history::{Commit, Event, Script};
+use model_scheduler::Kind;
+use std::alloc::{AllocError, Global};
+
+// Pushes a copy of the commit that is prepared, and answers how the scrollers stood before. An error is want
+// of memory, and the host is as it was.
+fn push_prepared(
+    alloc: Global,
+    host: &mut ImplHost,
+    script: &Script,
+    frame: u32,
+    prepared: &Option<Commit>,
+) -> Result<Standing, AllocError>
+    requires { PushesNow script.now host.old frame prepared.now }
+    ensures hosts { OnOk result ((workers : ℕ) (h : List Entry) (actor : ℕ) → IsAccepted script.now → Legal script.now workers (commit actor frame ∷ h) → Hosts script.now h host.old → IsPrepared script.now (pulls_of h) frame prepared.now → Hosts script.now (commit actor frame ∷ h) host.new) }
+    ensures before { IfOk result (λ standing. standing ≡ host.old.standing) }
+    ensures active { OnOk result (host.new.trees.active ≡ host.old.trees.active) }
+    ensures pending { OnOk result (IsSome host.new.trees.pending) }
+    ensures err { OnErr result (host.new ≡ host.old) }
+{
+    let Some(commit) = prepared else {
+        unreachable!()
+    };
+    let tree = commit.tree().copy()?;
+    let changes = commit.changes().copy()?;
+    host.push(alloc, tree, changes, frame, script.commands(frame))
+}
+
+impl Core {
+    /// The main frame that may be committed now, if there is one.
+    pub(crate) fn commit_now(&self) -> Option<u32>
+        ensures { option_map event.Commit result ≡ now self.now kind.Commit 0 }
+    {
+        if self.log.is_open(Kind::Commit) {
+            self.log.progress().sent
+        } else {
+            None
+        }
+    }
+
+    // Commits the main frame that was sent last.
+    fn enter_commit(&mut self, frame: u32) -> Result<(), AllocError>
+        requires { now self.old kind.Commit 0 ≡ Some (event.Commit frame) }
+        ensures ok { OnOk result (Entered self.old kind.Commit 0 self.new) }
+        ensures err { OnErr result (self.new ≡ self.old) }
+    {
+        self.log.is_legal();
+        let before = push_prepared(
+            self.alloc,
+            &mut self.host,
+            self.log.script(),
+            frame,
+            &self.prepared,
+        )?;
+        match self.log.enter(0, Event::Commit { frame }) {
+            Ok(()) => {
+                self.tiles.forget();
+                self.required = None;
+                Ok(())
+            }
+            Err(refused) => {
+                self.host.take_back(before);
+                Err(refused)
+            }
+        }
+    }
+
+    /// Commits the main frame that is ready, where it may be committed now, and answers whether it was. An
+    /// error is want of memory, and nothing was entered.
+    pub fn commit(&mut self) -> Result<bool, AllocError>
+        ensures plays { IfOk result (λ played. Plays self.old kind.Commit 0 self.new played) }
+        ensures err { OnErr result (self.new ≡ self.old) }
+    {
+        match self.commit_now() {
+            None => Ok(false),
+            Some(frame) => {
+                self.enter_commit(frame)?;
+                Ok(true)
+            }
+        }
+    }
+}

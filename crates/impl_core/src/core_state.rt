@@ -1,0 +1,236 @@
+//! What a core keeps, and what it is asked.
+
+ghost use Rattle.std.specs.Prelude.{◌≡◌, ◌≤◌, IfOk, not, ◌&&◌, option_map};
+ghost use Rattle.model_scheduler.specs.Kinds.{is_main_idle};
+ghost use Rattle.page_layers.specs.Axes.{across, down};
+ghost use Rattle.model_history.specs.Accepted.{IsAccepted};
+ghost use Rattle.model_history.specs.Frames as frames;
+ghost use Rattle.model_history.specs.Legal as legal;
+ghost use Rattle.model_history.specs.Ranking.{first};
+ghost use Rattle.model_history.specs.Scans as scans;
+ghost use Rattle.model_history.specs.Values as values;
+ghost use Rattle.impl_log.specs.Progress as progress;
+ghost use Rattle.impl_log.specs.Runs.{new_run, past};
+ghost use Rattle.tile_queue.specs.Queues.{rank_key};
+ghost use Rattle.model_history.specs.Tiles.{used};
+ghost use Rattle.impl_core.specs.Replies as replies;
+ghost use Rattle.impl_core.specs.Replies.{next_key, told_frame, is_played};
+
+use crate::outlooks::look;
+use geom::{Keys, TileKey};
+use impl_host::ImplHost;
+use impl_log::{Log, Progress};
+use model_history::{Commit, Event, History, Moves, Script};
+use model_scheduler::MainState;
+use model_scroll_values::Synced;
+use std::alloc::{AllocError, Global};
+use std::marker::Model;
+use std::sync::Arc;
+use tile_manager::TileManager;
+
+/// The state of the compositor side of a run of a script. By its type its history is legal.
+///
+/// Contracts see the run: the script, the number of workers and the entries.
+pub struct Core {
+    pub(crate) log: Log,
+    pub(crate) host: ImplHost,
+    pub(crate) tiles: TileManager,
+    // the pulls of the frame in flight, while it is sent
+    pub(crate) told: Moves,
+    // the commit of the frame in flight, once it is ready
+    pub(crate) prepared: Option<Commit>,
+    // the visible keys of the pending tree, which an activation needs, once they were asked for
+    pub(crate) required: Option<Keys>,
+    pub(crate) alloc: Global,
+}
+
+impl Model for Core {
+    ghost use Rattle.impl_log.specs.Runs.{Run, past};
+    ghost use Rattle.impl_core.specs.inner.Cores.{IsCore};
+
+    ghost Value = { Run };
+
+    ghost view = { λ c. c.log };
+
+    ghost invariant = { λ c. IsCore c.log.script (past c.log) (record { host = c.host; tiles = c.tiles; told = c.told; prepared = c.prepared; required = c.required }) };
+}
+
+// Written out, so that whoever drops a core does not name in its proof all that it holds.
+impl Drop for Core {
+    fn drop(self) {
+        let Core {
+            log: _,
+            host: _,
+            tiles: _,
+            told: _,
+            prepared: _,
+            required: _,
+            alloc: _,
+        } = self;
+    }
+}
+
+// Whether an event is the end of the run.
+fn is_end(event: &Event) -> bool
+    ensures { result ≡ replies.is_end event.now }
+{
+    match event {
+        Event::End => true,
+        _ => false,
+    }
+}
+
+impl Core {
+    /// The core of a run in which nothing was entered yet, with up to 16 workers. An error is want of
+    /// memory.
+    pub fn new(alloc: Global, script: Arc<Script>, workers: u32) -> Result<Core, AllocError>
+        requires { workers ≤ 16 }
+        ensures { IfOk result (λ core. core ≡ new_run script.value workers) }
+    {
+        let budget = script.budget();
+        let tiles = TileManager::new(alloc, budget)?;
+        let log = Log::new(alloc, script, workers)?;
+        Ok(Core {
+            log,
+            host: ImplHost::new(alloc),
+            tiles,
+            told: Moves::new(alloc),
+            prepared: None,
+            required: None,
+            alloc,
+        })
+    }
+
+    /// The number of workers.
+    pub fn workers(&self) -> u32
+        ensures { result ≡ self.now.workers }
+    {
+        self.log.workers()
+    }
+
+    /// The script.
+    pub fn script(&self) -> &Arc<Script>
+        ensures { result.now.value ≡ self.now.script }
+    {
+        self.log.script()
+    }
+
+    /// The entries, the oldest first.
+    pub fn history(&self) -> &History
+        ensures { result.now.entries ≡ self.now.entries }
+    {
+        self.log.history()
+    }
+
+    /// The history is legal and the script is accepted. A law that does nothing when it runs.
+    pub fn is_legal(&self)
+        ensures legal { legal.Legal self.now.script self.now.workers (past self.now) }
+        ensures accepted { IsAccepted self.now.script }
+    {
+        self.log.is_legal();
+    }
+
+    /// Whether an end or a stop was entered.
+    pub fn ended(&self) -> bool
+        ensures { result ≡ scans.has_ended (past self.now) }
+    {
+        self.log.progress().has_ended
+    }
+
+    /// How far the run has come.
+    pub fn progress(&self) -> Progress
+        ensures { result ≡ progress.progress (past self.now) }
+    {
+        self.log.progress()
+    }
+
+    /// Whether a main frame is left to be sent.
+    pub fn is_left(&self) -> bool
+        ensures { result ≡ frames.is_left self.now.script (past self.now) }
+    {
+        self.log.is_left()
+    }
+
+    /// Whether all main frames were sent and have ended.
+    pub fn frames_ended(&self) -> bool
+        ensures { result ≡ (not (frames.is_left self.now.script (past self.now)) && is_main_idle (legal.sched (past self.now)).main_state) }
+    {
+        self.log.frames_ended()
+    }
+
+    /// The five scroll values of a scroller, along both axes.
+    pub fn values(&self, scroller: u32) -> (Synced, Synced)
+        ensures x { result.0 ≡ values.values self.now.script scroller across (past self.now) }
+        ensures y { result.1 ≡ values.values self.now.script scroller down (past self.now) }
+    {
+        let row = self.host.standing().row(scroller);
+        (row.x, row.y)
+    }
+
+    /// Whether the run was played to its end.
+    pub fn is_over(&self) -> bool
+        ensures { result ≡ is_played self.now.entries }
+    {
+        let entries = self.log.history();
+        let count = entries.len();
+        if count == 0 {
+            return false;
+        }
+        match entries.entry(count - 1) {
+            Some(entry) => is_end(&entry.event),
+            None => false,
+        }
+    }
+
+    /// How many tiles there are, ready or in flight; at 0 no key is ready.
+    pub fn used(&self) -> u32
+        ensures { result ≡ used self.now.script (past self.now) }
+    {
+        self.log.is_legal();
+        self.tiles.used()
+    }
+
+    /// The main frame that was sent and has not ended, with its pulls; None exactly where there is none.
+    pub fn in_flight(&self) -> Option<(u32, &Moves)>
+        ensures { option_map (λ f. (f.0, f.1.now)) result ≡ told_frame self.now }
+    {
+        if self.log.progress().sched.main_state == MainState::Sent {
+            match self.log.progress().sent {
+                None => None,
+                Some(frame) => Some((frame, &self.told)),
+            }
+        } else {
+            None
+        }
+    }
+
+    /// The key that starts next; None exactly where the run has ended or none may start. An error is want of
+    /// memory; the run stays in any case.
+    pub fn next_start(&mut self) -> Result<Option<TileKey>, AllocError>
+        ensures key { IfOk result (λ key. key ≡ next_key self.old) }
+        ensures same { self.new ≡ self.old }
+    {
+        if self.ended() { Ok(None) } else { self.first() }
+    }
+
+    /// The key of the tile that is to be made first, whether or not the run has ended; None exactly where none
+    /// is to be made or no room can be made for one. An error is want of memory; the run stays in any case.
+    pub fn first(&mut self) -> Result<Option<TileKey>, AllocError>
+        ensures key { IfOk result (λ key. key ≡ option_map rank_key (first self.old.script (past self.old))) }
+        ensures same { self.new ≡ self.old }
+    {
+        self.log.is_legal();
+        look(self.alloc, self.log.script(), &self.host, &mut self.tiles)?;
+        Ok(self.tiles.next_start())
+    }
+
+    /// Makes the raster queue, so that the next questions for a key cost less. An error is want of memory; the
+    /// run stays in any case.
+    pub(crate) fn refresh(&mut self) -> Result<(), AllocError>
+        ensures { self.new ≡ self.old }
+    {
+        self.log.is_legal();
+        look(self.alloc, self.log.script(), &self.host, &mut self.tiles)?;
+        self.tiles.refresh()
+    }
+}

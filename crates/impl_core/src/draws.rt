@@ -1,0 +1,73 @@
+//! The active tree is drawn.
+
+ghost use Rattle.std.specs.Prelude.{◌≡◌, Some, None, is_some, true, IfOk, IfSome, IsNone, OnErr};
+ghost use Rattle.model_scheduler.specs.declared.kind.Kind.TheVariants as kind;
+ghost use Rattle.model_history.specs.declared.event.Event.TheVariants as event;
+ghost use Rattle.model_history.specs.Frames.{active};
+ghost use Rattle.model_history.specs.Tiles.{missing};
+ghost use Rattle.impl_log.specs.Runs.{past, now};
+ghost use Rattle.impl_core.specs.Replies.{Draws, IsPicture};
+
+use crate::core_state::Core;
+use crate::outlooks::visible_of;
+use impl_drawing::{Drawing, draw};
+use model_history::Event;
+use model_scheduler::Kind;
+use std::alloc::AllocError;
+use viz_scene::Scene;
+
+impl Core {
+    /// The draw that may be made now, by its place among the inputs, if there is one.
+    pub(crate) fn draw_now(&self) -> Option<u32>
+        ensures draw { IfSome result (λ input. now self.now kind.Draw 0 ≡ Some (event.Draw input (missing self.now.script (past self.now)))) }
+        ensures active { IfSome result (λ _. is_some (active (past self.now)) ≡ true) }
+        ensures none { IsNone result → now self.now kind.Draw 0 ≡ None }
+    {
+        let open = self.log.is_open(Kind::Draw);
+        let active = self.log.progress().active.is_some();
+        if open && active {
+            self.log.progress().begun
+        } else {
+            None
+        }
+    }
+
+    // What a draw shows now. There is an active tree.
+    fn drawing(&self) -> Result<Drawing, AllocError>
+        requires { is_some (active (past self.now)) ≡ true }
+        ensures missing { IfOk result (λ drawing. drawing.missing ≡ missing self.now.script (past self.now)) }
+        ensures picture { IfOk result (λ drawing. IsPicture self.now.script (past self.now) drawing.scene) }
+    {
+        let Some(page) = self.host.pages().active else {
+            unreachable!()
+        };
+        let standing = self.host.standing();
+        let seen = self.host.seen(self.alloc, standing)?;
+        let keys = visible_of(self.alloc, seen.active.as_ref())?;
+        let background = self.log.script().background();
+        draw(
+            self.alloc,
+            &self.tiles,
+            page,
+            standing.active(),
+            &keys,
+            background,
+        )
+    }
+
+    /// Draws the active tree, where a draw may come now: the scene whose pixels are the painting at this
+    /// point. None exactly where no draw may come. An error is want of memory, and nothing was entered.
+    pub fn draw(&mut self) -> Result<Option<Scene>, AllocError>
+        ensures draws { IfOk result (Draws self.old self.new) }
+        ensures err { OnErr result (self.new ≡ self.old) }
+    {
+        match self.draw_now() {
+            None => Ok(None),
+            Some(input) => {
+                let Drawing { scene, missing } = self.drawing()?;
+                self.log.enter(0, Event::Draw { input, missing })?;
+                Ok(Some(scene))
+            }
+        }
+    }
+}

@@ -1,0 +1,35 @@
+//! A main frame is ready to be committed.
+
+ghost use Rattle.std.specs.Prelude.{◌≡◌, ℕ, ◌≤◌, Some, OnOk, OnErr, IfErr};
+ghost use Rattle.model_scheduler.specs.declared.kind.Kind.TheVariants as kind;
+ghost use Rattle.model_history.specs.declared.event.Event.TheVariants as event;
+ghost use Rattle.model_history.specs.Frames.{pulls_of, pulls_in};
+ghost use Rattle.impl_log.specs.Runs.{past, now, with_entry};
+
+use crate::core_state::Core;
+use model_history::{Commit, Event};
+use std::alloc::AllocError;
+
+impl Core {
+    /// The main side is ready with the commit of the frame in flight, which it made of this script with the
+    /// pulls that were sent. An error is want of memory: nothing was entered, and the commit comes back.
+    pub fn ready(&mut self, commit: Commit) -> Result<(), (AllocError, Commit)>
+        requires is_now { now self.old kind.Ready 1 ≡ Some (event.Ready commit.frame) }
+        requires script { commit.script ≡ self.old.script }
+        requires sends { (k : ℕ) → k ≤ commit.frame → pulls_in commit.sends k ≡ pulls_of (past self.old) k }
+        ensures ok { OnOk result (self.new ≡ with_entry self.old 1 (event.Ready commit.frame)) }
+        ensures err { OnErr result (self.new ≡ self.old) }
+        ensures given_back { IfErr result (λ refused. refused.1 ≡ commit) }
+    {
+        commit.is_commit();
+        self.log.is_legal();
+        let frame = commit.frame();
+        match self.log.enter(1, Event::Ready { frame }) {
+            Ok(()) => {
+                self.prepared = Some(commit);
+                Ok(())
+            }
+            Err(refused) => Err((refused, commit)),
+        }
+    }
+}

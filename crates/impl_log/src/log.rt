@@ -1,0 +1,319 @@
+//! A history that only takes what may come.
+
+ghost use Rattle.std.specs.Prelude.{◌≡◌, ◌<◌, ◌≤◌, ◌+◌, ◌++◌, ◌∷◌, [], true, not, ◌&&◌, Some, OnOk, OnErr, IfOk};
+ghost use Rattle.model_scheduler.specs.Kinds.{may, is_main_idle};
+ghost use Rattle.model_history.specs.EventFields.{kind_of, actor_of, begins};
+ghost use Rattle.model_history.specs.declared.event.Event.TheVariants as event;
+ghost use Rattle.model_history.specs.Accepted.{IsAccepted};
+ghost use Rattle.model_history.specs.Due as dues;
+ghost use Rattle.model_history.specs.Frames as frames;
+ghost use Rattle.model_history.specs.Legal as legal;
+ghost use Rattle.model_history.specs.Scans as scans;
+ghost use Rattle.impl_log.specs.Progress as progress;
+ghost use Rattle.impl_log.specs.Runs.{new_run, past, now, with_entry, is_plain, is_kept, Plays};
+ghost use Rattle.impl_log.specs.inner.Logs.{MayStep};
+ghost use Rattle.impl_log.specs.inner.Steps.{stepped};
+
+use crate::progress::Progress;
+use model_history::{Entry, Event, History, Input, Script};
+use model_scheduler::{Kind, MainState};
+use std::alloc::{AllocError, Global};
+use std::marker::Model;
+use std::sync::Arc;
+
+/// The history of a run of a script, with how far the run has come. By its type it is legal: each entry
+/// is the one of its kind and actor that might come after those before it.
+///
+/// Contracts see the run: the script, the number of workers and the entries.
+#[derive(Drop)]
+pub struct Log {
+    script: Arc<Script>,
+    workers: u32,
+    history: History,
+    progress: Progress,
+}
+
+impl Model for Log {
+    ghost use Rattle.std.specs.Prelude.{reverse};
+    ghost use Rattle.impl_log.specs.Runs.{Run};
+    ghost use Rattle.impl_log.specs.inner.Logs.{IsLogOf};
+
+    ghost Value = { Run };
+
+    ghost view = { λ l. record { script = l.script.value; workers = l.workers; entries = l.history.entries } };
+
+    ghost invariant = { λ l. IsLogOf l.script.value l.workers (reverse l.history.entries) l.progress l.history.spare };
+}
+
+// An event where a condition holds.
+fn on_if(holds: bool, event: Event) -> Option<Event>
+    ensures { result ≡ dues.on_if holds event }
+{
+    if holds { Some(event) } else { None }
+}
+
+// Adds an entry in a place that was reserved, and steps the progress by it.
+fn add(history: &mut History, progress: &mut Progress, entry: Entry)
+    requires room { 1 ≤ history.old.spare }
+    requires step { MayStep progress.old entry.event }
+    ensures entries { history.new.entries ≡ history.old.entries ++ entry ∷ [] }
+    ensures spare { history.new.spare + 1 ≡ history.old.spare }
+    ensures progress { progress.new ≡ stepped entry.event progress.old }
+{
+    *progress = progress.after(&entry.event);
+    history.push_reserved(entry);
+}
+
+impl Log {
+    /// The log of a run in which nothing was entered yet, with 1 to 16 workers. An error is want of
+    /// memory.
+    pub fn new(alloc: Global, script: Arc<Script>, workers: u32) -> Result<Log, AllocError>
+        requires { workers ≤ 16 }
+        ensures { IfOk result (λ log. log ≡ new_run script.value workers) }
+    {
+        let mut history = History::new(alloc);
+        history.reserve(1)?;
+        Ok(Log {
+            script,
+            workers,
+            history,
+            progress: Progress::START,
+        })
+    }
+
+    /// Enters the event of its kind and of this actor that may come now. The actor is the one whose event
+    /// it is: 0 the compositor, 1 the main side, `2 + w` the worker w. An error is want of memory, and
+    /// nothing was entered.
+    pub fn enter(&mut self, actor: u32, event: Event) -> Result<(), AllocError>
+        requires is_now { now self.old (kind_of event) actor ≡ Some event }
+        requires actor { actor ≡ actor_of event }
+        requires within { actor < 2 + self.old.workers }
+        ensures ok { OnOk result (self.new ≡ with_entry self.old actor event) }
+        ensures err { OnErr result (self.new ≡ self.old) }
+    {
+        self.script.is_accepted();
+        self.history.reserve(self.workers as usize + 2)?;
+        add(
+            &mut self.history,
+            &mut self.progress,
+            Entry { actor, event },
+        );
+        Ok(())
+    }
+
+    /// Enters the end of a tile or a stop, which may come now. It takes no memory.
+    pub fn enter_kept(&mut self, actor: u32, event: Event)
+        requires kept { is_kept event ≡ true }
+        requires is_now { now self.old (kind_of event) actor ≡ Some event }
+        requires actor { actor ≡ actor_of event }
+        requires within { actor < 2 + self.old.workers }
+        ensures { self.new ≡ with_entry self.old actor event }
+    {
+        self.script.is_accepted();
+        add(
+            &mut self.history,
+            &mut self.progress,
+            Entry { actor, event },
+        );
+    }
+
+    /// The script.
+    pub fn script(&self) -> &Arc<Script>
+        ensures { result.now.value ≡ self.now.script }
+    {
+        &self.script
+    }
+
+    /// The number of workers.
+    pub fn workers(&self) -> u32
+        ensures { result ≡ self.now.workers }
+    {
+        self.workers
+    }
+
+    /// The entries, the oldest first.
+    pub fn history(&self) -> &History
+        ensures { result.now.entries ≡ self.now.entries }
+    {
+        &self.history
+    }
+
+    /// How far the run has come.
+    pub fn progress(&self) -> Progress
+        ensures { result ≡ progress.progress (past self.now) }
+    {
+        self.progress
+    }
+
+    /// The history is legal, the script is accepted, and there are 16 workers at most. A law that does
+    /// nothing when it runs.
+    pub fn is_legal(&self)
+        ensures legal { legal.Legal self.now.script self.now.workers (past self.now) }
+        ensures accepted { IsAccepted self.now.script }
+        ensures few { self.now.workers ≤ 16 }
+    {
+        self.script.is_accepted();
+    }
+
+    /// Whether an event of this kind may come as far as the states tell: nothing has ended the run, and
+    /// the scheduler's state allows it.
+    pub fn is_open(&self, kind: Kind) -> bool
+        ensures { result ≡ legal.is_open (past self.now) kind }
+    {
+        !self.progress.has_ended && self.progress.sched.may(kind)
+    }
+
+    /// The place of the next input.
+    pub fn next_input(&self) -> u32
+        ensures { result ≡ dues.next_input (past self.now) }
+    {
+        self.progress.inputs
+    }
+
+    /// The next input; None exactly where all are used.
+    pub fn input_now(&self) -> Option<Input>
+        ensures { result ≡ dues.input_now self.now.script (past self.now) }
+    {
+        self.script
+            .inputs()
+            .get(self.progress.inputs as usize)
+            .copied()
+    }
+
+    /// Whether a main frame is left to be sent.
+    pub fn is_left(&self) -> bool
+        ensures { result ≡ frames.is_left self.now.script (past self.now) }
+    {
+        (self.progress.sends as usize) < self.script.main().len()
+    }
+
+    /// Whether all main frames were sent and have ended.
+    pub fn frames_ended(&self) -> bool
+        ensures { result ≡ (not (frames.is_left self.now.script (past self.now)) && is_main_idle (legal.sched (past self.now)).main_state) }
+    {
+        let left = self.is_left();
+        let idle = self.progress.sched.main_state == MainState::Idle;
+        !left && idle
+    }
+
+    /// Whether a main frame has ended, by a commit or an abort.
+    pub fn has_frame_ended(&self, frame: u32) -> bool
+        ensures { result ≡ frames.has_frame_ended (past self.now) frame }
+    {
+        frame < self.progress.ended_frames()
+    }
+
+    // Whether the next input is a draw.
+    fn is_draw_next(&self) -> bool
+        ensures { result ≡ dues.is_draw (dues.input_now self.now.script (past self.now)) }
+    {
+        match self.input_now() {
+            Some(Input::Draw) => true,
+            _ => false,
+        }
+    }
+
+    // Whether a commit of a frame up to this one is pending.
+    fn is_pending_to(&self, frame: u32) -> bool
+        ensures { result ≡ dues.is_pending_to frame (frames.pending (past self.now)) }
+    {
+        match self.progress.pending {
+            None => false,
+            Some(pending) => pending <= frame,
+        }
+    }
+
+    // The beginning of an impl frame for a main frame alone, where no draw is next and a frame is left.
+    fn begin_plain(&self) -> Option<Event>
+        ensures { result ≡ dues.on_if (not (dues.is_draw (dues.input_now self.now.script (past self.now))) && frames.is_left self.now.script (past self.now)) event.BeginPlain }
+    {
+        let draw = self.is_draw_next();
+        let left = self.is_left();
+        on_if(!draw && left, Event::BeginPlain)
+    }
+
+    // The end of an await, where its frame has ended and no commit up to it is pending.
+    fn await_over(&self) -> Option<Event>
+        ensures { result ≡ dues.due_await (past self.now) (dues.next_input (past self.now)) (dues.input_now self.now.script (past self.now)) }
+    {
+        match self.input_now() {
+            Some(Input::Await { frame }) => {
+                let ended = self.has_frame_ended(frame);
+                let waits = self.is_pending_to(frame);
+                let input = self.next_input();
+                on_if(ended && !waits, Event::Await { input })
+            }
+            _ => None,
+        }
+    }
+
+    // The draw that is skipped, where nothing is active.
+    fn skip(&self) -> Option<Event>
+        ensures { result ≡ dues.due_skip (past self.now) (scans.newest begins (past self.now)) }
+    {
+        match self.progress.begun {
+            None => None,
+            Some(input) => on_if(self.progress.active.is_none(), Event::Skip { input }),
+        }
+    }
+
+    // The end, where all inputs are used, no main frame is left and nothing is in flight.
+    fn end(&self) -> Option<Event>
+        ensures { result ≡ dues.on_if (dues.is_over self.now.script (past self.now)) event.End }
+    {
+        let used = self.progress.inputs as usize == self.script.inputs().len();
+        let left = self.is_left();
+        let none = self.progress.in_flight == 0;
+        on_if(used && !left && none, Event::End)
+    }
+
+    // The event of such a kind that is due.
+    fn plain_due(&self, kind: Kind) -> Option<Event>
+        requires { is_plain kind ≡ true }
+        ensures { result ≡ dues.due self.now.script (past self.now) kind 0 }
+    {
+        match kind {
+            Kind::BeginDraw => {
+                let input = self.next_input();
+                on_if(self.is_draw_next(), Event::Begin { input })
+            }
+            Kind::BeginPlain => self.begin_plain(),
+            Kind::Skip => self.skip(),
+            Kind::NoDraw => Some(Event::NoDraw),
+            Kind::Finish => Some(Event::Finish),
+            Kind::Await => self.await_over(),
+            Kind::End => self.end(),
+            _ => unreachable!(),
+        }
+    }
+
+    /// The event of a plain kind that may come now: one of the compositor that follows from the inputs,
+    /// the main frames and the states alone (BeginDraw, BeginPlain, Skip, NoDraw, Finish, Await, End).
+    /// None exactly where there is none.
+    pub fn plain_now(&self, kind: Kind) -> Option<Event>
+        requires { is_plain kind ≡ true }
+        ensures { result ≡ now self.now kind 0 }
+    {
+        if self.is_open(kind) {
+            self.plain_due(kind)
+        } else {
+            None
+        }
+    }
+
+    /// Enters the event of a plain kind, where there is one that may come now, and answers whether there
+    /// was. An error is want of memory, and nothing was entered.
+    pub fn enter_plain(&mut self, kind: Kind) -> Result<bool, AllocError>
+        requires { is_plain kind ≡ true }
+        ensures plays { IfOk result (λ played. Plays self.old kind 0 self.new played) }
+        ensures err { OnErr result (self.new ≡ self.old) }
+    {
+        match self.plain_now(kind) {
+            None => Ok(false),
+            Some(event) => {
+                self.enter(0, event)?;
+                Ok(true)
+            }
+        }
+    }
+}

@@ -1,0 +1,46 @@
+-- Which histories are legal: each entry is what is due after those before it.
+use Rattle.std.specs.Prelude.{◌≡◌, ◌<◌, ℕ, ◌+◌, Bool, true, false, cond, not, ◌&&◌, List, [], ◌∷◌, reverse, Option, Some, None}
+use Rattle.model_scheduler.specs.declared.Sched.{Sched}
+use Rattle.model_scheduler.specs.declared.kind.Kind.{Kind}
+use Rattle.model_scheduler.specs.Kinds.{start, may, after}
+use Rattle.model_history.specs.declared.event.Event.{Event}
+use Rattle.model_history.specs.declared.history.Entry.{Entry}
+use Rattle.model_history.specs.Scripts.{ScriptModel}
+use Rattle.model_history.specs.EventFields.{kind_of, actor_of}
+use Rattle.model_history.specs.Scans.{has_ended}
+use Rattle.model_history.specs.Due.{due}
+
+-- the state of the scheduler after a past
+abbrev pub sched : List Entry → Sched
+sched [] = start
+sched (e ∷ h) = after (sched h) (kind_of e.event)
+
+-- an event of this kind may come: nothing has ended the run, and the scheduler's state allows it
+abbrev pub is_open : List Entry → Kind → Bool
+is_open h k = not (has_ended h) && may (sched h) k
+
+-- the event of a kind and an actor that may come, if there is one
+abbrev pub can : ScriptModel → List Entry → Kind → ℕ → Option Event
+can s h k a = cond (is_open h k) (due s h k a) None
+
+-- the entry may come after this past, in a run with so many workers
+pub record Next (s : ScriptModel) (workers : ℕ) (h : List Entry) (e : Entry) : Type 0 where
+  -- no end and no stop stands
+  pub going : has_ended h ≡ false
+  -- the scheduler's state allows its kind
+  pub state : may (sched h) (kind_of e.event) ≡ true
+  -- it is what is due
+  pub is_due : due s h (kind_of e.event) e.actor ≡ Some e.event
+  -- its actor is the one whose event it is
+  pub actor : e.actor ≡ actor_of e.event
+  -- that actor is the compositor, the main side or one of the workers
+  pub within : e.actor < 2 + workers
+
+-- each entry might come after those before it
+abbrev pub Legal : ScriptModel → ℕ → List Entry → Type 0
+Legal s workers [] = Unit {0}
+Legal s workers (e ∷ h) = Legal s workers h × Next s workers h e
+
+-- the same for a history, whose oldest entry stands first
+abbrev pub IsLegal : ScriptModel → ℕ → List Entry → Type 0
+IsLegal s workers history = Legal s workers (reverse history)

@@ -1,0 +1,68 @@
+-- The stamps of tiles: the last commit that changed what a place shows.
+use Rattle.std.specs.Prelude.{ℕ, zero, suc, ◌==◌, nat_lt, false, cond, ◌||◌, List, [], ◌∷◌, ◌++◌, unwrap_or, Option, Some, None, find}
+use Rattle.geom.specs.declared.rect.Rect.{Rect}
+use Rattle.geom.specs.declared.tile.Place.{Place}
+use Rattle.geom.specs.Common.{nothing}
+use Rattle.geom.specs.Grids.{rect_of}
+use Rattle.region.specs.declared.change.LayerChange.{LayerChange}
+use Rattle.region.specs.Lists.{Changed, without}
+use Rattle.tile_tiling.specs.Stamps.{Commit, stamp_of}
+use Rattle.page_layers.specs.declared.command.Command.{Command}
+use Rattle.page_layers.specs.declared.command.Command.TheVariants as command
+use Rattle.page_layers.specs.Layers.{PageLayer, has_id}
+use Rattle.page_layers.specs.Pages.{Page}
+use Rattle.page_layers.specs.Effects.{Change, after, change_of, retiles}
+use Rattle.page_layers.specs.declared.moves.Move.{Move}
+use Rattle.model_history.specs.Scripts.{ScriptModel}
+use Rattle.tile_visible.specs.Visible.{grid_of}
+use Rattle.model_history.specs.Frames.{commands_of, page, page_before}
+
+-- a change of a layer after an earlier one of the same layer: whole where one of the two is, and what the two cover
+abbrev pub with_later : LayerChange → Change → LayerChange
+with_later before c = record { layer = before.layer; whole = before.whole || c.whole; region = before.region ++ c.rects }
+
+-- a change of a layer that was not changed before
+abbrev pub alone : Change → LayerChange
+alone c = record { layer = c.layer; whole = c.whole; region = c.rects }
+
+-- a list of changes, one a layer by rising id, with one change more
+abbrev pub with_change : Change → List LayerChange → List LayerChange
+with_change c [] = alone c ∷ []
+with_change c (d ∷ ds) = cond (d.layer == c.layer) (with_later d c ∷ ds) (cond (nat_lt d.layer c.layer) (d ∷ with_change c ds) (alone c ∷ d ∷ ds))
+
+abbrev pub with_some : Option Change → List LayerChange → List LayerChange
+with_some None ds = ds
+with_some (Some c) ds = with_change c ds
+
+-- the changes of some commands with those of one more, which acts on this page; a layer that it removes is no longer listed
+abbrev pub with_command : Page → Command → List LayerChange → List LayerChange
+with_command p (command.RemoveLayer id) ds = without id ds
+with_command p c ds = with_some (change_of p c) ds
+
+-- the changes of these commands together, the first of which acts on this page, behind those of earlier ones
+abbrev pub changed_by : Page → List Command → Changed → Changed
+changed_by p [] done = done
+changed_by p (c ∷ cs) done = changed_by (after p c) cs (record { list = with_command p c done.list; retiled = done.retiled || retiles p c })
+
+-- nothing changed
+abbrev pub unchanged : Changed
+unchanged = record { list = []; retiled = false }
+
+-- what the commands of main frame k changed
+abbrev pub frame_changes : ScriptModel → (ℕ → List Move) → ℕ → Changed
+frame_changes s ps k = changed_by (page_before s ps k) (commands_of s k) unchanged
+
+-- the first n frames with what they changed, the latest first; one that was aborted has no commands and changed nothing
+abbrev pub commits_to : ScriptModel → (ℕ → List Move) → ℕ → List Commit
+commits_to s ps zero = []
+commits_to s ps (suc k) = record { frame = k; changed = frame_changes s ps k } ∷ commits_to s ps k
+
+-- the rect of a place of a layer, where the page has the layer
+abbrev pub place_rect : Page → Place → Option PageLayer → Rect
+place_rect p place None = nothing
+place_rect p place (Some l) = rect_of (grid_of p l) place
+
+-- the stamp of a place of a layer in page n
+unfoldable pub stamp_in : ScriptModel → (ℕ → List Move) → ℕ → ℕ → Place → ℕ
+stamp_in s ps n layer place =
+    unwrap_or (stamp_of layer (place_rect (page s ps n) place (find (has_id layer) (page s ps n).layers)) (commits_to s ps n)) 0

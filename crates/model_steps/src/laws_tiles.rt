@@ -1,0 +1,30 @@
+//! Which tiles stay, and what shows them. They are contracts of functions that do nothing, over pasts,
+//! which list the newest entry first.
+
+ghost use Rattle.std.specs.Prelude.{◌≡◌, ℕ, true, List, ◌∷◌, filter, find, Some};
+ghost use Rattle.geom.specs.declared.tile.TileKey.{TileKey as Key};
+ghost use Rattle.geom.specs.KeyLists.{has_key};
+ghost use Rattle.page_layers.specs.declared.moves.Move.{Move};
+ghost use Rattle.page_layers.specs.Layers.{PageLayer, has_id};
+ghost use Rattle.model_history.specs.declared.history.Entry.{Entry};
+ghost use Rattle.model_history.specs.Scripts.{ScriptModel};
+ghost use Rattle.model_history.specs.Frames.{page};
+ghost use Rattle.model_history.specs.Accepted.{IsAccepted};
+ghost use Rattle.model_history.specs.Legal.{Legal};
+ghost use Rattle.model_history.specs.Sharing.{was_live, has_page_key, key_rect};
+ghost use Rattle.model_history.specs.Tiles.{live_keys, made, in_flight, ready};
+ghost use Rattle.model_steps.specs.ShownKeys.{Shows};
+
+/// What was made, and what is in flight, was live at some time. So an event that makes no tile and gives
+/// none up leaves of the ready keys those that are still live, and makes no other ready.
+pub fn ready_keys_were_ready()
+    ensures made { (s : ScriptModel) (workers : ℕ) (h : List Entry) (q : Key) → Legal s workers h → has_key (made h) q ≡ true → was_live s h q ≡ true }
+    ensures in_flight { (s : ScriptModel) (workers : ℕ) (h : List Entry) (q : Key) → Legal s workers h → has_key (in_flight h) q ≡ true → was_live s h q ≡ true }
+    ensures ready { (s : ScriptModel) (workers : ℕ) (h : List Entry) (e : Entry) → IsAccepted s → Legal s workers (e ∷ h) → made (e ∷ h) ≡ made h → ready s (e ∷ h) ≡ filter (has_key (live_keys s (e ∷ h))) (ready s h) }
+{}
+
+/// A layer's own list, on the rect of the key's place, shows the key in every page of the script that has
+/// it, whatever was pulled.
+pub fn layers_show_their_keys()
+    ensures { (s : ScriptModel) (pulls : ℕ → List Move) (n : ℕ) (q : Key) (layer : PageLayer) → IsAccepted s → has_page_key s pulls n q ≡ true → find (has_id q.layer) (page s pulls n).layers ≡ Some layer → Shows s q (key_rect (page s pulls n) q) layer.items }
+{}

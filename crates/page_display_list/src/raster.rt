@@ -1,0 +1,131 @@
+//! Drawing items into the pixels of an area.
+
+ghost use Rattle.std.specs.Prelude.{◌≡◌, ℕ, ◌+◌, ◌-◌, ◌*◌, ◌/◌, ◌<◌, ◌≤◌, ◌^◌, ℤ, pos, ◌+ℤ◌, ◌≤ℤ◌, length, fold, All, IfOk};
+ghost use Rattle.geom.specs.Covers.{IsSound};
+ghost use Rattle.pixel.specs.Colours.{Parts, blend, clear};
+ghost use Rattle.pixel.specs.Rows.{pixel, ArePremultiplied};
+ghost use Rattle.pixel.specs.Surfaces.{IsInside, EachPixel, within};
+ghost use Rattle.page_display_list.specs.Bitmaps.{near, byte_count};
+ghost use Rattle.page_display_list.specs.Content.{painted, IsSoundItem};
+
+use crate::bitmap::Bitmap;
+use crate::item::Item;
+use crate::part::{Part, shared_part};
+use geom::Rect;
+use pixel::{Colour, colour_over_area, fill_area, image_over_area};
+use std::alloc::{AllocError, Global};
+
+/// How many pixels the side of a sound rect is long.
+fn side(n: i32) -> usize
+    requires { pos 0 ≤ℤ n }
+    ensures { result ≡ near n }
+{
+    n as usize
+}
+
+/// How many columns a sound rect has.
+pub(crate) fn width_of(area: Rect) -> usize
+    requires { IsSound area }
+    ensures { result ≡ near area.w }
+{
+    side(area.w)
+}
+
+/// How many rows a sound rect has.
+pub(crate) fn height_of(area: Rect) -> usize
+    requires { IsSound area }
+    ensures { result ≡ near area.h }
+{
+    side(area.h)
+}
+
+/// So many transparent pixels.
+pub(crate) fn clear_pixels(alloc: Global, count: usize) -> Result<Vec<u8>, AllocError>
+    requires { count ≤ 2 ^ 60 }
+    ensures size { IfOk result (λ bytes. length bytes.items ≡ 4 * count) }
+    ensures pixels { IfOk result (λ bytes. (k : ℕ) → k < count → pixel bytes.items k ≡ clear) }
+    ensures premultiplied { IfOk result (λ bytes. ArePremultiplied bytes.items) }
+{
+    vec![in alloc; 0u8; 4 * count]
+}
+
+/// Draws one colour into a part of an area's pixels.
+fn draw_colour(
+    surface: &mut [u8],
+    width: usize,
+    height: usize,
+    part: Part,
+    colour: Colour,
+    scratch: &mut [u8],
+)
+    requires size { length surface.old ≡ 4 * (width * height) }
+    requires inside { IsInside part.at width height }
+    requires room { 4 * width ≤ length scratch.old }
+    ensures pixels { EachPixel width height (within part.at part.at.h (λ x y below. blend below colour)) surface.old surface.new }
+    ensures premultiplied { ArePremultiplied surface.old → ArePremultiplied surface.new }
+{
+    if colour.a() == 255 {
+        fill_area(surface, width, height, part.at, colour);
+    } else {
+        colour_over_area(surface, width, height, part.at, colour, scratch);
+    }
+}
+
+/// Draws a bitmap into the part of an area's pixels that it covers.
+fn draw_bitmap(surface: &mut [u8], width: usize, height: usize, part: Part, bitmap: &Bitmap)
+    requires size { length surface.old ≡ 4 * (width * height) }
+    requires inside { IsInside part.at width height }
+    requires columns { part.left + part.at.w ≤ near bitmap.now.rect.w }
+    requires rows { part.above + part.at.h ≤ near bitmap.now.rect.h }
+    ensures pixels { EachPixel width height
+        (within part.at part.at.h (λ x y below. blend below
+        (pixel bitmap.now.pixels ((y - part.at.y + part.above) * near bitmap.now.rect.w + (x - part.at.x + part.left)))))
+        surface.old surface.new }
+    ensures premultiplied { ArePremultiplied surface.old → ArePremultiplied surface.new }
+{
+    image_over_area(
+        surface,
+        width,
+        height,
+        part.at,
+        bitmap.pixels(),
+        bitmap.width(),
+        bitmap.height(),
+        part.left,
+        part.above,
+    );
+}
+
+/// Draws an item into the pixels of an area.
+fn draw(item: &Item, surface: &mut [u8], area: Rect, scratch: &mut [u8])
+    requires item { IsSoundItem item.now }
+    requires area { IsSound area }
+    requires size { length surface.old ≡ byte_count area.w area.h }
+    requires room { 4 * near area.w ≤ length scratch.old }
+    ensures pixels { EachPixel (near area.w) (near area.h) (λ x y below. painted (area.x +ℤ pos x) (area.y +ℤ pos y) below item.now) surface.old surface.new }
+    ensures premultiplied { ArePremultiplied surface.old → ArePremultiplied surface.new }
+{
+    let Some(part) = shared_part(item.rect(), area) else {
+        return;
+    };
+    let width = width_of(area);
+    let height = height_of(area);
+    match item {
+        Item::Rect { colour, .. } => draw_colour(surface, width, height, part, *colour, scratch),
+        Item::Bitmap(bitmap) => draw_bitmap(surface, width, height, part, bitmap),
+    }
+}
+
+/// Draws items into the pixels of an area, in order.
+pub(crate) fn draw_items(items: &[Item], surface: &mut [u8], area: Rect, scratch: &mut [u8])
+    requires items { All IsSoundItem items.now }
+    requires area { IsSound area }
+    requires size { length surface.old ≡ byte_count area.w area.h }
+    requires room { 4 * near area.w ≤ length scratch.old }
+    ensures pixels { EachPixel (near area.w) (near area.h) (λ x y below. fold (painted (area.x +ℤ pos x) (area.y +ℤ pos y)) below items.now) surface.old surface.new }
+    ensures premultiplied { ArePremultiplied surface.old → ArePremultiplied surface.new }
+{
+    for item in items {
+        draw(item, surface, area, scratch);
+    }
+}

@@ -1,0 +1,5 @@
+use Rattle.page_hit_test.proofs.Placings.{table_of}
+use Rattle.page_hit_test.proofs.found.root_holds.Goals as goal
+
+pub returns : goal.returns
+returns c = λ f h. table_of f _ h

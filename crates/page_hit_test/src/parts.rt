@@ -1,0 +1,111 @@
+//! What each scroller takes of a wheel.
+
+ghost use Rattle.std.specs.Prelude.{◌≡◌, ◌∷◌, ◌++◌, [], cond, length, slice_get, OnOk, OnErr, IfOk, IfErr, option_copied};
+ghost use Rattle.page_layers.specs.Axes.{is_still};
+ghost use Rattle.page_hit_test.specs.Wheels.{part_move, part_of};
+
+use geom::Point;
+use std::alloc::{AllocError, Global};
+use std::marker::Model;
+
+/// How far a wheel moves one scroller.
+#[derive(Clone, Copy, PartialEq, Eq, Debug)]
+pub struct Part {
+    /// The scroller's number.
+    pub scroller: u32,
+    /// How far it moves, in pixels.
+    pub by: Point,
+}
+
+/// A list of parts, which contracts see as the list of its elements.
+#[derive(Drop)]
+pub struct Parts {
+    items: Vec<Part>,
+}
+
+impl Model for Parts {
+    ghost use Rattle.std.specs.Prelude.{List};
+    ghost use Rattle.page_hit_test.specs.declared.parts.Part.{Part};
+
+    ghost Value = { List Part };
+
+    ghost view = { λ p. p.items.items };
+}
+
+impl Parts {
+    /// An empty list, which takes its memory from `alloc`.
+    pub fn new(alloc: Global) -> Parts
+        ensures { result ≡ [] }
+    {
+        Parts {
+            items: Vec::new(alloc),
+        }
+    }
+
+    /// Appends a part. An error is want of memory: it gives the part back, and the list is as it was.
+    pub fn push(&mut self, part: Part) -> Result<(), (AllocError, Part)>
+        ensures ok { OnOk result (self.new ≡ self.old ++ part ∷ []) }
+        ensures err { OnErr result (self.new ≡ self.old) }
+        ensures given_back { IfErr result (λ e. e.1 ≡ part) }
+    {
+        match self.items.push(part) {
+            Ok(()) => Ok(()),
+            Err(_) => Err((AllocError, part)),
+        }
+    }
+
+    /// A list of the same parts. An error is want of memory.
+    pub fn copy(&self) -> Result<Parts, AllocError>
+        ensures { IfOk result (λ parts. parts ≡ self.now) }
+    {
+        let items = self.items.clone()?;
+        Ok(Parts { items })
+    }
+
+    /// How many parts there are.
+    pub fn len(&self) -> usize
+        ensures { result ≡ length self.now }
+    {
+        self.items.len()
+    }
+
+    /// The part at place `i`, counted from 0; None exactly where `i` is not below `len`.
+    pub fn at(&self, i: usize) -> Option<&Part>
+        ensures { option_copied result ≡ slice_get self.now i }
+    {
+        self.items.get(i)
+    }
+
+    /// The parts, the first of them first.
+    pub fn as_slice(&self) -> &[Part]
+        ensures { result.now ≡ self.now }
+    {
+        self.items.as_slice()
+    }
+}
+
+// Whether a part is one of (0, 0).
+fn is_still_part(scroller: u32, dx: i32, dy: i32) -> bool
+    ensures { result ≡ is_still (part_move (part_of scroller dx dy)) }
+{
+    dx == 0 && dy == 0
+}
+
+/// Appends what a scroller takes, where that is not (0, 0). An error is want of memory.
+pub(crate) fn push_moving(
+    parts: &mut Parts,
+    scroller: u32,
+    dx: i32,
+    dy: i32,
+) -> Result<(), AllocError>
+    ensures { OnOk result (parts.new ≡ parts.old ++ cond (is_still (part_move (part_of scroller dx dy))) [] (part_of scroller dx dy ∷ [])) }
+{
+    if is_still_part(scroller, dx, dy) {
+        return Ok(());
+    }
+    let by = Point { x: dx, y: dy };
+    match parts.push(Part { scroller, by }) {
+        Ok(()) => Ok(()),
+        Err(refused) => Err(refused.0),
+    }
+}

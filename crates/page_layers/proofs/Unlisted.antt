@@ -1,0 +1,158 @@
+-- What a command does not list it does not change.
+use Rattle.std.proofs.Common.{ℕ, ℤ, ◌≡◌, ◌<◌, ◌==◌, ◌&&◌, ◌||◌, Bool, true, false, Option, Some, None, Ok, List, [], ◌∷◌, length, get_or, refl, ap, sym, ◌∙◌, subst, arith, eqb-true}
+use Rattle.std.specs.Prelude.{option_map, slice_get, slice_set, nat_lt}
+use Rattle.std.specs.List.{find, insert, remove}
+use Rattle.std.proofs.lemmas.Bool.Decides.{nat_tests}
+use Rattle.geom.specs.Covers.{covers}
+use Rattle.region.specs.Points.{covered}
+use Rattle.pixel.specs.Colours.{Parts}
+use Rattle.page_display_list.specs.declared.item.Item.{Item}
+use Rattle.page_display_list.specs.Content.{content, rect_of}
+use Rattle.page_layers.specs.declared.command.Command.{Command}
+use Rattle.page_layers.specs.declared.command.Command.TheVariants as command
+use Rattle.page_layers.specs.declared.fault.EditFault.TheVariants as fault
+use Rattle.page_layers.specs.Tests.{◌>>=◌, require}
+use Rattle.page_layers.specs.Layers.{PageLayer, has_id, with_size, with_colour, with_items}
+use Rattle.page_layers.specs.Lists.{changed, without}
+use Rattle.page_layers.specs.Pages.{Page}
+use Rattle.page_layers.specs.Refusals.{has_layer, item_count, count_in, test_of, remove_item_test, replace_item_test}
+use Rattle.page_layers.specs.Effects.{after, change_of, rects_of, rect_in}
+use Rattle.page_layers.specs.Outcomes.{Accepts}
+use Rattle.page_layers.specs.Sound.{AreDistinct, IsPage}
+use Rattle.page_layers.specs.Contents.{content_at, size_of, shows_at, is_changed_whole, KeepsTheRest}
+use Rattle.page_layers.proofs.LayerKeeps.{absent-taken}
+use Rattle.page_layers.proofs.LayerPlaces.{item_there}
+use Rattle.page_layers.proofs.FoundLayers.{found-insert, found-without, found-other, found-here, found-moved}
+use Rattle.page_layers.proofs.ItemContent.{content-insert, content-remove, content-set}
+use Rattle.page_layers.proofs.TestFacts.{passed, held}
+
+-- what is read of a layer that was found
+abbrev shown : ℤ → ℤ → Option PageLayer → Option Parts
+shown x y o = option_map (λ l. content l.items x y) o
+
+abbrev sized : Option PageLayer → Option (ℕ × ℕ)
+sized o = option_map (λ l. (l.w, l.h)) o
+
+-- ---- tests that fail
+
+-- the second of two fails where the first holds
+second_fails : (a b : Bool) → a ≡ true → (a && b) ≡ false → b ≡ false
+second_fails true b is h = h
+second_fails false b is h = absurd (cc)
+
+-- neither of two holds
+first_of : (a b : Bool) → (a || b) ≡ false → a ≡ false
+first_of true b h = absurd (cc)
+first_of false b h = refl
+
+rest_of : (a b : Bool) → (a || b) ≡ false → b ≡ false
+rest_of true b h = absurd (cc)
+rest_of false b h = h
+
+first_fails : (a : Bool) → (a && true) ≡ false → a ≡ false
+first_fails true h = absurd (cc)
+first_fails false h = refl
+
+-- ---- what is read of the layers that are found
+
+-- what a change keeps of the layer that it changes is the same of each layer that is found
+viewed : {V : Type 0} (v : PageLayer → V) (i id : ℕ) (f : PageLayer → PageLayer) → ((l : PageLayer) → (f l).id ≡ l.id) → (ls : List PageLayer)
+    → ((i == id) ≡ true → option_map v (option_map f (find (has_id i) ls)) ≡ option_map v (find (has_id i) ls))
+    → option_map v (find (has_id id) (changed (has_id i) f ls)) ≡ option_map v (find (has_id id) ls)
+viewed v i id f keeps ls same = go (i == id) refl
+  where
+    go : (b : Bool) → (i == id) ≡ b → option_map v (find (has_id id) (changed (has_id i) f ls)) ≡ option_map v (find (has_id id) ls)
+    go true e =
+        let is : i ≡ id = eqb-true i id e in
+        ap (λ (n : ℕ). option_map v (find (has_id n) (changed (has_id i) f ls))) (sym is)
+        ∙ ap (λ (o : Option PageLayer). option_map v o) (found-here i f keeps ls)
+        ∙ same e
+        ∙ ap (λ (n : ℕ). option_map v (find (has_id n) ls)) is
+    go false e = ap (λ (o : Option PageLayer). option_map v o) (found-other i id f keeps ls e)
+
+-- what a change keeps of every layer
+of_every : {V : Type 0} (v : PageLayer → V) (f : PageLayer → PageLayer) → ((l : PageLayer) → v (f l) ≡ v l) → (o : Option PageLayer) → option_map v (option_map f o) ≡ option_map v o
+of_every v f keeps None = refl
+of_every v f keeps (Some l) = ap Some (keeps l)
+
+-- ---- items
+
+-- an item that is taken out or replaced at its place
+removed_items : (x y : ℤ) (items : List Item) (at : ℕ) → at < length items → covered (rects_of (option_map rect_of (slice_get items at))) x y ≡ false → content (remove items at) x y ≡ content items x y
+removed_items x y [] at lt out = absurd (omega (arith, lt))
+removed_items x y (d ∷ items) at lt out =
+    let there : covered (rect_of (get_or (d ∷ items) at d) ∷ []) x y ≡ false = ap (λ (o : Option Item). covered (rects_of (option_map rect_of o)) x y) (sym (item_there (d ∷ items) at d lt)) ∙ out in
+    content-remove (d ∷ items) at d x y lt (first_of (covers (rect_of (get_or (d ∷ items) at d)) x y) (covered [] x y) there)
+
+replaced_items : (x y : ℤ) (items : List Item) (at : ℕ) (item : Item) → at < length items → covered (rect_of item ∷ rects_of (option_map rect_of (slice_get items at))) x y ≡ false → content (slice_set items at item) x y ≡ content items x y
+replaced_items x y [] at item lt out = absurd (omega (arith, lt))
+replaced_items x y (d ∷ items) at item lt out =
+    let old : covered (rects_of (option_map rect_of (slice_get (d ∷ items) at))) x y ≡ false = rest_of (covers (rect_of item) x y) (covered (rects_of (option_map rect_of (slice_get (d ∷ items) at))) x y) out in
+    let there : covered (rect_of (get_or (d ∷ items) at d) ∷ []) x y ≡ false = ap (λ (o : Option Item). covered (rects_of (option_map rect_of o)) x y) (sym (item_there (d ∷ items) at d lt)) ∙ old in
+    content-set (d ∷ items) at item d x y lt (first_of (covers (rect_of item) x y) (covered (rects_of (option_map rect_of (slice_get (d ∷ items) at))) x y) out) (first_of (covers (rect_of (get_or (d ∷ items) at d)) x y) (covered [] x y) there)
+
+-- the place of an item is one of the layer's, where the test passed
+below : (at count : ℕ) → require (nat_lt at count) fault.BadPlace ≡ Ok tt → at < count
+below at count ok = let b : nat_lt at count ≡ true = held (nat_lt at count) fault.BadPlace ok in grind (arith, nat_tests, b)
+
+removed_view : (x y : ℤ) (at : ℕ) (o : Option PageLayer) → (count_in o >>= (λ count. require (nat_lt at count) fault.BadPlace)) ≡ Ok tt → covered (rects_of (rect_in at o)) x y ≡ false
+    → shown x y (option_map (with_items (λ items. remove items at)) o) ≡ shown x y o
+removed_view x y at None ok out = refl
+removed_view x y at (Some l) ok out = ap Some (removed_items x y l.items at (below at (length l.items) ok) out)
+
+replaced_view : (x y : ℤ) (at : ℕ) (item : Item) (o : Option PageLayer) → ((count : ℕ) × (count_in o ≡ Ok count) × (at < count)) → covered (rect_of item ∷ rects_of (rect_in at o)) x y ≡ false
+    → shown x y (option_map (with_items (λ items. slice_set items at item)) o) ≡ shown x y o
+replaced_view x y at item None ok out = refl
+replaced_view x y at item (Some l) ok out = let same : length l.items ≡ ok.0 = cc in ap Some (replaced_items x y l.items at item (subst (λ (n : ℕ). at < n) (sym same) ok.2) out)
+
+remove_tested : (p : Page) (layer at : ℕ) → remove_item_test p layer at ≡ Ok tt → (count_in (find (has_id layer) p.layers) >>= (λ count. require (nat_lt at count) fault.BadPlace)) ≡ Ok tt
+unfolding remove_item_test
+remove_tested p layer at ok = ok
+
+replace_tested : (p : Page) (layer at : ℕ) (item : Item) → replace_item_test p layer at item ≡ Ok tt → (count : ℕ) × (count_in (find (has_id layer) p.layers) ≡ Ok count) × (at < count)
+unfolding replace_item_test
+replace_tested p layer at item ok =
+    let counted = passed (item_count layer p.layers) _ tt ok in
+    let placed = passed (require (nat_lt at counted.0) fault.BadPlace) _ tt counted.2 in
+    (counted.0, counted.1, below at counted.0 placed.1)
+
+-- ---- layers that are taken out
+
+-- a layer that is still there is not the one that was taken out
+still_there : (i id : ℕ) (ls : List PageLayer) → AreDistinct ls → has_layer id (without (has_id i) ls) ≡ true → (i == id) ≡ false
+still_there i id ls d there = go (i == id) refl
+  where
+    go : (b : Bool) → (i == id) ≡ b → b ≡ false
+    go false e = refl
+    go true e = let gone : has_layer id (without (has_id i) ls) ≡ false = ap (λ (n : ℕ). has_layer n (without (has_id i) ls)) (sym (eqb-true i id e)) ∙ absent-taken i ls d in absurd (cc)
+
+-- ---- each command
+
+-- a layer that is resized keeps its items
+resized_shows : (p : Page) (i w h id : ℕ) (x y : ℤ) → content_at (after p (command.ResizeLayer i w h)) id x y ≡ content_at p id x y
+resized_shows p i w h id x y = viewed (λ l. content l.items x y) i id (with_size w h) (λ l. refl) p.layers (λ e. of_every (λ l. content l.items x y) (with_size w h) (λ l. refl) (find (has_id i) p.layers))
+
+content_kept : (p : Page) (c : Command) → IsPage p → test_of p c ≡ Ok tt → (id : ℕ) (x y : ℤ) → has_layer id (after p c).layers ≡ true → shows_at (change_of p c) id x y ≡ false → content_at (after p c) id x y ≡ content_at p id x y
+content_kept p (command.AddLayer i at transform clip effect w h colour) is ok id x y there out = ap (shown x y) (found-insert id _ p.layers at (first_fails (i == id) out))
+content_kept p (command.RemoveLayer i) is ok id x y there out = ap (shown x y) (found-without i id p.layers (still_there i id p.layers is.distinct there))
+content_kept p (command.ResizeLayer i w h) is ok id x y there out = resized_shows p i w h id x y
+content_kept p (command.SetColour i colour) is ok id x y there out = viewed (λ l. content l.items x y) i id (with_colour colour) (λ l. refl) p.layers (λ e. of_every (λ l. content l.items x y) (with_colour colour) (λ l. refl) (find (has_id i) p.layers))
+content_kept p (command.InsertItem i at item) is ok id x y there out = viewed (λ l. content l.items x y) i id (with_items (λ items. insert items at item)) (λ l. refl) p.layers (λ e. of_every (λ l. content l.items x y) (with_items (λ items. insert items at item)) (λ l. content-insert l.items at item x y (first_of (covers (rect_of item) x y) (covered [] x y) (second_fails (i == id) (covered (rect_of item ∷ []) x y) e out))) (find (has_id i) p.layers))
+content_kept p (command.RemoveItem i at) is ok id x y there out = viewed (λ l. content l.items x y) i id (with_items (λ items. remove items at)) (λ l. refl) p.layers (λ e. removed_view x y at (find (has_id i) p.layers) (remove_tested p i at ok) (second_fails (i == id) _ e out))
+content_kept p (command.ReplaceItem i at item) is ok id x y there out = viewed (λ l. content l.items x y) i id (with_items (λ items. slice_set items at item)) (λ l. refl) p.layers (λ e. replaced_view x y at item (find (has_id i) p.layers) (replace_tested p i at item ok) (second_fails (i == id) _ e out))
+content_kept p (command.MoveLayer i at) is ok id x y there out = ap (shown x y) (found-moved i at id p.layers is.distinct)
+content_kept p _ is ok id x y there out = refl
+
+size_kept : (p : Page) (c : Command) → IsPage p → (id : ℕ) → has_layer id (after p c).layers ≡ true → is_changed_whole (change_of p c) id ≡ false → size_of (after p c) id ≡ size_of p id
+size_kept p (command.AddLayer i at transform clip effect w h colour) is id there out = ap sized (found-insert id _ p.layers at (first_fails (i == id) out))
+size_kept p (command.RemoveLayer i) is id there out = ap sized (found-without i id p.layers (still_there i id p.layers is.distinct there))
+size_kept p (command.ResizeLayer i w h) is id there out = ap sized (found-other i id (with_size w h) (λ l. refl) p.layers (first_fails (i == id) out))
+size_kept p (command.SetColour i colour) is id there out = viewed (λ l. (l.w, l.h)) i id (with_colour colour) (λ l. refl) p.layers (λ e. of_every (λ l. (l.w, l.h)) (with_colour colour) (λ l. refl) (find (has_id i) p.layers))
+size_kept p (command.InsertItem i at item) is id there out = viewed (λ l. (l.w, l.h)) i id (with_items (λ items. insert items at item)) (λ l. refl) p.layers (λ e. of_every (λ l. (l.w, l.h)) (with_items (λ items. insert items at item)) (λ l. refl) (find (has_id i) p.layers))
+size_kept p (command.RemoveItem i at) is id there out = viewed (λ l. (l.w, l.h)) i id (with_items (λ items. remove items at)) (λ l. refl) p.layers (λ e. of_every (λ l. (l.w, l.h)) (with_items (λ items. remove items at)) (λ l. refl) (find (has_id i) p.layers))
+size_kept p (command.ReplaceItem i at item) is id there out = viewed (λ l. (l.w, l.h)) i id (with_items (λ items. slice_set items at item)) (λ l. refl) p.layers (λ e. of_every (λ l. (l.w, l.h)) (with_items (λ items. slice_set items at item)) (λ l. refl) (find (has_id i) p.layers))
+size_kept p (command.MoveLayer i at) is id there out = ap sized (found-moved i at id p.layers is.distinct)
+size_kept p _ is id there out = refl
+
+pub unlisted_stays : (p : Page) (c : Command) → IsPage p → Accepts p c → KeepsTheRest p c
+unlisted_stays p c is ok = record { content = λ id x y before there out. content_kept p c is ok.passes id x y there out; size = λ id before there out. size_kept p c is id there out; resized = λ id w h x y is_resize. ap (λ (d : Command). content_at (after p d) id x y) is_resize ∙ resized_shows p id w h id x y }

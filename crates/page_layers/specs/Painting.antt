@@ -1,0 +1,40 @@
+-- The painting of one point: layers in order, in nested groups that are blended as one.
+use Rattle.std.specs.Prelude.{ℕ, ◌==◌, cond, List, [], ◌∷◌, drop}
+use Rattle.pixel.specs.Colours.{Parts, blend, scaled, clear}
+
+-- the items of an effect in order: a layer's colour, or an effect below 255 with its own items
+pub data Items : Type 0 where
+  none : Items
+  layer : Parts → Items → Items
+  group : ℕ → Items → Items → Items
+
+-- the items folded over a colour, where effects have these opacities: a group starts from transparent, is scaled by its opacity and laid over what stands below it
+module _ (opacity : ℕ → ℕ) where
+  abbrev pub folded : Items → Parts → Parts
+  folded none below = below
+  folded (layer c rest) below = folded rest (blend below c)
+  folded (group e items rest) below = folded rest (blend below (scaled (folded items clear) (opacity e)))
+
+-- the items of the effect's group where that group stands first
+abbrev pub inside : ℕ → Items → Items
+inside e none = none
+inside e (layer c rest) = none
+inside e (group f items rest) = cond (e == f) items none
+
+-- what follows the effect's group where that group stands first
+abbrev pub after : ℕ → Items → Items
+after e none = none
+after e (layer c rest) = layer c rest
+after e (group f items rest) = cond (e == f) rest (group f items rest)
+
+-- a layer before the items, that lies in these groups, the outermost first: it joins the group that stands first where that is its own
+abbrev pub with_layer : List ℕ → Parts → Items → Items
+with_layer [] c items = layer c items
+with_layer (e ∷ es) c items = group e (with_layer es c (inside e items)) (after e items)
+
+-- layers of any kind, with the groups that each lies in, the outermost first, and its colour at the point
+module _ {A : Type 0} (groups_of : A → List ℕ) (colour_of : A → Parts) where
+  -- the items that the layers make, counting their groups from a depth on
+  abbrev pub items_at : ℕ → List A → Items
+  items_at depth [] = none
+  items_at depth (l ∷ more) = with_layer (drop depth (groups_of l)) (colour_of l) (items_at depth more)

@@ -1,0 +1,175 @@
+//! Layers in their places on the screen.
+
+ghost use Rattle.std.specs.Prelude.{◌≡◌, ◌≤◌, ◌*◌, ◌==◌, ◌&&◌, ℤ, pos, ◌-ℤ◌, FitsSigned, filter, IfOk, IfSome};
+ghost use mir.Syntax.{w32};
+ghost use Rattle.geom.specs.Covers.{covers, IsSound};
+ghost use Rattle.geom.specs.Gaps.{shifted};
+ghost use Rattle.geom.specs.Sides.{IsSide};
+ghost use Rattle.page_properties.specs.OffsetMap.{offset_at, AreOffsets};
+ghost use Rattle.page_properties.specs.Placement.{IsWithin};
+ghost use Rattle.page_layers.specs.Layers.{parts_of};
+ghost use Rattle.page_layers.specs.TreePainting as painting;
+ghost use Rattle.page_layers.specs.Paintings.{IsOnScreen, has_place, colour_there, shown};
+
+use crate::layer::Layer;
+use crate::tree::LayerTree;
+use geom::{Place, Point, Rect, TileKey};
+use page_display_list::DisplayList;
+use page_properties::Offsets;
+use pixel::Colour;
+use std::alloc::{AllocError, Global};
+use std::marker::Model;
+use std::sync::Arc;
+
+/// A layer in its place on the screen.
+#[derive(Drop)]
+pub(crate) struct PlacedLayer {
+    // the part of the screen where it lies: its bounds, moved, inside its clip
+    area: Rect,
+    // how far it is moved
+    by: Point,
+    // what is drawn where a tile is missing
+    colour: Colour,
+    list: Arc<DisplayList>,
+    // the keys of its missing tiles
+    missing: Vec<TileKey>,
+}
+
+impl Model for PlacedLayer {
+    ghost use Rattle.std.specs.Prelude.{◌*◌};
+    ghost use Rattle.geom.specs.Covers.{IsSound};
+    ghost use Rattle.page_properties.specs.Placement.{IsWithin};
+    ghost use Rattle.page_layers.specs.Paintings.{Placed};
+
+    ghost Value = { Placed };
+
+    ghost view = { λ l. record { area = l.area; by = l.by; colour = l.colour; items = l.list.value; missing = l.missing.items } };
+
+    ghost invariant = { λ l. IsSound l.area × IsWithin (256 * 1114112) l.by };
+}
+
+// A coordinate, moved back.
+fn back(at: i32, by: i32) -> i32
+    requires { FitsSigned w32 (at -ℤ by) }
+    ensures { result ≡ at -ℤ by }
+{
+    at - by
+}
+
+// The place of a point of a layer, in tiles of this size.
+fn place_of(tile: u32, x: i32, y: i32) -> Place
+    requires { 1 ≤ tile }
+    ensures { result ≡ painting.place_at tile (record { x = x; y = y }) }
+{
+    Place {
+        x: x.unsigned_abs() / tile,
+        y: y.unsigned_abs() / tile,
+    }
+}
+
+// Whether one of the keys names this place.
+fn is_among(keys: &[TileKey], place: Place) -> bool
+    ensures { result ≡ has_place keys.now place }
+{
+    keys.iter().any(|key| key.x == place.x && key.y == place.y)
+}
+
+// The keys of a layer.
+fn keys_of(alloc: Global, keys: &[TileKey], layer: u32) -> Result<Vec<TileKey>, AllocError>
+    ensures { IfOk result (λ own. own.items ≡ filter (λ k. k.layer == layer) keys.now) }
+{
+    keys.iter()
+        .filter(|key| key.layer == layer)
+        .copied()
+        .collect(alloc)
+}
+
+// The bounds of a layer of this size, moved.
+fn moved_bounds(w: u32, h: u32, by: Point) -> Rect
+    requires wide { w ≤ 16384 }
+    requires tall { h ≤ 16384 }
+    requires near { IsWithin (256 * 1114112) by }
+    ensures value { result ≡ shifted (record { x = pos 0; y = pos 0; w = pos w; h = pos h }) by }
+    ensures sound { IsSound result }
+{
+    let bounds = Rect {
+        x: 0,
+        y: 0,
+        w: w as i32,
+        h: h as i32,
+    };
+    bounds.shift(by)
+}
+
+// The part of a rect that a clip lets through.
+fn cut(rect: Rect, clip: Option<Rect>) -> Rect
+    requires sound { IsSound rect }
+    requires clip_sound { IfSome clip IsSound }
+    ensures points { (x y : ℤ) → covers result x y ≡ (painting.lets_through clip x y && covers rect x y) }
+    ensures result_sound { IsSound result }
+{
+    match clip {
+        None => rect,
+        Some(clip) => clip.intersect(rect),
+    }
+}
+
+/// A layer of a tree in its place at these offsets. The layer's sides are 1 to 16384. An error is want of
+/// memory.
+pub(crate) fn placed(
+    alloc: Global,
+    tree: &LayerTree,
+    offsets: &Offsets,
+    missing: &[TileKey],
+    layer: &Layer,
+) -> Result<PlacedLayer, AllocError>
+    requires offsets { AreOffsets (offset_at offsets.now) }
+    requires wide { IsSide layer.now.w }
+    requires tall { IsSide layer.now.h }
+    ensures { IfOk result (λ l. (x y : ℤ) → shown tree.now.view.tile x y l ≡ painting.colour_at tree.now (offset_at offsets.now) missing.now x y (parts_of layer.now)) }
+{
+    let props = tree.props();
+    let by = props.translation(layer.transform, offsets);
+    let clip = props.clip_of(layer.clip, offsets);
+    let area = cut(moved_bounds(layer.w, layer.h, by), clip);
+    let own = keys_of(alloc, missing, layer.id)?;
+    let list = Arc::try_clone(&layer.list)?;
+    Ok(PlacedLayer {
+        area,
+        by,
+        colour: layer.colour,
+        list,
+        missing: own,
+    })
+}
+
+impl PlacedLayer {
+    // The colour at a point of the layer.
+    #[tactic(auto, unfolding(crate::specs::Paintings::colour_there))]
+    fn colour_there(&self, tile: u32, x: i32, y: i32) -> Colour
+        requires { 1 ≤ tile }
+        ensures { result ≡ colour_there tile self.now (record { x = x; y = y }) }
+    {
+        let place = place_of(tile, x, y);
+        if is_among(self.missing.as_slice(), place) {
+            self.colour
+        } else {
+            self.list.pixel_at(x, y)
+        }
+    }
+
+    /// The colour at a point of the screen, where tiles have this side.
+    #[tactic(auto, unfolding(crate::specs::Paintings::shown))]
+    pub(crate) fn colour_at(&self, tile: u32, x: i32, y: i32) -> Colour
+        requires cut { 1 ≤ tile }
+        requires screen { IsOnScreen x y }
+        ensures { result ≡ shown tile x y self.now }
+    {
+        if !self.area.contains(Point { x, y }) {
+            return Colour::CLEAR;
+        }
+        let across = back(x, self.by.x);
+        let down = back(y, self.by.y);
+        self.colour_there(tile, across, down)
+    }
+}

@@ -1,0 +1,231 @@
+//! The commands that may part the layers of an effect: adding and moving a layer.
+
+ghost use Rattle.std.specs.Prelude.{◌≡◌, ◌≤◌, ◌<◌, ℕ, [], length, map, insert, IfOk, ◌==◌};
+ghost use Rattle.std.specs.Bool.{Decides};
+ghost use Rattle.page_properties.specs.Nesting.{AreNested};
+ghost use Rattle.page_layers.specs.Effects.{after};
+ghost use Rattle.std.specs.List.{list_any};
+ghost use Rattle.page_layers.specs.declared.command.Command.TheVariants as command;
+ghost use Rattle.page_layers.specs.Layers.{PageLayer, parts_of, moved};
+ghost use Rattle.page_layers.specs.inner.FoundPlaces.{StandsAt};
+ghost use Rattle.page_layers.specs.Refusals as refusals;
+ghost use Rattle.page_layers.specs.Outcomes.{StandTogether, Outcome};
+
+use super::LayerTree;
+use crate::fault::{EditError, EditFault};
+use crate::layer::Layer;
+use crate::limits::{MAX_LAYERS, is_id, is_size, require};
+use crate::{layers, listing};
+use page_display_list::DisplayList;
+use pixel::Colour;
+use region::Changes;
+use std::alloc::{AllocError, Global};
+use std::sync::Arc;
+
+// The effects of layers, in their order.
+fn effects_of(alloc: Global, layers: &[Layer]) -> Result<Vec<u32>, AllocError>
+    ensures { IfOk result (λ effects. effects.items ≡ map (λ l. l.effect) layers.now) }
+{
+    layers.iter().map(|layer| layer.effect).collect(alloc)
+}
+
+// The effects of the layers with this one taken out and inserted at a place of the others.
+fn effects_moved(
+    alloc: Global,
+    layers: &[Layer],
+    id: u32,
+    at: usize,
+) -> Result<Vec<u32>, AllocError>
+    requires { at < length layers.now }
+    ensures { IfOk result (λ effects. effects.items ≡ map (λ l. l.effect) (moved id at (map parts_of layers.now))) }
+{
+    match layers::place_of(layers, id) {
+        Some(place) => moved_effects(alloc, layers, place, at),
+        None => effects_of(alloc, layers),
+    }
+}
+
+// A display list without items.
+fn empty_list(alloc: Global) -> Result<Arc<DisplayList>, AllocError>
+    ensures { IfOk result (λ list. list.value ≡ []) }
+{
+    let list = Arc::new(alloc, DisplayList::new(alloc))?;
+    Ok(list)
+}
+
+// How many layers there are.
+fn count_of(layers: &[Layer]) -> usize
+    ensures { result ≡ length (map parts_of layers.now) }
+{
+    layers.len()
+}
+
+// The effects of the layers with one more at a place.
+fn effects_with(
+    alloc: Global,
+    layers: &[Layer],
+    at: usize,
+    effect: u32,
+) -> Result<Vec<u32>, AllocError>
+    requires { at ≤ length layers.now }
+    ensures { IfOk result (λ effects. effects.items ≡ insert (map (λ l. l.effect) layers.now) at effect) }
+{
+    let mut effects = effects_of(alloc, layers)?;
+    effects.insert(at, effect)?;
+    Ok(effects)
+}
+
+// The effects of the layers with that at a place taken out and inserted at a place of the others.
+fn moved_effects(
+    alloc: Global,
+    layers: &[Layer],
+    place: usize,
+    at: usize,
+) -> Result<Vec<u32>, AllocError>
+    requires from { place < length layers.now }
+    requires to { at < length layers.now }
+    ensures { IfOk result (λ effects. (id : ℕ) → StandsAt id layers.now place →
+        effects.items ≡ map (λ l. l.effect) (moved id at (map parts_of layers.now))) }
+{
+    let mut effects = effects_of(alloc, layers)?;
+    let effect = effects.remove(place);
+    effects.insert(at, effect)?;
+    Ok(effects)
+}
+
+impl LayerTree {
+    // How many layers there are.
+    fn count(&self) -> usize
+        ensures { result ≡ length self.now.layers }
+    {
+        count_of(self.layers.as_slice())
+    }
+
+    // Whether a layer ever had this id.
+    fn was_used(&self, id: u32) -> bool
+        ensures { result ≡ list_any (λ u. u == id) self.now.used }
+    {
+        self.used.contains(&id)
+    }
+
+    #[tactic(auto, unfolding(crate::specs::Refusals::add_layer_test))]
+    fn may_add_layer(
+        &self,
+        id: u32,
+        at: u32,
+        transform: u32,
+        clip: u32,
+        effect: u32,
+        w: u32,
+        h: u32,
+        colour: Colour,
+    ) -> Result<(), EditFault>
+        ensures { result ≡ refusals.add_layer_test self.now (record { id = id; transform = transform; clip = clip; effect = effect; w = w; h = h; colour = colour; items = [] }) at }
+    {
+        let transform_known = self.is_transform(transform);
+        let clip_known = self.is_clip(clip);
+        let effect_known = self.is_effect(effect);
+        let placed = transform_known && clip_known;
+        require(placed && effect_known, EditFault::UnknownId)?;
+        require(!self.was_used(id), EditFault::IdUsed)?;
+        let count = self.count();
+        require(at as usize <= count, EditFault::BadPlace)?;
+        require(
+            count < MAX_LAYERS as usize,
+            EditFault::TooMany { limit: MAX_LAYERS },
+        )?;
+        is_id(id)?;
+        is_size(w, h)
+    }
+
+    #[tactic(auto, unfolding(crate::specs::Refusals::move_layer_test))]
+    fn may_move_layer(&self, id: u32, at: u32) -> Result<(), EditFault>
+        ensures { result ≡ refusals.move_layer_test self.now id at }
+    {
+        require(
+            layers::has_layer(self.layers.as_slice(), id),
+            EditFault::UnknownId,
+        )?;
+        require((at as usize) < self.count(), EditFault::BadPlace)
+    }
+
+    // Whether the layers would stand together with one moved.
+    fn stands_moved(&self, id: u32, at: u32) -> Result<bool, AllocError>
+        requires { at < length self.now.layers }
+        ensures { IfOk result (λ together. Decides together (StandTogether (after self.now (command.MoveLayer id at)))) }
+    {
+        let layers = self.layers.as_slice();
+        let effects = effects_moved(*self.layers.allocator(), layers, id, at as usize)?;
+        let list = effects.as_slice();
+        let together = self.props.is_nested(list);
+        Ok(together)
+    }
+
+    /// Moves a layer. It is taken out and put in within the memory that the list has.
+    pub(crate) fn move_layer(&mut self, id: u32, at: u32) -> Result<Changes, EditError>
+        ensures { Outcome self.old (command.MoveLayer id at) self.new result }
+    {
+        self.may_move_layer(id, at)?;
+        let together = self.stands_moved(id, at)?;
+        if together {
+            layers::reorder(&mut self.layers, id, at as usize);
+            Ok(self.unlisted())
+        } else {
+            Err(EditError::Refused(EditFault::NotNested))
+        }
+    }
+
+    // Whether the layers would stand together with one more.
+    fn stands_with(&self, at: u32, effect: u32) -> Result<bool, AllocError>
+        requires { at ≤ length self.now.layers }
+        ensures { IfOk result (λ together. (l : PageLayer) → l.effect ≡ effect → Decides together (AreNested self.now.props.effects (map (λ k. k.effect) (insert self.now.layers at l)))) }
+    {
+        let layers = self.layers.as_slice();
+        let effects = effects_with(*self.layers.allocator(), layers, at as usize, effect)?;
+        let list = effects.as_slice();
+        let together = self.props.is_nested(list);
+        Ok(together)
+    }
+
+    /// Adds a layer with an empty display list.
+    pub(crate) fn add_layer(
+        &mut self,
+        id: u32,
+        at: u32,
+        transform: u32,
+        clip: u32,
+        effect: u32,
+        w: u32,
+        h: u32,
+        colour: Colour,
+    ) -> Result<Changes, EditError>
+        ensures { Outcome self.old (command.AddLayer id at transform clip effect w h colour) self.new result }
+    {
+        self.may_add_layer(id, at, transform, clip, effect, w, h, colour)?;
+        let together = self.stands_with(at, effect)?;
+        if together {
+            let alloc = *self.layers.allocator();
+            let changes = listing::whole(alloc, id)?;
+            let list = empty_list(alloc)?;
+            self.used.reserve(1)?;
+            let layer = Layer {
+                id,
+                transform,
+                clip,
+                effect,
+                w,
+                h,
+                colour,
+                list,
+            };
+            layers::put_in(&mut self.layers, at as usize, layer)?;
+            match self.used.push(id) {
+                Ok(()) => (),
+                Err(_) => unreachable!(),
+            }
+            Ok(changes)
+        } else {
+            Err(EditError::Refused(EditFault::NotNested))
+        }
+    }
+}

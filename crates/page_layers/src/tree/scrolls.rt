@@ -1,0 +1,240 @@
+//! Commands on scrollers, and their main values.
+
+ghost use Rattle.std.specs.Prelude.{◌≡◌, ◌≤◌, ◌^◌, pos, neg_ℤ, ◌+ℤ◌, ◌-ℤ◌, ◌<ℤ◌, ◌≤ℤ◌, IsTrue};
+ghost use Rattle.page_layers.specs.declared.command.Command.TheVariants as command;
+ghost use Rattle.page_layers.specs.Refusals as refusals;
+ghost use Rattle.page_properties.specs.OffsetMap.{IsOffset};
+ghost use Rattle.page_properties.specs.Placement.{minus};
+ghost use Rattle.page_properties.specs.Entries.{find, knows};
+ghost use Rattle.page_layers.specs.Effects.{value_of, scrolled_to, scrolled_by};
+ghost use Rattle.page_layers.specs.Scrolls as scrolls;
+ghost use Rattle.page_layers.specs.inner.Tested.{Tested};
+
+use super::LayerTree;
+use crate::fault::{EditError, EditFault};
+use crate::limits::{MAX_NODES, is_id, is_scroll, is_scroll_range, require};
+use crate::scroll::{clamp_to, set_value, value_in};
+use geom::Point;
+use page_properties::ScrollNode;
+use region::Changes;
+
+// A place clamped to a scroll range.
+fn clamped(max_x: u32, max_y: u32, x: i64, y: i64) -> Point
+    requires across { max_x ≤ 1048576 }
+    requires down { max_y ≤ 1048576 }
+    ensures { result ≡ record { x = scrolls.clamp_to max_x x; y = scrolls.clamp_to max_y y } }
+{
+    let x = clamp_to(max_x, x);
+    let y = clamp_to(max_y, y);
+    Point { x, y }
+}
+
+// The value of a scroller, clamped to another range.
+fn value_within(values: &[(u32, Point)], id: u32, max_x: u32, max_y: u32) -> Point
+    requires across { max_x ≤ 1048576 }
+    requires down { max_y ≤ 1048576 }
+    ensures { let old = scrolls.or_origin (find id values.now) in
+        result ≡ record { x = scrolls.clamp_to max_x old.x; y = scrolls.clamp_to max_y old.y } }
+{
+    let old = value_in(values, id);
+    clamped_point(max_x, max_y, old.x, old.y)
+}
+
+// A place of 32 bits clamped to a scroll range.
+fn clamped_point(max_x: u32, max_y: u32, x: i32, y: i32) -> Point
+    requires across { max_x ≤ 1048576 }
+    requires down { max_y ≤ 1048576 }
+    ensures { result ≡ record { x = scrolls.clamp_to max_x x; y = scrolls.clamp_to max_y y } }
+{
+    let x = clamp_to(max_x, x as i64);
+    let y = clamp_to(max_y, y as i64);
+    Point { x, y }
+}
+
+// A coordinate moved by an amount.
+fn sum(at: i32, by: i64) -> i64
+    requires low { neg_ℤ (pos (2 ^ 39)) <ℤ by }
+    requires high { by <ℤ pos (2 ^ 39) }
+    ensures { result ≡ at +ℤ by }
+{
+    at as i64 + by
+}
+
+// How far one point is from another.
+fn difference(new: Point, old: Point) -> Point
+    requires first { IsOffset new }
+    requires second { IsOffset old }
+    ensures { result ≡ minus new old }
+{
+    let x = gap(new.x, old.x);
+    let y = gap(new.y, old.y);
+    Point { x, y }
+}
+
+// How far one coordinate is from another.
+fn gap(new: i32, old: i32) -> i32
+    requires low { pos 0 ≤ℤ new }
+    requires high { new ≤ℤ pos (2 ^ 20) }
+    requires old_low { pos 0 ≤ℤ old }
+    requires old_high { old ≤ℤ pos (2 ^ 20) }
+    ensures { result ≡ new -ℤ old }
+{
+    new - old
+}
+
+impl LayerTree {
+    /// The main value of a scroller; (0, 0) where the tree has no such scroller.
+    pub fn value(&self, id: u32) -> Point
+        ensures value { result ≡ value_of self.now id }
+        ensures in_range { IsOffset result }
+    {
+        value_in(self.values.as_slice(), id)
+    }
+
+    #[tactic(auto, unfolding(crate::specs::Refusals::add_scroller_test, crate::specs::Refusals::takes))]
+    fn may_add_scroller(
+        &self,
+        id: u32,
+        parent: u32,
+        max_x: u32,
+        max_y: u32,
+    ) -> Result<(), EditFault>
+        ensures { result ≡ refusals.add_scroller_test self.now id parent max_x max_y }
+    {
+        require(self.is_scroller(parent), EditFault::UnknownId)?;
+        require(self.props.scroller(id).is_none(), EditFault::IdUsed)?;
+        require(
+            self.props.scrollers() < MAX_NODES as usize,
+            EditFault::TooMany { limit: MAX_NODES },
+        )?;
+        is_id(id)?;
+        is_scroll_range(max_x, max_y)
+    }
+
+    pub(crate) fn add_scroller(
+        &mut self,
+        id: u32,
+        parent: u32,
+        max_x: u32,
+        max_y: u32,
+    ) -> Result<Changes, EditError>
+        ensures { Tested self.old (command.AddScroller id parent max_x max_y) self.new result }
+    {
+        self.may_add_scroller(id, parent, max_x, max_y)?;
+        self.values.reserve(1)?;
+        self.props.add_scroller(
+            id,
+            ScrollNode {
+                parent,
+                max_x,
+                max_y,
+            },
+        )?;
+        match self.values.insert(0, (id, Point { x: 0, y: 0 })) {
+            Ok(()) => (),
+            Err(_) => unreachable!(),
+        }
+        Ok(self.unlisted())
+    }
+
+    // Sets the main value of a scroller, clamped to its range.
+    fn scroll(&mut self, id: u32, x: i64, y: i64)
+        ensures { self.new ≡ scrolled_to self.old id x y }
+    {
+        match self.props.scroller(id) {
+            Some(node) => {
+                let at = clamped(node.max_x, node.max_y, x, y);
+                set_value(&mut self.values, id, at);
+            }
+            None => (),
+        }
+    }
+
+    // Adds to the main value of a scroller, clamped to its range.
+    fn scroll_more(&mut self, id: u32, dx: i64, dy: i64)
+        requires left { neg_ℤ (pos (2 ^ 39)) <ℤ dx }
+        requires right { dx <ℤ pos (2 ^ 39) }
+        requires up { neg_ℤ (pos (2 ^ 39)) <ℤ dy }
+        requires down { dy <ℤ pos (2 ^ 39) }
+        ensures { self.new ≡ scrolled_by self.old id dx dy }
+    {
+        let old = self.value(id);
+        let x = sum(old.x, dx);
+        let y = sum(old.y, dy);
+        self.scroll(id, x, y);
+    }
+
+    #[tactic(auto, unfolding(crate::specs::Refusals::set_range_test))]
+    fn may_set_range(&self, id: u32, max_x: u32, max_y: u32) -> Result<(), EditFault>
+        ensures { result ≡ refusals.set_range_test self.now id max_x max_y }
+    {
+        require(self.props.scroller(id).is_some(), EditFault::UnknownId)?;
+        is_scroll_range(max_x, max_y)
+    }
+
+    #[tactic(auto, unfolding(crate::specs::Refusals::scroll_by_test))]
+    fn may_scroll_by(&self, id: u32, dx: i32, dy: i32) -> Result<(), EditFault>
+        ensures { result ≡ refusals.scroll_by_test self.now id dx dy }
+    {
+        require(self.props.scroller(id).is_some(), EditFault::UnknownId)?;
+        is_scroll(dx, dy)
+    }
+
+    #[tactic(auto, unfolding(crate::specs::Refusals::scroll_to_test))]
+    fn may_scroll_to(&self, id: u32, x: u32, y: u32) -> Result<(), EditFault>
+        ensures { result ≡ refusals.scroll_to_test self.now id x y }
+    {
+        require(self.props.scroller(id).is_some(), EditFault::UnknownId)?;
+        is_scroll_range(x, y)
+    }
+
+    pub(crate) fn scroll_by(&mut self, id: u32, dx: i32, dy: i32) -> Result<Changes, EditError>
+        ensures { Tested self.old (command.ScrollBy id dx dy) self.new result }
+    {
+        self.may_scroll_by(id, dx, dy)?;
+        self.scroll_more(id, dx as i64, dy as i64);
+        Ok(self.unlisted())
+    }
+
+    pub(crate) fn scroll_to(&mut self, id: u32, x: u32, y: u32) -> Result<Changes, EditError>
+        ensures { Tested self.old (command.ScrollTo id x y) self.new result }
+    {
+        self.may_scroll_to(id, x, y)?;
+        self.scroll(id, x as i64, y as i64);
+        Ok(self.unlisted())
+    }
+
+    pub(crate) fn set_range(
+        &mut self,
+        id: u32,
+        max_x: u32,
+        max_y: u32,
+    ) -> Result<Changes, EditError>
+        ensures { Tested self.old (command.SetRange id max_x max_y) self.new result }
+    {
+        self.may_set_range(id, max_x, max_y)?;
+        let values = self.values.as_slice();
+        let at = value_within(values, id, max_x, max_y);
+        self.props.set_range(id, max_x, max_y);
+        set_value(&mut self.values, id, at);
+        Ok(self.unlisted())
+    }
+
+    /// Adds to the main value of a scroller and clamps it to its range; answers the change.
+    ///
+    /// The amounts are below 2^39 in absolute value.
+    pub fn pull(&mut self, id: u32, dx: i64, dy: i64) -> Point
+        requires known { IsTrue (knows id self.old.props.scrollers) }
+        requires left { neg_ℤ (pos (2 ^ 39)) <ℤ dx }
+        requires right { dx <ℤ pos (2 ^ 39) }
+        requires up { neg_ℤ (pos (2 ^ 39)) <ℤ dy }
+        requires down { dy <ℤ pos (2 ^ 39) }
+        ensures tree { self.new ≡ scrolled_by self.old id dx dy }
+        ensures change { result ≡ minus (value_of self.new id) (value_of self.old id) }
+    {
+        let old = self.value(id);
+        self.scroll_more(id, dx, dy);
+        let new = self.value(id);
+        difference(new, old)
+    }
+}

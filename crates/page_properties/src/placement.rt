@@ -1,0 +1,133 @@
+//! Where nodes are placed: translations, clips, and what is drawn at all.
+//!
+//! A node's parent was there before it, so that one pass from the newest node back meets the whole
+//! chain of a node in order.
+
+ghost use Rattle.std.specs.Prelude.{◌≡◌, ◌≤◌, ◌+◌, ◌*◌, ℕ, ℤ, pos, ◌+ℤ◌, ◌-ℤ◌, reverse, IfSome, IsSome, IsTrue, ◌↔◌, List, FitsSigned};
+ghost use Rattle.geom.specs.Covers.{IsSound};
+ghost use Rattle.geom.specs.Gaps.{shifted};
+ghost use Rattle.page_properties.specs.Entries.{knows};
+ghost use Rattle.page_properties.specs.OffsetMap.{offset_at, AreOffsets, IsOffset};
+ghost use Rattle.page_properties.specs.Placement.{both, clip_of, draws, own, plus, scrolled, translation, IsWithin};
+ghost use Rattle.page_properties.specs.Trees.{AreClips, AreTransforms, IsClip, IsTransform};
+ghost use mir.Syntax.{w32};
+
+use crate::nodes::{ClipNode, EffectNode, TransformNode};
+use crate::offsets::Offsets;
+use geom::{Point, Rect};
+
+/// The translation of a transform; (0, 0) for the root.
+pub fn translation_in(
+    nodes: &[(u32, TransformNode)],
+    mut transform: u32,
+    offsets: &Offsets,
+) -> Point
+    requires family { AreTransforms (reverse nodes.now) }
+    requires offsets { AreOffsets (offset_at offsets.now) }
+    ensures value { result ≡ translation (offset_at offsets.now) (reverse nodes.now) transform }
+    ensures near { IsWithin (256 * 1114112) result }
+{
+    let mut sum = Point { x: 0, y: 0 };
+    let mut rest = nodes;
+    while let Some((last, older)) = rest.split_last() {
+        if last.0 == transform {
+            sum = placed(sum, &last.1, scroll_offset(offsets, last.1.scroller));
+            transform = last.1.parent;
+        }
+        rest = older;
+    }
+    sum
+}
+
+/// The offset of a scroller that a transform names; (0, 0) where it names none.
+fn scroll_offset(offsets: &Offsets, scroller: u32) -> Point
+    requires { AreOffsets (offset_at offsets.now) }
+    ensures value { result ≡ scrolled (offset_at offsets.now) scroller }
+    ensures in_range { IsOffset result }
+{
+    if scroller == 0 {
+        Point { x: 0, y: 0 }
+    } else {
+        offsets.get(scroller)
+    }
+}
+
+/// A transform's own translation, added to that of the nodes below it.
+fn placed(below: Point, node: &TransformNode, offset: Point) -> Point
+    requires near { IsWithin (255 * 1114112) below }
+    requires in_range { IsTransform node.now }
+    requires offset { IsOffset offset }
+    ensures across { result.x ≡ below.x +ℤ (node.now.x -ℤ offset.x) }
+    ensures down { result.y ≡ below.y +ℤ (node.now.y -ℤ offset.y) }
+{
+    let x = added(below.x, node.x, offset.x);
+    let y = added(below.y, node.y, offset.y);
+    Point { x, y }
+}
+
+/// The same on one axis.
+fn added(below: i32, at: i32, offset: i32) -> i32
+    requires own { FitsSigned w32 (at -ℤ offset) }
+    requires all { FitsSigned w32 (below +ℤ (at -ℤ offset)) }
+    ensures { result ≡ below +ℤ (at -ℤ offset) }
+{
+    below + (at - offset)
+}
+
+/// The clip of a clip node; None where `clip` is the root.
+pub fn clip_in(
+    nodes: &[(u32, ClipNode)],
+    transforms: &[(u32, TransformNode)],
+    mut clip: u32,
+    offsets: &Offsets,
+) -> Option<Rect>
+    requires family { AreClips (reverse nodes.now) }
+    requires transforms { AreTransforms (reverse transforms.now) }
+    requires offsets { AreOffsets (offset_at offsets.now) }
+    ensures value { result ≡ clip_of (offset_at offsets.now) (reverse transforms.now) (reverse nodes.now) clip }
+    ensures sound { IfSome result IsSound }
+{
+    let mut inner = None;
+    let mut rest = nodes;
+    while let Some((last, older)) = rest.split_last() {
+        if last.0 == clip {
+            let by = translation_in(transforms, last.1.transform, offsets);
+            inner = Some(narrowed(&last.1, by, inner));
+            clip = last.1.parent;
+        }
+        rest = older;
+    }
+    inner
+}
+
+/// The part of a moved clip that the clips below it leave.
+fn narrowed(node: &ClipNode, by: Point, inner: Option<Rect>) -> Rect
+    requires in_range { IsClip node.now }
+    requires near { IsWithin (256 * 1114112) by }
+    requires inner_sound { IfSome inner IsSound }
+    ensures value { Some result ≡ both (Some (shifted node.now.rect by)) inner }
+    ensures sound { IsSound result }
+{
+    let moved = node.rect.shift(by);
+    match inner {
+        Some(inner) => moved.intersect(inner),
+        None => moved,
+    }
+}
+
+/// Whether neither an effect nor one above it has opacity 0.
+pub fn draws_in(nodes: &[(u32, EffectNode)], mut effect: u32) -> bool
+    ensures { result ≡ draws (reverse nodes.now) effect }
+{
+    let mut rest = nodes;
+    while let Some((last, older)) = rest.split_last() {
+        if last.0 == effect {
+            if last.1.opacity == 0 {
+                return false;
+            }
+            effect = last.1.parent;
+        }
+        rest = older;
+    }
+    true
+}

@@ -1,0 +1,16 @@
+-- The run with the colour over it stands in place of the run before.
+use Rattle.std.proofs.Common.{◌+◌, ◌-◌, ◌*◌, take, drop, arith, ap, ◌∙◌}
+use Rattle.pixel.specs.Colours.{blend}
+use Rattle.pixel.specs.Rows.{pixel}
+use Rattle.pixel.proofs.Parts.{part_made, run_length, laid_pixel}
+use Rattle.pixel.proofs.surface.colour_over_part.Goals as goal
+
+pub returns : goal.returns
+returns c =
+    let long = run_length c.args.k c.args.n c.args.surface.now (omega arith) in
+    let old = take (4 * (c.args.k + c.args.n) - 4 * c.args.k) (drop (4 * c.args.k) c.args.surface.now) in
+    part_made c.args.k c.args.n (λ j below. blend below c.args.colour) c.args.surface.now c.over_row.new.dst (omega arith) (omega arith)
+    (λ j lt.
+    laid_pixel (4 * c.args.n) old c.args.source.now c.over_row.new.dst (λ i short. c.over_row.ensures.bytes i (omega (arith, long))) j (omega arith)
+    ∙ ap (blend (pixel old j)) (c.requires.same j lt))
+    c.over_row.ensures.premultiplied

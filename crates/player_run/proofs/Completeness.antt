@@ -1,0 +1,127 @@
+-- What a use takes is not refused.
+use Rattle.std.proofs.Common.{◌≡◌, ℕ, List, None, Some, Ok, Err, ap, sym, ◌∙◌, arith, subst}
+use Rattle.std.specs.Prelude.{Option, Result, IfOk}
+use Rattle.player_io.specs.Counts.{Rose}
+use Rattle.serde_json.specs.Data.{Data}
+use Rattle.serde_json.specs.Read.{read}
+use Rattle.model_history.specs.Scripts.{ScriptModel}
+use Rattle.model_history.specs.Frames.{blank}
+use Rattle.model_history.specs.Accepted.{TakesFrames}
+use Rattle.model_history.proofs.Exclusion.{frames_taken}
+use Rattle.script_json.specs.Causes.{IsTextOf}
+use Rattle.script_json.specs.Reading.{parts_at}
+use Rattle.script_json.proofs.ScriptLaws.{one_script}
+use Rattle.recording_check.proofs.LegalRecordings.{legal_not_wrong, legal_not_bad}
+use Rattle.recording_check.proofs.OneReading.{not_bad}
+use Rattle.player_run.specs.declared.outcome.Outcome.{Outcome}
+use Rattle.player_run.specs.declared.outcome.Outcome.TheVariants.{Done, Usage, Json, Shape, Script, ReadFault, WriteFault, TooLong, BadRecording, No, Memory}
+use Rattle.player_run.specs.declared.words.Use.{Use}
+use Rattle.player_run.specs.declared.words.Use.TheVariants.{Step, Play, Gen, Demo, Frames, Check}
+use Rattle.player_run.specs.Runs.{TellsMisfit, IsAcceptedText, Takes, RefusedScript, RefusedRecording, RefusedHistory, Refused, CauseOf, CauseFrom, IsUnread, Causes, IsComplete, IsDone}
+
+-- a text of a script has no first fault
+not_at_fault : (bytes : List ℕ) → IsAcceptedText bytes → (d : Data) → IsTextOf bytes d → (place : _) → parts_at d ≡ Err place → ⊥
+not_at_fault bytes good d text place fault =
+    let same : d ≡ good.1.0 = cc (text.1, good.1.1.1) in
+    let reading : parts_at d ≡ Ok good.0 = ap parts_at same ∙ good.1.2 in
+    cc (reading, fault)
+
+-- a script that is accepted is not refused
+script_taken : (workers : ℕ) (bytes : List ℕ) (result : Outcome) → Takes (Step workers) bytes → RefusedScript bytes result → ⊥
+script_taken workers bytes Json (few, good) (short, none) = let nothing : read bytes ≡ None = none good.1.1.0 in absurd (cc (nothing, good.1.1.1))
+script_taken workers bytes (Shape place) (few, good) (short, d, text, fault) = not_at_fault bytes good d text place fault
+script_taken workers bytes (Script frame command fault) (few, good) (short, s, text, refused) =
+    let same : s ≡ good.0 = one_script bytes s good.0 text good.1 in
+    let taken : TakesFrames (blank s) s.main = subst (λ (t : ScriptModel). TakesFrames (blank t) t.main) (sym same) good.2.commands in
+    frames_taken (blank s) s.main frame command fault taken refused
+script_taken workers bytes (TooLong limit) (few, good) (is, long) = omega (arith, few, long)
+script_taken workers bytes Done takes refused = refused
+script_taken workers bytes (Usage word) takes refused = refused
+script_taken workers bytes ReadFault takes refused = refused
+script_taken workers bytes WriteFault takes refused = refused
+script_taken workers bytes (BadRecording place) takes refused = refused
+script_taken workers bytes (No event) takes refused = refused
+script_taken workers bytes Memory takes refused = refused
+
+-- nor is a recording
+recording_taken : (bytes : List ℕ) (result : Outcome) → Takes Frames bytes → RefusedRecording bytes result → ⊥
+recording_taken bytes (BadRecording place) (few, (s, ps, is)) (short, bad) = not_bad bytes s ps place is bad
+recording_taken bytes (TooLong limit) (few, good) (is, long) = omega (arith, few, long)
+recording_taken bytes Done takes refused = refused
+recording_taken bytes (Usage word) takes refused = refused
+recording_taken bytes Json takes refused = refused
+recording_taken bytes (Shape place) takes refused = refused
+recording_taken bytes (Script frame command why) takes refused = refused
+recording_taken bytes ReadFault takes refused = refused
+recording_taken bytes WriteFault takes refused = refused
+recording_taken bytes (No event) takes refused = refused
+recording_taken bytes Memory takes refused = refused
+
+-- nor is that of a legal history
+history_taken : (bytes : List ℕ) (result : Outcome) → Takes Check bytes → RefusedHistory bytes result → ⊥
+history_taken bytes (No event) (few, good) (short, wrong) = legal_not_wrong 16 bytes event good wrong
+history_taken bytes (BadRecording place) (few, good) (short, bad) = legal_not_bad 16 bytes place good bad
+history_taken bytes (TooLong limit) (few, good) (is, long) = omega (arith, few, long)
+history_taken bytes Done takes refused = refused
+history_taken bytes (Usage word) takes refused = refused
+history_taken bytes Json takes refused = refused
+history_taken bytes (Shape place) takes refused = refused
+history_taken bytes (Script frame command why) takes refused = refused
+history_taken bytes ReadFault takes refused = refused
+history_taken bytes WriteFault takes refused = refused
+history_taken bytes Memory takes refused = refused
+
+-- nor is what a use takes
+not_refused : (wanted : Use) (bytes : List ℕ) (result : Outcome) → Takes wanted bytes → Refused wanted bytes result → ⊥
+not_refused (Step workers) bytes result takes refused = script_taken workers bytes result takes refused
+not_refused (Play workers) bytes result takes refused = script_taken workers bytes result takes refused
+not_refused (Gen number) bytes result takes refused = refused
+not_refused (Demo number) bytes result takes refused = refused
+not_refused Frames bytes result takes refused = recording_taken bytes result takes refused
+not_refused Check bytes result takes refused = history_taken bytes result takes refused
+
+done : (wanted : Use) (bytes : List ℕ) (source_old source_new out_old out_new : ℕ) (result : Outcome) → TellsMisfit (Ok wanted) result → CauseOf wanted bytes result → Causes source_old source_new out_old out_new result
+    → Takes wanted bytes → (Rose source_old source_new → ⊥) → (Rose out_old out_new → ⊥) → IsDone result
+done wanted bytes a b c e Done fits cause faults takes calm_source calm_out = tt
+done wanted bytes a b c e (Usage word) fits cause faults takes calm_source calm_out = absurd fits
+done wanted bytes a b c e Json fits cause faults takes calm_source calm_out = absurd (not_refused wanted bytes Json takes cause)
+done wanted bytes a b c e (Shape fault) fits cause faults takes calm_source calm_out = absurd (not_refused wanted bytes (Shape fault) takes cause)
+done wanted bytes a b c e (Script frame command why) fits cause faults takes calm_source calm_out = absurd (not_refused wanted bytes (Script frame command why) takes cause)
+done wanted bytes a b c e ReadFault fits cause faults takes calm_source calm_out = absurd (calm_source faults)
+done wanted bytes a b c e WriteFault fits cause faults takes calm_source calm_out = absurd (calm_out faults)
+done wanted bytes a b c e (TooLong limit) fits cause faults takes calm_source calm_out = absurd (not_refused wanted bytes (TooLong limit) takes cause)
+done wanted bytes a b c e (BadRecording place) fits cause faults takes calm_source calm_out = absurd (not_refused wanted bytes (BadRecording place) takes cause)
+done wanted bytes a b c e (No event) fits cause faults takes calm_source calm_out = absurd (not_refused wanted bytes (No event) takes cause)
+done wanted bytes a b c e Memory fits cause faults takes calm_source calm_out = tt
+
+-- a use that reads nothing is done but for a fault of the sink
+unread_done : (source_old source_new out_old out_new : ℕ) (result : Outcome) → IsUnread result → Causes source_old source_new out_old out_new result → (Rose out_old out_new → ⊥) → IsDone result
+unread_done a b c e Done unread faults calm = tt
+unread_done a b c e Memory unread faults calm = tt
+unread_done a b c e WriteFault unread faults calm = absurd (calm faults)
+unread_done a b c e (Usage word) unread faults calm = absurd unread
+unread_done a b c e Json unread faults calm = absurd unread
+unread_done a b c e (Shape fault) unread faults calm = absurd unread
+unread_done a b c e (Script frame command why) unread faults calm = absurd unread
+unread_done a b c e ReadFault unread faults calm = absurd unread
+unread_done a b c e (TooLong limit) unread faults calm = absurd unread
+unread_done a b c e (BadRecording place) unread faults calm = absurd unread
+unread_done a b c e (No event) unread faults calm = absurd unread
+
+complete_use : (wanted : Use) (source : Option (List ℕ)) (source_old source_new out_old out_new : ℕ) (result : Outcome) → TellsMisfit (Ok wanted) result → CauseFrom wanted source result → Causes source_old source_new out_old out_new result
+    → IsComplete wanted source source_old source_new out_old out_new result
+complete_use (Gen number) source a b c e result fits cause faults = λ calm_source calm_out. unread_done a b c e result cause faults calm_out
+complete_use (Demo number) source a b c e result fits cause faults = λ calm_source calm_out. unread_done a b c e result cause faults calm_out
+complete_use (Step workers) None a b c e result fits cause faults = tt
+complete_use (Step workers) (Some bytes) a b c e result fits cause faults = λ takes calm_source calm_out. done (Step workers) bytes a b c e result fits cause faults takes calm_source calm_out
+complete_use (Play workers) None a b c e result fits cause faults = tt
+complete_use (Play workers) (Some bytes) a b c e result fits cause faults = λ takes calm_source calm_out. done (Play workers) bytes a b c e result fits cause faults takes calm_source calm_out
+complete_use Frames None a b c e result fits cause faults = tt
+complete_use Frames (Some bytes) a b c e result fits cause faults = λ takes calm_source calm_out. done Frames bytes a b c e result fits cause faults takes calm_source calm_out
+complete_use Check None a b c e result fits cause faults = tt
+complete_use Check (Some bytes) a b c e result fits cause faults = λ takes calm_source calm_out. done Check bytes a b c e result fits cause faults takes calm_source calm_out
+
+pub complete : (asked : Result Use ℕ) (source : Option (List ℕ)) (source_old source_new out_old out_new : ℕ) (result : Outcome) → TellsMisfit asked result → IfOk asked (λ wanted. CauseFrom wanted source result) → Causes source_old source_new out_old out_new result
+    → IfOk asked (λ wanted. IsComplete wanted source source_old source_new out_old out_new result)
+complete (Err word) source a b c e result fits cause faults = tt
+complete (Ok wanted) source a b c e result fits cause faults = complete_use wanted source a b c e result fits cause faults

@@ -1,0 +1,61 @@
+-- What was written is what the use writes.
+use Rattle.std.proofs.Common.{ℕ, List, inl, inr, Ok}
+use Rattle.std.specs.Prelude.{Option}
+use Rattle.player_run.specs.declared.outcome.Outcome.{Outcome}
+use Rattle.player_run.specs.declared.outcome.Outcome.TheVariants.{Done, Usage, Json, Shape, Script, ReadFault, WriteFault, TooLong, BadRecording, No, Memory}
+use Rattle.player_run.specs.declared.words.Use.{Use}
+use Rattle.player_run.specs.declared.words.Use.TheVariants.{Step, Play, Gen, Demo, Frames, Check}
+use Rattle.player_run.specs.inner.Outputs.{WritesSome}
+use Rattle.player_run.specs.Runs.{TellsMisfit, IsUnread, IsOutput, IsBegun, Writes}
+
+-- the words are no matter of it
+pub some_words : (P : List ℕ → Type 0) (wanted : Use) (old new : Option (List ℕ)) (o : Outcome) → WritesSome P old new o → TellsMisfit (Ok wanted) o
+some_words P wanted old new Done wrote = tt
+some_words P wanted old new WriteFault wrote = tt
+some_words P wanted old new Memory wrote = tt
+some_words P wanted old new (Usage word) wrote = absurd wrote
+some_words P wanted old new Json wrote = tt
+some_words P wanted old new (Shape fault) wrote = tt
+some_words P wanted old new (Script frame command why) wrote = tt
+some_words P wanted old new ReadFault wrote = tt
+some_words P wanted old new (TooLong limit) wrote = tt
+some_words P wanted old new (BadRecording place) wrote = tt
+some_words P wanted old new (No event) wrote = tt
+
+-- nor is what the source has
+pub some_unread : (P : List ℕ → Type 0) (old new : Option (List ℕ)) (o : Outcome) → WritesSome P old new o → IsUnread o
+some_unread P old new Done wrote = tt
+some_unread P old new WriteFault wrote = tt
+some_unread P old new Memory wrote = tt
+some_unread P old new (Usage word) wrote = absurd wrote
+some_unread P old new Json wrote = absurd wrote
+some_unread P old new (Shape fault) wrote = absurd wrote
+some_unread P old new (Script frame command why) wrote = absurd wrote
+some_unread P old new ReadFault wrote = absurd wrote
+some_unread P old new (TooLong limit) wrote = absurd wrote
+some_unread P old new (BadRecording place) wrote = absurd wrote
+some_unread P old new (No event) wrote = absurd wrote
+
+-- what a use writes in all, it was writing
+begun_is : (wanted : Use) (source : Option (List ℕ)) (whole : List ℕ) → IsOutput wanted source whole → IsBegun wanted source whole
+begun_is (Step workers) source whole is = is
+begun_is (Play workers) source whole (s, from, (h, played, is)) = (s, from, (h, played.sound, is))
+begun_is (Gen number) source whole is = is
+begun_is (Demo number) source whole is = is
+begun_is Frames source whole is = is
+begun_is Check source whole is = is
+
+-- the sink gained what the use writes
+pub some_output : (P : List ℕ → Type 0) (wanted : Use) (source old new : Option (List ℕ)) (o : Outcome) → ((whole : List ℕ) → P whole → IsOutput wanted source whole) → WritesSome P old new o → Writes wanted source old new o
+some_output P wanted source old new Done is wrote = (wrote.0, is wrote.0 wrote.1, wrote.2)
+some_output P wanted source old new WriteFault is wrote = (wrote.0, begun_is wanted source wrote.0 (is wrote.0 wrote.1), wrote.2)
+some_output P wanted source old new Memory is (inl same) = inl same
+some_output P wanted source old new Memory is (inr wrote) = inr (wrote.0, begun_is wanted source wrote.0 (is wrote.0 wrote.1), wrote.2)
+some_output P wanted source old new (Usage word) is wrote = absurd wrote
+some_output P wanted source old new Json is wrote = absurd wrote
+some_output P wanted source old new (Shape fault) is wrote = absurd wrote
+some_output P wanted source old new (Script frame command why) is wrote = absurd wrote
+some_output P wanted source old new ReadFault is wrote = absurd wrote
+some_output P wanted source old new (TooLong limit) is wrote = absurd wrote
+some_output P wanted source old new (BadRecording place) is wrote = absurd wrote
+some_output P wanted source old new (No event) is wrote = absurd wrote

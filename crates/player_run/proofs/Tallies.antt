@@ -1,0 +1,47 @@
+-- The counts of a history, entry by entry.
+use Rattle.std.proofs.Common.{◌≡◌, ℕ, zero, suc, ◌+◌, ◌≤◌, ◌⊎◌, inl, inr, List, [], ◌∷◌, length, drop, Some, refl, ap, sym, arith, add-one}
+use Rattle.std.specs.List.{slice_get}
+use Rattle.model_history.specs.declared.history.Entry.{Entry}
+use Rattle.player_run.specs.Demos.{images, missing, images_in, missing_in}
+
+-- an entry that stands at a place is the first of those from there on
+entry_first : (xs : List Entry) (at : ℕ) (e : Entry) → slice_get xs at ≡ Some e → drop at xs ≡ e ∷ drop (suc at) xs
+entry_first [] at e is = absurd (cc is)
+entry_first (x ∷ xs) zero e is = cc is
+entry_first (x ∷ xs) (suc at) e is = entry_first xs at e is
+
+-- none stands behind all
+none_left : (xs : List Entry) (at : ℕ) → length xs ≤ at → drop at xs ≡ []
+none_left [] zero le = refl
+none_left [] (suc at) le = refl
+none_left (x ∷ xs) zero le = absurd (omega (arith, le))
+none_left (x ∷ xs) (suc at) le = none_left xs at (omega (arith, le))
+
+-- one entry more is counted
+pub images_more : (xs : List Entry) (at : ℕ) (e : Entry) (before after whole : ℕ) → slice_get xs at ≡ Some e → after ≡ before + images_in e.event → before + images (drop at xs) ≡ whole → after + images (drop (at + 1) xs) ≡ whole
+images_more xs at e before after whole is more all =
+    let first : images (drop at xs) ≡ images_in e.event + images (drop (suc at) xs) = ap images (entry_first xs at e is) in
+    let next : images (drop (suc at) xs) ≡ images (drop (at + 1) xs) = ap (λ (n : ℕ). images (drop n xs)) (sym (add-one at)) in
+    omega (arith, first, next, more, all)
+
+pub missing_more : (xs : List Entry) (at : ℕ) (e : Entry) (before after whole : ℕ) → slice_get xs at ≡ Some e → after ≡ before + missing_in e.event → before + missing (drop at xs) ≡ whole → after + missing (drop (at + 1) xs) ≡ whole
+missing_more xs at e before after whole is more all =
+    let first : missing (drop at xs) ≡ missing_in e.event + missing (drop (suc at) xs) = ap missing (entry_first xs at e is) in
+    let next : missing (drop (suc at) xs) ≡ missing (drop (at + 1) xs) = ap (λ (n : ℕ). missing (drop n xs)) (sym (add-one at)) in
+    omega (arith, first, next, more, all)
+
+-- all entries are counted
+pub images_whole : (xs : List Entry) (at before whole : ℕ) → length xs ≤ at → before + images (drop at xs) ≡ whole → before ≡ whole
+images_whole xs at before whole le all = let none : images (drop at xs) ≡ 0 = ap images (none_left xs at le) in omega (arith, none, all)
+
+pub missing_whole : (xs : List Entry) (at before whole : ℕ) → length xs ≤ at → before + missing (drop at xs) ≡ whole → before ≡ whole
+missing_whole xs at before whole le all = let none : missing (drop at xs) ≡ 0 = ap missing (none_left xs at le) in omega (arith, none, all)
+
+-- what is over with the entry in hand is over with all
+pub over_whole : (xs : List Entry) (at : ℕ) (e : Entry) (limit seen lacking : ℕ) → slice_get xs at ≡ Some e → seen + images (drop at xs) ≡ images xs → lacking + missing (drop at xs) ≡ missing xs → limit ≤ seen + images_in e.event ⊎ limit ≤ lacking + missing_in e.event → limit ≤ images xs ⊎ limit ≤ missing xs
+over_whole xs at e limit seen lacking is seen-all lacking-all (inl over) =
+    let all : (seen + images_in e.event) + images (drop (at + 1) xs) ≡ images xs = images_more xs at e seen (seen + images_in e.event) (images xs) is refl seen-all in
+    inl (omega (arith, all, over))
+over_whole xs at e limit seen lacking is seen-all lacking-all (inr over) =
+    let all : (lacking + missing_in e.event) + missing (drop (at + 1) xs) ≡ missing xs = missing_more xs at e lacking (lacking + missing_in e.event) (missing xs) is refl lacking-all in
+    inr (omega (arith, all, over))

@@ -1,0 +1,26 @@
+-- What was written is what the use writes.
+use Rattle.std.proofs.Common.{sym, subst}
+use Rattle.player_run.specs.declared.words.Use.{Use}
+use Rattle.player_run.specs.Runs.{Writes}
+use Rattle.player_run.proofs.JudgedInputs.{nothing_written}
+use Rattle.player_run.proofs.program.run_use.Goals as goal
+
+pub returns-in-Step-clause-output : goal.returns-in-Step-clause-output
+returns-in-Step-clause-output g c =
+    subst (λ (u : Use). Writes u (g.S.Source.left c.args.source.now) (g.K.Sink.held c.args.out.now) (g.K.Sink.held c.run_step.new.out) c.run_step.result) (sym c.in-Step.is) c.run_step.ensures.output
+
+pub returns-in-Frames-clause-output : goal.returns-in-Frames-clause-output
+returns-in-Frames-clause-output g c =
+    subst (λ (u : Use). Writes u (g.S.Source.left c.args.source.now) (g.K.Sink.held c.args.out.now) (g.K.Sink.held c.run_frames.new.out) c.run_frames.result) (sym c.in-Frames.is) c.run_frames.ensures.output
+
+pub returns-in-Check-clause-output : goal.returns-in-Check-clause-output
+returns-in-Check-clause-output g c =
+    subst (λ (u : Use). Writes u (g.S.Source.left c.args.source.now) (g.K.Sink.held c.args.out.now) (g.K.Sink.held c.args.out.now) c.run_check.result) (sym c.in-Check.is)
+    (nothing_written (g.S.Source.left c.args.source.now) (g.K.Sink.held c.args.out.now) c.run_check.result c.run_check.ensures.silent)
+
+pub returns-in-Check-clause-cause : goal.returns-in-Check-clause-cause
+returns-in-Check-clause-cause g c = c.run_check.ensures.cause (g.K.Sink.faults c.args.out.now) (g.K.Sink.faults c.args.out.now)
+
+pub returns-in-Play-clause-output : goal.returns-in-Play-clause-output
+returns-in-Play-clause-output g c =
+    subst (λ (u : Use). Writes u (g.S.Source.left c.args.source.now) (g.K.Sink.held c.args.out.now) (g.K.Sink.held c.run_play.new.out) c.run_play.result) (sym c.in-Play.is) c.run_play.ensures.output

@@ -1,0 +1,210 @@
+-- What a run of the program does with its words, its input and its output.
+use Rattle.std.specs.Prelude.{◌≡◌, ℕ, ◌<◌, ◌≤◌, ◌+◌, ◌⊎◌, List, [], ◌++◌, length, codes, ⊤, Option, None, IfSome, Result, Ok, Err}
+use Rattle.std.specs.Str.{IsUtf8}
+use Rattle.std.specs.Io.KnownBytes.{Consumes, Appends, IsAtEnd}
+use Rattle.serde_json.specs.Data.{Data}
+use Rattle.serde_json.specs.Read.{read}
+use Rattle.player_io.specs.Counts.{Rose}
+use Rattle.player_io.specs.Pieces.{GainsPrefix}
+use Rattle.model_history.specs.Scripts.{ScriptModel}
+use Rattle.model_history.specs.Frames.{blank}
+use Rattle.model_history.specs.Accepted.{IsAccepted}
+use Rattle.model_history.specs.Judging.{RefusedAt}
+use Rattle.script_json.specs.Causes.{IsTextOf, IsScriptText}
+use Rattle.script_json.specs.Reading.{parts_at}
+use Rattle.recording_reader.specs.Pieces.{Piece, images_text}
+use Rattle.recording_check.specs.Recordings.{IsRecording, IsBadAt}
+use Rattle.recording_check.specs.Verdicts.{IsLegalRecording, IsFirstWrong}
+use Rattle.model_history.specs.declared.history.Entry.{Entry}
+use Rattle.model_history.specs.Lockstep.{IsLockstep}
+use Rattle.script_json.specs.Recordings.{recording, script_text}
+use Rattle.script_generator.specs.Generated.{script_of_number}
+use Rattle.player_run.specs.declared.outcome.Outcome.{Outcome}
+use Rattle.player_run.specs.declared.outcome.Outcome.TheVariants.{Done, Usage, Json, Shape, Script, ReadFault, WriteFault, TooLong, BadRecording, No, Memory}
+use Rattle.player_run.specs.declared.words.Use.{Use}
+use Rattle.player_run.specs.declared.words.Use.TheVariants.{Step, Play, Gen, Demo, Frames, Check}
+use Rattle.player_run.specs.Promises.{IsSound, IsPlayed, IsPromised}
+use Rattle.player_run.specs.Demos.{demo_line}
+
+-- the greatest number of bytes of a script
+abbrev pub script_limit : ℕ
+script_limit = 16777216
+
+-- the greatest number of bytes of a recording
+abbrev pub recording_limit : ℕ
+recording_limit = 268435456
+
+-- the answer is Usage exactly where some word does not fit, and tells which
+abbrev pub TellsMisfit : Result Use ℕ → Outcome → Type 0
+TellsMisfit (Err word) result = result ≡ Usage word
+TellsMisfit (Ok wanted) (Usage word) = ⊥
+TellsMisfit (Ok wanted) _ = ⊤
+
+-- the bytes are the text of a script that is accepted
+abbrev pub IsAcceptedText : List ℕ → Type 0
+IsAcceptedText bytes = (s : ScriptModel) × IsScriptText bytes s × IsAccepted s
+
+-- the bytes are a recording
+abbrev pub IsRecordingText : List ℕ → Type 0
+IsRecordingText bytes = (s : ScriptModel) × (ps : List Piece) × IsRecording bytes s ps
+
+-- what a use takes: the text of an accepted script; a recording; that of a history that is legal for 16 workers; and where it reads nothing, any bytes
+abbrev pub Takes : Use → List ℕ → Type 0
+Takes (Step workers) bytes = (length bytes ≤ script_limit) × IsAcceptedText bytes
+Takes (Play workers) bytes = (length bytes ≤ script_limit) × IsAcceptedText bytes
+Takes (Gen number) bytes = ⊤
+Takes (Demo number) bytes = ⊤
+Takes Frames bytes = (length bytes ≤ recording_limit) × IsRecordingText bytes
+Takes Check bytes = (length bytes ≤ recording_limit) × IsLegalRecording 16 bytes
+
+-- why bytes are refused as a script: a value that is no script is told by its first fault; a script of which a command is refused by the first such command
+abbrev pub RefusedScript : List ℕ → Outcome → Type 0
+RefusedScript bytes Json = (length bytes ≤ script_limit) × (IsUtf8 bytes → read bytes ≡ None)
+RefusedScript bytes (Shape fault) =
+    (length bytes ≤ script_limit) × (d : Data) × IsTextOf bytes d × (parts_at d ≡ Err fault)
+RefusedScript bytes (Script frame command fault) =
+    (length bytes ≤ script_limit) × (s : ScriptModel) × IsScriptText bytes s × RefusedAt (blank s) s.main frame command fault
+RefusedScript bytes (TooLong limit) = (limit ≡ script_limit) × (script_limit < length bytes)
+RefusedScript bytes _ = ⊥
+
+-- why bytes are refused as a recording: the first part that is not of its form begins there
+abbrev pub RefusedRecording : List ℕ → Outcome → Type 0
+RefusedRecording bytes (TooLong limit) = (limit ≡ recording_limit) × (recording_limit < length bytes)
+RefusedRecording bytes (BadRecording place) = (length bytes ≤ recording_limit) × IsBadAt bytes place
+RefusedRecording bytes _ = ⊥
+
+-- why bytes are refused as the recording of a legal history: this event is the first that is wrong; or they are no recording
+abbrev pub RefusedHistory : List ℕ → Outcome → Type 0
+RefusedHistory bytes (No event) = (length bytes ≤ recording_limit) × IsFirstWrong 16 bytes event
+RefusedHistory bytes result = RefusedRecording bytes result
+
+-- why a use refuses bytes
+abbrev pub Refused : Use → List ℕ → Outcome → Type 0
+Refused (Step workers) bytes result = RefusedScript bytes result
+Refused (Play workers) bytes result = RefusedScript bytes result
+Refused (Gen number) bytes result = ⊥
+Refused (Demo number) bytes result = ⊥
+Refused Frames bytes result = RefusedRecording bytes result
+Refused Check bytes result = RefusedHistory bytes result
+
+-- why this is the answer of a use where the source has these bytes
+abbrev pub CauseOf : Use → List ℕ → Outcome → Type 0
+CauseOf wanted bytes Done = Takes wanted bytes
+CauseOf wanted bytes WriteFault = Takes wanted bytes
+CauseOf wanted bytes (Usage word) = ⊤
+CauseOf wanted bytes ReadFault = ⊤
+CauseOf wanted bytes Memory = ⊤
+CauseOf wanted bytes result = Refused wanted bytes result
+
+-- the answers of a use that reads nothing
+abbrev pub IsUnread : Outcome → Type 0
+IsUnread Done = ⊤
+IsUnread WriteFault = ⊤
+IsUnread Memory = ⊤
+IsUnread _ = ⊥
+
+-- why this is the answer of a use: for a use that reads, where the source tells its bytes
+abbrev pub CauseFrom : Use → Option (List ℕ) → Outcome → Type 0
+CauseFrom (Gen number) source result = IsUnread result
+CauseFrom (Demo number) source result = IsUnread result
+CauseFrom wanted source result = IfSome source (λ bytes. CauseOf wanted bytes result)
+
+-- at most so many bytes were taken of a source
+abbrev pub TakenAtMost : ℕ → Option (List ℕ) → Option (List ℕ) → Type 0
+TakenAtMost most old new = (bytes : List ℕ) × Consumes old new bytes × (length bytes ≤ most)
+
+-- how much a use reads: one byte beyond the limit at most; or nothing
+abbrev pub Reads : Use → Option (List ℕ) → Option (List ℕ) → Type 0
+Reads (Step workers) old new = TakenAtMost (script_limit + 1) old new
+Reads (Play workers) old new = TakenAtMost (script_limit + 1) old new
+Reads (Gen number) old new = new ≡ old
+Reads (Demo number) old new = new ≡ old
+Reads Frames old new = TakenAtMost (recording_limit + 1) old new
+Reads Check old new = TakenAtMost (recording_limit + 1) old new
+
+-- bytes are judged only where the source was read to its end
+abbrev pub IsJudgedWhole : Option (List ℕ) → Outcome → Type 0
+IsJudgedWhole left (Usage word) = ⊤
+IsJudgedWhole left ReadFault = ⊤
+IsJudgedWhole left (TooLong limit) = ⊤
+IsJudgedWhole left Memory = ⊤
+IsJudgedWhole left _ = IsAtEnd left
+
+-- where a use reads its source to the end
+abbrev pub ReadToEnd : Use → Option (List ℕ) → Outcome → Type 0
+ReadToEnd (Step workers) left result = IsJudgedWhole left result
+ReadToEnd (Play workers) left result = IsJudgedWhole left result
+ReadToEnd (Gen number) left result = ⊤
+ReadToEnd (Demo number) left result = ⊤
+ReadToEnd Frames left result = IsJudgedWhole left result
+ReadToEnd Check left result = IsJudgedWhole left result
+
+-- a script that is accepted, and that the source had, where it tells its bytes
+abbrev pub IsScriptFrom : Option (List ℕ) → ScriptModel → Type 0
+IsScriptFrom source s = IsAccepted s × IfSome source (λ bytes. IsScriptText bytes s)
+
+-- the recording of a script and of its history, as it is promised for so many raster workers
+abbrev pub IsRunOf : ℕ → ScriptModel → List ℕ → Type 0
+IsRunOf workers s whole = (history : List Entry) × IsPromised s workers history × (whole ≡ recording s history)
+
+-- the recording of a script and of a history that actors played, with so many raster workers
+abbrev pub IsPlayOf : ℕ → ScriptModel → List ℕ → Type 0
+IsPlayOf workers s whole = (history : List Entry) × IsPlayed s workers history × (whole ≡ recording s history)
+
+-- the same where the run may have been given up
+abbrev pub IsPlayUpTo : ℕ → ScriptModel → List ℕ → Type 0
+IsPlayUpTo workers s whole = (history : List Entry) × IsSound s workers history × (whole ≡ recording s history)
+
+-- the line that sums up the recording of a script in lockstep
+abbrev pub IsDemoOf : ScriptModel → List ℕ → Type 0
+IsDemoOf s whole = (history : List Entry) × IsLockstep s history × (whole ≡ demo_line s history)
+
+-- the images of a recording, in order, and the source had that recording, where it tells its bytes
+abbrev pub AreImagesFrom : Option (List ℕ) → List ℕ → Type 0
+AreImagesFrom source whole =
+    (bytes : List ℕ) × IfSome source (λ had. had ≡ bytes) × (s : ScriptModel) × (ps : List Piece) × IsRecording bytes s ps × (whole ≡ images_text ps)
+
+-- what a use writes in all: the recording of the script; the canonical text of a number's script, and a newline; the line that sums up its recording; the images of the recording; or nothing
+abbrev pub IsOutput : Use → Option (List ℕ) → List ℕ → Type 0
+IsOutput (Step workers) source whole = (s : ScriptModel) × IsScriptFrom source s × IsRunOf workers s whole
+IsOutput (Play workers) source whole = (s : ScriptModel) × IsScriptFrom source s × IsPlayOf workers s whole
+IsOutput (Gen number) source whole = whole ≡ script_text (script_of_number number) ++ codes "\n"
+IsOutput (Demo number) source whole = IsDemoOf (script_of_number number) whole
+IsOutput Frames source whole = AreImagesFrom source whole
+IsOutput Check source whole = whole ≡ []
+
+-- what a use was writing where it stopped: all that it writes; but actors may have given a run up before its end
+abbrev pub IsBegun : Use → Option (List ℕ) → List ℕ → Type 0
+IsBegun (Play workers) source whole = (s : ScriptModel) × IsScriptFrom source s × IsPlayUpTo workers s whole
+IsBegun wanted source whole = IsOutput wanted source whole
+
+-- what the sink gained: all that the use writes; a front of what it was writing; or nothing
+abbrev pub Writes : Use → Option (List ℕ) → Option (List ℕ) → Option (List ℕ) → Outcome → Type 0
+Writes wanted source old new Done = (whole : List ℕ) × IsOutput wanted source whole × Appends old new whole
+Writes wanted source old new WriteFault = (whole : List ℕ) × IsBegun wanted source whole × GainsPrefix old new whole
+Writes wanted source old new Memory = (new ≡ old) ⊎ ((whole : List ℕ) × IsBegun wanted source whole × GainsPrefix old new whole)
+Writes wanted source old new _ = new ≡ old
+
+-- a fault of the source or of the sink is answered only where that one's count of faults rose
+abbrev pub Causes : ℕ → ℕ → ℕ → ℕ → Outcome → Type 0
+Causes source_old source_new out_old out_new ReadFault = Rose source_old source_new
+Causes source_old source_new out_old out_new WriteFault = Rose out_old out_new
+Causes source_old source_new out_old out_new _ = ⊤
+
+-- all was done, or there was no memory
+abbrev pub IsDone : Outcome → Type 0
+IsDone Done = ⊤
+IsDone Memory = ⊤
+IsDone _ = ⊥
+
+-- where neither count of faults rose, all is done or there was no memory
+abbrev pub IsDoneIfCalm : ℕ → ℕ → ℕ → ℕ → Outcome → Type 0
+IsDoneIfCalm source_old source_new out_old out_new result =
+    (Rose source_old source_new → ⊥) → (Rose out_old out_new → ⊥) → IsDone result
+
+-- so it is where a use has what it takes
+abbrev pub IsComplete : Use → Option (List ℕ) → ℕ → ℕ → ℕ → ℕ → Outcome → Type 0
+IsComplete (Gen number) source source_old source_new out_old out_new result = IsDoneIfCalm source_old source_new out_old out_new result
+IsComplete (Demo number) source source_old source_new out_old out_new result = IsDoneIfCalm source_old source_new out_old out_new result
+IsComplete wanted source source_old source_new out_old out_new result =
+    IfSome source (λ bytes. Takes wanted bytes → IsDoneIfCalm source_old source_new out_old out_new result)

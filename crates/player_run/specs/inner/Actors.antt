@@ -1,0 +1,83 @@
+-- What the actors of a run left.
+use Rattle.std.specs.Prelude.{◌≡◌, ℕ, Bool, true, false, ◌&&◌, cond, List, [], ◌++◌, Option, Some}
+use Rattle.std.specs.Io.KnownBytes.{Appends}
+use Rattle.atomic_table.specs.Seated.{TableId}
+use Rattle.player_io.specs.Pieces.{GainsPrefix}
+use Rattle.thread_ring.specs.Ring.{OneRing, taken, whole}
+use Rattle.thread_ring.specs.Answers.{Gained}
+use Rattle.thread_ring.specs.declared.ends.Presented.{Presented}
+use Rattle.thread_ring.specs.declared.ends.Presented.TheVariants as presented
+use Rattle.model_history.specs.Legal.{Legal}
+use Rattle.impl_log.specs.Runs.{Run, past}
+use Rattle.impl_core.specs.Origins.{Origin, origin_of}
+use Rattle.impl_core.specs.Replies.{is_played}
+use Rattle.proxy_threads.specs.Seats.{Seat, pairs}
+use Rattle.proxy_threads.specs.Writing.{part, Driven, FaultCause, KnowsEnd}
+use Rattle.proxy_threads.specs.declared.turned.Turned.{Turned}
+use Rattle.proxy_threads.specs.declared.turned.Turned.TheVariants as turned
+use Rattle.player_run.specs.declared.beside.Ending.{Ending}
+use Rattle.player_run.specs.declared.beside.Ran.{Ran}
+use Rattle.player_run.specs.declared.outcome.Outcome.{Outcome}
+use Rattle.player_run.specs.declared.outcome.Outcome.TheVariants.{Done, WriteFault, Memory}
+
+-- a pass of this lock, with which the compositor has entered nothing
+pub record IsFirst (id : TableId) (p : Seat) : Type 0 where
+  pub lock : p.lock ≡ id
+  pub actor : p.actor ≡ 0
+  pub fresh : p.mine ≡ []
+
+-- a pass of another actor, made of this one, with which it has entered nothing
+pub record IsSplitOf (p : Seat) (number : ℕ) (q : Seat) : Type 0 where
+  pub lock : q.lock ≡ p.lock
+  pub stem : q.stem ≡ p.stem
+  pub actor : q.actor ≡ number
+  pub fresh : q.mine ≡ []
+
+-- the same pass, which may know of more numbers
+pub record IsSame (p q : Seat) : Type 0 where
+  pub lock : q.lock ≡ p.lock
+  pub stem : q.stem ≡ p.stem
+  pub actor : q.actor ≡ p.actor
+  pub mine : q.mine ≡ p.mine
+
+-- the run ended, and was played to its end
+abbrev pub is_last_ended : Turned → Bool
+is_last_ended turned.Ended = true
+is_last_ended _ = false
+
+abbrev pub is_whole : Ending → Bool
+is_whole ending = is_last_ended ending.last && ending.over
+
+-- the compositor's turns: what the sink gained, and whether the run was played to its end
+pub record Drove (p q : Seat) (old new : Option (List ℕ)) (ending : Ending) : Type 0 where
+  pub turns : Driven p q 0 old new ending.last
+  pub over : KnowsEnd (Some q) ending.over ending.last
+
+-- the compositor put its part into the ring behind what was there, and the sink gained what the presenter took
+pub record HasRun (p : Seat) (before : List ℕ) (ran : Ran) (old new : Option (List ℕ)) : Type 0 where
+  pub ring : OneRing ran.sink ran.presenter
+  pub drove : Drove p ran.pass (Some before) (Some (whole ran.sink)) ran.ending
+  pub calm : FaultCause 0 0 ran.ending.last
+  pub gained : Gained ran.served old new (taken ran.presenter)
+
+-- a legal run of this script and so many workers
+pub record IsRunAt (o : Origin) (r : Run) : Type 0 where
+  pub origin : o ≡ origin_of r
+  pub legal : Legal r.script r.workers (past r)
+
+-- what was there, and the part of the recording for all entries of a run that was played to its end; or a front of that of a run
+abbrev pub PlayEnds : Origin → List ℕ → Option (List ℕ) → Option (List ℕ) → Outcome → Type 0
+PlayEnds o before old new Done = (r : Run) × IsRunAt o r × (is_played r.entries ≡ true) × Appends old new (before ++ part r.script [] (pairs r.entries))
+PlayEnds o before old new WriteFault = (r : Run) × IsRunAt o r × GainsPrefix old new (before ++ part r.script [] (pairs r.entries))
+PlayEnds o before old new Memory = (r : Run) × IsRunAt o r × GainsPrefix old new (before ++ part r.script [] (pairs r.entries))
+PlayEnds o before old new _ = ⊥
+
+-- how the run ended, where all that the compositor wrote was put
+abbrev pub ended_as : Ending → Outcome
+ended_as ending = cond (is_whole ending) Done Memory
+
+-- how the run ended
+abbrev pub settled_as : Presented → Ending → Outcome
+settled_as presented.Written ending = ended_as ending
+settled_as presented.Fault ending = WriteFault
+settled_as presented.Memory ending = Memory

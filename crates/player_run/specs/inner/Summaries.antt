@@ -1,0 +1,33 @@
+-- The counts of a run and of its recording.
+use Rattle.std.specs.Prelude.{◌≡◌, ℕ, ◌%◌, ◌^◌, List, [], ◌∷◌, length, codes, decimal}
+use Rattle.model_history.specs.declared.history.Entry.{Entry}
+use Rattle.model_history.specs.Lockstep.{IsLockstep}
+use Rattle.model_history.specs.Scripts.{ScriptModel}
+use Rattle.script_json.specs.Recordings.{recording}
+use Rattle.recording_sums.specs.Sums.{total}
+use Rattle.player_run.specs.Demos.{images, missing}
+use Rattle.player_run.specs.Outcomes.{joined}
+use Rattle.player_run.specs.declared.demo.Summary.{Summary}
+
+-- they are those of this history and these bytes
+pub record IsSummary (history : List Entry) (whole : List ℕ) (summary : Summary) : Type 0 where
+  pub events : summary.events ≡ length history
+  pub images : summary.images ≡ images history
+  pub missing : summary.missing ≡ missing history
+  pub bytes : summary.bytes ≡ length whole
+  pub sum : summary.sum ≡ total whole % 2 ^ 64
+
+-- they are those of a script in lockstep, and of its recording
+abbrev pub IsDemoSummary : ScriptModel → Summary → Type 0
+IsDemoSummary s summary = (history : List Entry) × IsLockstep s history × IsSummary history (recording s history) summary
+
+-- the line of the counts
+abbrev pub summary_line : Summary → List ℕ
+summary_line summary =
+    joined
+    (codes "events " ∷ decimal summary.events
+    ∷ codes " images " ∷ decimal summary.images
+    ∷ codes " missing " ∷ decimal summary.missing
+    ∷ codes " bytes " ∷ decimal summary.bytes
+    ∷ codes " sum " ∷ decimal summary.sum
+    ∷ codes "\n" ∷ [])

@@ -1,0 +1,170 @@
+//! The compositor on the calling thread, and the presenter beside it.
+
+ghost use Rattle.std.specs.Prelude.{◌≡◌, ◌≤◌, ℕ, List, [], Option, Some};
+ghost use Rattle.std.specs.Thread.{IsSync};
+ghost use Rattle.thread_ring.specs.Ring.{OneRing, SameSink, taken, whole};
+ghost use Rattle.thread_ring.specs.Answers.{FaultRose};
+ghost use Rattle.impl_core.specs.Origins.{Origin};
+ghost use Rattle.proxy_threads.specs.Seats.{Of, OfBoth, Seat};
+ghost use Rattle.proxy_threads.specs.Writing.{FaultCause};
+ghost use Rattle.player_run.specs.Runs.{Causes};
+ghost use Rattle.player_run.specs.inner.Actors.{Drove, HasRun, IsFirst, PlayEnds, ended_as, settled_as};
+
+use crate::outcome::Outcome;
+use impl_core::Core;
+use player_io::Sink;
+use proxy_threads::{CompActor, Turned, drive_compositor};
+use std::alloc::Global;
+use std::marker::Send;
+use std::sync::Wait;
+use std::thread::{Threads, join_mut};
+use thread_bell::Bell;
+use thread_lock::{Pass, TurnLock};
+use thread_ring::{Presented, Presenter, RingSink, finish};
+
+/// What the compositor and the presenter left.
+#[derive(Drop)]
+pub(crate) struct Ran {
+    pub(crate) sink: RingSink,
+    pub(crate) presenter: Presenter,
+    pub(crate) pass: Pass<Core>,
+    pub(crate) served: Presented,
+    pub(crate) ending: Ending,
+}
+
+/// How the compositor's turns ended.
+#[derive(Clone, Copy, Drop)]
+pub(crate) struct Ending {
+    pub(crate) last: Turned,
+    /// whether the run was played to its end
+    pub(crate) over: bool,
+}
+
+/// Makes the borrow end here.
+pub(crate) fn take_back<T>(x: &mut T)
+    ensures { x.new ≡ x.old }
+{}
+
+// The compositor's turns up to the last.
+fn compose<R: Threads + Wait + Sync, K: Sink>(
+    rt: &R,
+    alloc: Global,
+    lock: &TurnLock<Core>,
+    bell: &Bell,
+    pass: Pass<Core>,
+    sink: &mut K,
+) -> (Pass<Core>, Ending)
+    requires { IsFirst lock.now.id pass }
+    ensures drove { Drove pass result.0 (K.held sink.old) (K.held sink.new) result.1 }
+    ensures cause { FaultCause (K.faults sink.old) (K.faults sink.new) result.1.last }
+    ensures place { K.place sink.new ≡ K.place sink.old }
+{
+    let mut comp = CompActor::new(alloc, pass, sink);
+    let last = drive_compositor(rt, lock, bell, &mut comp);
+    let over = comp.is_over();
+    let (pass, sink) = comp.pass();
+    take_back(sink);
+    (pass, Ending { last, over })
+}
+
+// The same with the ring's end, and with the pass in its place. Then the end mark is raised.
+fn compose_all<R: Threads + Wait + Sync>(
+    rt: &R,
+    alloc: Global,
+    lock: &TurnLock<Core>,
+    bell: &Bell,
+    place: &mut Option<Pass<Core>>,
+    sink: &mut RingSink,
+) -> Ending
+    requires { Of place.old (IsFirst lock.now.id) }
+    ensures drove { OfBoth place.old place.new (λ p q. Drove p q (Some (whole sink.old)) (Some (whole sink.new)) result) }
+    ensures calm { FaultCause 0 0 result.last }
+    ensures ring { SameSink sink.old sink.new }
+{
+    let Some(pass) = place.take() else {
+        unreachable!()
+    };
+    let (pass, ending) = compose(rt, alloc, lock, bell, pass, sink);
+    *place = Some(pass);
+    sink.end();
+    ending
+}
+
+/// Runs the compositor on the calling thread, and the presenter beside it.
+pub(crate) fn run_beside<R: Threads + Wait + Sync, K: Sink + Send>(
+    rt: &R,
+    alloc: Global,
+    lock: &TurnLock<Core>,
+    bell: &Bell,
+    pass: Pass<Core>,
+    ends: (RingSink, Presenter),
+    out: &mut K,
+) -> Ran
+    requires first { IsFirst lock.now.id pass }
+    requires ring { OneRing ends.0 ends.1 }
+    requires none { taken ends.1 ≡ [] }
+    ensures ran { HasRun pass (whole ends.0) result (K.held out.old) (K.held out.new) }
+    ensures grows { K.faults out.old ≤ K.faults out.new }
+    ensures cause { FaultRose result.served (K.faults out.old) (K.faults out.new) }
+{
+    let (mut sink, mut presenter) = ends;
+    let mut place = Some(pass);
+    let (served, ending) = join_mut(
+        rt,
+        &mut || presenter.serve(rt, out),
+        &mut || -> Ending
+            requires sync { IsSync R.row }
+            requires first { Of place (IsFirst lock.now.id) }
+            ensures drove { OfBoth place.entry place.exit (λ p q. Drove p q (Some (whole sink.entry)) (Some (whole sink.exit)) result) }
+            ensures calm { FaultCause 0 0 result.last }
+            ensures ring { SameSink sink.entry sink.exit }
+        { compose_all(rt, alloc, lock, bell, &mut place, &mut sink) },
+    );
+    let Some(pass) = place else { unreachable!() };
+    Ran {
+        sink,
+        presenter,
+        pass,
+        served,
+        ending,
+    }
+}
+
+// How the run ended, where all that the compositor wrote was put.
+fn ended(ending: Ending) -> Outcome
+    ensures { result ≡ ended_as ending }
+{
+    match ending.last {
+        Turned::Ended if ending.over => Outcome::Done,
+        _ => Outcome::Memory,
+    }
+}
+
+// How the run ended.
+fn told(presented: Presented, ending: Ending) -> Outcome
+    ensures { result ≡ settled_as presented ending }
+{
+    match presented {
+        Presented::Written => ended(ending),
+        Presented::Fault => Outcome::WriteFault,
+        Presented::Memory => Outcome::Memory,
+    }
+}
+
+/// Puts what is left, and tells how the run ended.
+pub(crate) fn settle<K: Sink>(ran: Ran, out: &mut K) -> Outcome
+    requires { OneRing ran.sink ran.presenter }
+    ensures ends { (p : Seat) (o : Origin) (before : List ℕ) (first : Option (List ℕ)) → p.stem ≡ Some o → HasRun p before ran first (K.held out.old) → PlayEnds o before first (K.held out.new) result }
+    ensures grows { K.faults out.old ≤ K.faults out.new }
+    ensures cause { (count : ℕ) → count ≤ K.faults out.old → FaultRose ran.served count (K.faults out.old) → Causes 0 0 count (K.faults out.new) result }
+{
+    let Ran {
+        sink,
+        presenter,
+        served,
+        ending,
+        ..
+    } = ran;
+    let presented = finish(sink, presenter, served, out);
+    told(presented, ending)
+}

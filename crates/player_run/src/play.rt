@@ -1,0 +1,110 @@
+//! A script of the source, played by actors on threads.
+
+ghost use Rattle.std.specs.Prelude.{◌≡◌, ◌≤◌, [], Ok, IfOk, IfSome, MatchOption};
+ghost use Rattle.thread_ring.specs.Ring.{OneRing, taken, whole};
+ghost use Rattle.model_history.specs.Recordings.{header};
+ghost use Rattle.script_json.specs.Recordings.{script_text};
+ghost use Rattle.player_run.specs.Runs.{TellsMisfit, CauseFrom, IsPlayOf, IsPlayUpTo, Reads, ReadToEnd, Writes, Causes};
+ghost use Rattle.player_run.specs.inner.Outputs.{WritesOrBegins};
+
+use crate::crew::crew_of;
+use crate::outcome::Outcome;
+use crate::script_input::read_script_from;
+use crate::step::play_lockstep;
+use crate::threads::run_crew;
+use crate::words::Use;
+use model_history::Script;
+use player_io::{Gate, Sink, Source};
+use recording_writer::header_of;
+use script_json::print_script;
+use std::alloc::{AllocError, Global};
+use std::marker::Send;
+use std::sync::{Arc, Wait};
+use std::thread::Threads;
+use thread_ring::{Presenter, RingSink, ring};
+
+// A ring that has the two lines before the events of a script.
+fn ring_of(alloc: Global, script: &Script) -> Result<(RingSink, Presenter), AllocError>
+    ensures ring { IfOk result (λ ends. OneRing ends.0 ends.1) }
+    ensures lines { IfOk result (λ ends. whole ends.0 ≡ header (script_text script.now)) }
+    ensures none { IfOk result (λ ends. taken ends.1 ≡ []) }
+{
+    let text = print_script(alloc, script)?;
+    let header = header_of(alloc, text.as_slice())?;
+    let (mut sink, presenter) = ring(alloc)?;
+    match sink.put(header.as_slice()) {
+        Ok(()) => Ok((sink, presenter)),
+        Err(_) => Err(AllocError),
+    }
+}
+
+// Plays a script by actors on threads. An answer of None is that they could not be started, and nothing was
+// written.
+fn play_threads<R: Threads + Wait + Sync, G: Gate + Sync, K: Sink + Send>(
+    rt: &R,
+    alloc: Global,
+    script: &Arc<Script>,
+    workers: u32,
+    gate: &G,
+    out: &mut K,
+) -> Option<Outcome>
+    requires { workers ≤ 16 }
+    ensures plays { MatchOption result (out.new ≡ out.old) (WritesOrBegins (IsPlayOf workers script.now.value) (IsPlayUpTo workers script.now.value) (K.held out.old) (K.held out.new)) }
+    ensures grows { K.faults out.old ≤ K.faults out.new }
+    ensures cause { IfSome result (λ outcome. Causes 0 0 (K.faults out.old) (K.faults out.new) outcome) }
+{
+    let Ok(ends) = ring_of(alloc, script) else {
+        return None;
+    };
+    let crew = crew_of(rt, alloc, script, workers, gate)?;
+    run_crew(rt, alloc, crew, ends, out)
+}
+
+// Plays a script by actors on threads, or where they cannot be started, in lockstep.
+#[tactic(auto, using(crate::proofs::PlayedRuns::lockstep_plays))]
+fn play<R: Threads + Wait + Sync, K: Sink + Send, G: Gate + Sync>(
+    rt: &R,
+    alloc: Global,
+    script: Script,
+    workers: u32,
+    out: &mut K,
+    gate: &G,
+) -> Outcome
+    requires { (1 ≤ workers) × (workers ≤ 16) }
+    ensures plays { WritesOrBegins (IsPlayOf workers script) (IsPlayUpTo workers script) (K.held out.old) (K.held out.new) result }
+    ensures grows { K.faults out.old ≤ K.faults out.new }
+    ensures cause { Causes 0 0 (K.faults out.old) (K.faults out.new) result }
+{
+    let Ok(shared) = Arc::new(alloc, script) else {
+        return Outcome::Memory;
+    };
+    match play_threads(rt, alloc, &shared, workers, gate, out) {
+        Some(outcome) => outcome,
+        None => play_lockstep(rt, alloc, shared, workers, out),
+    }
+}
+
+/// Plays the script of the source by actors on threads, so many raster workers among them, and writes its
+/// recording.
+#[tactic(auto, using(crate::proofs::ScriptsActed::acted_output, crate::proofs::ScriptsActed::acted_cause, crate::proofs::ScriptsActed::acted_words))]
+pub fn run_play<R: Threads + Wait + Sync, S: Source, K: Sink + Send, G: Gate + Sync>(
+    rt: &R,
+    alloc: Global,
+    workers: u32,
+    source: &mut S,
+    out: &mut K,
+    gate: &G,
+) -> Outcome
+    requires { (1 ≤ workers) × (workers ≤ 16) }
+    ensures words { TellsMisfit (Ok (Use.Play workers)) result }
+    ensures input { CauseFrom (Use.Play workers) (S.left source.old) result }
+    ensures reads { Reads (Use.Play workers) (S.left source.old) (S.left source.new) }
+    ensures end { ReadToEnd (Use.Play workers) (S.left source.new) result }
+    ensures output { Writes (Use.Play workers) (S.left source.old) (K.held out.old) (K.held out.new) result }
+    ensures cause { Causes (S.faults source.old) (S.faults source.new) (K.faults out.old) (K.faults out.new) result }
+{
+    match read_script_from(alloc, source) {
+        Ok(script) => play(rt, alloc, script, workers, out, gate),
+        Err(outcome) => outcome,
+    }
+}

@@ -1,0 +1,84 @@
+//! A script of the source, played in lockstep.
+
+ghost use Rattle.std.specs.Prelude.{◌≡◌, ℕ, ◌≤◌, Ok};
+ghost use Rattle.player_run.specs.Runs.{TellsMisfit, CauseFrom, IsRunOf, Reads, ReadToEnd, Writes, Causes};
+ghost use Rattle.player_run.specs.inner.Outputs.{WritesSome};
+
+use crate::outcome::Outcome;
+use crate::script_input::read_script_from;
+use crate::words::Use;
+use model_history::Script;
+use player_io::{Sink, Source};
+use recording_writer::{Recorded, WriteStop, record_lockstep};
+use std::alloc::Global;
+use std::sync::Arc;
+use std::thread::Threads;
+
+// All was done with a run, which is given up.
+fn done_with(_run: Recorded) -> Outcome
+    ensures { result ≡ Outcome.Done }
+{
+    Outcome::Done
+}
+
+/// Plays a script in lockstep with so many raster workers, and writes its recording.
+pub(crate) fn play_lockstep<R: Threads + Sync, K: Sink>(
+    rt: &R,
+    alloc: Global,
+    script: Arc<Script>,
+    workers: u32,
+    out: &mut K,
+) -> Outcome
+    requires { (1 ≤ workers) × (workers ≤ 16) }
+    ensures plays { WritesSome (IsRunOf workers script.value) (K.held out.old) (K.held out.new) result }
+    ensures grows { K.faults out.old ≤ K.faults out.new }
+    ensures cause { Causes 0 0 (K.faults out.old) (K.faults out.new) result }
+{
+    match record_lockstep(rt, alloc, script, workers, out) {
+        Ok(run) => done_with(run),
+        Err(WriteStop::Fault) => Outcome::WriteFault,
+        Err(WriteStop::Memory) => Outcome::Memory,
+    }
+}
+
+// The same, where the script is not shared yet.
+fn play<R: Threads + Sync, K: Sink>(
+    rt: &R,
+    alloc: Global,
+    script: Script,
+    workers: u32,
+    out: &mut K,
+) -> Outcome
+    requires { (1 ≤ workers) × (workers ≤ 16) }
+    ensures plays { WritesSome (IsRunOf workers script) (K.held out.old) (K.held out.new) result }
+    ensures grows { K.faults out.old ≤ K.faults out.new }
+    ensures cause { Causes 0 0 (K.faults out.old) (K.faults out.new) result }
+{
+    let Ok(shared) = Arc::new(alloc, script) else {
+        return Outcome::Memory;
+    };
+    play_lockstep(rt, alloc, shared, workers, out)
+}
+
+/// Plays the script of the source in lockstep with so many raster workers, and writes its recording.
+#[tactic(auto, using(crate::proofs::ScriptsPlayed::script_output, crate::proofs::ScriptsPlayed::script_cause, crate::proofs::Outputs::some_words))]
+pub fn run_step<R: Threads + Sync, S: Source, K: Sink>(
+    rt: &R,
+    alloc: Global,
+    workers: u32,
+    source: &mut S,
+    out: &mut K,
+) -> Outcome
+    requires { (1 ≤ workers) × (workers ≤ 16) }
+    ensures words { TellsMisfit (Ok (Use.Step workers)) result }
+    ensures input { CauseFrom (Use.Step workers) (S.left source.old) result }
+    ensures reads { Reads (Use.Step workers) (S.left source.old) (S.left source.new) }
+    ensures end { ReadToEnd (Use.Step workers) (S.left source.new) result }
+    ensures output { Writes (Use.Step workers) (S.left source.old) (K.held out.old) (K.held out.new) result }
+    ensures cause { Causes (S.faults source.old) (S.faults source.new) (K.faults out.old) (K.faults out.new) result }
+{
+    match read_script_from(alloc, source) {
+        Ok(script) => play(rt, alloc, script, workers, out),
+        Err(outcome) => outcome,
+    }
+}

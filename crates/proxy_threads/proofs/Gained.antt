@@ -1,0 +1,25 @@
+-- What a sink gained by a turn.
+use Rattle.std.proofs.Common.{ℕ, List, [], ◌++◌, append-nil}
+use Rattle.std.specs.Prelude.{Option}
+use Rattle.std.specs.Io.KnownBytes.{Appends}
+use Rattle.player_io.specs.Pieces.{GainsPrefix}
+use Rattle.recording_writer.specs.declared.writing.WriteStop.{WriteStop}
+use Rattle.recording_writer.specs.declared.writing.WriteStop.TheVariants as stop
+use Rattle.recording_writer.proofs.Gains.{gains_both, gains_front, gains_longer}
+use Rattle.proxy_threads.specs.declared.turned.Turned.{Turned}
+use Rattle.proxy_threads.specs.declared.turned.Turned.TheVariants as turned
+use Rattle.proxy_threads.specs.Writing.{Wrote}
+use Rattle.proxy_threads.specs.inner.Steps.{answer_at}
+
+-- some bytes, and then others or a front of them
+pub wrote_behind : (t : Turned) (old mid new : Option (List ℕ)) (a b : List ℕ) → Appends old mid a → Wrote mid new b t → Wrote old new (a ++ b) t
+wrote_behind turned.Went old mid new a b first more = gains_both old mid new a b first more
+wrote_behind turned.Blocked old mid new a b first more = gains_both old mid new a b first more
+wrote_behind turned.Ended old mid new a b first more = gains_both old mid new a b first more
+wrote_behind turned.Memory old mid new a b first more = gains_front old mid new a b [] (a ++ b) first more (append-nil (a ++ b))
+wrote_behind turned.WriteFault old mid new a b first more = gains_front old mid new a b [] (a ++ b) first more (append-nil (a ++ b))
+
+-- a front of some bytes is one of those and others
+pub wrote_refused : (z : WriteStop) (old new : Option (List ℕ)) (a b : List ℕ) → GainsPrefix old new a → Wrote old new (a ++ b) (answer_at z)
+wrote_refused stop.Fault old new a b gains = gains_longer old new a b gains
+wrote_refused stop.Memory old new a b gains = gains_longer old new a b gains

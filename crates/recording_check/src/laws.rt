@@ -1,0 +1,42 @@
+//! Laws of recordings.
+
+ghost use Rattle.std.specs.Prelude.{◌≡◌, ℕ, List, []};
+ghost use Rattle.model_history.specs.declared.history.Entry.{Entry};
+ghost use Rattle.model_history.specs.Scripts.{ScriptModel};
+ghost use Rattle.script_json.specs.Recordings.{script_text, recording};
+ghost use Rattle.recording_check.specs.Openings.{IsScriptLine};
+ghost use Rattle.recording_check.specs.Painted.{ArePainted, IsOver};
+ghost use Rattle.recording_check.specs.Recordings.{IsRecording, IsBadAt};
+ghost use Rattle.recording_check.specs.Verdicts.{IsFirstWrong, IsLegalRecording};
+ghost use Rattle.recording_reader.specs.Pieces.{Piece, entries};
+
+/// A recording is read in one way: bytes are that of one script, and of one list of events and images, at
+/// most.
+pub fn a_recording_has_one_reading()
+    ensures { (bytes : List ℕ) (s t : ScriptModel) (ps qs : List Piece) → IsRecording bytes s ps → IsRecording bytes t qs → (s ≡ t) × (ps ≡ qs) }
+{}
+
+/// What is read as a recording, and whose images are the painting, is the recording of that script and
+/// that history.
+pub fn painted_recordings_are_recordings()
+    ensures { (bytes : List ℕ) (s : ScriptModel) (ps : List Piece) → IsRecording bytes s ps → ArePainted s [] ps → bytes ≡ recording s (entries ps) }
+{}
+
+/// The bytes of a recording fix script and history: those of a script whose canonical text reads back,
+/// as that of every script that is printed does, and of a history that is over.
+pub fn recordings_fix_script_and_history()
+    ensures { (s t : ScriptModel) (g h : List Entry) → IsScriptLine (script_text s) s → IsScriptLine (script_text t) t → IsOver s g → IsOver t h → recording s g ≡ recording t h → (s ≡ t) × (g ≡ h) }
+{}
+
+/// A recording has no part that is not of its form: the two answers of a reader exclude each other.
+pub fn a_recording_has_no_bad_part()
+    ensures { (bytes : List ℕ) (s : ScriptModel) (ps : List Piece) (place : ℕ) → IsRecording bytes s ps → IsBadAt bytes place → ⊥ }
+{}
+
+/// What [`check`](crate::check) may answer excludes each other: the recording of a legal history has no first
+/// event that is wrong and no part that is not of its form, nor have bytes both of these.
+pub fn verdicts_exclude_each_other()
+    ensures legal_not_wrong { (workers event : ℕ) (bytes : List ℕ) → IsLegalRecording workers bytes → IsFirstWrong workers bytes event → ⊥ }
+    ensures legal_not_bad { (workers place : ℕ) (bytes : List ℕ) → IsLegalRecording workers bytes → IsBadAt bytes place → ⊥ }
+    ensures wrong_not_bad { (workers event place : ℕ) (bytes : List ℕ) → IsFirstWrong workers bytes event → IsBadAt bytes place → ⊥ }
+{}

@@ -1,0 +1,49 @@
+-- The commit of the main side becomes the pending tree.
+use Rattle.std.proofs.Common.{◌≡◌, ◌∷◌, ℕ, List, refl, sym, ◌∙◌, subst}
+use Rattle.model_history.specs.declared.event.Event.TheVariants as event
+use Rattle.model_history.specs.declared.history.Entry.{Entry}
+use Rattle.model_history.specs.Scripts.{ScriptModel}
+use Rattle.model_history.specs.Accepted.{IsAccepted}
+use Rattle.model_history.specs.Frames.{pulls_of}
+use Rattle.model_history.specs.Legal.{Legal}
+use Rattle.model_steps.specs.Events.{commit}
+use Rattle.impl_host.specs.Hosts.{Hosts}
+use Rattle.impl_log.specs.Runs.{past}
+use Rattle.recording_judge.specs.inner.Mains.{IsCommitted}
+use Rattle.recording_judge.specs.inner.Hosts.{HostCommits}
+use Rattle.recording_judge.proofs.MainSteps.{main_stays, commit_there}
+use Rattle.recording_judge.proofs.StateFacts.{commit_keys}
+use Rattle.recording_judge.proofs.state.State.step_commit.Goals as goal
+
+pub commit_to_host-requires : goal.commit_to_host-requires
+commit_to_host-requires c =
+    let r = c.args.self.now.log in
+    let h = past r in
+    let side = c.args.self.now.main in
+    let there = commit_there r.script r.workers h c.args.actor c.args.frame side c.requires.legal c.requires.state.main in
+    let same : c.deref.result.now ≡ r.script = c.deref.ensures ∙ c.script-script.ensures in
+    subst (λ (z : ScriptModel). HostCommits z c.args.self.now.host c.args.frame side.end) (sym same)
+    (record { workers = r.workers; past = h; actor = c.args.actor; accepted = c.requires.accepted; legal = c.requires.legal; hosts = c.requires.state.host; commit = there })
+
+pub returns : goal.returns
+returns c =
+    let r = c.args.self.now.log in
+    let s = r.script in
+    let n = r.workers in
+    let h = past r in
+    let a = c.args.actor in
+    let k = c.args.frame in
+    let side = c.args.self.now.main in
+    let there = commit_there s n h a k side c.requires.legal c.requires.state.main in
+    let same : c.deref.result.now ≡ r.script = c.deref.ensures ∙ c.script-script.ensures in
+    let pushed : Hosts s (commit a k ∷ h) c.commit_to_host.new.host =
+    subst (λ (z : ScriptModel). (workers : ℕ) (past : List Entry) (actor : ℕ) → IsAccepted z → Legal z workers (commit actor k ∷ past) → Hosts z past c.args.self.now.host → IsCommitted z (pulls_of past) k side.end → Hosts z (commit actor k ∷ past) c.commit_to_host.new.host)
+    same c.in_ok-commit_to_host.ensures n h a c.requires.accepted c.requires.legal c.requires.state.host there in
+    record {
+      log = refl;
+      keeps = record {
+        host = pushed;
+        tiles = c.forget_queue.ensures s n h (commit a k ∷ h) c.requires.state.tiles (commit_keys s n h a k c.requires.accepted c.requires.legal);
+        main = main_stays s n h a side (event.Commit k) c.requires.legal refl c.requires.state.main;
+      };
+    }

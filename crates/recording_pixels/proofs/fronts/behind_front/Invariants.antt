@@ -1,0 +1,10 @@
+-- The rest of the front stands before what is left.
+use Rattle.std.proofs.Common.{◌≡◌, length}
+use Rattle.recording_pixels.specs.inner.Behind.{behind}
+use Rattle.recording_pixels.proofs.fronts.behind_front.Given as goal
+
+abbrev pub invariant-loop-byte : goal.invariant-loop-byte
+invariant-loop-byte l = behind l.left l.rest ≡ behind l.front l.bytes
+
+abbrev pub decreases-loop-byte : goal.decreases-loop-byte
+decreases-loop-byte l = length l.left

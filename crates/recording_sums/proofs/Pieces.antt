@@ -1,0 +1,24 @@
+-- One piece more.
+use Rattle.std.proofs.Common.{◌≡◌, ℕ, ◌+◌, ◌%◌, ◌^◌, List, [], ◌∷◌, ◌++◌, length, ap, ◌∙◌, append-nil, length-append, arith}
+use Rattle.std.specs.Global.{Vec}
+use Rattle.std.specs.List.{flat_map}
+use Rattle.std.proofs.lemmas.Grind.{flat_map-append}
+use Rattle.recording_sums.specs.Put.{joined}
+use Rattle.recording_sums.specs.Sums.{total}
+
+total_both : (xs ys : List ℕ) → total (xs ++ ys) ≡ total xs + total ys
+total_both [] ys = omega arith
+total_both (x ∷ xs) ys = let rest = total_both xs ys in omega (arith, rest)
+
+-- the bytes of a piece stand behind those of the others
+pub joined_more : (pieces : List (Vec ℕ)) (piece : Vec ℕ) → joined (pieces ++ piece ∷ []) ≡ joined pieces ++ piece.items
+joined_more pieces piece =
+    flat_map-append (λ (p : Vec ℕ). p.items) pieces (piece ∷ []) ∙ ap (λ (w : List ℕ). joined pieces ++ w) (append-nil piece.items)
+
+-- the count and the sum of all bytes, where one piece more was put
+pub counts_more : (old new piece : List ℕ) (bytes sum : ℕ) → bytes ≡ length old → sum ≡ total old % 2 ^ 64 → new ≡ old ++ piece
+    → (bytes + length piece ≡ length new) × ((sum + total piece) % 2 ^ 64 ≡ total new % 2 ^ 64)
+counts_more old new piece bytes sum few all is =
+    let long : length new ≡ length old + length piece = ap length is ∙ length-append old piece in
+    let more : total new ≡ total old + total piece = ap total is ∙ total_both old piece in
+    (omega (arith, few, long), omega (arith, all, more))

@@ -1,0 +1,22 @@
+-- Which event's line bytes begin with.
+use Rattle.std.specs.Prelude.{◌≡◌, ℕ, nat_eq, ◌<◌, ◌≤◌, if◌then◌else◌, List, [], ◌++◌, length, take, Option, Some, None, Result, Ok, Err, IfSome, ⊤}
+use Rattle.std.specs.List.{starts_with}
+use Rattle.model_history.specs.declared.event.Event.{Event}
+use Rattle.model_history.specs.Texts.{event_line}
+use Rattle.recording_text.specs.Fits.{Fits}
+use Rattle.recording_text.specs.Numbers.{◌>>=◌}
+use Rattle.recording_text.specs.Guesses.{guess}
+
+-- the event, where the bytes begin with its line
+unfoldable pub checked : List ℕ → Event → Option Event
+checked xs e = if starts_with nat_eq xs (event_line e) then Some e else None
+
+-- the event whose line these bytes begin with: the one that it can be, if the line is that one's
+unfoldable pub event_at : List ℕ → Option Event
+event_at xs = do
+  e ← guess xs
+  checked xs e
+
+-- the line is read: it is that of the event that comes back, whose numbers fit; and where it is the line of such an event, that one comes back
+abbrev pub ReadsLine : List ℕ → Option Event → Type 0
+ReadsLine line read = IfSome read (λ e. Fits e × (line ≡ event_line e)) × ((e : Event) → Fits e → line ≡ event_line e → read ≡ Some e)

@@ -1,0 +1,119 @@
+-- The scenes of the draws among the newest entries give the images of those draws.
+use Rattle.std.proofs.Common.{◌≡◌, ℕ, pos, ◌+◌, ◌-◌, ◌<◌, ◌≤◌, true, List, [], ◌∷◌, ◌++◌, length, take, drop, Some, refl, ap, sym, ◌∙◌, append_assoc, append-nil, subst, arith, length-drop}
+use Rattle.std.specs.Prelude.{reverse, slice_get}
+use Rattle.std.proofs.lemmas.List.{reverse-append, reverse-reverse, length-reverse, take-append-drop}
+use mathlib.Core.List.{reverse_aux}
+use Rattle.geom.specs.declared.tile.TileKey.{TileKey}
+use Rattle.geom.specs.Covers.{within, covers}
+use Rattle.geom.proofs.Cuts.{within_natural}
+use Rattle.geom.proofs.Spans.{both_of}
+use Rattle.viz_scene.specs.Views.{SceneView}
+use Rattle.viz_scene.specs.Pixels.{scene_pixel}
+use Rattle.tile_visible.specs.Visible.{viewport}
+use Rattle.model_history.specs.declared.event.Event.{Event}
+use Rattle.model_history.specs.declared.event.Event.TheVariants as event
+use Rattle.model_history.specs.declared.history.Entry.{Entry}
+use Rattle.model_history.specs.Scripts.{ScriptModel}
+use Rattle.model_history.specs.Frames.{active_page}
+use Rattle.model_history.specs.Tiles.{missing}
+use Rattle.model_history.specs.Legal.{Legal, Next}
+use Rattle.model_history.specs.Recordings.{image, shown, shown_image, image_behind, piece, pieces}
+use Rattle.model_history.specs.Texts.{event_line}
+use Rattle.model_history.proofs.DueFacts.{at_draw}
+use Rattle.impl_core.specs.Replies.{IsPicture}
+use Rattle.proxy_single_thread.specs.Singles.{Adds, AreScenes}
+use Rattle.recording_writer.specs.inner.Scenes.{scene_image, scene_of, left_behind, image_if, Comes, AllCome}
+use Rattle.recording_writer.proofs.Places.{first_behind, newest_before}
+use Rattle.recording_writer.proofs.QuietEvents.{quiet_stays}
+use Rattle.recording_writer.proofs.Rows.{image_alike}
+
+-- a natural point of the view is one of the viewport
+inside : (s : ScriptModel) (h : List Entry) (x y : ℕ) → x < (active_page s h).view.w → y < (active_page s h).view.h → covers (viewport (active_page s h)) (pos x) (pos y) ≡ true
+inside s h x y across down =
+    let w : ℕ = (active_page s h).view.w in
+    let t : ℕ = (active_page s h).view.h in
+    both_of (within (pos 0) (pos w) (pos x)) (within (pos 0) (pos t) (pos y)) (within_natural 0 w x (omega arith) (omega (arith, across))) (within_natural 0 t y (omega arith) (omega (arith, down)))
+
+-- the image of the picture of a past is the image of what the screen shows
+picture_image : (s : ScriptModel) (h : List Entry) (scene : SceneView) → IsPicture s h scene → scene_image scene ≡ shown_image s h (missing s h)
+unfolding scene_image shown_image
+picture_image s h scene is =
+    let w : ℕ = (active_page s h).view.w in
+    let t : ℕ = (active_page s h).view.h in
+    ap (λ (n : ℕ). image (λ x y. scene_pixel scene (pos x) (pos y)) n scene.h) is.width
+    ∙ ap (λ (n : ℕ). image (λ x y. scene_pixel scene (pos x) (pos y)) w n) is.height
+    ∙ image_alike w t (λ x y. scene_pixel scene (pos x) (pos y)) (shown s h (missing s h)) (λ x y across down. is.pixels (pos x) (pos y) (inside s h x y across down))
+
+-- a draw that may come has the image of its picture behind its line
+pub draw_image : (s : ScriptModel) (n : ℕ) (h : List Entry) (a i : ℕ) (lacks : List TileKey) (scene : SceneView) → Next s n h (record { actor = a; event = event.Draw i lacks }) → IsPicture s h scene
+    → scene_image scene ≡ shown_image s h lacks
+draw_image s n h a i lacks scene next is = picture_image s h scene is ∙ ap (λ (keys : List TileKey). shown_image s h keys) (sym (at_draw s n h a i lacks next).lacking)
+
+-- an event that may come: its scene, if it is a draw, stands behind those before it
+record Added (s : ScriptModel) (h : List Entry) (e : Event) (rest : List SceneView → Type 0) (scenes back : List SceneView) : Type 0 where
+  front : List SceneView
+  here : List SceneView
+  earlier : rest front
+  split : scenes ++ back ≡ front ++ here
+  image : image_if (scene_of e here) ≡ image_behind s h e
+  left : left_behind e here ≡ back
+
+added : (s : ScriptModel) (n : ℕ) (h : List Entry) (a : ℕ) (e : Event) (rest : List SceneView → Type 0) (scenes back : List SceneView)
+    → Next s n h (record { actor = a; event = e }) → Adds s h e rest scenes → Added s h e rest scenes back
+added s n h a (event.Draw i lacks) rest scenes back next ends = record {
+  front = ends.front;
+  here = ends.scene ∷ back;
+  earlier = ends.earlier;
+  split = ap (λ (zs : List SceneView). zs ++ back) ends.are ∙ append_assoc ends.front (ends.scene ∷ []) back;
+  image = draw_image s n h a i lacks ends.scene next ends.picture;
+  left = refl;
+}
+added s n h a _ rest scenes back next are = record { front = scenes; here = back; earlier = are; split = refl; image = refl; left = refl }
+
+-- newer entries, the newest first, and later ones behind them
+module _ (s : ScriptModel) (n : ℕ) (h : List Entry) where
+  turned : (newer later : List Entry) (scenes back : List SceneView) → Legal s n (newer ++ h) → AreScenes s (length newer) (newer ++ h) scenes
+      → AllCome s (newer ++ h) later back → AllCome s h (reverse_aux newer later) (scenes ++ back)
+  turned [] later scenes back legal are come = subst (λ (zs : List SceneView). AllCome s h later (zs ++ back)) (sym are) come
+  turned (e ∷ newer) later scenes back legal are come =
+      let x = added s n (newer ++ h) e.actor e.event (AreScenes s (length newer) (newer ++ h)) scenes back legal.1 are in
+      let first : Comes s (newer ++ h) e x.here = record { image = x.image; stays = quiet_stays s n (newer ++ h) e legal } in
+      let others : AllCome s (e ∷ (newer ++ h)) later (left_behind e.event x.here) = subst (λ (zs : List SceneView). AllCome s (e ∷ (newer ++ h)) later zs) (sym x.left) come in
+      subst (λ (zs : List SceneView). AllCome s h (reverse_aux newer (e ∷ later)) zs) (sym x.split) (turned newer (e ∷ later) x.front x.here legal.0 x.earlier (first, others))
+
+  -- entries behind a past come with the scenes of their draws
+  pub scenes_come : (news : List Entry) (scenes : List SceneView) → Legal s n (reverse news ++ h) → AreScenes s (length news) (reverse news ++ h) scenes → AllCome s h news scenes
+  scenes_come news scenes legal are =
+      let there = turned (reverse news) [] scenes [] legal (subst (λ (k : ℕ). AreScenes s k (reverse news ++ h) scenes) (sym (length-reverse news)) are) tt in
+      subst (λ (zs : List SceneView). AllCome s h news zs) (append-nil scenes) (subst (λ (es : List Entry). AllCome s h es (scenes ++ [])) (reverse-reverse news) there)
+
+-- and so do the entries behind those that were written
+pub news_come : (s : ScriptModel) (n : ℕ) (entries : List Entry) (written : ℕ) (scenes : List SceneView) → written ≤ length entries → Legal s n (reverse entries)
+    → AreScenes s (length entries - written) (reverse entries) scenes → AllCome s (reverse (take written entries)) (drop written entries) scenes
+news_come s n entries written scenes few legal are =
+    let done : List Entry = take written entries in
+    let news : List Entry = drop written entries in
+    let past : reverse entries ≡ reverse news ++ reverse done = ap (λ (es : List Entry). reverse es) (sym (take-append-drop written entries)) ∙ reverse-append done news in
+    let some : length entries - written ≡ length news = sym (length-drop written entries) in
+    scenes_come s n (reverse done) news scenes (subst (λ (h : List Entry). Legal s n h) past legal)
+    (subst (λ (k : ℕ). AreScenes s k (reverse news ++ reverse done) scenes) some (subst (λ (h : List Entry). AreScenes s (length entries - written) h scenes) past are))
+
+-- ---- one entry after another
+
+-- the line of an event and what stands behind it are its piece
+pub piece_parts : (s : ScriptModel) (h : List Entry) (lines held : List ℕ) (e : Event) → held ≡ lines ++ event_line e → held ++ image_behind s h e ≡ lines ++ piece s h e
+unfolding piece
+piece_parts s h lines held e is = ap (λ (w : List ℕ). w ++ image_behind s h e) is ∙ append_assoc lines (event_line e) (image_behind s h e)
+
+module _ (s : ScriptModel) (entries : List Entry) (at : ℕ) (e : Entry) (there : slice_get entries at ≡ Some e) where
+  -- what the entries from a place on add is what the first of them does, and what the others do
+  pub next_pieces : pieces s (reverse (take at entries)) (drop at entries) ≡ piece s (reverse (take at entries)) e.event ++ pieces s (reverse (take (at + 1) entries)) (drop (at + 1) entries)
+  next_pieces =
+      ap (λ (es : List Entry). pieces s (reverse (take at entries)) es) (first_behind entries at e there)
+      ∙ ap (λ (h : List Entry). piece s (reverse (take at entries)) e.event ++ pieces s h (drop (at + 1) entries)) (sym (newest_before entries at e there))
+
+  pub next_comes : (scenes : List SceneView) → AllCome s (reverse (take at entries)) (drop at entries) scenes
+      → Comes s (reverse (take at entries)) e scenes × AllCome s (reverse (take (at + 1) entries)) (drop (at + 1) entries) (left_behind e.event scenes)
+  next_comes scenes come =
+      let both : AllCome s (reverse (take at entries)) (e ∷ drop (at + 1) entries) scenes = subst (λ (es : List Entry). AllCome s (reverse (take at entries)) es scenes) (first_behind entries at e there) come in
+      (both.0, subst (λ (h : List Entry). AllCome s h (drop (at + 1) entries) (left_behind e.event scenes)) (sym (newest_before entries at e there)) both.1)

@@ -1,0 +1,71 @@
+-- What a sink gained piece by piece is a front of the whole.
+use Rattle.std.proofs.Common.{◌≡◌, ℕ, List, [], ◌++◌, None, Some, ap, sym, ◌∙◌, refl, append_assoc, append-nil, subst}
+use Rattle.std.specs.Prelude.{Option, Result, Ok, Err}
+use Rattle.std.specs.Io.KnownBytes.{Appends}
+use Rattle.player_io.specs.Pieces.{GainsPrefix}
+use Rattle.recording_writer.specs.Writing.{PutsAll}
+use Rattle.recording_writer.specs.inner.Parts.{Half, WritesPart}
+
+-- a piece and then another are both together
+pub gains_both : (old mid new : Option (List ℕ)) (a b : List ℕ) → Appends old mid a → Appends mid new b → Appends old new (a ++ b)
+gains_both None mid new a b first second = tt
+gains_both (Some xs) None new a b first second = absurd first
+gains_both (Some xs) (Some ys) None a b first second = absurd second
+gains_both (Some xs) (Some ys) (Some zs) a b first second = second ∙ ap (λ w. w ++ b) first ∙ append_assoc xs a b
+
+-- a piece and then a front of another are a front of all
+pub gains_front : (old mid new : Option (List ℕ)) (a b rest whole : List ℕ) → Appends old mid a → GainsPrefix mid new b → (a ++ b) ++ rest ≡ whole → GainsPrefix old new whole
+gains_front None mid new a b rest whole first more e = ([], whole, refl, tt)
+gains_front (Some xs) None new a b rest whole first more e = absurd first
+gains_front (Some xs) (Some ys) new a b rest whole first more e =
+    let joined : a ++ ((more.0 ++ more.1) ++ rest) ≡ whole = ap (λ w. a ++ (w ++ rest)) more.2 ∙ sym (append_assoc a b rest) ∙ e in
+    (a ++ more.0, more.1 ++ rest, simp append_assoc (simp append_assoc at joined), gains_both (Some xs) (Some ys) new a more.0 first more.3)
+
+-- nothing is added by nothing
+pub appends_nothing : (held : Option (List ℕ)) → Appends held held []
+appends_nothing None = tt
+appends_nothing (Some xs) = sym (append-nil xs)
+
+-- nothing is a front of all
+pub gains_nothing : (held : Option (List ℕ)) (whole : List ℕ) → GainsPrefix held held whole
+gains_nothing held whole = ([], whole, refl, appends_nothing held)
+
+-- a front of a beginning is a front of the whole
+pub gains_longer : (old new : Option (List ℕ)) (a b : List ℕ) → GainsPrefix old new a → GainsPrefix old new (a ++ b)
+gains_longer old new a b more = (more.0, more.1 ++ b, sym (append_assoc more.0 more.1 b) ∙ ap (λ w. w ++ b) more.2, more.3)
+
+-- some bytes were put, and then others or a front of them
+pub written_after : {X E : Type 0} (result : Result X E) (old mid new : Option (List ℕ)) (a b whole : List ℕ) → Appends old mid a → PutsAll mid new b result → a ++ b ≡ whole → PutsAll old new whole result
+written_after (Ok x) old mid new a b whole first more e = subst (λ (w : List ℕ). Appends old new w) e (gains_both old mid new a b first more)
+written_after (Err stop) old mid new a b whole first more e = gains_front old mid new a b [] whole first more (append-nil (a ++ b) ∙ e)
+
+-- the same where nothing is held back any more
+pub behind_written : {X E : Type 0} (result : Result X E) (old mid new : Option (List ℕ)) (a b held : List ℕ) → Appends old mid a → held ≡ [] → PutsAll mid new b result → WritesPart old new (a ++ b) held result
+behind_written (Ok x) old mid new a b held first empty more = (a ++ b, ap (λ w. (a ++ b) ++ w) empty ∙ append-nil (a ++ b), gains_both old mid new a b first more)
+behind_written (Err stop) old mid new a b held first empty more = gains_front old mid new a b [] (a ++ b) first more (append-nil (a ++ b))
+
+joins : (gained held lines p q : List ℕ) → gained ++ held ≡ lines ++ p → gained ++ (held ++ q) ≡ lines ++ (p ++ q)
+joins gained held lines p q e = sym (append_assoc gained held q) ∙ ap (λ w. w ++ q) e ∙ append_assoc lines p q
+
+-- a part was written but for what is held back, and then another with it
+pub parts_join : {X E : Type 0} (result : Result X E) (old mid new : Option (List ℕ)) (lines p held q after : List ℕ) → Half old mid (lines ++ p) held → WritesPart mid new (held ++ q) after result → WritesPart old new (lines ++ (p ++ q)) after result
+parts_join (Ok x) old mid new lines p held q after first more =
+    (first.0 ++ more.0, append_assoc first.0 more.0 after ∙ ap (λ w. first.0 ++ w) more.1 ∙ joins first.0 held lines p q first.1, gains_both old mid new first.0 more.0 first.2 more.2)
+parts_join (Err stop) old mid new lines p held q after first more =
+    gains_front old mid new first.0 (held ++ q) [] (lines ++ (p ++ q)) first.2 more (append-nil (first.0 ++ (held ++ q)) ∙ joins first.0 held lines p q first.1)
+
+-- bytes more that are held back are bytes more of the whole
+pub half_longer : (old new : Option (List ℕ)) (a b held : List ℕ) → Half old new a held → Half old new (a ++ b) (held ++ b)
+half_longer old new a b held half = (half.0, sym (append_assoc half.0 held b) ∙ ap (λ w. w ++ b) half.1, half.2)
+
+-- one more piece was written: what was gained of it is added, and what is held back of it takes the place of what was held back before
+pub piece_moves : (done lines gained held piece rest all whole : List ℕ) → gained ++ held ≡ lines ++ piece → all ≡ piece ++ rest → done ++ (lines ++ all) ≡ whole → (done ++ gained) ++ (held ++ rest) ≡ whole
+piece_moves done lines gained held piece rest all whole part is e =
+    append_assoc done gained (held ++ rest)
+    ∙ ap (λ w. done ++ w) (joins gained held lines piece rest part ∙ ap (λ w. lines ++ w) (sym is))
+    ∙ e
+
+-- a front of one more piece was written
+pub piece_stops : (done lines piece rest all whole : List ℕ) → all ≡ piece ++ rest → done ++ (lines ++ all) ≡ whole → (done ++ (lines ++ piece)) ++ rest ≡ whole
+piece_stops done lines piece rest all whole is e =
+    append_assoc done (lines ++ piece) rest ∙ ap (λ w. done ++ w) (append_assoc lines piece rest ∙ ap (λ w. lines ++ w) (sym is)) ∙ e

@@ -1,0 +1,18 @@
+-- The picture has the image of the draw.
+use Rattle.std.proofs.Common.{◌≡◌, ℕ, List, ◌++◌}
+use Rattle.model_history.specs.Recordings.{image_head, image_behind}
+use Rattle.model_lockstep.proofs.Following.{then_on_ok}
+use Rattle.recording_writer.proofs.KeptPictures.{drawn_text}
+use Rattle.recording_writer.proofs.recorder.Recorder.draw.Goals as goal
+
+pub returns : goal.returns
+returns g c =
+    let lines : List ℕ = c.args.self.now.lines.items in
+    let text : List ℕ = c.push_image_head.new.text.items in
+    then_on_ok c.push_image_head.result (text ≡ lines ++ image_head c.w-w.result c.h-h.result) _ c.push_image_head.ensures.text
+    (λ made s h keeps behind.
+    let shows = c.in_ok-show.ensures s h keeps behind in
+    record {
+      text = drawn_text c.show.new.self.pictures lines text (image_behind s h c.args.entry.now.event) c.w-w.result c.h-h.result c.w-w.ensures c.h-h.ensures made shows.image;
+      keeps = shows.keeps;
+    })

@@ -1,0 +1,43 @@
+//! Pictures of scenes, each as an image of its own.
+
+ghost use Rattle.std.specs.Prelude.{◌≡◌, IfOk};
+ghost use Rattle.recording_writer.specs.inner.Scenes.{scene_image};
+
+use crate::image::image_of;
+use std::alloc::{AllocError, Global};
+use std::marker::Sync;
+use std::thread::Threads;
+use viz_painter::Painter;
+use viz_scene::Scene;
+
+/// A painter that gives the image of each scene away.
+#[derive(Drop)]
+pub struct ImagePainter {
+    painter: Painter,
+    alloc: Global,
+}
+
+impl ImagePainter {
+    /// Nothing is painted yet. An error is want of memory.
+    pub fn new(alloc: Global) -> Result<ImagePainter, AllocError> {
+        Ok(ImagePainter {
+            painter: Painter::new(alloc, 1, 1)?,
+            alloc,
+        })
+    }
+
+    /// The image of a scene, made in so many parts at the most, each by a thread of its own where it can be
+    /// started. Where there is one part, none is started. An error is want of memory.
+    #[tactic(auto, using(crate::proofs::Shows::shown_whole))]
+    pub fn paint<R: Threads + Sync>(
+        &mut self,
+        rt: &R,
+        scene: Scene,
+        parts: usize,
+    ) -> Result<Vec<u8>, AllocError>
+        ensures { IfOk result (λ bytes. bytes.items ≡ scene_image scene) }
+    {
+        self.painter.paint_in_parts(rt, scene, parts)?;
+        image_of(rt, self.alloc, self.painter.frame(), parts)
+    }
+}

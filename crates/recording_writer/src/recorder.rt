@@ -1,0 +1,221 @@
+//! Entries of a history, written with the pictures of their draws.
+
+ghost use Rattle.std.specs.Prelude.{◌≡◌, ◌≤◌, ◌++◌, List, None, codes, drop, length, reverse, slice_get, take, IfOk, OnOk};
+ghost use Rattle.std.specs.Vec.Iter.{into_iter_items, into_iter_len};
+ghost use Rattle.model_history.specs.Recordings.{header, image_behind, piece, pieces};
+ghost use Rattle.model_history.specs.Scripts.{ScriptModel};
+ghost use Rattle.model_history.specs.declared.history.Entry.{Entry};
+ghost use Rattle.impl_log.specs.Runs.{past};
+ghost use Rattle.recording_writer.specs.Writing.{PutsAll, WriteCause};
+ghost use Rattle.recording_writer.specs.inner.Parts.{WritesPart};
+ghost use Rattle.recording_writer.specs.inner.Repeats.{Keeps};
+ghost use Rattle.recording_writer.specs.inner.Scenes.{AllCome, Comes, is_draw as is_draw_of, scene_image, scene_of, left_behind, image_if};
+ghost use Rattle.recording_writer.specs.inner.Steps.{DrawsOn, WritesOn};
+
+use crate::last_draw::LastDraw;
+use crate::writing::{WriteStop, flush, flush_many, put_behind};
+use impl_core::Core;
+use model_history::{Entry, Event, History};
+use player_io::Sink;
+use recording_text::{push_event, push_image_head};
+use std::alloc::{AllocError, Global};
+use std::marker::Sync;
+use std::thread::Threads;
+use std::vec::IntoIter;
+use viz_scene::Scene;
+
+/// What is held between two pieces of a recording.
+#[derive(Drop)]
+pub(crate) struct Recorder {
+    /// the lines that were not put yet
+    pub(crate) lines: Vec<u8>,
+    /// the last draw, with its picture
+    pub(crate) last: LastDraw,
+    /// in how many parts a picture is made at the most
+    parts: usize,
+}
+
+// Whether the event shows a picture.
+fn is_draw(event: &Event) -> bool
+    ensures { result ≡ is_draw_of event.now }
+{
+    matches!(event, Event::Draw { .. })
+}
+
+// The scene of an event, where it is a draw.
+fn next_scene(event: &Event, scenes: &mut IntoIter<Scene, Global>) -> Option<Scene>
+    requires { into_iter_len scenes.old ≡ length (into_iter_items scenes.old) }
+    ensures scene { result ≡ scene_of event.now (into_iter_items scenes.old) }
+    ensures left { into_iter_items scenes.new ≡ left_behind event.now (into_iter_items scenes.old) }
+    ensures count { into_iter_len scenes.new ≡ length (into_iter_items scenes.new) }
+{
+    if is_draw(event) { scenes.next() } else { None }
+}
+
+/// The two lines before the events: the name of the format, and this text of a script. An error is want of memory.
+#[tactic(auto, unfolding(model_history::specs::Recordings::header))]
+pub fn header_of(alloc: Global, script: &[u8]) -> Result<Vec<u8>, AllocError>
+    ensures { IfOk result (λ lines. lines.items ≡ header script.now) }
+{
+    let mut lines = Vec::from_slice(alloc, b"cc1\n")?;
+    lines.extend_from_slice(script)?;
+    lines.push(b'\n')?;
+    Ok(lines)
+}
+
+impl Recorder {
+    /// A recorder that holds the name of the format, and makes each picture in so many parts at the most. An error
+    /// is want of memory.
+    pub(crate) fn new(alloc: Global, parts: usize) -> Result<Recorder, AllocError>
+        ensures name { IfOk result (λ recorder. recorder.lines.items ≡ codes "cc1\n") }
+        ensures none { IfOk result (λ recorder. recorder.last.place ≡ None) }
+    {
+        Ok(Recorder {
+            lines: Vec::from_slice(alloc, b"cc1\n")?,
+            last: LastDraw::new(alloc)?,
+            parts,
+        })
+    }
+
+    /// Writes the two lines before the events, the second of which is this text of a script. The text may be long,
+    /// so it is put as it is.
+    pub(crate) fn begin<K: Sink>(&mut self, out: &mut K, script: &[u8]) -> Result<(), WriteStop>
+        requires { self.old.lines.items ≡ codes "cc1\n" }
+        ensures bytes { WritesPart (K.held out.old) (K.held out.new) (header script.now) self.new.lines.items result }
+        ensures last { self.new.last ≡ self.old.last }
+        ensures grows { K.faults out.old ≤ K.faults out.new }
+        ensures cause { WriteCause (K.faults out.old) (K.faults out.new) result }
+    {
+        if let Err(stop) = put_behind(out, &mut self.lines, script) {
+            return Err(stop);
+        }
+        match self.lines.push(b'\n') {
+            Ok(()) => Ok(()),
+            Err(_) => Err(WriteStop::Memory),
+        }
+    }
+
+    // Makes the picture of a draw, and adds the head of its image to the lines.
+    fn draw<R: Threads + Sync>(
+        &mut self,
+        rt: &R,
+        history: &History,
+        at: usize,
+        entry: &Entry,
+        scene: Scene,
+    ) -> Result<(), AllocError>
+        requires { slice_get history.now.entries at ≡ Some entry.now }
+        ensures { OnOk result ((s : ScriptModel) (h : List Entry) → Keeps s h history.now.entries self.old.last → scene_image scene ≡ image_behind s h entry.now.event → DrawsOn s h history.now.entries (self.old.lines.items ++ image_behind s h entry.now.event) self.new) }
+    {
+        self.last.show(rt, history, at, entry, scene, self.parts)?;
+        let (w, h) = (self.last.pictures.w(), self.last.pictures.h());
+        push_image_head(&mut self.lines, w, h)
+    }
+
+    // Writes the image of a draw.
+    fn write_image<R: Threads + Sync, K: Sink>(
+        &mut self,
+        rt: &R,
+        out: &mut K,
+        history: &History,
+        at: usize,
+        entry: &Entry,
+        scene: Scene,
+    ) -> Result<(), WriteStop>
+        requires { slice_get history.now.entries at ≡ Some entry.now }
+        ensures written { (s : ScriptModel) (h : List Entry) → Keeps s h history.now.entries self.old.last → scene_image scene ≡ image_behind s h entry.now.event → WritesOn s h history.now.entries (K.held out.old) (K.held out.new) (self.old.lines.items ++ image_behind s h entry.now.event) self.new result }
+        ensures grows { K.faults out.old ≤ K.faults out.new }
+        ensures cause { WriteCause (K.faults out.old) (K.faults out.new) result }
+    {
+        match self.draw(rt, history, at, entry, scene) {
+            Ok(()) => put_behind(out, &mut self.lines, self.last.pictures.packed()),
+            Err(_) => Err(WriteStop::Memory),
+        }
+    }
+
+    // Writes the image of an entry, if it has a scene.
+    fn write_shown<R: Threads + Sync, K: Sink>(
+        &mut self,
+        rt: &R,
+        out: &mut K,
+        history: &History,
+        at: usize,
+        entry: &Entry,
+        scene: Option<Scene>,
+    ) -> Result<(), WriteStop>
+        requires { slice_get history.now.entries at ≡ Some entry.now }
+        ensures written { (s : ScriptModel) (h : List Entry) → Keeps s h history.now.entries self.old.last → image_if scene ≡ image_behind s h entry.now.event → WritesOn s h history.now.entries (K.held out.old) (K.held out.new) (self.old.lines.items ++ image_behind s h entry.now.event) self.new result }
+        ensures grows { K.faults out.old ≤ K.faults out.new }
+        ensures cause { WriteCause (K.faults out.old) (K.faults out.new) result }
+    {
+        match scene {
+            Some(scene) => self.write_image(rt, out, history, at, entry, scene),
+            None => flush_many(out, &mut self.lines),
+        }
+    }
+
+    // Writes the line of an entry, and behind that of a draw its image. The next scene is that of the next draw.
+    fn write_entry<R: Threads + Sync, K: Sink>(
+        &mut self,
+        rt: &R,
+        out: &mut K,
+        history: &History,
+        at: usize,
+        entry: &Entry,
+        scenes: &mut IntoIter<Scene, Global>,
+    ) -> Result<(), WriteStop>
+        requires there { slice_get history.now.entries at ≡ Some entry.now }
+        requires count { into_iter_len scenes.old ≡ length (into_iter_items scenes.old) }
+        ensures written { (s : ScriptModel) (h : List Entry) → Keeps s h history.now.entries self.old.last → Comes s h entry.now (into_iter_items scenes.old) → WritesOn s h history.now.entries (K.held out.old) (K.held out.new) (self.old.lines.items ++ piece s h entry.now.event) self.new result }
+        ensures left { OnOk result (into_iter_items scenes.new ≡ left_behind entry.now.event (into_iter_items scenes.old)) }
+        ensures count { OnOk result (into_iter_len scenes.new ≡ length (into_iter_items scenes.new)) }
+        ensures grows { K.faults out.old ≤ K.faults out.new }
+        ensures cause { WriteCause (K.faults out.old) (K.faults out.new) result }
+    {
+        match push_event(&mut self.lines, &entry.event) {
+            Ok(()) => {
+                let scene = next_scene(&entry.event, scenes);
+                self.write_shown(rt, out, history, at, entry, scene)
+            }
+            Err(_) => Err(WriteStop::Memory),
+        }
+    }
+
+    /// Writes the entries of a run from a place on. The scenes are those of the draws among them, the oldest first.
+    pub(crate) fn write_entries<R: Threads + Sync, K: Sink>(
+        &mut self,
+        rt: &R,
+        out: &mut K,
+        core: &Core,
+        from: usize,
+        scenes: Vec<Scene>,
+    ) -> Result<(), WriteStop>
+        requires keeps { Keeps core.now.script (reverse (take from core.now.entries)) core.now.entries self.old.last }
+        requires come { AllCome core.now.script (reverse (take from core.now.entries)) (drop from core.now.entries) scenes.items }
+        ensures written { WritesOn core.now.script (past core.now) core.now.entries (K.held out.old) (K.held out.new) (self.old.lines.items ++ pieces core.now.script (reverse (take from core.now.entries)) (drop from core.now.entries)) self.new result }
+        ensures grows { K.faults out.old ≤ K.faults out.new }
+        ensures cause { WriteCause (K.faults out.old) (K.faults out.new) result }
+    {
+        let history = core.history();
+        let mut queue = scenes.into_iter();
+        for at in from..history.len() {
+            let Some(entry) = history.entry(at) else {
+                return Ok(());
+            };
+            if let Err(stop) = self.write_entry(rt, out, history, at, entry, &mut queue) {
+                return Err(stop);
+            }
+            self.last.follow(&entry.event);
+        }
+        Ok(())
+    }
+
+    /// Puts the lines that are left.
+    pub(crate) fn finish<K: Sink>(&mut self, out: &mut K) -> Result<(), WriteStop>
+        ensures bytes { PutsAll (K.held out.old) (K.held out.new) self.old.lines.items result }
+        ensures grows { K.faults out.old ≤ K.faults out.new }
+        ensures cause { WriteCause (K.faults out.old) (K.faults out.new) result }
+    {
+        flush(out, &mut self.lines)
+    }
+}

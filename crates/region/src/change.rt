@@ -1,0 +1,43 @@
+//! What a list of commands changed in one layer.
+
+ghost use Rattle.std.specs.Prelude.{◌≡◌, OnOk, OnErr, IfOk};
+ghost use Rattle.region.specs.Lists.{IsJoined};
+
+use crate::region::Region;
+use std::alloc::AllocError;
+
+/// What changed in one layer.
+#[derive(Drop)]
+pub struct LayerChange {
+    /// the layer's number
+    pub layer: u32,
+    /// the layer was added or resized, so each of its points may have changed
+    pub whole: bool,
+    /// outside this region no point has changed, where the layer was not changed whole
+    pub region: Region,
+}
+
+impl LayerChange {
+    // the same change
+    pub(crate) fn copy(&self) -> Result<LayerChange, AllocError>
+        ensures { IfOk result (λ c. c ≡ self.now) }
+    {
+        let region = self.region.copy()?;
+        Ok(LayerChange {
+            layer: self.layer,
+            whole: self.whole,
+            region,
+        })
+    }
+
+    // adds what changed later in the same layer; want of memory leaves the change as it was
+    pub(crate) fn join(&mut self, later: &LayerChange) -> Result<(), AllocError>
+        requires { self.old.layer ≡ later.now.layer }
+        ensures ok { OnOk result (IsJoined self.old later.now self.new) }
+        ensures err { OnErr result (self.new ≡ self.old) }
+    {
+        self.region.union(&later.region)?;
+        self.whole = self.whole || later.whole;
+        Ok(())
+    }
+}

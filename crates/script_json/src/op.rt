@@ -1,0 +1,140 @@
+//! The names of commands and inputs.
+
+ghost use Rattle.std.specs.Prelude.{◌≡◌, codes, option_and_then};
+ghost use Rattle.serde_json.specs.Find.{get, as_str};
+ghost use Rattle.serde_json.specs.View.{view};
+ghost use Rattle.script_json.specs.Ops.{op_named, layer_op_named, is_of_version, if_of_version, op_at};
+ghost use Rattle.script_json.specs.InputReading.{input_named, input_op_at};
+
+use script_fields::FieldFault;
+use serde_json::Value;
+
+/// A command by its name.
+#[derive(Clone, Copy, PartialEq, Eq, Debug)]
+pub(crate) enum Op {
+    AddTransform,
+    SetTransform,
+    AddClip,
+    SetClip,
+    AddEffect,
+    SetOpacity,
+    AddScroller,
+    SetRange,
+    ScrollBy,
+    ScrollTo,
+    AddLayer,
+    RemoveLayer,
+    ResizeLayer,
+    SetColour,
+    InsertItem,
+    RemoveItem,
+    ReplaceItem,
+    MoveLayer,
+    SetView,
+}
+
+/// An input by its name.
+#[derive(Clone, Copy, PartialEq, Eq, Debug)]
+pub(crate) enum InputOp {
+    Scroll,
+    Wheel,
+    Draw,
+    Await,
+    Settle,
+}
+
+#[tactic(auto, unfolding(crate::specs::Ops::layer_op_named))]
+fn layer_op_named(name: &str) -> Option<Op>
+    ensures { result ≡ layer_op_named name.now }
+{
+    match name {
+        "add_layer" => Some(Op::AddLayer),
+        "remove_layer" => Some(Op::RemoveLayer),
+        "resize_layer" => Some(Op::ResizeLayer),
+        "set_colour" => Some(Op::SetColour),
+        "insert_item" => Some(Op::InsertItem),
+        "remove_item" => Some(Op::RemoveItem),
+        "replace_item" => Some(Op::ReplaceItem),
+        "move_layer" => Some(Op::MoveLayer),
+        "set_view" => Some(Op::SetView),
+        _ => None,
+    }
+}
+
+#[tactic(auto, unfolding(crate::specs::Ops::op_named))]
+fn op_named(name: &str) -> Option<Op>
+    ensures { result ≡ op_named name.now }
+{
+    match name {
+        "add_transform" => Some(Op::AddTransform),
+        "set_transform" => Some(Op::SetTransform),
+        "add_clip" => Some(Op::AddClip),
+        "set_clip" => Some(Op::SetClip),
+        "add_effect" => Some(Op::AddEffect),
+        "set_opacity" => Some(Op::SetOpacity),
+        "add_scroller" => Some(Op::AddScroller),
+        "set_range" => Some(Op::SetRange),
+        "scroll_by" => Some(Op::ScrollBy),
+        "scroll_to" => Some(Op::ScrollTo),
+        _ => layer_op_named(name),
+    }
+}
+
+// Whether a version has this command.
+fn is_of_version(version: u32, op: Op) -> bool
+    ensures { result ≡ is_of_version version op }
+{
+    match op {
+        Op::SetView => version == 2,
+        _ => true,
+    }
+}
+
+// The command that a member `op` names, in this version.
+fn find_op(version: u32, value: &Value) -> Option<Op>
+    ensures { result ≡ option_and_then (if_of_version version) (option_and_then op_named (option_and_then as_str (get (codes "op") (view value.now)))) }
+{
+    let op = op_named(value.get("op")?.as_str()?)?;
+    if is_of_version(version, op) {
+        Some(op)
+    } else {
+        None
+    }
+}
+
+/// The command that a member `op` names; a fault of field 0 where the version has no such.
+#[tactic(auto, unfolding(crate::specs::Ops::op_at))]
+pub(crate) fn command_op(version: u32, value: &Value) -> Result<Op, FieldFault>
+    ensures { result ≡ op_at version (view value.now) }
+{
+    find_op(version, value).ok_or(FieldFault { field: 0 })
+}
+
+#[tactic(auto, unfolding(crate::specs::InputReading::input_named))]
+fn input_named(name: &str) -> Option<InputOp>
+    ensures { result ≡ input_named name.now }
+{
+    match name {
+        "scroll" => Some(InputOp::Scroll),
+        "wheel" => Some(InputOp::Wheel),
+        "draw" => Some(InputOp::Draw),
+        "await" => Some(InputOp::Await),
+        "settle" => Some(InputOp::Settle),
+        _ => None,
+    }
+}
+
+// The input that a member `op` names.
+fn find_input_op(value: &Value) -> Option<InputOp>
+    ensures { result ≡ option_and_then input_named (option_and_then as_str (get (codes "op") (view value.now))) }
+{
+    input_named(value.get("op")?.as_str()?)
+}
+
+/// The input that a member `op` names; a fault of field 0 where there is none.
+#[tactic(auto, unfolding(crate::specs::InputReading::input_op_at))]
+pub(crate) fn input_op(value: &Value) -> Result<InputOp, FieldFault>
+    ensures { result ≡ input_op_at (view value.now) }
+{
+    find_input_op(value).ok_or(FieldFault { field: 0 })
+}

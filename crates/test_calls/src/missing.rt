@@ -1,0 +1,96 @@
+//! What is asked of points with tiles missing.
+
+ghost use Rattle.std.specs.Prelude.{IsTrue, IfSome};
+ghost use Rattle.page_layers.specs.Paintings.{IsOnScreen};
+
+use crate::answer::Answer;
+use crate::fault::LineFault;
+use crate::numbers::{numbers, whole};
+use geom::{Keys, Point, TileKey};
+use page_layers::{LayerTree, main_offsets, paint_at};
+use pixel::Colour;
+use std::alloc::{AllocError, Global};
+
+/// A key, as `1 0 2 0`: the layer, the column, the row and the stamp.
+fn key_of(text: &str) -> Result<TileKey, LineFault> {
+    let [layer, x, y, stamp] = numbers::<4>(text)?;
+    let (layer, x) = (whole(layer)?, whole(x)?);
+    let (y, stamp) = (whole(y)?, whole(stamp)?);
+    Ok(TileKey { layer, x, y, stamp })
+}
+
+/// Adds the keys of a text.
+fn add_keys(keys: &mut Keys, text: &str) -> Result<(), LineFault> {
+    for one in text.split("; ") {
+        if keys.push(key_of(one)?).is_err() {
+            return Err(LineFault::Memory(AllocError));
+        }
+    }
+    Ok(())
+}
+
+/// Whether a point is one of the largest screen.
+fn is_on_screen(x: i32, y: i32) -> bool
+    ensures { IsTrue result → IsOnScreen x y }
+{
+    let across = 0 <= x && x < 2048;
+    let down = 0 <= y && y < 2048;
+    across && down
+}
+
+/// A point of the largest screen.
+fn on_screen(x: i64, y: i64) -> Option<Point>
+    ensures { IfSome result (λ p. IsOnScreen p.x p.y) }
+{
+    let (Ok(x), Ok(y)) = (i32::try_from(x), i32::try_from(y)) else {
+        return None;
+    };
+    if is_on_screen(x, y) {
+        return Some(Point { x, y });
+    }
+    None
+}
+
+/// Says which colour a point of the page, as `10 4`, has with these tiles missing, over black.
+fn say_pixel(
+    alloc: Global,
+    tree: &LayerTree,
+    missing: &[TileKey],
+    at: &str,
+    answer: &mut Answer,
+) -> Result<(), LineFault> {
+    let [x, y] = numbers::<2>(at)?;
+    let at = on_screen(x, y).ok_or(LineFault::NoNumber)?;
+    let offsets = main_offsets(alloc, tree)?;
+    let black = Colour::new(0, 0, 0, 255).unwrap_or(Colour::CLEAR);
+    let colour = paint_at(alloc, tree, &offsets, missing, black, at.x, at.y)?;
+    answer.say_colour(colour);
+    Ok(())
+}
+
+/// Says which colours points of the page have with these tiles missing.
+fn say_pixels(
+    alloc: Global,
+    tree: &LayerTree,
+    missing: &[TileKey],
+    points: &str,
+    answer: &mut Answer,
+) -> Result<(), LineFault> {
+    for at in points.split("; ") {
+        say_pixel(alloc, tree, missing, at, answer)?;
+    }
+    Ok(())
+}
+
+/// Says which colours points of a page have with tiles missing: `KEYS | POINTS`.
+pub fn missing(
+    alloc: Global,
+    tree: &LayerTree,
+    question: &str,
+    answer: &mut Answer,
+) -> Result<(), LineFault> {
+    let (keys, points) = question.split_once(" | ").ok_or(LineFault::NoForm)?;
+    let mut missing = Keys::new(alloc);
+    add_keys(&mut missing, keys)?;
+    say_pixels(alloc, tree, missing.as_slice(), points, answer)
+}

@@ -1,0 +1,60 @@
+//! Numbers as the table writes them.
+
+ghost use Rattle.std.specs.Prelude.{IsTrue, IfOk};
+ghost use Rattle.model_scroll_values.specs.Bounds.{IsBoundedNumber};
+
+use crate::fault::LineFault;
+use page_layers::Move;
+
+/// Both parts of a pull lie below this bound in absolute value.
+const PULL_BOUND: i64 = 549755813888;
+
+/// The numbers of a text, with blanks between. There have to be exactly so many.
+pub fn numbers<const N: usize>(text: &str) -> Result<[i64; N], LineFault> {
+    let mut words = text.split_whitespace();
+    let mut all = [0; N];
+    for number in &mut all {
+        let word = words.next().ok_or(LineFault::NoNumber)?;
+        *number = word.parse::<i64>().map_err(|_| LineFault::NoNumber)?;
+    }
+    match words.next() {
+        None => Ok(all),
+        Some(_) => Err(LineFault::NoNumber),
+    }
+}
+
+/// A number that is not negative.
+pub fn whole(number: i64) -> Result<u32, LineFault> {
+    u32::try_from(number).map_err(|_| LineFault::NoNumber)
+}
+
+/// Whether a part of a pull is within its bound.
+fn is_bounded(part: i64) -> bool
+    ensures { IsTrue result → IsBoundedNumber part }
+{
+    -PULL_BOUND < part && part < PULL_BOUND
+}
+
+/// A move, as `1 10 -4`: the scroller, and how far across and down.
+pub fn move_of(text: &str) -> Result<Move, LineFault> {
+    let [scroller, dx, dy] = numbers::<3>(text)?;
+    let scroller = whole(scroller)?;
+    Ok(Move { scroller, dx, dy })
+}
+
+/// A pull of scroller 1, as `10 -4`.
+pub fn pull_of(text: &str) -> Result<Move, LineFault>
+    ensures { IfOk result (λ m. IsBoundedNumber m.dx × IsBoundedNumber m.dy) }
+{
+    let [dx, dy] = numbers::<2>(text)?;
+    let across = is_bounded(dx);
+    let down = is_bounded(dy);
+    if across && down {
+        return Ok(Move {
+            scroller: 1,
+            dx,
+            dy,
+        });
+    }
+    Err(LineFault::NoNumber)
+}

@@ -1,0 +1,99 @@
+//! The keys of a tree, as the table writes them.
+
+ghost use Rattle.geom.specs.Sides.{IsSide};
+ghost use Rattle.geom.specs.Covers.{IsSound};
+
+use geom::{Rect, TileKey};
+use impl_trees::TreeState;
+use page_layers::Layer;
+use std::alloc::{AllocError, Global};
+use tile_tiling::Tiling;
+use tile_visible::by_id;
+
+// All of a layer.
+fn whole_of(layer: &Layer) -> Rect
+    requires wide { IsSide layer.now.w }
+    requires tall { IsSide layer.now.h }
+    ensures { IsSound result }
+{
+    Rect {
+        x: 0,
+        y: 0,
+        w: layer.w as i32,
+        h: layer.h as i32,
+    }
+}
+
+// Adds the keys of a layer.
+fn add_keys(keys: &mut Vec<TileKey>, layer: &Layer, tiling: &Tiling) -> Result<(), AllocError>
+    requires wide { IsSide layer.now.w }
+    requires tall { IsSide layer.now.h }
+{
+    let added = tiling.covering(layer.id, whole_of(layer))?;
+    keys.extend_from_slice(added.as_slice())?;
+    Ok(())
+}
+
+// The keys of all places of a tree, in key order: by layer, row and column.
+fn keys_of(alloc: Global, state: &TreeState) -> Result<Vec<TileKey>, AllocError> {
+    let mut keys = Vec::new(alloc);
+    let tree = state.tree();
+    let layers = tree.layers();
+    tree.are_sized(layers);
+    let order = by_id(alloc, layers)?;
+    for one in order.as_slice() {
+        if let Some(tiling) = state.tilings().get(one.index) {
+            add_keys(&mut keys, one.layer, tiling)?;
+        }
+    }
+    Ok(keys)
+}
+
+// The sum of keys.
+fn sum_of(keys: &[TileKey]) -> u64 {
+    let mut sum: u64 = 0;
+    for key in keys {
+        for number in [key.layer, key.x, key.y, key.stamp] {
+            sum = sum.wrapping_mul(31).wrapping_add(number as u64);
+        }
+    }
+    sum
+}
+
+// The keys, with blanks between; `-` where there are none.
+fn text_of(alloc: Global, keys: &[TileKey]) -> Result<String, AllocError> {
+    if keys.is_empty() {
+        return "-".to_string(alloc);
+    }
+    let mut text = String::new(alloc);
+    for key in keys {
+        if !text.is_empty() {
+            text.push(' ')?;
+        }
+        let TileKey { layer, x, y, stamp } = *key;
+        let one = format!(in alloc; "{layer}/{x}/{y}/{stamp}")?;
+        text.push_str(one.as_str())?;
+    }
+    Ok(text)
+}
+
+/// The keys of a tree, in key order; `none` where there is no tree.
+pub fn told_keys(alloc: Global, state: Option<&TreeState>) -> Result<String, AllocError> {
+    match state {
+        Some(state) => text_of(alloc, keys_of(alloc, state)?.as_slice()),
+        None => "none".to_string(alloc),
+    }
+}
+
+/// How many keys a tree has, and their sum; `none` where there is no tree.
+pub fn told_sum(alloc: Global, state: Option<&TreeState>) -> Result<String, AllocError> {
+    match state {
+        Some(state) => {
+            let keys = keys_of(alloc, state)?;
+            let count = keys.len();
+            let sum = sum_of(keys.as_slice());
+            format!(in alloc; "{count} {sum}")
+        }
+        None => "none".to_string(alloc),
+    }
+}

@@ -1,0 +1,75 @@
+//! An answer as text.
+
+use geom::Rect;
+use pixel::Colour;
+use std::alloc::{AllocError, Global};
+
+/// An answer, part by part. Where memory ran out it takes no more parts, and has no text.
+#[derive(Drop)]
+pub struct Answer {
+    alloc: Global,
+    text: String,
+    lacks_memory: bool,
+}
+
+/// Adds a word and numbers to a text, behind a semicolon where it says something already.
+fn push_part(
+    alloc: Global,
+    text: &mut String,
+    word: &str,
+    numbers: &[i64],
+) -> Result<(), AllocError> {
+    if !text.is_empty() {
+        text.push_str("; ")?;
+    }
+    text.push_str(word)?;
+    for number in numbers {
+        text.push(' ')?;
+        text.push_str(number.to_string(alloc)?.as_str())?;
+    }
+    Ok(())
+}
+
+impl Answer {
+    /// No part.
+    pub fn new(alloc: Global) -> Answer {
+        Answer {
+            alloc,
+            text: String::new(alloc),
+            lacks_memory: false,
+        }
+    }
+
+    /// Adds a part: a word, and numbers behind it.
+    pub fn say(&mut self, word: &str, numbers: &[i64]) {
+        if !self.lacks_memory && push_part(self.alloc, &mut self.text, word, numbers).is_err() {
+            self.lacks_memory = true;
+        }
+    }
+
+    /// Adds a rect: its corner, its width and its height.
+    pub fn say_rect(&mut self, word: &str, rect: Rect) {
+        let (x, y, w, h) = (rect.x, rect.y, rect.w, rect.h);
+        self.say(
+            word,
+            &[i64::from(x), i64::from(y), i64::from(w), i64::from(h)],
+        );
+    }
+
+    /// Adds a colour: red, green, blue and alpha.
+    pub fn say_colour(&mut self, word: &str, colour: Colour) {
+        let (r, g, b, a) = (colour.r(), colour.g(), colour.b(), colour.a());
+        self.say(
+            word,
+            &[i64::from(r), i64::from(g), i64::from(b), i64::from(a)],
+        );
+    }
+
+    /// The text of all parts.
+    pub fn text(&self) -> Result<&str, AllocError> {
+        if self.lacks_memory {
+            return Err(AllocError);
+        }
+        Ok(self.text.as_str())
+    }
+}

@@ -1,0 +1,46 @@
+//! Asks of pairs of scenes what is hidden, where they differ and what is drawn, and compares the answers with a
+//! table.
+//!
+//! The table is read from standard input; a line that begins with `#` and an empty one say nothing.
+//!
+//! | Line | What it says |
+//! |---|---|
+//! | `image: LAYER COLUMN ROW STAMP W H; ITEM; ..` | an image of this key, W by H pixels large, of the items `X Y W H COLOUR`; images are numbered from 0 |
+//! | `scene: W H COLOUR; PART; ..` | a scene over a background, the new one; the new one before becomes the old one |
+//! | `script: JSON` | the script whose page, after all its main frames, the scenes of pages below are of |
+//! | `page: TILE` | the scene of that page as the new one, where the tile of this number, in key order, is missing; `none` for no tile |
+//! | `KIND: QUESTION => ANSWER` | a question about both scenes |
+//!
+//! A part is `tile IMAGE X Y W H FROM_X FROM_Y`, `solid X Y W H COLOUR`, `group PASS OPACITY`, `nothing`, or
+//! `end` between two passes. A colour is `R G B A`, premultiplied.
+//!
+//! | Kind | Question | Answer |
+//! |---|---|---|
+//! | `damage` | | the rects of the damage from the old scene to the new one, how many points it covers, and in how many points the pictures differ |
+//! | `painted` | | the same of both scenes without their hidden quads |
+//! | `redrawn` | | the colours of the old picture in which the damage was drawn again |
+//! | `shown` | | the colours of both pictures as one painter shows them, and of the old one when it is shown once more |
+//! | `culled` | | the parts of the new scene without its hidden quads |
+//! | `colour` | the number of an image | its colour, where it has only one |
+//!
+//! The colours of a picture are told row by row, each with how many pixels in a row have it. Standard output
+//! tells how many answers there were, so that none gets lost, and each that differs, with its line. One of
+//! these, or a line that can't be read, ends in status 1 and one line on standard error.
+#![tactic(auto)]
+
+mod answer;
+mod answers;
+mod asks;
+mod fault;
+mod pages;
+mod parts;
+mod pictures;
+mod words;
+
+use crate::answers::Answers;
+use std::process::ExitCode;
+use test_table::check_table;
+
+fn main(rt: HostRuntime) -> ExitCode {
+    check_table(&rt, &mut Answers::new(rt.alloc()))
+}

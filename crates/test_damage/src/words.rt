@@ -1,0 +1,74 @@
+//! Numbers, rects and colours as the table writes them.
+
+ghost use Rattle.std.specs.Prelude.{IfOk, IsTrue};
+ghost use Rattle.geom.specs.Covers.{IsSound, IsSpan};
+
+use crate::fault::LineFault;
+use geom::{Point, Rect};
+use pixel::Colour;
+
+/// The numbers of a text, with blanks between. There have to be exactly so many.
+pub fn numbers<const N: usize>(text: &str) -> Result<[i32; N], LineFault> {
+    let mut words = text.split_whitespace();
+    let mut all = [0; N];
+    for number in &mut all {
+        let word = words.next().ok_or(LineFault::NoNumber)?;
+        *number = word.parse::<i32>().map_err(|_| LineFault::NoNumber)?;
+    }
+    match words.next() {
+        None => Ok(all),
+        Some(_) => Err(LineFault::NoNumber),
+    }
+}
+
+/// A number that is not negative.
+pub fn whole(number: i32) -> Result<u32, LineFault> {
+    u32::try_from(number).map_err(|_| LineFault::NoNumber)
+}
+
+/// A number up to 255.
+pub fn byte(number: i32) -> Result<u8, LineFault> {
+    u8::try_from(number).map_err(|_| LineFault::NoNumber)
+}
+
+/// A colour of its red, green, blue and alpha.
+pub fn colour([r, g, b, a]: [i32; 4]) -> Result<Colour, LineFault> {
+    let (r, g) = (byte(r)?, byte(g)?);
+    let (b, a) = (byte(b)?, byte(a)?);
+    Colour::new(r, g, b, a).ok_or(LineFault::NoNumber)
+}
+
+// whether a number is at most 2048 in absolute value
+fn is_near(n: i32) -> bool {
+    -2048 <= n && n <= 2048
+}
+
+// whether a length of at most 2048 starts near the screen
+fn is_span(at: i32, len: i32) -> bool
+    ensures { IsTrue result → IsSpan at len }
+{
+    let starts = -2048 <= at && at <= 2048;
+    let ends = 0 <= len && len <= 2048;
+    starts && ends
+}
+
+/// A rect near the screen, with sides from 0 to 2048 pixels.
+pub fn rect(numbers: [i32; 4]) -> Result<Rect, LineFault>
+    ensures { IfOk result IsSound }
+{
+    let [x, y, w, h] = numbers;
+    let across = is_span(x, w);
+    let down = is_span(y, h);
+    if across && down {
+        return Ok(Rect { x, y, w, h });
+    }
+    Err(LineFault::NoNumber)
+}
+
+/// A point near the screen.
+pub fn point([x, y]: [i32; 2]) -> Result<Point, LineFault> {
+    if is_near(x) && is_near(y) {
+        return Ok(Point { x, y });
+    }
+    Err(LineFault::NoNumber)
+}

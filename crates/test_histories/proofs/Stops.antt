@@ -1,0 +1,107 @@
+-- Which entries a run takes, and where a walk stops.
+use Rattle.std.proofs.Common.{ℕ, zero, suc, ◌+◌, ◌<◌, ◌≡◌, Bool, true, false, cond, not, ◌&&◌, Some, None, List, [], ◌∷◌, ◌++◌, length, get_or, take, drop, refl, ap, sym, ◌∙◌, subst, arith, drop-cons, take-append-drop}
+use Rattle.std.specs.Prelude.{Option, slice_get}
+use Rattle.std.specs.Bool.{Decides}
+use Rattle.std.proofs.lemmas.List.{length-take-le}
+use Rattle.model_history.specs.declared.event.Event.{Event}
+use Rattle.model_history.specs.declared.event.Event.TheVariants as event
+use Rattle.model_history.specs.declared.history.Entry.{Entry}
+use Rattle.model_history.specs.EventFields.{kind_of, actor_of}
+use Rattle.model_history.specs.Scans.{has_ended}
+use Rattle.model_history.specs.Scripts.{ScriptModel}
+use Rattle.model_history.specs.Due.{due}
+use Rattle.model_history.specs.Legal.{is_open, can, Next, Legal}
+use Rattle.impl_log.specs.Runs.{Run, past, with_entry, Entered}
+use Rattle.proxy_single_thread.specs.Singles.{HasKind}
+use Rattle.recording_judge.specs.Judging.{Enters}
+use Rattle.test_histories.specs.Walks.{StopsAt, Takes}
+
+-- ---- an entry that may come
+
+-- the actor whose event it is has events of its kind
+kind_at : (n a : ℕ) (e : Event) → a ≡ actor_of e → a < 2 + n → HasKind n (kind_of e) a
+kind_at n a (event.Begin i) is lt = is
+kind_at n a event.BeginPlain is lt = is
+kind_at n a (event.Send k ms) is lt = is
+kind_at n a (event.Ready k) is lt = is
+kind_at n a (event.Abort k) is lt = is
+kind_at n a (event.Commit k) is lt = is
+kind_at n a (event.Activate k ms) is lt = is
+kind_at n a (event.Scroll i x y) is lt = is
+kind_at n a (event.Wheel i t x y ms) is lt = is
+kind_at n a (event.Start w q ks) is lt = (omega (arith, is), lt)
+kind_at n a (event.DoneTile w q) is lt = (omega (arith, is), lt)
+kind_at n a (event.Draw i ks) is lt = is
+kind_at n a (event.Skip i) is lt = is
+kind_at n a event.NoDraw is lt = is
+kind_at n a event.Finish is lt = is
+kind_at n a (event.Await i) is lt = is
+kind_at n a (event.Settle i) is lt = is
+kind_at n a event.End is lt = is
+kind_at n a (event.Stop w) is lt = lt
+
+-- an entry whose actor has no events of its kind may not come
+pub no_kind : (s : ScriptModel) (n : ℕ) (h : List Entry) (e : Entry) (b : Bool) → Decides b (HasKind n (kind_of e.event) e.actor) → b ≡ false → Next s n h e → ⊥
+no_kind s n h e b tells none next = absurd (cc (tells.1 (kind_at n e.actor e.event next.actor next.within), none))
+
+open_both : (a b : Bool) → a ≡ false → b ≡ true → (not a && b) ≡ true
+open_both true b ended may = absurd (cc (ended))
+open_both false b ended may = may
+
+where_open : (b : Bool) (x y : Option Event) → b ≡ true → x ≡ y → cond b x None ≡ y
+where_open true x y is same = same
+where_open false x y is same = absurd (cc (is))
+
+-- an entry that may come is the event that its kind and its actor have now
+pub next_now : (s : ScriptModel) (n : ℕ) (h : List Entry) (e : Entry) → Next s n h e → can s h (kind_of e.event) e.actor ≡ Some e.event
+next_now s n h e next =
+    where_open (is_open h (kind_of e.event)) (due s h (kind_of e.event) e.actor) (Some e.event)
+    (open_both (has_ended h) _ next.going next.state) next.is_due
+
+-- where its kind and its actor have no event now it may not come
+pub none_now : (s : ScriptModel) (n : ℕ) (h : List Entry) (e : Entry) → can s h (kind_of e.event) e.actor ≡ None → Next s n h e → ⊥
+none_now s n h e none next = absurd (cc (next_now s n h e next, none))
+
+-- ---- what was entered
+
+-- the newest entry stands at the last place
+pub newest_at : (before : List Entry) (x : Entry) (n : ℕ) → length (before ++ x ∷ []) ≡ n + 1 → slice_get (before ++ x ∷ []) n ≡ Some x
+newest_at [] x zero is = refl
+newest_at [] x (suc n) is = absurd (omega (arith, is))
+newest_at (y ∷ before) x zero is = absurd (no_end before x (omega (arith, is)))
+  where
+    no_end : (ys : List Entry) (x : Entry) → length (ys ++ x ∷ []) ≡ 0 → ⊥
+    no_end [] x is = absurd (omega (arith, is))
+    no_end (y ∷ ys) x is = absurd (omega (arith, is))
+newest_at (y ∷ before) x (suc n) is = newest_at before x n (omega (arith, is))
+
+-- what was entered tells whether the entry was
+pub taken : (old new : Run) (e : Entry) (b : Bool) → Entered old (kind_of e.event) e.actor new
+    → ((before : List Entry) (newest : Entry) → new.entries ≡ before ++ newest ∷ [] → Decides b (newest.event ≡ e.event)) → Takes old e new b
+taken old new e true entered tells =
+    let same = (tells old.entries (record { actor = e.actor; event = entered.event }) (ap (λ (r : Run). r.entries) entered.is_entered)).0 refl in
+    subst (λ (x : Event). new ≡ with_entry old e.actor x) same entered.is_entered
+taken old new e false entered tells = λ next.
+    let same : entered.event ≡ e.event = cc (next_now old.script old.workers (past old) e next, entered.is_now) in
+    absurd (cc ((tells old.entries (record { actor = e.actor; event = entered.event }) (ap (λ (r : Run). r.entries) entered.is_entered)).1 same))
+
+-- what a judge says of an entry tells whether the entry may come
+pub judged : (old new : Run) (e : Entry) (b : Bool) → Enters old e new b → Takes old e new b
+judged old new e true enters = enters.1
+judged old new e false enters = enters.0
+
+-- ---- where a walk stops
+
+-- the entries before a place were taken, and the one there may not come
+pub stops_here : (s : ScriptModel) (n : ℕ) (r new : Run) (entries : List Entry) (place : ℕ) (e : Entry) (b : Bool) → r.script ≡ s → r.workers ≡ n → place < length entries → e ≡ get_or entries place e → r.entries ≡ take place entries
+    → Legal r.script r.workers (past r) → Takes r e new b → b ≡ false → StopsAt s n entries place
+stops_here s n r new entries place e true script workers lt is taken legal stops none = absurd (cc (none))
+stops_here s n r new entries place e false script workers lt is taken legal stops none = record {
+  before = r.entries;
+  entry = e;
+  later = drop (suc place) entries;
+  is = sym (take-append-drop place entries) ∙ ap (λ (es : List Entry). es ++ drop place entries) (sym taken) ∙ ap (λ (es : List Entry). r.entries ++ es) (drop-cons entries place e lt ∙ ap (λ (x : Entry). x ∷ drop (suc place) entries) (sym is));
+  at = ap length taken ∙ length-take-le place entries (omega arith);
+  legal = subst (λ (t : ScriptModel). Legal t n (past r)) script (subst (λ (m : ℕ). Legal r.script m (past r)) workers legal);
+  stops = λ next. stops (subst (λ (t : ScriptModel). Next t r.workers (past r) e) (sym script) (subst (λ (m : ℕ). Next s m (past r) e) (sym workers) next));
+}

@@ -1,0 +1,193 @@
+//! The lines of the table, one after another.
+
+use crate::fault::LineFault;
+use crate::judged::judged_at;
+use crate::lines::{changed, entries};
+use crate::walk::{asked_after, stops_at};
+use model_history::Script;
+use script_json::read_script;
+use std::alloc::Global;
+use std::io;
+use std::sync::Arc;
+use test_table::{Table, Tally};
+
+/// What was read of the table so far.
+#[derive(Drop)]
+pub struct Walks {
+    alloc: Global,
+    script: Option<Arc<Script>>,
+    workers: u32,
+    /// The lines of the history that stands above.
+    history: Option<String>,
+    /// How many legal histories there were, how many changed ones, how many entries they have, and how many
+    /// questions were asked.
+    legal: usize,
+    changed: usize,
+    entries: usize,
+    asked: usize,
+    tally: Tally,
+}
+
+impl Walks {
+    /// Nothing was read.
+    pub fn new(alloc: Global) -> Walks {
+        Walks {
+            alloc,
+            script: None,
+            workers: 1,
+            history: None,
+            legal: 0,
+            changed: 0,
+            entries: 0,
+            asked: 0,
+            tally: Tally::NONE,
+        }
+    }
+
+    /// Tells where who goes through a history stops at another entry than the one that is wanted.
+    fn compare<R: Print>(
+        &mut self,
+        rt: &R,
+        line: usize,
+        who: &str,
+        told: Option<usize>,
+        wanted: Option<usize>,
+    ) {
+        if told != wanted {
+            let _ = rt.println(format_args!("line {line}, {who}: {told:?} for {wanted:?}"));
+            self.tally.count_wrong(line);
+        }
+    }
+
+    /// Walks through a history, asks the judge about it, and tells where one of them stops at another entry
+    /// than the one that is wanted.
+    fn walk<R: Print>(
+        &mut self,
+        rt: &R,
+        line: usize,
+        lines: &str,
+        wanted: Option<usize>,
+    ) -> Result<(), LineFault> {
+        let Some(script) = &self.script else {
+            return Err(LineFault::NothingAbove);
+        };
+        let (walked, judged) = (Arc::try_clone(script)?, Arc::try_clone(script)?);
+        let entries = entries(self.alloc, lines)?;
+        let stops = stops_at(self.alloc, walked, self.workers, entries.as_slice())?;
+        let refused = judged_at(self.alloc, judged, self.workers, entries.as_slice())?;
+        self.compare(rt, line, "the compositor", stops, wanted);
+        self.compare(rt, line, "the judge", refused, wanted);
+        self.entries = self.entries.saturating_add(entries.len());
+        Ok(())
+    }
+
+    /// Takes a line with a script.
+    fn take_script(&mut self, text: &str) -> Result<(), LineFault> {
+        match read_script(self.alloc, text.as_bytes()) {
+            Ok(script) => match Arc::new(self.alloc, script) {
+                Ok(script) => {
+                    self.script = Some(script);
+                    self.history = None;
+                    self.workers = 1;
+                    Ok(())
+                }
+                Err(full) => Err(LineFault::Memory(full.into())),
+            },
+            Err(_) => Err(LineFault::NoScript),
+        }
+    }
+
+    /// Takes a line with a number of workers.
+    fn take_workers(&mut self, text: &str) -> Result<(), LineFault> {
+        let workers = text.parse::<u32>().map_err(|_| LineFault::NoForm)?;
+        if workers < 1 || workers > 16 {
+            return Err(LineFault::NoWorkers);
+        }
+        self.workers = workers;
+        self.history = None;
+        Ok(())
+    }
+
+    /// Takes a line with a legal history.
+    fn take_history<R: Print>(
+        &mut self,
+        rt: &R,
+        line: usize,
+        lines: &str,
+    ) -> Result<(), LineFault> {
+        self.legal = self.legal.saturating_add(1);
+        self.history = Some(lines.to_string(self.alloc)?);
+        self.walk(rt, line, lines, None)
+    }
+
+    /// Takes a line with a change of the history above: `OLD => NEW | N WHAT`.
+    fn take_change<R: Print>(&mut self, rt: &R, line: usize, row: &str) -> Result<(), LineFault> {
+        let (change, end) = row.rsplit_once(" | ").ok_or(LineFault::NoForm)?;
+        let (old, new) = change.split_once(" => ").ok_or(LineFault::NoForm)?;
+        let (place, _) = end.split_once(' ').ok_or(LineFault::NoForm)?;
+        let place = place.parse::<usize>().map_err(|_| LineFault::NoForm)?;
+        let Some(history) = &self.history else {
+            return Err(LineFault::NothingAbove);
+        };
+        let lines = changed(self.alloc, history.as_str(), old, new)?;
+        self.changed = self.changed.saturating_add(1);
+        self.walk(rt, line, lines.as_str(), Some(place))
+    }
+
+    /// Takes a line with a question that is asked inside of the history above: `N QUESTION: ANSWER`.
+    fn take_question<R: Print>(&mut self, rt: &R, line: usize, row: &str) -> Result<(), LineFault> {
+        let (asked, wanted) = row.split_once(':').ok_or(LineFault::NoForm)?;
+        let (count, question) = asked.split_once(' ').ok_or(LineFault::NoForm)?;
+        let count = count.parse::<usize>().map_err(|_| LineFault::NoForm)?;
+        let (Some(script), Some(history)) = (&self.script, &self.history) else {
+            return Err(LineFault::NothingAbove);
+        };
+        let script = Arc::try_clone(script)?;
+        let entries = entries(self.alloc, history.as_str())?;
+        let before = entries.as_slice().get(..count).ok_or(LineFault::NoForm)?;
+        let told = asked_after(self.alloc, script, self.workers, before, question)?;
+        if told.as_str() != wanted {
+            let _ = rt.println(format_args!("line {line}:{told} for{wanted}"));
+            self.tally.count_wrong(line);
+        }
+        self.asked = self.asked.saturating_add(1);
+        Ok(())
+    }
+}
+
+impl<R: Print> Table<R> for Walks {
+    type Fault = LineFault;
+
+    fn take(&mut self, rt: &R, line: usize, text: &str) -> Result<(), LineFault> {
+        if let Some(row) = text.strip_prefix("    after ") {
+            return self.take_question(rt, line, row);
+        }
+        if let Some(row) = text.strip_prefix("    ") {
+            return self.take_change(rt, line, row);
+        }
+        let (key, value) = text.split_once(": ").ok_or(LineFault::NoForm)?;
+        match key {
+            "script" => self.take_script(value),
+            "workers" => self.take_workers(value),
+            _ if key.starts_with("history ") => self.take_history(rt, line, value),
+            _ => Err(LineFault::NoForm),
+        }
+    }
+
+    fn end(&mut self, rt: &R) -> Result<(), LineFault> {
+        let _ = rt;
+        Ok(())
+    }
+
+    fn tally(&self) -> Tally {
+        self.tally
+    }
+
+    fn tell(&self, rt: &R) -> io::Result<()> {
+        let (legal, changed) = (self.legal, self.changed);
+        let (entries, asked) = (self.entries, self.asked);
+        println!(rt;
+            "{legal} legal histories, {changed} changed ones, {entries} entries, {asked} questions"
+        )
+    }
+}

@@ -1,0 +1,210 @@
+//! One run of a case.
+
+use crate::case::{Case, Trouble};
+use crate::output::Short;
+use player_io::{MemSink, MemSource, OpenGate};
+use player_run::{Outcome, run};
+use std::alloc::{AllocError, Global};
+use std::fmt;
+use std::sync::Wait;
+use std::thread::Threads;
+
+/// What a run left behind.
+#[derive(Drop)]
+pub struct Played {
+    outcome: Outcome,
+    // the output, or its pictures where the case asks for a legal recording
+    out: MemSink,
+    notes: MemSink,
+    // whether the output is what the case asks for: a legal recording, or anything
+    accepted: bool,
+}
+
+/// What of a run is not as its case says.
+#[derive(Clone, Copy, Debug)]
+pub enum Difference {
+    Status,
+    Notes,
+    /// The output is no legal recording, and was to be one.
+    Legality,
+    Output,
+}
+
+/// The numbers of the calls that fail: this one, where there is one.
+fn failing(alloc: Global, call: Option<u64>) -> Result<Vec<u64>, AllocError> {
+    let mut calls = Vec::new(alloc);
+    if let Some(call) = call {
+        calls.push(call)?;
+    }
+    Ok(calls)
+}
+
+/// The bytes that the source of the run of this number holds.
+fn given<'a>(case: &Case, input: &'a [u8], number: u64) -> &'a [u8] {
+    match case.trouble {
+        Trouble::Cut => &input[..input.len().min(number as usize)],
+        _ => input,
+    }
+}
+
+/// The source of the run of this number.
+fn source_of(
+    alloc: Global,
+    case: &Case,
+    input: &[u8],
+    number: u64,
+) -> Result<MemSource, AllocError> {
+    let fails = match case.trouble {
+        Trouble::ReadFails => Some(number),
+        _ => None,
+    };
+    let bytes = Vec::from_slice(alloc, given(case, input, number))?;
+    Ok(MemSource::new(bytes, case.step.max(1), failing(alloc, fails)?))
+}
+
+/// The sink of the run of this number.
+fn sink_of(alloc: Global, case: &Case, number: u64) -> Result<MemSink, AllocError> {
+    Ok(match case.trouble {
+        Trouble::Room => MemSink::new(alloc, number, Vec::new(alloc)),
+        Trouble::PutFails => MemSink::new(alloc, u64::MAX, failing(alloc, Some(number))?),
+        _ => MemSink::endless(alloc),
+    })
+}
+
+/// The sink of the notes.
+fn notes_of(alloc: Global, case: &Case) -> MemSink {
+    match case.notes_room {
+        Some(room) => MemSink::new(alloc, room, Vec::new(alloc)),
+        None => MemSink::endless(alloc),
+    }
+}
+
+/// A run with this word over these bytes, with ample room.
+fn run_over<R: Threads + Wait + Sync>(
+    rt: &R,
+    alloc: Global,
+    word: &str,
+    bytes: &[u8],
+) -> Result<(Outcome, MemSink), AllocError> {
+    let mut words = Vec::new(alloc);
+    words.push(word.to_string(alloc)?)?;
+    let mut source = MemSource::new(Vec::from_slice(alloc, bytes)?, 4096, Vec::new(alloc));
+    let mut out = MemSink::endless(alloc);
+    let mut notes = MemSink::endless(alloc);
+    let outcome = run(
+        rt,
+        alloc,
+        words.as_slice(),
+        &mut source,
+        &mut out,
+        &mut notes,
+        &OpenGate,
+    );
+    Ok((outcome, out))
+}
+
+/// The pictures of a recording; None where it is not legal.
+fn pictures_of<R: Threads + Wait + Sync>(
+    rt: &R,
+    alloc: Global,
+    recording: &[u8],
+) -> Result<Option<MemSink>, AllocError> {
+    let (judged, _) = run_over(rt, alloc, "check", recording)?;
+    if judged.status() != 0 {
+        return Ok(None);
+    }
+    let (_, pictures) = run_over(rt, alloc, "frames", recording)?;
+    Ok(Some(pictures))
+}
+
+/// The run of this number.
+pub fn play<R: Threads + Wait + Sync>(
+    rt: &R,
+    alloc: Global,
+    case: &Case,
+    input: &[u8],
+    number: u64,
+) -> Result<Played, AllocError> {
+    let mut source = source_of(alloc, case, input, number)?;
+    let mut out = sink_of(alloc, case, number)?;
+    let mut notes = notes_of(alloc, case);
+    let outcome = run(
+        rt,
+        alloc,
+        case.words.as_slice(),
+        &mut source,
+        &mut out,
+        &mut notes,
+        &OpenGate,
+    );
+    let mut accepted = true;
+    if case.recording {
+        match pictures_of(rt, alloc, out.bytes())? {
+            Some(pictures) => out = pictures,
+            None => accepted = false,
+        }
+    }
+    Ok(Played {
+        outcome,
+        out,
+        notes,
+        accepted,
+    })
+}
+
+/// What cuts the output of the run of this number.
+fn short_of(case: &Case, number: u64) -> Short {
+    match case.trouble {
+        Trouble::Room => Short::Room(number),
+        Trouble::PutFails => Short::Put,
+        _ => Short::Never,
+    }
+}
+
+/// Whether the notes hold a line, as far as it has room; nothing where there is no line.
+fn holds_line(held: &[u8], line: Option<&str>, room: Option<u64>) -> bool {
+    let Some(line) = line else {
+        return held.is_empty();
+    };
+    let front = held.strip_suffix(b"\n").unwrap_or(held);
+    match room {
+        None => held.ends_with(b"\n") && front == line.as_bytes(),
+        Some(room) => line.as_bytes().starts_with(front) && held.len() as u64 == room,
+    }
+}
+
+impl Played {
+    /// What of the run of this number is not as the case says.
+    pub fn difference(&self, case: &Case, number: u64) -> Option<Difference> {
+        let status = self.outcome.status();
+        if status != case.status {
+            return Some(Difference::Status);
+        }
+        let line = case.note.as_ref().map(|line| line.as_str());
+        if !holds_line(self.notes.bytes(), line, case.notes_room) {
+            return Some(Difference::Notes);
+        }
+        if !self.accepted {
+            return Some(Difference::Legality);
+        }
+        if !case
+            .output
+            .fits(status, self.out.bytes(), short_of(case, number))
+        {
+            return Some(Difference::Output);
+        }
+        None
+    }
+}
+
+impl fmt::Display for Played {
+    fn fmt<W: fmt::Write>(&self, f: &mut fmt::Formatter<W>) -> fmt::Result {
+        let status = self.outcome.status();
+        let notes = str::from_utf8(self.notes.bytes()).unwrap_or("not text");
+        let length = self.out.bytes().len();
+        write!(
+            f,
+            "status {status}, notes {notes:?}, output of {length} bytes"
+        )
+    }
+}

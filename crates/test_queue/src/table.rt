@@ -1,0 +1,105 @@
+//! The table of standard input.
+
+use crate::queues::{CheckedQueue, StepFault, agrees, answer, key_of, queue_of, ready_of};
+use geom::TileKey;
+use std::alloc::Global;
+use std::io;
+use test_table::{Table, Tally};
+
+/// A key that no layer has.
+const NO_KEY: TileKey = TileKey {
+    layer: 0,
+    x: 0,
+    y: 0,
+    stamp: 0,
+};
+
+/// What was read of the table so far.
+#[derive(Drop)]
+pub(crate) struct Answers {
+    queue: CheckedQueue,
+    /// How many answers and steps there were.
+    count: usize,
+    tally: Tally,
+}
+
+impl Answers {
+    /// Nothing was read.
+    pub(crate) fn new(alloc: Global) -> Answers {
+        Answers {
+            queue: CheckedQueue::new(alloc),
+            count: 0,
+            tally: Tally::NONE,
+        }
+    }
+
+    /// Compares an answer with the one that is wanted.
+    fn compare(&mut self, rt: &HostRuntime, line: usize, told: &str, wanted: &str) {
+        if told != wanted {
+            let _ = rt.println(format_args!("line {line}: {told} for {wanted}"));
+            self.tally.count_wrong(line);
+        }
+    }
+
+    /// Whether the queue answers as the definitions say.
+    fn agrees(&self) -> Result<bool, StepFault> {
+        let key = self.queue.queue().first().unwrap_or(NO_KEY);
+        agrees(&self.queue, 8, key)
+    }
+
+    /// Takes a step: a new queue, a start, or a tile that was made.
+    fn step(&mut self, rt: &HostRuntime, name: &str, row: &str) -> Result<(), StepFault> {
+        match name {
+            "queue" => {
+                let choice = queue_of(self.queue.alloc(), row)?;
+                self.queue.rebuild(rt, choice)?;
+            }
+            "start" => {
+                self.queue.start(rt, key_of(row)?)?;
+            }
+            "finish" => {
+                let tile = if row == "-" {
+                    None
+                } else {
+                    Some(ready_of(row)?)
+                };
+                self.queue.finish(rt, tile)?;
+            }
+            _ => return Err(StepFault::NoForm),
+        }
+        Ok(())
+    }
+}
+
+impl Table<HostRuntime> for Answers {
+    type Fault = StepFault;
+
+    fn take(&mut self, rt: &HostRuntime, line: usize, text: &str) -> Result<(), StepFault> {
+        self.count = self.count.saturating_add(1);
+        if let Some((question, wanted)) = text.split_once(" => ") {
+            let told = answer(self.queue.alloc(), self.queue.queue(), question)?;
+            self.compare(rt, line, told.as_str(), wanted);
+            return Ok(());
+        }
+        let (name, row) = text.split_once(' ').ok_or(StepFault::NoForm)?;
+        self.step(rt, name, row)?;
+        if !self.agrees()? {
+            self.compare(rt, line, "otherwise", "as the definitions say");
+        }
+        Ok(())
+    }
+
+    fn end(&mut self, rt: &HostRuntime) -> Result<(), StepFault> {
+        let _ = rt;
+        Ok(())
+    }
+
+    fn tally(&self) -> Tally {
+        self.tally
+    }
+
+    fn tell(&self, rt: &HostRuntime) -> io::Result<()> {
+        let count = self.count;
+        println!(rt; "{count} answers and steps")
+    }
+}

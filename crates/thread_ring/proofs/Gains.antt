@@ -1,0 +1,69 @@
+-- Fronts and appends one after the other.
+use Rattle.std.proofs.Common.{◌≡◌, ℕ, List, [], ◌++◌, take, drop, Option, Some, None, Err, refl, ap, sym, subst, ◌∙◌, append_assoc, true, false, Bool}
+use Rattle.std.specs.Io.KnownBytes.{Appends, Keeps}
+use Rattle.std.specs.Global.{Vec}
+use Rattle.std.proofs.lemmas.List.{take-append-drop}
+use Rattle.std.proofs.lemmas.Grind.{flat_map-append}
+use Rattle.player_io.specs.Pieces.{GainsPrefix, NotFailed, PutAppends}
+use Rattle.player_io.specs.declared.writing.PutFault.{PutFault}
+use Rattle.player_io.specs.declared.writing.PutFault.TheVariants as put_fault
+use Rattle.thread_ring.specs.Ring.{joined}
+use Rattle.thread_ring.specs.Answers.{Gained, Filled, answer_for_all}
+use Rattle.thread_ring.specs.declared.ends.Presented.{Presented}
+use Rattle.thread_ring.specs.declared.ends.Presented.TheVariants.{Written, Fault, Memory}
+
+-- a front of the bytes is a front of the bytes and more
+pub front_more : (old new : Option (List ℕ)) (done more : List ℕ) → GainsPrefix old new done → GainsPrefix old new (done ++ more)
+front_more old new done more gains = (gains.0, gains.1 ++ more, sym (append_assoc gains.0 gains.1 more) ∙ ap (λ bytes. bytes ++ more) gains.2, gains.3)
+
+-- two appends are one
+pub appends_then : (first old new : Option (List ℕ)) (done more : List ℕ) → Appends first old done → Appends old new more → Appends first new (done ++ more)
+appends_then None old new done more a b = tt
+appends_then (Some xs) None new done more a b = absurd a
+appends_then (Some xs) (Some ys) None done more a b = absurd b
+appends_then (Some xs) (Some ys) (Some zs) done more a b = b ∙ ap (λ bytes. bytes ++ more) a ∙ append_assoc xs done more
+
+-- what is kept was appended before
+pub appends_kept : (first old new : Option (List ℕ)) (done : List ℕ) → Appends first old done → Keeps old new → Appends first new done
+appends_kept None old new done a b = tt
+appends_kept (Some xs) None new done a b = absurd a
+appends_kept (Some xs) (Some ys) None done a b = absurd b
+appends_kept (Some xs) (Some ys) (Some zs) done a b = b ∙ a
+
+-- all that was, then a front of the piece
+pub front_after : (first old new : Option (List ℕ)) (done piece : List ℕ) → Appends first old done → GainsPrefix old new piece → GainsPrefix first new (done ++ piece)
+front_after first old new done piece a gains = (done ++ gains.0, gains.1, append_assoc done gains.0 gains.1 ∙ ap (λ bytes. done ++ bytes) gains.2, appends_then first old new done gains.0 a gains.3)
+
+-- all that was, and nothing of the piece
+pub front_kept : (first old new : Option (List ℕ)) (done piece : List ℕ) → Appends first old done → Keeps old new → GainsPrefix first new (done ++ piece)
+front_kept first old new done piece a keeps = (done, piece, refl, appends_kept first old new done a keeps)
+
+-- a front of the same bytes
+pub front_same : (first new : Option (List ℕ)) (held bytes : List ℕ) → held ≡ bytes → GainsPrefix first new held → GainsPrefix first new bytes
+front_same first new held bytes same gains = (gains.0, gains.1, gains.2 ∙ same, gains.3)
+
+-- an append of the same bytes
+pub appends_same : (first new : Option (List ℕ)) (held bytes : List ℕ) → held ≡ bytes → Appends first new held → Appends first new bytes
+appends_same first new held bytes same gained = let P : List ℕ → Type 0 = λ all. Appends first new all in subst P same gained
+
+-- what was gained of the bytes that were put is, by the answer for all, gained of all bytes
+pub gained_of_all : (finished : Presented) (put : Bool) (first new : Option (List ℕ)) (held bytes : List ℕ) → Gained finished first new held → Filled put [] held bytes → Gained (answer_for_all finished put) first new bytes
+gained_of_all Written true first new held bytes gained filled = appends_same first new held bytes filled gained
+gained_of_all Written false first new held bytes gained filled = (filled.0, filled.1, filled.2, appends_same first new held filled.0 filled.3 gained)
+gained_of_all Fault true first new held bytes gained filled = front_same first new held bytes filled gained
+gained_of_all Fault false first new held bytes gained filled = front_same first new (filled.0 ++ filled.1) bytes filled.2 (front_more first new filled.0 filled.1 (front_same first new held filled.0 filled.3 gained))
+gained_of_all Memory true first new held bytes gained filled = front_same first new held bytes filled gained
+gained_of_all Memory false first new held bytes gained filled = front_same first new (filled.0 ++ filled.1) bytes filled.2 (front_more first new filled.0 filled.1 (front_same first new held filled.0 filled.3 gained))
+
+-- a refusal for want of memory left the bytes as they were
+pub refusal_keeps : (e : PutFault) (old new piece : List ℕ) → PutAppends {X = Unit {0}} (Some old) (Some new) piece (Err e) → NotFailed {X = Unit {0}} (Err e) → new ≡ old
+refusal_keeps put_fault.Failed old new piece appends answers = absurd answers
+refusal_keeps (put_fault.Memory _) old new piece appends answers = appends
+
+-- the first n pieces and the rest are all
+pub joined_parts : (n : ℕ) (pieces : List (Vec ℕ)) → joined (take n pieces) ++ joined (drop n pieces) ≡ joined pieces
+joined_parts n pieces = sym (flat_map-append (λ piece. piece.items) (take n pieces) (drop n pieces)) ∙ ap (λ all. joined all) (take-append-drop n pieces)
+
+-- the first n pieces are a front of all
+pub filled_first : (n : ℕ) (pieces : List (Vec ℕ)) (old new : List ℕ) → new ≡ old ++ joined (take n pieces) → Filled false old new (joined pieces)
+filled_first n pieces old new grown = (joined (take n pieces), joined (drop n pieces), joined_parts n pieces, grown)

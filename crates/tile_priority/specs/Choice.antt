@@ -1,0 +1,130 @@
+-- Which tile is made next, and which ready tiles are given up for it.
+use Rattle.std.specs.Prelude.{◌≡◌, ◌⊎◌, ◌<◌, ℕ, ◌+◌, ◌-◌, nat_lt, nat_le, Bool, true, false, ◌&&◌, ◌||◌, not, Option, Some, None, List, [], ◌∷◌, ◌++◌, length, take, map, filter}
+use Rattle.std.specs.declared.cmp.Ordering.{Ordering}
+use Rattle.std.specs.declared.cmp.Ordering.TheVariants.{Less, Greater}
+use Rattle.geom.specs.KeyOrder.{key_cmp}
+use Rattle.geom.specs.declared.tile.TileKey.{TileKey}
+use Rattle.tile_priority.specs.declared.rank.Bin.{Bin}
+use Rattle.tile_priority.specs.declared.rank.Bin.TheVariants as bin
+use Rattle.tile_priority.specs.declared.rank.Rank.{Rank}
+use Rattle.tile_priority.specs.Ranks.{bin_number, rank_cmp, least}
+use Rattle.tile_priority.specs.Tiles.{Tile}
+use Rattle.tile_priority.specs.Ordered.{In, SameMembers, IsInOrder, in_order}
+
+-- what the choice is made from
+pub record Choice : Type 0 where
+  -- the ranks of the keys that have one and are neither ready nor in flight
+  pub wanted : List Rank
+  -- the ready tiles
+  pub ready : List Tile
+  -- how many tiles are in flight
+  pub in_flight : ℕ
+  -- how many tiles there may be
+  pub budget : ℕ
+
+-- how many tiles there are, ready or in flight
+abbrev pub used : Choice → ℕ
+used c = length c.ready + c.in_flight
+
+-- a ready tile that may be given up, by what orders it: its key where it has no rank, else its rank
+pub data Victim : Type 0 where
+  unranked : TileKey → Victim
+  ranked : Rank → Victim
+
+-- the victim's key
+abbrev pub victim_key : Victim → TileKey
+victim_key (unranked k) = k
+victim_key (ranked r) = r.key
+
+abbrev pub victim_by : TileKey → Option Rank → Victim
+victim_by k None = unranked k
+victim_by k (Some r) = ranked r
+
+-- the ready tile as a victim
+abbrev pub victim_of : Tile → Victim
+victim_of t = victim_by t.key t.rank
+
+-- no rank, or a rank of a worse bin
+abbrev pub is_worse : Option Rank → Bin → Bool
+is_worse None b = true
+is_worse (Some r) b = nat_lt (bin_number b) (bin_number r.bin)
+
+-- the ready tile may be given up for a tile of this bin: it is not pinned, and its bin is worse, or it has none
+abbrev pub gives_way : Bin → Tile → Bool
+gives_way b t = not t.pinned && is_worse t.rank b
+
+-- the victims for a rank
+abbrev pub victims : Choice → Rank → List Victim
+victims c q = map victim_of (filter (gives_way q.bin) c.ready)
+
+-- the worst first: those without a rank by falling key, then the others by falling rank
+abbrev pub worst_cmp : Victim → Victim → Ordering
+worst_cmp (unranked k) (unranked l) = key_cmp l k
+worst_cmp (unranked k) (ranked s) = Less
+worst_cmp (ranked r) (unranked l) = Greater
+worst_cmp (ranked r) (ranked s) = rank_cmp s r
+
+-- the list of the victims for q, the worst first
+pub record IsWorstFirst (c : Choice) (q : Rank) (vs : List Victim) : Type 0 where
+  pub order : IsInOrder worst_cmp vs
+  pub members : SameMembers vs (victims c q)
+
+-- that list
+unfoldable pub worst_first : Choice → Rank → List Victim
+worst_first c q = in_order worst_cmp (victims c q)
+
+-- giving up this many tiles makes room for one more
+abbrev pub is_enough : Choice → ℕ → Bool
+is_enough c n = nat_le ((used c + 1) - n) c.budget
+
+abbrev pub is_now : Bin → Bool
+is_now bin.Now = true
+is_now _ = false
+
+-- a wanted tile may start: it is visible, or giving up all of its victims makes room
+unfoldable pub may_start : Choice → Rank → Bool
+may_start c q = is_now q.bin || is_enough c (length (worst_first c q))
+
+-- the wanted rank that starts first: none that may start is better
+pub record IsFirst (c : Choice) (q : Rank) : Type 0 where
+  pub wanted : In q c.wanted
+  pub starts : may_start c q ≡ true
+  pub none_better : (p : Rank) → In p c.wanted → may_start c p ≡ true → rank_cmp p q ≡ Less → ⊥
+
+-- no wanted rank may start
+abbrev pub NoneStarts : Choice → Type 0
+NoneStarts c = (p : Rank) → In p c.wanted → may_start c p ≡ false
+
+-- the least of the ranks of a list
+abbrev pub least_of : List Rank → Option Rank
+least_of [] = None
+least_of (r ∷ rs) = least (Some r) (least_of rs)
+
+-- the rank that starts first, where there is one
+unfoldable pub first : Choice → Option Rank
+first c = least_of (filter (may_start c) c.wanted)
+
+-- what is given up for q: the shortest front of the worst-first list that is enough, or the whole list
+-- where no front is enough
+pub record IsEvicted (c : Choice) (q : Rank) (es : List Victim) : Type 0 where
+  pub rest : List Victim
+  pub front : es ++ rest ≡ worst_first c q
+  pub none_shorter : (n : ℕ) → n < length es → is_enough c n ≡ false
+  pub enough_or_all : (is_enough c (length es) ≡ true) ⊎ (rest ≡ [])
+
+-- as many as there would be over the budget
+unfoldable pub evicted : Choice → Rank → List Victim
+evicted c q = take ((used c + 1) - c.budget) (worst_first c q)
+
+-- the same choice, with its lists in other orders
+pub record SameChoice (c d : Choice) : Type 0 where
+  pub wanted : SameMembers c.wanted d.wanted
+  pub ready : SameMembers c.ready d.ready
+  pub as_many : length c.ready ≡ length d.ready
+  pub in_flight : c.in_flight ≡ d.in_flight
+  pub budget : c.budget ≡ d.budget
+
+-- no two of the ready tiles have one key
+abbrev pub NoKeyTwice : List Tile → Type 0
+NoKeyTwice [] = Unit {0}
+NoKeyTwice (t ∷ ts) = ((u : Tile) → In u ts → u.key ≡ t.key → ⊥) × NoKeyTwice ts

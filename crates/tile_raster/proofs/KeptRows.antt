@@ -1,0 +1,91 @@
+-- The rows that a picture keeps.
+use Rattle.std.proofs.Common.{◌≡◌, ℕ, zero, suc, ◌<◌, ◌≤◌, ◌+◌, ◌*◌, inl, inr, List, length, take, drop, slice_index, sym, ◌∙◌, ap, subst, arith}
+use Rattle.std.proofs.Math.Nat.{zero-mul, mul-le-mul_left}
+use Rattle.std.proofs.lemmas.Bool.{cases_lt}
+use Rattle.std.proofs.lemmas.Int.{clamps}
+use Rattle.std.proofs.lemmas.List.{length-take, length-drop}
+use Rattle.geom.specs.declared.Rect.{Rect}
+use Rattle.pixel.specs.Colours.{Parts}
+use Rattle.pixel.specs.Rows.{pixel, ArePremultiplied}
+use Rattle.page_display_list.specs.declared.Item.{Item}
+use Rattle.page_display_list.specs.Bitmaps.{near}
+use Rattle.tile_raster.specs.Images.{shown, IsRow, HasTwoColours, row_bytes}
+use Rattle.tile_raster.specs.Images.{AreSameRows}
+use Rattle.tile_raster.specs.inner.Bands.{AreKept, IsEnd}
+use Rattle.tile_raster.proofs.RowBytes.{pixel_part, part_premultiplied}
+
+-- the end of a row lies inside the bytes
+pub row_inside : (w p : ℕ) (bytes : List ℕ) → length (row_bytes w p bytes) ≡ 4 * w → 4 * (w * p) + 4 * w ≤ length bytes
+row_inside w p bytes size = inside_by w size
+  where
+    inside_by : (n : ℕ) → length (take (4 * n) (drop (4 * (n * p)) bytes)) ≡ 4 * n → 4 * (n * p) + 4 * n ≤ length bytes
+    inside_by zero e = let none : zero * p ≡ 0 = zero-mul p in omega arith
+    inside_by (suc n) e =
+        let one = length-take (4 * suc n) (drop (4 * (suc n * p)) bytes) in
+        let two = length-drop (4 * (suc n * p)) bytes in
+        omega (arith, clamps)
+
+-- what one row of bytes shows twice is equal
+pub rows_agree : (list : List Item) (r : Rect) (y z : ℕ) (row : List ℕ) → IsRow list r y row → IsRow list r z row → AreSameRows list r y z
+rows_agree list r y z row one two x lt = sym (one.pixels x lt) ∙ two.pixels x lt
+
+-- rows that share their place are equal
+pub kept_agree : (list : List Item) (r : Rect) (places bytes : List ℕ) (y z : ℕ) → AreKept list r places bytes → y < near r.h → z < near r.h
+    → slice_index places z ≡ slice_index places y → AreSameRows list r y z
+kept_agree list r places bytes y z kept inside below e =
+    rows_agree list r y z (row_bytes (near r.w) (slice_index places y) bytes) (kept.rows y inside)
+    (subst (λ (p : ℕ). IsRow list r z (row_bytes (near r.w) p bytes)) e (kept.rows z below))
+
+-- how long a row is
+row_length : (w p : ℕ) (bytes : List ℕ) → 4 * (w * p) + 4 * w ≤ length bytes → length (row_bytes w p bytes) ≡ 4 * w
+row_length w p bytes fit = simp (length-take, length-drop) (omega (arith, clamps))
+
+-- the rows of the pixels that all items were drawn into
+pub rows_kept : (list : List Item) (r : Rect) (places bytes : List ℕ) (kept : ℕ) → length places ≡ near r.h
+    → ((y : ℕ) → y < near r.h → slice_index places y < kept) → length bytes ≡ 4 * (near r.w * kept) → ArePremultiplied bytes
+    → ((x y : ℕ) → x < near r.w → y < near r.h → pixel bytes (slice_index places y * near r.w + x) ≡ shown list r x y)
+    → AreKept list r places bytes
+rows_kept list r places bytes kept count low size ready pixels = record {
+  count = count;
+  rows = λ y lt.
+      let w = near r.w in
+      let p = slice_index places y in
+      let below = low y lt in
+      let up : w * (p + 1) ≤ w * kept = mul-le-mul_left w (omega (arith, below)) in
+      let next : w * (p + 1) ≡ w * p + w = grind arith in
+      record {
+        size = row_length w p bytes (omega (arith, up, next, size));
+        pixels = λ x l. pixel_part bytes (w * p) w x l ∙ (ap (pixel bytes) (turned w p x) ∙ pixels x y l lt);
+        premultiplied = part_premultiplied bytes (w * p) w (omega (arith, up, next, size)) ready;
+      };
+}
+  where
+    turned : (w y x : ℕ) → w * y + x ≡ y * w + x
+    turned w y x = grind arith
+
+-- the rows of one place show the colour of the first
+pub same_colour : (list : List Item) (r : Rect) (places bytes : List ℕ) (y end : ℕ) (c : Parts) → AreKept list r places bytes
+    → IsEnd places y end → ((x j : ℕ) → x < near r.w → j < y → shown list r x j ≡ c) → ((x : ℕ) → x < near r.w → shown list r x y ≡ c)
+    → (x j : ℕ) → x < near r.w → j < end → shown list r x j ≡ c
+same_colour list r places bytes y end c kept stop before here x j low lt =
+    elim (cases_lt j y) as (λ _. shown list r x j ≡ c) [
+      | inl less ↦ before x j low less
+      | inr from ↦
+          let some = stop.some in
+          let inside = stop.inside in
+          let same = kept_agree list r places bytes y j kept (omega (arith, kept.count)) (omega (arith, kept.count)) (stop.equal j from lt) in
+          sym (same x low) ∙ here x low
+    ]
+
+-- a pixel that differs from the first
+pub two_colours : (list : List Item) (r : Rect) (first row : List ℕ) (y k : ℕ) (c : Parts) → 0 < near r.w → y < near r.h → IsRow list r 0 first → IsRow list r y row → c ≡ pixel first 0 → k < near r.w → (pixel row k ≡ c → ⊥)
+    → HasTwoColours list r
+two_colours list r first row y k c some lt one two e low differ = record {
+  x = k;
+  y = y;
+  inside = (low, lt);
+  other_x = 0;
+  other_y = 0;
+  other_inside = (some, omega arith);
+  differ = λ same. differ (two.pixels k low ∙ same ∙ sym (one.pixels 0 some) ∙ sym e);
+}

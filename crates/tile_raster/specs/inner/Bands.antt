@@ -1,0 +1,66 @@
+-- Rows of a picture that are equal, and the rows that it keeps.
+use Rattle.std.specs.Prelude.{◌≡◌, ◌<◌, ◌≤◌, ◌⊎◌, ℕ, ◌+◌, ◌-◌, pos, ◌+ℤ◌, false, Option, Some, None, List, length, slice_index, slice_index_or, All}
+use Rattle.geom.specs.declared.Rect.{Rect}
+use Rattle.geom.specs.Covers.{covers}
+use Rattle.pixel.specs.Colours.{Parts}
+use Rattle.pixel.specs.declared.Area.{Area}
+use Rattle.page_display_list.specs.declared.Item.{Item}
+use Rattle.page_display_list.specs.declared.item.Item.TheVariants as kind
+use Rattle.page_display_list.specs.Bitmaps.{near}
+use Rattle.tile_raster.specs.Images.{IsRow, IsOneColour, HasTwoColours, row_bytes}
+
+-- an item covers the same columns in row y of the rect and in the row below it, and a bitmap covers none in both
+abbrev pub IsLevel : Item → Rect → ℕ → Type 0
+IsLevel (kind.Rect rect colour) r y = (x : ℕ) → x < near r.w
+    → covers rect (r.x +ℤ pos x) (r.y +ℤ pos y) ≡ covers rect (r.x +ℤ pos x) (r.y +ℤ pos (y + 1))
+IsLevel (kind.Bitmap picture) r y = (x : ℕ) → x < near r.w
+    → (covers picture.rect (r.x +ℤ pos x) (r.y +ℤ pos y) ≡ false) × (covers picture.rect (r.x +ℤ pos x) (r.y +ℤ pos (y + 1)) ≡ false)
+
+-- each item does so
+abbrev pub AreLevel : List Item → Rect → ℕ → Type 0
+AreLevel list r y = All (λ item. IsLevel item r y) list
+
+-- a row has the place of the row above, where `level` holds of the two, or it has the next place
+abbrev pub IsStep : (ℕ → Type 0) → List ℕ → ℕ → Type 0
+IsStep level places y =
+    ((slice_index places (y + 1) ≡ slice_index places y) × level y) ⊎ (slice_index places (y + 1) ≡ slice_index places y + 1)
+
+-- the places of so many rows among the rows that are kept, in order
+pub record AreSteps (level : ℕ → Type 0) (rows : ℕ) (places : List ℕ) : Type 0 where
+  pub count : length places ≡ rows
+  pub small : (y : ℕ) → y < rows → slice_index places y ≤ y
+  pub steps : (y : ℕ) → y + 1 < rows → IsStep level places y
+
+-- how many rows are kept: the last place and one more
+abbrev pub IsCount : List ℕ → ℕ → Type 0
+IsCount places kept = (k : ℕ) → k + 1 ≡ length places → kept ≡ slice_index places k + 1
+
+-- the place of a row; behind the last row, how many are kept
+abbrev pub place_of : List ℕ → ℕ → ℕ → ℕ
+place_of places kept y = slice_index_or places y kept
+
+-- an area of the picture as an area of the rows that are kept
+abbrev pub kept_area : Area → List ℕ → ℕ → Area
+kept_area at places kept =
+    record { x = at.x; y = place_of places kept at.y; w = at.w; h = place_of places kept (at.y + at.h) - place_of places kept at.y }
+
+-- the row of bytes that is kept at the place of each row of the rect is that row
+pub record AreKept (list : List Item) (r : Rect) (places bytes : List ℕ) : Type 0 where
+  pub count : length places ≡ near r.h
+  pub rows : (y : ℕ) → y < near r.h → IsRow list r y (row_bytes (near r.w) (slice_index places y) bytes)
+
+-- the colour of all pixels; None where two differ
+abbrev pub IsSolid : List Item → Rect → Option Parts → Type 0
+IsSolid list r None = HasTwoColours list r
+IsSolid list r (Some c) = IsOneColour list r c
+
+-- the rows from row y to before row `end` are of the picture, and have the place of row y
+pub record IsEnd (places : List ℕ) (y end : ℕ) : Type 0 where
+  pub some : y < end
+  pub inside : end ≤ length places
+  pub equal : (z : ℕ) → y ≤ z → z < end → slice_index places z ≡ slice_index places y
+
+-- the end of each row
+pub record AreEnds (places ends : List ℕ) : Type 0 where
+  pub count : length ends ≡ length places
+  pub each : (y : ℕ) → y < length places → IsEnd places y (slice_index ends y)

@@ -1,0 +1,69 @@
+//! The rows at which what a display list shows on a rect may differ from the row above.
+
+ghost use Rattle.std.specs.Prelude.{◌≡◌, ℕ, ◌+◌, ◌<◌, ◌≤◌, ◌⊎◌, true, false, length, slice_index_or, IfOk};
+ghost use Rattle.geom.specs.Covers.{IsSound};
+ghost use Rattle.page_display_list.specs.Bitmaps.{near};
+ghost use Rattle.page_display_list.specs.Content.{IsSoundItem};
+ghost use Rattle.tile_raster.specs.inner.Bands.{IsLevel, AreLevel};
+
+use crate::pixels::height_of;
+use geom::Rect;
+use page_display_list::{DisplayList, Item, shared_part};
+use std::alloc::{AllocError, Global};
+
+/// For each row of a rect whether an item of the list begins there, ends there, or has pixels of its own.
+pub(crate) fn changing_rows(
+    alloc: Global,
+    list: &DisplayList,
+    rect: Rect,
+) -> Result<Vec<bool>, AllocError>
+    requires { IsSound rect }
+    ensures count { IfOk result (λ rows. length rows.items ≡ near rect.h) }
+    ensures level { IfOk result (λ rows. (y : ℕ) → y + 1 < near rect.h → slice_index_or rows.items (y + 1) true ≡ false → AreLevel list.now rect y) }
+{
+    let mut rows = vec![in alloc; false; height_of(rect)]?;
+    mark_items(rows.as_mut_slice(), list, rect);
+    Ok(rows)
+}
+
+// marks the rows at which an item of the list begins, ends, or has pixels of its own
+fn mark_items(rows: &mut [bool], list: &DisplayList, rect: Rect)
+    requires rect { IsSound rect }
+    requires count { length rows.old ≡ near rect.h }
+    ensures { (y : ℕ) → y + 1 < near rect.h → slice_index_or rows.new (y + 1) true ≡ false → AreLevel list.now rect y }
+{
+    for item in list.items() {
+        mark_item(rows, item, rect);
+    }
+}
+
+// marks the rows at which an item begins, ends, or has pixels of its own
+fn mark_item(rows: &mut [bool], item: &Item, rect: Rect)
+    requires item { IsSoundItem item.now }
+    requires rect { IsSound rect }
+    ensures kept { (y : ℕ) → slice_index_or rows.new y true ≡ false → slice_index_or rows.old y true ≡ false }
+    ensures level { (y : ℕ) → y + 1 < near rect.h → slice_index_or rows.new (y + 1) true ≡ false → IsLevel item.now rect y }
+{
+    let Some(part) = shared_part(item.rect(), rect) else {
+        return;
+    };
+    let top = part.at.y;
+    let end = top + part.at.h;
+    match item {
+        Item::Rect { .. } => {
+            mark(rows, top, top + 1);
+            mark(rows, end, end + 1);
+        }
+        Item::Bitmap(_) => mark(rows, top, end + 1),
+    }
+}
+
+// marks the rows from `from` up to but without `to`, as far as there are such rows
+fn mark(rows: &mut [bool], from: usize, to: usize)
+    ensures { (y : ℕ) → slice_index_or rows.new y true ≡ false → (slice_index_or rows.old y true ≡ false) × ((y < from) ⊎ (to ≤ y)) }
+{
+    let end = to.min(rows.len());
+    for y in from..end {
+        rows[y] = true;
+    }
+}

@@ -1,0 +1,72 @@
+ghost use Rattle.std.specs.Prelude.{◌≡◌, pos, IfOk};
+ghost use Rattle.geom.specs.Covers.{IsSound};
+
+use crate::{Job, TileImage};
+use geom::{Rect, TileKey};
+use page_display_list::{DisplayList, Item};
+use pixel::Colour;
+use std::alloc::{AllocError, Global};
+use std::sync::Arc;
+
+#[test]
+fn a_rect_over_half_of_a_tile(rt: HostRuntime) -> Result<(), AllocError> {
+    let image = image_of(rt.alloc(), 1)?;
+    assert_eq!(rt; image.solid(), None);
+    assert_eq!(rt; image.key(), KEY);
+    assert_eq!(rt; image.row(0), [255, 0, 0, 255, 0, 0, 0, 0].as_slice());
+    Ok(())
+}
+
+#[test]
+fn a_tile_of_one_colour(rt: HostRuntime) -> Result<(), AllocError> {
+    let image = image_of(rt.alloc(), 2)?;
+    assert_eq!(rt; image.solid().map(|c| c.r()), Some(255));
+    assert_eq!(rt; image.row(0), [255, 0, 0, 255, 255, 0, 0, 255].as_slice());
+    Ok(())
+}
+
+const KEY: TileKey = TileKey {
+    layer: 1,
+    x: 0,
+    y: 0,
+    stamp: 0,
+};
+
+// a tile of 2 by 1 under a red rect of this width
+fn image_of(alloc: Global, wide: u8) -> Result<Arc<TileImage>, AllocError>
+    ensures { IfOk result (λ image. image.value.rect.h ≡ pos 1) }
+{
+    let mut list = DisplayList::new(alloc);
+    if let Some(colour) = Colour::new(255, 0, 0, 255) {
+        let rect = strip(wide);
+        if let Err((full, _)) = list.insert(0, Item::Rect { rect, colour }) {
+            return Err(full);
+        }
+    }
+    let list = match Arc::new(alloc, list) {
+        Ok(list) => list,
+        Err(_) => return Err(AllocError),
+    };
+    let job = Job {
+        key: KEY,
+        list,
+        rect: strip(2),
+    };
+    match job.run(alloc) {
+        Ok(image) => Ok(image),
+        Err((full, _)) => Err(full),
+    }
+}
+
+// the rect of this width and one row, at the origin
+fn strip(wide: u8) -> Rect
+    ensures sound { IsSound result }
+    ensures one_row { result.h ≡ pos 1 }
+{
+    Rect {
+        x: 0,
+        y: 0,
+        w: wide as i32,
+        h: 1,
+    }
+}

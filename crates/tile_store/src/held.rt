@@ -1,0 +1,22 @@
+//! One tile of the store, and how its key finds it.
+
+use geom::TileKey;
+use std::sync::Arc;
+use tile_raster::TileImage;
+
+/// A tile: its key, and its image or none while that is being made.
+#[derive(Drop)]
+pub(crate) struct Tile {
+    pub(crate) key: TileKey,
+    pub(crate) image: Option<Arc<TileImage>>,
+}
+
+/// A key and the place of its tile.
+#[derive(Clone, Copy)]
+pub(crate) struct Held {
+    pub(crate) key: TileKey,
+    /// the place in the slab
+    pub(crate) place: usize,
+    /// of use in one walk over the keys alone
+    pub(crate) live: bool,
+}

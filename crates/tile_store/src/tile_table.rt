@@ -1,0 +1,226 @@
+//! The held keys with their tiles.
+
+ghost use Rattle.std.specs.Prelude.{◌≡◌, ◌≤◌, ◌+◌, true, false, Some, None, IsSome, IfOk, OnOk, OnErr, option_map};
+ghost use Rattle.geom.specs.declared.tile.TileKey.{TileKey};
+ghost use Rattle.std.specs.FinMap as fin;
+ghost use Rattle.geom.specs.KeyLists.{has_key};
+ghost use Rattle.tile_store.specs.inner.Rows.{ready_of, is_flying, if_live, if_not_named};
+ghost use Rattle.tile_store.specs.inner.TileTables.{shown, mark_of};
+
+use crate::held::{Held, Tile};
+use crate::ready_keys::ReadyKeys;
+use crate::search::{search, search_near};
+use crate::tiles::{give, is_made};
+use crate::walks::{drop_unmarked, mark};
+use geom::{Keys, TileKey};
+use slab::Slab;
+use std::alloc::{AllocError, Global};
+use std::marker::Model;
+use std::sync::Arc;
+use tile_raster::TileImage;
+
+/// The most keys.
+const MOST: usize = u32::MAX as usize;
+
+/// So many keys are taken out one by one; for more of them one walk over all keys costs less.
+const FEW: usize = 4;
+
+/// Keys with their tiles, which contracts see as a map from each key to its image, or to none while that is
+/// being made.
+#[derive(Drop)]
+pub(crate) struct TileTable {
+    // in the order of the keys
+    held: Vec<Held>,
+    tiles: Slab<Tile>,
+}
+
+impl Model for TileTable {
+    ghost use Rattle.std.specs.Prelude.{vec_len, vec_capacity};
+    ghost use Rattle.std.specs.FinMap as fin;
+    ghost use Rattle.slab.specs.Slab.{get, slab_len};
+    ghost use Rattle.geom.specs.contracts.tile.TileKey as the_key;
+    ghost use Rattle.tile_raster.specs.contracts.image.TileImage as the_image;
+    ghost use Rattle.tile_store.specs.inner.TileTables.{TileTableModel, table_code, rows, room, IsTileTable};
+
+    ghost Value = { TileTableModel };
+
+    ghost coded = { table_code the_key.the_row.coded the_image.the_row.coded };
+
+    ghost view = { λ s. record {
+      held = fin.from_sorted (rows (get s.tiles) s.held.items);
+      spare = room (vec_capacity s.held) (vec_len s.held) s.tiles.capacity (slab_len s.tiles);
+    } };
+
+    ghost invariant = { λ s. IsTileTable s.tiles s.held.items };
+}
+
+impl TileTable {
+    /// No key, and memory from `alloc` later.
+    pub(crate) fn new(alloc: Global) -> TileTable
+        ensures { result.held ≡ fin.empty }
+    {
+        TileTable {
+            held: Vec::new(alloc),
+            tiles: Slab::new(alloc),
+        }
+    }
+
+    /// How many keys there are.
+    pub(crate) fn len(&self) -> u32
+        ensures { result ≡ fin.len self.now.held }
+    {
+        self.held.len() as u32
+    }
+
+    /// Makes room for one more key. An error is want of memory, or 2^32 - 1 keys; there is then as much
+    /// room as before.
+    pub(crate) fn reserve(&mut self) -> Result<(), AllocError>
+        ensures room { OnOk result (1 ≤ self.new.spare) }
+        ensures held { self.new.held ≡ self.old.held }
+        ensures spare { self.old.spare ≤ self.new.spare }
+        ensures refused { OnErr result (self.new.spare ≡ self.old.spare) }
+    {
+        if self.held.len() >= MOST {
+            return Err(AllocError);
+        }
+        self.held.reserve(1)?;
+        match self.tiles.reserve(1) {
+            Ok(()) => Ok(()),
+            // The slab leaves open whether a refused call made room: where it did, there is room.
+            Err(_) if self.tiles.len() < self.tiles.capacity() => Ok(()),
+            Err(refused) => Err(refused),
+        }
+    }
+
+    /// The tile of a key.
+    pub(crate) fn get(&self, key: TileKey) -> Option<&Tile>
+        ensures { option_map (λ t. shown t.now) result ≡ fin.get self.now.held key }
+    {
+        self.get_near(&mut 0, key)
+    }
+
+    /// The same. `near` is where the tile is looked for first, and is set to the place behind it.
+    pub(crate) fn get_near(&self, near: &mut usize, key: TileKey) -> Option<&Tile>
+        ensures { option_map (λ t. shown t.now) result ≡ fin.get self.now.held key }
+    {
+        match search_near(&self.held, *near, key) {
+            Ok(at) => {
+                *near = at + 1;
+                self.tiles.get(self.held[at].place)
+            }
+            Err(at) => {
+                *near = at;
+                None
+            }
+        }
+    }
+
+    /// Adds a key, whose image is being made.
+    pub(crate) fn put(&mut self, key: TileKey)
+        requires room { 1 ≤ self.old.spare }
+        requires absent { fin.get self.old.held key ≡ None }
+        ensures held { self.new.held ≡ fin.insert self.old.held key None }
+        ensures spare { self.old.spare ≤ self.new.spare + 1 }
+    {
+        if let Err(at) = search(&self.held, key) {
+            let place = self.tiles.insert_reserved(Tile { key, image: None });
+            let one = Held {
+                key,
+                place,
+                live: false,
+            };
+            drop(self.held.insert(at, one));
+        }
+    }
+
+    /// Gives a key its image.
+    pub(crate) fn set(&mut self, image: Arc<TileImage>)
+        requires { IsSome (fin.get self.old.held image.value.key) }
+        ensures held { self.new.held ≡ fin.insert self.old.held image.value.key (Some image.value) }
+        ensures spare { self.new.spare ≡ self.old.spare }
+    {
+        let key = image.key();
+        if let Ok(at) = search(&self.held, key) {
+            give(&mut self.tiles, self.held[at].place, key, image);
+        }
+    }
+
+    /// Drops a key with its tile, where it is held.
+    pub(crate) fn remove(&mut self, key: TileKey)
+        ensures held { self.new.held ≡ fin.remove self.old.held key }
+        ensures spare { self.old.spare ≤ self.new.spare }
+    {
+        if let Ok(at) = search(&self.held, key) {
+            let one = self.held.remove(at);
+            drop(self.tiles.try_remove(one.place));
+        }
+    }
+
+    // Drops these keys with their tiles, where they are held, one by one.
+    fn remove_each(&mut self, keys: &[TileKey])
+        ensures held { (q : TileKey) → fin.get self.new.held q ≡ if_not_named (has_key keys.now q) (fin.get self.old.held q) }
+        ensures spare { self.old.spare ≤ self.new.spare }
+    {
+        for key in keys {
+            self.remove(*key);
+        }
+    }
+
+    // Drops images with their keys: those of the list where it isn't of live keys, else those of all others. Keys
+    // whose images are being made stay.
+    fn sift(&mut self, named: &[TileKey], live: bool)
+        ensures held { (q : TileKey) → fin.get self.new.held q ≡ if_live (mark_of named.now live q) (fin.get self.old.held q) }
+        ensures spare { self.old.spare ≤ self.new.spare }
+    {
+        mark(&mut self.held, named, live);
+        let kept = drop_unmarked(&mut self.held, &mut self.tiles);
+        self.held.truncate(kept);
+    }
+
+    /// Drops these keys with their tiles, where they are held. None of them is being made.
+    pub(crate) fn remove_all(&mut self, keys: &[TileKey])
+        requires made { (q : TileKey) → has_key keys.now q ≡ true → is_flying (fin.get self.old.held q) ≡ false }
+        ensures held { (q : TileKey) → fin.get self.new.held q ≡ if_not_named (has_key keys.now q) (fin.get self.old.held q) }
+        ensures spare { self.old.spare ≤ self.new.spare }
+    {
+        if keys.len() <= FEW {
+            self.remove_each(keys);
+        } else {
+            self.sift(keys, false);
+        }
+    }
+
+    /// Drops the images of the keys that are not in `live`, whatever its order, with these keys. Keys whose
+    /// images are being made stay.
+    pub(crate) fn keep(&mut self, live: &[TileKey])
+        ensures held { (q : TileKey) → fin.get self.new.held q ≡ if_live (has_key live.now q) (fin.get self.old.held q) }
+        ensures spare { self.old.spare ≤ self.new.spare }
+    {
+        self.sift(live, true);
+    }
+
+    /// The keys that have an image, in their order. An error is want of memory.
+    pub(crate) fn ready_keys(&self, alloc: Global) -> Result<Keys, AllocError>
+        ensures { IfOk result (λ keys. keys ≡ fin.keys (ready_of self.now.held)) }
+    {
+        let mut keys = Keys::new(alloc);
+        for one in &self.held {
+            if is_made(&self.tiles, one.place) {
+                if let Err((full, _)) = keys.push(one.key) {
+                    return Err(full);
+                }
+            }
+        }
+        Ok(keys)
+    }
+
+    /// The keys that have an image, in their order, one after another.
+    pub(crate) fn each_ready(&self) -> ReadyKeys<'_>
+        ensures { result ≡ fin.keys (ready_of self.now.held) }
+    {
+        ReadyKeys {
+            rest: &self.held,
+            tiles: &self.tiles,
+        }
+    }
+}

@@ -1,0 +1,112 @@
+//! The few rects that damage is kept as.
+
+ghost use Rattle.std.specs.Prelude.{◌<◌, ◌∷◌, pos, ◌+ℤ◌, ◌≤ℤ◌, All, length, IsTrue, IfSome, OnOk};
+ghost use Rattle.viz_areas.specs.Areas.{IsOnScreen, Holds};
+ghost use Rattle.viz_damage.specs.inner.Areas.{HoldAll};
+
+use geom::Rect;
+use std::alloc::AllocError;
+use viz_areas::{hull, is_empty};
+
+// how many rects damage is kept as at most
+const MOST_RECTS: usize = 16;
+
+/// Adds an area to damage, unless a rect of it holds the area. It is joined with what it costs least to join
+/// with, as long as that costs nothing or there are too many rects.
+pub(crate) fn add_area(damage: &mut Vec<Rect>, area: Rect) -> Result<(), AllocError>
+    requires damage { All IsOnScreen damage.old.items }
+    requires area { IsOnScreen area }
+    ensures held { OnOk result (HoldAll damage.new.items (area ∷ damage.old.items)) }
+    ensures damage { All IsOnScreen damage.new.items }
+{
+    if is_empty(area) || is_held(damage, area) {
+        return Ok(());
+    }
+    let mut whole = area;
+    while let Some(place) = partner_of(damage, whole) {
+        let other = damage.remove(place);
+        whole = hull(whole, other);
+    }
+    damage.push(whole)?;
+    Ok(())
+}
+
+// whether one of some rects holds an area
+fn is_held(rects: &[Rect], area: Rect) -> bool
+    requires rects { All IsOnScreen rects.now }
+    requires area { IsOnScreen area }
+    ensures { IsTrue result → HoldAll rects.now (area ∷ rects.now) }
+{
+    for rect in rects {
+        if holds(*rect, area) {
+            return true;
+        }
+    }
+    false
+}
+
+// whether a rect holds an area
+fn holds(rect: Rect, area: Rect) -> bool
+    requires rect { IsOnScreen rect }
+    requires area { IsOnScreen area }
+    ensures { IsTrue result → Holds rect area }
+{
+    let across = has_span(rect.x, rect.w, area.x, area.w);
+    let down = has_span(rect.y, rect.h, area.y, area.h);
+    across && down
+}
+
+// whether a span has all numbers of another
+fn has_span(at: i32, len: i32, other_at: i32, other_len: i32) -> bool
+    requires start { pos 0 ≤ℤ at }
+    requires end { (at +ℤ len) ≤ℤ pos 2048 }
+    requires len { pos 0 ≤ℤ len }
+    requires other_start { pos 0 ≤ℤ other_at }
+    requires other_end { (other_at +ℤ other_len) ≤ℤ pos 2048 }
+    requires other_len { pos 0 ≤ℤ other_len }
+    ensures start { IsTrue result → at ≤ℤ other_at }
+    ensures end { IsTrue result → (other_at +ℤ other_len) ≤ℤ (at +ℤ len) }
+{
+    let end = at + len;
+    let other_end = other_at + other_len;
+    at <= other_at && other_end <= end
+}
+
+// the rect that an area is to be joined with
+fn partner_of(rects: &[Rect], area: Rect) -> Option<usize>
+    ensures { IfSome result (λ place. place < length rects.now) }
+{
+    let mut best = None;
+    let mut least = i32::MAX;
+    for place in 0..rects.len() {
+        let waste = waste_of(area, rects[place]);
+        if waste <= least {
+            least = waste;
+            best = Some(place);
+        }
+    }
+    if least <= 0 || rects.len() >= MOST_RECTS {
+        best
+    } else {
+        None
+    }
+}
+
+// how many more pixels the rect of both has than they have one by one
+fn waste_of(a: Rect, b: Rect) -> i32 {
+    let across = reach_end(a.x, a.w)
+        .max(reach_end(b.x, b.w))
+        .saturating_sub(a.x.min(b.x));
+    let down = reach_end(a.y, a.h)
+        .max(reach_end(b.y, b.h))
+        .saturating_sub(a.y.min(b.y));
+    across
+        .saturating_mul(down)
+        .saturating_sub(a.w.saturating_mul(a.h))
+        .saturating_sub(b.w.saturating_mul(b.h))
+}
+
+// the number behind a span
+fn reach_end(at: i32, len: i32) -> i32 {
+    at.saturating_add(len)
+}

@@ -1,0 +1,199 @@
+//! Whether two scenes are one.
+
+ghost use Rattle.std.specs.Prelude.{◌≡◌, IsTrue};
+ghost use Rattle.viz_scene.specs.Views.{tiled, quad_view, quads_view, passes_view};
+
+use crate::images::{is_same_colour, is_same_item, is_same_point, is_same_rect};
+use geom::{Point, Rect, TileKey};
+use page_display_list::Item;
+use tile_raster::TileImage;
+use viz_scene::{Quad, RenderPass, Scene};
+
+/// Whether two scenes are one: they have the same sides, background and passes, and the tiles of their quads
+/// the same keys and display lists. The lists are compared only where all places and keys are equal, so that
+/// a page that moved, or of which a tile was made anew, is told apart soon.
+#[tactic(auto, using(crate::proofs::SceneSteps::one_scene))]
+pub fn are_one(a: &Scene, b: &Scene) -> bool
+    ensures { IsTrue result → a.now ≡ b.now }
+{
+    if !have_one_screen(a, b) || !look_alike(a.passes(), b.passes()) {
+        return false;
+    }
+    are_one_passes(a.passes(), b.passes())
+}
+
+// whether two scenes have the same sides and the same background
+fn have_one_screen(a: &Scene, b: &Scene) -> bool
+    ensures wide { IsTrue result → a.now.w ≡ b.now.w }
+    ensures tall { IsTrue result → a.now.h ≡ b.now.h }
+    ensures background { IsTrue result → a.now.background ≡ b.now.background }
+{
+    let sides = a.w() == b.w() && a.h() == b.h();
+    sides && is_same_colour(a.background(), b.background())
+}
+
+// whether two lists of passes are one as far as the rects of their quads and the keys of tiles tell
+fn look_alike(a: &[RenderPass], b: &[RenderPass]) -> bool {
+    if a.len() != b.len() {
+        return false;
+    }
+    for place in 0..a.len() {
+        if !quads_look_alike(a[place].quads.as_slice(), b[place].quads.as_slice()) {
+            return false;
+        }
+    }
+    true
+}
+
+// whether two lists of quads are one as far as their rects and the keys of tiles tell
+fn quads_look_alike(a: &[Quad], b: &[Quad]) -> bool {
+    if a.len() != b.len() {
+        return false;
+    }
+    for place in 0..a.len() {
+        if !looks_alike(&a[place], &b[place]) {
+            return false;
+        }
+    }
+    true
+}
+
+// whether two quads are one as far as their rects and the keys of tiles tell
+fn looks_alike(a: &Quad, b: &Quad) -> bool {
+    match (a, b) {
+        (
+            Quad::Tile { image, at, .. },
+            Quad::Tile {
+                image: other,
+                at: place,
+                ..
+            },
+        ) => *at == *place && image.key() == other.key(),
+        (Quad::Solid { at, .. }, Quad::Solid { at: place, .. }) => *at == *place,
+        (Quad::Group { .. }, Quad::Group { .. }) => true,
+        _ => false,
+    }
+}
+
+// whether two lists of passes are one
+fn are_one_passes(a: &[RenderPass], b: &[RenderPass]) -> bool
+    ensures { IsTrue result → passes_view a.now ≡ passes_view b.now }
+{
+    if a.len() != b.len() {
+        return false;
+    }
+    for place in 0..a.len() {
+        if !are_one_pass(&a[place], &b[place]) {
+            return false;
+        }
+    }
+    true
+}
+
+// whether two passes are one
+fn are_one_pass(a: &RenderPass, b: &RenderPass) -> bool
+    ensures { IsTrue result → quads_view a.now.quads.items ≡ quads_view b.now.quads.items }
+{
+    are_one_list(a.quads.as_slice(), b.quads.as_slice())
+}
+
+// whether two lists of quads are one
+fn are_one_list(a: &[Quad], b: &[Quad]) -> bool
+    ensures { IsTrue result → quads_view a.now ≡ quads_view b.now }
+{
+    if a.len() != b.len() {
+        return false;
+    }
+    for place in 0..a.len() {
+        if !is_one_quad(&a[place], &b[place]) {
+            return false;
+        }
+    }
+    true
+}
+
+// whether two quads are one
+fn is_one_quad(a: &Quad, b: &Quad) -> bool
+    ensures { IsTrue result → quad_view a.now ≡ quad_view b.now }
+{
+    match (a, b) {
+        (
+            Quad::Tile { image, at, from },
+            Quad::Tile {
+                image: other,
+                at: place,
+                from: start,
+            },
+        ) => is_one_tile(image, *at, *from, other, *place, *start),
+        (
+            Quad::Solid { at, colour },
+            Quad::Solid {
+                at: place,
+                colour: other,
+            },
+        ) => is_same_rect(*at, *place) && is_same_colour(*colour, *other),
+        (
+            Quad::Group { pass, opacity },
+            Quad::Group {
+                pass: other,
+                opacity: second,
+            },
+        ) => *pass == *other && *opacity == *second,
+        _ => false,
+    }
+}
+
+// whether two parts of images are one
+#[tactic(auto, using(crate::proofs::SceneSteps::one_tile))]
+fn is_one_tile(
+    image: &TileImage,
+    at: Rect,
+    from: Point,
+    other: &TileImage,
+    place: Rect,
+    start: Point,
+) -> bool
+    ensures { IsTrue result → tiled image.now at from ≡ tiled other.now place start }
+{
+    if !is_same_rect(at, place) || !is_same_point(from, start) {
+        return false;
+    }
+    is_one_image(image, other)
+}
+
+// whether two images are one
+#[tactic(auto, using(crate::proofs::SceneSteps::one_image))]
+fn is_one_image(a: &TileImage, b: &TileImage) -> bool
+    ensures { IsTrue result → a.now ≡ b.now }
+{
+    if !is_one_key(a.key(), b.key()) || !is_same_rect(a.rect(), b.rect()) {
+        return false;
+    }
+    are_one_items(a.list().items(), b.list().items())
+}
+
+// whether two keys are one
+#[tactic(auto, using(crate::proofs::SceneSteps::one_key))]
+fn is_one_key(a: TileKey, b: TileKey) -> bool
+    ensures { IsTrue result → a ≡ b }
+{
+    if a.layer != b.layer || a.stamp != b.stamp {
+        return false;
+    }
+    a.x == b.x && a.y == b.y
+}
+
+// whether two lists of items are one
+fn are_one_items(a: &[Item], b: &[Item]) -> bool
+    ensures { IsTrue result → a.now ≡ b.now }
+{
+    if a.len() != b.len() {
+        return false;
+    }
+    for place in 0..a.len() {
+        if !is_same_item(&a[place], &b[place]) {
+            return false;
+        }
+    }
+    true
+}

@@ -1,0 +1,119 @@
+//! The area that opaque quads cover, as rects.
+
+ghost use Rattle.std.specs.Prelude.{◌≡◌, ◌<◌, ℤ, pos, ◌+ℤ◌, ◌<ℤ◌, ◌≤ℤ◌, true, false, ◌||◌, All, length, IsTrue, IfSome, OnOk, MatchOption};
+ghost use Rattle.geom.specs.Covers.{covers};
+ghost use Rattle.region.specs.Points.{covered};
+ghost use Rattle.viz_areas.specs.Areas.{IsOnScreen};
+ghost use Rattle.viz_occlusion.specs.inner.Cover.{IsBlock, IsOpen, HasGap, IsJoint, IsRectAt};
+
+use geom::{Point, Rect};
+use std::alloc::AllocError;
+use viz_areas::union_of;
+
+/// Adds the points of a rect.
+pub(crate) fn add_rect(cover: &mut Vec<Rect>, rect: Rect) -> Result<(), AllocError>
+    requires cover { All IsOnScreen cover.old.items }
+    requires rect { IsOnScreen rect }
+    ensures points { OnOk result ((x y : ℤ) → covered cover.new.items x y ≡ (covered cover.old.items x y || covers rect x y)) }
+    ensures cover { All IsOnScreen cover.new.items }
+{
+    let mut whole = rect;
+    while let Some(joint) = joint_of(cover, whole) {
+        cover.remove(joint.place);
+        whole = joint.union;
+    }
+    cover.push(whole)?;
+    Ok(())
+}
+
+/// A rect of a list that makes one rect with another.
+#[derive(Clone, Copy)]
+pub(crate) struct Joint {
+    /// Its place in the list.
+    pub(crate) place: usize,
+    /// The rect that both make.
+    pub(crate) union: Rect,
+}
+
+// the first rect of a list that makes one rect with another
+fn joint_of(cover: &[Rect], rect: Rect) -> Option<Joint>
+    requires cover { All IsOnScreen cover.now }
+    requires rect { IsOnScreen rect }
+    ensures { IfSome result (λ joint. IsJoint cover.now rect joint) }
+{
+    for place in 0..cover.len() {
+        if let Some(union) = union_of(cover[place], rect) {
+            return Some(Joint { place, union });
+        }
+    }
+    None
+}
+
+/// Whether rects cover each point of an area.
+pub(crate) fn is_covered(area: Rect, cover: &[Rect]) -> bool
+    requires area { IsOnScreen area }
+    requires cover { All IsOnScreen cover.now }
+    ensures yes { IsTrue result → (x y : ℤ) → covers area x y ≡ true → covered cover.now x y ≡ true }
+    ensures no { result ≡ false → HasGap area cover.now }
+{
+    let right = end_of(area.x, area.w);
+    let bottom = end_of(area.y, area.h);
+    are_rows_covered(area.x, right, area.y, bottom, cover)
+}
+
+// the number behind a span
+fn end_of(at: i32, len: i32) -> i32
+    requires start { pos 0 ≤ℤ at }
+    requires end { (at +ℤ len) ≤ℤ pos 2048 }
+    requires len { pos 0 ≤ℤ len }
+    ensures { result ≡ at +ℤ len }
+{
+    at + len
+}
+
+// whether rects cover each point of some columns and rows
+fn are_rows_covered(left: i32, right: i32, top: i32, bottom: i32, cover: &[Rect]) -> bool
+    requires { All IsOnScreen cover.now }
+    ensures yes { IsTrue result → IsBlock cover.now left right top bottom }
+    ensures no { result ≡ false → IsOpen cover.now left right top bottom }
+{
+    let mut y = top;
+    while y < bottom {
+        let Some(end) = covered_until(left, right, y, bottom, cover) else {
+            return false;
+        };
+        y = end;
+    }
+    true
+}
+
+// a row up to which the columns are covered from a row on; None where a point of that row is not covered
+fn covered_until(left: i32, right: i32, y: i32, bottom: i32, cover: &[Rect]) -> Option<i32>
+    requires some { y <ℤ bottom }
+    requires cover { All IsOnScreen cover.now }
+    ensures { MatchOption result (IsOpen cover.now left right y bottom) (λ end. (y <ℤ end) × (end ≤ℤ bottom) × IsBlock cover.now left right y end) }
+{
+    let mut x = left;
+    let mut end = bottom;
+    while x < right {
+        let Some(rect) = rect_at(x, y, cover) else {
+            return None;
+        };
+        x = end_of(rect.x, rect.w);
+        end = end.min(end_of(rect.y, rect.h));
+    }
+    Some(end)
+}
+
+// a rect that covers a point
+fn rect_at(x: i32, y: i32, cover: &[Rect]) -> Option<Rect>
+    requires { All IsOnScreen cover.now }
+    ensures { MatchOption result (covered cover.now x y ≡ false) (λ rect. IsRectAt cover.now x y rect) }
+{
+    for rect in cover {
+        if rect.contains(Point { x, y }) {
+            return Some(*rect);
+        }
+    }
+    None
+}

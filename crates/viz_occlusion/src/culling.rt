@@ -1,0 +1,133 @@
+//! Leaving out hidden quads.
+
+ghost use Rattle.std.specs.Prelude.{◌≡◌, ℕ, false, All, List, ◌∷◌, OnOk, IsTrue, IfOk};
+ghost use Rattle.viz_scene.specs.Views.{QuadView, quad_view, quads_view, passes_view};
+ghost use Rattle.viz_scene.specs.Opaque.{IsHidden};
+ghost use Rattle.viz_areas.specs.Areas.{IsOnScreen};
+ghost use Rattle.viz_occlusion.specs.Culled.{IsKeptAs, AreKept, AreAllKept, IsCulled};
+ghost use Rattle.viz_occlusion.specs.inner.Cover.{IsCover, IsFit, IsPassed};
+
+use crate::cover::{add_rect, is_covered};
+use crate::opaque::is_opaque;
+use geom::Rect;
+use std::alloc::{AllocError, Global};
+use viz_scene::{Quad, RenderPass, Scene};
+
+/// The scene without the tiles and solids that later opaque ones of their pass hide. It has the same pixels,
+/// the same passes and groups, and the quads that stay are in order; a tile whose image has one colour becomes
+/// a rect of that colour. An error is want of memory.
+pub fn cull(alloc: Global, scene: &Scene) -> Result<Scene, AllocError>
+    ensures { IfOk result (λ culled. IsCulled scene.now culled) }
+{
+    let before = scene.passes();
+    let passes = kept_passes(alloc, before)?;
+    let w = scene.w();
+    let h = scene.h();
+    let background = scene.background();
+    let culled = Scene::new(w, h, background, passes);
+    Ok(culled)
+}
+
+// the passes without hidden quads
+fn kept_passes(alloc: Global, passes: &[RenderPass]) -> Result<Vec<RenderPass>, AllocError>
+    requires { All (All IsFit) (passes_view passes.now) }
+    ensures { IfOk result (λ kept. AreAllKept (passes_view passes.now) (passes_view kept.items)) }
+{
+    let mut kept = Vec::with_capacity(alloc, passes.len())?;
+    for pass in passes {
+        let quads = kept_quads(alloc, pass.quads.as_slice())?;
+        kept.push(RenderPass { quads })?;
+    }
+    Ok(kept)
+}
+
+// the quads that later ones do not hide
+fn kept_quads(alloc: Global, quads: &[Quad]) -> Result<Vec<Quad>, AllocError>
+    requires { All IsFit (quads_view quads.now) }
+    ensures { IfOk result (λ kept. AreKept (quads_view quads.now) (quads_view kept.items)) }
+{
+    let mut cover = Vec::new(alloc);
+    let mut kept = Vec::with_capacity(alloc, quads.len())?;
+    let mut left = quads.len();
+    while left > 0 {
+        left -= 1;
+        keep_quad(&quads[left], &mut cover, &mut kept)?;
+    }
+    kept.reverse();
+    Ok(kept)
+}
+
+// keeps a quad behind those that were kept, unless the area hides it, and adds what it hides
+fn keep_quad(quad: &Quad, cover: &mut Vec<Rect>, kept: &mut Vec<Quad>) -> Result<(), AllocError>
+    requires fits { IsFit (quad_view quad.now) }
+    requires cover { All IsOnScreen cover.old.items }
+    ensures passed { OnOk result (IsPassed (quad_view quad.now) cover.old.items cover.new.items kept.old.items kept.new.items) }
+    ensures inside { All IsOnScreen cover.new.items }
+{
+    if is_hidden(quad, cover) {
+        return Ok(());
+    }
+    kept.push(kept_as(quad)?)?;
+    add_cover(cover, quad)?;
+    Ok(())
+}
+
+// whether an area hides a quad
+fn is_hidden(quad: &Quad, cover: &[Rect]) -> bool
+    requires fits { IsFit (quad_view quad.now) }
+    requires cover { All IsOnScreen cover.now }
+    ensures yes { IsTrue result → (later : List QuadView) → IsCover later cover.now → IsHidden (quad_view quad.now) later }
+    ensures no { result ≡ false → (later : List QuadView) → IsCover later cover.now → IsHidden (quad_view quad.now) later → ⊥ }
+{
+    match quad {
+        Quad::Tile { at, .. } => is_covered(*at, cover),
+        Quad::Solid { at, .. } => is_covered(*at, cover),
+        Quad::Group { .. } => false,
+    }
+}
+
+// what a quad is kept as
+fn kept_as(quad: &Quad) -> Result<Quad, AllocError>
+    ensures { IfOk result (λ kept. IsKeptAs (quad_view quad.now) (quad_view kept)) }
+{
+    match quad {
+        Quad::Tile { image, at, .. } => match image.solid() {
+            Some(colour) => Ok(Quad::Solid { at: *at, colour }),
+            None => {
+                let kept = quad.copy()?;
+                Ok(kept)
+            }
+        },
+        Quad::Solid { .. } => {
+            let kept = quad.copy()?;
+            Ok(kept)
+        }
+        Quad::Group { .. } => {
+            let kept = quad.copy()?;
+            Ok(kept)
+        }
+    }
+}
+
+// adds what a quad hides
+fn add_cover(cover: &mut Vec<Rect>, quad: &Quad) -> Result<(), AllocError>
+    requires fits { IsFit (quad_view quad.now) }
+    requires cover { All IsOnScreen cover.old.items }
+    ensures cover { OnOk result ((later : List QuadView) → IsCover later cover.old.items → IsCover (quad_view quad.now ∷ later) cover.new.items) }
+    ensures inside { All IsOnScreen cover.new.items }
+{
+    if !is_opaque(quad) {
+        return Ok(());
+    }
+    match quad {
+        Quad::Tile { at, .. } => {
+            add_rect(cover, *at)?;
+            Ok(())
+        }
+        Quad::Solid { at, .. } => {
+            add_rect(cover, *at)?;
+            Ok(())
+        }
+        Quad::Group { .. } => Ok(()),
+    }
+}

@@ -1,0 +1,237 @@
+//! Marking the blocks of an area on which a quad is opaque.
+
+ghost use Rattle.std.specs.Prelude.{◌≡◌, ℕ, ◌+◌, ◌-◌, ◌*◌, ◌/◌, ◌<◌, ◌≤◌, ◌⊎◌, ◌≢◌, true, pos, ◌+ℤ◌, ◌≤ℤ◌, All, length, slice_index, IsTrue};
+ghost use Rattle.geom.specs.Covers.{IsSound};
+ghost use Rattle.pixel.specs.Rows.{pixel, ArePremultiplied};
+ghost use Rattle.pixel.specs.Surfaces.{holds};
+ghost use Rattle.page_display_list.specs.Bitmaps.{near};
+ghost use Rattle.viz_scene.specs.Views.{quad_view, quads_view, plain, tiled};
+ghost use Rattle.viz_scene.specs.Sound.{IsTaken};
+ghost use Rattle.tile_raster.specs.Images.{AreSameRows};
+ghost use Rattle.viz_render.specs.inner.Drawing.{CanBeDrawn, part_pixel};
+ghost use Rattle.viz_render.specs.inner.Masks.{Hides, HidesIn, IsOfBlock, Marks, AreMarked};
+
+use crate::surface::Surface;
+use crate::tile::{equal_rows_at, row_number, taken_part};
+use geom::{Point, Rect};
+use page_display_list::{Part, shared_part};
+use pixel::{Area, Colour};
+use tile_raster::TileImage;
+use viz_scene::Quad;
+use viz_surface::are_sixteen_opaque;
+
+/// Marks what the opaque ones of some quads hide of an area, on a mask without a mark.
+pub(crate) fn mark_quads(tops: &mut [usize], area: Rect, quads: &[Quad], passes: &[Surface])
+    requires tops { length tops.old ≡ 1032 }
+    requires area { IsSound area }
+    requires wide { near area.w ≤ 2048 }
+    requires low { near area.h ≤ 64 }
+    requires quads { All (CanBeDrawn (length passes.now)) (quads_view quads.now) }
+    requires marked { AreMarked area quads.now tops.old }
+    ensures size { length tops.new ≡ 1032 }
+    ensures marked { AreMarked area quads.now tops.new }
+{
+    let mut number = quads.len();
+    while number > 0 {
+        mark_quad(tops, area, &quads[number - 1], passes, number);
+        number -= 1;
+    }
+}
+
+// marks where one quad is opaque
+fn mark_quad(tops: &mut [usize], area: Rect, quad: &Quad, passes: &[Surface], number: usize)
+    requires tops { length tops.old ≡ 1032 }
+    requires area { IsSound area }
+    requires wide { near area.w ≤ 2048 }
+    requires low { near area.h ≤ 64 }
+    requires quad { CanBeDrawn (length passes.now) (quad_view quad.now) }
+    ensures size { length tops.new ≡ 1032 }
+    ensures marks { Marks number (λ x y. x < near area.w → y < near area.h → Hides (quad_view quad.now) (area.x +ℤ pos x) (area.y +ℤ pos y)) tops.old tops.new }
+{
+    match quad {
+        Quad::Tile { image, at, from } => mark_tile(tops, area, image, *at, *from, number),
+        Quad::Solid { at, colour } => mark_solid(tops, area, *at, *colour, number),
+        Quad::Group { .. } => {}
+    }
+}
+
+// marks where a tile is opaque
+fn mark_tile(
+    tops: &mut [usize],
+    area: Rect,
+    image: &TileImage,
+    at: Rect,
+    from: Point,
+    number: usize,
+)
+    requires tops { length tops.old ≡ 1032 }
+    requires area { IsSound area }
+    requires at { IsSound at }
+    requires taken { IsTaken image.now at from }
+    requires wide { near area.w ≤ 2048 }
+    requires low { near area.h ≤ 64 }
+    ensures size { length tops.new ≡ 1032 }
+    ensures marks { Marks number (λ x y. x < near area.w → y < near area.h → Hides (tiled image.now at from) (area.x +ℤ pos x) (area.y +ℤ pos y)) tops.old tops.new }
+{
+    let Some(part) = shared_part(at, area) else {
+        return;
+    };
+    if let Some(colour) = image.solid() {
+        mark_solid(tops, area, at, colour, number);
+        return;
+    }
+    let part = taken_part(part, from);
+    mark_part(tops, image, part, number);
+}
+
+// marks where a part of an image is opaque
+fn mark_part(tops: &mut [usize], image: &TileImage, part: Part, number: usize)
+    requires tops { length tops.old ≡ 1032 }
+    requires wide { part.at.x + part.at.w ≤ 2048 }
+    requires low { part.at.y + part.at.h ≤ 64 }
+    requires columns { part.left + part.at.w ≤ near image.now.rect.w }
+    requires rows { part.above + part.at.h ≤ near image.now.rect.h }
+    ensures size { length tops.new ≡ 1032 }
+    ensures marks { Marks number (HidesIn part.at (part_pixel image.now part)) tops.old tops.new }
+{
+    let mut done = 0;
+    while done < part.at.h {
+        let row = row_number(image, part, done);
+        let rows = equal_rows_at(image, row, part.at.h - done);
+        mark_band(tops, image, part, done, rows, number);
+        done += rows;
+    }
+}
+
+// marks where so many rows of a part of an image, from its row `row` on, are opaque, which are all equal
+fn mark_band(
+    tops: &mut [usize],
+    image: &TileImage,
+    part: Part,
+    row: usize,
+    rows: usize,
+    number: usize,
+)
+    requires tops { length tops.old ≡ 1032 }
+    requires wide { part.at.x + part.at.w ≤ 2048 }
+    requires low { part.at.y + part.at.h ≤ 64 }
+    requires columns { part.left + part.at.w ≤ near image.now.rect.w }
+    requires below { part.above + part.at.h ≤ near image.now.rect.h }
+    requires some { 1 ≤ rows }
+    requires there { row + rows ≤ part.at.h }
+    requires equal { (k : ℕ) → k < rows → AreSameRows image.now.list image.now.rect (part.above + row) (part.above + row + k) }
+    ensures size { length tops.new ≡ 1032 }
+    ensures marks { Marks number (HidesIn part.at (part_pixel image.now part)) tops.old tops.new }
+{
+    let at = Area {
+        x: part.at.x,
+        y: part.at.y + row,
+        w: part.at.w,
+        h: rows,
+    };
+    let number_of_row = row_number(image, part, row);
+    let pixels = image.row(number_of_row);
+    mark_row(tops, at, pixels, part.left, number);
+}
+
+// marks the blocks of an area on which the pixels of a row, from its pixel `from` on, are opaque
+fn mark_row(tops: &mut [usize], at: Area, row: &[u8], from: usize, number: usize)
+    requires tops { length tops.old ≡ 1032 }
+    requires wide { at.x + at.w ≤ 2048 }
+    requires low { at.y + at.h ≤ 64 }
+    requires columns { 4 * (from + at.w) ≤ length row.now }
+    requires premultiplied { ArePremultiplied row.now }
+    ensures size { length tops.new ≡ 1032 }
+    ensures marks { Marks number (HidesIn at (λ x y. pixel row.now (x - at.x + from))) tops.old tops.new }
+{
+    for block in (at.x + 15) / 16..(at.x + at.w) / 16 {
+        mark_opaque(tops, at, block, row, from, number);
+    }
+}
+
+// marks the blocks of sixteen columns that an area has whole, where the pixels of a row are opaque
+fn mark_opaque(tops: &mut [usize], at: Area, block: usize, row: &[u8], from: usize, number: usize)
+    requires tops { length tops.old ≡ 1032 }
+    requires wide { at.x + at.w ≤ 2048 }
+    requires low { at.y + at.h ≤ 64 }
+    requires left { (at.x + 15) / 16 ≤ block }
+    requires right { block < (at.x + at.w) / 16 }
+    requires columns { 4 * (from + at.w) ≤ length row.now }
+    requires premultiplied { ArePremultiplied row.now }
+    ensures size { length tops.new ≡ 1032 }
+    ensures marks { Marks number (HidesIn at (λ x y. pixel row.now (x - at.x + from))) tops.old tops.new }
+{
+    if is_marked(tops, at, block) {
+        return;
+    }
+    if are_sixteen_opaque(row, 16 * block - at.x + from) {
+        mark_block(tops, at, block, number);
+    }
+}
+
+// marks the blocks of a rect of one colour, where it is opaque
+fn mark_solid(tops: &mut [usize], area: Rect, at: Rect, colour: Colour, number: usize)
+    requires tops { length tops.old ≡ 1032 }
+    requires area { IsSound area }
+    requires at { IsSound at }
+    requires wide { near area.w ≤ 2048 }
+    requires low { near area.h ≤ 64 }
+    ensures size { length tops.new ≡ 1032 }
+    ensures marks { Marks number (λ x y. x < near area.w → y < near area.h → Hides (plain at colour) (area.x +ℤ pos x) (area.y +ℤ pos y)) tops.old tops.new }
+{
+    if colour.a() != 255 {
+        return;
+    }
+    if let Some(part) = shared_part(at, area) {
+        mark_all(tops, part.at, number);
+    }
+}
+
+// marks the blocks of an area
+fn mark_all(tops: &mut [usize], at: Area, number: usize)
+    requires tops { length tops.old ≡ 1032 }
+    requires wide { at.x + at.w ≤ 2048 }
+    requires low { at.y + at.h ≤ 64 }
+    ensures size { length tops.new ≡ 1032 }
+    ensures marks { Marks number (λ x y. holds at x y ≡ true) tops.old tops.new }
+{
+    for block in (at.x + 15) / 16..(at.x + at.w) / 16 {
+        mark_block(tops, at, block, number);
+    }
+}
+
+// marks the blocks of sixteen columns that an area has whole, where they have no mark
+fn mark_block(tops: &mut [usize], at: Area, block: usize, number: usize)
+    requires tops { length tops.old ≡ 1032 }
+    requires block { block < 128 }
+    requires low { at.y + at.h ≤ 64 }
+    ensures size { length tops.new ≡ 1032 }
+    ensures marks { Marks number (IsOfBlock at block) tops.old tops.new }
+{
+    for down in (at.y + 7) / 8..(at.y + at.h) / 8 {
+        mark_one(tops, down * 129 + block, number);
+    }
+}
+
+// marks one block, where it has no mark
+fn mark_one(tops: &mut [usize], place: usize, number: usize)
+    requires place { place < length tops.old }
+    ensures size { length tops.new ≡ length tops.old }
+    ensures there { (slice_index tops.new place ≡ slice_index tops.old place) ⊎ (slice_index tops.new place ≡ number) }
+    ensures other { (i : ℕ) → i ≢ place → slice_index tops.new i ≡ slice_index tops.old i }
+{
+    if tops[place] == 0 {
+        tops[place] = number;
+    }
+}
+
+// whether the blocks of sixteen columns that an area has whole seem to be marked
+fn is_marked(tops: &[usize], at: Area, block: usize) -> bool
+    requires tops { length tops.now ≡ 1032 }
+    requires block { block < 128 }
+    requires low { at.y + at.h ≤ 64 }
+{
+    let first = (at.y + 7) / 8;
+    let end = (at.y + at.h) / 8;
+    end <= first || tops[first * 129 + block] > 0 && tops[(end - 1) * 129 + block] > 0
+}

@@ -1,0 +1,192 @@
+//! What of an area opaque quads hide.
+
+ghost use Rattle.std.specs.Prelude.{◌≡◌, ℕ, ◌≤◌, All, length, slice_index};
+ghost use Rattle.geom.specs.Covers.{IsSound};
+ghost use Rattle.page_display_list.specs.Bitmaps.{near};
+ghost use Rattle.viz_scene.specs.Views.{quads_view};
+ghost use Rattle.viz_render.specs.inner.Drawing.{CanBeDrawn};
+ghost use Rattle.viz_render.specs.inner.Masks.{AreMarked};
+
+use crate::marks::mark_quads;
+use crate::surface::Surface;
+use geom::Rect;
+use std::alloc::{AllocError, Global};
+use std::marker::Model;
+use viz_scene::{Quad, Scene};
+
+/// How many numbers a mask has: those of the blocks of 64 rows, 129 in each row of them.
+const COUNT: usize = 1032;
+
+/// How often the tiles and rects of a pass have to cover the screen on average for a mask to pay.
+const DEPTH: i32 = 3;
+
+/// For each block of sixteen columns and eight rows of an area, which quad is the first that has to be drawn there, as
+/// it is opaque on the whole block: its number, counted from 1, or 0 where all have to be, and the background.
+#[derive(Drop)]
+pub(crate) struct Mask {
+    tops: Vec<usize>,
+    // none of them exceeds it
+    highest: usize,
+    // of each pass of the scene, whether a mask pays
+    deep: Vec<bool>,
+}
+
+impl Model for Mask {
+    ghost use Rattle.viz_render.specs.inner.Masks.{MaskView, IsMask};
+
+    ghost Value = { MaskView };
+
+    ghost view = { λ m. record { tops = m.tops.items; highest = m.highest } };
+
+    ghost invariant = { λ m. IsMask (record { tops = m.tops.items; highest = m.highest }) };
+}
+
+impl Mask {
+    /// Takes the memory for the masks of a scene.
+    pub(crate) fn new(alloc: Global, scene: &Scene) -> Result<Mask, AllocError> {
+        let tops = vec![in alloc; 0usize; COUNT]?;
+        let deep = deep_passes(alloc, scene)?;
+        Ok(Mask {
+            tops,
+            highest: 0,
+            deep,
+        })
+    }
+
+    /// The numbers, row by row of blocks.
+    pub(crate) fn tops(&self) -> &[usize]
+        ensures value { result.now ≡ self.now.tops }
+        ensures room { length result.now ≡ 1032 }
+    {
+        &self.tops
+    }
+
+    /// A number that none of them exceeds.
+    pub(crate) fn highest(&self) -> usize
+        ensures value { result ≡ self.now.highest }
+        ensures bound { (i : ℕ) → slice_index self.now.tops i ≤ result }
+    {
+        self.highest
+    }
+
+    // whether a mask pays for the pass of this number
+    fn is_deep(&self, number: usize) -> bool {
+        match self.deep.get(number) {
+            Some(deep) => *deep,
+            None => false,
+        }
+    }
+
+    /// Marks what the opaque ones of a pass's quads hide of an area, where that pays. The passes before it have
+    /// surfaces.
+    pub(crate) fn mark(&mut self, area: Rect, quads: &[Quad], passes: &[Surface])
+        requires area { IsSound area }
+        requires wide { near area.w ≤ 2048 }
+        requires low { near area.h ≤ 64 }
+        requires quads { All (CanBeDrawn (length passes.now)) (quads_view quads.now) }
+        ensures { AreMarked area quads.now self.new.tops }
+    {
+        let highest = self.highest;
+        let deep = self.is_deep(passes.len());
+        self.highest = marked(self.tops.as_mut_slice(), highest, deep, area, quads, passes);
+    }
+}
+
+// the highest number of a mask after it was made for some quads of an area, or cleared where it does not pay; none
+// was above `highest` before
+fn marked(
+    tops: &mut [usize],
+    highest: usize,
+    deep: bool,
+    area: Rect,
+    quads: &[Quad],
+    passes: &[Surface],
+) -> usize
+    requires tops { length tops.old ≡ 1032 }
+    requires bound { (i : ℕ) → slice_index tops.old i ≤ highest }
+    requires area { IsSound area }
+    requires wide { near area.w ≤ 2048 }
+    requires low { near area.h ≤ 64 }
+    requires quads { All (CanBeDrawn (length passes.now)) (quads_view quads.now) }
+    ensures size { length tops.new ≡ 1032 }
+    ensures bound { (i : ℕ) → slice_index tops.new i ≤ result }
+    ensures marked { AreMarked area quads.now tops.new }
+{
+    clear(tops, highest);
+    if deep {
+        mark_deep(tops, area, quads, passes)
+    } else {
+        0
+    }
+}
+
+// gives all numbers 0, of which none is above `highest`
+#[tactic(auto, using(crate::proofs::MarkSteps::none_left))]
+fn clear(tops: &mut [usize], highest: usize)
+    requires bound { (i : ℕ) → slice_index tops.old i ≤ highest }
+    ensures size { length tops.new ≡ length tops.old }
+    ensures none { (i : ℕ) → slice_index tops.new i ≤ 0 }
+{
+    if highest > 0 {
+        fill_zeros(tops);
+    }
+}
+
+// gives all numbers 0
+fn fill_zeros(tops: &mut [usize])
+    ensures size { length tops.new ≡ length tops.old }
+    ensures none { (i : ℕ) → slice_index tops.new i ≤ 0 }
+{
+    tops.fill(0);
+}
+
+// the highest number after the marking of what the opaque ones of some quads hide
+fn mark_deep(tops: &mut [usize], area: Rect, quads: &[Quad], passes: &[Surface]) -> usize
+    requires tops { length tops.old ≡ 1032 }
+    requires area { IsSound area }
+    requires wide { near area.w ≤ 2048 }
+    requires low { near area.h ≤ 64 }
+    requires quads { All (CanBeDrawn (length passes.now)) (quads_view quads.now) }
+    requires marked { AreMarked area quads.now tops.old }
+    ensures size { length tops.new ≡ length tops.old }
+    ensures bound { (i : ℕ) → slice_index tops.new i ≤ result }
+    ensures marked { AreMarked area quads.now tops.new }
+{
+    mark_quads(tops, area, quads, passes);
+    highest_of(tops)
+}
+
+// the highest of some numbers
+fn highest_of(tops: &[usize]) -> usize
+    ensures { (i : ℕ) → slice_index tops.now i ≤ result }
+{
+    let mut highest = 0;
+    for top in tops {
+        highest = highest.max(*top);
+    }
+    highest
+}
+
+// of each pass of a scene, whether its tiles and rects lie above one another in many places
+fn deep_passes(alloc: Global, scene: &Scene) -> Result<Vec<bool>, AllocError> {
+    let pixels = scene.w().saturating_mul(scene.h()) as i32;
+    let mut deep = Vec::with_capacity(alloc, scene.passes().len())?;
+    for pass in scene.passes() {
+        deep.push(pixels_of(pass.quads.as_slice()) / DEPTH > pixels)?;
+    }
+    Ok(deep)
+}
+
+// how many pixels the tiles and rects of some quads have together
+fn pixels_of(quads: &[Quad]) -> i32 {
+    let mut sum: i32 = 0;
+    for quad in quads {
+        match quad {
+            Quad::Tile { at, .. } | Quad::Solid { at, .. } => {
+                sum = sum.saturating_add(at.w.saturating_mul(at.h));
+            }
+            Quad::Group { .. } => {}
+        }
+    }
+    sum
+}

@@ -1,0 +1,110 @@
+//! Drawing the passes of a scene into the pixels of an area.
+
+ghost use Rattle.std.specs.Prelude.{◌≡◌, ℕ, ◌≤◌, length, All};
+ghost use Rattle.geom.specs.Covers.{IsSound};
+ghost use Rattle.pixel.specs.Rows.{ArePremultiplied};
+ghost use Rattle.page_display_list.specs.Bitmaps.{near, byte_count};
+ghost use Rattle.viz_scene.specs.Views.{quads_view, passes_view};
+ghost use Rattle.viz_scene.specs.Sound.{IsIn};
+ghost use Rattle.viz_render.specs.inner.Drawing.{CanBeDrawn, AreRoomy, PassesCanBeDrawn, ShowsQuads, ShowsPass, ShowPasses};
+
+use crate::hull::hull_of;
+use crate::mask::Mask;
+use crate::quads::draw_quads;
+use crate::size::{height_of, width_of};
+use crate::surface::Surface;
+use geom::Rect;
+use pixel::Colour;
+use viz_scene::{Quad, RenderPass};
+
+/// Draws the pixels of an area of each pass into its surface, inner passes first.
+pub(crate) fn draw_passes(
+    passes: &[RenderPass],
+    area: Rect,
+    surfaces: &mut [Surface],
+    mask: &mut Mask,
+)
+    requires area { IsIn 2048 2048 area }
+    requires low { near area.h ≤ 64 }
+    requires each { length surfaces.old ≡ length passes.now }
+    requires quads { PassesCanBeDrawn (passes_view passes.now) }
+    requires room { AreRoomy (byte_count area.w area.h) surfaces.old }
+    ensures pixels { ShowPasses area (passes_view passes.now) surfaces.new }
+    ensures room { (n : ℕ) → AreRoomy n surfaces.old → AreRoomy n surfaces.new }
+{
+    for (i, pass) in passes.iter().enumerate() {
+        let (before, rest) = surfaces.split_at_mut(i);
+        draw_inner_pass(&mut rest[0], area, &pass.quads, before, mask);
+    }
+}
+
+// draws the pixels of an area of one pass before the root: only where its quads draw
+fn draw_inner_pass(
+    surface: &mut Surface,
+    area: Rect,
+    quads: &[Quad],
+    passes: &[Surface],
+    mask: &mut Mask,
+)
+    requires area { IsIn 2048 2048 area }
+    requires low { near area.h ≤ 64 }
+    requires quads { All (CanBeDrawn (length passes.now)) (quads_view quads.now) }
+    requires room { byte_count area.w area.h ≤ length surface.old.bytes }
+    ensures pixels { ShowsPass area passes.now (quads_view quads.now) surface.new }
+    ensures size { length surface.new.bytes ≡ length surface.old.bytes }
+{
+    let hull = hull_of(quads, area, passes);
+    draw_pass(surface, Colour::CLEAR, hull, quads, passes, mask);
+}
+
+/// Draws the pixels of a pass on a rect over a colour. The passes before it have surfaces.
+pub(crate) fn draw_pass(
+    surface: &mut Surface,
+    below: Colour,
+    area: Rect,
+    quads: &[Quad],
+    passes: &[Surface],
+    mask: &mut Mask,
+)
+    requires area { IsSound area }
+    requires wide { near area.w ≤ 2048 }
+    requires low { near area.h ≤ 64 }
+    requires quads { All (CanBeDrawn (length passes.now)) (quads_view quads.now) }
+    requires room { byte_count area.w area.h ≤ length surface.old.bytes }
+    ensures rect { surface.new.rect ≡ area }
+    ensures pixels { ShowsQuads area passes.now below (quads_view quads.now) surface.new.bytes }
+    ensures size { length surface.new.bytes ≡ length surface.old.bytes }
+{
+    draw_over(
+        surface.bytes.as_mut_slice(),
+        below,
+        area,
+        quads,
+        passes,
+        mask,
+    );
+    surface.rect = area;
+}
+
+/// Draws quads over a colour into the first of some bytes. The passes before theirs have surfaces.
+pub(crate) fn draw_over(
+    bytes: &mut [u8],
+    below: Colour,
+    area: Rect,
+    quads: &[Quad],
+    passes: &[Surface],
+    mask: &mut Mask,
+)
+    requires area { IsSound area }
+    requires wide { near area.w ≤ 2048 }
+    requires low { near area.h ≤ 64 }
+    requires quads { All (CanBeDrawn (length passes.now)) (quads_view quads.now) }
+    requires room { byte_count area.w area.h ≤ length bytes.old }
+    ensures pixels { ShowsQuads area passes.now below (quads_view quads.now) bytes.new }
+    ensures premultiplied { ArePremultiplied bytes.old → ArePremultiplied bytes.new }
+{
+    let size = 4 * (width_of(area) * height_of(area));
+    let surface = &mut bytes[..size];
+    mask.mark(area, quads, passes);
+    draw_quads(surface, below, area, quads, passes, mask);
+}

@@ -1,0 +1,74 @@
+//! Drawing quads into the pixels of an area.
+
+ghost use Rattle.std.specs.Prelude.{◌≡◌, ◌≤◌, length, All};
+ghost use Rattle.geom.specs.Covers.{IsSound};
+ghost use Rattle.pixel.specs.Rows.{ArePremultiplied};
+ghost use Rattle.page_display_list.specs.Bitmaps.{near, byte_count};
+ghost use Rattle.viz_scene.specs.Views.{quad_view, quads_view};
+ghost use Rattle.viz_scene.specs.Pixels.{quad_over};
+ghost use Rattle.viz_render.specs.inner.Drawing.{colours, CanBeDrawn, ShowsQuads};
+ghost use Rattle.viz_render.specs.inner.Masks.{AreMarked, EachOpenPoint};
+
+use crate::blank::fill_open;
+use crate::group::draw_group;
+use crate::mask::Mask;
+use crate::size::{height_of, width_of};
+use crate::solid::draw_solid;
+use crate::surface::Surface;
+use crate::tile::draw_tile;
+use geom::Rect;
+use pixel::Colour;
+use viz_scene::Quad;
+
+/// Draws quads over a colour into the pixels of an area, each over those before it, but for what later ones hide. A
+/// group is one of the passes, which have surfaces.
+pub(crate) fn draw_quads(
+    surface: &mut [u8],
+    below: Colour,
+    area: Rect,
+    quads: &[Quad],
+    passes: &[Surface],
+    mask: &Mask,
+)
+    requires area { IsSound area }
+    requires wide { near area.w ≤ 2048 }
+    requires low { near area.h ≤ 64 }
+    requires size { length surface.old ≡ byte_count area.w area.h }
+    requires quads { All (CanBeDrawn (length passes.now)) (quads_view quads.now) }
+    requires marked { AreMarked area quads.now mask.now.tops }
+    ensures pixels { ShowsQuads area passes.now below (quads_view quads.now) surface.new }
+    ensures size { length surface.new ≡ length surface.old }
+    ensures premultiplied { ArePremultiplied surface.old → ArePremultiplied surface.new }
+{
+    fill_open(surface, width_of(area), height_of(area), below, mask);
+    for (k, quad) in quads.iter().enumerate() {
+        draw_quad(surface, area, quad, passes, mask, k + 1);
+    }
+}
+
+// draws one quad
+fn draw_quad(
+    surface: &mut [u8],
+    area: Rect,
+    quad: &Quad,
+    passes: &[Surface],
+    mask: &Mask,
+    number: usize,
+)
+    requires area { IsSound area }
+    requires wide { near area.w ≤ 2048 }
+    requires low { near area.h ≤ 64 }
+    requires size { length surface.old ≡ byte_count area.w area.h }
+    requires quad { CanBeDrawn (length passes.now) (quad_view quad.now) }
+    ensures pixels { EachOpenPoint area mask.now.tops number (λ x y below. quad_over (colours passes.now x y) x y below (quad_view quad.now)) surface.old surface.new }
+    ensures premultiplied { ArePremultiplied surface.old → ArePremultiplied surface.new }
+{
+    match quad {
+        Quad::Tile { image, at, from } => draw_tile(surface, area, image, *at, *from, mask, number),
+        Quad::Solid { at, colour } => draw_solid(surface, area, *at, *colour, mask, number),
+        Quad::Group { pass, opacity } => {
+            let pass = &passes[*pass as usize];
+            draw_group(surface, area, pass, *opacity, mask, number);
+        }
+    }
+}

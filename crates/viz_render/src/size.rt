@@ -1,0 +1,31 @@
+//! The sides of rects as counts.
+
+ghost use Rattle.std.specs.Prelude.{◌≡◌, pos, ◌≤ℤ◌};
+ghost use Rattle.geom.specs.Covers.{IsSound};
+ghost use Rattle.page_display_list.specs.Bitmaps.{near};
+
+use geom::Rect;
+
+/// A number from 0 on as a count.
+pub(crate) fn count(n: i32) -> usize
+    requires { pos 0 ≤ℤ n }
+    ensures { result ≡ near n }
+{
+    n as usize
+}
+
+/// How many columns a rect has.
+pub(crate) fn width_of(rect: Rect) -> usize
+    requires { IsSound rect }
+    ensures { result ≡ near rect.w }
+{
+    count(rect.w)
+}
+
+/// How many rows a rect has.
+pub(crate) fn height_of(rect: Rect) -> usize
+    requires { IsSound rect }
+    ensures { result ≡ near rect.h }
+{
+    count(rect.h)
+}
