@@ -9,7 +9,7 @@
 ghost use Rattle.std.specs.Prelude.{◌≡◌, None};
 ghost use Rattle.impl_trees.specs.Trees.{MayFollow};
 
-use impl_follow::may_push;
+use impl_trees::may_push;
 use impl_trees::Trees;
 use main_host::{MainEnd, MainHost};
 use model_history::{Commit, Moves, Script};

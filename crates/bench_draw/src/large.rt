@@ -12,7 +12,7 @@ use pixel::Colour;
 use std::alloc::{AllocError, Global};
 use std::sync::Arc;
 use tile_raster::{Job, TileImage};
-use viz_fits::scene_of;
+use viz_scene::scene_of;
 use viz_scene::{Quad, RenderPass, Scene};
 
 /// The side of the screen.

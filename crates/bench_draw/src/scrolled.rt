@@ -15,7 +15,7 @@ use pixel::Colour;
 use std::alloc::{AllocError, Global};
 use std::sync::Arc;
 use tile_raster::{Job, TileImage};
-use viz_fits::scene_of;
+use viz_scene::scene_of;
 use viz_scene::{Quad, RenderPass, Scene};
 
 /// How many sections the page has.

@@ -9,7 +9,7 @@ use Rattle.model_history.specs.Legal.{Legal}
 use Rattle.model_history.proofs.BoolFacts.{same_number}
 use Rattle.model_steps.specs.Events.{abort}
 use Rattle.model_steps.proofs.TreesAfter.{abort_active, abort_pending, abort_choice}
-use Rattle.impl_rows.specs.Rows.{is_among}
+use Rattle.impl_scroll.specs.Rows.{is_among}
 use Rattle.tile_prepare.proofs.SameTiles.{same_tiles}
 use Rattle.tile_manager.specs.Managers.{Managed, Manages}
 use Rattle.tile_manager.proofs.OtherTiles.{reseen, stays_foreseen}

@@ -2,7 +2,7 @@
 use Rattle.std.proofs.Common.{◌≡◌, List, sym, subst}
 use Rattle.model_history.specs.declared.history.Entry.{Entry}
 use Rattle.model_history.specs.Scripts.{ScriptModel}
-use Rattle.impl_standing.specs.Standings.{StandingModel, Stands}
+use Rattle.impl_scroll.specs.Standings.{StandingModel, Stands}
 use Rattle.impl_host.specs.Hosts.{HostModel, Hosts, with_standing}
 
 pub as_it_stands : (s : ScriptModel) (h : List Entry) (host : HostModel) (st : StandingModel) → st ≡ host.standing → Hosts s h host → Hosts s h (with_standing host st)

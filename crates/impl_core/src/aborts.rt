@@ -6,11 +6,11 @@ ghost use Rattle.model_history.specs.declared.event.Event.TheVariants as event;
 ghost use Rattle.model_history.specs.Frames.{pending};
 ghost use Rattle.model_history.specs.Scrolls.{clobbers};
 ghost use Rattle.model_steps.specs.Events.{abort};
-ghost use Rattle.impl_standing.specs.Standings.{Stands};
+ghost use Rattle.impl_scroll.specs.Standings.{Stands};
 ghost use Rattle.impl_log.specs.Runs.{past, now, with_entry};
 
 use crate::core_state::Core;
-use impl_standing::Standing;
+use impl_scroll::Standing;
 use model_history::Event;
 use std::alloc::AllocError;
 

@@ -6,14 +6,14 @@ ghost use Rattle.model_history.specs.Frames.{pending};
 ghost use Rattle.model_history.specs.Scrolls.{next_clamps};
 ghost use Rattle.model_history.specs.Tiles.{are_ready, required};
 ghost use Rattle.model_steps.specs.Events.{activate};
-ghost use Rattle.impl_standing.specs.Standings.{Stands};
+ghost use Rattle.impl_scroll.specs.Standings.{Stands};
 ghost use Rattle.tile_prepare.specs.Rebuilds.{AreForActivation};
 ghost use Rattle.impl_log.specs.Runs.{past, now, Entered, Plays};
 
 use crate::core_state::Core;
 use crate::outlooks::visible_of;
 use geom::Keys;
-use impl_standing::Standing;
+use impl_scroll::Standing;
 use model_history::{Event, Moves};
 use model_scheduler::Kind;
 use std::alloc::AllocError;

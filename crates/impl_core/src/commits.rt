@@ -15,7 +15,7 @@ ghost use Rattle.impl_core.specs.inner.Pushes.{PushesNow};
 
 use crate::core_state::Core;
 use impl_host::ImplHost;
-use impl_standing::Standing;
+use impl_scroll::Standing;
 use model_history::{Commit, Event, Script};
 use model_scheduler::Kind;
 use std::alloc::{AllocError, Global};

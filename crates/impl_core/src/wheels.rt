@@ -10,7 +10,7 @@ ghost use Rattle.impl_log.specs.Runs.{past, now, Entered, Plays};
 
 use crate::core_state::Core;
 use geom::Point;
-use impl_standing::moves_of;
+use impl_scroll::moves_of;
 use model_history::{Event, Input, Moves};
 use model_scheduler::Kind;
 use std::alloc::AllocError;

@@ -18,11 +18,11 @@ use Rattle.model_history.proofs.DueFacts.{at_activate}
 use Rattle.model_history.proofs.FrameFacts.{pulls_stay, page_stays, active_sent}
 use Rattle.model_history.proofs.PastFacts.{pending_within}
 use Rattle.model_history.proofs.StampFacts.{commits_alike}
-use Rattle.impl_rows.specs.Rows.{is_among}
+use Rattle.impl_scroll.specs.Rows.{is_among}
 use Rattle.model_steps.specs.Events.{send, commit, activate}
 use Rattle.model_steps.proofs.TreesAfter.{commit_is_pending, none_is_pending}
 use Rattle.impl_trees.specs.Trees.{TreeModel, TreesModel, AreStamped, IsPushed}
-use Rattle.impl_standing.specs.Standings.{StandingModel, Stands}
+use Rattle.impl_scroll.specs.Standings.{StandingModel, Stands}
 use Rattle.impl_host.specs.Hosts.{IsTreeAt, HostModel, Hosts, with_standing, IsMadeBy}
 use Rattle.impl_host.proofs.Commits.{pushed_tree}
 

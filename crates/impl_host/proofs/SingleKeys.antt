@@ -14,8 +14,8 @@ use Rattle.model_history.specs.Frames.{pulls_of}
 use Rattle.model_history.specs.Ranking.{ready_tile}
 use Rattle.model_history.specs.Tiles.{live_keys}
 use Rattle.model_steps.specs.ShownKeys.{Shows}
-use Rattle.impl_jobs.specs.Jobs.{made_by, job_in}
-use Rattle.impl_jobs.proofs.KeyedJobs.{job_shows}
+use Rattle.impl_host.specs.Jobs.{made_by, job_in}
+use Rattle.impl_host.proofs.KeyedJobs.{job_shows}
 use Rattle.impl_host.specs.inner.LivePages.{HasLivePage}
 
 -- a live key has its tile, and another has none

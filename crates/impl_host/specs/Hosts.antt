@@ -14,8 +14,8 @@ use Rattle.model_history.specs.Scrolls.{clobbers, active_offsets, pending_offset
 use Rattle.model_history.specs.Stamps.{frame_changes, commits_to}
 use Rattle.model_history.specs.SameChanges.{SameChanges}
 use Rattle.model_history.specs.Values.{values}
-use Rattle.impl_rows.specs.Rows.{is_among}
-use Rattle.impl_standing.specs.Standings.{StandingModel, StandsAt}
+use Rattle.impl_scroll.specs.Rows.{is_among}
+use Rattle.impl_scroll.specs.Standings.{StandingModel, StandsAt}
 use Rattle.impl_trees.specs.Trees.{TreeModel, TreesModel, AreStamped}
 
 -- the tree is that of page n of a script with these pulls: its tilings have the stamps after the first n frames

@@ -1,3 +1,4 @@
 pub mod Hosts
 pub mod Occasions
 pub mod inner
+pub mod Jobs

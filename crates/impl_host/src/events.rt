@@ -8,13 +8,12 @@ ghost use Rattle.model_history.specs.Frames as frames;
 ghost use Rattle.model_history.specs.Accepted.{IsAccepted};
 ghost use Rattle.model_history.specs.Legal.{Legal};
 ghost use Rattle.model_steps.specs.Events.{send, commit, activate};
-ghost use Rattle.impl_standing.specs.Standings.{Stands};
+ghost use Rattle.impl_scroll.specs.Standings.{Stands};
 ghost use Rattle.impl_host.specs.Hosts.{HostModel, Hosts, IsMadeBy};
 ghost use Rattle.impl_host.specs.Occasions.{SendsNow, PushesNow, ActivatesNow};
 
 use crate::host::{ImplHost, page_of};
-use impl_rows::clobbered_by;
-use impl_standing::Standing;
+use impl_scroll::{Standing, clobbered_by};
 use page_layers::{Command, LayerTree};
 use region::Changes;
 use std::alloc::{AllocError, Global};

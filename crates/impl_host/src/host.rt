@@ -5,10 +5,10 @@ ghost use Rattle.model_history.specs.declared.history.Entry.{Entry};
 ghost use Rattle.model_history.specs.EventFields.{sends, commits, activates};
 ghost use Rattle.model_history.specs.Scripts.{ScriptModel};
 ghost use Rattle.impl_trees.specs.Trees.{TreeModel};
-ghost use Rattle.impl_standing.specs.Standings.{Stands, ArePages};
+ghost use Rattle.impl_scroll.specs.Standings.{Stands, ArePages};
 ghost use Rattle.impl_host.specs.Hosts.{Hosts, with_standing};
 
-use impl_standing::{Pages, Standing};
+use impl_scroll::{Pages, Standing};
 use impl_trees::{TreeState, Trees};
 use page_layers::LayerTree;
 use std::alloc::Global;

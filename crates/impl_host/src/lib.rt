@@ -14,7 +14,11 @@
 
 mod events;
 mod host;
+mod jobs;
+mod laws;
 mod seen;
 mod tiles;
 
 pub use host::ImplHost;
+pub use jobs::job_of;
+pub use laws::jobs_show_their_keys;

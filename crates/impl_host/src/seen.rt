@@ -12,7 +12,7 @@ ghost use Rattle.impl_host.specs.Hosts.{Hosts, IsTreeAt, with_standing};
 ghost use Rattle.impl_host.specs.inner.LivePages.{tree_at};
 
 use crate::host::ImplHost;
-use impl_standing::Standing;
+use impl_scroll::Standing;
 use impl_trees::TreeState;
 use page_properties::Offsets;
 use std::alloc::{AllocError, Global};

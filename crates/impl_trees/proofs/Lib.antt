@@ -3,3 +3,5 @@ pub mod Standing
 pub mod ListedOnce
 pub mod Twins
 pub mod Pushing
+pub mod ListedWhole
+pub mod Following

@@ -14,15 +14,22 @@
 //!     |                 v                       | activate
 //!     +-----------------+-----------------------+
 //! ```
+//!
+//! A push asks that its commit may follow the active tree. Whoever plays a legal history knows that; a program
+//! that takes commits from elsewhere tests it first.
 #![tactic(auto)]
 
+mod kept;
 mod listed;
+mod listed_whole;
 mod making;
 mod places;
+mod push;
 mod recycled;
 mod spare;
 mod state;
 mod trees;
 
+pub use push::may_push;
 pub use state::TreeState;
 pub use trees::Trees;

@@ -8,8 +8,8 @@ use Rattle.model_history.specs.Commits.{CommitModel}
 use Rattle.model_history.specs.Scripts.{ScriptModel}
 use Rattle.page_layers.specs.declared.moves.Move.{Move}
 use Rattle.model_history.proofs.BoolFacts.{same_number}
-use Rattle.impl_rows.specs.Rows.{is_among}
-use Rattle.impl_standing.specs.Standings.{is_scroll}
+use Rattle.impl_scroll.specs.Rows.{is_among}
+use Rattle.impl_scroll.specs.Standings.{is_scroll}
 use Rattle.main_host.specs.declared.main_end.MainEnd.{MainEnd}
 use Rattle.main_host.specs.declared.main_end.MainEnd.TheVariants as end
 use Rattle.recording_judge.specs.inner.Mains.{IsCommitOf, IsCommitted, commit_of}

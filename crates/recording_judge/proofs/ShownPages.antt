@@ -7,8 +7,8 @@ use Rattle.model_history.specs.declared.history.Entry.{Entry}
 use Rattle.model_history.specs.Frames.{active, active_page}
 use Rattle.model_history.specs.Scripts.{ScriptModel}
 use Rattle.model_history.specs.Scrolls.{active_offsets}
-use Rattle.impl_standing.specs.Standings.{StandingModel, page_at}
-use Rattle.impl_standing.proofs.InputFacts.{page_is}
+use Rattle.impl_scroll.specs.Standings.{StandingModel, page_at}
+use Rattle.impl_scroll.proofs.InputFacts.{page_is}
 use Rattle.impl_host.specs.Hosts.{HostModel, Hosts}
 
 -- no page is active where there is none

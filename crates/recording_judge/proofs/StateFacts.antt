@@ -18,7 +18,7 @@ use Rattle.tile_priority.specs.Choice.{Choice}
 use Rattle.tile_priority.specs.Alike.{Alike}
 use Rattle.model_steps.specs.Events.{send, abort, commit, start, done}
 use Rattle.model_steps.proofs.TreesAfter.{send_ready, send_choice, abort_choice}
-use Rattle.impl_standing.specs.Standings.{StandingModel, Stands, is_scroll}
+use Rattle.impl_scroll.specs.Standings.{StandingModel, Stands, is_scroll}
 use Rattle.tile_prepare.proofs.SameTiles.{same_tiles, same_after_commit}
 use Rattle.tile_prepare.specs.Rebuilds.{leaves_tiles}
 use Rattle.model_history.specs.Accepted.{IsAccepted}

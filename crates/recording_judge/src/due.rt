@@ -18,7 +18,7 @@ ghost use Rattle.recording_judge.specs.inner.States.{IsState, IsFirstKey};
 
 use crate::state::State;
 use geom::{Keys, Point, TileKey};
-use impl_standing::moves_of;
+use impl_scroll::moves_of;
 use model_history::{Event, Input, Moves};
 use std::alloc::{AllocError, Global};
 use tile_ranks::SeenTree;

@@ -10,7 +10,7 @@ ghost use Rattle.model_history.specs.Frames.{pending, pulls_of};
 ghost use Rattle.model_history.specs.Scrolls.{clobbers};
 ghost use Rattle.model_history.specs.Legal.{Legal};
 ghost use Rattle.model_steps.specs.Events.{abort, commit, activate};
-ghost use Rattle.impl_standing.specs.Standings.{is_scroll};
+ghost use Rattle.impl_scroll.specs.Standings.{is_scroll};
 ghost use Rattle.impl_host.specs.Hosts.{Hosts};
 ghost use Rattle.recording_judge.specs.inner.Mains as mains;
 ghost use Rattle.recording_judge.specs.inner.Mains.{IsCommitted};

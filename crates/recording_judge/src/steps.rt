@@ -9,7 +9,7 @@ ghost use Rattle.model_history.specs.Accepted.{IsAccepted};
 ghost use Rattle.model_history.specs.EventFields as fields;
 ghost use Rattle.model_history.specs.Legal.{Legal};
 ghost use Rattle.model_steps.specs.Events.{activate};
-ghost use Rattle.impl_standing.specs.Standings.{is_scroll};
+ghost use Rattle.impl_scroll.specs.Standings.{is_scroll};
 ghost use Rattle.impl_host.specs.Hosts.{Hosts};
 ghost use Rattle.recording_judge.specs.inner.Hosts.{HostActivates};
 ghost use Rattle.recording_judge.specs.inner.Tiles.{Holds, HaveSameKeys};

@@ -6,7 +6,7 @@ ghost use Rattle.impl_trees.specs.Trees.{MayFollow};
 use crate::fault::RowFault;
 use crate::frames::Frames;
 use crate::next_tree::NextTree;
-use impl_follow::may_push;
+use impl_trees::may_push;
 use impl_trees::{TreeState, Trees};
 use model_history::Script;
 use std::alloc::{AllocError, Global};

@@ -1,2 +1,3 @@
 pub mod KeyTests
 pub mod QueueSteps
+pub mod Worst

@@ -23,6 +23,7 @@
 //!   script `bench/queue` calls it.
 #![tactic(auto)]
 
+mod choice;
 mod dice;
 mod queues;
 mod table;

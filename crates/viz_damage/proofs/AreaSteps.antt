@@ -9,8 +9,8 @@ use Rattle.geom.proofs.Spans.{inside, is_within_of, both, both_of}
 use Rattle.region.specs.Points.{covered}
 use Rattle.region.proofs.Covering.{covered_push}
 use Rattle.std.specs.Prelude.{All}
-use Rattle.viz_areas.specs.Areas.{Holds, IsOnScreen}
-use Rattle.viz_areas.proofs.RectSteps.{not_either}
+use Rattle.viz_scene.specs.Areas.{Holds, IsOnScreen}
+use Rattle.viz_scene.proofs.RectSteps.{not_either}
 use Rattle.viz_damage.specs.inner.Areas.{HoldAll}
 
 -- neither of two tests holds

@@ -16,7 +16,7 @@ use Rattle.viz_scene.specs.Pixels.{quads_over, passes_at, root_pixel, scene_pixe
 use Rattle.viz_scene.specs.Sound.{IsIn, Fits, AreSound, IsSide}
 use Rattle.viz_scene.proofs.Steps.{passes_push, length-passes_at, sound_at}
 use Rattle.viz_damage.specs.Damage.{AreAlikeOutside, screen}
-use Rattle.viz_areas.specs.Areas.{IsOnScreen}
+use Rattle.viz_scene.specs.Areas.{IsOnScreen}
 use Rattle.viz_damage.specs.inner.Areas.{HoldAll}
 use Rattle.viz_damage.proofs.AreaSteps.{one_on_screen}
 use Rattle.viz_damage.specs.inner.Alike.{AlikeAt, ClearOutside, ActWithin, DifferWithin, PassesAlike}

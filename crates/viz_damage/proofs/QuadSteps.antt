@@ -20,8 +20,8 @@ use Rattle.viz_scene.specs.Views.{QuadView, tiled, plain, grouped, quad_view, qu
 use Rattle.viz_scene.specs.Pixels.{placed_pixel, quad_over, quads_over}
 use Rattle.viz_scene.specs.Sound.{IsTaken, Fits}
 use Rattle.viz_scene.proofs.Steps.{quads_append}
-use Rattle.viz_areas.specs.Areas.{Holds}
-use Rattle.viz_areas.proofs.RectSteps.{not_either}
+use Rattle.viz_scene.specs.Areas.{Holds}
+use Rattle.viz_scene.proofs.RectSteps.{not_either}
 use Rattle.viz_damage.specs.inner.Alike.{PaintAlike, PaintsNothing, AreSameImages, ActAlike, ActWithin}
 use Rattle.viz_damage.proofs.AreaSteps.{neither, neither_of}
 

@@ -1,12 +1,12 @@
 //! The few rects that damage is kept as.
 
 ghost use Rattle.std.specs.Prelude.{◌<◌, ◌∷◌, pos, ◌+ℤ◌, ◌≤ℤ◌, All, length, IsTrue, IfSome, OnOk};
-ghost use Rattle.viz_areas.specs.Areas.{IsOnScreen, Holds};
+ghost use Rattle.viz_scene.specs.Areas.{IsOnScreen, Holds};
 ghost use Rattle.viz_damage.specs.inner.Areas.{HoldAll};
 
 use geom::Rect;
 use std::alloc::AllocError;
-use viz_areas::{hull, is_empty};
+use viz_scene::{hull, is_empty};
 
 // how many rects damage is kept as at most
 const MOST_RECTS: usize = 16;

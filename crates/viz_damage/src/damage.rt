@@ -6,7 +6,7 @@ ghost use Rattle.region.specs.Points.{covered};
 ghost use Rattle.viz_scene.specs.Views.{passes_view};
 ghost use Rattle.viz_scene.specs.Sound.{AreSound};
 ghost use Rattle.viz_damage.specs.Damage.{AreAlikeOutside, screen};
-ghost use Rattle.viz_areas.specs.Areas.{IsOnScreen};
+ghost use Rattle.viz_scene.specs.Areas.{IsOnScreen};
 ghost use Rattle.viz_damage.specs.inner.Alike.{PassesAlike};
 
 use crate::images::is_same_colour;

@@ -3,7 +3,7 @@
 ghost use Rattle.std.specs.Prelude.{◌≡◌, ℕ, ◌+◌, ◌-◌, ◌<◌, ◌≤◌, ◌∷◌, All, length, take, drop, false, OnOk, IfOk, IsTrue};
 ghost use Rattle.viz_scene.specs.Views.{quads_view};
 ghost use Rattle.viz_scene.specs.Sound.{Fits};
-ghost use Rattle.viz_areas.specs.Areas.{IsOnScreen};
+ghost use Rattle.viz_scene.specs.Areas.{IsOnScreen};
 ghost use Rattle.viz_damage.specs.inner.Areas.{HoldAll};
 ghost use Rattle.viz_damage.specs.inner.Alike.{ActListsAlike, DifferWithin, GoOnAlike};
 

@@ -3,13 +3,13 @@
 ghost use Rattle.std.specs.Prelude.{◌≡◌, ◌<◌, ◌∷◌, [], All, length, IsTrue};
 ghost use Rattle.viz_scene.specs.Views.{quad_view, quads_view};
 ghost use Rattle.viz_scene.specs.Sound.{Fits};
-ghost use Rattle.viz_areas.specs.Areas.{IsOnScreen};
+ghost use Rattle.viz_scene.specs.Areas.{IsOnScreen};
 ghost use Rattle.viz_damage.specs.inner.Alike.{AreSameImages, ActAlike, ActWithin};
 
 use crate::images::{are_same_images, is_same_colour, is_same_point, is_same_rect};
 use geom::{Point, Rect};
 use tile_raster::TileImage;
-use viz_areas::hull;
+use viz_scene::hull;
 use viz_scene::Quad;
 
 /// Whether two quads act alike: tiles and solids that lie on one rect and show the same there, or groups of

@@ -15,7 +15,7 @@ use Rattle.viz_scene.specs.Views.{QuadView, tiled, plain}
 use Rattle.viz_scene.specs.Pixels.{placed_pixel}
 use Rattle.viz_scene.specs.Opaque.{IsOpaque}
 use Rattle.viz_scene.specs.Sound.{IsTaken}
-use Rattle.viz_areas.specs.Areas.{IsOnScreen}
+use Rattle.viz_scene.specs.Areas.{IsOnScreen}
 use Rattle.viz_occlusion.specs.declared.opaque.Part.{Part}
 use Rattle.viz_occlusion.specs.inner.Cover.{IsOpaquePart, HasOtherAlpha, HidesNothing}
 

@@ -9,7 +9,7 @@ use Rattle.geom.specs.Covers.{covers, IsSound}
 use Rattle.geom.proofs.Spans.{inside, is_within_of, both, both_of}
 use Rattle.region.specs.Points.{covered}
 use Rattle.region.proofs.Covering.{or-true}
-use Rattle.viz_areas.specs.Areas.{IsOnScreen, IsUnion}
+use Rattle.viz_scene.specs.Areas.{IsOnScreen, IsUnion}
 use Rattle.viz_occlusion.specs.inner.Cover.{IsBlock, IsOpen, HasGap, IsRectAt}
 
 -- a rect on the largest screen is sound

@@ -18,7 +18,7 @@ use Rattle.viz_scene.specs.Sound.{IsIn, IsTaken, Fits, AreSound, IsSide, IsScene
 use Rattle.viz_scene.proofs.Hiding.{hidden_drops}
 use Rattle.viz_scene.proofs.Steps.{sound_at}
 use Rattle.std.proofs.lemmas.Int.{ints}
-use Rattle.viz_areas.specs.Areas.{IsOnScreen}
+use Rattle.viz_scene.specs.Areas.{IsOnScreen}
 use Rattle.viz_occlusion.specs.Culled.{IsKeptAs, AreKept, AreAllKept, IsCulled}
 use Rattle.viz_occlusion.specs.inner.Cover.{IsCover, IsFit, HasGap, HidesNothing, IsPassed}
 use Rattle.viz_occlusion.proofs.AlphaSteps.{solid_placed}

@@ -3,12 +3,12 @@
 ghost use Rattle.std.specs.Prelude.{◌≡◌, ◌<◌, ℤ, pos, ◌+ℤ◌, ◌<ℤ◌, ◌≤ℤ◌, true, false, ◌||◌, All, length, IsTrue, IfSome, OnOk, MatchOption};
 ghost use Rattle.geom.specs.Covers.{covers};
 ghost use Rattle.region.specs.Points.{covered};
-ghost use Rattle.viz_areas.specs.Areas.{IsOnScreen};
+ghost use Rattle.viz_scene.specs.Areas.{IsOnScreen};
 ghost use Rattle.viz_occlusion.specs.inner.Cover.{IsBlock, IsOpen, HasGap, IsJoint, IsRectAt};
 
 use geom::{Point, Rect};
 use std::alloc::AllocError;
-use viz_areas::union_of;
+use viz_scene::union_of;
 
 /// Adds the points of a rect.
 pub(crate) fn add_rect(cover: &mut Vec<Rect>, rect: Rect) -> Result<(), AllocError>

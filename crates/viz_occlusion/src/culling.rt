@@ -3,7 +3,7 @@
 ghost use Rattle.std.specs.Prelude.{◌≡◌, ℕ, false, All, List, ◌∷◌, OnOk, IsTrue, IfOk};
 ghost use Rattle.viz_scene.specs.Views.{QuadView, quad_view, quads_view, passes_view};
 ghost use Rattle.viz_scene.specs.Opaque.{IsHidden};
-ghost use Rattle.viz_areas.specs.Areas.{IsOnScreen};
+ghost use Rattle.viz_scene.specs.Areas.{IsOnScreen};
 ghost use Rattle.viz_occlusion.specs.Culled.{IsKeptAs, AreKept, AreAllKept, IsCulled};
 ghost use Rattle.viz_occlusion.specs.inner.Cover.{IsCover, IsFit, IsPassed};
 

@@ -6,7 +6,7 @@ ghost use Rattle.page_display_list.specs.Bitmaps.{near};
 ghost use Rattle.viz_scene.specs.Views.{quad_view, tiled};
 ghost use Rattle.viz_scene.specs.Opaque.{IsOpaque};
 ghost use Rattle.viz_scene.specs.Sound.{IsTaken};
-ghost use Rattle.viz_areas.specs.Areas.{IsOnScreen};
+ghost use Rattle.viz_scene.specs.Areas.{IsOnScreen};
 ghost use Rattle.viz_occlusion.specs.inner.Cover.{HidesNothing, IsFit, IsOpaquePart, HasOtherAlpha};
 
 use geom::{Point, Rect};

@@ -1,2 +1,5 @@
 pub mod Steps
 pub mod Hiding
+pub mod Places
+pub mod Rests
+pub mod RectSteps

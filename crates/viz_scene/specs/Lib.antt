@@ -3,3 +3,5 @@ pub mod Pixels
 pub mod Sound
 pub mod Opaque
 pub mod Laws
+pub mod inner
+pub mod Areas

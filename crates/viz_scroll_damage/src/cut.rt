@@ -3,7 +3,7 @@
 ghost use Rattle.std.specs.Prelude.{◌≡◌, pos, ◌+ℤ◌, ◌-ℤ◌, ◌≤ℤ◌, IfOk};
 ghost use Rattle.std.specs.Int.{int_max, int_min};
 ghost use Rattle.geom.specs.Covers.{IsSound};
-ghost use Rattle.viz_areas.specs.Areas.{IsOnScreen};
+ghost use Rattle.viz_scene.specs.Areas.{IsOnScreen};
 ghost use Rattle.viz_scene.specs.Views.{quad_view};
 ghost use Rattle.viz_scroll_damage.specs.inner.Acting.{IsCut, IsCutTo, IsShown, IsMovedTo};
 

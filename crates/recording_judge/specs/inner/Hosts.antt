@@ -8,7 +8,7 @@ use Rattle.model_history.specs.EventFields as fields
 use Rattle.model_history.specs.Frames.{pulls_of}
 use Rattle.model_history.specs.Legal.{Legal}
 use Rattle.model_steps.specs.Events.{abort, commit, activate}
-use Rattle.impl_standing.specs.Standings.{is_scroll}
+use Rattle.impl_scroll.specs.Standings.{is_scroll}
 use Rattle.main_host.specs.declared.main_end.MainEnd.{MainEnd}
 use Rattle.impl_host.specs.Hosts.{HostModel, Hosts}
 use Rattle.recording_judge.specs.inner.Mains.{IsCommitted}

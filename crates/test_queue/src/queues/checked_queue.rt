@@ -3,13 +3,13 @@
 ghost use Rattle.std.specs.Prelude.{◌≡◌, IfOk, OnOk, OnErr};
 ghost use Rattle.tile_priority.specs.Alike.{Alike};
 
+use crate::choice::PlainChoice;
 use crate::queues::checks::{has_each_key_once, is_wanted, may_finish};
 use crate::queues::fault::StepFault;
 use geom::TileKey;
 use std::alloc::Global;
 use std::marker::Model;
 use std::time::{Duration, Instant};
-use test_choice::PlainChoice;
 use tile_priority::ReadyTile;
 use tile_queue::RasterQueue;
 

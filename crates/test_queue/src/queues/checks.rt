@@ -5,9 +5,9 @@ ghost use Rattle.geom.specs.KeyLists.{has_key, AreDistinct};
 ghost use Rattle.tile_queue.specs.Queues.{rank_key, tile_key, EachKeyOnce, IsNew};
 ghost use Rattle.test_queue.specs.Checks.{all_keys};
 
+use crate::choice::PlainChoice;
 use geom::TileKey;
 use std::alloc::{AllocError, Global};
-use test_choice::PlainChoice;
 use tile_priority::{Rank, ReadyTile};
 
 /// Whether a list has this key.

@@ -1,11 +1,11 @@
 //! How long the calls of a queue take.
 
+use crate::choice::PlainChoice;
 use crate::queues::checked_queue::CheckedQueue;
 use crate::queues::fault::StepFault;
 use geom::TileKey;
 use std::alloc::{AllocError, Global};
 use std::time::{Duration, Instant};
-use test_choice::PlainChoice;
 use tile_priority::{Bin, Rank, ReadyTile};
 
 /// How the tiles of a queue stand to each other, and which of them start.

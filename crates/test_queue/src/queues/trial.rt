@@ -2,6 +2,7 @@
 
 ghost use Rattle.std.specs.Prelude.{◌<◌};
 
+use crate::choice::PlainChoice;
 use crate::dice::Dice;
 use crate::queues::agreement::agrees;
 use crate::queues::checked_queue::CheckedQueue;
@@ -9,7 +10,6 @@ use crate::queues::dice::{rank, tile};
 use crate::queues::fault::StepFault;
 use geom::TileKey;
 use std::alloc::{AllocError, Global};
-use test_choice::PlainChoice;
 use tile_priority::{Rank, ReadyTile};
 
 /// How many keys there are.

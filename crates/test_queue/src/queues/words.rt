@@ -3,10 +3,10 @@
 //! A key is `LAYER/X/Y/STAMP`, a rank `KEY:BIN` with the bin `now`, `soon` or `eventually`, and a tile a rank
 //! or a key without rank, with `!` behind it where it is pinned.
 
+use crate::choice::PlainChoice;
 use crate::queues::fault::StepFault;
 use geom::TileKey;
 use std::alloc::{AllocError, Global};
-use test_choice::PlainChoice;
 use tile_priority::{Bin, Rank, ReadyTile};
 use tile_queue::RasterQueue;
 

@@ -8,7 +8,7 @@ use Rattle.viz_scene.specs.declared.Quad.{Quad}
 use Rattle.viz_scene.specs.Views.{QuadView, tiled, plain, grouped, quads_view}
 use Rattle.viz_scene.specs.Opaque.{IsOpaque, LiesOn, IsCovered}
 use Rattle.viz_scene.specs.Sound.{IsTaken}
-use Rattle.viz_areas.specs.Areas.{IsOnScreen, IsUnion}
+use Rattle.viz_scene.specs.Areas.{IsOnScreen, IsUnion}
 use Rattle.viz_occlusion.specs.declared.cover.Joint.{Joint}
 use Rattle.viz_occlusion.specs.declared.opaque.Part.{Part}
 use Rattle.viz_occlusion.specs.Culled.{AreKept}

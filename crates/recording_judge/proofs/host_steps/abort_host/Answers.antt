@@ -1,6 +1,6 @@
 -- The scrollers stand where the abort leaves them.
 use Rattle.std.proofs.Common.{refl, sym, subst}
-use Rattle.impl_standing.specs.Standings.{StandingModel, Stands}
+use Rattle.impl_scroll.specs.Standings.{StandingModel, Stands}
 use Rattle.model_steps.specs.Events.{abort}
 use Rattle.recording_judge.proofs.host_steps.abort_host.Goals as goal
 

@@ -2,8 +2,8 @@
 use Rattle.std.proofs.Common.{◌≡◌, sym, ◌∙◌, ap, subst}
 use Rattle.std.specs.Prelude.{option_copied}
 use Rattle.model_history.specs.Frames.{pending, pending_page}
-use Rattle.impl_standing.specs.Standings.{StandingModel, Stands}
-use Rattle.impl_standing.proofs.InputFacts.{page_is}
+use Rattle.impl_scroll.specs.Standings.{StandingModel, Stands}
+use Rattle.impl_scroll.proofs.InputFacts.{page_is}
 use Rattle.recording_judge.proofs.host_steps.activate_host.Goals as goal
 
 pub activated-requires : goal.activated-requires

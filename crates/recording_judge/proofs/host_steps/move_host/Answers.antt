@@ -1,6 +1,6 @@
 -- The scrollers stand where the moves bring them.
 use Rattle.std.proofs.Common.{sym, subst}
-use Rattle.impl_standing.specs.Standings.{StandingModel, Stands}
+use Rattle.impl_scroll.specs.Standings.{StandingModel, Stands}
 use Rattle.recording_judge.proofs.HostFacts.{scroll_is_none}
 use Rattle.recording_judge.proofs.host_steps.move_host.Goals as goal
 

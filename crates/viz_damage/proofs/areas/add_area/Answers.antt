@@ -3,7 +3,7 @@ use Rattle.std.proofs.Common.{◌+◌, List, [], ◌∷◌, ◌++◌, take, drop
 use Rattle.std.specs.Prelude.{All}
 use Rattle.std.proofs.lemmas.List.Elements.{All-append, All-take, All-drop}
 use Rattle.geom.specs.declared.Rect.{Rect}
-use Rattle.viz_areas.specs.Areas.{IsOnScreen}
+use Rattle.viz_scene.specs.Areas.{IsOnScreen}
 use Rattle.viz_damage.specs.inner.Areas.{HoldAll}
 use Rattle.viz_damage.proofs.AreaSteps.{joined_holds, holds_through, pushed_holds, one_on_screen}
 use Rattle.viz_damage.proofs.areas.add_area.Goals as goal

@@ -1,6 +1,6 @@
 -- The rects and the whole hold the damage and the area.
 use Rattle.std.specs.Prelude.{◌∷◌, All, vec_len}
-use Rattle.viz_areas.specs.Areas.{IsOnScreen}
+use Rattle.viz_scene.specs.Areas.{IsOnScreen}
 use Rattle.viz_damage.specs.inner.Areas.{HoldAll}
 use Rattle.viz_damage.proofs.areas.add_area.Given as given
 

@@ -1,7 +1,7 @@
 -- The quads up to the place differ from those before the start within the damage.
 use Rattle.std.specs.Prelude.{take, All}
 use Rattle.viz_scene.specs.Views.{quads_view}
-use Rattle.viz_areas.specs.Areas.{IsOnScreen}
+use Rattle.viz_scene.specs.Areas.{IsOnScreen}
 use Rattle.viz_damage.specs.inner.Areas.{HoldAll}
 use Rattle.viz_damage.specs.inner.Alike.{DifferWithin}
 use Rattle.viz_damage.proofs.lists.add_areas.Given as given

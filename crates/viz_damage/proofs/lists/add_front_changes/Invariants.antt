@@ -1,7 +1,7 @@
 -- The quads before the two places differ within the damage.
 use Rattle.std.specs.Prelude.{◌≤◌, ◌+◌, ◌-◌, length, take, All}
 use Rattle.viz_scene.specs.Views.{quads_view}
-use Rattle.viz_areas.specs.Areas.{IsOnScreen}
+use Rattle.viz_scene.specs.Areas.{IsOnScreen}
 use Rattle.viz_damage.specs.inner.Areas.{HoldAll}
 use Rattle.viz_damage.specs.inner.Alike.{DifferWithin}
 use Rattle.viz_damage.proofs.lists.add_front_changes.Given as given

@@ -1,7 +1,7 @@
 -- The reach holds the areas of the quads so far.
 use Rattle.std.specs.Prelude.{◌∷◌, [], take}
 use Rattle.viz_scene.specs.Views.{quads_view}
-use Rattle.viz_areas.specs.Areas.{IsOnScreen}
+use Rattle.viz_scene.specs.Areas.{IsOnScreen}
 use Rattle.viz_damage.specs.inner.Alike.{ActWithin}
 use Rattle.viz_damage.proofs.quads.reach_of.Given as given
 

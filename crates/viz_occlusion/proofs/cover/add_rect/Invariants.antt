@@ -2,7 +2,7 @@
 use Rattle.std.specs.Prelude.{◌≡◌, ℤ, ◌||◌, All, vec_len}
 use Rattle.geom.specs.Covers.{covers}
 use Rattle.region.specs.Points.{covered}
-use Rattle.viz_areas.specs.Areas.{IsOnScreen}
+use Rattle.viz_scene.specs.Areas.{IsOnScreen}
 use Rattle.viz_occlusion.proofs.cover.add_rect.Given as given
 
 abbrev pub invariant-loop-joint : given.invariant-loop-joint

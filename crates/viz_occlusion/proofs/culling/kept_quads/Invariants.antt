@@ -1,7 +1,7 @@
 -- The quads from the place on were gone through.
 use Rattle.std.specs.Prelude.{◌≤◌, All, length, drop, reverse}
 use Rattle.viz_scene.specs.Views.{quads_view}
-use Rattle.viz_areas.specs.Areas.{IsOnScreen}
+use Rattle.viz_scene.specs.Areas.{IsOnScreen}
 use Rattle.viz_occlusion.specs.Culled.{AreKept}
 use Rattle.viz_occlusion.specs.inner.Cover.{IsCover}
 use Rattle.viz_occlusion.proofs.culling.kept_quads.Given as given

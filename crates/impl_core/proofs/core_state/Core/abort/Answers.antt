@@ -7,7 +7,7 @@ use Rattle.model_history.specs.Frames.{pending}
 use Rattle.model_history.specs.Scrolls.{clobbers}
 use Rattle.model_history.specs.Legal.{Legal}
 use Rattle.model_steps.specs.Events.{abort}
-use Rattle.impl_standing.specs.Standings.{StandingModel, Stands}
+use Rattle.impl_scroll.specs.Standings.{StandingModel, Stands}
 use Rattle.impl_log.specs.Runs.{Run, past, now}
 use Rattle.impl_core.proofs.MayCome.{comes_next}
 use Rattle.impl_core.proofs.QuietAborts.{none_named}

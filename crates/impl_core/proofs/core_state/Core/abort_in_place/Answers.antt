@@ -8,7 +8,7 @@ use Rattle.model_history.specs.Frames.{pending}
 use Rattle.model_history.specs.Scrolls.{clobbers}
 use Rattle.model_history.specs.Legal.{Legal}
 use Rattle.model_steps.specs.Events.{abort}
-use Rattle.impl_standing.specs.Standings.{Stands}
+use Rattle.impl_scroll.specs.Standings.{Stands}
 use Rattle.impl_host.specs.Hosts.{Hosts}
 use Rattle.impl_log.specs.Runs.{Run, past, now}
 use Rattle.impl_core.proofs.CoreSteps.{one_more, refused}

@@ -4,7 +4,7 @@ use Rattle.model_scheduler.specs.declared.kind.Kind.TheVariants as kind
 use Rattle.model_history.specs.declared.event.Event.TheVariants as event
 use Rattle.model_history.specs.declared.history.Entry.{Entry}
 use Rattle.model_steps.specs.Events.{abort}
-use Rattle.impl_standing.specs.Standings.{Stands}
+use Rattle.impl_scroll.specs.Standings.{Stands}
 use Rattle.tile_prepare.proofs.SameTiles.{same_tiles}
 use Rattle.tile_manager.specs.Managers.{Manages}
 use Rattle.impl_host.specs.Hosts.{Hosts}

@@ -7,10 +7,10 @@ use Rattle.model_history.specs.declared.history.Entry.{Entry}
 use Rattle.model_history.specs.Frames.{pending, pending_page}
 use Rattle.model_history.specs.Scrolls.{next_clamps}
 use Rattle.model_steps.specs.Events.{activate}
-use Rattle.impl_standing.specs.Standings.{StandingModel, Stands}
+use Rattle.impl_scroll.specs.Standings.{StandingModel, Stands}
 use Rattle.impl_log.specs.Runs.{Run, past, now}
 use Rattle.impl_core.proofs.ActivationSteps.{OfActivation, of_activation}
-use Rattle.impl_standing.proofs.InputFacts.{page_is}
+use Rattle.impl_scroll.proofs.InputFacts.{page_is}
 use Rattle.impl_core.proofs.core_state.Core.activated_scrollers.Goals as goal
 
 pub activated-requires : goal.activated-requires

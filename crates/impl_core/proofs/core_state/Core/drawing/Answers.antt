@@ -11,13 +11,13 @@ use Rattle.model_history.specs.Scripts.{ScriptModel}
 use Rattle.model_history.specs.Frames.{active, active_page}
 use Rattle.model_history.specs.Scrolls.{active_offsets}
 use Rattle.model_history.specs.Tiles.{active_tree, visible_in, missing}
-use Rattle.impl_standing.specs.Standings.{StandingModel, Stands}
+use Rattle.impl_scroll.specs.Standings.{StandingModel, Stands}
 use Rattle.tile_ranks.specs.SeenTrees.{IsSeenWhere}
 use Rattle.impl_host.specs.Hosts.{Hosts, with_standing}
 use Rattle.impl_log.specs.Runs.{Run, past}
 use Rattle.impl_core.specs.Replies.{IsPicture}
 use Rattle.impl_core.proofs.Pictures.{is_picture}
-use Rattle.impl_standing.proofs.InputFacts.{page_is}
+use Rattle.impl_scroll.proofs.InputFacts.{page_is}
 use Rattle.impl_core.proofs.core_state.Core.drawing.Goals as goal
 
 pub draw-requires-clause-now : goal.draw-requires-clause-now

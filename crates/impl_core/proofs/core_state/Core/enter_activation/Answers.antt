@@ -7,7 +7,7 @@ use Rattle.model_history.specs.declared.history.Entry.{Entry}
 use Rattle.model_history.specs.Frames.{pending}
 use Rattle.model_history.specs.Scrolls.{next_clamps}
 use Rattle.model_steps.specs.Events.{activate}
-use Rattle.impl_standing.specs.Standings.{Stands}
+use Rattle.impl_scroll.specs.Standings.{Stands}
 use Rattle.tile_prepare.specs.Rebuilds.{AreForActivation}
 use Rattle.tile_manager.specs.Managers.{Manages}
 use Rattle.impl_host.specs.Hosts.{Hosts}

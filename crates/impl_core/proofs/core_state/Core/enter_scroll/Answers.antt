@@ -11,7 +11,7 @@ use Rattle.model_history.specs.EventFields.{kind_of}
 use Rattle.model_history.specs.Due.{next_input, input_now}
 use Rattle.model_history.specs.Legal.{is_open}
 use Rattle.model_history.proofs.DueFacts.{entry}
-use Rattle.impl_standing.specs.Standings.{StandingModel, Stands}
+use Rattle.impl_scroll.specs.Standings.{StandingModel, Stands}
 use Rattle.tile_prepare.proofs.SameTiles.{same_tiles}
 use Rattle.tile_manager.specs.Managers.{Manages}
 use Rattle.impl_host.specs.Hosts.{Hosts}

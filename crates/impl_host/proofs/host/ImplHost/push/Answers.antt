@@ -3,9 +3,9 @@ use Rattle.std.proofs.Common.{◌≡◌, ℕ, ◌∷◌, Some, option_map, ap, �
 use Rattle.std.specs.List.{list_any}
 use Rattle.model_history.specs.Frames.{pulls_of, active, pending}
 use Rattle.model_history.specs.Scrolls.{scrolls_to, clobbers}
-use Rattle.impl_rows.specs.Rows.{is_among}
+use Rattle.impl_scroll.specs.Rows.{is_among}
 use Rattle.model_steps.specs.Events.{commit}
-use Rattle.impl_standing.specs.Standings.{Stands}
+use Rattle.impl_scroll.specs.Standings.{Stands}
 use Rattle.impl_trees.specs.Trees.{TreeModel, MayFollow}
 use Rattle.impl_host.specs.Hosts.{HostModel, Hosts}
 use Rattle.impl_host.proofs.TreesAt.{page_there}

@@ -3,8 +3,8 @@ use Rattle.std.proofs.Common.{◌≡◌, sym, ◌∙◌, ap, subst}
 use Rattle.std.specs.Prelude.{option_copied}
 use Rattle.model_history.specs.Frames.{pending, pending_page}
 use Rattle.page_layers.proofs.KeptPages.{weaken}
-use Rattle.impl_standing.specs.Standings.{StandingModel, Stands}
-use Rattle.impl_standing.proofs.InputFacts.{page_is}
+use Rattle.impl_scroll.specs.Standings.{StandingModel, Stands}
+use Rattle.impl_scroll.proofs.InputFacts.{page_is}
 use Rattle.impl_log.specs.Runs.{past}
 use Rattle.recording_judge.proofs.state.State.clamps.Goals as goal
 

@@ -1,7 +1,7 @@
 -- What is accepted is what the scrollers tell.
 use Rattle.std.proofs.Common.{ℤ, ℕ, Some, sym, ◌∙◌, ap, subst}
 use Rattle.std.proofs.lemmas.Int.{to_z-of_z}
-use Rattle.impl_standing.specs.Standings.{StandingModel, Stands}
+use Rattle.impl_scroll.specs.Standings.{StandingModel, Stands}
 use Rattle.impl_log.specs.Runs.{past}
 use Rattle.recording_judge.proofs.DueEvents.{scroll_is}
 use Rattle.recording_judge.proofs.state.State.scroll_of.Goals as goal

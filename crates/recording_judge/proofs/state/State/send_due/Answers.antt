@@ -1,6 +1,6 @@
 -- The scrollers tell what the send lists.
 use Rattle.std.proofs.Common.{sym, ◌∙◌, ap, subst}
-use Rattle.impl_standing.specs.Standings.{StandingModel, Stands}
+use Rattle.impl_scroll.specs.Standings.{StandingModel, Stands}
 use Rattle.impl_log.specs.declared.progress.Progress.{Progress}
 use Rattle.impl_log.specs.Runs.{past}
 use Rattle.recording_judge.proofs.DueEvents.{send_is}

@@ -2,7 +2,7 @@
 use Rattle.std.proofs.Common.{ℤ, ℕ, List, Some, sym, ◌∙◌, ap, subst}
 use Rattle.std.proofs.lemmas.Int.{to_z-of_z}
 use Rattle.page_layers.specs.declared.moves.Move.{Move}
-use Rattle.impl_standing.specs.Standings.{StandingModel, Stands}
+use Rattle.impl_scroll.specs.Standings.{StandingModel, Stands}
 use Rattle.impl_log.specs.Runs.{past}
 use Rattle.recording_judge.proofs.DueEvents.{wheel_is}
 use Rattle.recording_judge.proofs.state.State.wheel_of.Goals as goal

@@ -1,2 +1,0 @@
-pub mod ListedWhole
-pub mod Following

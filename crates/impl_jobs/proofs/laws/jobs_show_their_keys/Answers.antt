@@ -1,5 +1,0 @@
-use Rattle.impl_jobs.proofs.KeyedJobs.{job_shows}
-use Rattle.impl_jobs.proofs.laws.jobs_show_their_keys.Goals as goal
-
-pub returns : goal.returns
-returns c = job_shows

@@ -1,5 +1,0 @@
-use Rattle.impl_rows.proofs.Activated.{activated_bounded}
-use Rattle.impl_rows.proofs.laws.activated_values_are_bounded.Goals as goal
-
-pub returns : goal.returns
-returns c = λ s n h sc ax acc l. activated_bounded s n h sc ax acc l

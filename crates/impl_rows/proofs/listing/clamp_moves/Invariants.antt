@@ -1,9 +1,0 @@
--- The rows so far are listed.
-use Rattle.std.proofs.Common.{◌≡◌, take}
-use Rattle.page_layers.specs.Axes.{listed}
-use Rattle.impl_rows.specs.inner.Stages.{clamp_at}
-use Rattle.impl_rows.specs.inner.Steps.{ids_of}
-use Rattle.impl_rows.proofs.listing.clamp_moves.Given as goal
-
-abbrev pub invariant-loop-row : goal.invariant-loop-row
-invariant-loop-row l = l.moves ≡ listed (clamp_at l.outright l.page l.rows) (ids_of (take l.row-index l.rows))

@@ -1,3 +1,0 @@
-pub mod Axes
-pub mod Steps
-pub mod Stages

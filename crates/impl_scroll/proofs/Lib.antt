@@ -1,0 +1,12 @@
+pub mod RowFacts
+pub mod StepFacts
+pub mod CoverFacts
+pub mod RowLists
+pub mod RowOffsets
+pub mod Activated
+pub mod Brought
+pub mod Amounts
+pub mod PagePlaces
+pub mod AfterEvents
+pub mod InputFacts
+pub mod ListedNow

@@ -1,0 +1,4 @@
+pub mod Rows
+pub mod inner
+pub mod Standings
+pub mod Occasions

@@ -1,0 +1,4 @@
+pub mod Axes
+pub mod Steps
+pub mod Stages
+pub mod Places

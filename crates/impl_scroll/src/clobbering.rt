@@ -1,0 +1,25 @@
+//! The scrollers that a main frame sets outright.
+
+ghost use Rattle.std.specs.Prelude.{◌≡◌, ℕ, IfOk};
+ghost use Rattle.std.specs.List.{list_any};
+ghost use Rattle.model_history.specs.Scrolls.{scrolls_to};
+ghost use Rattle.impl_scroll.specs.Rows as spec;
+
+use crate::offsets::is_among;
+use page_layers::Command;
+use std::alloc::{AllocError, Global};
+
+/// The scrollers that some commands set outright, each once. An error is want of memory.
+pub fn clobbered_by(alloc: Global, commands: &[Command]) -> Result<Vec<u32>, AllocError>
+    ensures { IfOk result (λ ids. (sc : ℕ) → spec.is_among ids.items sc ≡ list_any (scrolls_to sc) commands.now) }
+{
+    let mut ids = Vec::new(alloc);
+    for command in commands {
+        if let Command::ScrollTo { id, .. } = command {
+            if !is_among(ids.as_slice(), *id) {
+                ids.push(*id)?;
+            }
+        }
+    }
+    Ok(ids)
+}

@@ -1,5 +1,0 @@
-pub mod Amounts
-pub mod PagePlaces
-pub mod AfterEvents
-pub mod InputFacts
-pub mod ListedNow
