@@ -1,5 +1,5 @@
 #!/usr/bin/env python3
-"""Checks docs/script.schema.json against the scripts in examples/.
+"""Checks docs/script.schema.json against the scripts in examples/ and docs/tutorial/.
 
 usage: tools/check_examples.py
 
@@ -71,7 +71,7 @@ def main():
     draft = jsonschema.Draft202012Validator
     draft.check_schema(schema)
     is_valid = draft(schema).is_valid
-    examples = sorted((ROOT / "examples").glob("*.json"))
+    examples = sorted([*(ROOT / "examples").glob("*.json"), *(ROOT / "docs" / "tutorial").glob("*.json")])
     wrong = [f"{path.name} is refused" for path in examples if not is_valid(json.loads(path.read_text()))]
     wrong += [] if is_valid(BASE) else ["the script to be changed is refused"]
     wrong += [f"accepted: {what}" for what, place, value in CHANGES if is_valid(changed(place, value))]
