@@ -1,0 +1,241 @@
+#!/usr/bin/env python3
+"""Draws the map of the crates from crates.txt, and checks that map, READMEs and sources agree.
+
+usage: tools/map.py [--write]
+
+crates.txt lists the crates in families, each below a heading `# FAMILY: what it is for`. With --write the parts of
+crates/README.md between the marker comments are made anew: the drawing of the families, and for each family a table
+of its crates with the first sentence of their README.md and the crates of this repository that they stand on.
+
+Without a flag nothing is written. It fails, with a line for each fault, where one of these parts is not what --write
+would make; where crates.txt, the folders of crates/ and their README.md do not belong together; where a README.md
+does not begin with its crate's name, has more than 60 lines, or links to a file that is missing; where the
+dependencies have a cycle, or a chain of more than 14 crates; and where a crate's sources name a library that its
+line of crates.txt lacks, or name nothing of one that it lists. Both ways it prints the longest chain.
+"""
+import argparse
+import pathlib
+import re
+import sys
+
+ROOT = pathlib.Path(__file__).resolve().parent.parent
+CRATES, LIST, MAP = ROOT / "crates", ROOT / "crates.txt", ROOT / "crates" / "README.md"
+MOST_LINES, MOST_CHAIN = 60, 14
+
+HEADING = re.compile(r"# (\w+): (.+)")
+MARKED = re.compile(r"(<!-- map: (\w+) -->\n).*?(<!-- end of \2 -->)", re.S)
+SENTENCE = re.compile(r".*?[.?!](?=\s|$)", re.S)
+LINK = re.compile(r"\]\(([^)\s]+)\)")
+COMMENT = {".rt": re.compile(r"//.*"), ".antt": re.compile(r"--.*")}
+# A path of Rust that begins with a crate, and a path of the logic that begins with one.
+PATH, LOGIC = re.compile(r"(?<![\w:.])(\w+)::"), re.compile(r"\bRattle\.(\w+)")
+WHOLE, MODULE = re.compile(r"\buse (\w+);"), re.compile(r"\bmod (\w+)")
+
+
+class Crates:
+    """What crates.txt says: the families with their purpose and crates, and what each crate uses."""
+
+    def __init__(self):
+        self.families, self.purpose, self.uses, self.faults = {}, {}, {}, []
+        family = None
+        for number, line in enumerate(LIST.read_text().splitlines(), 1):
+            heading = HEADING.fullmatch(line)
+            if heading:
+                family = heading[1]
+                self.families[family], self.purpose[family] = [], heading[2]
+            elif line and not line.startswith("#"):
+                self.add(family, number, line)
+        self.family = {name: family for family, names in self.families.items() for name in names}
+
+    def add(self, family, number, line):
+        """A line `NAME: LIBRARY ..` below the heading of a family."""
+        name, _, uses = line.partition(":")
+        if family is None:
+            self.faults.append(f"crates.txt:{number}: {name} stands below no heading")
+            return
+        if name in self.uses:
+            self.faults.append(f"crates.txt:{number}: {name} stands twice")
+        self.families[family].append(name)
+        self.uses[name] = uses.split()
+
+    def own(self, name):
+        """The crates of this repository that a crate uses, in the order of crates.txt."""
+        return [it for it in self.uses if it in self.uses[name]]
+
+    def misplaced(self):
+        """Faults of crates whose name begins with another family than their heading's."""
+        for name, family in self.family.items():
+            prefix = name.partition("_")[0]
+            if prefix in self.families and prefix != family:
+                yield f"crates.txt: {name} stands below the heading of {family}"
+
+
+def longest_chain(crates):
+    """The longest chain of crates that each use the one before it, and the crates of a cycle if there is one."""
+    chains, open_now = {}, []
+
+    def chain(name):
+        if name in open_now:
+            raise ValueError(" -> ".join([*open_now[open_now.index(name):], name]))
+        if name not in chains:
+            open_now.append(name)
+            chains[name] = max((chain(it) for it in crates.own(name)), key=len, default=[]) + [name]
+            open_now.pop()
+        return chains[name]
+
+    try:
+        return max((chain(name) for name in crates.uses), key=len, default=[]), None
+    except ValueError as cycle:
+        return [], str(cycle)
+
+
+def first_sentence(name):
+    """The first sentence of a crate's README.md, for the map: its links lead from crates/ then."""
+    readme = CRATES / name / "README.md"
+    if not readme.is_file():
+        return ""
+    paragraphs = readme.read_text().split("\n\n")
+    found = SENTENCE.match(paragraphs[1].strip()) if len(paragraphs) > 1 else None
+    return " ".join(found[0].split()).replace("](../", "](").replace("|", "\\|") if found else ""
+
+
+def tables(crates):
+    """For each family a heading and a table of its crates."""
+    lines = []
+    for family, names in crates.families.items():
+        purpose = crates.purpose[family]
+        lines += [f"### {family}", "", f"{purpose[0].upper()}{purpose[1:]}.", ""]
+        lines += ["| Crate | What it is | Stands on |", "|---|---|---|"]
+        for name in names:
+            below = ", ".join(f"`{it}`" for it in crates.own(name))
+            lines.append(f"| [{name}]({name}) | {first_sentence(name)} | {below} |")
+        lines.append("")
+    return "\n".join(lines[:-1]) + "\n"
+
+
+def drawing(crates):
+    """A graph of the families. An arrow that follows from others is left out; a dotted one leads to a later family."""
+    order = list(crates.families)
+    back, direct = {}, {family: set() for family in order}
+    for name, family in crates.family.items():
+        for below in crates.own(name):
+            other = crates.family[below]
+            if order.index(other) < order.index(family):
+                direct[family].add(other)
+            elif other != family:
+                back.setdefault((family, other), set()).add(below)
+    reached = {}
+    for family in order:
+        reached[family] = direct[family].union(*(reached[it] for it in direct[family]))
+    lines = ["```mermaid", "flowchart TD"]
+    for family in order:
+        through = set().union(*(reached[it] for it in direct[family]))
+        lines += [f"    {family} --> {it}" for it in order if it in direct[family] - through]
+    for (family, other), names in back.items():
+        lines.append(f'    {family} -.->|"{", ".join(it for it in crates.uses if it in names)}"| {other}')
+    return "\n".join(lines) + "\n```\n"
+
+
+def drawn(crates, text):
+    """The text of crates/README.md with its marked parts made anew, and the parts that it has."""
+    parts = {"families": drawing, "crates": tables}
+    found = [it[2] for it in MARKED.finditer(text)]
+    text = MARKED.sub(lambda it: it[1] + parts[it[2]](crates) + it[3] if it[2] in parts else it[0], text)
+    return text, [it for it in parts if it not in found]
+
+
+def without_comments(path):
+    """The text of a source without its comments."""
+    return COMMENT[path.suffix].sub("", path.read_text())
+
+
+def named_by(name, known):
+    """The libraries that a crate's sources name."""
+    logic, paths, modules = set(), set(), set()
+    for folder in ("src", "specs", "proofs"):
+        for path in sorted((CRATES / name / folder).rglob("*")):
+            if path.suffix not in COMMENT:
+                continue
+            text = without_comments(path)
+            logic.update(LOGIC.findall(text))
+            if path.suffix == ".rt":
+                modules.update(MODULE.findall(text))
+                paths.update(PATH.findall(text), WHOLE.findall(text))
+    # A path that begins with a module of the crate's own names no library.
+    return (logic | paths - modules) & known - {name}
+
+
+def faults_of_uses(crates):
+    """Libraries that are named and not listed, or listed and not named."""
+    known = set(crates.uses).union(*crates.uses.values())
+    for name, uses in crates.uses.items():
+        named = named_by(name, known)
+        for it in sorted(named - set(uses)):
+            yield f"crates.txt: {name} lacks {it}, which its sources name"
+        for it in uses:
+            if it not in named:
+                yield f"crates.txt: {name} lists {it}, which its sources do not name"
+
+
+def faults_of_folders(crates):
+    """Folders, lines of crates.txt and README files that do not belong together."""
+    folders = {it.name for it in CRATES.iterdir() if it.is_dir()}
+    for name in sorted(folders - set(crates.uses)):
+        yield f"crates/{name}: crates.txt does not list it"
+    for name in crates.uses:
+        sources = [CRATES / name / "src" / it for it in ("lib.rt", "main.rt")]
+        if not any(it.is_file() for it in sources):
+            yield f"crates.txt: {name} has no sources in crates/"
+        if not (CRATES / name / "README.md").is_file():
+            yield f"crates/{name}: no README.md"
+
+
+def faults_of_readmes():
+    """READMEs without their heading, too long ones, and links that lead nowhere."""
+    for readme in sorted([*CRATES.glob("*/README.md"), MAP]):
+        at, lines = readme.relative_to(ROOT), readme.read_text().splitlines()
+        if readme != MAP:
+            if lines[:1] != [f"# {readme.parent.name}"]:
+                yield f"{at}: the first line is not '# {readme.parent.name}'"
+            if len(lines) > MOST_LINES:
+                yield f"{at}: {len(lines)} lines, more than {MOST_LINES}"
+            if not first_sentence(readme.parent.name):
+                yield f"{at}: no sentence below the heading"
+        for link in LINK.findall("\n".join(lines)):
+            path = link.partition("#")[0]
+            if path and "://" not in link and not (readme.parent / path).exists():
+                yield f"{at}: {link} leads nowhere"
+
+
+def all_faults(crates, chain, cycle):
+    """All that does not agree, but the marked parts of the map."""
+    faults = [*crates.faults, *crates.misplaced(), *faults_of_folders(crates), *faults_of_readmes()]
+    if cycle:
+        faults.append(f"crates.txt: a cycle: {cycle}")
+    if len(chain) > MOST_CHAIN:
+        faults.append(f"crates.txt: a chain of {len(chain)} crates, more than {MOST_CHAIN}")
+    return faults + list(faults_of_uses(crates))
+
+
+def main():
+    words = argparse.ArgumentParser(description="Draws and checks the map of the crates.")
+    words.add_argument("--write", action="store_true", help="make the marked parts of crates/README.md anew")
+    asked = words.parse_args()
+    crates = Crates()
+    chain, cycle = longest_chain(crates)
+    text = MAP.read_text() if MAP.is_file() else ""
+    made, lacking = drawn(crates, text)
+    if asked.write and made != text:
+        MAP.write_text(made)
+    faults = [f"crates/README.md: no part '<!-- map: {it} -->'" for it in lacking]
+    faults += all_faults(crates, chain, cycle)
+    if not asked.write and made != text:
+        faults.append("crates/README.md: its drawing or its tables are stale; run tools/map.py --write")
+    for fault in faults:
+        print(fault, file=sys.stderr)
+    print(f"{len(crates.uses)} crates; the longest chain has {len(chain)}: {' < '.join(chain)}")
+    sys.exit(1 if faults else 0)
+
+
+if __name__ == "__main__":
+    main()
