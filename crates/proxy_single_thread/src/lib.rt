@@ -2,7 +2,8 @@
 //!
 //! A [`SingleThread`] enters any event of the model by its kind and its actor, where it may come now. The
 //! main side runs a main frame when its end is asked for, and a worker makes a tile when the end of the tile
-//! is asked for; nothing runs by itself. So every legal history of a script can be played, entry by entry.
+//! is asked for, unless it was made ahead; nothing runs by itself. So every legal history of a script can be
+//! played, entry by entry.
 #![tactic(auto)]
 
 mod compositor;

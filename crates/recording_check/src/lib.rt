@@ -1,4 +1,4 @@
-//! Recordings, read and looked through without the engine that made them.
+//! Recordings, read and looked through without the core that made them, or anything that draws.
 //!
 //! A recording begins with the name of the format and the script's line (`opening`); behind them stand
 //! the parts that recording_reader reads. `recording` joins both. `judging` judges them one after another, by the
