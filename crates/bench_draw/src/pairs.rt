@@ -118,8 +118,8 @@ fn try_damage(alloc: Global, old: &Scene, new: &Scene) -> Result<Trial, AllocErr
 // whether a painter that shows the scene has the right frame
 fn shows(alloc: Global, painter: &mut Painter, scene: Scene) -> Result<bool, AllocError> {
     let wanted = drawn(alloc, &scene)?;
-    let frame = painter.show(scene)?;
-    Ok(frame.bytes() == wanted.bytes())
+    painter.paint(scene)?;
+    Ok(painter.frame().bytes() == wanted.bytes())
 }
 
 // whether two scenes are of one size

@@ -92,8 +92,8 @@ fn show_copy(alloc: Global, painter: &mut Painter, scene: &Scene) -> Result<u64,
     let Some(copy) = copied(alloc, scene)? else {
         return Ok(0);
     };
-    let frame = painter.show(copy)?;
-    match frame.bytes().first() {
+    painter.paint(copy)?;
+    match painter.frame().bytes().first() {
         Some(first) => Ok(*first as u64),
         None => Ok(0),
     }

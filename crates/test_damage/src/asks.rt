@@ -73,8 +73,8 @@ pub fn redrawn(
 
 /// Shows a scene, and says its picture.
 pub fn show(painter: &mut Painter, scene: Scene, answer: &mut Answer) -> Result<(), LineFault> {
-    let frame = painter.show(scene)?;
-    say_pixels(answer, frame.bytes());
+    painter.paint(scene)?;
+    say_pixels(answer, painter.frame().bytes());
     Ok(())
 }
 

@@ -65,21 +65,12 @@ impl Painter {
         &self.frame
     }
 
-    /// The rows that the last `show` or `paint` may have changed: outside of them the frame's pixels are those
+    /// The rows that the last `paint` may have changed: outside of them the frame's pixels are those
     /// before it. All rows where the whole was drawn or memory was refused.
     pub fn changed_rows(&self) -> Rows
         ensures { result ≡ self.now.changed }
     {
         self.changed
-    }
-
-    /// Draws a scene, as `paint` does, and lends the frame, which has the scene's size and pixels. An error is
-    /// want of memory.
-    pub fn show(&mut self, scene: Scene) -> Result<&Frame, AllocError>
-        ensures { IfOk result (λ frame. ShowsWhole scene frame.now) }
-    {
-        self.paint(scene)?;
-        Ok(&self.frame)
     }
 
     /// Draws a scene: the frame then has the scene's size and pixels. Where the painter holds that scene,
