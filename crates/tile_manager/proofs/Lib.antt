@@ -10,3 +10,4 @@ pub mod RankedKeys
 pub mod AmongRanks
 pub mod Counts
 pub mod AlikeChoices
+pub mod SeenOutlooks

@@ -98,7 +98,8 @@ fn all_ready(store: &TileStore, keys: &Keys, next: Option<TileKey>) -> bool
 impl TileManager {
     /// The tiles of a run in which nothing has come yet, with this budget. An error is want of memory.
     pub fn new(alloc: Global, budget: u32) -> Result<TileManager, AllocError>
-        ensures { (s : ScriptModel) → s.budget ≡ budget → IfOk result (λ manager. Manages s [] manager) }
+        ensures tiles { (s : ScriptModel) → s.budget ≡ budget → IfOk result (λ manager. Manages s [] manager) }
+        ensures seen { IfOk result (λ manager. is_seen manager.outlook ≡ true) }
     {
         let mut queue = RasterQueue::new(alloc);
         queue.rebuild(&[], &[], 0, budget)?;
@@ -204,6 +205,7 @@ impl TileManager {
     pub fn reserve(&mut self) -> Result<(), AllocError>
         ensures room { OnOk result (1 ≤ self.new.store.spare) }
         ensures same { (s : ScriptModel) (h : List Entry) → Manages s h self.old → Manages s h self.new }
+        ensures seen { is_seen self.new.outlook ≡ is_seen self.old.outlook }
         ensures refused { OnErr result (self.new ≡ self.old) }
     {
         self.store.reserve()
@@ -211,10 +213,12 @@ impl TileManager {
 
     /// A worker starts the next key, and its evicted keys are given up for it. There must be room. Takes no
     /// memory.
+    #[tactic(auto, using(crate::proofs::SeenOutlooks::started_seen))]
     pub fn start(&mut self, key: TileKey, evicted: &Keys)
         requires room { 1 ≤ self.old.store.spare }
         requires next { StartsNow self.old key evicted.now }
-        ensures { (s : ScriptModel) (workers : ℕ) (h : List Entry) (actor w : ℕ) → Manages s h self.old → Legal s workers (start actor w key evicted.now ∷ h) → Manages s (start actor w key evicted.now ∷ h) self.new }
+        ensures tiles { (s : ScriptModel) (workers : ℕ) (h : List Entry) (actor w : ℕ) → Manages s h self.old → Legal s workers (start actor w key evicted.now ∷ h) → Manages s (start actor w key evicted.now ∷ h) self.new }
+        ensures seen { is_seen self.new.outlook ≡ is_seen self.old.outlook }
     {
         self.store.start(key, evicted);
         self.outlook.start(key, evicted);
@@ -222,9 +226,11 @@ impl TileManager {
 
     /// A worker is done with an image. `tile` is its tile, or None where its key is no longer live; then the
     /// image is dropped. Takes no memory.
+    #[tactic(auto, using(crate::proofs::SeenOutlooks::finished_seen))]
     pub fn done(&mut self, image: Arc<TileImage>, tile: Option<ReadyTile>)
         requires { DoneNow self.old image.value tile }
-        ensures { (s : ScriptModel) (workers : ℕ) (h : List Entry) (actor w : ℕ) → Manages s h self.old → Legal s workers (done actor w image.value.key ∷ h) → tile ≡ tile_made s h image.value.key → Shows s image.value.key image.value.rect image.value.list → Manages s (done actor w image.value.key ∷ h) self.new }
+        ensures tiles { (s : ScriptModel) (workers : ℕ) (h : List Entry) (actor w : ℕ) → Manages s h self.old → Legal s workers (done actor w image.value.key ∷ h) → tile ≡ tile_made s h image.value.key → Shows s image.value.key image.value.rect image.value.list → Manages s (done actor w image.value.key ∷ h) self.new }
+        ensures seen { is_seen self.new.outlook ≡ is_seen self.old.outlook }
     {
         self.store.done(image, tile.is_some());
         self.outlook.finish(tile);
@@ -251,6 +257,7 @@ impl TileManager {
     /// and the manager is as it was.
     pub fn refresh(&mut self) -> Result<(), AllocError>
         ensures same { (s : ScriptModel) (workers : ℕ) (h : List Entry) → Legal s workers h → Manages s h self.old → Manages s h self.new }
+        ensures seen { is_seen self.new.outlook ≡ is_seen self.old.outlook }
         ensures refused { OnErr result (self.new ≡ self.old) }
     {
         if let Outlook::Ranks(ranks) = &self.outlook {
@@ -263,7 +270,8 @@ impl TileManager {
     /// The pending tree becomes the active one: the keys that it needs are pinned, the ready keys that are
     /// not in `live` are dropped, and the ranks are those of its keys. Takes no memory.
     pub fn activate(&mut self, pins: Pins, live: &Keys, ranks: Ranks)
-        ensures { (s : ScriptModel) (workers : ℕ) (h : List Entry) (actor k : ℕ) (clamps : List Move) → IsAccepted s → Legal s workers (activate actor k clamps ∷ h) → Manages s h self.old → ((q : Key) → has_key pins q ≡ has_key (required s h) q) → ((q : Key) → has_key (ready s h) q ≡ true → has_key live.now q ≡ has_key (keys_of (pending_tree s h)) q) → AreRanksAt s (activate actor k clamps ∷ h) ranks → Manages s (activate actor k clamps ∷ h) self.new }
+        ensures tiles { (s : ScriptModel) (workers : ℕ) (h : List Entry) (actor k : ℕ) (clamps : List Move) → IsAccepted s → Legal s workers (activate actor k clamps ∷ h) → Manages s h self.old → ((q : Key) → has_key pins q ≡ has_key (required s h) q) → ((q : Key) → has_key (ready s h) q ≡ true → has_key live.now q ≡ has_key (keys_of (pending_tree s h)) q) → AreRanksAt s (activate actor k clamps ∷ h) ranks → Manages s (activate actor k clamps ∷ h) self.new }
+        ensures seen { is_seen self.new.outlook ≡ true }
     {
         self.store.keep(live);
         self.pins = pins;

@@ -59,7 +59,7 @@ invariant_of-self c =
     comes_next r.script r.workers (past r) (2 + w) (event.DoneTile w q) c.is_legal.ensures.legal (done_now r.script (past r) going w q holds) refl (omega (arith, within)) in
     let is_tile = subst (λ (z : Run). c.args.tile ≡ tile_made z.script (past z) q) (sym c.self.view_is) c.requires.tile in
     let shows = subst (λ (z : Run). Shows z.script q c.args.image.value.rect c.args.image.value.list) (sym c.self.view_is) c.requires.shows in
-    let made : Manages r.script (done (2 + w) w q ∷ past r) c.done.new.self = c.done.ensures r.script r.workers (past r) (2 + w) w c.self.invariant.tiles legal is_tile shows in
+    let made : Manages r.script (done (2 + w) w q ∷ past r) c.done.new.self = c.done.ensures.tiles r.script r.workers (past r) (2 + w) w c.self.invariant.tiles legal is_tile shows in
     let same : c.key-key.result ≡ q = c.key-key.ensures ∙ ap (λ (i : Image). i.key) c.deref.ensures in
     let entered : c.enter_kept.new.self ≡ with_entry r (2 + w) (event.DoneTile w q) = subst (λ (k : TileKey). c.enter_kept.new.self ≡ with_entry r (2 + w) (event.DoneTile w k)) same c.enter_kept.ensures in
     one_more (record { host = c.self.inside.host; tiles = c.done.new.self; told = c.self.inside.told; prepared = c.self.inside.prepared; required = c.self.inside.required }) r c.enter_kept.new.self (2 + w) (event.DoneTile w q) entered

@@ -54,7 +54,7 @@ invariant_of-self-2 c =
     (subst (λ (z : Run). AreForActivation z.script (past z) 0 k (next_clamps z.script (past z)) c.in_ok-next.next.pins c.in_ok-next.next.live c.in_ok-next.next.ranks) (sym c.self.view_is) c.in_ok-next.ensures) in
     let hosts : Hosts r.script (activate 0 k ms ∷ h) c.activate.new.self = c.activate.ensures r.script r.workers h 0 k ms activation.legal c.self.invariant.host stands in
     let holds : Manages r.script (activate 0 k ms ∷ h) c.activate-2.new.self =
-    c.activate-2.ensures r.script r.workers h 0 k ms c.is_legal.ensures.accepted activation.legal c.self.invariant.tiles brings.pins brings.live brings.ranks in
+    c.activate-2.ensures.tiles r.script r.workers h 0 k ms c.is_legal.ensures.accepted activation.legal c.self.invariant.tiles brings.pins brings.live brings.ranks in
     one_more (record { host = c.activate.new.self; tiles = c.activate-2.new.self; told = c.self.inside.told; prepared = c.self.inside.prepared; required = None }) r c.enter.new.self 0 (event.Activate k ms) c.in_ok-enter.ensures.ok
     (activate_core r.script h (record { host = c.self.inside.host; tiles = c.self.inside.tiles; told = c.self.inside.told; prepared = c.self.inside.prepared; required = c.self.inside.required }) c.self.invariant
     c.activate.new.self c.activate-2.new.self None k ms hosts holds tt)

@@ -13,6 +13,6 @@ invariant_of-result c =
     let m = c.in_ok-tiles.tiles in
     let host = c.new-3.result in
     let first : IsCore s [] (record { host = host; tiles = m; told = []; prepared = None; required = None }) =
-    begin_core s host m (c.new-3.ensures s) (c.in_ok-tiles.ensures s (sym (c.budget-budget.ensures ∙ ap (λ (z : ScriptModel). z.budget) c.deref.ensures))) in
+    begin_core s host m (c.new-3.ensures s) (c.in_ok-tiles.ensures.tiles s (sym (c.budget-budget.ensures ∙ ap (λ (z : ScriptModel). z.budget) c.deref.ensures))) in
     subst (λ (r : Run). IsCore r.script (past r) (record { host = host; tiles = m; told = c.new-4.result; prepared = None; required = None })) (sym c.in_ok-log.ensures)
     (subst (λ (ms : List Move). IsCore s [] (record { host = host; tiles = m; told = ms; prepared = None; required = None })) (sym c.new-4.ensures) first)

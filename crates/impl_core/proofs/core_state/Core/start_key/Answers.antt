@@ -96,7 +96,7 @@ invariant_of-self-2 c =
     let legal : Legal r.script r.workers (start (2 + w) w q ks ∷ past r) =
     comes_next r.script r.workers (past r) (2 + w) (event.Start w q ks) c.is_legal.ensures.legal (start_now r.script (past r) first.going w free first.rank first.is_first q first.key ks gone) refl (omega (arith, within)) in
     let started : Manages r.script (start (2 + w) w q ks ∷ past r) c.start.new.self =
-    c.start.ensures r.script r.workers (past r) (2 + w) w (c.reserve.ensures.same r.script (past r) (c.look.ensures.same r.script (past r) (c.deref.ensures ∙ c.script.ensures) c.self.invariant.host c.self.invariant.tiles)) legal in
+    c.start.ensures.tiles r.script r.workers (past r) (2 + w) w (c.reserve.ensures.same r.script (past r) (c.look.ensures.same r.script (past r) (c.deref.ensures ∙ c.script.ensures) c.self.invariant.host c.self.invariant.tiles)) legal in
     let entered : c.enter.new.self ≡ with_entry r (2 + w) (event.Start w q ks) =
     subst (λ (z : List TileKey). c.enter.new.self ≡ with_entry r (2 + w) (event.Start w q z)) c.in_ok-given_up.ensures c.in_ok-enter.ensures.ok in
     one_more (record { host = c.self.inside.host; tiles = c.start.new.self; told = c.self.inside.told; prepared = c.self.inside.prepared; required = c.self.inside.required }) r c.enter.new.self (2 + w) (event.Start w q ks) entered

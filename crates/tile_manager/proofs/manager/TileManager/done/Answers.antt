@@ -18,8 +18,8 @@ finish-requires c =
     let m : Managed = record { store = c.self.inside.store; pinned = c.self.inside.pins; outlook = c.self.inside.outlook } in
     may_finish r.script r.workers r.past r.actor r.worker c.args.image.value r.legal m (subst (Manages r.script r.past) (sym c.self.view_is) r.manages) c.args.tile r.is_tile
 
-pub returns : goal.returns
-returns c = λ s n h a w holds legal is_tile shows.
+pub returns-clause-tiles : goal.returns-clause-tiles
+returns-clause-tiles c = λ s n h a w holds legal is_tile shows.
     let m : Managed = record { store = c.self.inside.store; pinned = c.self.inside.pins; outlook = c.self.inside.outlook } in
     let i = c.args.image.value in
     let spare = c.done.new.self.spare in

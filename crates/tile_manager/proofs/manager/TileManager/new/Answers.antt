@@ -6,8 +6,8 @@ use Rattle.tile_manager.specs.Managers.{Managed, Manages}
 use Rattle.tile_manager.proofs.OtherTiles.{begins_empty}
 use Rattle.tile_manager.proofs.manager.TileManager.new.Goals as goal
 
-pub returns : goal.returns
-returns c = λ s e.
+pub returns-clause-tiles : goal.returns-clause-tiles
+returns-clause-tiles c = λ s e.
     let spare = c.new.result.spare in
     let queue = c.rebuild.new.self in
     let is : ◌≡◌ {A = Managed} (record { store = empty_store spare; pinned = []; outlook = outlook.Queue queue }) (record { store = c.new.result; pinned = c.new-2.result; outlook = outlook.Queue queue }) =

@@ -18,8 +18,8 @@ start-requires-2 c =
     let m : Managed = record { store = c.self.inside.store; pinned = c.self.inside.pins; outlook = c.self.inside.outlook } in
     may_start_next r.script r.workers r.past r.actor r.worker c.args.key c.args.evicted.now r.legal m (subst (Manages r.script r.past) (sym c.self.view_is) r.manages)
 
-pub returns : goal.returns
-returns c = λ s n h a w holds legal.
+pub returns-clause-tiles : goal.returns-clause-tiles
+returns-clause-tiles c = λ s n h a w holds legal.
     let m : Managed = record { store = c.self.inside.store; pinned = c.self.inside.pins; outlook = c.self.inside.outlook } in
     subst (λ store. Manages s (start a w c.args.key c.args.evicted.now ∷ h) (record { store = store; pinned = c.self.inside.pins; outlook = c.start-2.new.self })) (sym c.start.ensures.store)
     (start_holds s n h a w c.args.key c.args.evicted.now legal m (subst (Manages s h) (sym c.self.view_is) holds) c.start.new.self.spare c.start-2.new.self c.start-2.ensures)
