@@ -1,13 +1,14 @@
 #!/usr/bin/env python3
 """Lists the definitions that the contract of `run` rests on: what a reader has to believe.
 
-usage: tools/believed.py [--words] [--of CRATE/FILE:FUNCTION]
+usage: tools/believed.py [--words] [--of CRATE/FILE:FUNCTION] [--word WORD | --table]
 
 It begins with the names in the `ensures` clauses of the function (player_run/program.rt:run if none is named) and
 follows each to its definition, by the `ghost use` lines of the source and the `use` lines of the specs, and so on
 through the names in those definitions. It prints each file of specs/ with the lines of it that count, and the whole
-in lines and in pages of 50 lines; with --words each word too. It fails where a word that the clauses themselves name
-does not stand in docs/DEFINITIONS.md, or where a name leads nowhere.
+in lines and in pages of 50 lines; with --words each word too. With --word step (play, gen, demo, frames, check) it
+leaves out the cases of the program's other words; --table writes a row for each of them. It fails where a word that
+the clauses themselves name does not stand in docs/DEFINITIONS.md, or where a name leads nowhere.
 """
 import argparse
 import collections
@@ -18,6 +19,8 @@ import sys
 ROOT = pathlib.Path(__file__).resolve().parent.parent
 CRATES, DEFINITIONS = ROOT / "crates", ROOT / "docs" / "DEFINITIONS.md"
 PAGE = 50
+# The words of the program, as cases of the type `Use` name them.
+WORDS = ("Step", "Play", "Gen", "Demo", "Frames", "Check")
 
 USE = re.compile(r"^(?:ghost )?(?:pub )?use Rattle\.(\w+)\.(\w+)\.([\w.]+?)(?:\.\{([^}]*)\}| as (\w+))?;?$")
 HEAD = re.compile(r"^(?:(?:abbrev|unfoldable|unfolding|irreducible|strict|pub|priv)\s+)*(?:(record|data)\s+)?(?:pub\s+)?([^\s:(){}]+)\s*(?=[:(\s{])")
@@ -114,8 +117,8 @@ def variants_of(name):
 class World:
     """All definitions of the repository."""
 
-    def __init__(self):
-        self.modules = {}
+    def __init__(self, word=None):
+        self.word, self.modules = word, {}
         for path in sorted(CRATES.glob("*/specs/**/*.antt")):
             if path.name != "Lib.antt":
                 crate = path.relative_to(CRATES).parts[0]
@@ -150,13 +153,35 @@ class World:
             if variants_of(name) & parts:
                 self.follow(item)
 
+    def cases_of(self, item, module):
+        """The text of a definition, without the cases of the program's other words."""
+        others = [it for it in WORDS if it != self.word and module.names.get(it, ((0, 0, ""), 0))[0][2].endswith("words.Use.TheVariants")]
+        if not self.word or not others:
+            return item.text
+        head = re.compile(rf"{re.escape(item.name)} (\S+ )*?\(?({'|'.join(others)})\b")
+        kept, is_other = [], False
+        for line in item.text.split("\n"):
+            is_other = bool(head.match(line)) or (is_other and line.startswith(" "))
+            kept += [line] * (not is_other)
+        return "\n".join(kept)
+
+    def by_file(self):
+        """The definitions that were found, by the file of specs/ that they stand in."""
+        found = collections.defaultdict(list)
+        for item in self.found.values():
+            found[f"crates/{item.crate}/specs/{item.module.replace('.', '/')}.antt"].append(item)
+        return found
+
     def follow(self, item):
         """Takes in a definition and those that it names."""
         if (item.crate, item.module, item.name) in self.found:
             return
         self.found[item.crate, item.module, item.name] = item
         module = self.modules[item.crate, item.module]
-        text = re.sub(r"--.*", "", item.text)
+        text = self.cases_of(item, module)
+        left_out = item.text.count("\n") - text.count("\n")
+        self.found[item.crate, item.module, item.name] = item._replace(last=item.last - left_out)
+        text = re.sub(r"--.*", "", text)
         self.names_in(text, module.names, module.short, module.items)
 
 
@@ -182,26 +207,47 @@ def told_words(text, names):
     return sorted(name for name, (place, _) in names.items() if variants_of(name) & parts and (CRATES / place[0]).is_dir())
 
 
+def lines_of(items):
+    return sum(it.last - it.first for it in items)
+
+
+def world_of(word, text, names, short):
+    """The definitions that these clauses rest on; for one word of the program where it is named."""
+    world = World(word)
+    world.names_in(text, names, short, {})
+    return world
+
+
+def print_table(text, names, short):
+    """A row for each word of the program."""
+    print("| Word | Definitions | Files | Lines | Pages |\n|---|---|---|---|---|")
+    for word in (*WORDS, None):
+        world = world_of(word, text, names, short)
+        lines = lines_of(world.found.values())
+        name = f"`{word.lower()}`" if word else "all"
+        print(f"| {name} | {len(world.found)} | {len(world.by_file())} | {lines:,} | {-(-lines // PAGE)} |")
+    return 0
+
+
 def main():
     words = argparse.ArgumentParser(description=__doc__, formatter_class=argparse.RawDescriptionHelpFormatter)
     words.add_argument("--words", action="store_true", help="each word too")
+    words.add_argument("--word", choices=[it.lower() for it in WORDS], help="what the answers of one word rest on")
+    words.add_argument("--table", action="store_true", help="a row for each word of the program")
     words.add_argument("--of", default="player_run/program.rt:run", help="CRATE/FILE:FUNCTION, the file below src/")
     words = words.parse_args()
     file, function = words.of.rsplit(":", 1)
     crate, rest = file.split("/", 1)
-    world = World()
     text, names, short = clauses_of(CRATES / crate / "src" / rest, function)
-    world.names_in(text, names, short, {})
-    by_file = collections.defaultdict(list)
-    for item in world.found.values():
-        by_file[f"crates/{item.crate}/specs/{item.module.replace('.', '/')}.antt"].append(item)
-    whole = 0
+    if words.table:
+        return print_table(text, names, short)
+    world = world_of(words.word and words.word.capitalize(), text, names, short)
+    by_file = world.by_file()
     for path, items in sorted(by_file.items()):
-        lines = sum(it.last - it.first for it in items)
-        whole += lines
-        print(f"{lines:5}  {path}")
+        print(f"{lines_of(items):5}  {path}")
         if words.words:
             print("       " + ", ".join(sorted(it.name for it in items)))
+    whole = lines_of(world.found.values())
     told = told_words(text, names)
     print(f"believed: {len(told)} words in the clauses of `{function}`, {len(world.found)} definitions in {len(by_file)} files, "
           f"{whole} lines, {-(-whole // PAGE)} pages; beside them {len(world.types)} types of the sources")
