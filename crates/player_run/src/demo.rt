@@ -29,7 +29,8 @@ struct Summary {
     sum: u64,
 }
 
-// Counts a run, of which the sink was given the recording; None where a count does not fit.
+// Counts a run, of which the sink was given the recording; None where a count does not fit: never so in a run,
+// whose events and missing tiles all stand in memory.
 fn summary_of(run: &Recorded, sink: &SumSink) -> Option<Summary>
     ensures { IfSome result (IsSummary run.now sink.now.held) }
 {

@@ -60,10 +60,13 @@ impl SumSink {
         ensures bytes { MatchResult result (λ _. self.new.held ≡ self.old.held ++ piece.now) (λ _. self.new.held ≡ self.old.held) }
         ensures refused { self.new.refused ≡ self.old.refused }
     {
+        // Never so in a run: 2^64 bytes take centuries to put. The sink may be any, so no clause says so.
         let Some(bytes) = self.bytes.checked_add(piece.len() as u64) else {
             return Err(AllocError);
         };
         let copy = Vec::from_slice(self.alloc, piece)?;
+        // Never so: the ring's one place is emptied by each put. The ring's clauses tell no reader what its
+        // writer sees.
         if self.producer.is_full() {
             return Err(AllocError);
         }

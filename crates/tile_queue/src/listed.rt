@@ -107,6 +107,7 @@ impl<T: Copy> Listed<T> {
         ensures items { IfOk result (λ l. l.items ≡ items.items) }
         ensures room { IfOk result (λ l. l.room ≡ room) }
     {
+        // Never so in a run: a page has fewer tiles near its viewport. Slots are kept as 32 bits.
         if room > 4294967295 {
             return Err(AllocError);
         }

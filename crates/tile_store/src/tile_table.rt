@@ -80,6 +80,7 @@ impl TileTable {
         ensures spare { self.old.spare ≤ self.new.spare }
         ensures refused { OnErr result (self.new.spare ≡ self.old.spare) }
     {
+        // Never so in a run: beyond its budget it holds the visible tiles alone, at most 64 layers of 16,384.
         if self.held.len() >= MOST {
             return Err(AllocError);
         }
