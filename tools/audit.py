@@ -1,0 +1,239 @@
+#!/usr/bin/env python3
+"""Tries the must-fail edits of crates, those of the gate and those in crates/NAME/audit/.
+
+usage: tools/audit.py [--look] [--jobs N] [CRATE..]
+
+The gate tries the edits in crates/NAME/must-fail/. Others lie in crates/NAME/audit/: this puts them beside the
+first in a copy of the tree, outside the repository, and runs `rt must-fail` there on the crates that are named, or
+on all that have edits; with --jobs on that many crates side by side. What the repository has kept of proved libraries
+is used. It prints a line an edit and counts them; the status is 1 where one was not refused. For all crates it takes
+hours. --look tries no edit and says only whether each in audit/ can be applied.
+"""
+import argparse
+import concurrent.futures
+import contextlib
+import os
+import pathlib
+import queue
+import re
+import shutil
+import signal
+import subprocess
+import sys
+import tempfile
+import threading
+
+ROOT = pathlib.Path(__file__).resolve().parent.parent
+FOLDERS = ("must-fail", "audit")
+# What rt keeps of a proved library, and looks at by a sum of the text that it was made from.
+KEPT = "out/rlib"
+
+
+def dependencies():
+    """The crates, each with the crates that it uses, as crates.txt tells them."""
+    listed = {}
+    for line in (ROOT / "crates.txt").read_text().splitlines():
+        name, colon, below = line.partition("#")[0].partition(":")
+        if colon:
+            listed[name.split()[0]] = below.split()
+    return {name: [it for it in below if it in listed] for name, below in listed.items()}
+
+
+def below(listed, names):
+    """All crates below some, lowest first."""
+    order = []
+
+    def visit(name):
+        for it in listed[name]:
+            visit(it)
+        if name not in order:
+            order.append(name)
+
+    for name in names:
+        for it in listed[name]:
+            visit(it)
+    return order
+
+
+def edits_of(crate):
+    """The crate's edits, of the gate and of the audit."""
+    return sorted(it for folder in FOLDERS for it in (ROOT / "crates" / crate / folder).glob("*.edit"))
+
+
+def fault_of(edit):
+    """Why an edit can't be applied, if it can't."""
+    crate, path, pairs = edit.parent.parent, None, 0
+    texts = {}
+    old = None
+    for line in edit.read_text().split("\n"):
+        word, _, rest = line.partition(":")
+        rest = rest.removeprefix(" ")
+        if word == "file":
+            path = crate / rest.strip()
+            if not path.is_file():
+                return f"there is no file {rest.strip()}"
+            texts.setdefault(path, path.read_text())
+        elif word == "old":
+            old = rest
+        elif word == "new":
+            if path is None or not old:
+                return "`new:` stands before `file:` or `old:`"
+            if texts[path].count(old) != 1:
+                return f"what it replaces stands {texts[path].count(old)} times in {path.relative_to(crate)}: {old.strip()}"
+            texts[path], old, pairs = texts[path].replace(old, rest), None, pairs + 1
+    return None if pairs else "it has no `old:` and `new:`"
+
+
+def look():
+    """Says which edits of the audit can't be applied, and which have the name of one of the gate."""
+    edits = sorted((ROOT / "crates").glob("*/audit/*"))
+    wrong = [(it, fault_of(it) if it.suffix == ".edit" else "it is no .edit file") for it in edits]
+    wrong += [(it, "must-fail/ has one of this name") for it in edits if (it.parent.parent / "must-fail" / it.name).exists()]
+    wrong = [(it, why) for it, why in wrong if why]
+    for edit, why in wrong:
+        print(f"audit: {edit.relative_to(ROOT)}: {why}", file=sys.stderr)
+    print(f"audit: {len(edits)} edits beside those of the gate, {len(wrong)} can't be applied")
+    return 1 if wrong else 0
+
+
+def copy_tree(to, names):
+    """Copies what git lists, or what stands there of it, into a folder; the edits of the audit go beside the gate's."""
+    listed = subprocess.run(["git", "ls-files", "-z", "--cached", "--others", "--exclude-standard"], cwd=ROOT, check=True, capture_output=True)
+    for name in filter(None, listed.stdout.decode().split("\0")):
+        if name.startswith(("crates/", "crates.txt", "HANDLES")) and (ROOT / name).is_file():
+            target = to / re.sub(r"^(crates/[^/]+)/audit/", r"\1/must-fail/", name)
+            target.parent.mkdir(parents=True, exist_ok=True)
+            shutil.copyfile(ROOT / name, target)
+    for name in names:
+        if (ROOT / "crates" / name / KEPT / "stamp").is_file():
+            shutil.copytree(ROOT / "crates" / name / KEPT, to / "crates" / name / KEPT)
+
+
+class Lanes:
+    """Copies of the tree, in each of which one rt works at a time: a second in the same copy would wait."""
+
+    def __init__(self, top, count, names):
+        self.folders = [top / str(number) for number in range(count)]
+        self.idle, self.running, self.lock = queue.Queue(), set(), threading.Lock()
+        copy_tree(self.folders[0], names)
+        for folder in self.folders[1:]:
+            shutil.copytree(self.folders[0], folder, copy_function=os.link)
+        for folder in self.folders:
+            self.idle.put(folder)
+
+    @contextlib.contextmanager
+    def lane(self):
+        """A copy in which nothing runs."""
+        folder = self.idle.get()
+        try:
+            yield folder
+        finally:
+            self.idle.put(folder)
+
+    def call(self, words, folder):
+        """Runs a command and answers its status and its output."""
+        process = subprocess.Popen(words, cwd=folder, stdin=subprocess.DEVNULL, stdout=subprocess.PIPE, stderr=subprocess.STDOUT, text=True,
+                                   errors="replace", start_new_session=True)
+        with self.lock:
+            self.running.add(process)
+        said, _ = process.communicate()
+        with self.lock:
+            self.running.discard(process)
+        return process.returncode, said
+
+    def share(self, folder, name):
+        """Puts a library that was built in one copy into the others."""
+        for other in self.folders:
+            if other != folder:
+                shutil.rmtree(other / "crates" / name / KEPT, ignore_errors=True)
+                shutil.copytree(folder / "crates" / name / KEPT, other / "crates" / name / KEPT, copy_function=os.link)
+
+    def stop(self):
+        """Ends those that run: each leads a session of its own, and what it started ends with it."""
+        with self.lock:
+            for process in self.running:
+                with contextlib.suppress(ProcessLookupError):
+                    os.killpg(process.pid, signal.SIGTERM)
+
+
+def build(lanes, listed, names):
+    """Builds the libraries below some crates, each after those below it."""
+    left, running, built = below(listed, names), {}, set()
+    with concurrent.futures.ThreadPoolExecutor(len(lanes.folders)) as pool:
+        while left or running:
+            for name in [it for it in left if built.issuperset(listed[it])]:
+                left.remove(name)
+                running[pool.submit(library, lanes, name)] = name
+            for it in concurrent.futures.wait(running, return_when=concurrent.futures.FIRST_COMPLETED).done:
+                it.result()
+                built.add(running.pop(it))
+
+
+def library(lanes, name):
+    """Builds the library of a crate over those below it, where what is kept of it is not of this text."""
+    with lanes.lane() as folder:
+        stamp = folder / "crates" / name / KEPT / "stamp"
+        before = stamp.stat().st_ino if stamp.exists() else None
+        status, said = lanes.call(["rt", "lib", "--jobs", "1"], folder / "crates" / name)
+        if status:
+            raise RuntimeError(f"the library {name} is not proved:\n{said[-3000:]}")
+        if stamp.stat().st_ino != before:
+            lanes.share(folder, name)
+
+
+def try_crate(lanes, name):
+    """Tries the edits of a crate: the lines to print, how many were refused, and how many were not."""
+    count = len(edits_of(name))
+    with lanes.lane() as folder:
+        status, said = lanes.call(["rt", "must-fail", name], folder)
+    lines = re.findall(r"^rt: must-fail \S+?/(\S+)\.edit: (.*)$", said, re.M)
+    told = [f"{name}/{edit}: {verdict}" for edit, verdict in lines]
+    refused = sum(verdict.startswith("refused") for _, verdict in lines)
+    if len(lines) != count or (status != 0) != (refused != count):
+        told.append(f"{name}: rt ended with status {status} and told of {len(lines)} of {count} edits:\n{said[-1500:]}")
+    return told, refused, count - refused
+
+
+def try_all(lanes, listed, names):
+    """Tries the edits of some crates: how many were refused, and how many were not."""
+    passed = failed = 0
+    build(lanes, listed, names)
+    with concurrent.futures.ThreadPoolExecutor(len(lanes.folders)) as pool:
+        for done in concurrent.futures.as_completed([pool.submit(try_crate, lanes, it) for it in names]):
+            told, refused, others = done.result()
+            print("\n".join(told), flush=True)
+            passed, failed = passed + refused, failed + others
+    return passed, failed
+
+
+def main():
+    words = argparse.ArgumentParser(description=__doc__, formatter_class=argparse.RawDescriptionHelpFormatter)
+    words.add_argument("--look", action="store_true", help="only whether the edits of the audit can be applied")
+    words.add_argument("--jobs", type=int, default=1, help="how many crates side by side")
+    words.add_argument("crates", nargs="*", metavar="CRATE")
+    words = words.parse_args()
+    if words.look:
+        return look()
+    listed = dependencies()
+    unknown = [it for it in words.crates if it not in listed]
+    if unknown:
+        sys.exit(f"audit: crates.txt has no {' '.join(unknown)}")
+    names = [it for it in below({**listed, "": list(listed)}, [""]) if edits_of(it) and (not words.crates or it in words.crates)]
+    # Ends by a signal are ends like others: the copy goes.
+    for number in (signal.SIGTERM, signal.SIGHUP):
+        signal.signal(number, lambda *_: sys.exit(1))
+    passed, failed = 0, 1
+    with tempfile.TemporaryDirectory(prefix="audit-") as top:
+        lanes = Lanes(pathlib.Path(top), max(words.jobs, 1), below(listed, names))
+        try:
+            passed, failed = try_all(lanes, listed, names)
+        except RuntimeError as error:
+            print(f"audit: {error}", file=sys.stderr)
+        finally:
+            lanes.stop()
+    print(f"{passed} passed, {failed} failed")
+    return 1 if failed else 0
+
+
+if __name__ == "__main__":
+    sys.exit(main())
