@@ -2,20 +2,26 @@
 PLAYER := build/cc_player
 # The example that `make film` and `make view` show.
 FILM := list
+# How many crates `make audit` and how many programs `make test` take side by side; `make test` sees for itself.
+JOBS :=
+# `make test ONLY=WORD` runs the cases whose titles have the word, `make audit ONLY="CRATE .."` tries these crates.
+ONLY :=
 VIEWER := file://$(CURDIR)/tools/viewer.html
 
-.PHONY: build help demo pictures film view bench check clean kit python
+.PHONY: build help demo pictures film view bench test audit check clean kit python FORCE
 
 build: $(PLAYER)
 
 help:
-	@echo 'make           proves and builds the program: $(PLAYER) (the first time about half an hour)'
+	@echo 'make           the program, $(PLAYER): as `make check` built it, or else proved and built (about half an hour)'
 	@echo 'make demo      plays examples/first.json without the proofs, and leaves its picture in build/ (a minute)'
+	@echo 'make test      runs all rows and tests without the proofs (five minutes); ONLY=scroll: cases with this word in their titles'
 	@echo 'make pictures  plays every script in examples/ and leaves each picture in build/ as .ppm and .png'
 	@echo 'make film      plays an example (FILM=list) into build/ as an animated PNG, and names the viewer'"'"'s address'
 	@echo 'make view      opens the viewer in a browser'
 	@echo 'make bench     times step 1 on large pages'
-	@echo 'make check     the gate: all proofs, edits, tests and programs, and our own checks'
+	@echo 'make check     the gate: all proofs from nothing, edits, tests and programs, and our own checks (an hour)'
+	@echo 'make audit     tries all must-fail edits, also those that the gate leaves out (hours); ONLY="geom pixel": of these crates; JOBS=2'
 	@echo 'make clean     removes build/'
 
 kit:
@@ -24,10 +30,11 @@ kit:
 python:
 	@command -v python3 > /dev/null || { echo 'python3 is missing: tools/ and bench/ need it' >&2; exit 1; }
 
-$(PLAYER): kit
-	@mkdir -p build
-	cd crates/cc_player && rt run -- --version
-	cp crates/cc_player/out/cc_player $(PLAYER)
+# It looks for itself whether the program is of the present text.
+$(PLAYER): kit python FORCE
+	@python3 tools/built.py
+
+FORCE:
 
 demo: kit python
 	@mkdir -p build
@@ -57,6 +64,12 @@ view: film
 
 bench: python $(PLAYER)
 	bench/step $(PLAYER)
+
+test: kit python
+	@python3 tools/test.py $(if $(JOBS),--jobs $(JOBS)) $(if $(ONLY),'$(ONLY)')
+
+audit: kit python
+	@python3 tools/audit.py $(if $(JOBS),--jobs $(JOBS)) $(ONLY)
 
 check: kit python
 	.ci/run

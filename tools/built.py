@@ -1,0 +1,80 @@
+#!/usr/bin/env python3
+"""Puts the proved program at build/cc_player.
+
+usage: tools/built.py [--sum | --note SUM]
+
+Where build/cc_player was built of the text that now stands in crates/, nothing is done. Where the gate's
+crates/cc_player/out/cc_player was, it is copied; and else the program is proved and built by `rt run`.
+
+--sum prints a sum of the text, of crates.txt and of the kit's name. --note SUM is for the gate: it notes that
+crates/cc_player/out/cc_player was built of the text with this sum, unless the text is another one by now.
+"""
+import argparse
+import hashlib
+import pathlib
+import shutil
+import subprocess
+import sys
+
+ROOT = pathlib.Path(__file__).resolve().parent.parent
+CRATE = ROOT / "crates" / "cc_player"
+PROVED, PLAYER = CRATE / "out" / "cc_player", ROOT / "build" / "cc_player"
+PARTS = ("src", "specs", "proofs")
+
+
+def text_sum():
+    """A sum of all that programs are made of."""
+    whole = hashlib.sha256(subprocess.run(["rt", "version"], check=True, capture_output=True).stdout)
+    files = [it for part in PARTS for it in (ROOT / "crates").glob(f"*/{part}/**/*") if it.is_file()]
+    for path in [ROOT / "crates.txt", *sorted(files)]:
+        whole.update(f"{path.relative_to(ROOT)}\0".encode() + hashlib.sha256(path.read_bytes()).digest())
+    return whole.hexdigest()
+
+
+def note_of(program):
+    """The note beside a program: the sum of its text, and its own."""
+    return program.with_name(program.name + ".text")
+
+
+def file_sum(path):
+    """The sum of a file."""
+    return hashlib.sha256(path.read_bytes()).hexdigest()
+
+
+def write_note(program, text):
+    """Notes the text that a program was built of."""
+    note_of(program).write_text(f"{text} {file_sum(program)}\n")
+
+
+def is_of(program, text):
+    """Whether a program is there and is the one that was built of this text."""
+    is_there = program.is_file() and note_of(program).is_file()
+    return is_there and note_of(program).read_text().split() == [text, file_sum(program)]
+
+
+def main():
+    words = argparse.ArgumentParser(description=__doc__, formatter_class=argparse.RawDescriptionHelpFormatter)
+    words.add_argument("--sum", action="store_true", help="print the sum of the text")
+    words.add_argument("--note", metavar="SUM", help="note the text of the program that the gate built")
+    words = words.parse_args()
+    text, name = text_sum(), PLAYER.relative_to(ROOT)
+    if words.sum:
+        print(text)
+    elif words.note:
+        if words.note == text and PROVED.is_file():
+            write_note(PROVED, text)
+    elif is_of(PLAYER, text):
+        print(f"{name} is of this text")
+    else:
+        if is_of(PROVED, text):
+            print(f"{name}: as the gate built it")
+        elif subprocess.run(["rt", "run", "--", "--version"], cwd=CRATE).returncode or text_sum() != text:
+            return 1
+        PLAYER.parent.mkdir(exist_ok=True)
+        shutil.copy(PROVED, PLAYER)
+        write_note(PLAYER, text)
+    return 0
+
+
+if __name__ == "__main__":
+    sys.exit(main())

@@ -1,0 +1,199 @@
+#!/usr/bin/env python3
+"""Runs all programs of rows, all tests and the tools' own checks, with no proof.
+
+usage: tools/test.py [--jobs N] [WORD]
+
+Each program with a file stdout beside src/, and each crate with #[test] functions, is built and run by `rt try`; a
+program must write what its file stdout has and end with the status of its file status (none: 0). test_program, whose
+table is by far the longest, runs in parts, and their counts must add up to its stdout. With a WORD only those cases
+run that have it in their titles. It prints a line for each, and a last line `N passed, N failed`; the status is 1
+where one failed.
+
+As many run side by side as there are processors and memory for; --jobs says another number. Nothing that it builds
+is kept, and nothing that it says is proved: `make check` is the gate.
+"""
+import argparse
+import collections
+import concurrent.futures
+import os
+import pathlib
+import re
+import subprocess
+import sys
+import threading
+import time
+
+ROOT = pathlib.Path(__file__).resolve().parent.parent
+CRATES = ROOT / "crates"
+# The programs that take words and try the cases whose titles have one of them.
+TITLED = ("test_program", "test_histories")
+# The program that runs in parts, and in how many.
+SPLIT, PARTS = "test_program", 4
+TOOLS = ("check_examples.py", "believed.py", "audit.py --look", "try_recordings.py")
+# What one `rt try` takes, with the check of names that runs beside it.
+MEMORY = 4 << 30
+# No interpreter, which could not end any of these, and time enough for code that is checked at each step.
+TRY = ["rt", "try", "--steps", "1", "--seconds", "900"]
+
+Run = collections.namedtuple("Run", "status out said seconds")
+RUNNING, LOCK = set(), threading.Lock()
+
+
+def call(words, folder, given=b""):
+    """Runs a command."""
+    begin = time.monotonic()
+    process = subprocess.Popen(words, cwd=folder, stdin=subprocess.PIPE, stdout=subprocess.PIPE, stderr=subprocess.PIPE)
+    with LOCK:
+        RUNNING.add(process)
+    out, said = process.communicate(given)
+    with LOCK:
+        RUNNING.discard(process)
+    return Run(process.returncode, out, said.decode(errors="replace"), time.monotonic() - begin)
+
+
+def crates():
+    """The crates in the order of crates.txt: those that stand on many others come last."""
+    lines = [line.partition("#")[0] for line in (ROOT / "crates.txt").read_text().splitlines()]
+    return [line.split(":")[0].split()[0] for line in lines if ":" in line]
+
+
+def file_of(crate, name):
+    """The bytes of a file beside src/; none where it is not there."""
+    path = CRATES / crate / name
+    return path.read_bytes() if path.is_file() else b""
+
+
+def has_tests(crate):
+    """Whether a crate has #[test] functions."""
+    return any("#[test]" in path.read_text() for path in (CRATES / crate / "src").rglob("*.rt"))
+
+
+def parts_of(table, count):
+    """A table of cases in parts, each with the texts and files that all cases name. A line that is left out is empty, so
+    that each line keeps its number."""
+    kept, number, is_case = [[] for _ in range(count)], -1, False
+    for line in table.decode().split("\n"):
+        if line.startswith(("case:", "    ")):
+            number, is_case = number + 1, True
+        elif line.startswith(("text ", "file ", "changes of:")):
+            is_case = False
+        for part in range(count):
+            kept[part].append(line if not is_case or number % count == part else "")
+    return ["\n".join(lines).encode() for lines in kept]
+
+
+def complaint(run, wanted, status):
+    """What of a run is not as it should be, if anything."""
+    if run.status != status:
+        lines = [line for line in run.said.splitlines() + run.out.decode(errors="replace").splitlines() if line.strip()]
+        return "\n".join([f"status {run.status}, not {status}", *lines[-12:]])
+    if wanted is not None and run.out != wanted:
+        told, meant = run.out.decode(errors="replace").splitlines(), wanted.decode(errors="replace").splitlines()
+        at = next((at for at, (a, b) in enumerate(zip(told, meant)) if a != b), min(len(told), len(meant)))
+        line = lambda lines: lines[at] if at < len(lines) else "no line"
+        return f"line {at + 1} of what it wrote is: {line(told)[:200]}\nand not: {line(meant)[:200]}"
+    return None
+
+
+def try_program(crate, given, word, wanted):
+    """Runs a program over these bytes. Answers the run, and what is wrong with it, if anything."""
+    words = [word] if word else file_of(crate, "args").decode().splitlines()
+    data = CRATES / crate / "data"
+    flags = [it for path in sorted(data.rglob("*")) if path.is_file() for it in ("--data", f"{path.relative_to(data)}={path}")]
+    run = call([*TRY, *flags, *(["--", *words] if words else [])], CRATES / crate, given)
+    return run, complaint(run, wanted, int(file_of(crate, "status") or 0))
+
+
+def try_tests(crate):
+    """Runs a crate's #[test] functions."""
+    run = call([*TRY, "--test"], CRATES / crate)
+    return run, complaint(run, None, 0)
+
+
+def try_tool(words):
+    """Runs one of the tools' own checks."""
+    run = call([sys.executable, *f"tools/{words}".split()], ROOT)
+    return run, complaint(run, None, 0)
+
+
+def added(outs):
+    """The numbers of several outputs of one form, added up."""
+    numbers = [[int(it) for it in re.findall(rb"\d+", out)] for out in outs]
+    sums = iter(map(sum, zip(*numbers)))
+    return re.sub(rb"\d+", lambda _: b"%d" % next(sums), outs[0])
+
+
+def tasks(word):
+    """What is run, the longest first: a title and a call for each."""
+    found = []
+    for crate in reversed(crates()):
+        if not (CRATES / crate / "src" / "main.rt").is_file() or word and crate not in TITLED:
+            continue
+        given, wanted = file_of(crate, "stdin"), None if word else file_of(crate, "stdout")
+        if crate == SPLIT and not word:
+            for number, part in enumerate(parts_of(given, PARTS)):
+                found.insert(number, (crate, lambda crate=crate, part=part: try_program(crate, part, None, None)))
+        else:
+            found.append((crate, lambda crate=crate, given=given, wanted=wanted: try_program(crate, given, word, wanted)))
+    if not word:
+        found += [(f"{crate} (tests)", lambda crate=crate: try_tests(crate)) for crate in reversed(crates()) if has_tests(crate)]
+        found += [(f"tools/{words}", lambda words=words: try_tool(words)) for words in TOOLS]
+    return found
+
+
+def told(title, runs, wrong, word):
+    """Prints a line of what was run, with what is wrong, and answers whether nothing is."""
+    seconds = sum(run.seconds for run in runs)
+    counts = added([run.out for run in runs]) if len(runs) > 1 and not wrong else runs[0].out
+    if title == SPLIT and not word and not wrong and counts != file_of(title, "stdout"):
+        wrong = f"its parts have {counts.decode().strip()}, and not {file_of(title, 'stdout').decode().strip()}"
+    about = f": {counts.decode(errors='replace').strip()}" if word and not wrong else ""
+    print(f"{'FAILED' if wrong else 'ok    '} {title}{about} ({seconds:.0f} s)", flush=True)
+    if wrong:
+        print("\n".join(f"       {line[:300]}" for line in wrong.splitlines()), flush=True)
+    return not wrong
+
+
+def lanes():
+    """How many run side by side."""
+    free = int(re.search(r"MemAvailable:\s+(\d+)", pathlib.Path("/proc/meminfo").read_text())[1]) * 1024
+    return max(1, min(len(os.sched_getaffinity(0)), free // MEMORY))
+
+
+def run_all(word, jobs):
+    """Runs everything: how many are right, and how many are not."""
+    found, done, right, counted = tasks(word), collections.defaultdict(list), 0, 0
+    total = len({title for title, _ in found})
+    with concurrent.futures.ThreadPoolExecutor(jobs) as pool:
+        running = {pool.submit(task): title for title, task in found}
+        for it in concurrent.futures.as_completed(running):
+            title = running[it]
+            done[title].append(it.result())
+            if len(done[title]) == [name for name, _ in found].count(title):
+                runs = [run for run, _ in done[title]]
+                right += told(title, runs, "\n".join(why for _, why in done[title] if why), word)
+                counted += word and int((re.findall(rb"\d+", runs[0].out) or [b"0"])[0])
+    if word and right == total and not counted:
+        print(f"FAILED no title has {word}")
+        right -= 1
+    return right, total - right
+
+
+def main():
+    words = argparse.ArgumentParser(description=__doc__, formatter_class=argparse.RawDescriptionHelpFormatter)
+    words.add_argument("--jobs", type=int, help="how many run side by side")
+    words.add_argument("word", nargs="?", metavar="WORD", help="runs only the cases that have it in their titles")
+    words = words.parse_args()
+    if words.word:
+        print(f"only {', '.join(TITLED)}: the other programs and tests have no titles")
+    try:
+        passed, failed = run_all(words.word, words.jobs or lanes())
+    finally:
+        for process in list(RUNNING):
+            process.terminate()
+    print(f"{passed} passed, {failed} failed")
+    return 1 if failed else 0
+
+
+if __name__ == "__main__":
+    sys.exit(main())
