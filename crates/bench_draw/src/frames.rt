@@ -9,8 +9,7 @@
 ghost use Rattle.std.specs.Prelude.{◌≡◌, None};
 ghost use Rattle.impl_trees.specs.Trees.{MayFollow};
 
-use impl_trees::may_push;
-use impl_trees::Trees;
+use impl_trees::{Trees, may_push};
 use main_host::{MainEnd, MainHost};
 use model_history::{Commit, Moves, Script};
 use page_layers::LayerTree;

@@ -12,8 +12,7 @@ use pixel::Colour;
 use std::alloc::{AllocError, Global};
 use std::sync::Arc;
 use tile_raster::{Job, TileImage};
-use viz_scene::scene_of;
-use viz_scene::{Quad, RenderPass, Scene};
+use viz_scene::{Quad, RenderPass, Scene, scene_of};
 
 /// The side of the screen.
 const SIDE: i32 = 1024;

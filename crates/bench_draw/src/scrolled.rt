@@ -15,8 +15,7 @@ use pixel::Colour;
 use std::alloc::{AllocError, Global};
 use std::sync::Arc;
 use tile_raster::{Job, TileImage};
-use viz_scene::scene_of;
-use viz_scene::{Quad, RenderPass, Scene};
+use viz_scene::{Quad, RenderPass, Scene, scene_of};
 
 /// How many sections the page has.
 const SECTIONS: u32 = 8;

@@ -6,10 +6,9 @@ ghost use Rattle.bench_draw.specs.Jobs.{IsLarge};
 use crate::large::layered;
 use std::alloc::{AllocError, Global};
 use viz_damage::damage_of;
-use viz_scene::scene_of;
 use viz_occlusion::cull;
 use viz_painter::Painter;
-use viz_scene::{Quad, RenderPass, Scene};
+use viz_scene::{Quad, RenderPass, Scene, scene_of};
 
 /// What is done.
 #[derive(Clone, Copy)]
