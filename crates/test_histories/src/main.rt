@@ -5,7 +5,8 @@
 //! asked for by its kind and its actor. Where the event that was entered is another one, or none is possible,
 //! the walk stops. The judge stops at the first entry that it does not enter.
 //!
-//! The table is read from standard input; a line that begins with `#` and an empty one say nothing.
+//! The table is read from standard input; a line that begins with `#` and an empty one say nothing. With words
+//! after its name the program tries only the histories whose titles have one of them.
 //!
 //! | Line | What it says |
 //! |---|---|
@@ -31,8 +32,11 @@ mod walks;
 
 use crate::walks::Walks;
 use std::process::ExitCode;
-use test_table::check_table;
+use test_table::{Titles, check_table};
 
 fn main(rt: HostRuntime) -> ExitCode {
-    check_table(&rt, &mut Walks::new(rt.alloc()))
+    match Titles::of_words(&rt) {
+        Ok(titles) => check_table(&rt, &mut Walks::new(rt.alloc(), titles)),
+        Err(_) => ExitCode::from(1),
+    }
 }

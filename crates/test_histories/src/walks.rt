@@ -9,16 +9,20 @@ use script_json::read_script;
 use std::alloc::Global;
 use std::io;
 use std::sync::Arc;
-use test_table::{Table, Tally};
+use test_table::{Table, Tally, Titles};
 
 /// What was read of the table so far.
 #[derive(Drop)]
 pub struct Walks {
     alloc: Global,
+    /// Which histories are tried.
+    titles: Titles,
     script: Option<Arc<Script>>,
     workers: u32,
     /// The lines of the history that stands above.
     history: Option<String>,
+    /// Whether the history that stands above is not tried.
+    is_left_out: bool,
     /// How many legal histories there were, how many changed ones, how many entries they have, and how many
     /// questions were asked.
     legal: usize,
@@ -30,12 +34,14 @@ pub struct Walks {
 
 impl Walks {
     /// Nothing was read.
-    pub fn new(alloc: Global) -> Walks {
+    pub fn new(alloc: Global, titles: Titles) -> Walks {
         Walks {
             alloc,
+            titles,
             script: None,
             workers: 1,
             history: None,
+            is_left_out: false,
             legal: 0,
             changed: 0,
             entries: 0,
@@ -108,13 +114,18 @@ impl Walks {
         Ok(())
     }
 
-    /// Takes a line with a legal history.
+    /// Takes a line with a legal history of this title.
     fn take_history<R: Print>(
         &mut self,
         rt: &R,
         line: usize,
+        title: &str,
         lines: &str,
     ) -> Result<(), LineFault> {
+        self.is_left_out = !self.titles.has(title);
+        if self.is_left_out {
+            return Ok(());
+        }
         self.legal = self.legal.saturating_add(1);
         self.history = Some(lines.to_string(self.alloc)?);
         self.walk(rt, line, lines, None)
@@ -159,6 +170,9 @@ impl<R: Print> Table<R> for Walks {
     type Fault = LineFault;
 
     fn take(&mut self, rt: &R, line: usize, text: &str) -> Result<(), LineFault> {
+        if self.is_left_out && text.starts_with("    ") {
+            return Ok(());
+        }
         if let Some(row) = text.strip_prefix("    after ") {
             return self.take_question(rt, line, row);
         }
@@ -166,10 +180,12 @@ impl<R: Print> Table<R> for Walks {
             return self.take_change(rt, line, row);
         }
         let (key, value) = text.split_once(": ").ok_or(LineFault::NoForm)?;
+        if let Some(title) = key.strip_prefix("history ") {
+            return self.take_history(rt, line, title, value);
+        }
         match key {
             "script" => self.take_script(value),
             "workers" => self.take_workers(value),
-            _ if key.starts_with("history ") => self.take_history(rt, line, value),
             _ => Err(LineFault::NoForm),
         }
     }

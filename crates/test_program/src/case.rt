@@ -116,15 +116,14 @@ impl Case {
         self.change_bytes(old.as_slice(), new.as_slice())
     }
 
-    /// Sets the status and the line in the notes, `STATUS NOTE` or the status alone.
+    /// Sets how the run ends: `0 LENGTH SUM` of its output, or `STATUS NOTE` with the line in the notes.
     pub fn set_end(&mut self, text: &str) -> Result<(), RowFault> {
-        match text.split_once(' ') {
-            Some((number, note)) => {
-                self.status = status(number)?;
-                self.note = Some(note.to_string(self.alloc)?);
-            }
-            None => self.status = status(text)?,
+        let (number, rest) = text.split_once(' ').ok_or(RowFault::NoChange)?;
+        self.status = status(number)?;
+        if self.status == 0 {
+            return self.output.set_sum(rest);
         }
+        self.note = Some(rest.to_string(self.alloc)?);
         Ok(())
     }
 

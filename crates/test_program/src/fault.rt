@@ -21,6 +21,9 @@ pub enum RowFault {
     /// The case is played, and has no input.
     #[error("the case has no input")]
     NoInput,
+    /// The case ends in status 0, and says nothing of its output.
+    #[error("the case has status 0 and says nothing of its output")]
+    NoOutput,
     /// A number is none, or too large.
     #[error("this is no number, or it is too large")]
     NoNumber,
@@ -33,8 +36,8 @@ pub enum RowFault {
     /// A line or a picture belongs to a file, and none was begun.
     #[error("no file was begun above this line")]
     NoFile,
-    /// The change is not `OLD => NEW`, or of a table not `OLD => NEW | STATUS NOTE`.
-    #[error("a change is `OLD => NEW`, and `| STATUS NOTE` behind it in a table of changes")]
+    /// The change is not `OLD => NEW`, or of a table not `OLD => NEW | END`.
+    #[error("a change is `OLD => NEW`, and `| END` behind it in a table of changes")]
     NoChange,
     /// What is to be changed does not stand in the input exactly once.
     #[error("what is changed does not stand in the input once")]

@@ -3,7 +3,8 @@
 //! The table is read from standard input. It has lines `key: value`; a line that begins with `#` and an
 //! empty one say nothing. Standard output tells how many cases and runs there were, so that none gets
 //! lost, and each wrong case with its line. A wrong case, or a line that can't be read, ends in status 1
-//! and one line on standard error.
+//! and one line on standard error. With words after its name the program plays only the cases whose titles
+//! have one of them.
 //!
 //! | Key | What it says |
 //! |---|---|
@@ -24,11 +25,11 @@
 //! | `out hex` | bytes of the output |
 //! | `legal recording` | the output is a recording that `check` finds legal, and what is told of the output is told of what `frames` makes of it |
 //! | `out sum` | the output's length in bytes and its 64-bit FNV-1a sum |
-//! | `changes of` | an input. Below it each line that is indented is a case of its own: `OLD => NEW \| STATUS NOTE` |
+//! | `changes of` | an input. Below it each line that is indented is a case of its own, with the change as its title: `OLD => NEW \| STATUS NOTE`, or `OLD => NEW \| 0 LENGTH SUM` as in `out sum` |
 //!
 //! A value `N of TEXT` or `A..B of TEXT` repeats the text with commas between, with `{i}` as the number of
-//! the copy and `{i-1}` as the number before it; `N blanks` is so many blanks. A case that says nothing of
-//! its output leaves it open where the status is 0, and wants none otherwise.
+//! the copy and `{i-1}` as the number before it; `N blanks` is so many blanks. A case of status 0 says what
+//! its output is; another that says nothing of it wants none.
 #![tactic(auto)]
 
 mod bytes;
@@ -43,6 +44,7 @@ mod table;
 use crate::table::{Tally, play_table};
 use std::io;
 use std::process::ExitCode;
+use test_table::Titles;
 
 /// Tells how many cases there were, and which were wrong.
 fn tell(rt: &HostRuntime, tally: &Tally) -> io::Result<bool> {
@@ -58,11 +60,14 @@ fn tell(rt: &HostRuntime, tally: &Tally) -> io::Result<bool> {
 }
 
 fn main(rt: HostRuntime) -> ExitCode {
-    let Ok(text) = io::read_to_string(rt.alloc(), rt.reader()) else {
-        let _ = rt.eprintln("the table could not be read");
+    let (Ok(titles), Ok(text)) = (
+        Titles::of_words(&rt),
+        io::read_to_string(rt.alloc(), rt.reader()),
+    ) else {
+        let _ = rt.eprintln("the words or the table could not be read");
         return ExitCode::from(1);
     };
-    match play_table(&rt, rt.alloc(), text.as_str()) {
+    match play_table(&rt, rt.alloc(), titles, text.as_str()) {
         Ok(tally) => match tell(&rt, &tally) {
             Ok(true) => ExitCode::from(0),
             _ => ExitCode::from(1),

@@ -107,10 +107,15 @@ impl Output {
         }
     }
 
-    /// Whether the sink of a run with this status may hold these bytes.
-    pub fn fits(&self, status: u8, held: &[u8], short: Short) -> bool {
+    /// Whether something is said.
+    pub fn is_said(&self) -> bool {
+        self.extent != Extent::Unsaid
+    }
+
+    /// Whether the sink of a run may hold these bytes; none where nothing is said.
+    pub fn fits(&self, held: &[u8], short: Short) -> bool {
         match self.extent {
-            Extent::Unsaid => status == 0 || held.is_empty(),
+            Extent::Unsaid => held.is_empty(),
             Extent::Whole => self.is_cut_to(held, short),
             Extent::End => held.ends_with(self.bytes.as_slice()),
             Extent::Sum { length, sum } => held.len() as u64 == length && fnv(held) == sum,

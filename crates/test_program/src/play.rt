@@ -187,10 +187,7 @@ impl Played {
         if !self.accepted {
             return Some(Difference::Legality);
         }
-        if !case
-            .output
-            .fits(status, self.out.bytes(), short_of(case, number))
-        {
+        if !case.output.fits(self.out.bytes(), short_of(case, number)) {
             return Some(Difference::Output);
         }
         None

@@ -7,6 +7,7 @@ use crate::play::play;
 use std::alloc::Global;
 use std::sync::Wait;
 use std::thread::Threads;
+use test_table::Titles;
 
 /// What was counted.
 #[derive(Clone, Copy)]
@@ -23,6 +24,8 @@ pub struct Tally {
 #[derive(Drop)]
 struct Table {
     alloc: Global,
+    /// Which cases are played.
+    titles: Titles,
     names: Names,
     /// The input of a table of changes.
     base: Option<String>,
@@ -59,6 +62,9 @@ fn play_case<R: Threads + Wait + Sync + Print>(
     let Some(input) = &case.input else {
         return Err(RowFault::NoInput);
     };
+    if case.status == 0 && !case.output.is_said() {
+        return Err(RowFault::NoOutput);
+    }
     for number in case.numbers.start..case.numbers.end {
         let played = play(rt, alloc, case, input.as_slice(), number)?;
         tally.runs = tally.runs.saturating_add(1);
@@ -80,6 +86,9 @@ impl Table {
         let Some(case) = self.case.take() else {
             return Ok(());
         };
+        if !self.titles.has(case.title.as_str()) {
+            return Ok(());
+        }
         self.tally.cases = self.tally.cases.saturating_add(1);
         if !play_case(rt, self.alloc, &case, &mut self.tally)? {
             self.tally.count_wrong(case.line);
@@ -87,7 +96,7 @@ impl Table {
         Ok(())
     }
 
-    /// Takes a line of a table of changes: `OLD => NEW | STATUS NOTE`.
+    /// Takes a line of a table of changes: `OLD => NEW | END`.
     fn take_change<R: Threads + Wait + Sync + Print>(
         &mut self,
         rt: &R,
@@ -165,14 +174,16 @@ impl Table {
     }
 }
 
-/// Plays the cases of a table. An error tells the line that can't be read.
+/// Plays the cases of a table that have these titles. An error tells the line that can't be read.
 pub fn play_table<R: Threads + Wait + Sync + Print>(
     rt: &R,
     alloc: Global,
+    titles: Titles,
     text: &str,
 ) -> Result<Tally, (usize, RowFault)> {
     let mut table = Table {
         alloc,
+        titles,
         names: Names::new(alloc),
         base: None,
         case: None,
