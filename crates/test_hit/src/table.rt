@@ -51,15 +51,19 @@ fn id(word: Option<&str>) -> Result<u32, RowFault> {
 /// The question of a line: `target X Y`, `chain LAYER` or `wheel X Y DX DY`.
 fn question(text: &str) -> Result<Question, RowFault> {
     let mut words = text.split(' ');
-    match words.next() {
-        Some("target") => Ok(Question::Target(point(words.next(), words.next())?)),
-        Some("chain") => Ok(Question::Chain(id(words.next())?)),
+    let question = match words.next() {
+        Some("target") => Question::Target(point(words.next(), words.next())?),
+        Some("chain") => Question::Chain(id(words.next())?),
         Some("wheel") => {
             let at = point(words.next(), words.next())?;
             let asked = point(words.next(), words.next())?;
-            Ok(Question::Wheel { at, asked })
+            Question::Wheel { at, asked }
         }
-        _ => Err(RowFault::NoForm),
+        _ => return Err(RowFault::NoForm),
+    };
+    match words.next() {
+        None => Ok(question),
+        Some(_) => Err(RowFault::NoForm),
     }
 }
 
