@@ -11,6 +11,7 @@
 //! | `finish TILE`, `finish -` | a tile in flight is made; it is ready, or needed no more |
 //! | `first => KEY` | the key that starts first; `-` where none may |
 //! | `evicted KEY => KEY ..` | what is given up for it, the worst first; `-` where nothing is |
+//! | `steps SEED COUNT` | the given number of random steps of another queue |
 //!
 //! After each step the queue's answers are compared with the definitions' too. Another answer than that of
 //! the table or of the definitions, or a line that can't be taken, ends in status 1 and one line on standard

@@ -1,6 +1,8 @@
 //! The table of standard input.
 
-use crate::queues::{CheckedQueue, StepFault, agrees, answer, key_of, queue_of, ready_of};
+use crate::queues::{
+    CheckedQueue, StepFault, agrees, answer, key_of, queue_of, ready_of, try_steps,
+};
 use geom::TileKey;
 use std::alloc::Global;
 use std::io;
@@ -47,6 +49,18 @@ impl Answers {
         agrees(&self.queue, 8, key)
     }
 
+    /// Takes random steps of another queue, `SEED COUNT`, up to the first after which it answers otherwise than the
+    /// definitions.
+    fn random_steps(&mut self, rt: &HostRuntime, line: usize, row: &str) -> Result<(), StepFault> {
+        let (seed, count) = row.split_once(' ').ok_or(StepFault::NoForm)?;
+        let seed = seed.parse::<u64>().map_err(|_| StepFault::NoForm)?;
+        let count = count.parse::<u64>().map_err(|_| StepFault::NoForm)?;
+        if try_steps(rt, seed, count)?.differs.is_some() {
+            self.compare(rt, line, "otherwise", "as the definitions say");
+        }
+        Ok(())
+    }
+
     /// Takes a step: a new queue, a start, or a tile that was made.
     fn step(&mut self, rt: &HostRuntime, name: &str, row: &str) -> Result<(), StepFault> {
         match name {
@@ -82,6 +96,9 @@ impl Table<HostRuntime> for Answers {
             return Ok(());
         }
         let (name, row) = text.split_once(' ').ok_or(StepFault::NoForm)?;
+        if name == "steps" {
+            return self.random_steps(rt, line, row);
+        }
         self.step(rt, name, row)?;
         if !self.agrees()? {
             self.compare(rt, line, "otherwise", "as the definitions say");
