@@ -12,6 +12,8 @@
 //!   sum of the ids of the layers that a point hits, or of how many scrollers a wheel there moves,
 //! - what `redraws` lists, and what `frames` does.
 //!
+//! With no words it makes a small tile's pictures and tries pairs of scenes, of which none may be wrong.
+//!
 //! The scripts `bench/rows`, `bench/redraws` and `bench/pushes` time it.
 #![tactic(auto)]
 
@@ -29,11 +31,21 @@ mod showing;
 mod sketch;
 mod tiles;
 
-use crate::job::Job;
+use crate::job::{Job, Kind};
 use std::{env, io};
+
+/// What is done where there are no words.
+fn check(rt: &HostRuntime) -> io::Result<()> {
+    let sum = tiles::raster(rt.alloc(), Kind::Translucent, 3, 2)?;
+    println!(rt; "{sum}")?;
+    pairs::tell_wrong(rt, 200, 1)
+}
 
 fn main(rt: HostRuntime) -> io::Result<()> {
     let words: Vec<String> = env::args(&rt)?.skip(1).collect(rt.alloc())?;
+    if words.is_empty() {
+        return check(&rt);
+    }
     if redraws::run(&rt, words.as_slice())? || frames::run(&rt, words.as_slice())? {
         return Ok(());
     }

@@ -222,6 +222,14 @@ fn figures_of(alloc: Global, count: u32, seed: u32) -> Result<Figures, AllocErro
     Ok(figures)
 }
 
+/// Tries so many pairs of scenes and tells how many are wrong.
+pub(crate) fn tell_wrong(rt: &HostRuntime, count: u32, seed: u32) -> io::Result<()> {
+    let figures = figures_of(rt.alloc(), count, seed)?;
+    let (pairs, wrong, otherwise) = (figures.pairs, figures.wrong, figures.shown_otherwise);
+    println!(rt; "{pairs} pairs of scenes: {wrong} wrong, {otherwise} shown otherwise")?;
+    Ok(())
+}
+
 /// Tries so many pairs of scenes and tells what came out: how many are wrong, and how many points are damaged
 /// and how many have another colour, in all.
 pub(crate) fn tell(rt: &HostRuntime, count: u32, seed: u32) -> io::Result<()> {

@@ -5,9 +5,11 @@ ghost use Rattle.page_display_list.specs.Content.{IsSoundItem};
 
 use crate::job::Kind;
 use crate::rows::grey;
-use geom::Rect;
+use geom::{Rect, TileKey};
 use page_display_list::{DisplayList, Item};
 use std::alloc::{AllocError, Global};
+use std::sync::Arc;
+use tile_raster::Job;
 
 /// The tile, which each item covers.
 const TILE: Rect = Rect {
@@ -15,6 +17,14 @@ const TILE: Rect = Rect {
     y: 0,
     w: 256,
     h: 256,
+};
+
+/// The key of the tile.
+const KEY: TileKey = TileKey {
+    layer: 1,
+    x: 0,
+    y: 0,
+    stamp: 0,
 };
 
 /// So many bytes of one value.
@@ -62,17 +72,33 @@ fn list_of(alloc: Global, kind: Kind, items: usize) -> Result<DisplayList, Alloc
     Ok(list)
 }
 
-/// Rasterises a list of items so many times, and adds up the first bytes.
+/// Makes the picture of a tile, and gives the red of its one colour.
+fn red_of(alloc: Global, list: &Arc<DisplayList>) -> Result<u64, AllocError> {
+    let job = Job {
+        key: KEY,
+        list: Arc::try_clone(list)?,
+        rect: TILE,
+    };
+    match job.run(alloc) {
+        Ok(image) => match image.solid() {
+            Some(colour) => Ok(u64::from(colour.r())),
+            None => Ok(0),
+        },
+        Err((full, _job)) => Err(full),
+    }
+}
+
+/// Makes the picture of a tile of a list of items so many times, as the program does, and adds up the red of its
+/// pixels' one colour.
 pub(crate) fn raster(alloc: Global, kind: Kind, items: usize, times: u32) -> Result<u64, AllocError>
     requires { items ≤ 256 }
 {
-    let list = list_of(alloc, kind, items)?;
+    let Ok(list) = Arc::new(alloc, list_of(alloc, kind, items)?) else {
+        return Err(AllocError);
+    };
     let mut sum = 0u64;
     for _turn in 0..times {
-        let bytes = list.raster(TILE)?;
-        if let Some(first) = bytes.as_slice().first() {
-            sum = sum.wrapping_add(*first as u64);
-        }
+        sum = sum.wrapping_add(red_of(alloc, &list)?);
     }
     Ok(sum)
 }
