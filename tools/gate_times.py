@@ -15,6 +15,7 @@ import collections
 import os
 import pathlib
 import re
+import signal
 import sys
 import threading
 import time
@@ -70,6 +71,8 @@ def stamp(path):
         log = path.open("w")
     except OSError as error:
         print(f"gate_times: {path}: {error.strerror}: no times are kept", file=sys.stderr)
+    # An interrupt ends the gate, and what it says last still comes through.
+    signal.signal(signal.SIGINT, signal.SIG_IGN)
     sampler.start()
     seconds = lambda: f"{time.monotonic() - begin:9.1f}"
     for line in sys.stdin.buffer:
@@ -126,10 +129,10 @@ def table(path):
         lines.append(row(f"{len(small)} others", summed(small), sum(edits.get(it, 0) for it in small)))
     lines.append(row("**all**", summed(order), sum(edits.values())))
     whole, cpus = sum(summed(order).values()) / 60, marks.get("cpus", 1)
-    told = f"Processor seconds of a run of `rt ci` from nothing on {cpus} processors, with nothing else at work: {marks['all'] / 60:.0f} minutes"
-    told += f", {marks['verdict']}" if "verdict" in marks else ""
-    told += f"; the last proof ended after {marks['proved'] / 60:.0f}" if "proved" in marks else ""
-    told += f". {whole:.0f} processor minutes in all: no less than {whole / 2:.0f} minutes on two processors."
+    verdict = f" ({marks['verdict']})" if "verdict" in marks else ""
+    proved = f"; the last proof ended after {marks['proved'] / 60:.0f}" if "proved" in marks else ""
+    told = (f"Processor seconds of a run from nothing on {cpus} processors, with nothing else at work. It took {marks['all'] / 60:.0f} minutes{verdict}"
+            f"{proved}. In all {whole:.0f} processor minutes: at least {whole / 2:.0f} minutes on two processors.")
     return "\n".join([told, "", *lines])
 
 

@@ -1,12 +1,12 @@
 #!/usr/bin/env python3
 """Runs all programs of rows, all tests and the tools' own checks, with no proof.
 
-usage: tools/test.py [--jobs N] [WORD]
+usage: tools/test.py [--jobs N] [--crate CRATE].. [WORD]
 
 Each program with a file stdout beside src/, and each crate with #[test] functions, is built and run by `rt try`; a
 program must write what its file stdout has and end with the status of its file status (none: 0). test_program, whose
 table is by far the longest, runs in parts, and their counts must add up to its stdout. With a WORD only those cases
-run that have it in their titles. It prints a line for each, and a last line `N passed, N failed`; the status is 1
+run that have it in their titles, and with --crate only those crates. It prints a line for each, and a last line `N passed, N failed`; the status is 1
 where one failed.
 
 As many run side by side as there are processors and memory for; --jobs says another number. Nothing that it builds
@@ -123,10 +123,10 @@ def added(outs):
     return re.sub(rb"\d+", lambda _: b"%d" % next(sums), outs[0])
 
 
-def tasks(word):
+def tasks(word, named):
     """What is run, the longest first: a title and a call for each."""
-    found = []
-    for crate in reversed(crates()):
+    found, order = [], [it for it in reversed(crates()) if not named or it in named]
+    for crate in order:
         if not (CRATES / crate / "src" / "main.rt").is_file() or word and crate not in TITLED:
             continue
         given, wanted = file_of(crate, "stdin"), None if word else file_of(crate, "stdout")
@@ -136,7 +136,8 @@ def tasks(word):
         else:
             found.append((crate, lambda crate=crate, given=given, wanted=wanted: try_program(crate, given, word, wanted)))
     if not word:
-        found += [(f"{crate} (tests)", lambda crate=crate: try_tests(crate)) for crate in reversed(crates()) if has_tests(crate)]
+        found += [(f"{crate} (tests)", lambda crate=crate: try_tests(crate)) for crate in order if has_tests(crate)]
+    if not word and not named:
         found += [(f"tools/{words}", lambda words=words: try_tool(words)) for words in TOOLS]
     return found
 
@@ -160,9 +161,9 @@ def lanes():
     return max(1, min(len(os.sched_getaffinity(0)), free // MEMORY))
 
 
-def run_all(word, jobs):
+def run_all(word, named, jobs):
     """Runs everything: how many are right, and how many are not."""
-    found, done, right, counted = tasks(word), collections.defaultdict(list), 0, 0
+    found, done, right, counted = tasks(word, named), collections.defaultdict(list), 0, 0
     total = len({title for title, _ in found})
     with concurrent.futures.ThreadPoolExecutor(jobs) as pool:
         running = {pool.submit(task): title for title, task in found}
@@ -172,7 +173,7 @@ def run_all(word, jobs):
             if len(done[title]) == [name for name, _ in found].count(title):
                 runs = [run for run, _ in done[title]]
                 right += told(title, runs, "\n".join(why for _, why in done[title] if why), word)
-                counted += word and int((re.findall(rb"\d+", runs[0].out) or [b"0"])[0])
+                counted += int((re.findall(rb"\d+", runs[0].out) or [b"0"])[0])
     if word and right == total and not counted:
         print(f"FAILED no title has {word}")
         right -= 1
@@ -182,12 +183,13 @@ def run_all(word, jobs):
 def main():
     words = argparse.ArgumentParser(description=__doc__, formatter_class=argparse.RawDescriptionHelpFormatter)
     words.add_argument("--jobs", type=int, help="how many run side by side")
+    words.add_argument("--crate", action="append", default=[], help="runs only this crate; may be given again")
     words.add_argument("word", nargs="?", metavar="WORD", help="runs only the cases that have it in their titles")
     words = words.parse_args()
     if words.word:
         print(f"only {', '.join(TITLED)}: the other programs and tests have no titles")
     try:
-        passed, failed = run_all(words.word, words.jobs or lanes())
+        passed, failed = run_all(words.word, words.crate, words.jobs or lanes())
     finally:
         for process in list(RUNNING):
             process.terminate()
