@@ -48,22 +48,32 @@ fn id(word: Option<&str>) -> Result<u32, RowFault> {
     word.parse::<u32>().map_err(|_| RowFault::NoForm)
 }
 
+/// Whether a question has as many words as its kind has, and no more.
+fn has_its_words(text: &str) -> bool {
+    let mut count = 0usize;
+    for _word in text.split(' ') {
+        count = count.saturating_add(1);
+    }
+    match text.split_once(' ') {
+        Some(("target", _)) => count == 3,
+        Some(("chain", _)) => count == 2,
+        Some(("wheel", _)) => count == 5,
+        _ => false,
+    }
+}
+
 /// The question of a line: `target X Y`, `chain LAYER` or `wheel X Y DX DY`.
 fn question(text: &str) -> Result<Question, RowFault> {
     let mut words = text.split(' ');
-    let question = match words.next() {
-        Some("target") => Question::Target(point(words.next(), words.next())?),
-        Some("chain") => Question::Chain(id(words.next())?),
+    match words.next() {
+        Some("target") => Ok(Question::Target(point(words.next(), words.next())?)),
+        Some("chain") => Ok(Question::Chain(id(words.next())?)),
         Some("wheel") => {
             let at = point(words.next(), words.next())?;
             let asked = point(words.next(), words.next())?;
-            Question::Wheel { at, asked }
+            Ok(Question::Wheel { at, asked })
         }
-        _ => return Err(RowFault::NoForm),
-    };
-    match words.next() {
-        None => Ok(question),
-        Some(_) => Err(RowFault::NoForm),
+        _ => Err(RowFault::NoForm),
     }
 }
 
@@ -102,6 +112,9 @@ impl Table {
         let Some(page) = &self.page else {
             return Err(RowFault::NothingAbove);
         };
+        if !has_its_words(asked) {
+            return Err(RowFault::NoForm);
+        }
         let told = answer(self.alloc, page, question(asked)?)?;
         self.tally.questions = self.tally.questions.saturating_add(1);
         if told.as_str() != wanted {
