@@ -30,16 +30,6 @@ pub struct SeenTrees<'a> {
     pub pending: Option<SeenTree<'a>>,
 }
 
-// Whether a tree that may be missing has a key.
-fn has(tree: Option<&SeenTree<'_>>, key: TileKey) -> bool
-    ensures { (t : Tree) → IsSeenWhere t (option_copied tree.entry) → result ≡ has_key (keys_of t) key }
-{
-    match tree {
-        None => false,
-        Some(tree) => tree.has(key),
-    }
-}
-
 // The rank of a key in a tree that may be missing.
 fn rank_where(
     script: &Script,
@@ -63,15 +53,6 @@ fn is_page_where(tree: Option<&SeenTree<'_>>)
         None => {}
         Some(tree) => tree.page().is_page(),
     }
-}
-
-/// Whether a key is one of the active or of the pending tree.
-pub fn is_live(active: Option<&SeenTree<'_>>, pending: Option<&SeenTree<'_>>, key: TileKey) -> bool
-    ensures { (a p : Tree) → IsSeenWhere a (option_copied active.entry) → IsSeenWhere p (option_copied pending.entry) → result ≡ has_key (keys_of a ++ keys_of p) key }
-{
-    let in_active = has(active, key);
-    let in_pending = has(pending, key);
-    in_active || in_pending
 }
 
 /// A ready key with its rank, the better of its ranks in the two trees, and whether it must stay.

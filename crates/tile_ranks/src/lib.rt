@@ -18,7 +18,7 @@ mod ready;
 mod run;
 mod tree;
 
-pub use both::{SeenTrees, is_live, ranked, tile};
+pub use both::{SeenTrees, ranked, tile};
 pub use laws::{ranked_tiles_are_near, tiles_far_away_have_no_bin};
 pub use placed::PlacedTree;
 pub use placed_trees::PlacedTrees;
