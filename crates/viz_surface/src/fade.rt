@@ -6,7 +6,7 @@ ghost use Rattle.pixel.specs.Colours.{blend};
 ghost use Rattle.pixel.specs.Rows.{pixel, ArePremultiplied};
 ghost use Rattle.pixel.specs.Surfaces.{IsPart};
 
-use crate::four::{four_at, lay_four, lay_one, put_four, put_one};
+use crate::four::{four_at, lay_four, lay_one};
 use crate::sixteen::are_sixteen_clear;
 use crate::vectors::scaled;
 use pixel::colour_at;
@@ -76,35 +76,4 @@ fn faded_over_four(surface: &mut [u8], k: usize, pass: &[u8], opacity: u8)
     ensures { IsPart k 4 (λ j below. blend below (Colours.scaled (pixel pass.now (k + j)) opacity)) surface.old surface.new }
 {
     lay_four(surface, k, scaled(four_at(pass, k), opacity));
-}
-
-/// Gives the pixels of a surface those of a pass, faded to an opacity: as many as the surface has.
-pub fn scale_into(surface: &mut [u8], pass: &[u8], opacity: u8)
-    requires whole { length surface.old % 4 ≡ 0 }
-    requires same { length surface.old ≤ length pass.now }
-    requires premultiplied { ArePremultiplied pass.now }
-    ensures pixels { (k : ℕ) → 4 * k + 4 ≤ length surface.old → pixel surface.new k ≡ Colours.scaled (pixel pass.now k) opacity }
-    ensures premultiplied { ArePremultiplied surface.old → ArePremultiplied surface.new }
-{
-    let count = surface.len() / 4;
-    let mut done = 0;
-    'fours: while done + 4 <= count {
-        scale_four_into(surface, done, pass, opacity);
-        done += 4;
-    }
-    'ones: while done < count {
-        put_one(surface, done, colour_at(pass, done).scale(opacity));
-        done += 1;
-    }
-}
-
-// gives four pixels of a surface, from pixel `k` on, those of a pass, faded
-#[inline(always)]
-fn scale_four_into(surface: &mut [u8], k: usize, pass: &[u8], opacity: u8)
-    requires inside { 4 * (k + 4) ≤ length surface.old }
-    requires given { 4 * (k + 4) ≤ length pass.now }
-    requires premultiplied { ArePremultiplied pass.now }
-    ensures { IsPart k 4 (λ j below. Colours.scaled (pixel pass.now (k + j)) opacity) surface.old surface.new }
-{
-    put_four(surface, k, scaled(four_at(pass, k), opacity));
 }

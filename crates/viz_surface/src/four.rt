@@ -45,19 +45,6 @@ pub(crate) fn lay_four(surface: &mut [u8], k: usize, pixels: u8x16)
     laid(below, pixels).copy_to_slice(&mut surface[4 * k..]);
 }
 
-/// Gives pixel `k` of a surface a colour.
-#[inline(always)]
-pub(crate) fn put_one(surface: &mut [u8], k: usize, colour: Colour)
-    requires { 4 * (k + 1) ≤ length surface.old }
-    ensures { IsPart k 1 (λ j below. colour) surface.old surface.new }
-{
-    let at = 4 * k;
-    surface[at] = colour.r();
-    surface[at + 1] = colour.g();
-    surface[at + 2] = colour.b();
-    surface[at + 3] = colour.a();
-}
-
 /// Lays a colour over pixel `k` of a surface.
 #[inline(always)]
 pub(crate) fn lay_one(surface: &mut [u8], k: usize, colour: Colour)

@@ -14,6 +14,6 @@ mod sixteen;
 mod vectors;
 
 pub use colour::colour_over_area;
-pub use fade::{faded_over, scale_into};
+pub use fade::faded_over;
 pub use rows::rows_over_area;
 pub use sixteen::are_sixteen_opaque;
