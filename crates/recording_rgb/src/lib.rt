@@ -10,4 +10,3 @@ mod parts;
 mod row;
 
 pub use parts::pack_run_in_parts;
-pub use row::{pack_row, pack_run};

@@ -12,8 +12,9 @@ use std::thread::{Threads, join_mut};
 /// The least pixels of a part: fewer are packed before a thread has started.
 const LEAST_PIXELS: usize = 196608;
 
-/// Packs the pixels of a row as `pack_run` does, in so many parts at the most, each by a thread of its own where
-/// it can be started. A part has pixels enough to be worth a thread; where there is one part, none is started.
+/// Packs the pixels of a row from pixel `from` to before pixel `to` where they stand among those of the whole
+/// row; the others are left. They are packed in at most the given number of parts, each by a thread of its own
+/// where it can be started. A part has pixels enough to be worth a thread; where there is one part, none is started.
 pub fn pack_run_in_parts<R: Threads + Sync>(
     rt: &R,
     packed: &mut [u8],

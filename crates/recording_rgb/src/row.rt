@@ -2,7 +2,7 @@
 
 ghost use Rattle.std.specs.Prelude.{◌≡◌, ℕ, ◌+◌, ◌*◌, ◌/◌, ◌%◌, ◌<◌, ◌≤◌, length};
 ghost use Rattle.pixel.specs.Rows.{pixel};
-ghost use Rattle.recording_rgb.specs.Packing.{IsRgb, ArePacked, IsRunPacked};
+ghost use Rattle.recording_rgb.specs.Packing.{IsRgb, ArePacked};
 
 use crate::lanes::{BLOCK, LANES, ROOM, pack_four, pack_sixteen};
 
@@ -19,7 +19,7 @@ fn pack_pixel(packed: &mut [u8], row: &[u8], place: usize)
 }
 
 /// Packs a row of whole pixels: red, green and blue of each pixel, in order.
-pub fn pack_row(packed: &mut [u8], row: &[u8])
+pub(crate) fn pack_row(packed: &mut [u8], row: &[u8])
     requires whole { length row.now % 4 ≡ 0 }
     requires room { length packed.old ≡ 3 * (length row.now / 4) }
     ensures { (k : ℕ) → k < length row.now / 4 → IsRgb (pixel row.now k) k packed.new }
@@ -37,15 +37,4 @@ pub fn pack_row(packed: &mut [u8], row: &[u8])
         pack_pixel(packed, row, place);
         place += 1;
     }
-}
-
-/// Packs the pixels of a row from pixel `from` to before pixel `to` where they stand among those of the whole
-/// row. The others are left.
-pub fn pack_run(packed: &mut [u8], row: &[u8], from: usize, to: usize)
-    requires order { from ≤ to }
-    requires given { 4 * to ≤ length row.now }
-    requires room { 3 * to ≤ length packed.old }
-    ensures { IsRunPacked from to row.now packed.old packed.new }
-{
-    pack_row(&mut packed[3 * from..3 * to], &row[4 * from..4 * to]);
 }
