@@ -122,15 +122,6 @@ impl<'a> SeenTree<'a> {
         rank_on(&borders(script, self.page), side, layer, key)
     }
 
-    /// The rank of a key in the tree of this side; None exactly where the tree lacks the key, or its tile
-    /// has no bin.
-    pub fn rank(&self, script: &Script, side: Side, key: TileKey) -> Option<Rank>
-        ensures { (t : Tree) → IsSeenTree t self.now → result ≡ ranking.rank_in script.now side t key }
-    {
-        self.page.is_page();
-        self.layers_rank(script, side, key)
-    }
-
     /// The keys of its visible tiles, in key order. An error is want of memory.
     pub fn visible(&self, alloc: Global) -> Result<Keys, AllocError>
         ensures { IfOk result (λ keys. (t : Tree) → IsSeenTree t self.now → keys ≡ visible_in t) }
