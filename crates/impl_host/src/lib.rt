@@ -20,5 +20,4 @@ mod seen;
 mod tiles;
 
 pub use host::ImplHost;
-pub use jobs::job_of;
 pub use laws::jobs_show_their_keys;

@@ -18,7 +18,7 @@ ghost use Rattle.impl_host.specs.Hosts.{Hosts, IsTreeAt};
 ghost use Rattle.impl_host.specs.inner.LivePages.{HasPageKey, HasLivePage};
 
 use crate::host::ImplHost;
-use crate::job_of;
+use crate::jobs::job_of;
 use crate::seen::placed_tree;
 use geom::TileKey;
 use impl_trees::TreeState;
