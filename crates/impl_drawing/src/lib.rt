@@ -9,4 +9,3 @@ mod drawing;
 mod tiles;
 
 pub use drawing::{Drawing, draw};
-pub use tiles::shown_tiles;

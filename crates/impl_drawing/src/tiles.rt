@@ -26,7 +26,7 @@ fn shown_tile(manager: &TileManager, near: &mut usize, key: TileKey) -> Result<S
 /// The tiles of these keys, each with its image where it is ready. No pixel is copied. The work of a key that
 /// is ready and stands next to the one before it does not grow with the number of tiles. An error is want of
 /// memory.
-pub fn shown_tiles(
+pub(crate) fn shown_tiles(
     alloc: Global,
     manager: &TileManager,
     keys: &[TileKey],
