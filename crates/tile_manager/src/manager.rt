@@ -10,7 +10,7 @@ ghost use Rattle.tile_priority.specs.Ranks.{rank_cmp};
 ghost use Rattle.tile_priority.specs.Ordered.{IsInOrder, in_order};
 ghost use Rattle.page_layers.specs.declared.moves.Move.{Move};
 ghost use Rattle.tile_queue.specs.Queues.{rank_key};
-ghost use Rattle.tile_store.specs.Stores.{image_of, is_ready, is_in_flight};
+ghost use Rattle.tile_store.specs.Stores.{image_of, is_ready};
 ghost use Rattle.model_history.specs.declared.history.Entry.{Entry};
 ghost use Rattle.model_history.specs.Scripts.{ScriptModel};
 ghost use Rattle.model_history.specs.Accepted.{IsAccepted};
@@ -141,27 +141,13 @@ impl TileManager {
         self.outlook.wanted(&self.store, &self.pins, most)
     }
 
-    /// The image of a key; None exactly where the key is not ready.
-    pub fn image(&self, key: TileKey) -> Option<&Arc<TileImage>>
-        ensures { option_map (λ image. image.now.value) result ≡ image_of self.now.store key }
-    {
-        self.store.ready(key)
-    }
-
-    /// The same. Where keys are asked for in their order, `near` carries the place from one question to the
-    /// next: a key that stands next to the one before it is found without a search. The answer doesn't depend
-    /// on it; 0 is as good a beginning as any.
+    /// The image of a key; None exactly where the key is not ready. Where keys are asked for in their order,
+    /// `near` carries the place from one question to the next: a key that stands next to the one before it is
+    /// found without a search. The answer doesn't depend on it; 0 is as good a beginning as any.
     pub fn image_near(&self, near: &mut usize, key: TileKey) -> Option<&Arc<TileImage>>
         ensures { option_map (λ image. image.now.value) result ≡ image_of self.now.store key }
     {
         self.store.ready_near(near, key)
-    }
-
-    /// Whether the key is being made.
-    pub fn in_flight(&self, key: TileKey) -> bool
-        ensures { result ≡ is_in_flight self.now.store key }
-    {
-        self.store.in_flight(key)
     }
 
     /// Whether the key is not to be given up.
@@ -185,13 +171,6 @@ impl TileManager {
         ensures keys { IfOk result (λ keys. (q : Key) → has_key keys q ≡ is_ready self.now.store q) }
     {
         self.store.ready_keys()
-    }
-
-    /// The keys that are not to be given up.
-    pub fn pins(&self) -> &Pins
-        ensures { result.now ≡ self.now.pinned }
-    {
-        &self.pins
     }
 
     /// How many keys are ready or being made.
