@@ -139,7 +139,6 @@ module _ (s : ScriptModel) (n : ℕ) (h : List Entry) (a w : ℕ) (i : Image) (l
           ∙ ((λ j. not (sym (same_ties key k) j) && holds.in_flight k j)
           ∙ (taken_away (has_key (in_flight h) k) (same_key key k) ∙ sym (has_without (in_flight h) (key ∷ []) k)));
       pinned = holds.pinned;
-      unpinned = holds.unpinned;
       images = images_then (has_key (live_keys s h) key) spare;
       outlook = outlook_then next same;
     }

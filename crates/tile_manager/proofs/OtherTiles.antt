@@ -43,7 +43,6 @@ begins_empty s budget spare queue e same = record {
   ready = λ q. ap is_some (get-empty key_cmp q);
   in_flight = λ q. contains-empty key_cmp q;
   pinned = λ q. refl;
-  unpinned = λ q. contains-empty key_cmp q;
   images = λ q i f. absurd ((none_there q i (sym (get-empty key_cmp q) ∙ f)).1);
   outlook = subst (Alike queue) (no_choice s budget e) same;
 }
@@ -56,7 +55,6 @@ reseen s h g m next holds same foresees = record {
   ready = λ k. holds.ready k ∙ sym (same.ready k);
   in_flight = λ k. holds.in_flight k ∙ sym (same.in_flight k);
   pinned = λ k. holds.pinned k ∙ sym (same.pinned k);
-  unpinned = holds.unpinned;
   images = holds.images;
   outlook = foresees;
 }
@@ -76,7 +74,6 @@ activate_holds s n h a k ms m pins live spare ranks acc legal holds needed lives
       ∙ (sym (has_filter (has_key (keys_of (pending_tree s h))) (ready s h) q) ∙ sym (ap (λ ks. has_key ks q) (activate_ready s n h a k ms acc legal))))));
   in_flight = holds.in_flight;
   pinned = needed;
-  unpinned = holds.unpinned;
   images = λ q i e. holds.images q i (left_some (has_key live q) (image_of m.store q) i (sym (image_of-kept m.store spare q live) ∙ e));
   outlook = same;
 }
@@ -98,7 +95,6 @@ send_holds s n h m a k ms legal holds = record {
   ready = λ q. holds.ready q ∙ sym (ap (λ ks. has_key ks q) (send_ready s n h a k ms legal));
   in_flight = holds.in_flight;
   pinned = holds.pinned;
-  unpinned = holds.unpinned;
   images = holds.images;
   outlook = stays_foreseen s h (send a k ms ∷ h) m.outlook (send_active s n h a k ms legal) (send_pending s n h a k ms legal) (send_choice s n h a k ms legal) holds.outlook;
 }
@@ -110,7 +106,6 @@ roomier s h m spare holds = record {
   ready = holds.ready;
   in_flight = holds.in_flight;
   pinned = holds.pinned;
-  unpinned = holds.unpinned;
   images = holds.images;
   outlook = holds.outlook;
 }

@@ -35,7 +35,6 @@ module _ (s : ScriptModel) (n : ℕ) (h : List Entry) (a w : ℕ) (q : TileKey) 
     not_ready = holds.ready q ∙ (new_key s n h a w q ks legal).0;
     not_in_flight = holds.in_flight q ∙ (new_key s n h a w q ks legal).1;
     evicted_ready = λ k t. holds.ready k ∙ gone_ready s n h a w q ks legal k t;
-    evicted_not_pinned = λ k t. holds.unpinned k;
   }
 
   module _ (queue : Choice) (alike_now : Alike queue (choice s h)) where
@@ -79,7 +78,6 @@ module _ (s : ScriptModel) (n : ℕ) (h : List Entry) (a w : ℕ) (q : TileKey) 
         ∙ (ap (λ b. b && not (has_key ks k)) (holds.ready k) ∙ sym (has_ready_next s n h a w q ks legal k)));
     in_flight = λ k. is_in_flight-started m.store spare k q ks ∙ (λ i. sym (same_ties q k) i || holds.in_flight k i);
     pinned = holds.pinned;
-    unpinned = holds.unpinned;
     images = λ k i e. holds.images k i (left_some (not (has_key ks k)) (image_of m.store k) i (sym (image_of-started m.store spare k q ks) ∙ e));
     outlook = outlook_then next same;
   }

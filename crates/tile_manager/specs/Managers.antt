@@ -9,7 +9,7 @@ use Rattle.tile_priority.specs.Tiles.{Tile}
 use Rattle.tile_priority.specs.Choice.{Choice}
 use Rattle.tile_priority.specs.Alike.{Alike}
 use Rattle.tile_raster.specs.Images.{Image}
-use Rattle.tile_store.specs.Stores.{Store, image_of, is_ready, is_in_flight, is_pinned}
+use Rattle.tile_store.specs.Stores.{Store, image_of, is_ready, is_in_flight}
 use Rattle.model_history.specs.declared.history.Entry.{Entry}
 use Rattle.model_history.specs.Scripts.{ScriptModel}
 use Rattle.model_history.specs.Legal.{Legal}
@@ -76,7 +76,6 @@ pub record HoldsTiles (s : ScriptModel) (m : Managed) (made flying pins : List T
   pub ready : (q : TileKey) → is_ready m.store q ≡ has_key made q
   pub in_flight : (q : TileKey) → is_in_flight m.store q ≡ has_key flying q
   pub pinned : (q : TileKey) → has_key m.pinned q ≡ has_key pins q
-  pub unpinned : (q : TileKey) → is_pinned m.store q ≡ false
   pub images : (q : TileKey) (i : Image) → image_of m.store q ≡ Some i → (i.key ≡ q) × Shows s q i.rect i.list
   pub outlook : Foresees m.outlook c live
 

@@ -1,7 +1,6 @@
 pub mod KeyOrders
 pub mod HeldLists
 pub mod Searches
-pub mod PinLists
 pub mod SlabRows
 pub mod TableSteps
 pub mod Dropped

@@ -9,7 +9,7 @@ use Rattle.std.specs.FinSet.{contains-insert, contains-remove, contains-from_lis
 use Rattle.geom.specs.declared.tile.TileKey.{TileKey}
 use Rattle.geom.specs.KeyOrder.{key_cmp}
 use Rattle.tile_raster.specs.Images.{Image}
-use Rattle.tile_store.specs.Stores.{Store, image_of, is_in_flight, is_pinned, started, done_with, kept, pinned_to}
+use Rattle.tile_store.specs.Stores.{Store, image_of, is_in_flight, started, done_with, kept}
 use Rattle.geom.specs.KeyLists.{has_key, AreDistinct}
 use Rattle.geom.proofs.KeyOrders.{key_total, key_ties}
 use Rattle.geom.proofs.KeyLists.{same_ties, has_key_ties}
@@ -31,9 +31,6 @@ module _ (s : Store) (spare : ℕ) (q : TileKey) where
 
   pub image_of-kept : (live : List TileKey) → image_of (kept s live spare) q ≡ cond (has_key live q) (image_of s q) None
   image_of-kept live = get-retain_keys s.ready (has_key live) q (λ x t. ap (has_key live) (sym (key_ties q x t)))
-
-pub is_pinned-pinned_to : (s : Store) (keys : List TileKey) (q : TileKey) → is_pinned (pinned_to s keys) q ≡ has_key keys q
-is_pinned-pinned_to s keys q = contains-from_list key_total keys q ∙ sym (has_key_ties keys q)
 
 pub len-from_list : (ks : List TileKey) → AreDistinct ks → set.len (set.from_list {R = key_cmp} ks) ≡ length ks
 len-from_list [] n = set.len-empty key_cmp

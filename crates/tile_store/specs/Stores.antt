@@ -14,8 +14,6 @@ pub record Store : Type 0 where
   pub ready : map.FinMap key_cmp Image
   -- the keys whose images are being made
   pub in_flight : set.FinSet key_cmp
-  -- the keys that are not to be given up
-  pub pinned : set.FinSet key_cmp
   -- so many starts need no memory
   pub spare : ℕ
 
@@ -23,10 +21,10 @@ pub record Store : Type 0 where
 abbrev pub store_code : Coded TileKey → Coded Image → Coded Store
 store_code key image =
     code_by
-    (map.FinMap key_cmp Image × (set.FinSet key_cmp × (set.FinSet key_cmp × ℕ)))
-    (coded× (map.code key image) (coded× (set.code key) (coded× (set.code key) coded_ℕ)))
-    (λ s. (s.ready, (s.in_flight, (s.pinned, s.spare))))
-    (λ p. record { ready = p.0; in_flight = p.1.0; pinned = p.1.1.0; spare = p.1.1.1 })
+    (map.FinMap key_cmp Image × (set.FinSet key_cmp × ℕ))
+    (coded× (map.code key image) (coded× (set.code key) coded_ℕ))
+    (λ s. (s.ready, (s.in_flight, s.spare)))
+    (λ p. record { ready = p.0; in_flight = p.1.0; spare = p.1.1 })
     (λ _. refl)
 
 -- the image of a ready key
@@ -39,20 +37,13 @@ is_ready s k = is_some (image_of s k)
 abbrev pub is_in_flight : Store → TileKey → Bool
 is_in_flight s k = set.contains s.in_flight k
 
-abbrev pub is_pinned : Store → TileKey → Bool
-is_pinned s k = set.contains s.pinned k
-
 -- how many keys are ready or in flight
 abbrev pub used : Store → ℕ
 used s = map.len s.ready + set.len s.in_flight
 
--- no key is held or pinned
+-- no key is held
 abbrev pub empty_store : ℕ → Store
-empty_store spare = record { ready = map.empty; in_flight = set.empty; pinned = set.empty; spare = spare }
-
--- exactly these keys are pinned
-abbrev pub pinned_to : Store → List TileKey → Store
-pinned_to s keys = record s { pinned = set.from_list keys }
+empty_store spare = record { ready = map.empty; in_flight = set.empty; spare = spare }
 
 -- the key may start where these keys are given up for it
 pub record MayStart (s : Store) (key : TileKey) (evicted : List TileKey) : Type 0 where
@@ -60,7 +51,6 @@ pub record MayStart (s : Store) (key : TileKey) (evicted : List TileKey) : Type 
   pub not_ready : is_ready s key ≡ false
   pub not_in_flight : is_in_flight s key ≡ false
   pub evicted_ready : (k : TileKey) → has_key evicted k ≡ true → is_ready s k ≡ true
-  pub evicted_not_pinned : (k : TileKey) → has_key evicted k ≡ true → is_pinned s k ≡ false
 
 -- the key is in flight, and the evicted keys are not ready
 abbrev pub started : Store → TileKey → List TileKey → ℕ → Store

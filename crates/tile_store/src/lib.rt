@@ -1,5 +1,4 @@
-//! The tiles that the compositor has: those whose images are ready, those whose images are being made, and
-//! the keys that are not to be given up.
+//! The tiles that the compositor has: those whose images are ready, and those whose images are being made.
 //!
 //! Keys stand in their order in one list, each with the place of its tile in a slab, so a look-up is a
 //! binary search. `reserve` takes the memory of one later start; neither that start nor the tile's end
@@ -7,7 +6,6 @@
 #![tactic(auto)]
 
 mod held;
-mod pins;
 mod ready_keys;
 mod search;
 mod store;

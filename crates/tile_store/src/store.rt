@@ -1,10 +1,9 @@
 //! The tile store.
 
-ghost use Rattle.std.specs.Prelude.{◌≡◌, ◌≤◌, ◌+◌, true, if◌then◌else◌, is_ok, IfOk, OnOk, OnErr, option_map};
+ghost use Rattle.std.specs.Prelude.{◌≡◌, ◌≤◌, ◌+◌, true, IfOk, OnOk, OnErr, option_map};
 ghost use Rattle.std.specs.FinMap as map;
-ghost use Rattle.tile_store.specs.Stores.{image_of, is_in_flight, is_pinned, used, empty_store, pinned_to, MayStart, started, done_with, kept};
+ghost use Rattle.tile_store.specs.Stores.{image_of, is_in_flight, used, empty_store, MayStart, started, done_with, kept};
 
-use crate::pins::Pins;
 use crate::ready_keys::ReadyKeys;
 use crate::tile_table::TileTable;
 use geom::{Keys, TileKey};
@@ -13,14 +12,13 @@ use std::marker::Model;
 use std::sync::Arc;
 use tile_raster::TileImage;
 
-/// The tiles that the compositor has: the ready keys with their images, the keys in flight, whose images
-/// are being made, and the pinned keys.
+/// The tiles that the compositor has: the ready keys with their images, and the keys in flight, whose images
+/// are being made.
 ///
 /// Contracts also see a number, `spare`: so many starts need no memory.
 #[derive(Drop)]
 pub struct TileStore {
     table: TileTable,
-    pins: Pins,
     alloc: Global,
 }
 
@@ -37,7 +35,6 @@ impl Model for TileStore {
     ghost view = { λ s. record {
       ready = ready_of s.table.held;
       in_flight = flying_of s.table.held;
-      pinned = s.pins;
       spare = s.table.spare;
     } };
 }
@@ -49,7 +46,6 @@ impl TileStore {
     {
         TileStore {
             table: TileTable::new(alloc),
-            pins: Pins::new(alloc),
             alloc,
         }
     }
@@ -63,15 +59,6 @@ impl TileStore {
         ensures refused { OnErr result (self.new ≡ self.old) }
     {
         self.table.reserve()
-    }
-
-    /// Pins exactly these keys, in whatever order they stand. An error is want of memory: the store is as
-    /// it was.
-    pub fn pin(&mut self, keys: &Keys) -> Result<(), AllocError>
-        ensures { self.new ≡ (if is_ok result then pinned_to self.old keys.now else self.old) }
-    {
-        self.pins = Pins::of(self.alloc, keys)?;
-        Ok(())
     }
 
     /// The ready keys, in their order. An error is want of memory.
@@ -89,7 +76,7 @@ impl TileStore {
     }
 
     /// Starts `key`: it is in flight, and the evicted keys are not ready. There must be room, the key must
-    /// be neither ready nor in flight, and the evicted keys ready and not pinned. Takes no memory.
+    /// be neither ready nor in flight, and the evicted keys ready. Takes no memory.
     pub fn start(&mut self, key: TileKey, evicted: &Keys)
         requires { MayStart self.old key evicted.now }
         ensures store { self.new ≡ started self.old key evicted.now self.new.spare }
@@ -150,13 +137,6 @@ impl TileStore {
             Some(tile) => tile.image.is_none(),
             None => false,
         }
-    }
-
-    /// Whether the key is pinned.
-    pub fn pinned(&self, key: TileKey) -> bool
-        ensures { result ≡ is_pinned self.now key }
-    {
-        self.pins.has(key)
     }
 
     /// How many keys are ready or in flight.

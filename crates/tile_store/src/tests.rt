@@ -10,18 +10,15 @@ use std::sync::Arc;
 use tile_raster::{Job, TileImage};
 
 #[test]
-fn one_tile_is_started_done_and_pinned(rt: HostRuntime) -> Result<(), AllocError> {
+fn one_tile_is_started_and_done(rt: HostRuntime) -> Result<(), AllocError> {
     let mut store = TileStore::new(rt.alloc());
     start(&rt, rt.alloc(), &mut store, key(1))?;
     assert!(rt; store.in_flight(key(1)));
     assert!(rt; store.ready(key(1)).is_none());
     done(&rt, rt.alloc(), &mut store, key(1), true)?;
-    let pins = keys(rt.alloc(), &[key(1)])?;
-    store.pin(&pins)?;
     assert_eq!(rt; store.ready_keys()?.as_slice(), [key(1)].as_slice());
     assert_eq!(rt; store.ready(key(1)).map(|image| image.key()), Some(key(1)));
     assert_eq!(rt; store.used(), 1);
-    assert!(rt; store.pinned(key(1)));
     assert!(rt; !store.in_flight(key(1)));
     Ok(())
 }
@@ -51,19 +48,6 @@ fn each_step_agrees_with_a_plain_list(rt: HostRuntime) -> Result<(), AllocError>
         }
         compare(&rt, &store, &plain)?;
     }
-    Ok(())
-}
-
-#[test]
-fn pins_are_exactly_the_last_ones(rt: HostRuntime) -> Result<(), AllocError> {
-    let mut store = TileStore::new(rt.alloc());
-    let pins = keys(rt.alloc(), &[key(9), key(2), key(9), key(4)])?;
-    store.pin(&pins)?;
-    assert!(rt; store.pinned(key(9)) && store.pinned(key(2)) && store.pinned(key(4)));
-    let pins = keys(rt.alloc(), &[key(3)])?;
-    store.pin(&pins)?;
-    assert!(rt; store.pinned(key(3)) && !store.pinned(key(9)) && !store.pinned(key(2)));
-    assert_eq!(rt; store.used(), 0);
     Ok(())
 }
 
@@ -185,7 +169,6 @@ fn start_over(
     assert!(rt; store.ready(key).is_none());
     assert!(rt; !store.in_flight(key));
     assert!(rt; store.ready(old).is_some());
-    assert!(rt; !store.pinned(old));
     store.start(key, &evicted);
     Ok(())
 }

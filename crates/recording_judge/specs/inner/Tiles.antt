@@ -40,7 +40,7 @@ held_keys (Some q ∷ os) = q ∷ held_keys os
 
 -- a store without images that is making these keys
 abbrev pub store_of : List TileKey → Store
-store_of ks = record { ready = map.empty; in_flight = set.from_list ks; pinned = set.empty; spare = 0 }
+store_of ks = record { ready = map.empty; in_flight = set.from_list ks; spare = 0 }
 
 -- all of so many workers hold nothing
 abbrev pub AreFree : ℕ → List (Option TileKey) → Type 0

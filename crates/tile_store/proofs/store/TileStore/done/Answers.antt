@@ -22,9 +22,9 @@ returns-then-live-clause-store c =
     let spare = c.set.new.self.spare in
     let ready = ap ready_of c.set.ensures.held ∙ done_ready m image.key image in
     let flying = ap flying_of c.set.ensures.held ∙ done_flying m image.key image in
-    let made : ◌≡◌ {A = Store} (record { ready = ready_of c.set.new.self.held; in_flight = flying_of c.set.new.self.held; pinned = c.self.inside.pins; spare = spare })
-    (record { ready = fin.insert (ready_of m) image.key image; in_flight = set.remove (flying_of m) image.key; pinned = c.self.inside.pins; spare = spare })
-    = λ i. record { ready = ready i; in_flight = flying i; pinned = c.self.inside.pins; spare = spare } in
+    let made : ◌≡◌ {A = Store} (record { ready = ready_of c.set.new.self.held; in_flight = flying_of c.set.new.self.held; spare = spare })
+    (record { ready = fin.insert (ready_of m) image.key image; in_flight = set.remove (flying_of m) image.key; spare = spare })
+    = λ i. record { ready = ready i; in_flight = flying i; spare = spare } in
     made ∙ ap (λ s. done_with s image true spare) c.self.view_is ∙ ap (λ b. done_with c.args.self.now image b spare) (sym c.if-live.true)
 
 pub returns-else-live-clause-store : goal.returns-else-live-clause-store
@@ -37,7 +37,7 @@ returns-else-live-clause-store c =
     let flies = sym (contains_flying m image.key) ∙ subst (λ s. is_in_flight s image.key ≡ true) (sym c.self.view_is) c.requires in
     let ready = ap ready_of held ∙ dropped_ready m image.key flies in
     let flying = ap flying_of held ∙ dropped_flying m image.key in
-    let made : ◌≡◌ {A = Store} (record { ready = ready_of c.remove.new.self.held; in_flight = flying_of c.remove.new.self.held; pinned = c.self.inside.pins; spare = spare })
-    (record { ready = ready_of m; in_flight = set.remove (flying_of m) image.key; pinned = c.self.inside.pins; spare = spare })
-    = λ i. record { ready = ready i; in_flight = flying i; pinned = c.self.inside.pins; spare = spare } in
+    let made : ◌≡◌ {A = Store} (record { ready = ready_of c.remove.new.self.held; in_flight = flying_of c.remove.new.self.held; spare = spare })
+    (record { ready = ready_of m; in_flight = set.remove (flying_of m) image.key; spare = spare })
+    = λ i. record { ready = ready i; in_flight = flying i; spare = spare } in
     made ∙ ap (λ s. done_with s image false spare) c.self.view_is ∙ ap (λ b. done_with c.args.self.now image b spare) (sym c.if-live.false)

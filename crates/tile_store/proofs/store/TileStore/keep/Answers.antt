@@ -17,7 +17,7 @@ returns-clause-store c =
     let left = subst (λ keys. (q : TileKey) → fin.get new q ≡ if_live (has_key keys q) (fin.get m q)) c.as_slice.ensures c.keep.ensures.held in
     let ready = kept_ready m new live left in
     let flying = kept_flying m new live left in
-    let made : ◌≡◌ {A = Store} (record { ready = ready_of new; in_flight = flying_of new; pinned = c.self.inside.pins; spare = spare })
-    (record { ready = fin.retain_keys (ready_of m) (has_key live); in_flight = flying_of m; pinned = c.self.inside.pins; spare = spare })
-    = λ i. record { ready = ready i; in_flight = flying i; pinned = c.self.inside.pins; spare = spare } in
+    let made : ◌≡◌ {A = Store} (record { ready = ready_of new; in_flight = flying_of new; spare = spare })
+    (record { ready = fin.retain_keys (ready_of m) (has_key live); in_flight = flying_of m; spare = spare })
+    = λ i. record { ready = ready i; in_flight = flying i; spare = spare } in
     made ∙ ap (λ s. kept s live spare) c.self.view_is

@@ -12,4 +12,4 @@ pub returns : goal.returns
 returns c =
     let ready : ready_of c.new.result.held ≡ fin.empty {R = key_cmp} = ap ready_of c.new.ensures ∙ ready_empty Image in
     let flying : flying_of c.new.result.held ≡ set.empty {R = key_cmp} = ap flying_of c.new.ensures ∙ flying_empty Image in
-    λ i. record { ready = ready i; in_flight = flying i; pinned = c.new-2.ensures i; spare = c.new.result.spare }
+    λ i. record { ready = ready i; in_flight = flying i; spare = c.new.result.spare }

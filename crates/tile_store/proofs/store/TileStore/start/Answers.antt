@@ -35,7 +35,7 @@ returns-clause-store c =
     let left = subst (λ keys. (q : TileKey) → fin.get c.remove_all.new.self.held q ≡ if_not_named (has_key keys q) (fin.get m q)) c.as_slice.ensures c.remove_all.ensures.held in
     let ready = started_ready m c.remove_all.new.self.held new key c.args.evicted.now left c.put.ensures.held none in
     let flying = started_flying m c.remove_all.new.self.held new key c.args.evicted.now left c.put.ensures.held may.evicted_ready in
-    let made : ◌≡◌ {A = Store} (record { ready = ready_of new; in_flight = flying_of new; pinned = c.self.inside.pins; spare = c.put.new.self.spare })
-    (record { ready = fin.retain_keys (ready_of m) (λ k. not (has_key c.args.evicted.now k)); in_flight = set.insert (flying_of m) key; pinned = c.self.inside.pins; spare = c.put.new.self.spare })
-    = λ i. record { ready = ready i; in_flight = flying i; pinned = c.self.inside.pins; spare = c.put.new.self.spare } in
+    let made : ◌≡◌ {A = Store} (record { ready = ready_of new; in_flight = flying_of new; spare = c.put.new.self.spare })
+    (record { ready = fin.retain_keys (ready_of m) (λ k. not (has_key c.args.evicted.now k)); in_flight = set.insert (flying_of m) key; spare = c.put.new.self.spare })
+    = λ i. record { ready = ready i; in_flight = flying i; spare = c.put.new.self.spare } in
     made ∙ ap (λ s. started s key c.args.evicted.now c.put.new.self.spare) c.self.view_is
