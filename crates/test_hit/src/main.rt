@@ -18,36 +18,10 @@ mod asks;
 mod fault;
 mod table;
 
-use crate::table::{Tally, ask_table};
-use std::io;
+use crate::table::Questions;
 use std::process::ExitCode;
-
-/// Tells how many questions there were, and whether all were answered as the table says.
-fn tell(rt: &HostRuntime, tally: &Tally) -> io::Result<bool> {
-    println!(rt; "{} pages, {} questions", tally.pages, tally.questions)?;
-    if let Some(line) = tally.first_wrong {
-        eprintln!(rt;
-            "{} questions are answered otherwise, the first at line {line}",
-            tally.wrong
-        )?;
-        return Ok(false);
-    }
-    Ok(true)
-}
+use test_table::check_table;
 
 fn main(rt: HostRuntime) -> ExitCode {
-    let Ok(text) = io::read_to_string(rt.alloc(), rt.reader()) else {
-        let _ = rt.eprintln("the table could not be read");
-        return ExitCode::from(1);
-    };
-    match ask_table(&rt, rt.alloc(), text.as_str()) {
-        Ok(tally) => match tell(&rt, &tally) {
-            Ok(true) => ExitCode::from(0),
-            _ => ExitCode::from(1),
-        },
-        Err((line, fault)) => {
-            let _ = rt.eprintln(format_args!("line {line}: {fault}"));
-            ExitCode::from(1)
-        }
-    }
+    check_table(&rt, &mut Questions::new(rt.alloc()))
 }

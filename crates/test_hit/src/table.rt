@@ -6,26 +6,20 @@ use geom::Point;
 use page_layers::LayerTree;
 use script_json::read_script;
 use std::alloc::Global;
-
-/// What was counted.
-#[derive(Clone, Copy)]
-pub struct Tally {
-    /// How many pages the table has.
-    pub pages: usize,
-    /// How many questions about them.
-    pub questions: usize,
-    /// How many got another answer.
-    pub wrong: usize,
-    /// The line of the first of these.
-    pub first_wrong: Option<usize>,
-}
+use std::io;
+use test_table::{Table, Tally};
 
 /// What was read of the table so far.
 #[derive(Drop)]
-struct Table {
+pub(crate) struct Questions {
     alloc: Global,
     /// The page of the script above.
     page: Option<LayerTree>,
+    /// How many pages the table has.
+    pages: usize,
+    /// How many questions about them.
+    count: usize,
+    /// The questions that got another answer.
     tally: Tally,
 }
 
@@ -77,37 +71,30 @@ fn question(text: &str) -> Result<Question, RowFault> {
     }
 }
 
-impl Tally {
-    /// Nothing was counted.
-    const NONE: Tally = Tally {
-        pages: 0,
-        questions: 0,
-        wrong: 0,
-        first_wrong: None,
-    };
-
-    /// Counts a question at this line that got another answer.
-    fn count_wrong(&mut self, line: usize) {
-        self.wrong = self.wrong.saturating_add(1);
-        if self.first_wrong.is_none() {
-            self.first_wrong = Some(line);
+impl Questions {
+    /// Nothing was read.
+    pub(crate) fn new(alloc: Global) -> Questions {
+        Questions {
+            alloc,
+            page: None,
+            pages: 0,
+            count: 0,
+            tally: Tally::NONE,
         }
     }
-}
 
-impl Table {
     /// Takes a line with a script, whose page after all its main frames is asked about.
     fn take_script(&mut self, text: &str) -> Result<(), RowFault> {
         let Ok(script) = read_script(self.alloc, text.as_bytes()) else {
             return Err(RowFault::NoScript);
         };
         self.page = Some(script.page(self.alloc)?);
-        self.tally.pages = self.tally.pages.saturating_add(1);
+        self.pages = self.pages.saturating_add(1);
         Ok(())
     }
 
     /// Takes a line with a question and its answer, and tells where another one came.
-    fn take_question<R: Print>(&mut self, rt: &R, line: usize, text: &str) -> Result<(), RowFault> {
+    fn take_question(&mut self, rt: &HostRuntime, line: usize, text: &str) -> Result<(), RowFault> {
         let (asked, wanted) = text.split_once(" => ").ok_or(RowFault::NoForm)?;
         let Some(page) = &self.page else {
             return Err(RowFault::NothingAbove);
@@ -116,38 +103,35 @@ impl Table {
             return Err(RowFault::NoForm);
         }
         let told = answer(self.alloc, page, question(asked)?)?;
-        self.tally.questions = self.tally.questions.saturating_add(1);
+        self.count = self.count.saturating_add(1);
         if told.as_str() != wanted {
             let _ = rt.println(format_args!("line {line}: {asked}: {told} for {wanted}"));
             self.tally.count_wrong(line);
         }
         Ok(())
     }
+}
 
-    /// Takes a line.
-    fn take<R: Print>(&mut self, rt: &R, line: usize, text: &str) -> Result<(), RowFault> {
-        if text.is_empty() || text.starts_with('#') {
-            return Ok(());
-        }
+impl Table<HostRuntime> for Questions {
+    type Fault = RowFault;
+
+    fn take(&mut self, rt: &HostRuntime, line: usize, text: &str) -> Result<(), RowFault> {
         match text.strip_prefix("script: ") {
             Some(script) => self.take_script(script),
             None => self.take_question(rt, line, text),
         }
     }
-}
 
-/// Asks the questions of a table. An error tells the line that can't be read.
-pub fn ask_table<R: Print>(rt: &R, alloc: Global, text: &str) -> Result<Tally, (usize, RowFault)> {
-    let mut table = Table {
-        alloc,
-        page: None,
-        tally: Tally::NONE,
-    };
-    for (index, line) in text.lines().enumerate() {
-        let number = index.saturating_add(1);
-        if let Err(fault) = table.take(rt, number, line) {
-            return Err((number, fault));
-        }
+    fn end(&mut self, rt: &HostRuntime) -> Result<(), RowFault> {
+        let _ = rt;
+        Ok(())
     }
-    Ok(table.tally)
+
+    fn tally(&self) -> Tally {
+        self.tally
+    }
+
+    fn tell(&self, rt: &HostRuntime) -> io::Result<()> {
+        println!(rt; "{} pages, {} questions", self.pages, self.count)
+    }
 }
