@@ -4,8 +4,8 @@
 //! - [`Source`] gives bytes, [`Sink`] takes them, [`Gate`] is a place at which a worker passes.
 //! - [`MemSource`] and [`MemSink`] keep the bytes in memory and fail exactly at the calls that they
 //!   were told, so that every answer of a caller can be tried.
-//! - [`StdSource`] and [`StdSink`] stand before std's `Read` and `Write`. No proof can know what a
-//!   file gives or takes: they are the trusted edge.
+//! - [`StdSource`] and [`StdSink`] stand before std's `Read` and `Write`, and tell the bytes that these
+//!   tell. No proof can know what a file gives or takes: before files they are the trusted edge.
 //!
 //! For clauses a source tells what it has left and a sink what it holds, where these are known, and
 //! both count their faults: an answer of a fault is given only where the count rose.

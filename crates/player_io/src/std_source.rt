@@ -1,43 +1,50 @@
 //! A source over std's `Read`.
-ghost use Rattle.std.specs.Prelude.{◌≡◌};
+ghost use Rattle.std.specs.Prelude.{◌≡◌, ◌≤◌, OnErr, is_err};
+ghost use Rattle.std.specs.Io.{ReadsAtMost};
+ghost use Rattle.std.specs.Io.KnownBytes.{ReadConsumes};
+ghost use Rattle.player_io.specs.Counts.{Rose, raised_if};
 
 use crate::reading::{Failed, Source};
 use std::io::{ErrorKind, Read};
 
-/// A source over a reader. It tells nothing of the bytes.
+/// A source over a reader. It tells the bytes that the reader tells.
 #[derive(Drop)]
 pub struct StdSource<R> {
     reader: R,
-    /// How many calls of the reader answered `Err`.
-    errors: u64,
+    /// How many reads failed. An interrupted call that was repeated is no fault.
+    faults: u64,
 }
 
 impl<R: Read> StdSource<R> {
     /// A source that gives what `reader` gives.
     pub fn new(reader: R) -> StdSource<R>
-        ensures { (result.reader ≡ reader) × (result.errors ≡ 0) }
+        ensures { (result.reader ≡ reader) × (result.faults ≡ 0) }
     {
-        StdSource { reader, errors: 0 }
+        StdSource { reader, faults: 0 }
     }
 }
 
 impl<R: Read> Source for StdSource<R> {
-    ghost faults = { λ s. s.errors };
+    ghost left = { λ s. R.remaining s.reader };
+
+    ghost faults = { λ s. s.faults };
 
     /// Reads again where the reader was interrupted.
-    fn read(&mut self, buf: &mut [u8]) -> Result<usize, Failed> {
+    fn read(&mut self, buf: &mut [u8]) -> Result<usize, Failed>
+        ensures bound { ReadsAtMost result buf.new }
+        ensures bytes { ReadConsumes (R.remaining self.old.reader) (R.remaining self.new.reader) result buf.new }
+        ensures grows { self.old.faults ≤ self.new.faults }
+        ensures cause { OnErr result (Rose self.old.faults self.new.faults) }
+        ensures count { self.new.faults ≡ raised_if (is_err result) self.old.faults }
+    {
         for _ in 0..u64::MAX {
             match self.reader.read(buf) {
                 Ok(count) => return Ok(count),
-                Err(error) => {
-                    self.errors = self.errors.saturating_add(1);
-                    if error.kind() != ErrorKind::Interrupted {
-                        return Err(Failed);
-                    }
-                }
+                Err(error) if error.kind() == ErrorKind::Interrupted => {}
+                Err(_) => break,
             }
         }
-        self.errors = self.errors.saturating_add(1);
+        self.faults = self.faults.saturating_add(1);
         Err(Failed)
     }
 }

@@ -1,6 +1,10 @@
-use Rattle.std.proofs.Common.{◌≤◌}
+-- What was written and what is left are the piece.
+use Rattle.std.proofs.Common.{◌≡◌, ℕ, List, ◌++◌}
+use Rattle.std.specs.Io.KnownBytes.{Appends}
 use Rattle.player_io.proofs.std_sink.StdSinkSink.put.Given as goal
 
--- the count does not fall
 abbrev pub invariant-loop : goal.invariant-loop
-invariant-loop g l = l.fn.self.errors ≤ l.self.errors
+invariant-loop g l =
+    (done : List ℕ) × (done ++ l.rest ≡ l.piece)
+    × Appends (g.W.Write.contents l.fn.self.writer) (g.W.Write.contents l.self.writer) done
+    × (l.self.faults ≡ l.fn.self.faults)

@@ -1,6 +1,9 @@
-use Rattle.std.proofs.Common.{◌≤◌}
+-- Interrupted calls took nothing and are no faults.
+use Rattle.std.proofs.Common.{◌≡◌}
+use Rattle.std.specs.Io.KnownBytes.{Keeps}
 use Rattle.player_io.proofs.std_source.StdSourceSource.read.Given as goal
 
--- the count does not fall
 abbrev pub invariant-loop : goal.invariant-loop
-invariant-loop g l = l.fn.self.errors ≤ l.self.errors
+invariant-loop g l =
+    Keeps (g.R.Read.remaining l.fn.self.reader) (g.R.Read.remaining l.self.reader)
+    × (l.self.faults ≡ l.fn.self.faults)
