@@ -1,5 +1,5 @@
 //! A source in memory.
-ghost use Rattle.std.specs.Prelude.{Some, ◌≡◌, ◌≤◌, ◌-◌, drop, take, length, min, is_err, OnErr, IfOk, vec_len};
+ghost use Rattle.std.specs.Prelude.{Some, ◌≡◌, ◌≤◌, ◌-◌, drop, take, length, min, is_err, false, OnErr, IfOk, vec_len};
 ghost use Rattle.std.specs.Io.{ReadsAtMost};
 ghost use Rattle.std.specs.Io.KnownBytes.{ReadConsumes};
 ghost use Rattle.player_io.specs.Counts.{Rose, raised, raised_if, is_numbered};
@@ -19,6 +19,8 @@ pub struct MemSource {
     /// The number of the next call.
     calls: u64,
     faults: u64,
+    /// Whether the last call failed.
+    failed: bool,
     ghost within: { given ≤ vec_len bytes },
     ghost moves: { 1 ≤ step },
 }
@@ -40,7 +42,7 @@ impl MemSource {
         requires { 1 ≤ step }
         ensures bytes { (result.bytes ≡ bytes) × (result.given ≡ 0) }
         ensures told { (result.step ≡ step) × (result.fails ≡ fails) }
-        ensures counts { (result.calls ≡ 0) × (result.faults ≡ 0) }
+        ensures counts { (result.calls ≡ 0) × (result.faults ≡ 0) × (result.failed ≡ false) }
     {
         MemSource {
             bytes,
@@ -49,6 +51,7 @@ impl MemSource {
             fails,
             calls: 0,
             faults: 0,
+            failed: false,
         }
     }
 }
@@ -58,6 +61,8 @@ impl Source for MemSource {
 
     ghost faults = { λ s. s.faults };
 
+    ghost has_failed = { λ s. s.failed };
+
     #[tactic(auto, using(crate::proofs::Fronts::drop_more))]
     fn read(&mut self, buf: &mut [u8]) -> Result<usize, Failed>
         ensures bound { ReadsAtMost result buf.new }
@@ -65,14 +70,16 @@ impl Source for MemSource {
         ensures grows { self.old.faults ≤ self.new.faults }
         ensures cause { OnErr result (Rose self.old.faults self.new.faults) }
         ensures exactly { is_err result ≡ is_numbered self.old.calls self.old.fails.items }
-        ensures count { self.new.faults ≡ raised_if (is_numbered self.old.calls self.old.fails.items) self.old.faults }
+        ensures count { self.new.faults ≡ raised_if (is_err result) self.old.faults }
+        ensures last { self.new.failed ≡ is_err result }
         ensures number { self.new.calls ≡ raised self.old.calls }
         ensures most { IfOk result (λ n. n ≡ min (min (vec_len self.old.bytes - self.old.given) (length buf.old)) self.old.step) }
         ensures same { (self.new.bytes ≡ self.old.bytes) × (self.new.step ≡ self.old.step) × (self.new.fails ≡ self.old.fails) }
     {
         let number = self.calls;
         self.calls = number.saturating_add(1);
-        if self.fails.contains(&number) {
+        self.failed = self.fails.contains(&number);
+        if self.failed {
             self.faults = self.faults.saturating_add(1);
             return Err(Failed);
         }

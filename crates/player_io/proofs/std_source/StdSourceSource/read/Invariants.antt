@@ -1,5 +1,5 @@
 -- Interrupted calls took nothing and are no faults.
-use Rattle.std.proofs.Common.{◌≡◌}
+use Rattle.std.proofs.Common.{◌≡◌, false}
 use Rattle.std.specs.Io.KnownBytes.{Keeps}
 use Rattle.player_io.proofs.std_source.StdSourceSource.read.Given as goal
 
@@ -7,3 +7,4 @@ abbrev pub invariant-loop : goal.invariant-loop
 invariant-loop g l =
     Keeps (g.R.Read.remaining l.fn.self.reader) (g.R.Read.remaining l.self.reader)
     × (l.self.faults ≡ l.fn.self.faults)
+    × (l.self.failed ≡ false)
