@@ -8,3 +8,9 @@ pub mod PaintedRuns
 pub mod RightPieces
 pub mod JudgedPieces
 pub mod LegalRecordings
+pub mod KeysFit
+pub mod MovesFit
+pub mod InputsFit
+pub mod LegalEvents
+pub mod WrittenRuns
+pub mod OnePlaces
