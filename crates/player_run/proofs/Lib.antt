@@ -13,3 +13,4 @@ pub mod BeginsOfRuns
 pub mod EndsOfRuns
 pub mod PlayedRuns
 pub mod ScriptsActed
+pub mod WrittenWholes

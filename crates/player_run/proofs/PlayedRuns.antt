@@ -1,6 +1,7 @@
 -- The recording of a run of actors is one of a history that keeps what is promised.
 use Rattle.std.proofs.Common.{◌≡◌, inl, inr, ℕ, true, List, [], ◌∷◌, ◌++◌, reverse, refl, sym, ◌∙◌, ap, subst}
 use Rattle.std.specs.Prelude.{Option, Some, None, MatchOption}
+use Rattle.model_history.specs.Accepted.{IsAccepted}
 use Rattle.model_history.specs.declared.event.Event.{Event}
 use Rattle.model_history.specs.declared.event.Event.TheVariants as event
 use Rattle.model_history.specs.declared.history.Entry.{Entry}
@@ -65,7 +66,7 @@ recording_is : (s : ScriptModel) (es : List Entry) → header (script_text s) ++
 unfolding part recording recorded
 recording_is s es = ap (λ (xs : List Entry). header (script_text s) ++ pieces s [] xs) (entries_pairs es)
 
-module _ (s : ScriptModel) (workers : ℕ) (before : List ℕ) (lines : before ≡ header (script_text s)) (r : Run) (at : IsRunAt (record { script = s; workers = workers }) r) where
+module _ (s : ScriptModel) (workers : ℕ) (accepted : IsAccepted s) (before : List ℕ) (lines : before ≡ header (script_text s)) (r : Run) (at : IsRunAt (record { script = s; workers = workers }) r) where
   legal_is : IsLegal s workers r.entries
   legal_is = subst (λ (z : Origin). Legal z.script z.workers (past r)) (sym at.origin) at.legal
 
@@ -75,7 +76,7 @@ module _ (s : ScriptModel) (workers : ℕ) (before : List ℕ) (lines : before �
       ∙ (ap (λ (z : Origin). header (script_text s) ++ part z.script [] (pairs r.entries)) (sym at.origin) ∙ recording_is s r.entries)
 
   sound_is : IsSound s workers r.entries
-  sound_is = sound_of s workers r.entries legal_is
+  sound_is = sound_of s workers r.entries accepted legal_is
 
   up_to : IsPlayUpTo workers s (before ++ part r.script [] (pairs r.entries))
   up_to = (r.entries, sound_is, whole_is)
@@ -83,25 +84,25 @@ module _ (s : ScriptModel) (workers : ℕ) (before : List ℕ) (lines : before �
   play_is : is_played r.entries ≡ true → IsPlayOf workers s (before ++ part r.script [] (pairs r.entries))
   play_is is = (r.entries, record { sound = sound_is; ends = ends_of s workers r.entries legal_is is }, whole_is)
 
-pub plays_script : (s : ScriptModel) (workers : ℕ) (before : List ℕ) (old new : Option (List ℕ)) (o : Outcome) → before ≡ header (script_text s) → PlayEnds (record { script = s; workers = workers }) before old new o
+pub plays_script : (s : ScriptModel) (workers : ℕ) → IsAccepted s → (before : List ℕ) (old new : Option (List ℕ)) (o : Outcome) → before ≡ header (script_text s) → PlayEnds (record { script = s; workers = workers }) before old new o
     → WritesOrBegins (IsPlayOf workers s) (IsPlayUpTo workers s) old new o
-plays_script s workers before old new Done lines (r, at, is, gains) = (before ++ part r.script [] (pairs r.entries), play_is s workers before lines r at is, gains)
-plays_script s workers before old new WriteFault lines (r, at, gains) = (before ++ part r.script [] (pairs r.entries), up_to s workers before lines r at, gains)
-plays_script s workers before old new Memory lines (r, at, gains) = inr (before ++ part r.script [] (pairs r.entries), up_to s workers before lines r at, gains)
-plays_script s workers before old new (Usage word) lines ends = absurd ends
-plays_script s workers before old new Json lines ends = absurd ends
-plays_script s workers before old new (Shape fault) lines ends = absurd ends
-plays_script s workers before old new (Script frame command why) lines ends = absurd ends
-plays_script s workers before old new ReadFault lines ends = absurd ends
-plays_script s workers before old new (TooLong limit) lines ends = absurd ends
-plays_script s workers before old new (BadRecording place) lines ends = absurd ends
-plays_script s workers before old new (No event) lines ends = absurd ends
+plays_script s workers accepted before old new Done lines (r, at, is, gains) = (before ++ part r.script [] (pairs r.entries), play_is s workers accepted before lines r at is, gains)
+plays_script s workers accepted before old new WriteFault lines (r, at, gains) = (before ++ part r.script [] (pairs r.entries), up_to s workers accepted before lines r at, gains)
+plays_script s workers accepted before old new Memory lines (r, at, gains) = inr (before ++ part r.script [] (pairs r.entries), up_to s workers accepted before lines r at, gains)
+plays_script s workers accepted before old new (Usage word) lines ends = absurd ends
+plays_script s workers accepted before old new Json lines ends = absurd ends
+plays_script s workers accepted before old new (Shape fault) lines ends = absurd ends
+plays_script s workers accepted before old new (Script frame command why) lines ends = absurd ends
+plays_script s workers accepted before old new ReadFault lines ends = absurd ends
+plays_script s workers accepted before old new (TooLong limit) lines ends = absurd ends
+plays_script s workers accepted before old new (BadRecording place) lines ends = absurd ends
+plays_script s workers accepted before old new (No event) lines ends = absurd ends
 
 -- the same where they may not have been started
-pub threads_play : (X : Type 0) (s : ScriptModel) (workers : ℕ) (before : List ℕ) (stem : Option Origin) (old new : Option (List ℕ)) (r : Option Outcome) → before ≡ header (script_text s) → stem ≡ Some (record { script = s; workers = workers })
+pub threads_play : (X : Type 0) (s : ScriptModel) (workers : ℕ) → IsAccepted s → (before : List ℕ) (stem : Option Origin) (old new : Option (List ℕ)) (r : Option Outcome) → before ≡ header (script_text s) → stem ≡ Some (record { script = s; workers = workers })
     → MatchOption r X (λ outcome. (o : Origin) → stem ≡ Some o → PlayEnds o before old new outcome) → MatchOption r X (WritesOrBegins (IsPlayOf workers s) (IsPlayUpTo workers s) old new)
-threads_play X s workers before stem old new None lines is ends = ends
-threads_play X s workers before stem old new (Some outcome) lines is ends = plays_script s workers before old new outcome lines (ends (record { script = s; workers = workers }) is)
+threads_play X s workers accepted before stem old new None lines is ends = ends
+threads_play X s workers accepted before stem old new (Some outcome) lines is ends = plays_script s workers accepted before old new outcome lines (ends (record { script = s; workers = workers }) is)
 
 -- a run in lockstep is one that actors may play
 pub lockstep_plays : (s : ScriptModel) (workers : ℕ) (old new : Option (List ℕ)) (o : Outcome) → WritesSome (IsRunOf workers s) old new o → WritesOrBegins (IsPlayOf workers s) (IsPlayUpTo workers s) old new o

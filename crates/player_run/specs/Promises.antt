@@ -1,11 +1,14 @@
 -- What is promised of the history that a run records.
 use Rattle.std.specs.Prelude.{◌≡◌, ℕ, ◌+ℤ◌, true, List, [], ◌∷◌, ◌++◌, reverse}
+use Rattle.model_scroll_values.specs.Table.{active_value}
 use Rattle.page_layers.specs.Axes.{Axis}
+use Rattle.page_layers.specs.Scrollers.{most}
+use Rattle.page_layers.specs.Scrolls.{IsInRange}
 use Rattle.model_history.specs.declared.event.Event.TheVariants as event
 use Rattle.model_history.specs.declared.history.Entry.{Entry}
 use Rattle.model_history.specs.EventFields.{commits}
 use Rattle.model_history.specs.FrameLaws.{AtEach}
-use Rattle.model_history.specs.Frames.{active, pulls_of, up_to}
+use Rattle.model_history.specs.Frames.{active, active_page, pulls_of, up_to}
 use Rattle.model_history.specs.Legal.{IsLegal}
 use Rattle.model_history.specs.Lockstep.{IsLockstep}
 use Rattle.model_history.specs.Scans.{was_named}
@@ -13,15 +16,24 @@ use Rattle.model_history.specs.Scripts.{ScriptModel}
 use Rattle.model_history.specs.Scrolls.{all_moved, main_moves, offset}
 use Rattle.model_history.specs.TileLaws.{AreApart, Within, is_activate, lacking}
 use Rattle.model_history.specs.Tiles.{pinned, ready, required}
+use Rattle.model_history.specs.Values.{values}
 
 -- the last entry is the end of the run
 abbrev pub Ends : List Entry → Type 0
 Ends history = (before : List Entry) × (history ≡ before ++ record { actor = 0; event = event.End } ∷ [])
 
--- a scroller stands at the sum of the main moves of the committed frames up to the active one and of all accepted moves
-abbrev pub IsSum : ScriptModel → List Entry → Type 0
-IsSum s h =
-    (sc : ℕ) (ax : Axis) → offset s h sc ax ≡ main_moves s (pulls_of h) (was_named commits h) sc ax (up_to (active h)) +ℤ all_moved s h sc ax
+-- where a scroller stands after a past
+pub record StandsRight (s : ScriptModel) (h : List Entry) (sc : ℕ) (ax : Axis) : Type 0 where
+  -- at the sum of the main moves of the committed frames up to the active one and of all accepted moves
+  pub sum : offset s h sc ax ≡ main_moves s (pulls_of h) (was_named commits h) sc ax (up_to (active h)) +ℤ all_moved s h sc ax
+  -- where the five scroll values say that are kept entry by entry, each entry taking its step of their table: at base and delta of the active tree
+  pub stepwise : offset s h sc ax ≡ active_value (values s sc ax h)
+  -- between 0 and the end of its range on the active page; a scroller that this page lacks stands at 0
+  pub in_range : IsInRange (most (active_page s h) sc ax) (offset s h sc ax)
+
+-- each scroller does, along both axes
+abbrev pub StandRight : ScriptModel → List Entry → Type 0
+StandRight s h = (sc : ℕ) (ax : Axis) → StandsRight s h sc ax
 
 -- a history of a script with so many raster workers, up to its end or not
 pub record IsSound (s : ScriptModel) (workers : ℕ) (history : List Entry) : Type 0 where
@@ -31,8 +43,8 @@ pub record IsSound (s : ScriptModel) (workers : ℕ) (history : List Entry) : Ty
   pub required : AtEach (λ past e. is_activate e.event ≡ true → Within (required s past) (ready s past)) (reverse history)
   -- no tile that a draw lacks is one that the last activation needed
   pub missing : AtEach (λ past e. AreApart (lacking e.event) (pinned s past)) (reverse history)
-  -- so it is after each beginning of it
-  pub offsets : (before after : List Entry) → before ++ after ≡ history → IsSum s (reverse before)
+  -- after each prefix of it every scroller stands right
+  pub offsets : (before after : List Entry) → before ++ after ≡ history → StandRight s (reverse before)
 
 -- the history of a script that is played with so many raster workers
 pub record IsPlayed (s : ScriptModel) (workers : ℕ) (history : List Entry) : Type 0 where

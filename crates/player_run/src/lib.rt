@@ -14,6 +14,7 @@ mod generated;
 mod images;
 mod input;
 mod judged;
+pub mod laws;
 mod notes;
 mod outcome;
 mod play;

@@ -56,6 +56,7 @@ fn play_threads<R: Threads + Wait + Sync, G: Gate + Sync, K: Sink + Send>(
     let Ok(ends) = ring_of(alloc, script) else {
         return None;
     };
+    script.is_accepted();
     let crew = crew_of(rt, alloc, script, workers, gate)?;
     run_crew(rt, alloc, crew, ends, out)
 }

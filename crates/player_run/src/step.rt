@@ -34,6 +34,7 @@ pub(crate) fn play_lockstep<R: Threads + Sync, K: Sink>(
     ensures grows { K.faults out.old ≤ K.faults out.new }
     ensures cause { Causes 0 0 (K.faults out.old) (K.faults out.new) result }
 {
+    script.is_accepted();
     match record_lockstep(rt, alloc, script, workers, out) {
         Ok(run) => done_with(run),
         Err(WriteStop::Fault) => Outcome::WriteFault,

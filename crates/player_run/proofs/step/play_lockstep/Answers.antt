@@ -1,6 +1,7 @@
 -- What was written is the recording of a history that keeps what is promised, or a front of it.
 use Rattle.std.proofs.Common.{ℕ, List, inr, subst, sym}
 use Rattle.std.specs.Io.KnownBytes.{Appends}
+use Rattle.model_history.specs.Accepted.{IsAccepted}
 use Rattle.player_io.specs.Pieces.{GainsPrefix}
 use Rattle.player_run.specs.declared.outcome.Outcome.{Outcome}
 use Rattle.player_run.specs.inner.Outputs.{WritesSome}
@@ -12,14 +13,14 @@ pub returns-in-Ok-clause-plays : goal.returns-in-Ok-clause-plays
 returns-in-Ok-clause-plays g c =
     let P : List ℕ → Type 0 = Appends (g.K.Sink.held c.args.out.now) (g.K.Sink.held c.record_lockstep.new.out) in
     subst (λ (o : Outcome). WritesSome (IsRunOf c.args.workers c.args.script.value) (g.K.Sink.held c.args.out.now) (g.K.Sink.held c.record_lockstep.new.out) o) (sym c.done_with.ensures)
-    (promised_run P c.args.script.value c.args.workers c.requires.0 c.in-Ok.ensures.bytes)
+    (promised_run P c.args.script.value c.args.workers (subst IsAccepted c.deref.ensures c.is_accepted.ensures.accepted) c.requires.0 c.in-Ok.ensures.bytes)
 
 pub returns-in-Err-Fault-clause-plays : goal.returns-in-Err-Fault-clause-plays
 returns-in-Err-Fault-clause-plays g c =
     let P : List ℕ → Type 0 = GainsPrefix (g.K.Sink.held c.args.out.now) (g.K.Sink.held c.record_lockstep.new.out) in
-    promised_run P c.args.script.value c.args.workers c.requires.0 c.in-Err-Fault.ensures.bytes
+    promised_run P c.args.script.value c.args.workers (subst IsAccepted c.deref.ensures c.is_accepted.ensures.accepted) c.requires.0 c.in-Err-Fault.ensures.bytes
 
 pub returns-in-Err-Memory-clause-plays : goal.returns-in-Err-Memory-clause-plays
 returns-in-Err-Memory-clause-plays g c =
     let P : List ℕ → Type 0 = GainsPrefix (g.K.Sink.held c.args.out.now) (g.K.Sink.held c.record_lockstep.new.out) in
-    inr (promised_run P c.args.script.value c.args.workers c.requires.0 c.in-Err-Memory.ensures.bytes)
+    inr (promised_run P c.args.script.value c.args.workers (subst IsAccepted c.deref.ensures c.is_accepted.ensures.accepted) c.requires.0 c.in-Err-Memory.ensures.bytes)
