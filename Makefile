@@ -25,7 +25,7 @@ help:
 	@echo 'make clean     removes build/'
 
 kit:
-	@command -v rt > /dev/null || { echo 'rt is missing: install the Rattle kit (rattle-kit-13f) and put its bin/ on the PATH' >&2; exit 1; }
+	@command -v rt > /dev/null || { echo 'rt is missing: install the Rattle kit (rattle-kit-13b) and put its bin/ on the PATH' >&2; exit 1; }
 
 python:
 	@command -v python3 > /dev/null || { echo 'python3 is missing: tools/ and bench/ need it' >&2; exit 1; }
@@ -71,8 +71,10 @@ test: kit python
 audit: kit python
 	@python3 tools/audit.py $(if $(JOBS),--jobs $(JOBS)) $(ONLY)
 
+# The gate, whose lines and times stay in build/gate.log.
+check: SHELL := bash
 check: kit python
-	.ci/run
+	@set -o pipefail; .ci/run 2>&1 | python3 tools/gate_times.py --stamp build/gate.log
 
 clean:
 	rm -rf build

@@ -1,7 +1,7 @@
 #!/usr/bin/env python3
 """Tells what the gate's time goes to.
 
-usage: rt ci | tools/gate_times.py --stamp LOG
+usage: .ci/run 2>&1 | tools/gate_times.py --stamp LOG
        tools/gate_times.py LOG [--write PAGE]
 
 --stamp hands its input on unchanged. It writes each line to LOG behind the seconds since the start, and at the end the
