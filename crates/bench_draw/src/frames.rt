@@ -55,9 +55,9 @@ struct Frames {
 
 impl Model for Frames {
     ghost use Rattle.std.specs.Prelude.{◌≡◌, length};
-    ghost use Rattle.main_host.specs.Hosts.{HostModel};
+    ghost use Rattle.main_host.specs.Hosts.{MainHostModel};
 
-    ghost Value = { HostModel };
+    ghost Value = { MainHostModel };
 
     ghost view = { λ f. f.host };
 

@@ -1,7 +1,7 @@
 //! What the program is asked to do.
 
 ghost use Rattle.std.specs.Prelude.{◌≤◌, IfSome};
-ghost use Rattle.bench_draw.specs.Jobs.{IsSmall};
+ghost use Rattle.bench_draw.specs.Jobs.{IsSmallJob};
 
 use crate::hits::PageSize;
 
@@ -13,7 +13,7 @@ pub(crate) const MOST_ITEMS: usize = 256;
 
 /// What the items of a list are.
 #[derive(Clone, Copy, Debug, PartialEq, Eq)]
-pub(crate) enum Kind {
+pub(crate) enum ItemKind {
     /// Opaque rects.
     Opaque,
     /// Translucent rects.
@@ -24,7 +24,7 @@ pub(crate) enum Kind {
 
 /// One job, done so many times.
 #[derive(Clone, Copy, Debug)]
-pub(crate) enum Job {
+pub(crate) enum BenchJob {
     /// A row of so many pixels is laid over another.
     Over {
         pixels: usize,
@@ -42,7 +42,7 @@ pub(crate) enum Job {
     },
     /// A list of so many items is rasterised.
     Raster {
-        kind: Kind,
+        kind: ItemKind,
         items: usize,
         times: u32,
     },
@@ -78,34 +78,34 @@ fn times(word: &str) -> Option<u32> {
     word.parse::<u32>().ok()
 }
 
-fn kind_of(word: &str) -> Option<Kind> {
+fn kind_of(word: &str) -> Option<ItemKind> {
     match word {
-        "opaque" => Some(Kind::Opaque),
-        "translucent" => Some(Kind::Translucent),
-        "bitmap" => Some(Kind::Bitmap),
+        "opaque" => Some(ItemKind::Opaque),
+        "translucent" => Some(ItemKind::Translucent),
+        "bitmap" => Some(ItemKind::Bitmap),
         _ => None,
     }
 }
 
-impl Job {
+impl BenchJob {
     /// The job that the words name, if they name one.
-    pub(crate) fn of_words(words: &[String]) -> Option<Job>
-        ensures { IfSome result IsSmall }
+    pub(crate) fn of_words(words: &[String]) -> Option<BenchJob>
+        ensures { IfSome result IsSmallJob }
     {
         match words {
-            [name, first, second] => Job::of_row(name.as_str(), first.as_str(), second.as_str()),
-            [name, first, second, third] if name.as_str() == "raster" => Some(Job::Raster {
+            [name, first, second] => BenchJob::of_row(name.as_str(), first.as_str(), second.as_str()),
+            [name, first, second, third] if name.as_str() == "raster" => Some(BenchJob::Raster {
                 kind: kind_of(first.as_str())?,
                 items: number(second.as_str(), MOST_ITEMS)?,
                 times: times(third.as_str())?,
             }),
-            [name, first, second, third] if name.as_str() == "scene" => Some(Job::Scene {
+            [name, first, second, third] if name.as_str() == "scene" => Some(BenchJob::Scene {
                 in_groups: false,
                 items: number(first.as_str(), MOST_ITEMS)?,
                 layers: times(second.as_str())?,
                 times: times(third.as_str())?,
             }),
-            [name, first, second, third] if name.as_str() == "groups" => Some(Job::Scene {
+            [name, first, second, third] if name.as_str() == "groups" => Some(BenchJob::Scene {
                 in_groups: true,
                 items: number(first.as_str(), MOST_ITEMS)?,
                 layers: times(second.as_str())?,
@@ -117,33 +117,33 @@ impl Job {
                     nodes: times(nodes.as_str())?,
                     depth: times(depth.as_str())?,
                 };
-                Job::of_page(name.as_str(), size, times(count.as_str())?)
+                BenchJob::of_page(name.as_str(), size, times(count.as_str())?)
             }
             _ => None,
         }
     }
 
     /// The job on a row of this name.
-    fn of_row(name: &str, pixels: &str, count: &str) -> Option<Job>
-        ensures { IfSome result IsSmall }
+    fn of_row(name: &str, pixels: &str, count: &str) -> Option<BenchJob>
+        ensures { IfSome result IsSmallJob }
     {
         let pixels = number(pixels, MOST_PIXELS)?;
         let times = times(count)?;
         match name {
-            "over" => Some(Job::Over { pixels, times }),
-            "scale" => Some(Job::Scale { pixels, times }),
-            "fill" => Some(Job::Fill { pixels, times }),
+            "over" => Some(BenchJob::Over { pixels, times }),
+            "scale" => Some(BenchJob::Scale { pixels, times }),
+            "fill" => Some(BenchJob::Fill { pixels, times }),
             _ => None,
         }
     }
 
     /// The job on a page of this name.
-    fn of_page(name: &str, size: PageSize, times: u32) -> Option<Job>
-        ensures { IfSome result IsSmall }
+    fn of_page(name: &str, size: PageSize, times: u32) -> Option<BenchJob>
+        ensures { IfSome result IsSmallJob }
     {
         match name {
-            "target" => Some(Job::Target { size, times }),
-            "wheel" => Some(Job::Wheel { size, times }),
+            "target" => Some(BenchJob::Target { size, times }),
+            "wheel" => Some(BenchJob::Wheel { size, times }),
             _ => None,
         }
     }

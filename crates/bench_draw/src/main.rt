@@ -31,12 +31,12 @@ mod showing;
 mod sketch;
 mod tiles;
 
-use crate::job::{Job, Kind};
+use crate::job::{BenchJob, ItemKind};
 use std::{env, io};
 
 /// What is done where there are no words.
 fn check(rt: &HostRuntime) -> io::Result<()> {
-    let sum = tiles::raster(rt.alloc(), Kind::Translucent, 3, 2)?;
+    let sum = tiles::raster(rt.alloc(), ItemKind::Translucent, 3, 2)?;
     println!(rt; "{sum}")?;
     pairs::tell_wrong(rt, 200, 1)
 }
@@ -49,22 +49,22 @@ fn main(rt: HostRuntime) -> io::Result<()> {
     if redraws::run(&rt, words.as_slice())? || frames::run(&rt, words.as_slice())? {
         return Ok(());
     }
-    let Some(job) = Job::of_words(words.as_slice()) else {
+    let Some(job) = BenchJob::of_words(words.as_slice()) else {
         return Err(io::Error::from(io::ErrorKind::InvalidInput));
     };
     let sum = match job {
-        Job::Over { pixels, times } => rows::over(rt.alloc(), pixels, times)?,
-        Job::Scale { pixels, times } => rows::scale(rt.alloc(), pixels, times)?,
-        Job::Fill { pixels, times } => rows::fill(rt.alloc(), pixels, times)?,
-        Job::Scene {
+        BenchJob::Over { pixels, times } => rows::over(rt.alloc(), pixels, times)?,
+        BenchJob::Scale { pixels, times } => rows::scale(rt.alloc(), pixels, times)?,
+        BenchJob::Fill { pixels, times } => rows::fill(rt.alloc(), pixels, times)?,
+        BenchJob::Scene {
             in_groups,
             items,
             layers,
             times,
         } => scenes::draw(rt.alloc(), in_groups, items, layers, times)?,
-        Job::Raster { kind, items, times } => tiles::raster(rt.alloc(), kind, items, times)?,
-        Job::Target { size, times } => hits::targets(rt.alloc(), size, times)?,
-        Job::Wheel { size, times } => hits::wheels(rt.alloc(), size, times)?,
+        BenchJob::Raster { kind, items, times } => tiles::raster(rt.alloc(), kind, items, times)?,
+        BenchJob::Target { size, times } => hits::targets(rt.alloc(), size, times)?,
+        BenchJob::Wheel { size, times } => hits::wheels(rt.alloc(), size, times)?,
     };
     println!(rt; "{sum}")?;
     Ok(())

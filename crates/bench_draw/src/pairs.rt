@@ -21,7 +21,7 @@ use viz_scene::Scene;
 
 /// What came out of some pairs.
 #[derive(Clone, Copy)]
-struct Figures {
+struct PairCounts {
     /// How many pairs were tried.
     pairs: u64,
     /// How many sketches made no scene.
@@ -40,7 +40,7 @@ struct Figures {
 
 // what came out of one pair
 #[derive(Clone, Copy)]
-struct Trial {
+struct PairResult {
     is_right: bool,
     damaged: u64,
     changed: u64,
@@ -99,7 +99,7 @@ fn differing(a: &[u8], b: &[u8]) -> u64 {
 }
 
 // draws the damage of the second scene over the frame of the first
-fn try_damage(alloc: Global, old: &Scene, new: &Scene) -> Result<Trial, AllocError>
+fn try_damage(alloc: Global, old: &Scene, new: &Scene) -> Result<PairResult, AllocError>
     requires wide { old.now.w ≡ new.now.w }
     requires tall { old.now.h ≡ new.now.h }
 {
@@ -108,7 +108,7 @@ fn try_damage(alloc: Global, old: &Scene, new: &Scene) -> Result<Trial, AllocErr
     let mut frame = drawn(alloc, old)?;
     let region = damage_of(alloc, old, new)?;
     render_region(new, &mut frame, &region)?;
-    Ok(Trial {
+    Ok(PairResult {
         is_right: frame.bytes() == after.bytes(),
         damaged: area_of(&region, &after),
         changed: differing(before.bytes(), after.bytes()),
@@ -130,9 +130,9 @@ fn are_of_one_size(a: &Scene, b: &Scene) -> bool
     a.w() == b.w() && a.h() == b.h()
 }
 
-impl Figures {
+impl PairCounts {
     /// Nothing was tried.
-    const NONE: Figures = Figures {
+    const NONE: PairCounts = PairCounts {
         pairs: 0,
         skipped: 0,
         wrong: 0,
@@ -143,7 +143,7 @@ impl Figures {
     };
 
     /// Counts a pair.
-    fn count(&mut self, trial: Trial, culled: Trial, is_shown: bool) {
+    fn count(&mut self, trial: PairResult, culled: PairResult, is_shown: bool) {
         self.pairs = self.pairs.wrapping_add(1);
         if !trial.is_right || !culled.is_right {
             self.wrong = self.wrong.wrapping_add(1);
@@ -158,7 +158,7 @@ impl Figures {
 }
 
 // the same trial of both scenes without their hidden quads
-fn try_culled(alloc: Global, old: &Scene, new: &Scene) -> Result<Trial, AllocError>
+fn try_culled(alloc: Global, old: &Scene, new: &Scene) -> Result<PairResult, AllocError>
     requires wide { old.now.w ≡ new.now.w }
     requires tall { old.now.h ≡ new.now.h }
 {
@@ -173,7 +173,7 @@ fn try_pair(
     painter: &mut Painter,
     old: Scene,
     new: Scene,
-    figures: &mut Figures,
+    figures: &mut PairCounts,
 ) -> Result<(), AllocError> {
     if !are_of_one_size(&old, &new) {
         figures.skipped = figures.skipped.wrapping_add(1);
@@ -193,7 +193,7 @@ fn try_throw(
     pool: &[Arc<TileImage>],
     painter: &mut Painter,
     seed: u64,
-    figures: &mut Figures,
+    figures: &mut PairCounts,
 ) -> Result<(), AllocError> {
     let mut dice = Dice::new(seed);
     let sketch = Sketch::thrown(alloc, &mut dice)?;
@@ -208,10 +208,10 @@ fn try_throw(
 }
 
 // what comes out of so many pairs
-fn figures_of(alloc: Global, count: u32, seed: u32) -> Result<Figures, AllocError> {
+fn figures_of(alloc: Global, count: u32, seed: u32) -> Result<PairCounts, AllocError> {
     let pool = pool_of(alloc)?;
     let mut painter = Painter::new(alloc, 1, 1)?;
-    let mut figures = Figures::NONE;
+    let mut figures = PairCounts::NONE;
     for turn in 0..u32::MAX {
         if figures.pairs >= count as u64 {
             break;

@@ -3,7 +3,7 @@
 ghost use Rattle.std.specs.Prelude.{◌≡◌, ◌<◌, ◌≤◌, ◌+◌, ◌*◌, ℕ, pos, ◌≤ℤ◌, length, IfOk, OnOk, All};
 ghost use Rattle.page_display_list.specs.Content.{IsSoundItem};
 ghost use Rattle.viz_scene.specs.Views.{quad_view, quads_view, passes_view};
-ghost use Rattle.viz_scene.specs.Sound.{Fits, IsIn};
+ghost use Rattle.viz_scene.specs.Sound.{QuadFits, IsIn};
 ghost use Rattle.geom.specs.Covers.{IsSound};
 ghost use Rattle.bench_draw.specs.Jobs.{IsLarge, CanBeAnywhere};
 
@@ -98,7 +98,7 @@ fn tile_rect(place: u32) -> Rect
 /// The quad of the tile of a place below 16, with its image.
 fn tile_of(alloc: Global, list: &Arc<DisplayList>, place: u32) -> Result<Quad, AllocError>
     requires { place < 16 }
-    ensures { IfOk result (λ quad. (i : ℕ) → Fits 1024 1024 i (quad_view quad)) }
+    ensures { IfOk result (λ quad. (i : ℕ) → QuadFits 1024 1024 i (quad_view quad)) }
 {
     let at = tile_rect(place);
     let key = TileKey {

@@ -16,7 +16,7 @@ const SIDE: u32 = 32;
 
 /// A quad, or the end of a pass.
 #[derive(Clone, Copy)]
-pub(crate) enum Part {
+pub(crate) enum SketchPart {
     /// A part of an image of the pool.
     Tile {
         /// The number of the image.
@@ -48,7 +48,7 @@ pub(crate) enum Part {
 #[derive(Drop)]
 pub(crate) struct Sketch {
     background: Colour,
-    parts: Vec<Part>,
+    parts: Vec<SketchPart>,
 }
 
 // a rect of a cell of the screen, or any on it
@@ -80,18 +80,18 @@ fn start_of(dice: &mut Dice, at: Rect) -> Point {
 }
 
 // a quad of the pass of this number
-fn part_of(dice: &mut Dice, number: u32) -> Part {
+fn part_of(dice: &mut Dice, number: u32) -> SketchPart {
     let at = place_of(dice);
     match dice.throw() % 8 {
-        0 | 1 if number > 0 => Part::Group {
+        0 | 1 if number > 0 => SketchPart::Group {
             pass: dice.throw() % number,
             opacity: (dice.throw() % 256) as u8,
         },
-        2 | 3 => Part::Solid {
+        2 | 3 => SketchPart::Solid {
             at,
             colour: colour_of(dice),
         },
-        _ => Part::Tile {
+        _ => SketchPart::Tile {
             image: dice.throw() % IMAGES,
             at,
             from: start_of(dice, at),
@@ -100,40 +100,40 @@ fn part_of(dice: &mut Dice, number: u32) -> Part {
 }
 
 // a part that is moved a little, or shows something else
-fn changed(dice: &mut Dice, part: Part) -> Part {
+fn changed(dice: &mut Dice, part: SketchPart) -> SketchPart {
     match part {
-        Part::Tile { image, at, from } => match dice.throw() % 3 {
-            0 => Part::Tile {
+        SketchPart::Tile { image, at, from } => match dice.throw() % 3 {
+            0 => SketchPart::Tile {
                 image: dice.throw() % IMAGES,
                 at,
                 from,
             },
-            1 => Part::Tile {
+            1 => SketchPart::Tile {
                 image: image ^ 1,
                 at,
                 from,
             },
-            _ => Part::Tile {
+            _ => SketchPart::Tile {
                 image,
                 at: moved(dice, at),
                 from,
             },
         },
-        Part::Solid { at, colour } => match dice.throw() % 2 {
-            0 => Part::Solid {
+        SketchPart::Solid { at, colour } => match dice.throw() % 2 {
+            0 => SketchPart::Solid {
                 at,
                 colour: colour_of(dice),
             },
-            _ => Part::Solid {
+            _ => SketchPart::Solid {
                 at: moved(dice, at),
                 colour,
             },
         },
-        Part::Group { pass, .. } => Part::Group {
+        SketchPart::Group { pass, .. } => SketchPart::Group {
             pass,
             opacity: (dice.throw() % 256) as u8,
         },
-        Part::End => Part::End,
+        SketchPart::End => SketchPart::End,
     }
 }
 
@@ -154,17 +154,17 @@ fn add_pass(
     dice: &mut Dice,
     number: u32,
     count: u32,
-    parts: &mut Vec<Part>,
+    parts: &mut Vec<SketchPart>,
 ) -> Result<(), AllocError> {
     for _quad in 0..count {
         parts.push(part_of(dice, number))?;
     }
-    parts.push(Part::End)?;
+    parts.push(SketchPart::End)?;
     Ok(())
 }
 
 // the parts of a scene of up to three passes
-fn parts_of(alloc: Global, dice: &mut Dice) -> Result<Vec<Part>, AllocError> {
+fn parts_of(alloc: Global, dice: &mut Dice) -> Result<Vec<SketchPart>, AllocError> {
     let mut parts = Vec::new(alloc);
     for number in 0..1 + dice.throw() % 3 {
         let count = 1 + dice.throw() % 6;
@@ -174,7 +174,7 @@ fn parts_of(alloc: Global, dice: &mut Dice) -> Result<Vec<Part>, AllocError> {
 }
 
 // some parts, of which one is gone, is another one, or has another one before it
-fn with_change(alloc: Global, dice: &mut Dice, parts: &[Part]) -> Result<Vec<Part>, AllocError> {
+fn with_change(alloc: Global, dice: &mut Dice, parts: &[SketchPart]) -> Result<Vec<SketchPart>, AllocError> {
     let place = dice.throw() as usize % parts.len().max(1);
     let kind = dice.throw() % 6;
     let mut after = Vec::new(alloc);
@@ -193,8 +193,8 @@ fn with_change(alloc: Global, dice: &mut Dice, parts: &[Part]) -> Result<Vec<Par
 fn change_at(
     dice: &mut Dice,
     kind: u32,
-    part: Part,
-    after: &mut Vec<Part>,
+    part: SketchPart,
+    after: &mut Vec<SketchPart>,
 ) -> Result<(), AllocError> {
     if kind == 0 {
         return Ok(());
@@ -209,7 +209,7 @@ fn change_at(
 }
 
 // some parts, all moved by one way
-fn scrolled(alloc: Global, dice: &mut Dice, parts: &[Part]) -> Result<Vec<Part>, AllocError> {
+fn scrolled(alloc: Global, dice: &mut Dice, parts: &[SketchPart]) -> Result<Vec<SketchPart>, AllocError> {
     let by = dice.throw() % 3;
     let mut after = Vec::new(alloc);
     for part in parts {
@@ -219,9 +219,9 @@ fn scrolled(alloc: Global, dice: &mut Dice, parts: &[Part]) -> Result<Vec<Part>,
 }
 
 // a tile that lies so much higher; all else stays
-fn scrolled_part(part: Part, by: i32) -> Part {
+fn scrolled_part(part: SketchPart, by: i32) -> SketchPart {
     match part {
-        Part::Tile { image, at, from } => Part::Tile {
+        SketchPart::Tile { image, at, from } => SketchPart::Tile {
             image,
             at: Rect {
                 x: at.x,
@@ -267,7 +267,7 @@ impl Sketch {
 }
 
 // some parts with a few changes
-fn parts_after(alloc: Global, dice: &mut Dice, parts: &[Part]) -> Result<Vec<Part>, AllocError> {
+fn parts_after(alloc: Global, dice: &mut Dice, parts: &[SketchPart]) -> Result<Vec<SketchPart>, AllocError> {
     let mut after = if dice.throw() % 4 == 0 {
         scrolled(alloc, dice, parts)?
     } else {
@@ -282,7 +282,7 @@ fn parts_after(alloc: Global, dice: &mut Dice, parts: &[Part]) -> Result<Vec<Par
 // the passes of some parts
 fn passes_of(
     alloc: Global,
-    parts: &[Part],
+    parts: &[SketchPart],
     pool: &[Arc<TileImage>],
 ) -> Result<Vec<RenderPass>, AllocError> {
     let mut passes = Vec::new(alloc);
@@ -300,9 +300,9 @@ fn passes_of(
 }
 
 // the quad of a part; None at the end of a pass
-fn quad_of(part: Part, pool: &[Arc<TileImage>]) -> Result<Option<Quad>, AllocError> {
+fn quad_of(part: SketchPart, pool: &[Arc<TileImage>]) -> Result<Option<Quad>, AllocError> {
     match part {
-        Part::Tile { image, at, from } => match pool.get(image as usize) {
+        SketchPart::Tile { image, at, from } => match pool.get(image as usize) {
             Some(image) => Ok(Some(Quad::Tile {
                 image: Arc::try_clone(image)?,
                 at,
@@ -310,8 +310,8 @@ fn quad_of(part: Part, pool: &[Arc<TileImage>]) -> Result<Option<Quad>, AllocErr
             })),
             None => Ok(None),
         },
-        Part::Solid { at, colour } => Ok(Some(Quad::Solid { at, colour })),
-        Part::Group { pass, opacity } => Ok(Some(Quad::Group { pass, opacity })),
-        Part::End => Ok(None),
+        SketchPart::Solid { at, colour } => Ok(Some(Quad::Solid { at, colour })),
+        SketchPart::Group { pass, opacity } => Ok(Some(Quad::Group { pass, opacity })),
+        SketchPart::End => Ok(None),
     }
 }

@@ -3,7 +3,7 @@
 ghost use Rattle.std.specs.Prelude.{◌≤◌, IfOk};
 ghost use Rattle.page_display_list.specs.Content.{IsSoundItem};
 
-use crate::job::Kind;
+use crate::job::ItemKind;
 use crate::rows::grey;
 use geom::{Rect, TileKey};
 use page_display_list::{DisplayList, Item};
@@ -33,19 +33,19 @@ fn bytes_of(alloc: Global, value: u8, count: usize) -> Result<Vec<u8>, AllocErro
 }
 
 /// One item of a kind, as dark as its level.
-fn item_of(alloc: Global, kind: Kind, level: u8) -> Result<Item, AllocError>
+fn item_of(alloc: Global, kind: ItemKind, level: u8) -> Result<Item, AllocError>
     ensures { IfOk result IsSoundItem }
 {
     match kind {
-        Kind::Opaque => Ok(Item::Rect {
+        ItemKind::Opaque => Ok(Item::Rect {
             rect: TILE,
             colour: grey(255),
         }),
-        Kind::Translucent => Ok(Item::Rect {
+        ItemKind::Translucent => Ok(Item::Rect {
             rect: TILE,
             colour: grey(level),
         }),
-        Kind::Bitmap => {
+        ItemKind::Bitmap => {
             let pixels = bytes_of(alloc, level, 262144)?;
             match Item::bitmap(TILE, pixels) {
                 Ok(item) => Ok(item),
@@ -56,7 +56,7 @@ fn item_of(alloc: Global, kind: Kind, level: u8) -> Result<Item, AllocError>
 }
 
 /// A list of so many items of a kind.
-fn list_of(alloc: Global, kind: Kind, items: usize) -> Result<DisplayList, AllocError>
+fn list_of(alloc: Global, kind: ItemKind, items: usize) -> Result<DisplayList, AllocError>
     requires { items ≤ 256 }
 {
     let mut list = DisplayList::new(alloc);
@@ -90,7 +90,7 @@ fn red_of(alloc: Global, list: &Arc<DisplayList>) -> Result<u64, AllocError> {
 
 /// Makes the picture of a tile of a list of items so many times, as the program does, and adds up the red of its
 /// pixels' one colour.
-pub(crate) fn raster(alloc: Global, kind: Kind, items: usize, times: u32) -> Result<u64, AllocError>
+pub(crate) fn raster(alloc: Global, kind: ItemKind, items: usize, times: u32) -> Result<u64, AllocError>
     requires { items ≤ 256 }
 {
     let Ok(list) = Arc::new(alloc, list_of(alloc, kind, items)?) else {

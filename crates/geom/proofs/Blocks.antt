@@ -8,12 +8,12 @@ use Rattle.std.proofs.lemmas.List.Concat.{flat_map-append, flat_map_single}
 use Rattle.std.proofs.lemmas.List.Elements.{filter-append}
 use Rattle.std.proofs.lemmas.List.FromFn.{map-range_with_len_more}
 use Rattle.geom.specs.declared.rect.Rect.{Rect}
-use Rattle.geom.specs.declared.cut.Run.{Run}
+use Rattle.geom.specs.declared.cut.IndexRange.{IndexRange}
 use Rattle.geom.specs.declared.tile.Place.{Place}
 use Rattle.geom.specs.Common.{meets}
 use Rattle.geom.specs.Sides.{Sides}
-use Rattle.geom.specs.Grids.{tiles, rect_of, place, places_touching}
-use Rattle.geom.specs.Runs.{numbers, line, block, IsMeeting}
+use Rattle.geom.specs.Grids.{tiles, rect_of_place, place, places_touching}
+use Rattle.geom.specs.IndexRanges.{indices_in, line, block, IsMeeting}
 use Rattle.geom.proofs.Spans.{and_false}
 
 map_same : (xs : List ℕ) → map (λ x. x) xs ≡ xs
@@ -36,14 +36,14 @@ line_more y first x h =
     let e : x + 1 - first ≡ x - first + 1 = omega arith in
     rw e (map-range_with_len_more (place y) first (x - first) x (omega arith))
 
-pub lines_more : (columns : Run) (first y : ℕ) → first ≤ y
+pub lines_more : (columns : IndexRange) (first y : ℕ) → first ≤ y
     → flat_map (line columns) (range_with_len first (y + 1 - first)) ≡ flat_map (line columns) (range_with_len first (y - first)) ++ line columns y
 lines_more columns first y h =
     let e : y + 1 - first ≡ y - first + 1 = omega arith in
     rw e (flat_more (line columns) first (y - first) y (omega arith))
 
 -- the pieces of the numbers below `n` that are in a run, and one more number
-run_step : {X : Type 0} (g : ℕ → List X) (r : Run) (n : ℕ) (t : Bool) → t ≡ nat_le r.first n && nat_lt n r.end
+run_step : {X : Type 0} (g : ℕ → List X) (r : IndexRange) (n : ℕ) (t : Bool) → t ≡ nat_le r.first n && nat_lt n r.end
     → (n < r.first) ⊎ (r.first ≤ n) → (n < r.end) ⊎ (r.end ≤ n)
     → flat_map g (range_with_len r.first (min n r.end - r.first)) ++ cond t (g n) [] ≡ flat_map g (range_with_len r.first (min (n + 1) r.end - r.first))
 run_step g r n t e (inl low) j =
@@ -63,7 +63,7 @@ run_step g r n t e (inr low) (inr high) =
     rw (f, a, b) (append-nil (flat_map g (range_with_len r.first (r.end - r.first))))
 
 -- a filter that keeps of each piece what `g` gives where the number is in the run, and nothing elsewhere
-kept_flat : {X : Type 0} (p : X → Bool) (piece g : ℕ → List X) (r : Run) (n : ℕ)
+kept_flat : {X : Type 0} (p : X → Bool) (piece g : ℕ → List X) (r : IndexRange) (n : ℕ)
     → ((k : ℕ) → filter p (piece k) ≡ cond (nat_le r.first k && nat_lt k r.end) (g k) [])
     → filter p (flat_map piece (range_with_len 0 n)) ≡ flat_map g (range_with_len r.first (min n r.end - r.first))
 kept_flat p piece g r zero e = let a : min 0 r.end - r.first ≡ 0 = omega arith in rw a refl
@@ -74,8 +74,8 @@ kept_flat p piece g r (suc n) e =
     ∙ (filter-append p (flat_map piece (range_with_len 0 n)) (piece n)
     ∙ (rw (kept_flat p piece g r n e, e n) (run_step g r n (nat_le r.first n && nat_lt n r.end) refl (cases_lt n r.first) (cases_lt n r.end)))))
 
-whole_run : {X : Type 0} (g : ℕ → List X) (r : Run) (n : ℕ) → r.end ≤ n
-    → flat_map g (range_with_len r.first (min n r.end - r.first)) ≡ flat_map g (numbers r)
+whole_run : {X : Type 0} (g : ℕ → List X) (r : IndexRange) (n : ℕ) → r.end ≤ n
+    → flat_map g (range_with_len r.first (min n r.end - r.first)) ≡ flat_map g (indices_in r)
 whole_run g r n h = let a : min n r.end ≡ r.end = omega arith in rw a refl
 
 and_true : (b : Bool) → b && true ≡ b
@@ -87,20 +87,20 @@ either_nil true = refl
 either_nil false = refl
 
 -- of one row the columns of the run are kept where the row is kept at all
-kept_line : (p : Place → Bool) (columns : Run) (n y : ℕ) (t : Bool) → columns.end ≤ n
+kept_line : (p : Place → Bool) (columns : IndexRange) (n y : ℕ) (t : Bool) → columns.end ≤ n
     → ((x : ℕ) → p (place y x) ≡ (nat_le columns.first x && nat_lt x columns.end) && t)
     → filter p (map (place y) (range_with_len 0 n)) ≡ cond t (line columns y) []
 kept_line p columns n y true h e =
     ap (filter p) (sym (flat_map_single (place y) (range_with_len 0 n)))
     ∙ (kept_flat p (λ x. place y x ∷ []) (λ x. place y x ∷ []) columns n (λ x. rw (e x, and_true) refl)
-    ∙ (whole_run (λ x. place y x ∷ []) columns n h ∙ flat_map_single (place y) (numbers columns)))
+    ∙ (whole_run (λ x. place y x ∷ []) columns n h ∙ flat_map_single (place y) (indices_in columns)))
 kept_line p columns n y false h e =
     let none : min n 0 - 0 ≡ 0 = omega arith in
     ap (filter p) (sym (flat_map_single (place y) (range_with_len 0 n)))
     ∙ (kept_flat p (λ x. place y x ∷ []) (λ x. []) (record { first = 0; end = 0 }) n (λ x. rw (e x, and_false) (sym (either_nil (nat_le 0 x && nat_lt x 0)))) ∙ rw none refl)
 
 -- of all places the block is kept
-pub kept_block : (p : Place → Bool) (columns rows : Run) (m n : ℕ) → columns.end ≤ m → rows.end ≤ n
+pub kept_block : (p : Place → Bool) (columns rows : IndexRange) (m n : ℕ) → columns.end ≤ m → rows.end ≤ n
     → ((y x : ℕ) → p (place y x) ≡ (nat_le columns.first x && nat_lt x columns.end) && (nat_le rows.first y && nat_lt y rows.end))
     → filter p (flat_map (λ y. map (place y) (range_with_len 0 m)) (range_with_len 0 n)) ≡ block columns rows
 unfolding block
@@ -110,9 +110,9 @@ kept_block p columns rows m n h k e =
     ∙ whole_run (line columns) rows n k
 
 -- the places that an area touches are the block of the runs that its spans meet
-pub touching_block : (g : Sides) (area : Rect) (columns rows : Run) → IsMeeting g.w g.tile area.x area.w columns → IsMeeting g.h g.tile area.y area.h rows
+pub touching_block : (g : Sides) (area : Rect) (columns rows : IndexRange) → IsMeeting g.w g.tile area.x area.w columns → IsMeeting g.h g.tile area.y area.h rows
     → places_touching g area ≡ block columns rows
 unfolding places_touching
 touching_block g area columns rows i j =
-    kept_block (λ p. meets (rect_of g p) area) columns rows (tiles g.w g.tile) (tiles g.h g.tile) i.bounded j.bounded
+    kept_block (λ p. meets (rect_of_place g p) area) columns rows (tiles g.w g.tile) (tiles g.h g.tile) i.bounded j.bounded
     (λ y x. rw (i.meeting x, j.meeting y) refl)

@@ -5,8 +5,8 @@ use Rattle.std.proofs.lemmas.Bool.Decides.{nat_tests}
 use Rattle.geom.specs.declared.tile.Place.{Place}
 use Rattle.geom.specs.Covers.{within, covers}
 use Rattle.geom.specs.Sides.{Sides, IsGrid}
-use Rattle.geom.specs.Grids.{tiles, part_at, part_len, bounds, rect_of, place, places}
-use Rattle.geom.specs.Runs.{block}
+use Rattle.geom.specs.Grids.{tiles, part_at, part_len, bounds, rect_of_place, place, places}
+use Rattle.geom.specs.IndexRanges.{block}
 use Rattle.geom.proofs.Blocks.{kept_block}
 use Rattle.geom.proofs.Cuts.{natural, in_quotient, quotient_below, part_quotient, part_number, in_bounds_by}
 use Rattle.geom.proofs.Spans.{same_test, both, both_of}
@@ -29,21 +29,21 @@ block_of_one : (x y : ℕ) → block (record { first = x; end = x + 1 }) (record
 unfolding block
 block_of_one x y = one_place x y (x + 1 - x) (y + 1 - y) (omega arith) (omega arith)
 
-covering_at : (g : Sides) → IsGrid g → (m n : ℕ) → m < g.w → n < g.h → filter (λ q. covers (rect_of g q) (pos m) (pos n)) (places g) ≡ place (n / g.tile) (m / g.tile) ∷ []
+covering_at : (g : Sides) → IsGrid g → (m n : ℕ) → m < g.w → n < g.h → filter (λ q. covers (rect_of_place g q) (pos m) (pos n)) (places g) ≡ place (n / g.tile) (m / g.tile) ∷ []
 covering_at g is m n across down =
     let t = is.cut.low in
     let x : m / g.tile + 1 ≤ tiles g.w g.tile = let h = quotient_below g.w g.tile m t across in grind (arith, nat_tests) in
     let y : n / g.tile + 1 ≤ tiles g.h g.tile = let h = quotient_below g.h g.tile n t down in grind (arith, nat_tests) in
-    kept_block (λ q. covers (rect_of g q) (pos m) (pos n)) (record { first = m / g.tile; end = m / g.tile + 1 }) (record { first = n / g.tile; end = n / g.tile + 1 }) (tiles g.w g.tile) (tiles g.h g.tile) x y
+    kept_block (λ q. covers (rect_of_place g q) (pos m) (pos n)) (record { first = m / g.tile; end = m / g.tile + 1 }) (record { first = n / g.tile; end = n / g.tile + 1 }) (tiles g.w g.tile) (tiles g.h g.tile) x y
     (λ row column. rw (in_tile g.w g.tile m column t across, in_tile g.h g.tile n row t down) refl)
     ∙ block_of_one (m / g.tile) (n / g.tile)
 
 covering_by : (g : Sides) → IsGrid g → (x y : ℤ) (m n : ℕ) → x ≡ pos m → y ≡ pos n → m < g.w → n < g.h
-    → filter (λ q. covers (rect_of g q) x y) (places g) ≡ place (nat_abs y / g.tile) (nat_abs x / g.tile) ∷ []
+    → filter (λ q. covers (rect_of_place g q) x y) (places g) ≡ place (nat_abs y / g.tile) (nat_abs x / g.tile) ∷ []
 covering_by g is x y m n e f across down = rw (e, f) (covering_at g is m n across down)
 
 -- a point of the layer is covered by its place alone
-pub covering : (g : Sides) → IsGrid g → (x y : ℤ) → covers (bounds g) x y ≡ true → filter (λ q. covers (rect_of g q) x y) (places g) ≡ place (nat_abs y / g.tile) (nat_abs x / g.tile) ∷ []
+pub covering : (g : Sides) → IsGrid g → (x y : ℤ) → covers (bounds g) x y ≡ true → filter (λ q. covers (rect_of_place g q) x y) (places g) ≡ place (nat_abs y / g.tile) (nat_abs x / g.tile) ∷ []
 covering g is x y h =
     let b = both _ _ h in
     let m = natural 0 g.w x b.0 in
@@ -59,7 +59,7 @@ no_test false b h f = refl
 no_test true b h f = absurd (let t = h refl in cc)
 
 -- what a place covers is in the layer
-in_layer : (g : Sides) (q : Place) (x y : ℤ) → covers (rect_of g q) x y ≡ true → covers (bounds g) x y ≡ true
+in_layer : (g : Sides) (q : Place) (x y : ℤ) → covers (rect_of_place g q) x y ≡ true → covers (bounds g) x y ≡ true
 in_layer g q x y it =
     let b = both _ _ it in
     let m = part_number g.w g.tile q.x x b.0 in
@@ -67,5 +67,5 @@ in_layer g q x y it =
     in_bounds_by g x y m.0 n.0 m.1 n.1 m.2 n.2
 
 -- another point is covered by none
-pub covering_none : (g : Sides) → IsGrid g → (x y : ℤ) → covers (bounds g) x y ≡ false → filter (λ q. covers (rect_of g q) x y) (places g) ≡ []
-covering_none g is x y h = filter_none (λ q. covers (rect_of g q) x y) (λ q. no_test (covers (rect_of g q) x y) (covers (bounds g) x y) (in_layer g q x y) h) (places g)
+pub covering_none : (g : Sides) → IsGrid g → (x y : ℤ) → covers (bounds g) x y ≡ false → filter (λ q. covers (rect_of_place g q) x y) (places g) ≡ []
+covering_none g is x y h = filter_none (λ q. covers (rect_of_place g q) x y) (λ q. no_test (covers (rect_of_place g q) x y) (covers (bounds g) x y) (in_layer g q x y) h) (places g)

@@ -7,7 +7,7 @@ use Rattle.std.proofs.lemmas.Nat.{mul-le, div-add-mod'}
 use Rattle.std.proofs.lemmas.Bool.{cases_lt, cases_order}
 use Rattle.geom.specs.declared.tile.Place.{Place}
 use Rattle.geom.specs.Covers.{within, covers}
-use Rattle.geom.specs.Sides.{Sides, IsSide, IsGrid}
+use Rattle.geom.specs.Sides.{Sides, IsLayerSide, IsGrid}
 use Rattle.geom.specs.Grids.{tiles, part_at, part_len, bounds, IsPlaceOf, PartTheLayer}
 use Rattle.geom.proofs.Spans.{inside, is_within_of, both, both_of}
 
@@ -48,7 +48,7 @@ ordered_by m n tile q r h a b (inl less) = absurd (omega (arith, below_multiple 
 ordered_by m n tile q r h a b (inr more) = more
 
 -- a tile of a side starts before the side's end
-pub starts_below : (side tile k : ℕ) → IsSide tile → k < tiles side tile → k * tile < side
+pub starts_below : (side tile k : ℕ) → IsLayerSide tile → k < tiles side tile → k * tile < side
 starts_below side tile k t h = let e = tiles_is side tile k t.low in grind (arith, nat_tests)
 
 few_by : (q r side tile : ℕ) → q * tile + r ≡ side → 1 ≤ tile → q + min 1 r ≤ side
@@ -56,7 +56,7 @@ few_by q r side tile e t =
     let one : q * 1 ≤ q * tile = mul-le q 1 q tile (omega arith) t in omega (arith, mul-one q)
 
 -- no side takes more than 16384 tiles
-pub tiles_few : (side tile : ℕ) → IsSide side → IsSide tile → tiles side tile ≤ 16384
+pub tiles_few : (side tile : ℕ) → IsLayerSide side → IsLayerSide tile → tiles side tile ≤ 16384
 unfolding tiles
 tiles_few side tile s t = let h = few_by (side / tile) (side % tile) side tile (div-add-mod' side tile) t.low in omega (arith, s.high)
 

@@ -5,12 +5,12 @@ use Rattle.std.proofs.lemmas.Bool.Decides.{nat_tests}
 use Rattle.std.proofs.lemmas.Nat.{mul-le}
 use Rattle.std.specs.Int.{int_max, int_min}
 use Rattle.geom.specs.declared.span.Span.{Span}
-use Rattle.geom.specs.declared.cut.Run.{Run}
+use Rattle.geom.specs.declared.cut.IndexRange.{IndexRange}
 use Rattle.geom.specs.Covers.{within, IsSpan}
 use Rattle.geom.specs.Common.{common_span, spans_meet, IsCommon}
-use Rattle.geom.specs.Sides.{IsSide}
+use Rattle.geom.specs.Sides.{IsLayerSide}
 use Rattle.geom.specs.Grids.{part_at, part_len}
-use Rattle.geom.specs.Runs.{IsMeeting}
+use Rattle.geom.specs.IndexRanges.{IsMeeting}
 use Rattle.geom.proofs.Spans.{holds, shared, same_test, both, both_of}
 use Rattle.geom.proofs.Meets.{shared_number, spans_meet_at}
 use Rattle.geom.proofs.Cuts.{natural, within_natural, part_number, part_quotient, in_part, quotients_ordered, quotient_facts, quotient_below}
@@ -78,7 +78,7 @@ run_meets side tile a m k at len t some inner e =
     run_holds side tile a m k at len t e s.0 f.0 f.1 f.2 s.1 s.2)
     (λ h. let b = both (nat_le (a / tile) k) (nat_lt k ((a + m - 1) / tile + 1)) h in run_reached side tile a m k at len t some inner e (grind (arith, nat_tests)) (grind (arith, nat_tests)))
 
-some_by : (side tile : ℕ) (at len : ℤ) (s : Span) (r : Run) (a m : ℕ) → IsSide tile → s.at ≡ pos a → s.len ≡ pos m → 0 < m → a + m ≤ side
+some_by : (side tile : ℕ) (at len : ℤ) (s : Span) (r : IndexRange) (a m : ℕ) → IsLayerSide tile → s.at ≡ pos a → s.len ≡ pos m → 0 < m → a + m ≤ side
     → ((p : ℤ) → within (pos a) (pos m) p ≡ within (pos 0) (pos side) p && within at len p)
     → r.first ≡ a / tile → r.end ≡ (a + m - 1) / tile + 1 → IsMeeting side tile at len r
 some_by side tile at len s r a m cut i j some inner e first end =
@@ -94,7 +94,7 @@ natural_of : (z : ℤ) → pos 0 ≤ℤ z → (n : ℕ) × (z ≡ pos n)
 natural_of (pos n) h = (n, refl)
 natural_of (negsuc n) h = absurd (omega (arith, ints))
 
-some_from : (side tile : ℕ) (at len : ℤ) (s : Span) (r : Run) (a m : ℕ) → IsSide tile → s.at ≡ pos a → s.len ≡ pos m
+some_from : (side tile : ℕ) (at len : ℤ) (s : Span) (r : IndexRange) (a m : ℕ) → IsLayerSide tile → s.at ≡ pos a → s.len ≡ pos m
     → IsCommon (pos 0) (pos side) s → ((p : ℤ) → within s.at s.len p ≡ within (pos 0) (pos side) p && within at len p)
     → r.first ≡ nat_abs s.at / tile → r.end ≡ nat_abs (s.at +ℤ s.len -ℤ pos 1) / tile + 1 → IsMeeting side tile at len r
 some_from side tile at len s r a m cut i j c e first end =
@@ -104,7 +104,7 @@ some_from side tile at len s r a m cut i j c e first end =
     some_by side tile at len s r a m cut i j some inner (rw (i, j) at e) (first ∙ ap (λ z. nat_abs z / tile) i) (end ∙ ap (λ z. nat_abs z / tile + 1) last)
 
 -- a side is a span
-pub side_span : (side : ℕ) → IsSide side → IsSpan (pos 0) (pos side)
+pub side_span : (side : ℕ) → IsLayerSide side → IsSpan (pos 0) (pos side)
 side_span side i = record {
   from_low = omega (arith, ints);
   from_high = omega (arith, ints);
@@ -113,7 +113,7 @@ side_span side i = record {
 }
 
 -- the run of a span that the side and the area have in common
-pub meeting_some : (side tile : ℕ) (at len : ℤ) (s : Span) (r : Run) → IsSide side → IsSide tile → IsSpan at len
+pub meeting_some : (side tile : ℕ) (at len : ℤ) (s : Span) (r : IndexRange) → IsLayerSide side → IsLayerSide tile → IsSpan at len
     → common_span (pos 0) (pos side) at len ≡ Some s
     → r.first ≡ nat_abs s.at / tile → r.end ≡ nat_abs (s.at +ℤ s.len -ℤ pos 1) / tile + 1 → IsMeeting side tile at len r
 meeting_some side tile at len s r whole cut i h first end =

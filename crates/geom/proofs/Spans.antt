@@ -5,7 +5,7 @@ use Rattle.std.specs.Int.{int_max, int_min}
 use Rattle.geom.specs.declared.span.Span.{Span}
 use Rattle.geom.specs.declared.rect.Rect.{Rect}
 use Rattle.geom.specs.Covers.{within, covers, IsSpan, IsSound}
-use Rattle.geom.specs.Common.{common_span, rect_of_spans, common, nothing, Meet}
+use Rattle.geom.specs.Common.{common_span, rect_of_spans, common, empty_rect, Meet}
 
 -- a number of a span, as two bounds
 pub record Inside (at len p : ℤ) : Type 0 where
@@ -143,7 +143,7 @@ common_points r s x y =
     covers_spans (common_span r.x r.w s.x s.w) (common_span r.y r.h s.y s.h) x y
     ∙ rw (shared r.x r.w s.x s.w x, shared r.y r.h s.y s.h y) (interchange (within r.x r.w x) (within s.x s.w x) (within r.y r.h y) (within s.y s.h y))
 
-nothing_sound : IsSound nothing
+nothing_sound : IsSound empty_rect
 nothing_sound = record {
   across = record { from_low = omega (arith, ints); from_high = omega (arith, ints); length_low = omega (arith, ints); length_high = omega (arith, ints) };
   down = record { from_low = omega (arith, ints); from_high = omega (arith, ints); length_low = omega (arith, ints); length_high = omega (arith, ints) };
@@ -162,13 +162,13 @@ pub first_holds : (at len : ℤ) → pos 0 <ℤ len → within at len at ≡ tru
 first_holds at len h = is_within_of at len at (record { low = omega (arith, ints); high = omega (arith, ints) })
 
 pub none_spans : (o q : Option Span) → Proper o → Proper q
-    → ((x y : ℤ) → holds o x && holds q y ≡ true → ⊥) → rect_of_spans o q ≡ nothing
+    → ((x y : ℤ) → holds o x && holds q y ≡ true → ⊥) → rect_of_spans o q ≡ empty_rect
 none_spans (Some s) (Some t) i j f = absurd (f s.at t.at (both_of _ _ (first_holds s.at s.len i.1) (first_holds t.at t.len j.1)))
 none_spans (Some s) None i j f = refl
 none_spans None q i j f = refl
 
--- where no point is shared the common part is `nothing`
-pub common_none : (r s : Rect) → IsSound r → IsSound s → (Meet r s → ⊥) → common r s ≡ nothing
+-- where no point is shared the common part is `empty_rect`
+pub common_none : (r s : Rect) → IsSound r → IsSound s → (Meet r s → ⊥) → common r s ≡ empty_rect
 common_none r s i j f =
     none_spans (common_span r.x r.w s.x s.w) (common_span r.y r.h s.y s.h)
     (proper r.x r.w s.x s.w i.across j.across) (proper r.y r.h s.y s.h i.down j.down)

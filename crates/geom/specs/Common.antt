@@ -20,14 +20,14 @@ pub record IsCommon (at len : ℤ) (s : Span) : Type 0 where
   pub sound : IsSpan s.at s.len
 
 -- the rect that covers nothing
-abbrev pub nothing : Rect
-nothing = record { x = pos 0; y = pos 0; w = pos 0; h = pos 0 }
+abbrev pub empty_rect : Rect
+empty_rect = record { x = pos 0; y = pos 0; w = pos 0; h = pos 0 }
 
--- the rect of two spans, and `nothing` where one is missing
+-- the rect of two spans, and `empty_rect` where one is missing
 abbrev pub rect_of_spans : Option Span → Option Span → Rect
 rect_of_spans (Some s) (Some t) = record { x = s.at; y = t.at; w = s.len; h = t.len }
-rect_of_spans (Some s) None = nothing
-rect_of_spans None t = nothing
+rect_of_spans (Some s) None = empty_rect
+rect_of_spans None t = empty_rect
 
 -- the common part of two rects
 abbrev pub common : Rect → Rect → Rect

@@ -12,6 +12,6 @@ abbrev pub has_key : List TileKey → TileKey → Bool
 has_key ks q = list_any (λ k. same_key k q) ks
 
 -- no key stands twice
-abbrev pub AreDistinct : List TileKey → Type 0
-AreDistinct [] = Unit {0}
-AreDistinct (k ∷ ks) = (has_key ks k ≡ false) × AreDistinct ks
+abbrev pub AreDistinctKeys : List TileKey → Type 0
+AreDistinctKeys [] = Unit {0}
+AreDistinctKeys (k ∷ ks) = (has_key ks k ≡ false) × AreDistinctKeys ks

@@ -5,5 +5,5 @@ pub mod Grids
 pub mod KeyLists
 pub mod KeyOrder
 pub mod Limits
-pub mod Runs
+pub mod IndexRanges
 pub mod Sides

@@ -9,12 +9,12 @@ pub record Sides : Type 0 where
   pub tile : ℕ
 
 -- a length of 1 to 16384 pixels
-pub record IsSide (n : ℕ) : Type 0 where
+pub record IsLayerSide (n : ℕ) : Type 0 where
   pub low : 1 ≤ n
   pub high : n ≤ max_side
 
 -- what every grid keeps
 pub record IsGrid (g : Sides) : Type 0 where
-  pub wide : IsSide g.w
-  pub tall : IsSide g.h
-  pub cut : IsSide g.tile
+  pub wide : IsLayerSide g.w
+  pub tall : IsLayerSide g.h
+  pub cut : IsLayerSide g.tile

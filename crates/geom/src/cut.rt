@@ -3,14 +3,14 @@
 ghost use Rattle.std.specs.Prelude.{◌≡◌, ◌<◌, ◌+◌, ◌/◌, ℤ, pos, ◌+ℤ◌, ◌-ℤ◌, ◌≤ℤ◌, ◌<ℤ◌, IsTrue, unsigned_abs};
 ghost use Rattle.geom.specs.Covers.{within, IsSpan};
 ghost use Rattle.geom.specs.Grids;
-ghost use Rattle.geom.specs.Runs.{IsMeeting};
-ghost use Rattle.geom.specs.Sides.{IsSide};
+ghost use Rattle.geom.specs.IndexRanges.{IsMeeting};
+ghost use Rattle.geom.specs.Sides.{IsLayerSide};
 
 use crate::span::{Span, common_span};
 
 /// The numbers from `first` on and below `end`.
 #[derive(Clone, Copy, Debug)]
-pub struct Run {
+pub struct IndexRange {
     /// The least of them.
     pub first: u32,
     /// One above the greatest; `first` where there are none.
@@ -20,8 +20,8 @@ pub struct Run {
 /// How many tiles a side takes.
 #[tactic(auto, unfolding(crate::specs::Grids::tiles))]
 pub fn tiles(side: u32, tile: u32) -> u32
-    requires whole { IsSide side }
-    requires cut { IsSide tile }
+    requires whole { IsLayerSide side }
+    requires cut { IsLayerSide tile }
     ensures { result ≡ Grids.tiles side tile }
 {
     side.div_ceil(tile)
@@ -30,8 +30,8 @@ pub fn tiles(side: u32, tile: u32) -> u32
 /// Where tile `k` of a side starts, and how much of it the side has.
 #[tactic(auto, using(crate::proofs::Cuts::starts_below), unfolding(crate::specs::Grids::part_len))]
 pub fn part(side: u32, tile: u32, k: u32) -> Span
-    requires whole { IsSide side }
-    requires cut { IsSide tile }
+    requires whole { IsLayerSide side }
+    requires cut { IsLayerSide tile }
     requires there { k < Grids.tiles side tile }
     ensures start { result.at ≡ Grids.part_at tile k }
     ensures length { result.len ≡ Grids.part_len side tile k }
@@ -48,28 +48,28 @@ pub fn part(side: u32, tile: u32, k: u32) -> Span
 #[tactic(auto, unfolding(crate::specs::Covers::within))]
 pub fn tile_of(side: u32, tile: u32, at: i32) -> u32
     requires inside { IsTrue (within (pos 0) (pos side) at) }
-    requires cut { IsSide tile }
+    requires cut { IsLayerSide tile }
     ensures { result ≡ unsigned_abs at / tile }
 {
     at as u32 / tile
 }
 
 /// The tiles of a side that have a number in common with a span.
-pub fn tiles_meeting(side: u32, tile: u32, at: i32, len: i32) -> Run
-    requires whole { IsSide side }
-    requires cut { IsSide tile }
+pub fn tiles_meeting(side: u32, tile: u32, at: i32, len: i32) -> IndexRange
+    requires whole { IsLayerSide side }
+    requires cut { IsLayerSide tile }
     requires span { IsSpan at len }
     ensures { IsMeeting side tile at len result }
 {
     match common_span(0, side as i32, at, len) {
         Some(common) => run_of(tile, common.at, common.len),
-        None => Run { first: 0, end: 0 },
+        None => IndexRange { first: 0, end: 0 },
     }
 }
 
 /// The tiles in which the numbers of a span lie, which is not empty and has no number below 0.
-fn run_of(tile: u32, at: i32, len: i32) -> Run
-    requires cut { IsSide tile }
+fn run_of(tile: u32, at: i32, len: i32) -> IndexRange
+    requires cut { IsLayerSide tile }
     requires span { IsSpan at len }
     requires natural { pos 0 ≤ℤ at }
     requires some { pos 0 <ℤ len }
@@ -77,7 +77,7 @@ fn run_of(tile: u32, at: i32, len: i32) -> Run
     ensures end { result.end ≡ unsigned_abs (at +ℤ len -ℤ pos 1) / tile + 1 }
 {
     let last = at + len - 1;
-    Run {
+    IndexRange {
         first: at as u32 / tile,
         end: last as u32 / tile + 1,
     }

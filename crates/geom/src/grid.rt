@@ -2,12 +2,12 @@
 
 ghost use Rattle.std.specs.Prelude.{◌≡◌, ◌≤◌, Bool, true, IsTrue, IfOk};
 ghost use Rattle.geom.specs.Covers.{covers, IsSound};
-ghost use Rattle.geom.specs.Runs;
-ghost use Rattle.geom.specs.Runs.{IsMeeting};
+ghost use Rattle.geom.specs.IndexRanges;
+ghost use Rattle.geom.specs.IndexRanges.{IsMeeting};
 ghost use Rattle.geom.specs.Grids;
-ghost use Rattle.geom.specs.Grids.{bounds, has, place_of, places_touching, rect_of, CoverOnce, IsPlaceOf, PartTheLayer};
+ghost use Rattle.geom.specs.Grids.{bounds, has, place_of, places_touching, rect_of_place, CoverOnce, IsPlaceOf, PartTheLayer};
 
-use crate::cut::{Run, part, tile_of, tiles, tiles_meeting};
+use crate::cut::{IndexRange, part, tile_of, tiles, tiles_meeting};
 use crate::rect::{Point, Rect};
 use crate::tile::Place;
 use std::alloc::{AllocError, Global};
@@ -67,7 +67,7 @@ impl Grid {
 
     /// The columns of the places whose rect shares a point with `area`, if the rows are those of
     /// `rows_touching`.
-    pub fn columns_touching(self, area: Rect) -> Run
+    pub fn columns_touching(self, area: Rect) -> IndexRange
         requires { IsSound area }
         ensures { IsMeeting self.w self.tile area.x area.w result }
     {
@@ -76,7 +76,7 @@ impl Grid {
 
     /// The rows of the places whose rect shares a point with `area`, if the columns are those of
     /// `columns_touching`.
-    pub fn rows_touching(self, area: Rect) -> Run
+    pub fn rows_touching(self, area: Rect) -> IndexRange
         requires { IsSound area }
         ensures { IsMeeting self.h self.tile area.y area.h result }
     {
@@ -86,7 +86,7 @@ impl Grid {
     /// The rect of a place, which the grid is to have.
     pub fn rect_of(self, p: Place) -> Rect
         requires { IsTrue (has self p) }
-        ensures value { result ≡ rect_of self p }
+        ensures value { result ≡ rect_of_place self p }
         ensures sound { IsSound result }
     {
         let across = part(self.w, self.tile, p.x);
@@ -124,13 +124,13 @@ impl Grid {
 }
 
 /// The places of these columns and rows, by row and then by column.
-#[tactic(auto, unfolding(crate::specs::Runs::block))]
-fn block(alloc: Global, columns: Run, rows: Run) -> Result<Vec<Place>, AllocError>
+#[tactic(auto, unfolding(crate::specs::IndexRanges::block))]
+fn block(alloc: Global, columns: IndexRange, rows: IndexRange) -> Result<Vec<Place>, AllocError>
     requires columns_ordered { columns.first ≤ columns.end }
     requires rows_ordered { rows.first ≤ rows.end }
     requires few_columns { columns.end ≤ 16384 }
     requires few_rows { rows.end ≤ 16384 }
-    ensures { IfOk result (λ v. v.items ≡ Runs.block columns rows) }
+    ensures { IfOk result (λ v. v.items ≡ IndexRanges.block columns rows) }
 {
     let in_row = (columns.end - columns.first) as usize;
     let in_all = in_row * (rows.end - rows.first) as usize;

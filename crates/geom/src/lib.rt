@@ -10,7 +10,7 @@ mod rect;
 mod span;
 mod tile;
 
-pub use cut::Run;
+pub use cut::IndexRange;
 pub use grid::{Grid, places_cover_once, places_part_the_layer};
 pub use keys::Keys;
 pub use rect::{Point, Rect};

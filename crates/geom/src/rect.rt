@@ -2,7 +2,7 @@
 
 ghost use Rattle.std.specs.Prelude.{◌≡◌, ◌↔◌, ℤ, ◌+ℤ◌, ◌&&◌, Bool, false, IsTrue};
 ghost use Rattle.geom.specs.Covers.{covers, IsSound};
-ghost use Rattle.geom.specs.Common.{common, meets, nothing, Meet};
+ghost use Rattle.geom.specs.Common.{common, meets, empty_rect, Meet};
 ghost use Rattle.geom.specs.Gaps.{distance, shifted};
 
 use crate::span::{common_span, gap, have_common, is_within, moved, rect_of_spans};
@@ -47,7 +47,7 @@ impl Rect {
         requires sound { IsSound self }
         requires other_sound { IsSound other }
         ensures points { (x y : ℤ) → covers result x y ≡ (covers self x y && covers other x y) }
-        ensures none { (Meet self other → ⊥) → result ≡ nothing }
+        ensures none { (Meet self other → ⊥) → result ≡ empty_rect }
         ensures sound { IsSound result }
         ensures value { result ≡ common self other }
     {

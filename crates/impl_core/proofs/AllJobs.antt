@@ -14,7 +14,7 @@ use Rattle.model_history.specs.declared.history.Entry.{Entry}
 use Rattle.model_history.specs.Scripts.{ScriptModel}
 use Rattle.model_history.specs.Tiles.{live_keys}
 use Rattle.model_history.specs.Ranking.{wanted}
-use Rattle.model_steps.specs.ShownKeys.{Shows}
+use Rattle.model_steps.specs.ShownKeys.{KeyShows}
 use Rattle.impl_log.specs.Runs.{Run}
 use Rattle.impl_core.proofs.WantedKeys.{upcoming_live}
 
@@ -26,16 +26,16 @@ all_more P (y ∷ ys) x all one = (all.0, all_more P ys x all.1 one)
 pub record AreJobsOf (r : Run) (ranks : List Rank) (jobs : List Job) : Type 0 where
   pub keys : map (λ (j : Job). j.key) jobs ≡ map rank_key ranks
   pub sound : AllByRecursion (λ (j : Job). IsSound j.rect) jobs
-  pub shows : AllByRecursion (λ (j : Job). Shows r.script j.key j.rect j.list.value) jobs
+  pub shows : AllByRecursion (λ (j : Job). KeyShows r.script j.key j.rect j.list.value) jobs
 
 pub one_more_job : (r : Run) (ranks : List Rank) (i : ℕ) (d : Rank) (jobs : List Job) (j : Job) → i < length ranks → AreJobsOf r (take i ranks) jobs
-    → j.key ≡ (get_or ranks i d).key → IsSound j.rect → Shows r.script j.key j.rect j.list.value → AreJobsOf r (take (i + 1) ranks) (jobs ++ j ∷ [])
+    → j.key ≡ (get_or ranks i d).key → IsSound j.rect → KeyShows r.script j.key j.rect j.list.value → AreJobsOf r (take (i + 1) ranks) (jobs ++ j ∷ [])
 one_more_job r ranks i d jobs j lt are key sound shows = record {
   keys =
       map_push (λ (j : Job). j.key) jobs j
       ∙ ((λ k. are.keys k ++ key k ∷ []) ∙ sym (map_more rank_key ranks i d lt));
   sound = all_more (λ (j : Job). IsSound j.rect) jobs j are.sound sound;
-  shows = all_more (λ (j : Job). Shows r.script j.key j.rect j.list.value) jobs j are.shows shows;
+  shows = all_more (λ (j : Job). KeyShows r.script j.key j.rect j.list.value) jobs j are.shows shows;
 }
 
 -- a rank that is wanted first is of a live key

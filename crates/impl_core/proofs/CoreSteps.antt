@@ -18,14 +18,14 @@ use Rattle.model_history.proofs.BoolFacts.{is_same}
 use Rattle.model_history.proofs.DueFacts.{entry, at_ready}
 use Rattle.model_steps.specs.Events.{send, start, done}
 use Rattle.model_steps.proofs.TreesAfter.{send_pending}
-use Rattle.impl_log.specs.Runs.{Run, past, with_entry, is_plain, Plays}
+use Rattle.impl_log.specs.Runs.{Run, past, with_entry, is_plain_kind, Plays}
 use Rattle.impl_log.proofs.LogSteps.{past_more, plain_row}
 use Rattle.tile_manager.specs.Managers.{Managed, Manages}
-use Rattle.impl_host.specs.Hosts.{HostModel, Hosts}
+use Rattle.impl_host.specs.Hosts.{ImplHostModel, Hosts}
 use Rattle.impl_core.specs.inner.Cores.{Kept, IsPreparedFor, IsCore}
 
 -- at the beginning
-pub begin_core : (s : ScriptModel) (host : HostModel) (m : Managed) → Hosts s [] host → Manages s [] m → IsCore s [] (record { host = host; tiles = m; told = []; prepared = None; required = None })
+pub begin_core : (s : ScriptModel) (host : ImplHostModel) (m : Managed) → Hosts s [] host → Manages s [] m → IsCore s [] (record { host = host; tiles = m; told = []; prepared = None; required = None })
 begin_core s host m hosts holds = record { host = hosts; tiles = holds; told = λ t k e. absurd cc; prepared = λ t k e. absurd cc; required = tt }
 
 module _ (kept : Kept) where
@@ -48,7 +48,7 @@ module _ (kept : Kept) where
   refused r new same c = subst Keeps (sym same) c
 
   -- a plain event changes nothing of what is kept
-  plain_keeps : (s : ScriptModel) (h : List Entry) (a : ℕ) (e : Event) → is_plain (kind_of e) ≡ true → IsCore s h kept → IsCore s (entry a e ∷ h) kept
+  plain_keeps : (s : ScriptModel) (h : List Entry) (a : ℕ) (e : Event) → is_plain_kind (kind_of e) ≡ true → IsCore s h kept → IsCore s (entry a e ∷ h) kept
   plain_keeps s h a (event.Begin i) p c = c
   plain_keeps s h a event.BeginPlain p c = c
   plain_keeps s h a (event.Skip i) p c = c
@@ -58,15 +58,15 @@ module _ (kept : Kept) where
   plain_keeps s h a event.End p c = c
   plain_keeps s h a _ p c = absurd cc
 
-  pub played : (r new : Run) (k : Kind) (x : Result Bool AllocError) → is_plain k ≡ true → IfOk x (λ p. Plays r k 0 new p) → OnErr x (new ≡ r) → Keeps r → Keeps new
+  pub played : (r new : Run) (k : Kind) (x : Result Bool AllocError) → is_plain_kind k ≡ true → IfOk x (λ p. Plays r k 0 new p) → OnErr x (new ≡ r) → Keeps r → Keeps new
   played r new k (Ok true) plain ok err c =
       let row = plain_row r.script (past r) k ok.event plain ok.is_now in
-      one_more r new 0 ok.event ok.is_entered (plain_keeps r.script (past r) 0 ok.event (ap is_plain row.0 ∙ plain) c)
+      one_more r new 0 ok.event ok.is_entered (plain_keeps r.script (past r) 0 ok.event (ap is_plain_kind row.0 ∙ plain) c)
   played r new k (Ok false) plain ok err c = refused r new ok.1 c
   played r new k (Err full) plain ok err c = refused r new err c
 
 -- a core after a send
-pub send_core : (s : ScriptModel) (n : ℕ) (h : List Entry) (a k : ℕ) (ms told : List Move) (kept : Kept) (host : HostModel) → Legal s n (send a k ms ∷ h) → IsCore s h kept → Hosts s (send a k ms ∷ h) host
+pub send_core : (s : ScriptModel) (n : ℕ) (h : List Entry) (a k : ℕ) (ms told : List Move) (kept : Kept) (host : ImplHostModel) → Legal s n (send a k ms ∷ h) → IsCore s h kept → Hosts s (send a k ms ∷ h) host
     → Manages s (send a k ms ∷ h) kept.tiles → told ≡ ms
     → IsCore s (send a k ms ∷ h) (record { host = host; tiles = kept.tiles; told = told; prepared = kept.prepared; required = kept.required })
 send_core s n h a k ms told kept host legal core hosts holds is = record {

@@ -20,7 +20,7 @@ use Rattle.model_history.specs.Scans.{has_ended, counted, held}
 use Rattle.model_history.specs.Frames.{is_left, pending, active_page}
 use Rattle.model_history.specs.Scrolls.{accepted, next_pulls, next_clamps, active_offsets}
 use Rattle.model_history.specs.Tiles.{live_keys, required, are_ready}
-use Rattle.model_history.specs.Ranking.{first, evicted_for}
+use Rattle.model_history.specs.Ranking.{rank_to_start, evicted_for}
 use Rattle.model_history.specs.Due.{due, on_if, next_input, input_now, due_activate, due_scroll, due_wheel, due_start, due_done}
 use Rattle.model_history.specs.Legal.{is_open, can, Legal}
 use Rattle.model_history.proofs.DueFacts.{entry}
@@ -71,14 +71,14 @@ module _ (s : ScriptModel) (h : List Entry) where
   going : has_ended h ≡ false → is_open h kind.Start ≡ true
   going g = ap (λ b. not b && true) g
 
-  due_start_at : (w : ℕ) → due s h kind.Start (2 + w) ≡ due_start s h w (held w h) (first s h)
-  due_start_at w = ap (λ v. due_start s h v (held v h) (first s h)) (worker_back w)
+  due_start_at : (w : ℕ) → due s h kind.Start (2 + w) ≡ due_start s h w (held w h) (rank_to_start s h)
+  due_start_at w = ap (λ v. due_start s h v (held v h) (rank_to_start s h)) (worker_back w)
 
-  pub start_now : has_ended h ≡ false → (w : ℕ) → held w h ≡ None → (r : Rank) → first s h ≡ Some r → (q : TileKey) → r.key ≡ q → (ks : List TileKey) → ks ≡ evicted_for s h r
+  pub start_now : has_ended h ≡ false → (w : ℕ) → held w h ≡ None → (r : Rank) → rank_to_start s h ≡ Some r → (q : TileKey) → r.key ≡ q → (ks : List TileKey) → ks ≡ evicted_for s h r
       → can s h kind.Start (2 + w) ≡ Some (event.Start w q ks)
-  start_now g w free r is_first q key ks gives_up =
+  start_now g w free r is_first q key ks evictions =
       opened kind.Start (2 + w) (going g)
-      ∙ (due_start_at w ∙ ((λ j. due_start s h w (free j) (is_first j)) ∙ (λ j. Some (event.Start w (key j) (sym gives_up j)))))
+      ∙ (due_start_at w ∙ ((λ j. due_start s h w (free j) (is_first j)) ∙ (λ j. Some (event.Start w (key j) (sym evictions j)))))
 
   pub done_now : has_ended h ≡ false → (w : ℕ) (q : TileKey) → held w h ≡ Some q → can s h kind.Done (2 + w) ≡ Some (event.DoneTile w q)
   done_now g w q holds =
@@ -89,13 +89,13 @@ module _ (s : ScriptModel) (h : List Entry) where
 pub record IsFirst (s : ScriptModel) (h : List Entry) (q : TileKey) : Type 0 where
   pub going : has_ended h ≡ false
   pub rank : Rank
-  pub is_first : first s h ≡ Some rank
+  pub is_first : rank_to_start s h ≡ Some rank
   pub key : rank.key ≡ q
 
-pub next_first : (s : ScriptModel) (h : List Entry) (q : TileKey) → cond (has_ended h) None (option_map rank_key (first s h)) ≡ Some q → IsFirst s h q
-next_first s h q e = by_cases (has_ended h) (first s h) refl refl e
+pub next_first : (s : ScriptModel) (h : List Entry) (q : TileKey) → cond (has_ended h) None (option_map rank_key (rank_to_start s h)) ≡ Some q → IsFirst s h q
+next_first s h q e = by_cases (has_ended h) (rank_to_start s h) refl refl e
   where
-    by_cases : (b : Bool) (o : Option Rank) → has_ended h ≡ b → first s h ≡ o → cond b None (option_map rank_key o) ≡ Some q → IsFirst s h q
+    by_cases : (b : Bool) (o : Option Rank) → has_ended h ≡ b → rank_to_start s h ≡ o → cond b None (option_map rank_key o) ≡ Some q → IsFirst s h q
     by_cases false (Some r) g f e = record { going = g; rank = r; is_first = f; key = cc }
     by_cases false None g f e = absurd cc
     by_cases true o g f e = absurd cc

@@ -11,12 +11,12 @@ use Rattle.model_history.specs.declared.history.Entry.{Entry}
 use Rattle.model_history.specs.Scripts.{ScriptModel}
 use Rattle.model_history.specs.Frames.{active_page}
 use Rattle.model_history.specs.Scrolls.{active_offsets}
-use Rattle.model_history.specs.Tiles.{missing}
+use Rattle.model_history.specs.Tiles.{missing_visible}
 use Rattle.impl_core.specs.Replies.{IsPicture}
 
 pub is_picture : {D E : Type 0} (scene : D → SceneView) (s : ScriptModel) (h : List Entry) (p : Page) (x : Result D E) → p ≡ active_page s h
     → IfOk x (λ d. (scene d).w ≡ p.view.w) → IfOk x (λ d. (scene d).h ≡ p.view.h)
-    → IfOk x (λ d. (x y : ℤ) → covers (viewport p) x y ≡ true → scene_pixel (scene d) x y ≡ paint (active_page s h) (active_offsets s h) (missing s h) s.background x y)
+    → IfOk x (λ d. (x y : ℤ) → covers (viewport p) x y ≡ true → scene_pixel (scene d) x y ≡ paint (active_page s h) (active_offsets s h) (missing_visible s h) s.background x y)
     → IfOk x (λ d. IsPicture s h (scene d))
 is_picture scene s h p (Ok d) page w t pixels = record {
   width = w ∙ ap (λ (q : Page). q.view.w) page;

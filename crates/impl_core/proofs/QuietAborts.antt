@@ -9,13 +9,13 @@ use Rattle.model_history.specs.Legal.{Legal}
 use Rattle.model_history.proofs.BoolFacts.{same_number}
 use Rattle.model_steps.specs.Events.{abort}
 use Rattle.model_steps.proofs.TreesAfter.{abort_active, abort_pending, abort_choice}
-use Rattle.impl_scroll.specs.Rows.{is_among}
+use Rattle.impl_scroll.specs.Rows.{has_number}
 use Rattle.tile_prepare.proofs.SameTiles.{same_tiles}
 use Rattle.tile_manager.specs.Managers.{Managed, Manages}
 use Rattle.tile_manager.proofs.OtherTiles.{reseen, stays_foreseen}
 
 -- an empty list names no scroller
-pub none_named : (ids : List ℕ) → (length ids == 0) ≡ true → (sc : ℕ) → is_among ids sc ≡ false
+pub none_named : (ids : List ℕ) → (length ids == 0) ≡ true → (sc : ℕ) → has_number ids sc ≡ false
 none_named [] e sc = refl
 none_named (i ∷ is) e sc = let z : length (i ∷ is) ≡ 0 = same_number (length (i ∷ is)) 0 e in absurd (omega (arith, z))
 

@@ -10,10 +10,10 @@ use Rattle.model_history.specs.Tiles.{required}
 use Rattle.model_history.proofs.DueFacts.{entry}
 use Rattle.model_steps.specs.Events.{abort}
 use Rattle.tile_manager.specs.Managers.{Managed, Manages}
-use Rattle.impl_host.specs.Hosts.{HostModel, Hosts}
+use Rattle.impl_host.specs.Hosts.{ImplHostModel, Hosts}
 use Rattle.impl_core.specs.inner.Cores.{Kept, IsCore}
 
-module _ (s : ScriptModel) (h : List Entry) (kept : Kept) (core : IsCore s h kept) (host : HostModel) (m : Managed) (needed : Option (List TileKey)) where
+module _ (s : ScriptModel) (h : List Entry) (kept : Kept) (core : IsCore s h kept) (host : ImplHostModel) (m : Managed) (needed : Option (List TileKey)) where
   abbrev then : Kept
   then = record { host = host; tiles = m; told = kept.told; prepared = kept.prepared; required = needed }
 

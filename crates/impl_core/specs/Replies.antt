@@ -23,10 +23,10 @@ use Rattle.model_history.specs.EventFields.{sends}
 use Rattle.model_history.specs.Scans.{has_ended, newest}
 use Rattle.model_history.specs.Frames.{pulls_of, active_page}
 use Rattle.model_history.specs.Scrolls.{active_offsets}
-use Rattle.model_history.specs.Tiles.{missing}
-use Rattle.model_history.specs.Ranking.{first, wanted}
+use Rattle.model_history.specs.Tiles.{missing_visible}
+use Rattle.model_history.specs.Ranking.{rank_to_start, wanted}
 use Rattle.model_history.specs.Legal.{sched}
-use Rattle.model_steps.specs.ShownKeys.{Shows}
+use Rattle.model_steps.specs.ShownKeys.{KeyShows}
 use Rattle.impl_log.specs.Runs.{Run, past, now, with_entry, Entered}
 use Rattle.impl_core.specs.declared.reply.Reply.{Reply}
 use Rattle.impl_core.specs.declared.reply.Reply.TheVariants as reply
@@ -55,13 +55,13 @@ is_played (e ∷ f ∷ es) = is_played (f ∷ es)
 
 -- the key that starts next: none where the run has ended, or where none may start
 abbrev pub next_key : Run → Option TileKey
-next_key r = cond (has_ended (past r)) None (option_map rank_key (first r.script (past r)))
+next_key r = cond (has_ended (past r)) None (option_map rank_key (rank_to_start r.script (past r)))
 
 -- the main frame that was sent and has not ended, with its pulls
 abbrev pub told_frame : Run → Option (ℕ × List Move)
 told_frame r = cond (is_sent (sched (past r)).main_state) (option_map (λ k. (k, pulls_of (past r) k)) (newest sends (past r))) None
 
--- a worker has started a key, the next one, and what it gives up is what the model gives up
+-- a worker has started a key, the next one, and what it evicts is what the model evicts
 pub record StartsKey (old : Run) (w : ℕ) (key : TileKey) (new : Run) : Type 0 where
   pub evicted : List TileKey
   pub is_next : next_key old ≡ Some key
@@ -71,13 +71,13 @@ pub record StartsKey (old : Run) (w : ℕ) (key : TileKey) (new : Run) : Type 0 
 -- a worker has started the key of this job, whose rect is sound, and which shows it in every page of the script that has it; or none may start, and nothing has changed
 abbrev pub Starts : Run → ℕ → Run → Option Job → Type 0
 Starts old w new None = (next_key old ≡ None) × (now old kind.Start (2 + w) ≡ None) × (new ≡ old)
-Starts old w new (Some job) = StartsKey old w job.key new × IsSound job.rect × Shows old.script job.key job.rect job.list.value
+Starts old w new (Some job) = StartsKey old w job.key new × IsSound job.rect × KeyShows old.script job.key job.rect job.list.value
 
 -- the picture of a run is the painting of the active page at its offsets, with the tiles missing that are not ready
 pub record IsPicture (s : ScriptModel) (h : List Entry) (scene : SceneView) : Type 0 where
   pub width : scene.w ≡ (active_page s h).view.w
   pub height : scene.h ≡ (active_page s h).view.h
-  pub pixels : (x y : ℤ) → covers (viewport (active_page s h)) x y ≡ true → scene_pixel scene x y ≡ paint (active_page s h) (active_offsets s h) (missing s h) s.background x y
+  pub pixels : (x y : ℤ) → covers (viewport (active_page s h)) x y ≡ true → scene_pixel scene x y ≡ paint (active_page s h) (active_offsets s h) (missing_visible s h) s.background x y
 
 -- the active tree was drawn, and this is what it shows
 pub record DrawsScene (old new : Run) (scene : SceneView) : Type 0 where
@@ -90,19 +90,19 @@ Draws old new None = (now old kind.Draw 0 ≡ None) × (new ≡ old)
 Draws old new (Some scene) = DrawsScene old new scene
 
 -- the kind of a draw
-abbrev pub is_draw : Kind → Bool
-is_draw kind.Draw = true
-is_draw _ = false
+abbrev pub is_draw_kind : Kind → Bool
+is_draw_kind kind.Draw = true
+is_draw_kind _ = false
 
 -- the answer to a kind of the compositor: its one event was entered, a draw with its scene; or none might come, and nothing has changed; or memory was refused, and nothing has changed
-abbrev pub Answers : Run → Kind → Run → Result Reply CoreFault → Type 0
-Answers old k new (Ok reply.Plain) = (is_draw k ≡ false) × Entered old k 0 new
-Answers old k new (Ok (reply.Scene scene)) = (k ≡ kind.Draw) × DrawsScene old new scene
-Answers old k new (Err (fault.NotNow state asked)) = (now old k 0 ≡ None) × (new ≡ old) × (state ≡ sched (past old)) × (asked ≡ k)
-Answers old k new (Err (fault.Memory refused)) = new ≡ old
+abbrev pub IsReply : Run → Kind → Run → Result Reply CoreFault → Type 0
+IsReply old k new (Ok reply.Plain) = (is_draw_kind k ≡ false) × Entered old k 0 new
+IsReply old k new (Ok (reply.Scene scene)) = (k ≡ kind.Draw) × DrawsScene old new scene
+IsReply old k new (Err (fault.NotNow state asked)) = (now old k 0 ≡ None) × (new ≡ old) × (state ≡ sched (past old)) × (asked ≡ k)
+IsReply old k new (Err (fault.Memory refused)) = new ≡ old
 
 -- they make the first so many tiles that are wanted, the most urgent first, each as every page of the script shows it that has its key
 pub record AreUpcoming (r : Run) (most : ℕ) (jobs : List Job) : Type 0 where
   pub keys : map (λ (j : Job). j.key) jobs ≡ map rank_key (take most (in_order rank_cmp (wanted r.script (past r))))
   pub sound : AllByRecursion (λ (j : Job). IsSound j.rect) jobs
-  pub shows : AllByRecursion (λ (j : Job). Shows r.script j.key j.rect j.list.value) jobs
+  pub shows : AllByRecursion (λ (j : Job). KeyShows r.script j.key j.rect j.list.value) jobs

@@ -6,7 +6,7 @@ ghost use Rattle.model_history.specs.declared.event.Event.TheVariants as event;
 ghost use Rattle.model_history.specs.Frames.{pending};
 ghost use Rattle.model_history.specs.Scrolls.{clobbers};
 ghost use Rattle.model_steps.specs.Events.{abort};
-ghost use Rattle.impl_scroll.specs.Standings.{Stands};
+ghost use Rattle.impl_scroll.specs.Standings.{StandsForPast};
 ghost use Rattle.impl_log.specs.Runs.{past, now, with_entry};
 
 use crate::core_state::Core;
@@ -19,7 +19,7 @@ impl Core {
     // trees stay where they stand, and so does what there is to choose from.
     fn abort_in_place(&mut self, frame: u32, standing: Standing) -> Result<(), AllocError>
         requires is_now { now self.old kind.Abort 1 ≡ Some (event.Abort frame) }
-        requires stands { Stands self.old.script (abort 1 frame ∷ past self.old) standing }
+        requires stands { StandsForPast self.old.script (abort 1 frame ∷ past self.old) standing }
         requires none_outright { (sc : ℕ) → clobbers self.old.script (pending (past self.old)) sc ≡ false }
         ensures ok { OnOk result (self.new ≡ with_entry self.old 1 (event.Abort frame)) }
         ensures err { OnErr result (self.new ≡ self.old) }
@@ -33,7 +33,7 @@ impl Core {
     // Enters the abort of a frame, with the ranks of what there is to choose from then.
     fn abort_moving(&mut self, frame: u32, standing: Standing) -> Result<(), AllocError>
         requires is_now { now self.old kind.Abort 1 ≡ Some (event.Abort frame) }
-        requires stands { Stands self.old.script (abort 1 frame ∷ past self.old) standing }
+        requires stands { StandsForPast self.old.script (abort 1 frame ∷ past self.old) standing }
         ensures ok { OnOk result (self.new ≡ with_entry self.old 1 (event.Abort frame)) }
         ensures err { OnErr result (self.new ≡ self.old) }
     {

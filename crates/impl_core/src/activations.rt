@@ -6,7 +6,7 @@ ghost use Rattle.model_history.specs.Frames.{pending};
 ghost use Rattle.model_history.specs.Scrolls.{next_clamps};
 ghost use Rattle.model_history.specs.Tiles.{are_ready, required};
 ghost use Rattle.model_steps.specs.Events.{activate};
-ghost use Rattle.impl_scroll.specs.Standings.{Stands};
+ghost use Rattle.impl_scroll.specs.Standings.{StandsForPast};
 ghost use Rattle.tile_prepare.specs.Rebuilds.{AreForActivation};
 ghost use Rattle.impl_log.specs.Runs.{past, now, Entered, Plays};
 
@@ -105,7 +105,7 @@ impl Core {
         requires waits { pending (past self.now) ≡ Some frame }
         requires may { is_some (now self.now kind.Activate 0) ≡ true }
         ensures clamps { IfOk result (λ r. r.0 ≡ next_clamps self.now.script (past self.now)) }
-        ensures stands { IfOk result (λ r. Stands self.now.script (activate 0 frame (next_clamps self.now.script (past self.now)) ∷ past self.now) r.1) }
+        ensures stands { IfOk result (λ r. StandsForPast self.now.script (activate 0 frame (next_clamps self.now.script (past self.now)) ∷ past self.now) r.1) }
     {
         // The contract alone speaks of the frame.
         let _ = frame;

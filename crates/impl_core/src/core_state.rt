@@ -6,13 +6,13 @@ ghost use Rattle.page_layers.specs.Axes.{across, down};
 ghost use Rattle.model_history.specs.Accepted.{IsAccepted};
 ghost use Rattle.model_history.specs.Frames as frames;
 ghost use Rattle.model_history.specs.Legal as legal;
-ghost use Rattle.model_history.specs.Ranking.{first};
+ghost use Rattle.model_history.specs.Ranking.{rank_to_start};
 ghost use Rattle.model_history.specs.Scans as scans;
 ghost use Rattle.model_history.specs.Values as values;
 ghost use Rattle.impl_log.specs.Progress as progress;
 ghost use Rattle.impl_log.specs.Runs.{new_run, past};
 ghost use Rattle.tile_queue.specs.Queues.{rank_key};
-ghost use Rattle.model_history.specs.Tiles.{used};
+ghost use Rattle.model_history.specs.Tiles.{tiles_used};
 ghost use Rattle.impl_core.specs.Replies as replies;
 ghost use Rattle.impl_core.specs.Replies.{next_key, told_frame, is_played};
 
@@ -184,7 +184,7 @@ impl Core {
 
     /// How many tiles there are, ready or in flight; at 0 no key is ready.
     pub fn used(&self) -> u32
-        ensures { result ≡ used self.now.script (past self.now) }
+        ensures { result ≡ tiles_used self.now.script (past self.now) }
     {
         self.log.is_legal();
         self.tiles.used()
@@ -216,7 +216,7 @@ impl Core {
     /// The key of the tile that is to be made first, whether or not the run has ended; None exactly where none
     /// is to be made or no room can be made for one. An error is want of memory; the run stays in any case.
     pub fn first(&mut self) -> Result<Option<TileKey>, AllocError>
-        ensures key { IfOk result (λ key. key ≡ option_map rank_key (first self.old.script (past self.old))) }
+        ensures key { IfOk result (λ key. key ≡ option_map rank_key (rank_to_start self.old.script (past self.old))) }
         ensures same { self.new ≡ self.old }
     {
         self.log.is_legal();

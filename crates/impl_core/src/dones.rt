@@ -3,7 +3,7 @@
 ghost use Rattle.std.specs.Prelude.{◌≡◌, ◌+◌, false, Some};
 ghost use Rattle.model_history.specs.declared.event.Event.TheVariants as event;
 ghost use Rattle.model_history.specs.Scans.{has_ended, held};
-ghost use Rattle.model_steps.specs.ShownKeys.{Shows};
+ghost use Rattle.model_steps.specs.ShownKeys.{KeyShows};
 ghost use Rattle.tile_manager.specs.Managers.{tile_made};
 ghost use Rattle.impl_log.specs.Runs.{past, with_entry};
 
@@ -18,7 +18,7 @@ impl Core {
     pub(crate) fn done_tile(&mut self, worker: u32, image: Arc<TileImage>, tile: Option<ReadyTile>)
         requires going { has_ended (past self.old) ≡ false }
         requires holds { held worker (past self.old) ≡ Some image.value.key }
-        requires shows { Shows self.old.script image.value.key image.value.rect image.value.list }
+        requires shows { KeyShows self.old.script image.value.key image.value.rect image.value.list }
         requires tile { tile ≡ tile_made self.old.script (past self.old) image.value.key }
         ensures { self.new ≡ with_entry self.old (2 + worker) (event.DoneTile worker image.value.key) }
     {
@@ -35,7 +35,7 @@ impl Core {
     pub fn done(&mut self, worker: u32, image: Arc<TileImage>)
         requires going { has_ended (past self.old) ≡ false }
         requires holds { held worker (past self.old) ≡ Some image.value.key }
-        requires shows { Shows self.old.script image.value.key image.value.rect image.value.list }
+        requires shows { KeyShows self.old.script image.value.key image.value.rect image.value.list }
         ensures { self.new ≡ with_entry self.old (2 + worker) (event.DoneTile worker image.value.key) }
     {
         let key = image.key();

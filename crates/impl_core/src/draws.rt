@@ -4,7 +4,7 @@ ghost use Rattle.std.specs.Prelude.{◌≡◌, Some, None, is_some, true, IfOk, 
 ghost use Rattle.model_scheduler.specs.declared.kind.Kind.TheVariants as kind;
 ghost use Rattle.model_history.specs.declared.event.Event.TheVariants as event;
 ghost use Rattle.model_history.specs.Frames.{active};
-ghost use Rattle.model_history.specs.Tiles.{missing};
+ghost use Rattle.model_history.specs.Tiles.{missing_visible};
 ghost use Rattle.impl_log.specs.Runs.{past, now};
 ghost use Rattle.impl_core.specs.Replies.{Draws, IsPicture};
 
@@ -19,7 +19,7 @@ use viz_scene::Scene;
 impl Core {
     /// The draw that may be made now, by its place among the inputs, if there is one.
     pub(crate) fn draw_now(&self) -> Option<u32>
-        ensures draw { IfSome result (λ input. now self.now kind.Draw 0 ≡ Some (event.Draw input (missing self.now.script (past self.now)))) }
+        ensures draw { IfSome result (λ input. now self.now kind.Draw 0 ≡ Some (event.Draw input (missing_visible self.now.script (past self.now)))) }
         ensures active { IfSome result (λ _. is_some (active (past self.now)) ≡ true) }
         ensures none { IsNone result → now self.now kind.Draw 0 ≡ None }
     {
@@ -35,7 +35,7 @@ impl Core {
     // What a draw shows now. There is an active tree.
     fn drawing(&self) -> Result<Drawing, AllocError>
         requires { is_some (active (past self.now)) ≡ true }
-        ensures missing { IfOk result (λ drawing. drawing.missing ≡ missing self.now.script (past self.now)) }
+        ensures missing { IfOk result (λ drawing. drawing.missing ≡ missing_visible self.now.script (past self.now)) }
         ensures picture { IfOk result (λ drawing. IsPicture self.now.script (past self.now) drawing.scene) }
     {
         let Some(page) = self.host.pages().active else {

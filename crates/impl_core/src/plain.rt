@@ -2,7 +2,7 @@
 
 ghost use Rattle.std.specs.Prelude.{◌≡◌, true, is_some, IfOk, OnErr};
 ghost use Rattle.model_scheduler.specs.declared.kind.Kind.TheVariants as kind;
-ghost use Rattle.impl_log.specs.Runs.{now, is_plain, Plays};
+ghost use Rattle.impl_log.specs.Runs.{now, is_plain_kind, Plays};
 
 use crate::core_state::Core;
 use model_history::{Event, Input};
@@ -13,7 +13,7 @@ impl Core {
     /// Enters the event of a plain kind, where one may come now, and answers whether there was one. An error
     /// is want of memory, and nothing was entered.
     pub fn play_plain(&mut self, kind: Kind) -> Result<bool, AllocError>
-        requires { is_plain kind ≡ true }
+        requires { is_plain_kind kind ≡ true }
         ensures plays { IfOk result (λ played. Plays self.old kind 0 self.new played) }
         ensures err { OnErr result (self.new ≡ self.old) }
     {
@@ -22,7 +22,7 @@ impl Core {
 
     /// Whether an event of a plain kind may come now.
     pub fn may_plain(&self, kind: Kind) -> bool
-        requires { is_plain kind ≡ true }
+        requires { is_plain_kind kind ≡ true }
         ensures { result ≡ is_some (now self.now kind 0) }
     {
         self.log.plain_now(kind).is_some()

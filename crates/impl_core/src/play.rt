@@ -3,7 +3,7 @@
 ghost use Rattle.std.specs.Prelude.{◌≡◌, true, false, is_some, IfOk, OnErr};
 ghost use Rattle.model_scheduler.specs.declared.kind.Kind.TheVariants as kind;
 ghost use Rattle.impl_log.specs.Runs.{now, Plays};
-ghost use Rattle.impl_core.specs.Replies.{is_own, is_draw, Answers};
+ghost use Rattle.impl_core.specs.Replies.{is_own, is_draw_kind, IsReply};
 
 use crate::core_state::Core;
 use crate::reply::{CoreFault, Reply};
@@ -14,7 +14,7 @@ impl Core {
     // Plays an event that shows nothing, where one may come now, and answers whether there was one.
     fn play_unseen(&mut self, kind: Kind) -> Result<bool, AllocError>
         requires own { is_own kind ≡ true }
-        requires unseen { is_draw kind ≡ false }
+        requires unseen { is_draw_kind kind ≡ false }
         ensures plays { IfOk result (λ played. Plays self.old kind 0 self.new played) }
         ensures err { OnErr result (self.new ≡ self.old) }
     {
@@ -32,8 +32,8 @@ impl Core {
     // The same with the cause where there was none.
     fn reply_unseen(&mut self, kind: Kind) -> Result<Reply, CoreFault>
         requires own { is_own kind ≡ true }
-        requires unseen { is_draw kind ≡ false }
-        ensures { Answers self.old kind self.new result }
+        requires unseen { is_draw_kind kind ≡ false }
+        ensures { IsReply self.old kind self.new result }
     {
         let sched = self.log.progress().sched;
         match self.play_unseen(kind) {
@@ -45,7 +45,7 @@ impl Core {
 
     // A draw with its scene, or with the cause where there was none.
     fn reply_drawn(&mut self) -> Result<Reply, CoreFault>
-        ensures { Answers self.old kind.Draw self.new result }
+        ensures { IsReply self.old kind.Draw self.new result }
     {
         let sched = self.log.progress().sched;
         match self.draw() {
@@ -63,7 +63,7 @@ impl Core {
     /// the present state of the scheduler; on an error nothing was entered.
     pub fn play(&mut self, kind: Kind) -> Result<Reply, CoreFault>
         requires { is_own kind ≡ true }
-        ensures { Answers self.old kind self.new result }
+        ensures { IsReply self.old kind self.new result }
     {
         match kind {
             Kind::Draw => self.reply_drawn(),

@@ -24,13 +24,13 @@ impl Core {
         self.log.is_legal();
         look(self.alloc, self.log.script(), &self.host, &mut self.tiles)?;
         let evicted = self.tiles.evicted(key)?;
-        let given_up = evicted.copy()?;
+        let evicted_keys = evicted.copy()?;
         self.tiles.reserve()?;
         let actor = 2 + worker;
         let event = Event::Start {
             worker,
             key,
-            evicted: given_up,
+            evicted: evicted_keys,
         };
         self.log.enter(actor, event)?;
         self.tiles.start(key, &evicted);

@@ -7,7 +7,7 @@ ghost use Rattle.tile_priority.specs.Ranks.{rank_cmp};
 ghost use Rattle.tile_priority.specs.Ordered.{in_order};
 ghost use Rattle.model_history.specs.Tiles.{live_keys};
 ghost use Rattle.model_history.specs.Ranking.{wanted};
-ghost use Rattle.model_steps.specs.ShownKeys.{Shows};
+ghost use Rattle.model_steps.specs.ShownKeys.{KeyShows};
 ghost use Rattle.impl_log.specs.Runs.{past};
 ghost use Rattle.impl_core.specs.Replies.{AreUpcoming};
 
@@ -24,7 +24,7 @@ impl Core {
         requires { has_key (live_keys self.now.script (past self.now)) key ≡ true }
         ensures key { IfOk result (λ job. job.key ≡ key) }
         ensures sound { IfOk result (λ job. IsSound job.rect) }
-        ensures shows { IfOk result (λ job. Shows self.now.script key job.rect job.list.value) }
+        ensures shows { IfOk result (λ job. KeyShows self.now.script key job.rect job.list.value) }
     {
         self.log.is_legal();
         match self.host.job(key)? {

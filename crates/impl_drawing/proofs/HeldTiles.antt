@@ -12,7 +12,7 @@ use Rattle.tile_raster.specs.Images.{Image}
 use Rattle.tile_store.specs.Stores.{Store, image_of, is_ready}
 use Rattle.page_layers.specs.Layers.{PageLayer, has_id}
 use Rattle.page_layers.specs.Pages.{Page}
-use Rattle.viz_quads.specs.Shown.{Tile, missing_keys, IsImageOf, MayStand, AreRight}
+use Rattle.viz_quads.specs.ShownTiles.{PageTile, missing_keys, IsImageOf, ImageMayStand, AreShownTiles}
 use Rattle.model_history.specs.declared.history.Entry.{Entry}
 use Rattle.model_history.specs.Scripts.{ScriptModel}
 use Rattle.model_history.specs.Frames.{pulls_of, active, up_to, active_page}
@@ -20,7 +20,7 @@ use Rattle.model_history.specs.Scrolls.{active_offsets}
 use Rattle.model_history.specs.Stamps.{place_rect, stamp_in}
 use Rattle.model_history.specs.Sharing.{has_page_key}
 use Rattle.model_history.specs.Ranking.{place_named}
-use Rattle.model_history.specs.Tiles.{active_tree, visible_in, ready, missing}
+use Rattle.model_history.specs.Tiles.{active_tree, visible_in, ready, missing_visible}
 use Rattle.model_history.proofs.BoolFacts.{or_left, or_right}
 use Rattle.model_history.proofs.StampFacts.{visible_is_key}
 use Rattle.model_steps.proofs.Picks.{filter_same}
@@ -38,12 +38,12 @@ missing_held store [] = refl
 missing_held store (k ∷ ks) = at_head (is_none (image_of store k)) (none_is_not (image_of store k)) (missing_held store ks)
   where
     at_head : (b : Bool) → b ≡ not (is_ready store k) → missing_keys (map (held_tile store) ks) ≡ filter (λ q. not (is_ready store q)) ks
-        → map (λ (t : Tile). t.key) (cond b (held_tile store k ∷ filter (λ t. is_none t.image) (map (held_tile store) ks)) (filter (λ t. is_none t.image) (map (held_tile store) ks)))
+        → map (λ (t : PageTile). t.key) (cond b (held_tile store k ∷ filter (λ t. is_none t.image) (map (held_tile store) ks)) (filter (λ t. is_none t.image) (map (held_tile store) ks)))
         ≡ cond (not (is_ready store k)) (k ∷ filter (λ q. not (is_ready store q)) ks) (filter (λ q. not (is_ready store q)) ks)
     at_head true e r = ap (λ ls. k ∷ ls) r ∙ ap (λ b. cond b (k ∷ filter (λ q. not (is_ready store q)) ks) (filter (λ q. not (is_ready store q)) ks)) e
     at_head false e r = r ∙ ap (λ b. cond b (k ∷ filter (λ q. not (is_ready store q)) ks) (filter (λ q. not (is_ready store q)) ks)) e
 
-keys_held : (store : Store) (ks : List TileKey) → map (λ (t : Tile). t.key) (map (held_tile store) ks) ≡ ks
+keys_held : (store : Store) (ks : List TileKey) → map (λ (t : PageTile). t.key) (map (held_tile store) ks) ≡ ks
 keys_held store [] = refl
 keys_held store (k ∷ ks) = ap (λ ls. k ∷ ls) (keys_held store ks)
 
@@ -54,15 +54,15 @@ module _ (s : ScriptModel) (h : List Entry) (m : Managed) (holds : Manages s h m
   abbrev is_key : TileKey → Type 0
   is_key q = has_page_key s (pulls_of h) (up_to (active h)) q ≡ true
 
-  missing_is : filter (λ q. not (is_ready m.store q)) (visible_in (active_tree s h)) ≡ missing s h
+  missing_is : filter (λ q. not (is_ready m.store q)) (visible_in (active_tree s h)) ≡ missing_visible s h
   missing_is = filter_same (λ q. not (is_ready m.store q)) (λ q. not (has_key (ready s h) q)) (visible_in (active_tree s h)) (λ q i. ap not (holds.ready q))
 
   -- of the tiles of the visible keys, those without an image are the missing ones
-  pub missing_among : (ks : List TileKey) (tiles : List Tile) → ks ≡ visible_in (active_tree s h) → tiles ≡ map (held_tile m.store) ks → missing_keys tiles ≡ missing s h
+  pub missing_among : (ks : List TileKey) (tiles : List PageTile) → ks ≡ visible_in (active_tree s h) → tiles ≡ map (held_tile m.store) ks → missing_keys tiles ≡ missing_visible s h
   missing_among ks tiles keys is = ap missing_keys is ∙ (missing_held m.store ks ∙ (ap (λ (qs : List TileKey). filter (λ q. not (is_ready m.store q)) qs) keys ∙ missing_is))
 
   -- an image of a key of the page may stand for its tile
-  may_stand : (q : TileKey) → is_key q → MayStand (active_page s h) (held_tile m.store q)
+  may_stand : (q : TileKey) → is_key q → ImageMayStand (active_page s h) (held_tile m.store q)
   may_stand q has = by_image (image_of m.store q) refl
     where
       by_image : (o : Option Image) → image_of m.store q ≡ o
@@ -76,13 +76,13 @@ module _ (s : ScriptModel) (h : List Entry) (m : Managed) (holds : Manages s h m
                 (sym (shows.content (pulls_of h) (up_to (active h)) has x y c) ∙ ap (λ (o : Option PageLayer). option_map (λ k. content k.items x y) o) is);
           }
 
-  all_stand : (ks : List TileKey) → ((q : TileKey) → has_key ks q ≡ true → is_key q) → All (MayStand (active_page s h)) (map (held_tile m.store) ks)
-  all_stand [] f = All-nil (MayStand (active_page s h))
+  all_stand : (ks : List TileKey) → ((q : TileKey) → has_key ks q ≡ true → is_key q) → All (ImageMayStand (active_page s h)) (map (held_tile m.store) ks)
+  all_stand [] f = All-nil (ImageMayStand (active_page s h))
   all_stand (k ∷ ks) f =
-      All-cons (MayStand (active_page s h)) (held_tile m.store k) (map (held_tile m.store) ks) (may_stand k (f k (or_left (same_key k k) (has_key ks k) (key_itself k))))
+      All-cons (ImageMayStand (active_page s h)) (held_tile m.store k) (map (held_tile m.store) ks) (may_stand k (f k (or_left (same_key k k) (has_key ks k) (key_itself k))))
       (all_stand ks (λ q t. f q (or_right (same_key k q) (has_key ks q) t)))
 
-  pub are_right : AreRight (active_page s h) (active_offsets s h) (map (held_tile m.store) (visible_in (active_tree s h)))
+  pub are_right : AreShownTiles (active_page s h) (active_offsets s h) (map (held_tile m.store) (visible_in (active_tree s h)))
   are_right = record {
     stamp = stamp_in s (pulls_of h) (up_to (active h));
     keys = keys_held m.store (visible_in (active_tree s h));
@@ -90,8 +90,8 @@ module _ (s : ScriptModel) (h : List Entry) (m : Managed) (holds : Manages s h m
   }
 
   -- for a page that is the active one, at offsets that are its own
-  pub right_for : (p : Page) (f : ℕ → Point) (ks : List TileKey) (tiles : List Tile) → p ≡ active_page s h → f ≡ active_offsets s h → ks ≡ visible_in (active_tree s h) → tiles ≡ map (held_tile m.store) ks → AreRight p f tiles
+  pub right_for : (p : Page) (f : ℕ → Point) (ks : List TileKey) (tiles : List PageTile) → p ≡ active_page s h → f ≡ active_offsets s h → ks ≡ visible_in (active_tree s h) → tiles ≡ map (held_tile m.store) ks → AreShownTiles p f tiles
   right_for p f ks tiles page offsets keys is =
-      subst (λ (ts : List Tile). AreRight p f ts) (sym (is ∙ ap (map (held_tile m.store)) keys))
-      (subst (λ (g : ℕ → Point). AreRight p g (map (held_tile m.store) (visible_in (active_tree s h)))) (sym offsets)
-      (subst (λ (q : Page). AreRight q (active_offsets s h) (map (held_tile m.store) (visible_in (active_tree s h)))) (sym page) are_right))
+      subst (λ (ts : List PageTile). AreShownTiles p f ts) (sym (is ∙ ap (map (held_tile m.store)) keys))
+      (subst (λ (g : ℕ → Point). AreShownTiles p g (map (held_tile m.store) (visible_in (active_tree s h)))) (sym offsets)
+      (subst (λ (q : Page). AreShownTiles q (active_offsets s h) (map (held_tile m.store) (visible_in (active_tree s h)))) (sym page) are_right))

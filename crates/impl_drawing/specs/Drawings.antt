@@ -4,7 +4,7 @@ use Rattle.geom.specs.declared.rect.Point.{Point}
 use Rattle.geom.specs.declared.tile.TileKey.{TileKey}
 use Rattle.tile_store.specs.Stores.{Store, image_of}
 use Rattle.page_layers.specs.Pages.{Page}
-use Rattle.viz_quads.specs.Shown.{Tile}
+use Rattle.viz_quads.specs.ShownTiles.{PageTile}
 use Rattle.model_history.specs.declared.history.Entry.{Entry}
 use Rattle.model_history.specs.Scripts.{ScriptModel}
 use Rattle.model_history.specs.Frames.{active_page}
@@ -13,7 +13,7 @@ use Rattle.model_history.specs.Tiles.{active_tree, visible_in}
 use Rattle.tile_manager.specs.Managers.{Managed, Manages}
 
 -- the tile of a key, with the image that a store has for it
-abbrev pub held_tile : Store → TileKey → Tile
+abbrev pub held_tile : Store → TileKey → PageTile
 held_tile store q = record { key = q; image = image_of store q }
 
 -- the manager stands for a run whose active page is this one, at these offsets of its scrollers, where it shows the tiles of these keys

@@ -49,8 +49,8 @@ pub fn draw(
     requires now { DrawsNow manager.now page.now (offset_at offsets.now) keys.now }
     ensures width { IfOk result (λ drawing. drawing.scene.w ≡ page.now.view.w) }
     ensures height { IfOk result (λ drawing. drawing.scene.h ≡ page.now.view.h) }
-    ensures missing { (s : ScriptModel) (h : List Entry) → Manages s h manager.now → keys.now ≡ model.visible_in (model.active_tree s h) → IfOk result (λ drawing. drawing.missing ≡ model.missing s h) }
-    ensures pixels { (s : ScriptModel) (h : List Entry) → Manages s h manager.now → page.now ≡ active_page s h → offset_at offsets.now ≡ active_offsets s h → keys.now ≡ model.visible_in (model.active_tree s h) → IfOk result (λ drawing. (x y : ℤ) → covers (viewport page.now) x y ≡ true → scene_pixel drawing.scene x y ≡ paint (active_page s h) (active_offsets s h) (model.missing s h) background x y) }
+    ensures missing { (s : ScriptModel) (h : List Entry) → Manages s h manager.now → keys.now ≡ model.visible_in (model.active_tree s h) → IfOk result (λ drawing. drawing.missing ≡ model.missing_visible s h) }
+    ensures pixels { (s : ScriptModel) (h : List Entry) → Manages s h manager.now → page.now ≡ active_page s h → offset_at offsets.now ≡ active_offsets s h → keys.now ≡ model.visible_in (model.active_tree s h) → IfOk result (λ drawing. (x y : ℤ) → covers (viewport page.now) x y ≡ true → scene_pixel drawing.scene x y ≡ paint (active_page s h) (active_offsets s h) (model.missing_visible s h) background x y) }
 {
     let tiles = shown_tiles(alloc, manager, keys.as_slice())?;
     let missing = missing_of(alloc, tiles.as_slice())?;

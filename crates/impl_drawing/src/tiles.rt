@@ -1,22 +1,22 @@
 //! The tiles that a page shows, as the tile manager has them.
 
 ghost use Rattle.std.specs.Prelude.{◌≡◌, map, IfOk};
-ghost use Rattle.viz_quads.specs.Shown.{tile_of, missing_keys};
+ghost use Rattle.viz_quads.specs.ShownTiles.{tile_of, missing_keys};
 ghost use Rattle.impl_drawing.specs.Drawings.{held_tile};
 
 use geom::{Keys, TileKey};
 use std::alloc::{AllocError, Global};
 use std::sync::Arc;
 use tile_manager::TileManager;
-use viz_quads::Shown;
+use viz_quads::ShownTile;
 
 // The tile of a key, with its image where the key is ready, which is looked for at `near` first.
-fn shown_tile(manager: &TileManager, near: &mut usize, key: TileKey) -> Result<Shown, AllocError>
+fn shown_tile(manager: &TileManager, near: &mut usize, key: TileKey) -> Result<ShownTile, AllocError>
     ensures { IfOk result (λ tile. tile_of tile ≡ held_tile manager.now.store key) }
 {
     match manager.image_near(near, key) {
-        None => Ok(Shown { key, image: None }),
-        Some(image) => Ok(Shown {
+        None => Ok(ShownTile { key, image: None }),
+        Some(image) => Ok(ShownTile {
             key,
             image: Some(Arc::try_clone(image)?),
         }),
@@ -30,7 +30,7 @@ pub(crate) fn shown_tiles(
     alloc: Global,
     manager: &TileManager,
     keys: &[TileKey],
-) -> Result<Vec<Shown>, AllocError>
+) -> Result<Vec<ShownTile>, AllocError>
     ensures { IfOk result (λ tiles. map tile_of tiles.items ≡ map (held_tile manager.now.store) keys.now) }
 {
     let mut tiles = Vec::with_capacity(alloc, keys.len())?;
@@ -42,7 +42,7 @@ pub(crate) fn shown_tiles(
 }
 
 // The keys of the tiles that have no image, in their order. An error is want of memory.
-pub(crate) fn missing_of(alloc: Global, tiles: &[Shown]) -> Result<Keys, AllocError>
+pub(crate) fn missing_of(alloc: Global, tiles: &[ShownTile]) -> Result<Keys, AllocError>
     ensures { IfOk result (λ missing. missing ≡ missing_keys (map tile_of tiles.now)) }
 {
     let mut missing = Keys::new(alloc);

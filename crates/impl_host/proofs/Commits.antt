@@ -1,7 +1,7 @@
 -- The tree of a commit: it may follow the active one, and its stamps are those of its frame.
 use Rattle.std.proofs.Common.{◌≡◌, ℕ, suc, List, ◌∷◌, Option, Some, None, refl, sym, ◌∙◌, ap}
 use Rattle.std.specs.Prelude.{IfSome}
-use Rattle.geom.specs.Grids.{rect_of}
+use Rattle.geom.specs.Grids.{rect_of_place}
 use Rattle.region.specs.Lists.{Changed, IsRising}
 use Rattle.page_layers.specs.declared.command.Command.{Command}
 use Rattle.page_layers.specs.declared.moves.Move.{Move}
@@ -70,5 +70,5 @@ module _ (s : ScriptModel) (workers : ℕ) (h : List Entry) (actor k : ℕ) (leg
     page = of.page ∙ made.page_is;
     stamps = λ i l u el eu place there.
         of.stamps (commits_to s (pulls_of h) (up_to (active h))) (stamped_there s (pulls_of h) (active h) m is) i l u el eu place there
-        ∙ stamps s workers h actor k legal d made.changes rising l.id (rect_of (grid_of t.page l) place);
+        ∙ stamps s workers h actor k legal d made.changes rising l.id (rect_of_place (grid_of t.page l) place);
   }

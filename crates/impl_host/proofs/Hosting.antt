@@ -18,12 +18,12 @@ use Rattle.model_history.proofs.DueFacts.{at_activate}
 use Rattle.model_history.proofs.FrameFacts.{pulls_stay, page_stays, active_sent}
 use Rattle.model_history.proofs.PastFacts.{pending_within}
 use Rattle.model_history.proofs.StampFacts.{commits_alike}
-use Rattle.impl_scroll.specs.Rows.{is_among}
+use Rattle.impl_scroll.specs.Rows.{has_number}
 use Rattle.model_steps.specs.Events.{send, commit, activate}
 use Rattle.model_steps.proofs.TreesAfter.{commit_is_pending, none_is_pending}
 use Rattle.impl_trees.specs.Trees.{TreeModel, TreesModel, AreStamped, IsPushed}
-use Rattle.impl_scroll.specs.Standings.{StandingModel, Stands}
-use Rattle.impl_host.specs.Hosts.{IsTreeAt, HostModel, Hosts, with_standing, IsMadeBy}
+use Rattle.impl_scroll.specs.Standings.{StandingModel, StandsForPast}
+use Rattle.impl_host.specs.Hosts.{IsTreeAt, ImplHostModel, Hosts, with_standing, IsMadeBy}
 use Rattle.impl_host.proofs.Commits.{pushed_tree}
 
 -- ---- an event that changes neither tree
@@ -53,7 +53,7 @@ module _ (s : ScriptModel) (h : List Entry) (e : Entry) (no_send : sends e.event
   same_tree : (o w : Option ℕ) (t : Option TreeModel) → o ≡ w → IsTreeAt s (pulls_of h) w t → IsTreeAt s (pulls_of (e ∷ h)) o t
   same_tree o w t same is = subst (λ (ps : ℕ → List Move). IsTreeAt s ps o t) (sym same_pulls) (subst (λ v. IsTreeAt s (pulls_of h) v t) (sym same) is)
 
-  pub stood : (m : HostModel) (st : StandingModel) → Hosts s h m → Stands s (e ∷ h) st → Hosts s (e ∷ h) (with_standing m st)
+  pub stood : (m : ImplHostModel) (st : StandingModel) → Hosts s h m → StandsForPast s (e ∷ h) st → Hosts s (e ∷ h) (with_standing m st)
   stood m st hosts stands = record {
     active = same_tree (active (e ∷ h)) (active h) m.trees.active same_active hosts.active;
     pending = same_tree (pending (e ∷ h)) (pending h) m.trees.pending same_pending hosts.pending;
@@ -73,7 +73,7 @@ module _ (s : ScriptModel) (workers : ℕ) (h : List Entry) (actor k : ℕ) (ms 
     stamps = subst (AreStamped t) (sym (commits_alike s (pulls_of (send actor k ms ∷ h)) (pulls_of h) (suc j) (λ i below. pulls_stay s workers h actor (event.Send k ms) legal.1 i (omega arith)))) is.stamps;
   }
 
-  pub sent_on : (m : HostModel) (st : StandingModel) → Hosts s h m → Stands s (send actor k ms ∷ h) st → Hosts s (send actor k ms ∷ h) (with_standing m st)
+  pub sent_on : (m : ImplHostModel) (st : StandingModel) → Hosts s h m → StandsForPast s (send actor k ms ∷ h) st → Hosts s (send actor k ms ∷ h) (with_standing m st)
   sent_on m st hosts stands = record {
     active = tree_stays (active h) m.trees.active (active_sent h (course s workers h legal.0)) hosts.active;
     pending = tree_stays (pending h) m.trees.pending (pending_within h (pending h) (course s workers h legal.0) refl) hosts.pending;
@@ -84,12 +84,12 @@ module _ (s : ScriptModel) (workers : ℕ) (h : List Entry) (actor k : ℕ) (ms 
 -- ---- a commit
 
 -- the host with these trees, places of the scrollers and scrollers that are set outright
-abbrev pub host_of : TreesModel → StandingModel → List ℕ → HostModel
+abbrev pub host_of : TreesModel → StandingModel → List ℕ → ImplHostModel
 host_of trees st ids = record { trees = trees; standing = st; outright = ids }
 
 module _ (s : ScriptModel) (workers : ℕ) (h : List Entry) (actor k : ℕ) (legal : Legal s workers (commit actor k ∷ h)) where
-  pub committed : (m : HostModel) (trees : TreesModel) (st : StandingModel) (ids : List ℕ) (p : Page) (d : Changed) (cs : List Command)
-      → Hosts s h m → IsMadeBy s h k p d cs → IsRising d.list → IsPushed m.trees p d k trees → Stands s (commit actor k ∷ h) st → ((sc : ℕ) → is_among ids sc ≡ clobbers s (Some k) sc)
+  pub committed : (m : ImplHostModel) (trees : TreesModel) (st : StandingModel) (ids : List ℕ) (p : Page) (d : Changed) (cs : List Command)
+      → Hosts s h m → IsMadeBy s h k p d cs → IsRising d.list → IsPushed m.trees p d k trees → StandsForPast s (commit actor k ∷ h) st → ((sc : ℕ) → has_number ids sc ≡ clobbers s (Some k) sc)
       → Hosts s (commit actor k ∷ h) (host_of trees st ids)
   committed m trees st ids p d cs hosts made rising pushed stands out =
       let now : pending (commit actor k ∷ h) ≡ Some k = commit_is_pending s workers h actor k legal in
@@ -104,8 +104,8 @@ module _ (s : ScriptModel) (workers : ℕ) (h : List Entry) (actor k : ℕ) (leg
 -- ---- an activation
 
 module _ (s : ScriptModel) (workers : ℕ) (h : List Entry) (actor k : ℕ) (clamps : List Move) (legal : Legal s workers (activate actor k clamps ∷ h)) where
-  pub activated_on : (m : HostModel) (trees : TreesModel) (st : StandingModel) (ids : List ℕ) → Hosts s h m → trees.active ≡ m.trees.pending → trees.pending ≡ None → ids ≡ []
-      → Stands s (activate actor k clamps ∷ h) st → Hosts s (activate actor k clamps ∷ h) (host_of trees st ids)
+  pub activated_on : (m : ImplHostModel) (trees : TreesModel) (st : StandingModel) (ids : List ℕ) → Hosts s h m → trees.active ≡ m.trees.pending → trees.pending ≡ None → ids ≡ []
+      → StandsForPast s (activate actor k clamps ∷ h) st → Hosts s (activate actor k clamps ∷ h) (host_of trees st ids)
   activated_on m trees st ids hosts active_is pending_is empty stands =
       let none : pending (activate actor k clamps ∷ h) ≡ None = none_is_pending s workers h actor k clamps legal in
       let frame : pending h ≡ Some k = (at_activate s workers h actor k clamps legal.1).frame in
@@ -113,5 +113,5 @@ module _ (s : ScriptModel) (workers : ℕ) (h : List Entry) (actor k : ℕ) (cla
         active = subst (λ t. IsTreeAt s (pulls_of h) (Some k) t) (sym active_is) (subst (λ o. IsTreeAt s (pulls_of h) o m.trees.pending) frame hosts.pending);
         pending = subst (λ t. IsTreeAt s (pulls_of h) (pending (activate actor k clamps ∷ h)) t) (sym pending_is) (subst (λ o. IsTreeAt s (pulls_of h) o None) (sym none) tt);
         standing = stands;
-        outright = λ sc. ap (λ ns. is_among ns sc) empty ∙ ap (λ o. clobbers s o sc) (sym none);
+        outright = λ sc. ap (λ ns. has_number ns sc) empty ∙ ap (λ o. clobbers s o sc) (sym none);
       }

@@ -5,12 +5,12 @@ use Rattle.std.specs.List.{find, range_with_len}
 use Rattle.geom.specs.declared.rect.Rect.{Rect}
 use Rattle.geom.specs.declared.tile.Place.{Place}
 use Rattle.geom.specs.declared.tile.TileKey.{TileKey}
-use Rattle.geom.specs.Grids.{tiles, has, place, row, places, rect_of}
+use Rattle.geom.specs.Grids.{tiles, has, place, places_in_row, places, rect_of_place}
 use Rattle.geom.specs.Sides.{Sides}
 use Rattle.tile_raster.specs.Images.{Image}
 use Rattle.page_layers.specs.Layers.{PageLayer, has_id}
 use Rattle.page_layers.specs.Pages.{Page}
-use Rattle.page_layers.specs.Sound.{AreDistinct}
+use Rattle.page_layers.specs.Sound.{AreDistinctLayers}
 use Rattle.page_layers.specs.declared.moves.Move.{Move}
 use Rattle.tile_visible.specs.Visible.{grid_of}
 use Rattle.model_history.specs.Scripts.{ScriptModel}
@@ -23,7 +23,7 @@ use Rattle.model_history.proofs.BoolFacts.{and_left, and_right, and_both, or_eit
 use Rattle.model_history.proofs.BarePages.{page_bare}
 use Rattle.model_history.proofs.ScriptPages.{plain_page}
 use Rattle.model_history.proofs.FindKeys.{has_place, key_on, key_of_page}
-use Rattle.model_steps.specs.ShownKeys.{Shows}
+use Rattle.model_steps.specs.ShownKeys.{KeyShows}
 use Rattle.model_steps.proofs.KeysShown.{layer_shows}
 use Rattle.impl_host.specs.Jobs.{picture_on, job_in}
 
@@ -41,9 +41,9 @@ row_each : (P : Place → Type 0) (y a n : ℕ) → ((x : ℕ) → x < a + n →
 row_each P y a zero f = tt
 row_each P y a (suc n) f = (f a (omega arith), row_each P y (a + 1) n (λ x lt. f x (omega (arith, lt))))
 
-rows_each : (P : Place → Type 0) (g : Sides) (a n : ℕ) → ((y : ℕ) → y < a + n → Each P (row g y)) → Each P (flat_map (row g) (range_with_len a n))
+rows_each : (P : Place → Type 0) (g : Sides) (a n : ℕ) → ((y : ℕ) → y < a + n → Each P (places_in_row g y)) → Each P (flat_map (places_in_row g) (range_with_len a n))
 rows_each P g a zero f = tt
-rows_each P g a (suc n) f = each_append P (row g a) (flat_map (row g) (range_with_len (a + 1) n)) (f a (omega arith)) (rows_each P g (a + 1) n (λ y lt. f y (omega (arith, lt))))
+rows_each P g a (suc n) f = each_append P (places_in_row g a) (flat_map (places_in_row g) (range_with_len (a + 1) n)) (f a (omega arith)) (rows_each P g (a + 1) n (λ y lt. f y (omega (arith, lt))))
 
 each_place : (g : Sides) → Each (λ (q : Place). has g q ≡ true) (places g)
 each_place g =
@@ -72,22 +72,22 @@ module _ (s : ScriptModel) (ps : ℕ → List Move) (n : ℕ) (q : TileKey) (acc
   abbrev shown : Page
   shown = page s ps n
 
-  distinct : AreDistinct shown.layers
-  distinct = subst (λ (z : Page). AreDistinct z.layers) (sym (page_bare s ps n)) (plain_page s acc n).distinct
+  distinct : AreDistinctLayers shown.layers
+  distinct = subst (λ (z : Page). AreDistinctLayers z.layers) (sym (page_bare s ps n)) (plain_page s acc n).distinct
 
   on_layer : key_on shown (stamp_in s ps n) q (find (has_id q.layer) shown.layers) ≡ true
   on_layer = sym (key_of_page shown (stamp_in s ps n) q distinct) ∙ has_it
 
   by_layer : (o : Option PageLayer) → find (has_id q.layer) shown.layers ≡ o → key_on shown (stamp_in s ps n) q o ≡ true
-      → (i : Image) × (picture_on shown q o ≡ Some i) × (i.key ≡ q) × Shows s q i.rect i.list
+      → (i : Image) × (picture_on shown q o ≡ Some i) × (i.key ≡ q) × KeyShows s q i.rect i.list
   by_layer None e on = absurd cc
   by_layer (Some l) e on =
       let there : has (grid_of shown l) (place_named q) ≡ true = placed (grid_of shown l) (place_named q) (and_left (has_place (places (grid_of shown l)) (place_named q)) (stamp_in s ps n q.layer (place_named q) == q.stamp) on) in
-      let i : Image = record { key = q; rect = rect_of (grid_of shown l) (place_named q); list = l.items } in
+      let i : Image = record { key = q; rect = rect_of_place (grid_of shown l) (place_named q); list = l.items } in
       let made : picture_on shown q (Some l) ≡ Some i =
-      ap (λ b. option_map (λ r. record { key = q; rect = r; list = l.items }) (cond b (Some (rect_of (grid_of shown l) (place_named q))) None)) there in
-      let rect : key_rect shown q ≡ rect_of (grid_of shown l) (place_named q) = ap (place_rect shown (place_named q)) e in
-      (i, made, refl, subst (λ (r : Rect). Shows s q r l.items) rect (layer_shows s ps n q l acc has_it e))
+      ap (λ b. option_map (λ r. record { key = q; rect = r; list = l.items }) (cond b (Some (rect_of_place (grid_of shown l) (place_named q))) None)) there in
+      let rect : key_rect shown q ≡ rect_of_place (grid_of shown l) (place_named q) = ap (place_rect shown (place_named q)) e in
+      (i, made, refl, subst (λ (r : Rect). KeyShows s q r l.items) rect (layer_shows s ps n q l acc has_it e))
 
-  pub job_shows : (i : Image) × (job_in shown q ≡ Some i) × (i.key ≡ q) × Shows s q i.rect i.list
+  pub job_shows : (i : Image) × (job_in shown q ≡ Some i) × (i.key ≡ q) × KeyShows s q i.rect i.list
   job_shows = by_layer (find (has_id q.layer) shown.layers) refl on_layer

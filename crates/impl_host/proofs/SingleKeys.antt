@@ -13,7 +13,7 @@ use Rattle.model_history.specs.Accepted.{IsAccepted}
 use Rattle.model_history.specs.Frames.{pulls_of}
 use Rattle.model_history.specs.Ranking.{ready_tile}
 use Rattle.model_history.specs.Tiles.{live_keys}
-use Rattle.model_steps.specs.ShownKeys.{Shows}
+use Rattle.model_steps.specs.ShownKeys.{KeyShows}
 use Rattle.impl_host.specs.Jobs.{made_by, job_in}
 use Rattle.impl_host.proofs.KeyedJobs.{job_shows}
 use Rattle.impl_host.specs.inner.LivePages.{HasLivePage}
@@ -37,13 +37,13 @@ live_job s h q p job accepted had e =
 
 -- and what it makes shows the key
 pub shown_job : (Live : ScriptModel → List Entry → Type 0) (q : TileKey) (p : Page) (job : Option Job) → ((s : ScriptModel) (h : List Entry) → Live s h → HasLivePage s h q (Some p)) → option_map made_by job ≡ job_in p q
-    → IfSome job (λ j. (s : ScriptModel) (h : List Entry) → IsAccepted s → Live s h → (j.key ≡ q) × Shows s q j.rect j.list.value)
+    → IfSome job (λ j. (s : ScriptModel) (h : List Entry) → IsAccepted s → Live s h → (j.key ≡ q) × KeyShows s q j.rect j.list.value)
 shown_job Live q p None had e = tt
 shown_job Live q p (Some j) had e = λ s h accepted live.
     let there = had s h live in
     let (made, is, key, shows) = job_shows s (pulls_of h) there.1 q accepted there.3 in
     let same : made_by j ≡ made = some_same (e ∙ ap (λ (z : Page). job_in z q) there.2 ∙ is) in
-    (ap (λ (i : Image). i.key) same ∙ key, subst (λ (i : Image). Shows s q i.rect i.list) (sym same) shows)
+    (ap (λ (i : Image). i.key) same ∙ key, subst (λ (i : Image). KeyShows s q i.rect i.list) (sym same) shows)
   where
     some_same : {x y : Image} → Some x ≡ Some y → x ≡ y
     some_same i = cc

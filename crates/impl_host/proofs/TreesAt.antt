@@ -9,7 +9,7 @@ use Rattle.tile_tiling.specs.Tiles.{Tiled}
 use Rattle.tile_tiling.specs.Stamps.{IsStamped}
 use Rattle.page_layers.specs.declared.moves.Move.{Move}
 use Rattle.page_layers.specs.Pages.{Page}
-use Rattle.page_layers.specs.Sound.{AreDistinct}
+use Rattle.page_layers.specs.Sound.{AreDistinctLayers}
 use Rattle.tile_visible.specs.Visible.{grid_of}
 use Rattle.model_history.specs.declared.history.Entry.{Entry}
 use Rattle.model_history.specs.Scripts.{ScriptModel}
@@ -41,7 +41,7 @@ no_tree s ps (Some k) at is = absurd is
 
 -- a tree has the page and the stamps of its frame
 pub is_tiled : (s : ScriptModel) (ps : ℕ → List Move) (o : Option ℕ) (at : ℕ → Point) (m : TreeModel) (p : Page) (offset : ℕ → Point) (us : List Tiled)
-    → p ≡ m.page → us ≡ m.tilings → AreDistinct p.layers → IsTreeAt s ps o (Some m) → ((sc : ℕ) → offset sc ≡ at sc) → IsTiled (tree_at s ps o at) p offset us
+    → p ≡ m.page → us ≡ m.tilings → AreDistinctLayers p.layers → IsTreeAt s ps o (Some m) → ((sc : ℕ) → offset sc ≡ at sc) → IsTiled (tree_at s ps o at) p offset us
 is_tiled s ps None at m p offset us pe ue d is off = absurd is
 is_tiled s ps (Some k) at m p offset us pe ue d is off =
     let now : Page = page s ps (suc k) in
@@ -49,7 +49,7 @@ is_tiled s ps (Some k) at m p offset us pe ue d is off =
     let stamped : Paired (λ l u. IsStamped u (grid_of now l) l.id (commits_to s ps (suc k))) now.layers us =
     subst (λ (ts : List Tiled). Paired (λ l u. IsStamped u (grid_of now l) l.id (commits_to s ps (suc k))) now.layers ts) (sym ue)
     (subst (λ (z : Page). Paired (λ l u. IsStamped u (grid_of z l) l.id (commits_to s ps (suc k))) z.layers m.tilings) is.page is.stamps) in
-    let distinct : AreDistinct now.layers = subst (λ (z : Page). AreDistinct z.layers) same d in
+    let distinct : AreDistinctLayers now.layers = subst (λ (z : Page). AreDistinctLayers z.layers) same d in
     record {
       page = same;
       offsets = off;

@@ -14,8 +14,8 @@ use Rattle.model_history.specs.Scrolls.{clobbers, active_offsets, pending_offset
 use Rattle.model_history.specs.Stamps.{frame_changes, commits_to}
 use Rattle.model_history.specs.SameChanges.{SameChanges}
 use Rattle.model_history.specs.Values.{values}
-use Rattle.impl_scroll.specs.Rows.{is_among}
-use Rattle.impl_scroll.specs.Standings.{StandingModel, StandsAt}
+use Rattle.impl_scroll.specs.Rows.{has_number}
+use Rattle.impl_scroll.specs.Standings.{StandingModel, HasScrollState}
 use Rattle.impl_trees.specs.Trees.{TreeModel, TreesModel, AreStamped}
 
 -- the tree is that of page n of a script with these pulls: its tilings have the stamps after the first n frames
@@ -31,24 +31,24 @@ IsTreeAt s ps (Some k) None = ⊥
 IsTreeAt s ps (Some k) (Some t) = IsTree s ps (suc k) t
 
 -- the trees, where the scrollers stand in them, and the scrollers that the pending commit sets outright
-pub record HostModel : Type 0 where
+pub record ImplHostModel : Type 0 where
   pub trees : TreesModel
   pub standing : StandingModel
   pub outright : List ℕ
 
 -- the same trees, where the scrollers stand elsewhere
-abbrev pub with_standing : HostModel → StandingModel → HostModel
+abbrev pub with_standing : ImplHostModel → StandingModel → ImplHostModel
 with_standing m st = record { trees = m.trees; standing = st; outright = m.outright }
 
 -- it has the trees of these active and pending frames, and the scrollers have these values and offsets
-pub record HostsAt (s : ScriptModel) (m : HostModel) (ps : ℕ → List Move) (on wait : Option ℕ) (value : ℕ → Axis → Synced) (at_active at_pending : ℕ → Point) : Type 0 where
+pub record HostsAt (s : ScriptModel) (m : ImplHostModel) (ps : ℕ → List Move) (on wait : Option ℕ) (value : ℕ → Axis → Synced) (at_active at_pending : ℕ → Point) : Type 0 where
   pub active : IsTreeAt s ps on m.trees.active
   pub pending : IsTreeAt s ps wait m.trees.pending
-  pub standing : StandsAt m.standing value at_active at_pending
-  pub outright : (sc : ℕ) → is_among m.outright sc ≡ clobbers s wait sc
+  pub standing : HasScrollState m.standing value at_active at_pending
+  pub outright : (sc : ℕ) → has_number m.outright sc ≡ clobbers s wait sc
 
 -- it stands for a run of the script after this past
-abbrev pub Hosts : ScriptModel → List Entry → HostModel → Type 0
+abbrev pub Hosts : ScriptModel → List Entry → ImplHostModel → Type 0
 Hosts s h m = HostsAt s m (pulls_of h) (active h) (pending h) (λ sc ax. values s sc ax h) (active_offsets s h) (pending_offsets s h)
 
 -- after this past the main frame makes this page, changes so much, and has these commands

@@ -3,7 +3,7 @@ use Rattle.std.specs.Prelude.{cond, Option, Some, None, option_map}
 use Rattle.std.specs.List.{find}
 use Rattle.geom.specs.declared.rect.Rect.{Rect}
 use Rattle.geom.specs.declared.tile.TileKey.{TileKey}
-use Rattle.geom.specs.Grids.{has, rect_of}
+use Rattle.geom.specs.Grids.{has, rect_of_place}
 use Rattle.tile_raster.specs.Images.{Image}
 use Rattle.tile_raster.specs.declared.job.Job.{Job}
 use Rattle.page_layers.specs.Layers.{PageLayer, has_id}
@@ -16,12 +16,12 @@ abbrev pub made_by : Job → Image
 made_by job = record { key = job.key; rect = job.rect; list = job.list.value }
 
 -- the rect of the place that a key names in a layer, where the layer has that place
-abbrev pub rect_in : Page → TileKey → PageLayer → Option Rect
-rect_in p q l = cond (has (grid_of p l) (place_named q)) (Some (rect_of (grid_of p l) (place_named q))) None
+abbrev pub key_rect_in : Page → TileKey → PageLayer → Option Rect
+key_rect_in p q l = cond (has (grid_of p l) (place_named q)) (Some (rect_of_place (grid_of p l) (place_named q))) None
 
 -- the picture of what a layer shows on that rect
 abbrev pub picture_in : Page → TileKey → PageLayer → Option Image
-picture_in p q l = option_map (λ r. record { key = q; rect = r; list = l.items }) (rect_in p q l)
+picture_in p q l = option_map (λ r. record { key = q; rect = r; list = l.items }) (key_rect_in p q l)
 
 -- the same of a layer that may be missing
 abbrev pub picture_on : Page → TileKey → Option PageLayer → Option Image

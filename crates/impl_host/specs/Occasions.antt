@@ -9,10 +9,10 @@ use Rattle.model_history.specs.Scripts.{ScriptModel}
 use Rattle.model_history.specs.Accepted.{IsAccepted}
 use Rattle.model_history.specs.Legal.{Legal}
 use Rattle.model_steps.specs.Events.{send, commit, activate}
-use Rattle.impl_host.specs.Hosts.{HostModel, Hosts, IsMadeBy}
+use Rattle.impl_host.specs.Hosts.{ImplHostModel, Hosts, IsMadeBy}
 
 -- a run in which a main frame may be sent next
-pub record SendsNow (m : HostModel) : Type 0 where
+pub record SendsNow (m : ImplHostModel) : Type 0 where
   pub script : ScriptModel
   pub workers : ℕ
   pub past : List Entry
@@ -24,7 +24,7 @@ pub record SendsNow (m : HostModel) : Type 0 where
   pub hosts : Hosts script past m
 
 -- a run in which this commit may come next: it has this page, changes so much, and its frame has these commands
-pub record PushesNow (m : HostModel) (p : Page) (d : Changed) (frame : ℕ) (commands : List Command) : Type 0 where
+pub record PushesNow (m : ImplHostModel) (p : Page) (d : Changed) (frame : ℕ) (commands : List Command) : Type 0 where
   pub script : ScriptModel
   pub workers : ℕ
   pub past : List Entry
@@ -35,7 +35,7 @@ pub record PushesNow (m : HostModel) (p : Page) (d : Changed) (frame : ℕ) (com
   pub made : IsMadeBy script past frame p d commands
 
 -- a run in which an activation may come next
-pub record ActivatesNow (m : HostModel) : Type 0 where
+pub record ActivatesNow (m : ImplHostModel) : Type 0 where
   pub script : ScriptModel
   pub workers : ℕ
   pub past : List Entry

@@ -8,8 +8,8 @@ ghost use Rattle.model_history.specs.Frames as frames;
 ghost use Rattle.model_history.specs.Accepted.{IsAccepted};
 ghost use Rattle.model_history.specs.Legal.{Legal};
 ghost use Rattle.model_steps.specs.Events.{send, commit, activate};
-ghost use Rattle.impl_scroll.specs.Standings.{Stands};
-ghost use Rattle.impl_host.specs.Hosts.{HostModel, Hosts, IsMadeBy};
+ghost use Rattle.impl_scroll.specs.Standings.{StandsForPast};
+ghost use Rattle.impl_host.specs.Hosts.{ImplHostModel, Hosts, IsMadeBy};
 ghost use Rattle.impl_host.specs.Occasions.{SendsNow, PushesNow, ActivatesNow};
 
 use crate::host::{ImplHost, page_of};
@@ -67,7 +67,7 @@ impl ImplHost {
     /// where they stood before. Takes no memory.
     pub fn take_back(&mut self, standing: Standing)
         requires { IsSome self.old.trees.pending }
-        ensures { (s : ScriptModel) (h : List Entry) (before : HostModel) → frames.pending h ≡ None → Hosts s h before → self.old.trees.active ≡ before.trees.active → standing ≡ before.standing → Hosts s h self.new }
+        ensures { (s : ScriptModel) (h : List Entry) (before : ImplHostModel) → frames.pending h ≡ None → Hosts s h before → self.old.trees.active ≡ before.trees.active → standing ≡ before.standing → Hosts s h self.new }
     {
         self.trees.take_back();
         self.standing = standing;
@@ -78,7 +78,7 @@ impl ImplHost {
     /// memory.
     pub fn activate(&mut self, standing: Standing)
         requires { ActivatesNow self.old }
-        ensures { (s : ScriptModel) (workers : ℕ) (h : List Entry) (actor k : ℕ) (clamps : List Move) → Legal s workers (activate actor k clamps ∷ h) → Hosts s h self.old → Stands s (activate actor k clamps ∷ h) standing → Hosts s (activate actor k clamps ∷ h) self.new }
+        ensures { (s : ScriptModel) (workers : ℕ) (h : List Entry) (actor k : ℕ) (clamps : List Move) → Legal s workers (activate actor k clamps ∷ h) → Hosts s h self.old → StandsForPast s (activate actor k clamps ∷ h) standing → Hosts s (activate actor k clamps ∷ h) self.new }
     {
         self.trees.activate();
         self.standing = standing;

@@ -5,7 +5,7 @@ ghost use Rattle.model_history.specs.declared.history.Entry.{Entry};
 ghost use Rattle.model_history.specs.EventFields.{sends, commits, activates};
 ghost use Rattle.model_history.specs.Scripts.{ScriptModel};
 ghost use Rattle.impl_trees.specs.Trees.{TreeModel};
-ghost use Rattle.impl_scroll.specs.Standings.{Stands, ArePages};
+ghost use Rattle.impl_scroll.specs.Standings.{StandsForPast, ArePages};
 ghost use Rattle.impl_host.specs.Hosts.{Hosts, with_standing};
 
 use impl_scroll::{Pages, Standing};
@@ -26,9 +26,9 @@ pub struct ImplHost {
 }
 
 impl Model for ImplHost {
-    ghost use Rattle.impl_host.specs.Hosts.{HostModel};
+    ghost use Rattle.impl_host.specs.Hosts.{ImplHostModel};
 
-    ghost Value = { HostModel };
+    ghost Value = { ImplHostModel };
 
     ghost view = { λ h. record { trees = h.trees; standing = h.standing; outright = h.outright.items } };
 }
@@ -78,7 +78,7 @@ impl ImplHost {
     /// Takes no memory.
     pub fn stand(&mut self, standing: Standing)
         ensures value { self.new ≡ with_standing self.old standing }
-        ensures keeps { (s : ScriptModel) (h : List Entry) (e : Entry) → sends e.event ≡ None → commits e.event ≡ None → activates e.event ≡ None → Hosts s h self.old → Stands s (e ∷ h) standing → Hosts s (e ∷ h) self.new }
+        ensures keeps { (s : ScriptModel) (h : List Entry) (e : Entry) → sends e.event ≡ None → commits e.event ≡ None → activates e.event ≡ None → Hosts s h self.old → StandsForPast s (e ∷ h) standing → Hosts s (e ∷ h) self.new }
     {
         self.standing = standing;
     }

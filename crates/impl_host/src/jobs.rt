@@ -3,7 +3,7 @@
 ghost use Rattle.std.specs.Prelude.{◌≡◌, IfOk, IfSome, option_map};
 ghost use Rattle.std.specs.List.{find};
 ghost use Rattle.geom.specs.Covers.{IsSound};
-ghost use Rattle.geom.specs.Sides.{IsSide};
+ghost use Rattle.geom.specs.Sides.{IsLayerSide};
 ghost use Rattle.page_layers.specs.Layers.{parts_of, has_id};
 ghost use Rattle.impl_host.specs.Jobs as spec;
 
@@ -17,7 +17,7 @@ use tile_visible::grid_of;
 // The layer of a page with this id.
 fn layer_of(page: &LayerTree, id: u32) -> Option<&Layer>
     ensures value { option_map (λ l. parts_of l.now) result ≡ find (has_id id) page.now.layers }
-    ensures sized { IfSome result (λ l. IsSide l.now.w × IsSide l.now.h) }
+    ensures sized { IfSome result (λ l. IsLayerSide l.now.w × IsLayerSide l.now.h) }
 {
     let layers = page.layers();
     page.are_sized(layers);
@@ -31,8 +31,8 @@ fn layer_of(page: &LayerTree, id: u32) -> Option<&Layer>
 
 // The rect of the place that a key names in its layer; None exactly where the layer has no such place.
 fn rect_in(page: &LayerTree, layer: &Layer, key: TileKey) -> Option<Rect>
-    requires { IsSide layer.now.w × IsSide layer.now.h }
-    ensures value { result ≡ spec.rect_in page.now key (parts_of layer.now) }
+    requires { IsLayerSide layer.now.w × IsLayerSide layer.now.h }
+    ensures value { result ≡ spec.key_rect_in page.now key (parts_of layer.now) }
     ensures sound { IfSome result (λ r. IsSound r) }
 {
     let grid = grid_of(page, layer);

@@ -13,7 +13,7 @@ ghost use Rattle.model_history.specs.Frames.{up_to};
 ghost use Rattle.model_history.specs.Tiles as tiles;
 ghost use Rattle.model_history.specs.Tiles.{live_keys};
 ghost use Rattle.model_history.specs.Ranking as ranking;
-ghost use Rattle.model_steps.specs.ShownKeys.{Shows};
+ghost use Rattle.model_steps.specs.ShownKeys.{KeyShows};
 ghost use Rattle.impl_host.specs.Hosts.{Hosts, IsTreeAt};
 ghost use Rattle.impl_host.specs.inner.LivePages.{HasPageKey, HasLivePage};
 
@@ -81,7 +81,7 @@ impl ImplHost {
     /// What it makes shows the key in every page of the script that has it. An error is want of memory.
     pub fn job(&self, key: TileKey) -> Result<Option<Job>, AllocError>
         ensures live { IfOk result (λ job. (s : ScriptModel) (h : List Entry) → IsAccepted s → Hosts s h self.now → is_some job ≡ has_key (live_keys s h) key) }
-        ensures shows { IfOk result (λ job. IfSome job (λ j. (s : ScriptModel) (h : List Entry) → IsAccepted s → Hosts s h self.now → (j.key ≡ key) × Shows s key j.rect j.list.value)) }
+        ensures shows { IfOk result (λ job. IfSome job (λ j. (s : ScriptModel) (h : List Entry) → IsAccepted s → Hosts s h self.now → (j.key ≡ key) × KeyShows s key j.rect j.list.value)) }
         ensures sound { IfOk result (λ job. IfSome job (λ j. IsSound j.rect)) }
     {
         match self.live_page(key) {

@@ -19,7 +19,7 @@ use Rattle.model_history.proofs.DueFacts.{entry}
 use Rattle.model_history.proofs.DueRows.{MayAsk, due_row}
 use Rattle.model_history.proofs.RangeBounds.{few_frames, sent_few}
 use Rattle.impl_log.specs.declared.progress.Progress.{Progress}
-use Rattle.impl_log.specs.Runs.{is_kept, is_plain}
+use Rattle.impl_log.specs.Runs.{is_kept, is_plain_kind}
 use Rattle.impl_log.specs.Progress.{progress}
 use Rattle.impl_log.specs.inner.Steps.{stepped}
 use Rattle.impl_log.specs.inner.Logs.{IsLogOf, MayStep}
@@ -102,7 +102,7 @@ module _ (s : ScriptModel) (n : ℕ) (h : List Entry) (p : Progress) (spare : �
   }
 
 -- a plain kind is asked for by the compositor
-may_ask : (k : Kind) → is_plain k ≡ true → MayAsk k 0
+may_ask : (k : Kind) → is_plain_kind k ≡ true → MayAsk k 0
 may_ask kind.BeginDraw p = refl
 may_ask kind.BeginPlain p = refl
 may_ask kind.Skip p = refl
@@ -113,5 +113,5 @@ may_ask kind.End p = refl
 may_ask _ p = cc
 
 -- what may come of a plain kind has this kind, and is the compositor's own
-pub plain_row : (s : ScriptModel) (h : List Entry) (k : Kind) (e : Event) → is_plain k ≡ true → can s h k 0 ≡ Some e → (kind_of e ≡ k) × (0 ≡ actor_of e)
+pub plain_row : (s : ScriptModel) (h : List Entry) (k : Kind) (e : Event) → is_plain_kind k ≡ true → can s h k 0 ≡ Some e → (kind_of e ≡ k) × (0 ≡ actor_of e)
 plain_row s h k e plain d = let r = due_row s h k 0 e (now_is s h k 0 e d).is_due in (r.kind, r.actor (may_ask k plain))

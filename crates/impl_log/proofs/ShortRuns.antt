@@ -3,7 +3,7 @@ use Rattle.std.proofs.Common.{◌≡◌, ℕ, zero, suc, ◌-◌, ◌<◌, ◌�
 use Rattle.std.specs.Prelude.{slice_get}
 use Rattle.std.proofs.lemmas.Option.{slice_get_within}
 use Rattle.geom.specs.declared.tile.TileKey.{TileKey}
-use Rattle.geom.specs.KeyLists.{same_key, has_key, AreDistinct}
+use Rattle.geom.specs.KeyLists.{same_key, has_key, AreDistinctKeys}
 use Rattle.model_history.specs.declared.event.Event.{Event}
 use Rattle.model_history.specs.declared.event.Event.TheVariants as event
 use Rattle.model_history.specs.declared.input.Input.{Input}
@@ -13,7 +13,7 @@ use Rattle.model_history.specs.Scripts.{ScriptModel}
 use Rattle.model_history.specs.EventFields.{uses}
 use Rattle.model_history.specs.Scans.{counted, one_more, held}
 use Rattle.model_history.specs.Tiles.{in_flight}
-use Rattle.model_history.specs.Due.{is_draw, input_now, next_input, due_await, due_settle}
+use Rattle.model_history.specs.Due.{asks_draw, input_now, next_input, due_await, due_settle}
 use Rattle.model_history.specs.Legal.{Next, Legal}
 use Rattle.model_history.proofs.BoolFacts.{not_both, is_false, by_test, and_left, and_right, or_neither, not_true}
 use Rattle.model_history.proofs.DueFacts.{entry, at_begin, at_scroll, at_wheel}
@@ -27,7 +27,7 @@ use Rattle.model_steps.proofs.Picks.{shorter}
 abbrev IsThere : Option Input → Type 0
 IsThere o = (x : Input) × (o ≡ Some x)
 
-draw_there : (o : Option Input) → is_draw o ≡ true → IsThere o
+draw_there : (o : Option Input) → asks_draw o ≡ true → IsThere o
 draw_there None h = cc
 draw_there (Some x) h = (x, refl)
 
@@ -68,12 +68,12 @@ before_last m holds q other (w, l, e) =
     (w, omega arith, e)
 
 -- keys that stand once and are held are as few as the workers
-few_held : (n : ℕ) (holds : ℕ → Option TileKey) (ks : List TileKey) → AreDistinct ks → AreHeld n holds ks → length ks ≤ n
+few_held : (n : ℕ) (holds : ℕ → Option TileKey) (ks : List TileKey) → AreDistinctKeys ks → AreHeld n holds ks → length ks ≤ n
 few_held zero holds [] d f = omega arith
 few_held zero holds (k ∷ ks) d f = let x = f k (ap (λ b. b || has_key ks k) (key_itself k)) in let l = x.1 in absurd (omega arith)
 few_held (suc m) holds ks d f = by_last (holds m) refl (few_held m holds)
   where
-    by_last : (o : Option TileKey) → holds m ≡ o → ((ls : List TileKey) → AreDistinct ls → AreHeld m holds ls → length ls ≤ m) → length ks ≤ suc m
+    by_last : (o : Option TileKey) → holds m ≡ o → ((ls : List TileKey) → AreDistinctKeys ls → AreHeld m holds ls → length ls ≤ m) → length ks ≤ suc m
     by_last None e fewer =
         let l : length ks ≤ m = fewer ks d (λ q t. before_last m holds q (λ i. let j = sym e ∙ i in cc) (f q t)) in
         omega arith

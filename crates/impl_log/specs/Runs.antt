@@ -42,15 +42,15 @@ Plays old k a new true = Entered old k a new
 Plays old k a new false = (now old k a ≡ None) × (new ≡ old)
 
 -- the kinds of the compositor whose event follows from the inputs, the main frames and the states alone, and changes nothing else
-abbrev pub is_plain : Kind → Bool
-is_plain kind.BeginDraw = true
-is_plain kind.BeginPlain = true
-is_plain kind.Skip = true
-is_plain kind.NoDraw = true
-is_plain kind.Finish = true
-is_plain kind.Await = true
-is_plain kind.End = true
-is_plain _ = false
+abbrev pub is_plain_kind : Kind → Bool
+is_plain_kind kind.BeginDraw = true
+is_plain_kind kind.BeginPlain = true
+is_plain_kind kind.Skip = true
+is_plain_kind kind.NoDraw = true
+is_plain_kind kind.Finish = true
+is_plain_kind kind.Await = true
+is_plain_kind kind.End = true
+is_plain_kind _ = false
 
 -- the events for which room is kept: the end of a tile, and a stop
 abbrev pub is_kept : Event → Bool

@@ -10,7 +10,7 @@ ghost use Rattle.model_history.specs.Frames as frames;
 ghost use Rattle.model_history.specs.Legal as legal;
 ghost use Rattle.model_history.specs.Scans as scans;
 ghost use Rattle.impl_log.specs.Progress as progress;
-ghost use Rattle.impl_log.specs.Runs.{new_run, past, now, with_entry, is_plain, is_kept, Plays};
+ghost use Rattle.impl_log.specs.Runs.{new_run, past, now, with_entry, is_plain_kind, is_kept, Plays};
 ghost use Rattle.impl_log.specs.inner.Logs.{MayStep};
 ghost use Rattle.impl_log.specs.inner.Steps.{stepped};
 
@@ -205,7 +205,7 @@ impl Log {
 
     // Whether the next input is a draw.
     fn is_draw_next(&self) -> bool
-        ensures { result ≡ dues.is_draw (dues.input_now self.now.script (past self.now)) }
+        ensures { result ≡ dues.asks_draw (dues.input_now self.now.script (past self.now)) }
     {
         match self.input_now() {
             Some(Input::Draw) => true,
@@ -225,7 +225,7 @@ impl Log {
 
     // The beginning of an impl frame for a main frame alone, where no draw is next and a frame is left.
     fn begin_plain(&self) -> Option<Event>
-        ensures { result ≡ dues.on_if (not (dues.is_draw (dues.input_now self.now.script (past self.now))) && frames.is_left self.now.script (past self.now)) event.BeginPlain }
+        ensures { result ≡ dues.on_if (not (dues.asks_draw (dues.input_now self.now.script (past self.now))) && frames.is_left self.now.script (past self.now)) event.BeginPlain }
     {
         let draw = self.is_draw_next();
         let left = self.is_left();
@@ -269,7 +269,7 @@ impl Log {
 
     // The event of such a kind that is due.
     fn plain_due(&self, kind: Kind) -> Option<Event>
-        requires { is_plain kind ≡ true }
+        requires { is_plain_kind kind ≡ true }
         ensures { result ≡ dues.due self.now.script (past self.now) kind 0 }
     {
         match kind {
@@ -291,7 +291,7 @@ impl Log {
     /// the main frames and the states alone (BeginDraw, BeginPlain, Skip, NoDraw, Finish, Await, End).
     /// None exactly where there is none.
     pub fn plain_now(&self, kind: Kind) -> Option<Event>
-        requires { is_plain kind ≡ true }
+        requires { is_plain_kind kind ≡ true }
         ensures { result ≡ now self.now kind 0 }
     {
         if self.is_open(kind) {
@@ -304,7 +304,7 @@ impl Log {
     /// Enters the event of a plain kind, where there is one that may come now, and answers whether there
     /// was. An error is want of memory, and nothing was entered.
     pub fn enter_plain(&mut self, kind: Kind) -> Result<bool, AllocError>
-        requires { is_plain kind ≡ true }
+        requires { is_plain_kind kind ≡ true }
         ensures plays { IfOk result (λ played. Plays self.old kind 0 self.new played) }
         ensures err { OnErr result (self.new ≡ self.old) }
     {

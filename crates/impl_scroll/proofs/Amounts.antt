@@ -12,11 +12,11 @@ use Rattle.model_history.specs.Accepted.{IsAccepted}
 use Rattle.model_history.specs.Legal.{Legal}
 use Rattle.model_history.proofs.Bounds.{values_bounded, all_small}
 use Rattle.impl_scroll.specs.declared.row.Row.{Row}
-use Rattle.impl_scroll.specs.Rows.{value_of}
+use Rattle.impl_scroll.specs.Rows.{row_value}
 use Rattle.impl_scroll.specs.inner.Places.{AreValues}
 
 -- the values of the rows
-pub bounded : (s : ScriptModel) (n : ℕ) (h : List Entry) (rs : List Row) → IsAccepted s → Legal s n h → AreValues s h rs → (sc : ℕ) (ax : Axis) → IsBounded (value_of rs sc ax)
+pub bounded : (s : ScriptModel) (n : ℕ) (h : List Entry) (rs : List Row) → IsAccepted s → Legal s n h → AreValues s h rs → (sc : ℕ) (ax : Axis) → IsBounded (row_value rs sc ax)
 bounded s n h rs acc legal is sc ax = subst IsBounded (sym (is sc ax)) (values_bounded s n h sc ax acc legal)
 
 -- the moves of an event

@@ -9,7 +9,7 @@ use Rattle.page_layers.specs.Pages.{Page}
 use Rattle.page_layers.specs.Hits.{target}
 use Rattle.page_layers.specs.Axes.{Axis, across, down, along}
 use Rattle.page_layers.specs.Scrolls.{IsInRange, origin}
-use Rattle.page_layers.specs.Scrollers.{has_scroller, most, taken}
+use Rattle.page_layers.specs.Scrollers.{has_scroller, most, amount_taken}
 use Rattle.page_hit_test.specs.declared.wheels.Wheel.{Wheel}
 use Rattle.page_hit_test.specs.Wheels.{part_move, AreWithinRanges, IsAmount, IsWheel}
 use Rattle.model_history.specs.declared.input.Input.{Input}
@@ -28,7 +28,7 @@ use Rattle.model_history.proofs.ValueReadings.{offset_in_range}
 use Rattle.model_steps.specs.Standing.{active_at}
 use Rattle.model_steps.proofs.StandingFacts.{accepted_is}
 use Rattle.impl_scroll.specs.declared.row.Row.{Row}
-use Rattle.impl_scroll.specs.Rows.{value_of}
+use Rattle.impl_scroll.specs.Rows.{row_value}
 use Rattle.impl_scroll.specs.Standings.{StandingModel, page_at}
 use Rattle.impl_scroll.specs.inner.Places.{AreValues}
 
@@ -45,13 +45,13 @@ no_frame s h (Some k) e = absurd cc
 -- a scroll
 
 pub accepted_there : (s : ScriptModel) (n : ℕ) (h : List Entry) (rs : List Row) (p : Page) (sc : ℕ) (ax : Axis) (asked : ℤ) → Legal s n h → AreValues s h rs → Some p ≡ page_at s h (active h)
-    → taken p (active_at (value_of rs)) sc ax asked ≡ accepted s h sc ax asked
+    → amount_taken p (active_at (row_value rs)) sc ax asked ≡ accepted s h sc ax asked
 accepted_there s n h rs p sc ax asked legal is e =
     let same : p ≡ active_page s h = page_is s h p (active h) e in
-    (λ i. taken (same i) (λ k x. active_at (λ j y. is j y i) k x) sc ax asked) ∙ sym (accepted_is s n h legal sc ax asked)
+    (λ i. amount_taken (same i) (λ k x. active_at (λ j y. is j y i) k x) sc ax asked) ∙ sym (accepted_is s n h legal sc ax asked)
 
 pub accepted_nowhere : (s : ScriptModel) (h : List Entry) (sc : ℕ) (ax : Axis) (asked : ℤ) → None ≡ page_at s h (active h) → pos 0 ≡ accepted s h sc ax asked
-accepted_nowhere s h sc ax asked e = sym (ap (λ o. taken (page s (pulls_of h) (up_to o)) (offset s h) sc ax asked) (no_frame s h (active h) e))
+accepted_nowhere s h sc ax asked e = sym (ap (λ o. amount_taken (page s (pulls_of h) (up_to o)) (offset s h) sc ax asked) (no_frame s h (active h) e))
 
 -- the scrollers of the active page are in their ranges
 

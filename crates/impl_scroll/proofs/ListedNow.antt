@@ -17,7 +17,7 @@ use Rattle.model_history.specs.Legal.{is_open, Legal}
 use Rattle.model_steps.specs.Standing.{clamped_by}
 use Rattle.model_steps.proofs.ListedMoves.{send_lists, activation_lists}
 use Rattle.impl_scroll.specs.declared.row.Row.{Row}
-use Rattle.impl_scroll.specs.Rows.{value_of, is_among}
+use Rattle.impl_scroll.specs.Rows.{row_value, has_number}
 use Rattle.impl_scroll.specs.inner.Places.{AreValues}
 use Rattle.impl_scroll.proofs.AfterEvents.{open_idle}
 
@@ -27,12 +27,12 @@ from_both (Ok x) f p q = f x p q
 from_both (Err e) f p q = p
 
 pub pulls_now : (s : ScriptModel) (n : ℕ) (h : List Entry) (rs : List Row) (ms : List Move) → Legal s n h → is_open h kind.Send ≡ true → AreValues s h rs → AreRising ms
-    → ((sc : ℕ) (ax : Axis) → amount_in sc ax ms ≡ pull_answer (value_of rs sc ax)) → ms ≡ next_pulls s h
+    → ((sc : ℕ) (ax : Axis) → amount_in sc ax ms ≡ pull_answer (row_value rs sc ax)) → ms ≡ next_pulls s h
 pulls_now s n h rs ms legal opened is rising amounts = sym (send_lists s n h ms legal (open_idle s n h legal opened) rising (λ sc ax. amounts sc ax ∙ ap pull_answer (is sc ax)))
 
 pub clamps_now : (s : ScriptModel) (n : ℕ) (h : List Entry) (rs : List Row) (p : Page) (ids : List ℕ) (ms : List Move) → IsAccepted s → Legal s n h → AreValues s h rs → p ≡ pending_page s h
-    → ((sc : ℕ) → is_among ids sc ≡ clobbers s (pending h) sc) → AreRising ms
-    → ((sc : ℕ) (ax : Axis) → amount_in sc ax ms ≡ cond (has_scroller p sc) (clamped_by (is_among ids) p (value_of rs) sc ax) (pos 0)) → ms ≡ next_clamps s h
+    → ((sc : ℕ) → has_number ids sc ≡ clobbers s (pending h) sc) → AreRising ms
+    → ((sc : ℕ) (ax : Axis) → amount_in sc ax ms ≡ cond (has_scroller p sc) (clamped_by (has_number ids) p (row_value rs) sc ax) (pos 0)) → ms ≡ next_clamps s h
 clamps_now s n h rs p ids ms acc legal is e outright rising amounts =
     sym (activation_lists s n h ms acc legal rising (λ sc ax. amounts sc ax
     ∙ (λ i. cond (has_scroller (e i) sc) (clamped_by (λ k. outright k i) (e i) (λ k x. is k x i) sc ax) (pos 0))))

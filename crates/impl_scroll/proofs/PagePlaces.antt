@@ -19,9 +19,9 @@ use Rattle.model_history.proofs.ValueReadings.{active_is_value, offset_in_range,
 use Rattle.model_steps.specs.Standing.{active_at, pending_at}
 use Rattle.model_steps.proofs.StandingFacts.{active_offsets_are, pending_offsets_are, pending_is}
 use Rattle.impl_scroll.specs.declared.row.Row.{Row}
-use Rattle.impl_scroll.specs.Rows.{value_of, is_among}
+use Rattle.impl_scroll.specs.Rows.{row_value, has_number}
 use Rattle.impl_scroll.specs.declared.pages.Pages.{Pages}
-use Rattle.impl_scroll.specs.Standings.{StandingModel, Stands, page_at, ArePages}
+use Rattle.impl_scroll.specs.Standings.{StandingModel, StandsForPast, page_at, ArePages}
 use Rattle.impl_scroll.specs.inner.Places.{Places, at_active, at_pending, offsets_where, AreInRange, AreValues}
 
 -- the page of a frame, and the blank page where there is no frame
@@ -38,7 +38,7 @@ module _ (s : ScriptModel) (n : ℕ) (h : List Entry) (rs : List Row) (legal : L
   abbrev value : ℕ → Axis → Synced
   value sc ax = values s sc ax h
 
-  all_values : value_of rs ≡ value
+  all_values : row_value rs ≡ value
   all_values = λ i sc ax. is sc ax i
 
   -- the active page
@@ -58,8 +58,8 @@ module _ (s : ScriptModel) (n : ℕ) (h : List Entry) (rs : List Row) (legal : L
 
   -- the pending page
 
-  module _ (ids : List ℕ) (outright : (sc : ℕ) → is_among ids sc ≡ clobbers s (pending h) sc) where
-    all_outright : is_among ids ≡ clobbers s (pending h)
+  module _ (ids : List ℕ) (outright : (sc : ℕ) → has_number ids sc ≡ clobbers s (pending h) sc) where
+    all_outright : has_number ids ≡ clobbers s (pending h)
     all_outright = λ i sc. outright sc i
 
     pub pending_where : (p : Option Page) → p ≡ page_at s h (pending h) → (sc : ℕ) → offsets_where (at_pending ids rs) p sc ≡ pending_offsets s h sc
@@ -78,7 +78,7 @@ module _ (s : ScriptModel) (n : ℕ) (h : List Entry) (rs : List Row) (legal : L
 -- rows with the offsets that follow from them stand for the run
 pub stand_in : (s : ScriptModel) (n : ℕ) (h : List Entry) (pages : Pages) (st : StandingModel) → Legal s n h → AreValues s h st.rows → ArePages s h pages
     → ((sc : ℕ) → offset_at st.active sc ≡ offsets_where (at_active st.rows) (option_copied pages.active) sc)
-    → ((sc : ℕ) → offset_at st.pending sc ≡ offsets_where (at_pending pages.outright.now st.rows) (option_copied pages.pending) sc) → Stands s h st
+    → ((sc : ℕ) → offset_at st.pending sc ≡ offsets_where (at_pending pages.outright.now st.rows) (option_copied pages.pending) sc) → StandsForPast s h st
 stand_in s n h pages st legal is are a p = record {
   rows = is;
   active = λ sc. a sc ∙ active_where s n h st.rows legal is (option_copied pages.active) are.active sc;
@@ -86,5 +86,5 @@ stand_in s n h pages st legal is are a p = record {
 }
 
 -- a copy of the rows has the values of the run
-pub copied_values : (s : ScriptModel) (h : List Entry) (st now : StandingModel) (rs : List Row) → st ≡ now → rs ≡ st.rows → Stands s h now → AreValues s h rs
-copied_values s h st now rs v e is = subst (AreValues s h) (sym e) (subst (Stands s h) (sym v) is).rows
+pub copied_values : (s : ScriptModel) (h : List Entry) (st now : StandingModel) (rs : List Row) → st ≡ now → rs ≡ st.rows → StandsForPast s h now → AreValues s h rs
+copied_values s h st now rs v e is = subst (AreValues s h) (sym e) (subst (StandsForPast s h) (sym v) is).rows

@@ -12,7 +12,7 @@ use Rattle.model_steps.specs.Standing.{brought_to}
 use Rattle.model_history.specs.ScrollLaws.{AreRising as AreRisingMoves}
 use Rattle.model_history.proofs.MoveLists.{has, amount_listed, NumbersAbove, AreRisingNumbers, rising_listed}
 use Rattle.impl_scroll.specs.declared.row.Row.{Row}
-use Rattle.impl_scroll.specs.Rows.{is_among, row_at}
+use Rattle.impl_scroll.specs.Rows.{has_number, row_at}
 use Rattle.impl_scroll.specs.inner.Stages.{unless_still, unheard, clamp_at}
 use Rattle.impl_scroll.specs.inner.Steps.{ids_of, AllAbove, AreRising}
 use Rattle.impl_scroll.proofs.RowFacts.{value_at, value_none}
@@ -54,12 +54,12 @@ rising_ids (r ∷ rs) a = (above_ids r.scroller rs a.0, rising_ids rs a.1)
 pub listed_rise : (f : ℕ → Axis → ℤ) (rs : List Row) (ms : List Move) → AreRising rs → ms ≡ listed f (ids_of rs) → AreRisingMoves ms
 listed_rise f rs ms a e = subst AreRisingMoves (sym e) (rising_listed f (ids_of rs) (rising_ids rs a))
 
-pub any_has : (xs : List ℕ) (k : ℕ) → has xs k ≡ is_among xs k
+pub any_has : (xs : List ℕ) (k : ℕ) → has xs k ≡ has_number xs k
 any_has [] k = refl
 any_has (x ∷ xs) k = ap (λ (b : Bool). (x == k) || b) (any_has xs k)
 
 -- what is listed of a scroller, where those without a row have nothing
-pub amount_is : (f : ℕ → Axis → ℤ) (rs : List Row) (ms : List Move) (sc : ℕ) (ax : Axis) → (is_among (ids_of rs) sc ≡ false → f sc ax ≡ pos 0) → ms ≡ listed f (ids_of rs) → amount_in sc ax ms ≡ f sc ax
+pub amount_is : (f : ℕ → Axis → ℤ) (rs : List Row) (ms : List Move) (sc : ℕ) (ax : Axis) → (has_number (ids_of rs) sc ≡ false → f sc ax ≡ pos 0) → ms ≡ listed f (ids_of rs) → amount_in sc ax ms ≡ f sc ax
 amount_is f rs ms sc ax none e = ap (λ (xs : List Move). amount_in sc ax xs) e ∙ amount_listed sc ax f (ids_of rs) ∙ by_row (has (ids_of rs) sc) refl
   where
     by_row : (b : Bool) → has (ids_of rs) sc ≡ b → cond b (f sc ax) (pos 0) ≡ f sc ax
@@ -80,7 +80,7 @@ unheard_is rs i m a l e =
 
 -- how far an activation moves a scroller with these values
 abbrev pub clamp_by : List ℕ → Page → ℕ → Axis → Synced → ℤ
-clamp_by outright p sc ax v = cond (has_scroller p sc) (brought_to (is_among outright sc) (most p sc ax) v -ℤ pending_value v) (pos 0)
+clamp_by outright p sc ax v = cond (has_scroller p sc) (brought_to (has_number outright sc) (most p sc ax) v -ℤ pending_value v) (pos 0)
 
 pub clamp_is : (outright : List ℕ) (p : Page) (rs : List Row) (i : ℕ) (m : Move) → AreRising rs → i < length rs
     → m ≡ record { scroller = (get_or rs i no_row).scroller; dx = clamp_by outright p (get_or rs i no_row).scroller across (get_or rs i no_row).x; dy = clamp_by outright p (get_or rs i no_row).scroller down (get_or rs i no_row).y }
@@ -91,7 +91,7 @@ clamp_is outright p rs i m a l e =
     e ∙ (λ k. record { scroller = (get_or rs i no_row).scroller; dx = clamp_by outright p (get_or rs i no_row).scroller across (sym x k); dy = clamp_by outright p (get_or rs i no_row).scroller down (sym y k) })
 
 -- a scroller without a row has nothing unheard, and an activation does not move it
-pub unheard_none : (rs : List Row) (sc : ℕ) (ax : Axis) → is_among (ids_of rs) sc ≡ false → unheard rs sc ax ≡ pos 0
+pub unheard_none : (rs : List Row) (sc : ℕ) (ax : Axis) → has_number (ids_of rs) sc ≡ false → unheard rs sc ax ≡ pos 0
 unheard_none rs sc ax e = ap (λ (v : Synced). pull_answer v) (value_none rs sc ax e)
 
 either_zero : (b : Bool) (z : ℤ) → z ≡ pos 0 → cond b z (pos 0) ≡ pos 0
@@ -102,9 +102,9 @@ zero_moved : (b : Bool) (m : ℕ) → brought_to b m nothing -ℤ pending_value 
 zero_moved true m = refl
 zero_moved false m = ap (λ (z : ℤ). z -ℤ pos 0) (clamp_zero m)
 
-pub clamp_none : (outright : List ℕ) (p : Page) (rs : List Row) (sc : ℕ) (ax : Axis) → is_among (ids_of rs) sc ≡ false → clamp_at outright p rs sc ax ≡ pos 0
+pub clamp_none : (outright : List ℕ) (p : Page) (rs : List Row) (sc : ℕ) (ax : Axis) → has_number (ids_of rs) sc ≡ false → clamp_at outright p rs sc ax ≡ pos 0
 clamp_none outright p rs sc ax e =
-    ap (clamp_by outright p sc ax) (value_none rs sc ax e) ∙ either_zero (has_scroller p sc) (brought_to (is_among outright sc) (most p sc ax) nothing -ℤ pending_value nothing) (zero_moved (is_among outright sc) (most p sc ax))
+    ap (clamp_by outright p sc ax) (value_none rs sc ax e) ∙ either_zero (has_scroller p sc) (brought_to (has_number outright sc) (most p sc ax) nothing -ℤ pending_value nothing) (zero_moved (has_number outright sc) (most p sc ax))
 
 pub taken_all : (rs : List Row) (i : ℕ) → length rs ≤ i → take i rs ≡ rs
 taken_all [] zero l = refl

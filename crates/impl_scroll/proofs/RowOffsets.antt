@@ -19,7 +19,7 @@ use Rattle.model_steps.specs.Standing.{brought_to}
 use Rattle.impl_scroll.specs.declared.row.Row.{Row}
 use Rattle.impl_scroll.specs.declared.offsets.Stage.{Stage}
 use Rattle.impl_scroll.specs.declared.offsets.Stage.TheVariants as stage
-use Rattle.impl_scroll.specs.Rows.{along, value_of, is_among}
+use Rattle.impl_scroll.specs.Rows.{value_along, row_value, has_number}
 use Rattle.impl_scroll.specs.inner.Stages.{value_in, stands_at, point_at}
 use Rattle.impl_scroll.specs.inner.Steps.{ids_of, AreRising}
 use Rattle.impl_scroll.proofs.RowFacts.{value_at, value_none}
@@ -28,7 +28,7 @@ use Rattle.impl_scroll.proofs.RowLists.{no_row}
 
 -- the offsets where some scrollers stand at these points, and the others at the origin
 abbrev pub among_at : List ℕ → (ℕ → Point) → ℕ → Point
-among_at ns point k = cond (is_among ns k) (point k) origin
+among_at ns point k = cond (has_number ns k) (point k) origin
 
 same_test : (a b : ℕ) → (a == b) ≡ (b == a)
 same_test a b = grind (arith, nat_tests)
@@ -38,8 +38,8 @@ pub offset_more : (point : ℕ → Point) (rs : List Row) (i : ℕ) (d : Row) (k
     → new ≡ (if k == (get_or rs i d).scroller then p else old) → old ≡ among_at (ids_of (take i rs)) point k → new ≡ among_at (ids_of (take (i + 1) rs)) point k
 offset_more point rs i d k p new old lt is made was =
     made
-    ∙ go (k == x) refl (is_among (ids_of (take i rs)) k) was
-    ∙ ap (λ (b : Bool). cond (is_among (ids_of (take i rs)) k || b) (point k) origin) (same_test k x)
+    ∙ go (k == x) refl (has_number (ids_of (take i rs)) k) was
+    ∙ ap (λ (b : Bool). cond (has_number (ids_of (take i rs)) k || b) (point k) origin) (same_test k x)
     ∙ ap (λ (b : Bool). cond b (point k) origin) (sym (any_last (ids_of (take i rs)) x k))
     ∙ ap (λ (xs : List ℕ). among_at xs point k) (sym (ap (λ (xs : List Row). ids_of xs) (take_more rs i d lt) ∙ map-append (λ (r : Row). r.scroller) (take i rs) (get_or rs i d ∷ [])))
   where
@@ -65,13 +65,13 @@ range_more false p new old e h k = subst IsOffset (sym e) k
 -- a scroller that has not moved stands at 0
 zero_stands : (s : Stage) (p : Page) (sc : ℕ) (ax : Axis) → value_in s p sc ax nothing ≡ pos 0
 zero_stands stage.Active p sc ax = refl
-zero_stands (stage.Pending ns) p sc ax = by_clobber (is_among ns.now sc)
+zero_stands (stage.Pending ns) p sc ax = by_clobber (has_number ns.now sc)
   where
     by_clobber : (b : Bool) → brought_to b (most p sc ax) nothing ≡ pos 0
     by_clobber true = refl
     by_clobber false = clamp_zero (most p sc ax)
 
-pub none_stands : (s : Stage) (p : Page) (rs : List Row) (sc : ℕ) (ax : Axis) → is_among (ids_of rs) sc ≡ false → stands_at s p rs sc ax ≡ pos 0
+pub none_stands : (s : Stage) (p : Page) (rs : List Row) (sc : ℕ) (ax : Axis) → has_number (ids_of rs) sc ≡ false → stands_at s p rs sc ax ≡ pos 0
 none_stands s p rs sc ax e = ap (value_in s p sc ax) (value_none rs sc ax e) ∙ zero_stands s p sc ax
 
 -- nor does one that the page lacks
@@ -89,7 +89,7 @@ point_zero x y e f = λ i. record { x = e i; y = f i }
 -- all rows: the offsets of the page
 pub all_offsets : (s : Stage) (p : Page) (rs : List Row) (k : ℕ) → ((sc : ℕ) (ax : Axis) → IsInRange (most p sc ax) (stands_at s p rs sc ax))
     → among_at (ids_of rs) (point_at s p rs) k ≡ offsets_in p (stands_at s p rs) k
-all_offsets s p rs k within = by_row (is_among (ids_of rs) k) refl
+all_offsets s p rs k within = by_row (has_number (ids_of rs) k) refl
   where
     lacks : has_scroller p k ≡ false → point_at s p rs k ≡ origin
     lacks e = point_zero (stands_at s p rs k across) (stands_at s p rs k down) (lacking_stands p k across (stands_at s p rs k across) e (within k across)) (lacking_stands p k down (stands_at s p rs k down) e (within k down))
@@ -102,7 +102,7 @@ all_offsets s p rs k within = by_row (is_among (ids_of rs) k) refl
     both_origin true e = sym e
     both_origin false e = refl
 
-    by_row : (b : Bool) → is_among (ids_of rs) k ≡ b → cond b (point_at s p rs k) origin ≡ cond (has_scroller p k) (point_at s p rs k) origin
+    by_row : (b : Bool) → has_number (ids_of rs) k ≡ b → cond b (point_at s p rs k) origin ≡ cond (has_scroller p k) (point_at s p rs k) origin
     by_row true e = by_page (has_scroller p k) refl
     by_row false e = both_origin (has_scroller p k) (point_zero (stands_at s p rs k across) (stands_at s p rs k down) (none_stands s p rs k across e) (none_stands s p rs k down e))
 

@@ -7,8 +7,8 @@ use Rattle.model_scroll_values.specs.Table.{zero as nothing}
 use Rattle.page_layers.specs.Axes.{Axis, across, down}
 use Rattle.model_history.proofs.BoolFacts.{same_number}
 use Rattle.impl_scroll.specs.declared.row.Row.{Row}
-use Rattle.impl_scroll.specs.declared.steps.Step.{Step}
-use Rattle.impl_scroll.specs.Rows.{along, value_of, is_among}
+use Rattle.impl_scroll.specs.declared.steps.ValueStep.{ValueStep}
+use Rattle.impl_scroll.specs.Rows.{value_along, row_value, has_number}
 use Rattle.impl_scroll.specs.inner.Steps.{ids_of, AllAbove, AreRising, stepped, row_stepped, MayStep}
 use Rattle.impl_scroll.proofs.RowFacts.{value_at, value_none}
 
@@ -44,39 +44,39 @@ half_past f zero (r ∷ rs) l = absurd (omega (arith, l))
 half_past f (suc i) (r ∷ rs) l = ap (λ xs. f r ∷ xs) (half_past f i rs (omega (arith, l)))
 
 -- a row may be stepped where the values of all scrollers may
-pub row_may : (s : Step) (rs : List Row) (i : ℕ) (d : Row) (ax : Axis) → AreRising rs → i < length rs → ((sc : ℕ) (ax : Axis) → MayStep s sc ax (value_of rs sc ax))
-    → MayStep s (get_or rs i d).scroller ax (along ax (get_or rs i d))
+pub row_may : (s : ValueStep) (rs : List Row) (i : ℕ) (d : Row) (ax : Axis) → AreRising rs → i < length rs → ((sc : ℕ) (ax : Axis) → MayStep s sc ax (row_value rs sc ax))
+    → MayStep s (get_or rs i d).scroller ax (value_along ax (get_or rs i d))
 row_may s rs i d ax a l all = subst (MayStep s (get_or rs i d).scroller ax) (value_at rs i d ax a l) (all (get_or rs i d).scroller ax)
 
 -- stepping keeps the scrollers
-pub stepped_above : (s : Step) (n : ℕ) (rs : List Row) → AllAbove n rs → AllAbove n (map (row_stepped s) rs)
+pub stepped_above : (s : ValueStep) (n : ℕ) (rs : List Row) → AllAbove n rs → AllAbove n (map (row_stepped s) rs)
 stepped_above s n [] a = tt
 stepped_above s n (r ∷ rs) a = (a.0, stepped_above s n rs a.1)
 
-pub stepped_rising : (s : Step) (rs : List Row) → AreRising rs → AreRising (map (row_stepped s) rs)
+pub stepped_rising : (s : ValueStep) (rs : List Row) → AreRising rs → AreRising (map (row_stepped s) rs)
 stepped_rising s [] a = tt
 stepped_rising s (r ∷ rs) a = (stepped_above s r.scroller rs a.0, stepped_rising s rs a.1)
 
 -- a row along an axis
-along_stepped : (s : Step) (r : Row) (ax : Axis) → along ax (row_stepped s r) ≡ stepped s r.scroller ax (along ax r)
+along_stepped : (s : ValueStep) (r : Row) (ax : Axis) → value_along ax (row_stepped s r) ≡ stepped s r.scroller ax (value_along ax r)
 along_stepped s r across = refl
 along_stepped s r down = refl
 
 -- the values of a scroller that has a row are stepped, and the others are 0
-pub value_stepped : (s : Step) (rs : List Row) (sc : ℕ) (ax : Axis) → value_of (map (row_stepped s) rs) sc ax ≡ cond (is_among (ids_of rs) sc) (stepped s sc ax (value_of rs sc ax)) nothing
+pub value_stepped : (s : ValueStep) (rs : List Row) (sc : ℕ) (ax : Axis) → row_value (map (row_stepped s) rs) sc ax ≡ cond (has_number (ids_of rs) sc) (stepped s sc ax (row_value rs sc ax)) nothing
 value_stepped s [] sc ax = refl
 value_stepped s (r ∷ rs) sc ax = by_row (r.scroller == sc) refl (value_stepped s rs sc ax)
   where
-    by_row : (b : Bool) → (r.scroller == sc) ≡ b → value_of (map (row_stepped s) rs) sc ax ≡ cond (is_among (ids_of rs) sc) (stepped s sc ax (value_of rs sc ax)) nothing
-        → cond b (along ax (row_stepped s r)) (value_of (map (row_stepped s) rs) sc ax) ≡ cond (b || is_among (ids_of rs) sc) (stepped s sc ax (cond b (along ax r) (value_of rs sc ax))) nothing
-    by_row true e rest = along_stepped s r ax ∙ ap (λ (n : ℕ). stepped s n ax (along ax r)) (same_number r.scroller sc e)
+    by_row : (b : Bool) → (r.scroller == sc) ≡ b → row_value (map (row_stepped s) rs) sc ax ≡ cond (has_number (ids_of rs) sc) (stepped s sc ax (row_value rs sc ax)) nothing
+        → cond b (value_along ax (row_stepped s r)) (row_value (map (row_stepped s) rs) sc ax) ≡ cond (b || has_number (ids_of rs) sc) (stepped s sc ax (cond b (value_along ax r) (row_value rs sc ax))) nothing
+    by_row true e rest = along_stepped s r ax ∙ ap (λ (n : ℕ). stepped s n ax (value_along ax r)) (same_number r.scroller sc e)
     by_row false e rest = rest
 
 -- so they are stepped all, where the step leaves zeros that have no row
-pub all_stepped : (s : Step) (rs new : List Row) (sc : ℕ) (ax : Axis) → new ≡ map (row_stepped s) rs → (is_among (ids_of rs) sc ≡ false → stepped s sc ax nothing ≡ nothing)
-    → value_of new sc ax ≡ stepped s sc ax (value_of rs sc ax)
-all_stepped s rs new sc ax is none = ap (λ (xs : List Row). value_of xs sc ax) is ∙ value_stepped s rs sc ax ∙ by_row (is_among (ids_of rs) sc) refl
+pub all_stepped : (s : ValueStep) (rs new : List Row) (sc : ℕ) (ax : Axis) → new ≡ map (row_stepped s) rs → (has_number (ids_of rs) sc ≡ false → stepped s sc ax nothing ≡ nothing)
+    → row_value new sc ax ≡ stepped s sc ax (row_value rs sc ax)
+all_stepped s rs new sc ax is none = ap (λ (xs : List Row). row_value xs sc ax) is ∙ value_stepped s rs sc ax ∙ by_row (has_number (ids_of rs) sc) refl
   where
-    by_row : (b : Bool) → is_among (ids_of rs) sc ≡ b → cond b (stepped s sc ax (value_of rs sc ax)) nothing ≡ stepped s sc ax (value_of rs sc ax)
+    by_row : (b : Bool) → has_number (ids_of rs) sc ≡ b → cond b (stepped s sc ax (row_value rs sc ax)) nothing ≡ stepped s sc ax (row_value rs sc ax)
     by_row true e = refl
     by_row false e = let z = value_none rs sc ax e in sym (none e) ∙ ap (stepped s sc ax) (sym z)

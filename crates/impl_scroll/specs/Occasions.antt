@@ -13,9 +13,9 @@ use Rattle.model_history.specs.Due.{input_now}
 use Rattle.model_history.specs.Accepted.{IsAccepted}
 use Rattle.model_history.specs.Legal.{Legal}
 use Rattle.model_steps.specs.Events.{send, abort, commit, activate}
-use Rattle.impl_scroll.specs.Rows.{is_among}
+use Rattle.impl_scroll.specs.Rows.{has_number}
 use Rattle.impl_scroll.specs.declared.pages.Pages.{Pages}
-use Rattle.impl_scroll.specs.Standings.{StandingModel, Stands, page_at, ArePages, is_scroll}
+use Rattle.impl_scroll.specs.Standings.{StandingModel, StandsForPast, page_at, ArePages, uses_scroll}
 
 -- it stands for a run
 pub record StandsNow (st : StandingModel) : Type 0 where
@@ -24,7 +24,7 @@ pub record StandsNow (st : StandingModel) : Type 0 where
   pub past : List Entry
   pub accepted : IsAccepted script
   pub legal : Legal script workers past
-  pub stands : Stands script past st
+  pub stands : StandsForPast script past st
 
 -- a run in which this page is active
 pub record ShowsNow (st : StandingModel) (active : Option Page) : Type 0 where
@@ -33,7 +33,7 @@ pub record ShowsNow (st : StandingModel) (active : Option Page) : Type 0 where
   pub past : List Entry
   pub accepted : IsAccepted script
   pub legal : Legal script workers past
-  pub stands : Stands script past st
+  pub stands : StandsForPast script past st
   pub page : active ≡ page_at script past (frames.active past)
 
 -- a run in which this page is active, and the next input is this wheel
@@ -43,7 +43,7 @@ pub record WheelsNow (st : StandingModel) (active : Option Page) (x y : ℕ) (dx
   pub past : List Entry
   pub accepted : IsAccepted script
   pub legal : Legal script workers past
-  pub stands : Stands script past st
+  pub stands : StandsForPast script past st
   pub page : active ≡ page_at script past (frames.active past)
   pub input : input_now script past ≡ Some (input.Wheel x y dx dy)
 
@@ -55,13 +55,13 @@ pub record MovesNow (st : StandingModel) (seen : Pages) (ms : List Move) : Type 
   pub entry : Entry
   pub accepted : IsAccepted script
   pub legal : Legal script workers (entry ∷ past)
-  pub stands : Stands script past st
+  pub stands : StandsForPast script past st
   pub pages : ArePages script past seen
-  pub scroll : is_scroll entry.event ≡ true
+  pub scroll : uses_scroll entry.event ≡ true
   pub moves : fields.moves script entry.event ≡ ms
 
 -- a run in which a main frame may be sent next
-pub record SendsNow (st : StandingModel) : Type 0 where
+pub record ScrollSends (st : StandingModel) : Type 0 where
   pub script : ScriptModel
   pub workers : ℕ
   pub past : List Entry
@@ -70,7 +70,7 @@ pub record SendsNow (st : StandingModel) : Type 0 where
   pub pulls : List Move
   pub accepted : IsAccepted script
   pub legal : Legal script workers (send actor frame pulls ∷ past)
-  pub stands : Stands script past st
+  pub stands : StandsForPast script past st
 
 -- a run of these pages, in which an abort may come next
 pub record AbortsNow (st : StandingModel) (seen : Pages) : Type 0 where
@@ -81,7 +81,7 @@ pub record AbortsNow (st : StandingModel) (seen : Pages) : Type 0 where
   pub frame : ℕ
   pub accepted : IsAccepted script
   pub legal : Legal script workers (abort actor frame ∷ past)
-  pub stands : Stands script past st
+  pub stands : StandsForPast script past st
   pub pages : ArePages script past seen
 
 -- a run in which the commit of this page may come next, which sets these scrollers outright
@@ -93,13 +93,13 @@ pub record CommitsNow (st : StandingModel) (active : Option Page) (page : Page) 
   pub frame : ℕ
   pub accepted : IsAccepted script
   pub legal : Legal script workers (commit actor frame ∷ past)
-  pub stands : Stands script past st
+  pub stands : StandsForPast script past st
   pub active_page : active ≡ page_at script past (frames.active past)
   pub page_is : page ≡ frames.page script (pulls_of past) (suc frame)
-  pub outright : (sc : ℕ) → is_among ids sc ≡ clobbers script (Some frame) sc
+  pub outright : (sc : ℕ) → has_number ids sc ≡ clobbers script (Some frame) sc
 
 -- a run in which the activation of this page with these moves may come next
-pub record ActivatesNow (st : StandingModel) (page : Page) (clamps : List Move) : Type 0 where
+pub record ScrollActivates (st : StandingModel) (page : Page) (clamps : List Move) : Type 0 where
   pub script : ScriptModel
   pub workers : ℕ
   pub past : List Entry
@@ -107,5 +107,5 @@ pub record ActivatesNow (st : StandingModel) (page : Page) (clamps : List Move) 
   pub frame : ℕ
   pub accepted : IsAccepted script
   pub legal : Legal script workers (activate actor frame clamps ∷ past)
-  pub stands : Stands script past st
+  pub stands : StandsForPast script past st
   pub page_is : page ≡ pending_page script past

@@ -14,7 +14,7 @@ use Rattle.model_history.specs.Frames.{page, pulls_of}
 use Rattle.model_history.specs.Scrolls.{clobbers, active_offsets, pending_offsets}
 use Rattle.model_history.specs.Values.{values}
 use Rattle.impl_scroll.specs.declared.row.Row.{Row}
-use Rattle.impl_scroll.specs.Rows.{value_of, is_among}
+use Rattle.impl_scroll.specs.Rows.{row_value, has_number}
 use Rattle.impl_scroll.specs.declared.pages.Pages.{Pages}
 
 -- the rows of the scroll values, and the offsets of the active and of the pending page
@@ -24,14 +24,14 @@ pub record StandingModel : Type 0 where
   pub pending : List (ℕ × Point)
 
 -- it has these values and these offsets
-pub record StandsAt (st : StandingModel) (value : ℕ → Axis → Synced) (at_active at_pending : ℕ → Point) : Type 0 where
-  pub rows : (sc : ℕ) (ax : Axis) → value_of st.rows sc ax ≡ value sc ax
+pub record HasScrollState (st : StandingModel) (value : ℕ → Axis → Synced) (at_active at_pending : ℕ → Point) : Type 0 where
+  pub rows : (sc : ℕ) (ax : Axis) → row_value st.rows sc ax ≡ value sc ax
   pub active : (sc : ℕ) → offset_at st.active sc ≡ at_active sc
   pub pending : (sc : ℕ) → offset_at st.pending sc ≡ at_pending sc
 
 -- it stands for a run of the script after this past
-abbrev pub Stands : ScriptModel → List Entry → StandingModel → Type 0
-Stands s h st = StandsAt st (λ sc ax. values s sc ax h) (active_offsets s h) (pending_offsets s h)
+abbrev pub StandsForPast : ScriptModel → List Entry → StandingModel → Type 0
+StandsForPast s h st = HasScrollState st (λ sc ax. values s sc ax h) (active_offsets s h) (pending_offsets s h)
 
 -- the page of the commit of a frame; none where there is no frame
 abbrev pub page_at : ScriptModel → List Entry → Option ℕ → Option Page
@@ -41,10 +41,10 @@ page_at s h o = option_map (λ k. page s (pulls_of h) (suc k)) o
 pub record ArePages (s : ScriptModel) (h : List Entry) (pages : Pages) : Type 0 where
   pub active : option_copied pages.active ≡ page_at s h (frames.active h)
   pub pending : option_copied pages.pending ≡ page_at s h (frames.pending h)
-  pub outright : (sc : ℕ) → is_among pages.outright.now sc ≡ clobbers s (frames.pending h) sc
+  pub outright : (sc : ℕ) → has_number pages.outright.now sc ≡ clobbers s (frames.pending h) sc
 
 -- an event that uses a scroll or a wheel
-abbrev pub is_scroll : Event → Bool
-is_scroll (event.Scroll i dx dy) = true
-is_scroll (event.Wheel i target rest_x rest_y parts) = true
-is_scroll _ = false
+abbrev pub uses_scroll : Event → Bool
+uses_scroll (event.Scroll i dx dy) = true
+uses_scroll (event.Wheel i target rest_x rest_y parts) = true
+uses_scroll _ = false

@@ -63,7 +63,7 @@ pub(crate) fn main_value(page: &LayerTree, scroller: u32, axis: Axis) -> i64
 
 /// The values of a row along an axis.
 pub(crate) fn values_of(row: &Row, axis: Axis) -> Synced
-    ensures { result ≡ rows.along (axis_of axis) row.now }
+    ensures { result ≡ rows.value_along (axis_of axis) row.now }
 {
     match axis {
         Axis::Across => row.x,

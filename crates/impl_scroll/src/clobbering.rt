@@ -11,7 +11,7 @@ use std::alloc::{AllocError, Global};
 
 /// The scrollers that some commands set outright, each once. An error is want of memory.
 pub fn clobbered_by(alloc: Global, commands: &[Command]) -> Result<Vec<u32>, AllocError>
-    ensures { IfOk result (λ ids. (sc : ℕ) → spec.is_among ids.items sc ≡ list_any (scrolls_to sc) commands.now) }
+    ensures { IfOk result (λ ids. (sc : ℕ) → spec.has_number ids.items sc ≡ list_any (scrolls_to sc) commands.now) }
 {
     let mut ids = Vec::new(alloc);
     for command in commands {

@@ -12,9 +12,9 @@ ghost use Rattle.model_history.specs.Scrolls.{clobbers, next_pulls, next_clamps}
 ghost use Rattle.model_history.specs.Accepted.{IsAccepted};
 ghost use Rattle.model_history.specs.Legal.{Legal, is_open};
 ghost use Rattle.model_steps.specs.Events.{send, abort, commit, activate};
-ghost use Rattle.impl_scroll.specs.Rows.{is_among};
-ghost use Rattle.impl_scroll.specs.Standings.{Stands, ArePages, page_at, is_scroll};
-ghost use Rattle.impl_scroll.specs.Occasions.{StandsNow, SendsNow, MovesNow, AbortsNow, CommitsNow, ActivatesNow};
+ghost use Rattle.impl_scroll.specs.Rows.{has_number};
+ghost use Rattle.impl_scroll.specs.Standings.{StandsForPast, ArePages, page_at, uses_scroll};
+ghost use Rattle.impl_scroll.specs.Occasions.{StandsNow, ScrollSends, MovesNow, AbortsNow, CommitsNow, ScrollActivates};
 
 use crate::pages::Pages;
 use crate::standing::{Standing, standing_in};
@@ -27,7 +27,7 @@ impl Standing {
     /// error is want of memory.
     pub fn unheard(&self, alloc: Global) -> Result<Moves, AllocError>
         requires { StandsNow self.now }
-        ensures { IfOk result (λ pulls. (s : ScriptModel) (workers : ℕ) (h : List EntryModel) → Legal s workers h → Stands s h self.now → is_open h kind.Send ≡ true → pulls ≡ next_pulls s h) }
+        ensures { IfOk result (λ pulls. (s : ScriptModel) (workers : ℕ) (h : List EntryModel) → Legal s workers h → StandsForPast s h self.now → is_open h kind.Send ≡ true → pulls ≡ next_pulls s h) }
     {
         self.rows.unheard(alloc)
     }
@@ -35,8 +35,8 @@ impl Standing {
     /// Steps the scrollers by the `Send` of a main frame: the main side is told of all moves. Takes no
     /// memory.
     pub fn sent(&mut self)
-        requires { SendsNow self.old }
-        ensures { (s : ScriptModel) (workers : ℕ) (h : List EntryModel) (actor k : ℕ) (pulls : List MoveModel) → Legal s workers (send actor k pulls ∷ h) → Stands s h self.old → Stands s (send actor k pulls ∷ h) self.new }
+        requires { ScrollSends self.old }
+        ensures { (s : ScriptModel) (workers : ℕ) (h : List EntryModel) (actor k : ℕ) (pulls : List MoveModel) → Legal s workers (send actor k pulls ∷ h) → StandsForPast s h self.old → StandsForPast s (send actor k pulls ∷ h) self.new }
     {
         self.rows.pull();
     }
@@ -49,7 +49,7 @@ impl Standing {
         moves: &[Move],
     ) -> Result<Standing, AllocError>
         requires { MovesNow self.now pages moves.now }
-        ensures { IfOk result (λ moved. (s : ScriptModel) (workers : ℕ) (h : List EntryModel) (e : EntryModel) → Legal s workers (e ∷ h) → is_scroll e.event ≡ true → fields.moves s e.event ≡ moves.now → Stands s h self.now → ArePages s h pages.entry → Stands s (e ∷ h) moved) }
+        ensures { IfOk result (λ moved. (s : ScriptModel) (workers : ℕ) (h : List EntryModel) (e : EntryModel) → Legal s workers (e ∷ h) → uses_scroll e.event ≡ true → fields.moves s e.event ≡ moves.now → StandsForPast s h self.now → ArePages s h pages.entry → StandsForPast s (e ∷ h) moved) }
     {
         let mut rows = self.rows.copy()?;
         rows.add(alloc, moves)?;
@@ -60,7 +60,7 @@ impl Standing {
     /// memory.
     pub fn aborted(&self, alloc: Global, pages: Pages<'_>) -> Result<Standing, AllocError>
         requires { AbortsNow self.now pages }
-        ensures { IfOk result (λ aborted. (s : ScriptModel) (workers : ℕ) (h : List EntryModel) (actor k : ℕ) → Legal s workers (abort actor k ∷ h) → Stands s h self.now → ArePages s h pages.entry → Stands s (abort actor k ∷ h) aborted) }
+        ensures { IfOk result (λ aborted. (s : ScriptModel) (workers : ℕ) (h : List EntryModel) (actor k : ℕ) → Legal s workers (abort actor k ∷ h) → StandsForPast s h self.now → ArePages s h pages.entry → StandsForPast s (abort actor k ∷ h) aborted) }
     {
         let mut rows = self.rows.copy()?;
         rows.abort();
@@ -77,7 +77,7 @@ impl Standing {
         outright: &'a [u32],
     ) -> Result<Standing, AllocError>
         requires { CommitsNow self.now (option_copied active) page.now outright.now }
-        ensures { IfOk result (λ pushed. (s : ScriptModel) (workers : ℕ) (h : List EntryModel) (actor k : ℕ) → Legal s workers (commit actor k ∷ h) → Stands s h self.now → option_copied active.entry ≡ page_at s h (frames.active h) → page.now ≡ frames.page s (pulls_of h) (suc k) → ((sc : ℕ) → is_among outright.now sc ≡ clobbers s (Some k) sc) → Stands s (commit actor k ∷ h) pushed) }
+        ensures { IfOk result (λ pushed. (s : ScriptModel) (workers : ℕ) (h : List EntryModel) (actor k : ℕ) → Legal s workers (commit actor k ∷ h) → StandsForPast s h self.now → option_copied active.entry ≡ page_at s h (frames.active h) → page.now ≡ frames.page s (pulls_of h) (suc k) → ((sc : ℕ) → has_number outright.now sc ≡ clobbers s (Some k) sc) → StandsForPast s (commit actor k ∷ h) pushed) }
     {
         let mut rows = self.rows.copy()?;
         rows.push(alloc, page)?;
@@ -98,7 +98,7 @@ impl Standing {
         outright: &[u32],
     ) -> Result<Moves, AllocError>
         requires { StandsNow self.now }
-        ensures { IfOk result (λ clamps. (s : ScriptModel) (workers : ℕ) (h : List EntryModel) → IsAccepted s → Legal s workers h → Stands s h self.now → page.now ≡ pending_page s h → ((sc : ℕ) → is_among outright.now sc ≡ clobbers s (frames.pending h) sc) → clamps ≡ next_clamps s h) }
+        ensures { IfOk result (λ clamps. (s : ScriptModel) (workers : ℕ) (h : List EntryModel) → IsAccepted s → Legal s workers h → StandsForPast s h self.now → page.now ≡ pending_page s h → ((sc : ℕ) → has_number outright.now sc ≡ clobbers s (frames.pending h) sc) → clamps ≡ next_clamps s h) }
     {
         self.rows.clamps(alloc, page, outright)
     }
@@ -111,8 +111,8 @@ impl Standing {
         page: &LayerTree,
         clamps: &[Move],
     ) -> Result<Standing, AllocError>
-        requires { ActivatesNow self.now page.now clamps.now }
-        ensures { IfOk result (λ activated. (s : ScriptModel) (workers : ℕ) (h : List EntryModel) (actor k : ℕ) → Legal s workers (activate actor k clamps.now ∷ h) → Stands s h self.now → page.now ≡ pending_page s h → Stands s (activate actor k clamps.now ∷ h) activated) }
+        requires { ScrollActivates self.now page.now clamps.now }
+        ensures { IfOk result (λ activated. (s : ScriptModel) (workers : ℕ) (h : List EntryModel) (actor k : ℕ) → Legal s workers (activate actor k clamps.now ∷ h) → StandsForPast s h self.now → page.now ≡ pending_page s h → StandsForPast s (activate actor k clamps.now ∷ h) activated) }
     {
         let mut rows = self.rows.copy()?;
         rows.activate();

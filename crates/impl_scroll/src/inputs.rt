@@ -10,12 +10,12 @@ ghost use Rattle.model_history.specs.Frames as frames;
 ghost use Rattle.model_history.specs.Frames.{active_page};
 ghost use Rattle.model_history.specs.Scrolls as scrolls;
 ghost use Rattle.model_history.specs.Legal.{Legal};
-ghost use Rattle.impl_scroll.specs.Standings.{Stands, page_at};
+ghost use Rattle.impl_scroll.specs.Standings.{StandsForPast, page_at};
 ghost use Rattle.impl_scroll.specs.Occasions.{ShowsNow, WheelsNow};
 
 use crate::standing::Standing;
 use geom::Point;
-use page_hit_test::{Parts, Wheel, wheel_parts};
+use page_hit_test::{WheelParts, Wheel, wheel_parts};
 use page_layers::LayerTree;
 use page_properties::Offsets;
 use std::alloc::{AllocError, Global};
@@ -58,7 +58,7 @@ fn wheel_nowhere(alloc: Global, dx: i32, dy: i32) -> Wheel
 {
     Wheel {
         target: 0,
-        parts: Parts::new(alloc),
+        parts: WheelParts::new(alloc),
         rest: Point { x: dx, y: dy },
     }
 }
@@ -68,8 +68,8 @@ impl Standing {
     /// accepted where that page lacks it, and before the first activation.
     pub fn accepted(&self, active: Option<&LayerTree>, scroller: u32, dx: i32, dy: i32) -> Point
         requires { ShowsNow self.now (option_copied active) }
-        ensures x { (s : ScriptModel) (workers : ℕ) (h : List EntryModel) → Legal s workers h → Stands s h self.now → option_copied active.entry ≡ page_at s h (frames.active h) → result.x ≡ scrolls.accepted s h scroller across dx }
-        ensures y { (s : ScriptModel) (workers : ℕ) (h : List EntryModel) → Legal s workers h → Stands s h self.now → option_copied active.entry ≡ page_at s h (frames.active h) → result.y ≡ scrolls.accepted s h scroller down dy }
+        ensures x { (s : ScriptModel) (workers : ℕ) (h : List EntryModel) → Legal s workers h → StandsForPast s h self.now → option_copied active.entry ≡ page_at s h (frames.active h) → result.x ≡ scrolls.accepted s h scroller across dx }
+        ensures y { (s : ScriptModel) (workers : ℕ) (h : List EntryModel) → Legal s workers h → StandsForPast s h self.now → option_copied active.entry ≡ page_at s h (frames.active h) → result.y ≡ scrolls.accepted s h scroller down dy }
     {
         match active {
             None => Point { x: 0, y: 0 },
@@ -90,7 +90,7 @@ impl Standing {
         dy: i32,
     ) -> Result<Wheel, AllocError>
         requires { WheelsNow self.now (option_copied active) x y dx dy }
-        ensures { IfOk result (λ wheel. (s : ScriptModel) (workers : ℕ) (h : List EntryModel) → Stands s h self.now → option_copied active.entry ≡ page_at s h (frames.active h) → IsWheel (active_page s h) (scrolls.active_offsets s h) (pos x) (pos y) dx dy wheel) }
+        ensures { IfOk result (λ wheel. (s : ScriptModel) (workers : ℕ) (h : List EntryModel) → StandsForPast s h self.now → option_copied active.entry ≡ page_at s h (frames.active h) → IsWheel (active_page s h) (scrolls.active_offsets s h) (pos x) (pos y) dx dy wheel) }
     {
         match active {
             None => Ok(wheel_nowhere(alloc, dx, dy)),

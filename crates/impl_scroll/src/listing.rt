@@ -10,7 +10,7 @@ ghost use Rattle.page_layers.specs.Axes.{listed};
 ghost use Rattle.page_layers.specs.Scrollers as scrollers;
 ghost use Rattle.model_steps.specs.Standing as standing;
 ghost use Rattle.impl_scroll.specs.Rows as spec;
-ghost use Rattle.impl_scroll.specs.Rows.{value_of};
+ghost use Rattle.impl_scroll.specs.Rows.{row_value};
 ghost use Rattle.impl_scroll.specs.inner.Axes.{axis_of};
 ghost use Rattle.impl_scroll.specs.inner.Stages as stages;
 ghost use Rattle.impl_scroll.specs.inner.Stages.{unless_still, clamp_at};
@@ -77,7 +77,7 @@ fn unheard_move(row: &Row) -> Move
 /// What the main side has not heard of each scroller. An error is want of memory.
 pub(crate) fn unheard_moves(alloc: Global, rows: &[Row]) -> Result<Moves, AllocError>
     requires rising { AreRising rows.now }
-    requires bounded { (sc : ℕ) (ax : axes.Axis) → IsBounded (value_of rows.now sc ax) }
+    requires bounded { (sc : ℕ) (ax : axes.Axis) → IsBounded (row_value rows.now sc ax) }
     ensures { IfOk result (λ moves. moves ≡ listed (stages.unheard rows.now) (ids_of rows.now)) }
 {
     let mut moves = Moves::new(alloc);
@@ -97,8 +97,8 @@ fn gap(to: i64, from: i64) -> i64
 
 // How far an activation moves a scroller of a page along an axis, whose commit sets these outright.
 fn clamp_along(outright: &[u32], page: &LayerTree, row: &Row, axis: Axis) -> i64
-    requires { IsBounded (spec.along (axis_of axis) row.now) }
-    ensures { result ≡ (standing.brought_to (spec.is_among outright.now row.now.scroller) (scrollers.most page.now row.now.scroller (axis_of axis)) (spec.along (axis_of axis) row.now) -ℤ table.pending_value (spec.along (axis_of axis) row.now)) }
+    requires { IsBounded (spec.value_along (axis_of axis) row.now) }
+    ensures { result ≡ (standing.brought_to (spec.has_number outright.now row.now.scroller) (scrollers.most page.now row.now.scroller (axis_of axis)) (spec.value_along (axis_of axis) row.now) -ℤ table.pending_value (spec.value_along (axis_of axis) row.now)) }
 {
     let value = values_of(row, axis);
     let outright = is_among(outright, row.scroller);
@@ -112,7 +112,7 @@ fn clamp_along(outright: &[u32], page: &LayerTree, row: &Row, axis: Axis) -> i64
 fn clamp_move(outright: &[u32], page: &LayerTree, row: &Row) -> Move
     requires x { IsBounded row.now.x }
     requires y { IsBounded row.now.y }
-    ensures { result ≡ axes.move_of (λ sc ax. cond (scrollers.has_scroller page.now sc) (standing.brought_to (spec.is_among outright.now sc) (scrollers.most page.now sc ax) (spec.along ax row.now) -ℤ table.pending_value (spec.along ax row.now)) (pos 0)) row.now.scroller }
+    ensures { result ≡ axes.move_of (λ sc ax. cond (scrollers.has_scroller page.now sc) (standing.brought_to (spec.has_number outright.now sc) (scrollers.most page.now sc ax) (spec.value_along ax row.now) -ℤ table.pending_value (spec.value_along ax row.now)) (pos 0)) row.now.scroller }
 {
     let scroller = row.scroller;
     match page.props().scroller(scroller) {
@@ -138,7 +138,7 @@ pub(crate) fn clamp_moves(
     rows: &[Row],
 ) -> Result<Moves, AllocError>
     requires rising { AreRising rows.now }
-    requires bounded { (sc : ℕ) (ax : axes.Axis) → IsBounded (value_of rows.now sc ax) }
+    requires bounded { (sc : ℕ) (ax : axes.Axis) → IsBounded (row_value rows.now sc ax) }
     ensures { IfOk result (λ moves. moves ≡ listed (clamp_at outright.now page.now rows.now) (ids_of rows.now)) }
 {
     let mut moves = Moves::new(alloc);

@@ -9,7 +9,7 @@ ghost use Rattle.page_layers.specs.Scrollers as scrollers;
 ghost use Rattle.page_layers.specs.Scrollers.{offsets_in};
 ghost use Rattle.model_steps.specs.Standing as standing;
 ghost use Rattle.impl_scroll.specs.Rows as spec;
-ghost use Rattle.impl_scroll.specs.Rows.{value_of};
+ghost use Rattle.impl_scroll.specs.Rows.{row_value};
 ghost use Rattle.impl_scroll.specs.inner.Axes.{axis_of};
 ghost use Rattle.impl_scroll.specs.inner.Stages.{stands_at};
 ghost use Rattle.impl_scroll.specs.inner.Stages as stages;
@@ -34,7 +34,7 @@ pub(crate) enum Stage<'a> {
 
 /// Whether a number is among others.
 pub(crate) fn is_among(numbers: &[u32], number: u32) -> bool
-    ensures { result ≡ spec.is_among numbers.now number }
+    ensures { result ≡ spec.has_number numbers.now number }
 {
     numbers.iter().any(|one| *one == number)
 }
@@ -114,9 +114,9 @@ fn place(value: i64) -> i32
 
 // Where a scroller stands in a page along an axis, in its range there.
 fn place_in(stage: Stage<'_>, page: &LayerTree, row: &Row, axis: Axis) -> i32
-    requires bounded { IsBounded (spec.along (axis_of axis) row.now) }
-    requires in_range { IsInRange (scrollers.most page.now row.now.scroller (axis_of axis)) (stages.value_in stage page.now row.now.scroller (axis_of axis) (spec.along (axis_of axis) row.now)) }
-    ensures value { result ≡ stages.value_in stage.entry page.now row.now.scroller (axis_of axis) (spec.along (axis_of axis) row.now) }
+    requires bounded { IsBounded (spec.value_along (axis_of axis) row.now) }
+    requires in_range { IsInRange (scrollers.most page.now row.now.scroller (axis_of axis)) (stages.value_in stage page.now row.now.scroller (axis_of axis) (spec.value_along (axis_of axis) row.now)) }
+    ensures value { result ≡ stages.value_in stage.entry page.now row.now.scroller (axis_of axis) (spec.value_along (axis_of axis) row.now) }
     ensures low { pos 0 ≤ℤ result }
     ensures high { result ≤ℤ pos (2 ^ 20) }
 {
@@ -146,7 +146,7 @@ pub(crate) fn offsets_of(
     rows: &[Row],
 ) -> Result<Offsets, AllocError>
     requires rising { AreRising rows.now }
-    requires bounded { (sc : ℕ) (ax : axes.Axis) → IsBounded (value_of rows.now sc ax) }
+    requires bounded { (sc : ℕ) (ax : axes.Axis) → IsBounded (row_value rows.now sc ax) }
     requires in_range { (sc : ℕ) (ax : axes.Axis) → IsInRange (scrollers.most page.now sc ax) (stands_at stage page.now rows.now sc ax) }
     ensures value { IfOk result (λ offsets. (sc : ℕ) → offset_at offsets sc ≡ offsets_in page.now (stands_at stage.entry page.now rows.now) sc) }
     ensures in_range { IfOk result (λ offsets. AreOffsets (offset_at offsets)) }

@@ -5,10 +5,10 @@ ghost use Rattle.model_scroll_values.specs.Bounds.{IsBounded};
 ghost use Rattle.page_properties.specs.OffsetMap.{offset_at, AreOffsets};
 ghost use Rattle.page_layers.specs.Axes.{Axis};
 ghost use Rattle.page_layers.specs.Scrolls.{origin};
-ghost use Rattle.impl_scroll.specs.Rows.{value_of};
+ghost use Rattle.impl_scroll.specs.Rows.{row_value};
 ghost use Rattle.impl_scroll.specs.inner.Places.{at_active, at_pending, offsets_where, AreInRange};
 
-use crate::Rows;
+use crate::ScrollValues;
 use page_layers::LayerTree;
 use page_properties::Offsets;
 use std::alloc::{AllocError, Global};
@@ -24,10 +24,10 @@ pub(crate) fn none(alloc: Global) -> Offsets
 /// The offsets of the active page; each is (0, 0) where there is none. An error is want of memory.
 pub(crate) fn active_offsets(
     alloc: Global,
-    rows: &Rows,
+    rows: &ScrollValues,
     page: Option<&LayerTree>,
 ) -> Result<Offsets, AllocError>
-    requires bounded { (sc : ℕ) (ax : Axis) → IsBounded (value_of rows.now sc ax) }
+    requires bounded { (sc : ℕ) (ax : Axis) → IsBounded (row_value rows.now sc ax) }
     requires in_range { AreInRange (at_active rows.now) (option_copied page) }
     ensures value { IfOk result (λ offsets. (sc : ℕ) → offset_at offsets sc ≡ offsets_where (at_active rows.now) (option_copied page.entry) sc) }
     ensures in_range { IfOk result (λ offsets. AreOffsets (offset_at offsets)) }
@@ -42,11 +42,11 @@ pub(crate) fn active_offsets(
 /// is none. An error is want of memory.
 pub(crate) fn pending_offsets(
     alloc: Global,
-    rows: &Rows,
+    rows: &ScrollValues,
     page: Option<&LayerTree>,
     outright: &[u32],
 ) -> Result<Offsets, AllocError>
-    requires bounded { (sc : ℕ) (ax : Axis) → IsBounded (value_of rows.now sc ax) }
+    requires bounded { (sc : ℕ) (ax : Axis) → IsBounded (row_value rows.now sc ax) }
     requires in_range { AreInRange (at_pending outright.now rows.now) (option_copied page) }
     ensures value { IfOk result (λ offsets. (sc : ℕ) → offset_at offsets sc ≡ offsets_where (at_pending outright.now rows.now) (option_copied page.entry) sc) }
     ensures in_range { IfOk result (λ offsets. AreOffsets (offset_at offsets)) }

@@ -4,12 +4,12 @@ ghost use Rattle.std.specs.Prelude.{◌≡◌, ◌++◌, ◌∷◌, [], map, IfO
 ghost use Rattle.page_hit_test.specs.Wheels.{part_move};
 
 use model_history::Moves;
-use page_hit_test::{Part, Parts};
+use page_hit_test::{WheelPart, WheelParts};
 use page_layers::Move;
 use std::alloc::{AllocError, Global};
 
 // A part as a move.
-fn move_of(part: Part) -> Move
+fn move_of(part: WheelPart) -> Move
     ensures { result ≡ part_move part }
 {
     Move {
@@ -20,7 +20,7 @@ fn move_of(part: Part) -> Move
 }
 
 // Adds a part at the end of some moves. An error is want of memory.
-fn push_part(moves: &mut Moves, part: Part) -> Result<(), AllocError>
+fn push_part(moves: &mut Moves, part: WheelPart) -> Result<(), AllocError>
     ensures { OnOk result (moves.new ≡ moves.old ++ part_move part ∷ []) }
 {
     match moves.push(move_of(part)) {
@@ -30,7 +30,7 @@ fn push_part(moves: &mut Moves, part: Part) -> Result<(), AllocError>
 }
 
 // The moves that some parts are.
-fn moves_in(alloc: Global, parts: &[Part]) -> Result<Moves, AllocError>
+fn moves_in(alloc: Global, parts: &[WheelPart]) -> Result<Moves, AllocError>
     ensures { IfOk result (λ moves. moves ≡ map part_move parts.now) }
 {
     let mut moves = Moves::new(alloc);
@@ -41,7 +41,7 @@ fn moves_in(alloc: Global, parts: &[Part]) -> Result<Moves, AllocError>
 }
 
 /// The moves that the parts of a wheel are, in their order. An error is want of memory.
-pub fn moves_of(alloc: Global, parts: &Parts) -> Result<Moves, AllocError>
+pub fn moves_of(alloc: Global, parts: &WheelParts) -> Result<Moves, AllocError>
     ensures { IfOk result (λ moves. moves ≡ map part_move parts.now) }
 {
     moves_in(alloc, parts.as_slice())

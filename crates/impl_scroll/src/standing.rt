@@ -6,23 +6,23 @@ ghost use Rattle.model_history.specs.declared.history.Entry.{Entry as EntryModel
 ghost use Rattle.model_history.specs.Scripts.{ScriptModel};
 ghost use Rattle.model_history.specs.Legal.{Legal};
 ghost use Rattle.impl_scroll.specs.Rows.{row_at};
-ghost use Rattle.impl_scroll.specs.Standings.{Stands, ArePages};
+ghost use Rattle.impl_scroll.specs.Standings.{StandsForPast, ArePages};
 ghost use Rattle.impl_scroll.specs.inner.Places.{AreValues, RowsNow};
 
 use crate::page_offsets::{active_offsets, none, pending_offsets};
 use crate::pages::Pages;
-use crate::{Row, Rows};
+use crate::{Row, ScrollValues};
 use page_properties::Offsets;
 use std::alloc::{AllocError, Global};
 use std::marker::Model;
 
 /// Where the scrollers stand: their scroll values, and their offsets in the active and in the pending page.
 ///
-/// Contracts say for which runs it stands, by the script and the past: `Stands`. A number that names no
+/// Contracts say for which runs it stands, by the script and the past: `StandsForPast`. A number that names no
 /// scroller of a page has the offset (0, 0) there.
 #[derive(Drop)]
 pub struct Standing {
-    pub(crate) rows: Rows,
+    pub(crate) rows: ScrollValues,
     pub(crate) active: Offsets,
     pub(crate) pending: Offsets,
 }
@@ -42,11 +42,11 @@ impl Model for Standing {
 // Values with the offsets that follow from them in these pages. An error is want of memory.
 pub(crate) fn standing_in(
     alloc: Global,
-    rows: Rows,
+    rows: ScrollValues,
     pages: Pages<'_>,
 ) -> Result<Standing, AllocError>
     requires { RowsNow rows pages }
-    ensures { IfOk result (λ standing. (s : ScriptModel) (workers : ℕ) (h : List EntryModel) → Legal s workers h → AreValues s h rows → ArePages s h pages.entry → Stands s h standing) }
+    ensures { IfOk result (λ standing. (s : ScriptModel) (workers : ℕ) (h : List EntryModel) → Legal s workers h → AreValues s h rows → ArePages s h pages.entry → StandsForPast s h standing) }
 {
     let active = active_offsets(alloc, &rows, pages.active)?;
     let pending = pending_offsets(alloc, &rows, pages.pending, pages.outright)?;
@@ -60,10 +60,10 @@ pub(crate) fn standing_in(
 impl Standing {
     /// No scroller has moved, and there is no page.
     pub fn new(alloc: Global) -> Standing
-        ensures { (s : ScriptModel) → Stands s [] result }
+        ensures { (s : ScriptModel) → StandsForPast s [] result }
     {
         Standing {
-            rows: Rows::new(alloc),
+            rows: ScrollValues::new(alloc),
             active: none(alloc),
             pending: none(alloc),
         }

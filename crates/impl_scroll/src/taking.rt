@@ -47,9 +47,9 @@ fn moved_within(most: u32, at: i64, asked: i32) -> i32
 
 // How far a scroller of the page moves along an axis where so much is asked.
 fn taken_along(page: &LayerTree, row: &Row, axis: Axis, asked: i32) -> i32
-    requires bounded { IsBounded (spec.along (axis_of axis) row.now) }
-    requires in_range { IsInRange (scrollers.most page.now row.now.scroller (axis_of axis)) (active_value (spec.along (axis_of axis) row.now)) }
-    ensures { result ≡ (clamp_to (scrollers.most page.now row.now.scroller (axis_of axis)) (active_value (spec.along (axis_of axis) row.now) +ℤ asked) -ℤ active_value (spec.along (axis_of axis) row.now)) }
+    requires bounded { IsBounded (spec.value_along (axis_of axis) row.now) }
+    requires in_range { IsInRange (scrollers.most page.now row.now.scroller (axis_of axis)) (active_value (spec.value_along (axis_of axis) row.now)) }
+    ensures { result ≡ (clamp_to (scrollers.most page.now row.now.scroller (axis_of axis)) (active_value (spec.value_along (axis_of axis) row.now) +ℤ asked) -ℤ active_value (spec.value_along (axis_of axis) row.now)) }
 {
     let at = values_of(row, axis).active();
     moved_within(most(page, row.scroller, axis), at, asked)
@@ -62,8 +62,8 @@ pub(crate) fn taken_by(page: &LayerTree, row: &Row, dx: i32, dy: i32) -> Point
     requires y_bounded { IsBounded row.now.y }
     requires x_in_range { IsInRange (scrollers.most page.now row.now.scroller axes.across) (active_value row.now.x) }
     requires y_in_range { IsInRange (scrollers.most page.now row.now.scroller axes.down) (active_value row.now.y) }
-    ensures x { result.x ≡ scrollers.taken page.now (λ _ ax. active_value (spec.along ax row.now)) row.now.scroller axes.across dx }
-    ensures y { result.y ≡ scrollers.taken page.now (λ _ ax. active_value (spec.along ax row.now)) row.now.scroller axes.down dy }
+    ensures x { result.x ≡ scrollers.amount_taken page.now (λ _ ax. active_value (spec.value_along ax row.now)) row.now.scroller axes.across dx }
+    ensures y { result.y ≡ scrollers.amount_taken page.now (λ _ ax. active_value (spec.value_along ax row.now)) row.now.scroller axes.down dy }
 {
     match page.props().scroller(row.scroller) {
         None => Point { x: 0, y: 0 },

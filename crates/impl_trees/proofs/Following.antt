@@ -8,7 +8,7 @@ use Rattle.page_layers.specs.Layers.{PageLayer, has_id}
 use Rattle.page_layers.specs.Pages.{Page}
 use Rattle.page_layers.specs.Refusals.{has_layer}
 use Rattle.page_layers.specs.Contents.{size_of}
-use Rattle.page_layers.specs.Sound.{AreDistinct}
+use Rattle.page_layers.specs.Sound.{AreDistinctLayers}
 use Rattle.impl_trees.specs.Trees.{TreeModel, last_size, MayFollow}
 use Rattle.impl_trees.proofs.Standing.{stands_found}
 use Rattle.impl_trees.specs.inner.Tests.{has_size, is_kept, are_kept, has_tile}
@@ -84,7 +84,7 @@ module _ (last : Option TreeModel) (p : Page) (d : Changed) where
 
   -- ---- and the other way round
 
-  kept : AreDistinct p.layers → MayFollow last p d → are_kept last d p.layers ≡ true
+  kept : AreDistinctLayers p.layers → MayFollow last p d → are_kept last d p.layers ≡ true
   kept distinct may = all_pass (is_kept last d) p.layers one
     where
       one : (i : ℕ) (l : PageLayer) → slice_get p.layers i ≡ Some l → is_kept last d l ≡ true
@@ -105,18 +105,18 @@ module _ (last : Option TreeModel) (p : Page) (d : Changed) where
       by_retiled true e = refl
       by_retiled false e = same_id t.page.view.tile p.view.tile (h e)
 
-  both_tell : AreDistinct p.layers → IsTrue (are_kept last d p.layers && has_tile last p d) ↔ MayFollow last p d
+  both_tell : AreDistinctLayers p.layers → IsTrue (are_kept last d p.layers && has_tile last p d) ↔ MayFollow last p d
   both_tell distinct = (λ h. follows h, λ may. both (are_kept last d p.layers) (has_tile last p d) (kept distinct may) (tile_again last may.tile))
 
-  tells : AreDistinct p.layers → (layers : List PageLayer) → layers ≡ p.layers → (k t : Bool) → k ≡ are_kept last d layers → t ≡ has_tile last p d → IsTrue (k && t) ↔ MayFollow last p d
+  tells : AreDistinctLayers p.layers → (layers : List PageLayer) → layers ≡ p.layers → (k t : Bool) → k ≡ are_kept last d layers → t ≡ has_tile last p d → IsTrue (k && t) ↔ MayFollow last p d
   tells distinct layers same k t of_layers of_tile =
       let all : k ≡ are_kept last d p.layers = of_layers ∙ ap (are_kept last d) same in
       subst (λ (b : Bool). IsTrue b ↔ MayFollow last p d) (λ i. sym all i && sym of_tile i) (both_tell distinct)
 
   -- where the layers pass, the tile size tells; where they do not, they do
-  pub tile_tells : AreDistinct p.layers → (layers : List PageLayer) → layers ≡ p.layers → (k t : Bool) → k ≡ are_kept last d layers → t ≡ has_tile last p d → k ≡ true → IsTrue t ↔ MayFollow last p d
+  pub tile_tells : AreDistinctLayers p.layers → (layers : List PageLayer) → layers ≡ p.layers → (k t : Bool) → k ≡ are_kept last d layers → t ≡ has_tile last p d → k ≡ true → IsTrue t ↔ MayFollow last p d
   tile_tells distinct layers same k t of_layers of_tile passed = subst (λ (b : Bool). IsTrue (b && t) ↔ MayFollow last p d) passed (tells distinct layers same k t of_layers of_tile)
 
-  pub layers_tell : AreDistinct p.layers → (layers : List PageLayer) → layers ≡ p.layers → (k t : Bool) → k ≡ are_kept last d layers → t ≡ has_tile last p d → k ≡ false → IsTrue k ↔ MayFollow last p d
+  pub layers_tell : AreDistinctLayers p.layers → (layers : List PageLayer) → layers ≡ p.layers → (k t : Bool) → k ≡ are_kept last d layers → t ≡ has_tile last p d → k ≡ false → IsTrue k ↔ MayFollow last p d
   layers_tell distinct layers same k t of_layers of_tile failed =
       subst (λ (b : Bool). IsTrue b ↔ MayFollow last p d) (sym failed) (subst (λ (b : Bool). IsTrue (b && t) ↔ MayFollow last p d) failed (tells distinct layers same k t of_layers of_tile))

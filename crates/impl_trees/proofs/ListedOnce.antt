@@ -3,7 +3,7 @@ use Rattle.std.proofs.Common.{ℕ, zero, suc, ◌≡◌, ◌+◌, ◌<◌, ◌�
 use Rattle.std.specs.Prelude.{slice_get}
 use Rattle.std.proofs.lemmas.Bool.Decides.{nat_tests}
 use Rattle.region.specs.declared.change.LayerChange.{LayerChange}
-use Rattle.region.specs.Lists.{AllAbove, IsRising, change_of, is_listed_whole}
+use Rattle.region.specs.Lists.{AreChangesAbove, IsRising, change_of, is_listed_whole}
 use Rattle.impl_trees.specs.inner.Steps.{is_whole}
 
 -- ---- looking from a place on
@@ -36,7 +36,7 @@ none_here list i layer at = ap (λ (n : ℕ). change_of (drop n list) layer) (ad
 
 -- ---- listed whole
 
-above_unlisted : (n m : ℕ) (ds : List LayerChange) → n ≤ m → AllAbove m ds → is_listed_whole ds n ≡ false
+above_unlisted : (n m : ℕ) (ds : List LayerChange) → n ≤ m → AreChangesAbove m ds → is_listed_whole ds n ≡ false
 above_unlisted n m [] le all = refl
 above_unlisted n m (d ∷ ds) le all =
     let lt : m < d.layer = all.0 in

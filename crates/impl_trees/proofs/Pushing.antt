@@ -5,7 +5,7 @@ use Rattle.std.specs.List.{find}
 use Rattle.std.proofs.lemmas.Option.{slice_get_within, slice_get_read}
 use Rattle.geom.specs.declared.rect.Rect.{Rect}
 use Rattle.geom.specs.Sides.{Sides}
-use Rattle.geom.specs.Grids.{has, rect_of}
+use Rattle.geom.specs.Grids.{has, rect_of_place}
 use Rattle.region.specs.declared.change.LayerChange.{LayerChange}
 use Rattle.region.specs.Points.{touched}
 use Rattle.region.specs.Lists.{Changed, IsRising, change_of, is_listed_whole}
@@ -16,7 +16,7 @@ use Rattle.page_layers.specs.Layers.{PageLayer, parts_of, has_id}
 use Rattle.page_layers.specs.Pages.{Page}
 use Rattle.page_layers.specs.Refusals.{has_layer}
 use Rattle.page_layers.specs.Contents.{size_of}
-use Rattle.page_layers.specs.Sound.{AreDistinct}
+use Rattle.page_layers.specs.Sound.{AreDistinctLayers}
 use Rattle.tile_visible.specs.Visible.{grid_of}
 use Rattle.impl_trees.specs.Trees.{TreeModel, Paired, AreCut, last_size, AreStamped, AreStampedIn, MayFollow}
 use Rattle.impl_trees.specs.inner.Steps.{StandsAt, is_whole, changes_all, IsTwin, HasTiling, HasTilingIn, IsNextTiling, AreMade, Leads}
@@ -52,7 +52,7 @@ grid_same p q l m size tile =
     let h : m.h ≡ l.h = ap (λ (o : Option (ℕ × ℕ)). unwrap_or (option_map (λ z. z.1) o) 0) size in
     ap (λ (n : ℕ). sides n m.h q.view.tile) w ∙ ap (λ (n : ℕ). sides l.w n q.view.tile) h ∙ ap (λ (n : ℕ). sides l.w l.h n) tile
 
-module _ (p : Page) (d : Changed) (k : ℕ) (distinct : AreDistinct p.layers) (rising : IsRising d.list) where
+module _ (p : Page) (d : Changed) (k : ℕ) (distinct : AreDistinctLayers p.layers) (rising : IsRising d.list) where
   abbrev commit : Commit
   commit = record { frame = k; changed = d }
 
@@ -101,19 +101,19 @@ module _ (p : Page) (d : Changed) (k : ℕ) (distinct : AreDistinct p.layers) (r
   anew_stamped : (l : PageLayer) (u : Tiled) (last : Option TreeModel) (cs : List Commit) → IsNextTiling last commit l.id (grid_of p l) u → changes_all d l.id ≡ true → IsStamped u (grid_of p l) l.id (commit ∷ cs)
   anew_stamped l u last cs next whole q there =
       ap Some (next.anew whole q there)
-      ∙ ap (λ b. if b then Some k else stamp_of l.id (rect_of (grid_of p l) q) cs) (sym (all_shows d.retiled (change_of d.list l.id) (rect_of (grid_of p l) q) whole))
+      ∙ ap (λ b. if b then Some k else stamp_of l.id (rect_of_place (grid_of p l) q) cs) (sym (all_shows d.retiled (change_of d.list l.id) (rect_of_place (grid_of p l) q) whole))
 
   stepped_stamped : (l : PageLayer) (u : Tiled) (a : TreeModel) (cs : List Commit) → IsNextTiling (Some a) commit l.id (grid_of p l) u → AreCut a.page a.tilings → HasTiling l.id (grid_of p l) a → AreStamped a cs → IsStamped u (grid_of p l) l.id (commit ∷ cs)
   stepped_stamped l u a cs next cut h stamps q there =
       let g : Sides = grid_of p l in
       let t : Tiled = h.tiling in
       let old_grid : grid_of a.page h.layer ≡ g = sym (cut.grids h.place h.layer t h.stands h.tiled) ∙ h.cut in
-      let old : Some (stamp_at t q) ≡ stamp_of l.id (rect_of g q) cs =
+      let old : Some (stamp_at t q) ≡ stamp_of l.id (rect_of_place g q) cs =
       stamps h.place h.layer t h.stands h.tiled q (ap (λ (z : Sides). has z q) old_grid ∙ there)
-      ∙ (λ j. stamp_of (h.named j) (rect_of (old_grid j) q) cs) in
+      ∙ (λ j. stamp_of (h.named j) (rect_of_place (old_grid j) q) cs) in
       ap Some (next.stepped h.place h.layer t h.stands h.tiled h.named (h.cut ∙ sym next.grid) q (ap (λ (z : Sides). has z q) next.grid ∙ there))
-      ∙ ap (λ (z : Sides). Some (if changes_in l.id (rect_of z q) commit then k else stamp_at t q)) next.grid
-      ∙ some_of (changes_in l.id (rect_of g q) commit) k (stamp_at t q) (stamp_of l.id (rect_of g q) cs) old
+      ∙ ap (λ (z : Sides). Some (if changes_in l.id (rect_of_place z q) commit then k else stamp_at t q)) next.grid
+      ∙ some_of (changes_in l.id (rect_of_place g q) commit) k (stamp_at t q) (stamp_of l.id (rect_of_place g q) cs) old
 
   -- the tilings of all layers
   pub made : (last : Option TreeModel) (us : List Tiled) → MayFollow last p d → CutIn last → length us ≡ length p.layers → Paired (λ l u. IsNextTiling last commit l.id (grid_of p l) u) p.layers us → AreMade last p d k us
@@ -145,7 +145,7 @@ more_made last p c ls ts us u i l each so_far below at added next =
 
 -- ---- a copy of the last pushed tree's tiling
 
-module _ (a : TreeModel) (id : ℕ) (g : Sides) (h : HasTiling id g a) (distinct : AreDistinct a.page.layers) (ls : List PageLayer) (same : ls ≡ a.page.layers) where
+module _ (a : TreeModel) (id : ℕ) (g : Sides) (h : HasTiling id g a) (distinct : AreDistinctLayers a.page.layers) (ls : List PageLayer) (same : ls ≡ a.page.layers) where
   stands : (i : ℕ) → StandsAt id ls (Some i) → (l : PageLayer) × (slice_get a.page.layers i ≡ Some l) × (l.id ≡ id)
   stands i s = (s.0, ap (λ ks. slice_get ks i) (sym same) ∙ s.1, found_id id ls s.0 s.2)
 

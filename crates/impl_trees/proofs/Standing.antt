@@ -9,7 +9,7 @@ use Rattle.page_layers.specs.Layers.{PageLayer, parts_of, has_id}
 use Rattle.page_layers.specs.inner.FoundPlaces.{StandsAt as First}
 use Rattle.page_layers.proofs.LayerPlaces.{place_is, found_is}
 use Rattle.page_layers.specs.Refusals.{has_layer}
-use Rattle.page_layers.specs.Sound.{AreDistinct}
+use Rattle.page_layers.specs.Sound.{AreDistinctLayers}
 use Rattle.impl_trees.specs.inner.Steps.{StandsAt}
 use Rattle.impl_trees.proofs.Pairs.{some_same}
 
@@ -30,7 +30,7 @@ found_stands id (k ∷ ls) l e = go (k.id == id) refl e (found_stands id ls l)
     go false is f rest = let r = rest f in (suc r.0, r.1, r.2)
 
 -- a layer that stands in the list is the one that is found, as no two have one id
-pub stands_found : (ls : List PageLayer) → AreDistinct ls → (i : ℕ) (l : PageLayer) → slice_get ls i ≡ Some l → find (has_id l.id) ls ≡ Some l
+pub stands_found : (ls : List PageLayer) → AreDistinctLayers ls → (i : ℕ) (l : PageLayer) → slice_get ls i ≡ Some l → find (has_id l.id) ls ≡ Some l
 stands_found [] d i l e = absurd (cc)
 stands_found (k ∷ ls) d zero l e =
     let here : k ≡ l = some_same k l e in
@@ -44,7 +44,7 @@ stands_found (k ∷ ls) d (suc i) l e = go (k.id == l.id) refl (stands_found ls 
     go false is f = f
 
 -- so a layer has one place
-pub one_place : (ls : List PageLayer) → AreDistinct ls → (i j : ℕ) (l m : PageLayer) → slice_get ls i ≡ Some l → slice_get ls j ≡ Some m → l.id ≡ m.id → i ≡ j
+pub one_place : (ls : List PageLayer) → AreDistinctLayers ls → (i j : ℕ) (l m : PageLayer) → slice_get ls i ≡ Some l → slice_get ls j ≡ Some m → l.id ≡ m.id → i ≡ j
 one_place [] d i j l m el em e = absurd (cc)
 one_place (k ∷ ls) d zero zero l m el em e = refl
 one_place (k ∷ ls) d zero (suc j) l m el em e =

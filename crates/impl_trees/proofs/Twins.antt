@@ -5,7 +5,7 @@ use Rattle.std.proofs.lemmas.List.{length-map, length_push}
 use Rattle.geom.specs.declared.tile.Place.{Place}
 use Rattle.geom.specs.declared.rect.Rect.{Rect}
 use Rattle.geom.specs.Sides.{Sides}
-use Rattle.geom.specs.Grids.{has, rect_of}
+use Rattle.geom.specs.Grids.{has, rect_of_place}
 use Rattle.region.specs.declared.change.LayerChange.{LayerChange}
 use Rattle.region.specs.Lists.{Changed, change_of}
 use Rattle.tile_tiling.specs.Tiles.{Tiled, stamp_at, IsCarried}
@@ -13,7 +13,7 @@ use Rattle.tile_tiling.specs.Stamps.{Commit, may_show_in, changes_in}
 use Rattle.page_layers.specs.declared.layer.Layer.{Layer}
 use Rattle.page_layers.specs.Layers.{PageLayer, parts_of}
 use Rattle.page_layers.specs.Pages.{Page}
-use Rattle.page_layers.specs.Sound.{AreDistinct}
+use Rattle.page_layers.specs.Sound.{AreDistinctLayers}
 use Rattle.tile_visible.specs.Visible.{grid_of}
 use Rattle.impl_trees.specs.Trees.{TreeModel, Paired, commit_of}
 use Rattle.impl_trees.specs.inner.Steps.{OfLayer, IsStepped, Leads, IsTwin, HasTiling, AreCutAlike}
@@ -22,7 +22,7 @@ use Rattle.impl_trees.proofs.Standing.{one_place, placed_layer}
 
 -- the stamp that a commit leaves at a place of a layer that is cut so
 abbrev stepped_at : Commit → Tiled → Place → ℕ → Sides → ℕ
-stepped_at c t p id g = if changes_in id (rect_of g p) c then c.frame else stamp_at t p
+stepped_at c t p id g = if changes_in id (rect_of_place g p) c then c.frame else stamp_at t p
 
 -- ---- one step
 
@@ -36,8 +36,8 @@ carried d layer frame change t u flat is made = (made.grid, steps)
   where
     steps : IsStepped (record { frame = frame; changed = d }) layer t u
     steps cut p there =
-        let shows : changes_in layer (rect_of t.grid p) (record { frame = frame; changed = d }) ≡ may_show_in (Some change) (rect_of t.grid p) =
-        shown_by d layer frame (rect_of t.grid p) flat ∙ ap (λ o. may_show_in o (rect_of t.grid p)) is in
+        let shows : changes_in layer (rect_of_place t.grid p) (record { frame = frame; changed = d }) ≡ may_show_in (Some change) (rect_of_place t.grid p) =
+        shown_by d layer frame (rect_of_place t.grid p) flat ∙ ap (λ o. may_show_in o (rect_of_place t.grid p)) is in
         made.places p (ap (λ g. has g p) cut ∙ there)
         ∙ ap (λ b. if b then frame else stamp_at t p) (sym shows)
         ∙ ap (λ g. stepped_at (record { frame = frame; changed = d }) t p layer g) cut
@@ -45,13 +45,13 @@ carried d layer frame change t u flat is made = (made.grid, steps)
 -- a layer that is not listed
 pub unlisted : (d : Changed) (layer frame : ℕ) (t : Tiled) → d.retiled ≡ false → change_of d.list layer ≡ None → IsStepped (record { frame = frame; changed = d }) layer t t
 unlisted d layer frame t flat none cut p there =
-    ap (λ b. if b then frame else stamp_at t p) (sym (shown_by d layer frame (rect_of t.grid p) flat ∙ ap (λ o. may_show_in o (rect_of t.grid p)) none))
+    ap (λ b. if b then frame else stamp_at t p) (sym (shown_by d layer frame (rect_of_place t.grid p) flat ∙ ap (λ o. may_show_in o (rect_of_place t.grid p)) none))
 
 -- ---- twins
 
 module _ (a : TreeModel) where
   -- the tree's own tiling
-  pub copy_twin : (id : ℕ) (g : Sides) (h : HasTiling id g a) → AreDistinct a.page.layers → (i : ℕ) (l : PageLayer) (t : Tiled)
+  pub copy_twin : (id : ℕ) (g : Sides) (h : HasTiling id g a) → AreDistinctLayers a.page.layers → (i : ℕ) (l : PageLayer) (t : Tiled)
       → slice_get a.page.layers i ≡ Some l → l.id ≡ id → slice_get a.tilings i ≡ Some t → (t.grid ≡ g) × IsTwin a id t
   copy_twin id g h distinct i l t el named et = (cut, twin)
     where
@@ -71,7 +71,7 @@ module _ (a : TreeModel) where
   twin_stepped id c t u twin grid steps i l v el ev e cut p within =
       let there : has t.grid p ≡ true = ap (λ g. has g p) (sym grid) ∙ within in
       steps (sym grid) p within
-      ∙ ap (λ n. if changes_in id (rect_of u.grid p) c then c.frame else n) (twin i l v el ev e (cut ∙ grid) p there)
+      ∙ ap (λ n. if changes_in id (rect_of_place u.grid p) c then c.frame else n) (twin i l v el ev e (cut ∙ grid) p there)
 
   -- a tiling one commit behind, once the commit is carried
   pub behind_twin : (id : ℕ) (c : Commit) (t u : Tiled) → OfLayer a id (λ v. IsStepped c id t v) → u.grid ≡ t.grid → IsStepped c id t u → IsTwin a id u
@@ -83,7 +83,7 @@ module _ (a : TreeModel) where
   -- a tiling one commit ahead that the commit did not change
   pub ahead_twin : (id : ℕ) (c : Commit) (u : Tiled) → OfLayer a id (λ t. IsStepped c id t u) → ((r : Rect) → changes_in id r c ≡ false) → IsTwin a id u
   ahead_twin id c u leads quiet i l t el et e cut p there =
-      leads i l t el et e cut p there ∙ ap (λ b. if b then c.frame else stamp_at t p) (quiet (rect_of u.grid p))
+      leads i l t el et e cut p there ∙ ap (λ b. if b then c.frame else stamp_at t p) (quiet (rect_of_place u.grid p))
 
 nothing_shows : (b : Bool) (o : Option LayerChange) (r : Rect) → (not b && is_none o) ≡ true → b || may_show_in o r ≡ false
 nothing_shows true o r h = absurd (cc)

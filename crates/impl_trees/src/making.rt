@@ -1,7 +1,7 @@
 //! The tilings of the tree of a commit.
 
 ghost use Rattle.std.specs.Prelude.{◌≡◌, [], false, All, IfOk, IfSome, OnOk};
-ghost use Rattle.geom.specs.Sides.{IsSide};
+ghost use Rattle.geom.specs.Sides.{IsLayerSide};
 ghost use Rattle.page_layers.specs.Layers.{parts_of};
 ghost use Rattle.tile_visible.specs.Visible as visible;
 ghost use Rattle.impl_trees.specs.Trees.{TreeModel, AreCut, MayFollow};

@@ -1,7 +1,7 @@
 //! Tilings that are used again.
 
 ghost use Rattle.std.specs.Prelude.{◌≡◌, ◌≤◌, ◌<◌, ℕ, false, All, IfSome, length, slice_get, Some};
-ghost use Rattle.geom.specs.Sides.{IsSide};
+ghost use Rattle.geom.specs.Sides.{IsLayerSide};
 ghost use Rattle.page_layers.specs.Layers.{parts_of};
 ghost use Rattle.tile_visible.specs.Visible as visible;
 ghost use Rattle.impl_trees.specs.Trees.{TreeModel, commit_of};
@@ -63,8 +63,8 @@ fn add(
     layer: &Layer,
     tiling: Tiling,
 ) -> Result<(), AllocError>
-    requires wide { IsSide layer.now.w }
-    requires tall { IsSide layer.now.h }
+    requires wide { IsLayerSide layer.now.w }
+    requires tall { IsLayerSide layer.now.h }
     requires cut { tiling.grid ≡ visible.grid_of tree.now (parts_of layer.now) }
     ensures { (a : TreeModel) → IsTwin a layer.now.id tiling → All (IsSpareOf a) spares.old.items → All (IsSpareOf a) spares.new.items }
 {

@@ -4,7 +4,7 @@ use Rattle.region.specs.Lists.{Changed}
 use Rattle.page_layers.specs.Pages.{Page}
 use Rattle.page_layers.specs.declared.moves.Move.{Move}
 use Rattle.model_history.specs.Scripts.{ScriptModel}
-use Rattle.model_history.specs.Frames.{commands_of, page, pulls_in, pulled, commanded, changes}
+use Rattle.model_history.specs.Frames.{commands_of, page, pulls_in, page_after_pulls, commanded, changes}
 use Rattle.model_history.specs.Stamps.{changed_by, unchanged}
 use Rattle.model_history.specs.SameChanges.{SameChanges}
 use Rattle.model_history.specs.Ended.{StandsBefore, EndsFrame, Tells}
@@ -45,7 +45,7 @@ pub is_next : (s : ScriptModel) (sends : List (List Move)) (ms : List Move) (k :
 is_next s sends ms k tree copy after done e left is same ends =
     let pulls = next_pulls sends ms k e in
     let stands = next_stands s sends ms k tree e is in
-    let before : pulled ms copy ≡ pulled (pulls_in (sends ++ ms ∷ []) k) (page s (pulls_in (sends ++ ms ∷ [])) k) = λ i. pulled (sym pulls i) ((same ∙ stands) i) in
+    let before : page_after_pulls ms copy ≡ page_after_pulls (pulls_in (sends ++ ms ∷ []) k) (page s (pulls_in (sends ++ ms ∷ [])) k) = λ i. page_after_pulls (sym pulls i) ((same ∙ stands) i) in
     record {
       left = left;
       frame = e;

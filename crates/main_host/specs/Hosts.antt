@@ -13,7 +13,7 @@ use Rattle.main_host.specs.declared.main_end.MainEnd.{MainEnd}
 use Rattle.main_host.specs.declared.main_end.MainEnd.TheVariants as end
 
 -- what contracts see of the main side: its script, and the pulls of each frame that it has ended
-pub record HostModel : Type 0 where
+pub record MainHostModel : Type 0 where
   pub script : ScriptModel
   pub sends : List (List Move)
 
@@ -23,28 +23,28 @@ pub record IsHost (s : ScriptModel) (sends : List (List Move)) (p : Page) : Type
   pub tree : p ≡ page s (pulls_in sends) (length sends)
 
 -- the same with one frame more, which got these pulls
-abbrev pub with_frame : HostModel → List Move → HostModel
+abbrev pub with_frame : MainHostModel → List Move → MainHostModel
 with_frame h ms = record { script = h.script; sends = h.sends ++ ms ∷ [] }
 
 -- the commit of the last frame that the main side has ended, which has this number
-pub record IsCommitOf (h : HostModel) (k : ℕ) (c : CommitModel) : Type 0 where
+pub record IsCommitOf (h : MainHostModel) (k : ℕ) (c : CommitModel) : Type 0 where
   pub script : c.script ≡ h.script
   pub frame : c.frame ≡ k
   pub sends : c.sends ≡ h.sends
   pub commit : IsCommit c
 
 -- how the next frame ends, with these pulls: by its commit exactly where it changes something, else by an abort
-abbrev pub IsEnd : HostModel → List Move → MainEnd → Type 0
+abbrev pub IsEnd : MainHostModel → List Move → MainEnd → Type 0
 IsEnd h ms (end.Ready c) = (changes h.script (pulls_in (h.sends ++ ms ∷ [])) (length h.sends) ≡ true) × IsCommitOf (with_frame h ms) (length h.sends) c
 IsEnd h ms (end.Abort frame) = (changes h.script (pulls_in (h.sends ++ ms ∷ [])) (length h.sends) ≡ false) × (frame ≡ length h.sends)
 
 -- the next frame was ended so; or memory ran out, and nothing was ended
-abbrev pub Ends : HostModel → List Move → HostModel → Result MainEnd AllocError → Type 0
-Ends old ms new (Ok e) = (new ≡ with_frame old ms) × IsEnd old ms e
-Ends old ms new (Err e) = new ≡ old
+abbrev pub EndsNextFrame : MainHostModel → List Move → MainHostModel → Result MainEnd AllocError → Type 0
+EndsNextFrame old ms new (Ok e) = (new ≡ with_frame old ms) × IsEnd old ms e
+EndsNextFrame old ms new (Err e) = new ≡ old
 
 -- the next frame, which has this number, led from the one page to the other with these pulls, and changed this
-pub record IsNext (h : HostModel) (ms : List Move) (k : ℕ) (p q : Page) (done : Changed) : Type 0 where
+pub record IsNext (h : MainHostModel) (ms : List Move) (k : ℕ) (p q : Page) (done : Changed) : Type 0 where
   pub left : k < length h.script.main
   pub frame : k ≡ length h.sends
   pub before : p ≡ page h.script (pulls_in (h.sends ++ ms ∷ [])) k

@@ -5,7 +5,7 @@ ghost use Rattle.region.specs.Lists.{Changed};
 ghost use Rattle.page_layers.specs.Pages.{Page};
 ghost use Rattle.model_history.specs.Ended.{AreBounded};
 ghost use Rattle.model_history.specs.Frames.{changes, pulls_in};
-ghost use Rattle.main_host.specs.Hosts.{Ends, IsEnd, IsNext, IsCommitOf, with_frame};
+ghost use Rattle.main_host.specs.Hosts.{EndsNextFrame, IsEnd, IsNext, IsCommitOf, with_frame};
 
 use crate::main_end::MainEnd;
 use model_history::{Commit, Moves, Script, Sends, changes_something, take_frame};
@@ -25,9 +25,9 @@ pub struct MainHost {
 }
 
 impl Model for MainHost {
-    ghost use Rattle.main_host.specs.Hosts.{HostModel, IsHost};
+    ghost use Rattle.main_host.specs.Hosts.{MainHostModel, IsHost};
 
-    ghost Value = { HostModel };
+    ghost Value = { MainHostModel };
 
     ghost view = { λ h. record { script = h.script.value; sends = h.sends } };
 
@@ -151,7 +151,7 @@ impl MainHost {
     pub fn begin(&mut self, pulls: &Moves) -> Result<MainEnd, AllocError>
         requires left { length self.old.sends < length self.old.script.main }
         requires bounded { AreBounded pulls.now }
-        ensures { Ends self.old pulls.now self.new result }
+        ensures { EndsNextFrame self.old pulls.now self.new result }
     {
         let frame = self.next_frame();
         let mut tree = self.tree.copy()?;

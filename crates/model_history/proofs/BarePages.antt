@@ -10,7 +10,7 @@ use Rattle.page_layers.specs.declared.command.Command.{Command}
 use Rattle.page_layers.specs.declared.command.Command.TheVariants as command
 use Rattle.page_layers.specs.Layers.{has_id}
 use Rattle.page_layers.specs.Pages.{Page}
-use Rattle.page_layers.specs.Effects.{after, retiles}
+use Rattle.page_layers.specs.Effects.{page_after_command, retiles}
 use Rattle.page_layers.specs.declared.moves.Move.{Move}
 use Rattle.model_history.specs.Scripts.{ScriptModel}
 use Rattle.model_history.specs.Frames.{commands_of, page, page_before}
@@ -27,12 +27,12 @@ no_pulls k = []
 
 -- ---- pages
 
-after_bare : (p : Page) (c : Command) → bare (after p c) ≡ bare (after (bare p) c)
+after_bare : (p : Page) (c : Command) → bare (page_after_command p c) ≡ bare (page_after_command (bare p) c)
 after_bare p (command.AddTransform id parent x y scroller) = refl
 after_bare p _ = refl
 
-after_alike : (p q : Page) (c : Command) → bare p ≡ bare q → bare (after p c) ≡ bare (after q c)
-after_alike p q c same = after_bare p c ∙ ap (λ (z : Page). bare (after z c)) same ∙ sym (after_bare q c)
+after_alike : (p q : Page) (c : Command) → bare p ≡ bare q → bare (page_after_command p c) ≡ bare (page_after_command q c)
+after_alike p q c same = after_bare p c ∙ ap (λ (z : Page). bare (page_after_command z c)) same ∙ sym (after_bare q c)
 
 -- pages with and without pulls, and the pages that a frame's commands act on
 pub page_bare : (s : ScriptModel) (ps : ℕ → List Move) (n : ℕ) → bare (page s ps n) ≡ bare (page s no_pulls n)
@@ -54,8 +54,8 @@ next_bare p _ done = refl
 changed_alike : (cs : List Command) (p q : Page) (done : Changed) → bare p ≡ bare q → changed_by p cs done ≡ changed_by q cs done
 changed_alike [] p q done same = refl
 changed_alike (c ∷ cs) p q done same =
-    ap (λ (d : Changed). changed_by (after p c) cs d) (next_bare p c done ∙ ap (λ (z : Page). with_next z c done) same ∙ sym (next_bare q c done))
-    ∙ changed_alike cs (after p c) (after q c) (with_next q c done) (after_alike p q c same)
+    ap (λ (d : Changed). changed_by (page_after_command p c) cs d) (next_bare p c done ∙ ap (λ (z : Page). with_next z c done) same ∙ sym (next_bare q c done))
+    ∙ changed_alike cs (page_after_command p c) (page_after_command q c) (with_next q c done) (after_alike p q c same)
 
 frame_alike : (s : ScriptModel) (ps : ℕ → List Move) (k : ℕ) → frame_changes s ps k ≡ frame_changes s no_pulls k
 frame_alike s ps k = changed_alike (commands_of s k) (page_before s ps k) (page_before s no_pulls k) unchanged (before_bare s ps k)

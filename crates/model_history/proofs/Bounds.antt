@@ -14,10 +14,10 @@ use Rattle.model_history.specs.declared.input.Input.TheVariants as input
 use Rattle.page_layers.specs.declared.moves.Move.{Move}
 use Rattle.model_history.specs.declared.history.Entry.{Entry}
 use Rattle.model_history.specs.Scripts.{ScriptModel}
-use Rattle.model_history.specs.EventFields.{sends, pulls, settles, moves, scroll_move}
+use Rattle.model_history.specs.EventFields.{sends, pulls, retires, moves, scroll_move}
 use Rattle.model_history.specs.Scans.{names, was_named, counted}
 use Rattle.page_layers.specs.Axes.{Axis, across, down, move_of, is_still, listed}
-use Rattle.page_layers.specs.Scrollers.{scrollers, has_scroller, most, taken}
+use Rattle.page_layers.specs.Scrollers.{scrollers, has_scroller, most, amount_taken}
 use Rattle.model_history.specs.Frames.{page, pulls_of, active, pending, up_to, active_page, pending_page}
 use Rattle.model_history.specs.Scrolls.{base_of, offset, active_then, pending_base, offset_then, pending_offset, clamp_move, scrollers_moved, unsent, active_offsets}
 use Rattle.page_layers.specs.Wheels.{chain_parts, takes_at, chain_at}
@@ -105,7 +105,7 @@ nothing_between b = omega (arith, ints)
 same_base : (s : ScriptModel) (n : ℕ) (h : List Entry) (sc : ℕ) (ax : Axis) → Legal s n h → pending h ≡ None → (values s sc ax h).active_base ≡ (values s sc ax h).pending_base
 same_base s n h sc ax l e =
     let m = sums s n sc ax h l in
-    m.active_base ∙ (sym (ap (λ o. base_of s h (option_or o (active h)) (λ k. names o k || was_named settles h k) sc ax) e) ∙ sym m.pending_base)
+    m.active_base ∙ (sym (ap (λ o. base_of s h (option_or o (active h)) (λ k. names o k || was_named retires h k) sc ax) e) ∙ sym m.pending_base)
 
 one_step : (s : ScriptModel) (n : ℕ) (h : List Entry) (a : ℕ) (e : Event) (sc : ℕ) (ax : Axis) → IsAccepted s → Legal s n (entry a e ∷ h) → Near s sc ax h → Near s sc ax (entry a e ∷ h)
 one_step s n h a (event.Send k ms) sc ax acc l r =
@@ -243,7 +243,7 @@ cond_small : (b : Bool) (z : ℤ) → IsSmall z → IsSmall (cond b z (pos 0))
 cond_small true z r = r
 cond_small false z r = zero_small
 
-taken_small : (s : ScriptModel) (n : ℕ) (h : List Entry) (sc : ℕ) (ax : Axis) (z : ℤ) → IsAccepted s → Legal s n h → IsSmall (taken (active_page s h) (offset s h) sc ax z)
+taken_small : (s : ScriptModel) (n : ℕ) (h : List Entry) (sc : ℕ) (ax : Axis) (z : ℤ) → IsAccepted s → Legal s n h → IsSmall (amount_taken (active_page s h) (offset s h) sc ax z)
 taken_small s n h sc ax z acc l =
     cond_small (has_scroller (active_page s h) sc) (clamp_to (most (active_page s h) sc ax) (offset s h sc ax +ℤ z) -ℤ offset s h sc ax)
     (moved_small (most (active_page s h) sc ax) (offset s h sc ax) z (page_short s acc (pulls_of h) (up_to (active h)) sc ax) (offset_place s n h sc ax acc l))

@@ -16,10 +16,10 @@ use Rattle.model_history.specs.Scans.{newest, counted, held}
 use Rattle.page_layers.specs.Axes.{across, down}
 use Rattle.model_history.specs.Frames.{changes, pulls_of, is_left, active, pending, active_page}
 use Rattle.model_history.specs.Scrolls.{next_pulls, next_clamps, accepted, active_offsets}
-use Rattle.model_history.specs.Tiles.{required, are_ready, missing}
-use Rattle.model_history.specs.Ranking.{first, evicted_for}
+use Rattle.model_history.specs.Tiles.{required, are_ready, missing_visible}
+use Rattle.model_history.specs.Ranking.{rank_to_start, evicted_for}
 use Rattle.page_layers.specs.Wheels.{wheel_parts, wheel_rest}
-use Rattle.model_history.specs.Due.{on_if, next_input, input_now, is_draw, due_ready, due_abort, due_commit, due_activate, due_scroll, due_wheel, due_start, due_done, due_draw, is_over}
+use Rattle.model_history.specs.Due.{on_if, next_input, input_now, asks_draw, due_ready, due_abort, due_commit, due_activate, due_scroll, due_wheel, due_start, due_done, due_draw, is_over}
 use Rattle.model_history.specs.Legal.{sched, Next}
 use Rattle.model_history.proofs.BoolFacts.{and_left, and_right, and_first, and_second, and_third, not_true}
 
@@ -41,32 +41,32 @@ on_if_event false e f h = cc
 
 pub record AtBegin (s : ScriptModel) (h : List Entry) (i : ℕ) : Type 0 where
   pub idle : is_idle (sched h).impl_state ≡ true
-  pub draw : is_draw (input_now s h) ≡ true
+  pub draw : asks_draw (input_now s h) ≡ true
   pub input : i ≡ next_input h
 
 pub at_begin : (s : ScriptModel) (n : ℕ) (h : List Entry) (a i : ℕ) → Next s n h (entry a (event.Begin i)) → AtBegin s h i
 at_begin s n h a i x =
-    let d = on_if_event (is_draw (input_now s h)) (event.Begin (next_input h)) (event.Begin i) x.is_due in
+    let d = on_if_event (asks_draw (input_now s h)) (event.Begin (next_input h)) (event.Begin i) x.is_due in
     record {
       idle = x.state;
-      draw = on_if_holds (is_draw (input_now s h)) (event.Begin (next_input h)) (event.Begin i) x.is_due;
+      draw = on_if_holds (asks_draw (input_now s h)) (event.Begin (next_input h)) (event.Begin i) x.is_due;
       input = cc;
     }
 
 pub record AtBeginPlain (s : ScriptModel) (h : List Entry) : Type 0 where
   pub idle : is_idle (sched h).impl_state ≡ true
   pub main : is_main_idle (sched h).main_state ≡ true
-  pub no_draw : is_draw (input_now s h) ≡ false
+  pub no_draw : asks_draw (input_now s h) ≡ false
   pub left : is_left s h ≡ true
 
 pub at_begin_plain : (s : ScriptModel) (n : ℕ) (h : List Entry) (a : ℕ) → Next s n h (entry a event.BeginPlain) → AtBeginPlain s h
 at_begin_plain s n h a x =
-    let d = on_if_holds (not (is_draw (input_now s h)) && is_left s h) event.BeginPlain event.BeginPlain x.is_due in
+    let d = on_if_holds (not (asks_draw (input_now s h)) && is_left s h) event.BeginPlain event.BeginPlain x.is_due in
     record {
       idle = and_left (is_idle (sched h).impl_state) (is_main_idle (sched h).main_state) x.state;
       main = and_right (is_idle (sched h).impl_state) (is_main_idle (sched h).main_state) x.state;
-      no_draw = not_true (is_draw (input_now s h)) (and_left (not (is_draw (input_now s h))) (is_left s h) d);
-      left = and_right (not (is_draw (input_now s h))) (is_left s h) d;
+      no_draw = not_true (asks_draw (input_now s h)) (and_left (not (asks_draw (input_now s h))) (is_left s h) d);
+      left = and_right (not (asks_draw (input_now s h))) (is_left s h) d;
     }
 
 -- the main frame: sent, ready or aborted, committed, activated
@@ -257,20 +257,20 @@ at_wheel s n h a i layer rest_x rest_y ms x =
 pub record AtStart (s : ScriptModel) (h : List Entry) (w : ℕ) (q : TileKey) (evicted : List TileKey) : Type 0 where
   pub idle : held w h ≡ None
   pub rank : Rank
-  pub is_first : first s h ≡ Some rank
+  pub is_first : rank_to_start s h ≡ Some rank
   pub key : q ≡ rank.key
-  pub gives_up : evicted ≡ evicted_for s h rank
+  pub evictions : evicted ≡ evicted_for s h rank
 
 start_due : (s : ScriptModel) (h : List Entry) (v w : ℕ) (q : TileKey) (evicted : List TileKey) (holds : Option TileKey) (o : Option Rank)
-    → held v h ≡ holds → first s h ≡ o → due_start s h v holds o ≡ Some (event.Start w q evicted) → AtStart s h w q evicted
+    → held v h ≡ holds → rank_to_start s h ≡ o → due_start s h v holds o ≡ Some (event.Start w q evicted) → AtStart s h w q evicted
 start_due s h v w q evicted None (Some r) e f d =
     let i : v ≡ w = cc in
-    record { idle = ap (λ z. held z h) (sym i) ∙ e; rank = r; is_first = f; key = cc; gives_up = cc }
+    record { idle = ap (λ z. held z h) (sym i) ∙ e; rank = r; is_first = f; key = cc; evictions = cc }
 start_due s h v w q evicted _ _ e f d = cc
 
 pub at_start : (s : ScriptModel) (n : ℕ) (h : List Entry) (a w : ℕ) (q : TileKey) (evicted : List TileKey)
     → Next s n h (entry a (event.Start w q evicted)) → AtStart s h w q evicted
-at_start s n h a w q evicted x = start_due s h (a - 2) w q evicted (held (a - 2) h) (first s h) refl refl x.is_due
+at_start s n h a w q evicted x = start_due s h (a - 2) w q evicted (held (a - 2) h) (rank_to_start s h) refl refl x.is_due
 
 done_due : (h : List Entry) (v w : ℕ) (q : TileKey) (holds : Option TileKey)
     → held v h ≡ holds → due_done v holds ≡ Some (event.DoneTile w q) → held w h ≡ Some q
@@ -290,16 +290,16 @@ pub record AtDraw (s : ScriptModel) (h : List Entry) (i : ℕ) (lacks : List Til
   pub for_draw : is_for_draw (sched h).begun ≡ true
   pub place : newest begins h ≡ Some i
   pub is_active : is_some (active h) ≡ true
-  pub lacking : lacks ≡ missing s h
+  pub lacking : lacks ≡ missing_visible s h
 
 draw_due : (s : ScriptModel) (h : List Entry) (o : Option ℕ) (i : ℕ) (lacks : List TileKey) → due_draw s h o ≡ Some (event.Draw i lacks)
-    → (o ≡ Some i) × (is_some (active h) ≡ true) × (lacks ≡ missing s h)
+    → (o ≡ Some i) × (is_some (active h) ≡ true) × (lacks ≡ missing_visible s h)
 draw_due s h None i lacks d = cc
 draw_due s h (Some j) i lacks d =
-    let e : event.Draw j (missing s h) ≡ event.Draw i lacks = on_if_event (is_some (active h)) (event.Draw j (missing s h)) (event.Draw i lacks) d in
+    let e : event.Draw j (missing_visible s h) ≡ event.Draw i lacks = on_if_event (is_some (active h)) (event.Draw j (missing_visible s h)) (event.Draw i lacks) d in
     let k : j ≡ i = cc in
-    let m : lacks ≡ missing s h = cc in
-    (ap Some k, on_if_holds (is_some (active h)) (event.Draw j (missing s h)) (event.Draw i lacks) d, m)
+    let m : lacks ≡ missing_visible s h = cc in
+    (ap Some k, on_if_holds (is_some (active h)) (event.Draw j (missing_visible s h)) (event.Draw i lacks) d, m)
 
 pub at_draw : (s : ScriptModel) (n : ℕ) (h : List Entry) (a i : ℕ) (lacks : List TileKey) → Next s n h (entry a (event.Draw i lacks)) → AtDraw s h i lacks
 at_draw s n h a i lacks x =

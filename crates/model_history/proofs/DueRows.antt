@@ -13,7 +13,7 @@ use Rattle.model_history.specs.Scripts.{ScriptModel}
 use Rattle.model_history.specs.EventFields.{kind_of, actor_of, sends, begins}
 use Rattle.model_history.specs.Scans.{newest, held}
 use Rattle.model_history.specs.Frames.{pending}
-use Rattle.model_history.specs.Ranking.{first}
+use Rattle.model_history.specs.Ranking.{rank_to_start}
 use Rattle.model_history.specs.Due.{on_if, next_input, input_now, due_ready, due_abort, due_commit, due_activate, due_scroll, due_wheel, due_start, due_done, due_draw, due_skip, due_await, due_settle, due}
 
 -- an event of this kind may be asked for of this actor
@@ -100,7 +100,7 @@ due_row s h kind.Commit a e d = commit_row a (newest sends h) e d
 due_row s h kind.Activate a e d = activate_row s h a (pending h) e d
 due_row s h kind.Scroll a e d = scroll_row s h a (next_input h) (input_now s h) e d
 due_row s h kind.Wheel a e d = wheel_row s h a (next_input h) (input_now s h) e d
-due_row s h kind.Start a e d = start_row s h a (held (a - 2) h) (first s h) e d
+due_row s h kind.Start a e d = start_row s h a (held (a - 2) h) (rank_to_start s h) e d
 due_row s h kind.Done a e d = done_row a (held (a - 2) h) e d
 due_row s h kind.Draw a e d = draw_row s h a (newest begins h) e d
 due_row s h kind.Skip a e d = skip_row h a (newest begins h) e d

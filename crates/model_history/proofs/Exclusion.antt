@@ -4,7 +4,7 @@ use Rattle.std.proofs.Common.{◌≡◌, ℕ, zero, suc, List, [], ◌∷◌, Re
 use Rattle.page_layers.specs.declared.command.Command.{Command}
 use Rattle.page_layers.specs.declared.fault.EditFault.{EditFault}
 use Rattle.page_layers.specs.Pages.{Page}
-use Rattle.page_layers.specs.Effects.{after}
+use Rattle.page_layers.specs.Effects.{page_after_command}
 use Rattle.page_layers.specs.Refusals.{test_of}
 use Rattle.page_layers.specs.Outcomes.{Accepts, Refuses}
 use Rattle.model_history.specs.Frames.{commanded}
@@ -18,7 +18,7 @@ command_taken p c fault a (inr parted) = parted.2 a.together
 pub commands_taken : (p : Page) (cs : List Command) (n : ℕ) (fault : EditFault) → TakesAll p cs → RefusedIn p cs n fault → ⊥
 commands_taken p [] n fault t r = r
 commands_taken p (c ∷ cs) zero fault t r = command_taken p c fault t.0 r
-commands_taken p (c ∷ cs) (suc n) fault t r = commands_taken (after p c) cs n fault t.1 r.1
+commands_taken p (c ∷ cs) (suc n) fault t r = commands_taken (page_after_command p c) cs n fault t.1 r.1
 
 pub frames_taken : (p : Page) (fs : List (List Command)) (k n : ℕ) (fault : EditFault) → TakesFrames p fs → RefusedAt p fs k n fault → ⊥
 frames_taken p [] k n fault t r = r
@@ -41,7 +41,7 @@ one_in p [] n m f g r q = absurd r
 one_in p (c ∷ cs) zero zero f g r q = (refl, one_fault p c f g r q)
 one_in p (c ∷ cs) zero (suc m) f g r q = absurd (command_taken p c f q.0 r)
 one_in p (c ∷ cs) (suc n) zero f g r q = absurd (command_taken p c g r.0 q)
-one_in p (c ∷ cs) (suc n) (suc m) f g r q = let same = one_in (after p c) cs n m f g r.1 q.1 in (ap suc same.0, same.1)
+one_in p (c ∷ cs) (suc n) (suc m) f g r q = let same = one_in (page_after_command p c) cs n m f g r.1 q.1 in (ap suc same.0, same.1)
 
 pub one_at : (p : Page) (fs : List (List Command)) (k j n m : ℕ) (f g : EditFault) → RefusedAt p fs k n f → RefusedAt p fs j m g → (k ≡ j) × (n ≡ m) × (f ≡ g)
 one_at p [] k j n m f g r q = absurd r

@@ -9,7 +9,7 @@ use Rattle.geom.specs.Grids.{places}
 use Rattle.page_layers.specs.Layers.{PageLayer, has_id}
 use Rattle.page_layers.specs.Pages.{Page}
 use Rattle.page_layers.specs.Refusals.{has_layer}
-use Rattle.page_layers.specs.Sound.{AreDistinct}
+use Rattle.page_layers.specs.Sound.{AreDistinctLayers}
 use Rattle.tile_visible.specs.Visible.{grid_of, put_layer, by_id, key_at}
 use Rattle.geom.specs.KeyLists.{same_key, has_key}
 use Rattle.model_history.specs.Tiles.{page_keys}
@@ -123,7 +123,7 @@ or_nothing : (b c : Bool) → c ≡ false → (b || c) ≡ b
 or_nothing true c e = refl
 or_nothing false c e = e
 
-any_found : (p : Page) (stamp : ℕ → Place → ℕ) (q : TileKey) (ls : List PageLayer) → AreDistinct ls → list_any (λ l. (l.id == q.layer) && key_in p stamp q l) ls ≡ key_on p stamp q (find (has_id q.layer) ls)
+any_found : (p : Page) (stamp : ℕ → Place → ℕ) (q : TileKey) (ls : List PageLayer) → AreDistinctLayers ls → list_any (λ l. (l.id == q.layer) && key_in p stamp q l) ls ≡ key_on p stamp q (find (has_id q.layer) ls)
 any_found p stamp q [] d = refl
 any_found p stamp q (l ∷ ls) d = go (l.id == q.layer) refl (any_found p stamp q ls d.1)
   where
@@ -133,7 +133,7 @@ any_found p stamp q (l ∷ ls) d = go (l.id == q.layer) refl (any_found p stamp 
     go false e rest = rest
 
 -- the keys of a page whose layers have ids of their own
-pub key_of_page : (p : Page) (stamp : ℕ → Place → ℕ) (q : TileKey) → AreDistinct p.layers → has_key (page_keys p stamp) q ≡ key_on p stamp q (find (has_id q.layer) p.layers)
+pub key_of_page : (p : Page) (stamp : ℕ → Place → ℕ) (q : TileKey) → AreDistinctLayers p.layers → has_key (page_keys p stamp) q ≡ key_on p stamp q (find (has_id q.layer) p.layers)
 unfolding page_keys
 key_of_page p stamp q d =
     key_of_some p stamp q (by_id p.layers)

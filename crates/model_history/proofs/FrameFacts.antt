@@ -10,7 +10,7 @@ use Rattle.geom.specs.declared.rect.Point.{Point}
 use Rattle.page_properties.specs.Entries as entries
 use Rattle.page_layers.specs.Scrolls.{or_origin}
 use Rattle.page_layers.specs.Pages.{Page}
-use Rattle.page_layers.specs.Effects.{clamped_in, value_of, scrolled_by}
+use Rattle.page_layers.specs.Effects.{clamped_in, main_point, scrolled_by}
 use Rattle.model_scheduler.specs.Kinds.{is_ready_to_commit}
 use Rattle.model_history.specs.declared.event.Event.{Event}
 use Rattle.model_history.specs.declared.event.Event.TheVariants as event
@@ -21,7 +21,7 @@ use Rattle.model_history.specs.EventFields.{sends, commits, aborts}
 use Rattle.model_history.specs.Scans.{was_named, newest, counted}
 use Rattle.page_layers.specs.Axes.{Axis, across, down, along, amount, amount_in, named_in}
 use Rattle.page_layers.specs.Scrollers.{scrollers, main_value}
-use Rattle.model_history.specs.Frames.{is_empty, commands_of, pulled, commanded, page, main_move, moves_main, changes, pulls_of, active, pending, up_to}
+use Rattle.model_history.specs.Frames.{is_empty, commands_of, page_after_pulls, commanded, page, main_move, moves_main, changes, pulls_of, active, pending, up_to}
 use Rattle.model_history.specs.Scrolls.{active_then}
 use Rattle.model_history.specs.Legal.{sched, Next, Legal}
 use Rattle.model_history.proofs.BoolFacts.{by_test, and_left, and_right, or_left_false, or_right_false, or_either, not_false, same_number, other_number, is_other}
@@ -45,9 +45,9 @@ amount_other sc ax (m ∷ ms) h =
 scrolled_other : (p : Page) (id : ℕ) (dx dy : ℤ) (sc : ℕ) (ax : Axis) → (id == sc) ≡ false → main_value (scrolled_by p id dx dy) sc ax ≡ main_value p sc ax
 scrolled_other p id dx dy sc ax h =
     ap (λ (o : Option Point). along ax (or_origin o))
-    (find_other id sc (λ v. clamped_in (entries.find id p.props.scrollers) ((value_of p id).x +ℤ dx) ((value_of p id).y +ℤ dy)) p.values (other_number id sc h))
+    (find_other id sc (λ v. clamped_in (entries.find id p.props.scrollers) ((main_point p id).x +ℤ dx) ((main_point p id).y +ℤ dy)) p.values (other_number id sc h))
 
-pub pulled_other : (sc : ℕ) (ax : Axis) (ms : List Move) (p : Page) → is_named ms sc ≡ false → main_value (pulled ms p) sc ax ≡ main_value p sc ax
+pub pulled_other : (sc : ℕ) (ax : Axis) (ms : List Move) (p : Page) → is_named ms sc ≡ false → main_value (page_after_pulls ms p) sc ax ≡ main_value p sc ax
 pulled_other sc ax [] p h = refl
 pulled_other sc ax (m ∷ ms) p h =
     pulled_other sc ax ms (scrolled_by p m.scroller m.dx m.dy) (or_right_false (m.scroller == sc) (is_named ms sc) h)
@@ -65,8 +65,8 @@ no_commands s ps k h =
     empty_list (commands_of s k) (not_false (is_empty (commands_of s k)) (or_left_false (not (is_empty (commands_of s k))) (list_any (moves_main s ps k) (scrollers (page s ps (suc k)) ++ named_in (ps k))) h))
 
 -- so its page is the one before it with its pulls
-pub unchanged_page : (s : ScriptModel) (ps : ℕ → List Move) (k : ℕ) → changes s ps k ≡ false → page s ps (suc k) ≡ pulled (ps k) (page s ps k)
-unchanged_page s ps k h = ap (λ cs. commanded cs (pulled (ps k) (page s ps k))) (no_commands s ps k h)
+pub unchanged_page : (s : ScriptModel) (ps : ℕ → List Move) (k : ℕ) → changes s ps k ≡ false → page s ps (suc k) ≡ page_after_pulls (ps k) (page s ps k)
+unchanged_page s ps k h = ap (λ cs. commanded cs (page_after_pulls (ps k) (page s ps k))) (no_commands s ps k h)
 
 no_one : (f : ℕ → Bool) (sc : ℕ) (ns : List ℕ) → list_any f ns ≡ false → list_any (λ n. n == sc) ns ≡ true → f sc ≡ false
 no_one f sc [] h t = cc

@@ -6,7 +6,7 @@ use Rattle.geom.specs.declared.rect.Rect.{Rect}
 use Rattle.geom.specs.Covers.{covers}
 use Rattle.geom.specs.Common.{meets}
 use Rattle.region.specs.declared.change.LayerChange.{LayerChange}
-use Rattle.region.specs.Lists.{Changed, AllAbove, IsRising, without}
+use Rattle.region.specs.Lists.{Changed, AreChangesAbove, IsRising, without_layer}
 use Rattle.region.specs.Lists as changes
 use Rattle.region.specs.Points.{covered, touched}
 use Rattle.region.proofs.Covering.{points_decide}
@@ -18,8 +18,8 @@ use Rattle.page_layers.specs.Layers.{PageLayer, has_id}
 use Rattle.page_layers.specs.Lists as layers
 use Rattle.page_layers.specs.Pages.{Page}
 use Rattle.page_layers.specs.Refusals.{has_layer}
-use Rattle.page_layers.specs.Sound.{AreDistinct, IsPage}
-use Rattle.page_layers.specs.Effects.{Change, after, change_of, retiles}
+use Rattle.page_layers.specs.Sound.{AreDistinctLayers, IsPage}
+use Rattle.page_layers.specs.Effects.{Change, page_after_command, layer_change_of, retiles}
 use Rattle.page_layers.specs.Outcomes.{Accepts}
 use Rattle.page_layers.specs.Contents.{content_at, size_of, shows_at, is_changed_whole, KeepsTheRest}
 use Rattle.page_layers.proofs.LayerKeeps.{absent-taken}
@@ -47,23 +47,23 @@ abbrev pub listed_shows : ℕ → Rect → List LayerChange → Bool
 listed_shows layer r ds = may_show_in (changes.change_of ds layer) r
 
 -- a list whose layers are above this one does not list it
-above_none : (layer n : ℕ) (ds : List LayerChange) → layer ≤ n → AllAbove n ds → changes.change_of ds layer ≡ None
+above_none : (layer n : ℕ) (ds : List LayerChange) → layer ≤ n → AreChangesAbove n ds → changes.change_of ds layer ≡ None
 above_none layer n [] le all = refl
 above_none layer n (d ∷ ds) le all =
     let lt : n < d.layer = all.0 in
     let out : nat_eq d.layer layer ≡ false = grind (arith, nat_tests, le, lt) in
     ap (λ (b : Bool). if b then Some d else changes.change_of ds layer) out ∙ above_none layer n ds le all.1
 
-above_change : (n : ℕ) (c : Change) (ds : List LayerChange) → n < c.layer → AllAbove n ds → AllAbove n (with_change c ds)
+above_change : (n : ℕ) (c : Change) (ds : List LayerChange) → n < c.layer → AreChangesAbove n ds → AreChangesAbove n (with_change c ds)
 above_change n c [] lt all = (lt, tt)
 above_change n c (d ∷ ds) lt all = go (d.layer == c.layer) (nat_lt d.layer c.layer) (above_change n c ds lt all.1)
   where
-    go : (a b : Bool) → AllAbove n (with_change c ds) → AllAbove n (cond a (with_later d c ∷ ds) (cond b (d ∷ with_change c ds) (alone c ∷ d ∷ ds)))
+    go : (a b : Bool) → AreChangesAbove n (with_change c ds) → AreChangesAbove n (cond a (with_later d c ∷ ds) (cond b (d ∷ with_change c ds) (alone c ∷ d ∷ ds)))
     go true b rest = (all.0, all.1)
     go false true rest = (all.0, rest)
     go false false rest = (lt, all)
 
-above_weaker : (m n : ℕ) (ds : List LayerChange) → m ≤ n → AllAbove n ds → AllAbove m ds
+above_weaker : (m n : ℕ) (ds : List LayerChange) → m ≤ n → AreChangesAbove n ds → AreChangesAbove m ds
 above_weaker m n [] le all = tt
 above_weaker m n (d ∷ ds) le all = let lt : n < d.layer = all.0 in (omega (arith, le, lt), above_weaker m n ds le all.1)
 
@@ -78,19 +78,19 @@ rising_change c (d ∷ ds) up = go (d.layer == c.layer) refl (nat_lt d.layer c.l
         let lt : c.layer < d.layer = grind (arith, nat_tests, e, l) in
         ((lt, above_weaker c.layer d.layer ds (omega (arith, lt)) up.0), up)
 
-above_without : (n layer : ℕ) (ds : List LayerChange) → AllAbove n ds → AllAbove n (without layer ds)
+above_without : (n layer : ℕ) (ds : List LayerChange) → AreChangesAbove n ds → AreChangesAbove n (without_layer layer ds)
 above_without n layer [] all = tt
 above_without n layer (d ∷ ds) all = go (not (nat_eq d.layer layer)) (above_without n layer ds all.1)
   where
-    go : (b : Bool) → AllAbove n (without layer ds) → AllAbove n (cond b (d ∷ without layer ds) (without layer ds))
+    go : (b : Bool) → AreChangesAbove n (without_layer layer ds) → AreChangesAbove n (cond b (d ∷ without_layer layer ds) (without_layer layer ds))
     go true rest = (all.0, rest)
     go false rest = rest
 
-rising_without : (layer : ℕ) (ds : List LayerChange) → IsRising ds → IsRising (without layer ds)
+rising_without : (layer : ℕ) (ds : List LayerChange) → IsRising ds → IsRising (without_layer layer ds)
 rising_without layer [] up = tt
 rising_without layer (d ∷ ds) up = go (not (nat_eq d.layer layer)) (rising_without layer ds up.1)
   where
-    go : (b : Bool) → IsRising (without layer ds) → IsRising (cond b (d ∷ without layer ds) (without layer ds))
+    go : (b : Bool) → IsRising (without_layer layer ds) → IsRising (cond b (d ∷ without_layer layer ds) (without_layer layer ds))
     go true rest = (above_without d.layer layer ds up.0, rest)
     go false rest = rest
 
@@ -101,7 +101,7 @@ rising_some (Some c) ds up = rising_change c ds up
 pub rising_command : (p : Page) (c : Command) (ds : List LayerChange) → IsRising ds → IsRising (with_command p c ds)
 rising_command p (command.RemoveLayer id) ds up = rising_without id ds up
 rising_command p (command.AddTransform id parent x y scroller) ds up = up
-rising_command p c ds up = rising_some (change_of p c) ds up
+rising_command p c ds up = rising_some (layer_change_of p c) ds up
 
 -- ---- what a list with one change more does not show, neither shows
 
@@ -176,24 +176,24 @@ some_parts layer r None ds up h = (h, refl)
 some_parts layer r (Some c) ds up h = change_parts layer r c ds up h
 
 -- another layer is no longer listed
-other_listed : (id layer : ℕ) (ds : List LayerChange) → (id == layer) ≡ false → changes.change_of (without id ds) layer ≡ changes.change_of ds layer
+other_listed : (id layer : ℕ) (ds : List LayerChange) → (id == layer) ≡ false → changes.change_of (without_layer id ds) layer ≡ changes.change_of ds layer
 other_listed id layer [] out = refl
 other_listed id layer (d ∷ ds) out = go (d.layer == id) refl (d.layer == layer) refl (other_listed id layer ds out)
   where
-    go : (a : Bool) → (d.layer == id) ≡ a → (x : Bool) → (d.layer == layer) ≡ x → changes.change_of (without id ds) layer ≡ changes.change_of ds layer
-        → changes.change_of (cond (not a) (d ∷ without id ds) (without id ds)) layer ≡ changes.change_of (d ∷ ds) layer
+    go : (a : Bool) → (d.layer == id) ≡ a → (x : Bool) → (d.layer == layer) ≡ x → changes.change_of (without_layer id ds) layer ≡ changes.change_of ds layer
+        → changes.change_of (cond (not a) (d ∷ without_layer id ds) (without_layer id ds)) layer ≡ changes.change_of (d ∷ ds) layer
     go true e x f rest = rest ∙ sym (ap (λ (b : Bool). if b then Some d else changes.change_of ds layer) (ap (λ (n : ℕ). n == layer) (eqb-true d.layer id e) ∙ out))
     go false e x f rest = ap (λ (o : Option LayerChange). if d.layer == layer then Some d else o) rest
 
 -- a layer that is still there is not the one that was removed
-still_there : (i id : ℕ) (ls : List PageLayer) → AreDistinct ls → has_layer id (layers.without (has_id i) ls) ≡ true → (i == id) ≡ false
-still_there i id ls d there = is_false (i == id) (λ e. not_both (has_layer id (layers.without (has_id i) ls)) there (ap (λ (n : ℕ). has_layer n (layers.without (has_id i) ls)) (sym (eqb-true i id e)) ∙ absent-taken i ls d))
+still_there : (i id : ℕ) (ls : List PageLayer) → AreDistinctLayers ls → has_layer id (layers.without_first (has_id i) ls) ≡ true → (i == id) ≡ false
+still_there i id ls d there = is_false (i == id) (λ e. not_both (has_layer id (layers.without_first (has_id i) ls)) there (ap (λ (n : ℕ). has_layer n (layers.without_first (has_id i) ls)) (sym (eqb-true i id e)) ∙ absent-taken i ls d))
 
-command_parts : (p : Page) (c : Command) (layer : ℕ) (r : Rect) (ds : List LayerChange) → IsPage p → IsRising ds → has_layer layer (after p c).layers ≡ true → listed_shows layer r (with_command p c ds) ≡ false
-    → (listed_shows layer r ds ≡ false) × (some_shows layer r (change_of p c) ≡ false)
+command_parts : (p : Page) (c : Command) (layer : ℕ) (r : Rect) (ds : List LayerChange) → IsPage p → IsRising ds → has_layer layer (page_after_command p c).layers ≡ true → listed_shows layer r (with_command p c ds) ≡ false
+    → (listed_shows layer r ds ≡ false) × (some_shows layer r (layer_change_of p c) ≡ false)
 command_parts p (command.RemoveLayer id) layer r ds is up there h = (ap (λ (o : Option LayerChange). may_show_in o r) (sym (other_listed id layer ds (still_there id layer p.layers is.distinct there))) ∙ h, refl)
 command_parts p (command.AddTransform id parent x y scroller) layer r ds is up there h = (h, refl)
-command_parts p c layer r ds is up there h = some_parts layer r (change_of p c) ds up h
+command_parts p c layer r ds is up there h = some_parts layer r (layer_change_of p c) ds up h
 
 -- ---- what a command keeps
 
@@ -229,16 +229,16 @@ quiet_whole layer r (Some c) out = go (c.layer == layer) out
     go false h = refl
     go true h = or_left_false c.whole (touched c.rects r) h
 
-same_tile : (p : Page) (c : Command) → retiles p c ≡ false → (after p c).view.tile ≡ p.view.tile
+same_tile : (p : Page) (c : Command) → retiles p c ≡ false → (page_after_command p c).view.tile ≡ p.view.tile
 same_tile p (command.SetView w h tile) out = eqb-true tile p.view.tile (not_false (tile == p.view.tile) out)
 same_tile p _ out = refl
 
-after_keeps : (p : Page) (c : Command) (layer : ℕ) (r : Rect) → IsPage p → Accepts p c → has_layer layer p.layers ≡ true → has_layer layer (after p c).layers ≡ true → some_shows layer r (change_of p c) ≡ false → retiles p c ≡ false → KeepsLayer layer r p (after p c)
+after_keeps : (p : Page) (c : Command) (layer : ℕ) (r : Rect) → IsPage p → Accepts p c → has_layer layer p.layers ≡ true → has_layer layer (page_after_command p c).layers ≡ true → some_shows layer r (layer_change_of p c) ≡ false → retiles p c ≡ false → KeepsLayer layer r p (page_after_command p c)
 after_keeps p c layer r is ok before there out tiles =
     let keeps : KeepsTheRest p c = unlisted_stays p c is ok in
     record {
-      content = λ x y in'. keeps.content layer x y before there (quiet_points layer r (change_of p c) x y out in');
-      size = keeps.size layer before there (quiet_whole layer r (change_of p c) out);
+      content = λ x y in'. keeps.content layer x y before there (quiet_points layer r (layer_change_of p c) x y out in');
+      size = keeps.size layer before there (quiet_whole layer r (layer_change_of p c) out);
       tile = same_tile p c tiles;
     }
 
@@ -253,12 +253,12 @@ pub commanded_keeps : (cs : List Command) (p : Page) (layer : ℕ) (r : Rect) (d
     → changed_shows layer r (changed_by p cs done) ≡ false → (changed_shows layer r done ≡ false) × KeepsLayer layer r p (commanded cs p)
 commanded_keeps [] p layer r done is t up before last out = (out, keeps_same layer r p)
 commanded_keeps (c ∷ cs) p layer r done is t up before last out =
-    let there : has_layer layer (after p c).layers ≡ true = there_between c cs p layer is t before last in
-    let rest : (changed_shows layer r (with_next p c done) ≡ false) × KeepsLayer layer r (after p c) (commanded cs (after p c)) =
-    commanded_keeps cs (after p c) layer r (with_next p c done) (page_after p c is t.0) t.1 (rising_command p c done.list up) there last out in
+    let there : has_layer layer (page_after_command p c).layers ≡ true = there_between c cs p layer is t before last in
+    let rest : (changed_shows layer r (with_next p c done) ≡ false) × KeepsLayer layer r (page_after_command p c) (commanded cs (page_after_command p c)) =
+    commanded_keeps cs (page_after_command p c) layer r (with_next p c done) (page_after p c is t.0) t.1 (rising_command p c done.list up) there last out in
     let tiles : done.retiled || retiles p c ≡ false = or_left_false (done.retiled || retiles p c) (listed_shows layer r (with_command p c done.list)) rest.0 in
     let lists : listed_shows layer r (with_command p c done.list) ≡ false = or_right_false (done.retiled || retiles p c) (listed_shows layer r (with_command p c done.list)) rest.0 in
-    let parts : (listed_shows layer r done.list ≡ false) × (some_shows layer r (change_of p c) ≡ false) = command_parts p c layer r done.list is up there lists in (
+    let parts : (listed_shows layer r done.list ≡ false) × (some_shows layer r (layer_change_of p c) ≡ false) = command_parts p c layer r done.list is up there lists in (
       or_neither done.retiled (listed_shows layer r done.list) (or_left_false done.retiled (retiles p c) tiles) parts.0,
-      keeps_then layer r p (after p c) (commanded cs (after p c)) (after_keeps p c layer r is t.0 before there parts.1 (or_right_false done.retiled (retiles p c) tiles)) rest.1,
+      keeps_then layer r p (page_after_command p c) (commanded cs (page_after_command p c)) (after_keeps p c layer r is t.0 before there parts.1 (or_right_false done.retiled (retiles p c) tiles)) rest.1,
     )

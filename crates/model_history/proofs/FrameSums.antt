@@ -1,4 +1,4 @@
--- Sums over frames: which of them count, and what a frame that settles takes from the delta to the base.
+-- Sums over frames: which of them count, and what a frame that is retired takes from the delta to the base.
 use Rattle.std.proofs.Common.{ℕ, ℤ, ◌≡◌, ◌⊎◌, inl, inr, zero, suc, ◌<◌, ◌≤◌, ◌==◌, pos, ◌+ℤ◌, ◌-ℤ◌, Bool, true, false, cond, not, ◌||◌, List, Option, Some, None, refl, sym, ◌∙◌, ap, arith}
 use Rattle.std.proofs.lemmas.Int.{ints}
 use Rattle.page_layers.specs.declared.moves.Move.{Move}
@@ -9,7 +9,7 @@ use Rattle.model_history.specs.Scans.{was_named}
 use Rattle.page_layers.specs.Axes.{Axis, amount_in}
 use Rattle.page_layers.specs.Scrollers.{main_value}
 use Rattle.model_history.specs.Frames.{page, main_move}
-use Rattle.model_history.specs.Scrolls.{moved, main_moves, in_base, in_delta, by_send, not_sent}
+use Rattle.model_history.specs.Scrolls.{sum_of_moves, main_moves, in_base, in_delta, by_send, not_sent}
 use Rattle.model_history.proofs.BoolFacts.{same_number, other_number, is_same, is_other, by_test}
 use Rattle.model_history.proofs.PageFacts.{main_move_alike}
 use Rattle.model_history.proofs.Sums.{moved_alike, moved_both, moved_none}
@@ -53,7 +53,7 @@ pub main_value_after : (s : ScriptModel) (ps : ℕ → List Move) (k sc : ℕ) (
     → main_value (page s ps (suc k)) sc ax ≡ (main_value (page s ps k) sc ax +ℤ main_move s ps k sc ax) +ℤ amount_in sc ax (ps k)
 main_value_after s ps k sc ax = value_parts (main_value (page s ps (suc k)) sc ax) (main_value (page s ps k) sc ax) (amount_in sc ax (ps k)) (main_move s ps k sc ax) refl
 
--- a frame that settles
+-- a frame that is retired
 
 base_parts : (f new : ℕ → Bool) (k : ℕ) → ((j : ℕ) → new j ≡ ((k == j) || f j)) → f k ≡ false → (o : Option ℕ) (z : ℤ)
     → cond (in_base new o) z (pos 0) ≡ cond (in_base f o) z (pos 0) +ℤ cond (by_send k o) z (pos 0)
@@ -105,33 +105,33 @@ delta_parts f new k e apart (Some j) z = by_test (k == j) same other ∙ ap (λ 
         rw (t, b) (last (cond (not (f j)) z (pos 0)))
 
 -- what its send carries is then in the base
-pub settled_base : (s : ScriptModel) (h : List Entry) (sc : ℕ) (ax : Axis) (f new : ℕ → Bool) (k : ℕ) → ((j : ℕ) → new j ≡ ((k == j) || f j)) → f k ≡ false
-    → moved s sc ax (in_base new) None h ≡ moved s sc ax (in_base f) None h +ℤ moved s sc ax (by_send k) None h
-settled_base s h sc ax f new k e apart = moved_both s sc ax (in_base new) (in_base f) (by_send k) None h (base_parts f new k e apart)
+pub retired_base : (s : ScriptModel) (h : List Entry) (sc : ℕ) (ax : Axis) (f new : ℕ → Bool) (k : ℕ) → ((j : ℕ) → new j ≡ ((k == j) || f j)) → f k ≡ false
+    → sum_of_moves s sc ax (in_base new) None h ≡ sum_of_moves s sc ax (in_base f) None h +ℤ sum_of_moves s sc ax (by_send k) None h
+retired_base s h sc ax f new k e apart = moved_both s sc ax (in_base new) (in_base f) (by_send k) None h (base_parts f new k e apart)
 
 -- and no longer in the delta
-pub settled_delta : (s : ScriptModel) (h : List Entry) (sc : ℕ) (ax : Axis) (f new : ℕ → Bool) (k : ℕ) → ((j : ℕ) → new j ≡ ((k == j) || f j)) → f k ≡ false
-    → moved s sc ax (in_delta f) None h ≡ moved s sc ax (in_delta new) None h +ℤ moved s sc ax (by_send k) None h
-settled_delta s h sc ax f new k e apart = moved_both s sc ax (in_delta f) (in_delta new) (by_send k) None h (delta_parts f new k e apart)
+pub retired_delta : (s : ScriptModel) (h : List Entry) (sc : ℕ) (ax : Axis) (f new : ℕ → Bool) (k : ℕ) → ((j : ℕ) → new j ≡ ((k == j) || f j)) → f k ≡ false
+    → sum_of_moves s sc ax (in_delta f) None h ≡ sum_of_moves s sc ax (in_delta new) None h +ℤ sum_of_moves s sc ax (by_send k) None h
+retired_delta s h sc ax f new k e apart = moved_both s sc ax (in_delta f) (in_delta new) (by_send k) None h (delta_parts f new k e apart)
 
 -- a new send
 
 -- it takes nothing into the base
 pub sent_base : (s : ScriptModel) (h : List Entry) (sc : ℕ) (ax : Axis) (f : ℕ → Bool) (k : ℕ) → f k ≡ false
-    → moved s sc ax (in_base f) (Some k) h ≡ moved s sc ax (in_base f) None h
+    → sum_of_moves s sc ax (in_base f) (Some k) h ≡ sum_of_moves s sc ax (in_base f) None h
 sent_base s h sc ax f k apart = moved_alike s sc ax (in_base f) (in_base f) (Some k) None h apart (λ j t. refl)
 
 pub sent_delta : (s : ScriptModel) (h : List Entry) (sc : ℕ) (ax : Axis) (f : ℕ → Bool) (k : ℕ) → f k ≡ false
-    → moved s sc ax (in_delta f) (Some k) h ≡ moved s sc ax (in_delta f) None h
+    → sum_of_moves s sc ax (in_delta f) (Some k) h ≡ sum_of_moves s sc ax (in_delta f) None h
 sent_delta s h sc ax f k apart = moved_alike s sc ax (in_delta f) (in_delta f) (Some k) None h (ap not apart) (λ j t. refl)
 
 -- after it nothing is unsent
-pub sent_unsent : (s : ScriptModel) (h : List Entry) (sc : ℕ) (ax : Axis) (k : ℕ) → moved s sc ax not_sent (Some k) h ≡ pos 0
+pub sent_unsent : (s : ScriptModel) (h : List Entry) (sc : ℕ) (ax : Axis) (k : ℕ) → sum_of_moves s sc ax not_sent (Some k) h ≡ pos 0
 sent_unsent s h sc ax k = moved_none s sc ax not_sent (Some k) h refl (λ j t. refl)
 
 -- it carries what was unsent
 pub sent_carried : (s : ScriptModel) (h : List Entry) (sc : ℕ) (ax : Axis) (k : ℕ) → ((j : ℕ) → was_named sends h j ≡ true → j < k)
-    → moved s sc ax (by_send k) (Some k) h ≡ moved s sc ax not_sent None h
+    → sum_of_moves s sc ax (by_send k) (Some k) h ≡ sum_of_moves s sc ax not_sent None h
 sent_carried s h sc ax k below = moved_alike s sc ax (by_send k) not_sent (Some k) None h (is_same k k refl) (λ j t. below_other j (below j t))
   where
     below_other : (j : ℕ) → j < k → (j == k) ≡ false
@@ -139,5 +139,5 @@ sent_carried s h sc ax k below = moved_alike s sc ax (by_send k) not_sent (Some 
 
 -- the others carry what they did
 pub sent_others : (s : ScriptModel) (h : List Entry) (sc : ℕ) (ax : Axis) (k j : ℕ) → (k == j) ≡ false
-    → moved s sc ax (by_send j) (Some k) h ≡ moved s sc ax (by_send j) None h
+    → sum_of_moves s sc ax (by_send j) (Some k) h ≡ sum_of_moves s sc ax (by_send j) None h
 sent_others s h sc ax k j t = moved_alike s sc ax (by_send j) (by_send j) (Some k) None h t (λ i e. refl)

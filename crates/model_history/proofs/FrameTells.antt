@@ -12,7 +12,7 @@ use Rattle.page_layers.specs.declared.moves.Move.{Move}
 use Rattle.model_history.specs.Scripts.{ScriptModel}
 use Rattle.page_layers.specs.Axes.{Axis, across, down, amount_in, named_in}
 use Rattle.page_layers.specs.Scrollers.{scrollers, main_value}
-use Rattle.model_history.specs.Frames.{is_empty, commands_of, pulled, commanded, page, main_move, moves_main, changes}
+use Rattle.model_history.specs.Frames.{is_empty, commands_of, page_after_pulls, commanded, page, main_move, moves_main, changes}
 use Rattle.model_history.specs.Ended.{AreBounded, Tells}
 use Rattle.model_history.specs.inner.Ending.{IsPullOf, is_moved}
 use Rattle.model_history.proofs.BoolFacts.{by_test}
@@ -92,11 +92,11 @@ moves_is_moved s ps k sc =
 stays : (v w a : ℤ) → w ≡ v → a ≡ pos 0 → int_eq (w -ℤ v) a ≡ true
 stays v w a e f = let d = Decides-int_eq (w -ℤ v) a in d.1 (omega (arith, ints, e, f))
 
-unnamed_stays : (p : Page) (ms : List Move) (sc : ℕ) → is_named ms sc ≡ false → is_moved p (pulled ms p) ms sc ≡ false
+unnamed_stays : (p : Page) (ms : List Move) (sc : ℕ) → is_named ms sc ≡ false → is_moved p (page_after_pulls ms p) ms sc ≡ false
 unnamed_stays p ms sc h =
-    let e : (ax : Axis) → int_eq (main_value (pulled ms p) sc ax -ℤ main_value p sc ax) (amount_in sc ax ms) ≡ true =
-    λ ax. stays (main_value p sc ax) (main_value (pulled ms p) sc ax) (amount_in sc ax ms) (pulled_other sc ax ms p h) (amount_other sc ax ms h) in
-    ap (λ b. not b || not (int_eq (main_value (pulled ms p) sc down -ℤ main_value p sc down) (amount_in sc down ms))) (e across)
+    let e : (ax : Axis) → int_eq (main_value (page_after_pulls ms p) sc ax -ℤ main_value p sc ax) (amount_in sc ax ms) ≡ true =
+    λ ax. stays (main_value p sc ax) (main_value (page_after_pulls ms p) sc ax) (amount_in sc ax ms) (pulled_other sc ax ms p h) (amount_other sc ax ms h) in
+    ap (λ b. not b || not (int_eq (main_value (page_after_pulls ms p) sc down -ℤ main_value p sc down) (amount_in sc down ms))) (e across)
     ∙ ap (λ b. not b) (e down)
 
 or_later : (a b : Bool) → b ≡ true → a || b ≡ true
@@ -128,7 +128,7 @@ without_commands : (s : ScriptModel) (ps : ℕ → List Move) (k : ℕ) → comm
 without_commands s ps k none =
     let p : Page = page s ps k in
     let q : Page = page s ps (suc k) in
-    let after : q ≡ pulled (ps k) p = ap (λ cs. commanded cs (pulled (ps k) p)) none in
+    let after : q ≡ page_after_pulls (ps k) p = ap (λ cs. commanded cs (page_after_pulls (ps k) p)) none in
     let f : ℕ → Bool = is_moved p q (ps k) in
     let ns = scrollers q ++ named_in (ps k) in
     ap (λ (cs : List Command). not (is_empty cs) || list_any (moves_main s ps k) ns) none
@@ -136,7 +136,7 @@ without_commands s ps k none =
     ∙ named_alone f (scrollers q) (named_in (ps k))
     (λ sc t. named_where sc (subst (λ (x : Page). is_moved p x (ps k) sc ≡ true) after t)))
   where
-    named_where : (sc : ℕ) → is_moved (page s ps k) (pulled (ps k) (page s ps k)) (ps k) sc ≡ true → is_named (ps k) sc ≡ true
+    named_where : (sc : ℕ) → is_moved (page s ps k) (page_after_pulls (ps k) (page s ps k)) (ps k) sc ≡ true → is_named (ps k) sc ≡ true
     named_where sc t = by_test (is_named (ps k) sc) (λ y. y) (λ n. absurd (two_ways t (unnamed_stays (page s ps k) (ps k) sc n)))
       where
         two_ways : {b : Bool} → b ≡ true → b ≡ false → ⊥

@@ -6,9 +6,9 @@ use Rattle.page_layers.specs.declared.command.Command.{Command}
 use Rattle.page_layers.specs.declared.fault.EditError.{EditError}
 use Rattle.page_layers.specs.declared.fault.EditError.TheVariants.{Refused, Memory}
 use Rattle.page_layers.specs.Pages.{Page}
-use Rattle.page_layers.specs.Effects.{after, scrolled_by}
+use Rattle.page_layers.specs.Effects.{page_after_command, scrolled_by}
 use Rattle.page_layers.specs.declared.moves.Move.{Move}
-use Rattle.model_history.specs.Frames.{pulled, commanded}
+use Rattle.model_history.specs.Frames.{page_after_pulls, commanded}
 use Rattle.model_history.specs.Stamps.{changed_by, unchanged}
 use Rattle.model_history.specs.Judging.{RefusedIn}
 use Rattle.model_history.specs.SameChanges.{SameChanges}
@@ -19,17 +19,17 @@ use Rattle.model_history.proofs.SameLists.{same_changes}
 
 -- the pulls from place i on lead from the page now to where all lead from the first one
 pub record Pulls (first : Page) (all : List Move) (now : Page) (rest : List Move) : Type 0 where
-  pub page : pulled rest now ≡ pulled all first
+  pub page : page_after_pulls rest now ≡ page_after_pulls all first
   pub bounded : AreBounded rest
 
 commanded_append : (cs ds : List Command) (p : Page) → commanded (cs ++ ds) p ≡ commanded ds (commanded cs p)
 commanded_append [] ds p = refl
-commanded_append (c ∷ cs) ds p = commanded_append cs ds (after p c)
+commanded_append (c ∷ cs) ds p = commanded_append cs ds (page_after_command p c)
 
 -- one command more
-taken_more : (first : Page) (all : List Command) (i : ℕ) (now : Page) (c : Command) → c ≡ get_or all i c → i < length all → HasTaken first all i now → HasTaken first all (i + 1) (after now c)
+taken_more : (first : Page) (all : List Command) (i : ℕ) (now : Page) (c : Command) → c ≡ get_or all i c → i < length all → HasTaken first all i now → HasTaken first all (i + 1) (page_after_command now c)
 taken_more first all i now c is lt h =
-    ap (λ (p : Page). after p c) h
+    ap (λ (p : Page). page_after_command p c) h
     ∙ sym (commanded_append (take i all) (c ∷ []) first)
     ∙ ap (λ (d : Command). commanded (take i all ++ d ∷ []) first) is
     ∙ ap (λ (cs : List Command). commanded cs first) (sym (take_more all i c lt))
@@ -48,7 +48,7 @@ gathers_start p all none e = record { leads = leads_start p all; taken = refl; d
 gathers_next : (first : Page) (all : List Command) (i : ℕ) (now : Page) (c : Command) (rest : List Command) (old new : Changed) (q : Page) → c ≡ get_or all i c → i < length all
     → TookCommand now c old q new (Ok tt) → Gathers first all i now old (c ∷ rest) → Gathers first all (i + 1) q new rest
 gathers_next first all i now c rest old new q is lt t g =
-    let step : Gathers first all (i + 1) (after now c) new rest = record {
+    let step : Gathers first all (i + 1) (page_after_command now c) new rest = record {
       leads = leads_on first all i now c rest t.0 g.leads;
       taken = taken_more first all i now c is lt g.taken;
       done = with_next now c g.done;
@@ -72,7 +72,7 @@ gathers_stop first all i now c old new q (Refused fault) is lt t g =
     (i, subst (λ (n : ℕ). RefusedIn first all n fault) still (l.refused 0 fault t.0), t.1 ∙ g.taken)
 gathers_stop first all i now c old new q (Memory e) is lt t g = by_half t
   where
-    by_half : (q ≡ now) ⊎ (q ≡ after now c) → (n : ℕ) × HasTaken first all n q
+    by_half : (q ≡ now) ⊎ (q ≡ page_after_command now c) → (n : ℕ) × HasTaken first all n q
     by_half (inl same) = (i, same ∙ g.taken)
     by_half (inr next) = (i + 1, next ∙ taken_more first all i now c is lt g.taken)
 
@@ -85,7 +85,7 @@ gathers_end first all i now changes e g =
     (l.taken tt, l.page, subst (λ (d : Changed). SameChanges changes d) t g.same)
 
 pulls_next : (first : Page) (all : List Move) (now q : Page) (m : Move) (rest : List Move) → q ≡ scrolled_by now m.scroller m.dx m.dy → Pulls first all now (m ∷ rest) → Pulls first all q rest
-pulls_next first all now q m rest e p = record { page = ap (λ (x : Page). pulled rest x) e ∙ p.page; bounded = p.bounded.2 }
+pulls_next first all now q m rest e p = record { page = ap (λ (x : Page). page_after_pulls rest x) e ∙ p.page; bounded = p.bounded.2 }
 
 -- one pull on
 pub pulls_on : (first : Page) (all : List Move) (i : ℕ) (now q : Page) (d : Move) → i < length all → q ≡ scrolled_by now (get_or all i d).scroller (get_or all i d).dx (get_or all i d).dy

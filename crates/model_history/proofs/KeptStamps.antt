@@ -5,14 +5,14 @@ use Rattle.std.specs.List.{find}
 use Rattle.geom.specs.declared.rect.Rect.{Rect}
 use Rattle.geom.specs.declared.tile.Place.{Place}
 use Rattle.geom.specs.declared.tile.TileKey.{TileKey}
-use Rattle.geom.specs.Grids.{rect_of, places}
+use Rattle.geom.specs.Grids.{rect_of_place, places}
 use Rattle.geom.specs.Sides.{Sides}
 use Rattle.tile_tiling.specs.Stamps.{Commit, changes_in, last_that}
 use Rattle.page_layers.specs.Layers.{PageLayer, has_id}
 use Rattle.page_layers.specs.Pages.{Page}
 use Rattle.page_layers.specs.Refusals.{has_layer}
 use Rattle.page_layers.specs.Contents.{size_of}
-use Rattle.page_layers.specs.Sound.{AreDistinct}
+use Rattle.page_layers.specs.Sound.{AreDistinctLayers}
 use Rattle.page_layers.specs.declared.moves.Move.{Move}
 use Rattle.model_history.specs.Scripts.{ScriptModel}
 use Rattle.tile_visible.specs.Visible.{grid_of}
@@ -95,7 +95,7 @@ rect_same : (p q : Page) (place : Place) (o u : Option PageLayer) → size_in u 
 rect_same p q place None None size tile = refl
 rect_same p q place None (Some k) size tile = absurd (cc)
 rect_same p q place (Some l) None size tile = absurd (cc)
-rect_same p q place (Some l) (Some k) size tile = ap (λ (g : Sides). rect_of g place) (grid_same p q l k size tile)
+rect_same p q place (Some l) (Some k) size tile = ap (λ (g : Sides). rect_of_place g place) (grid_same p q l k size tile)
 
 pub rect_kept : (p q : Page) (layer : ℕ) (place : Place) → size_of q layer ≡ size_of p layer → q.view.tile ≡ p.view.tile → rect_in q layer place ≡ rect_in p layer place
 rect_kept p q layer place size tile = rect_same p q place (find (has_id layer) p.layers) (find (has_id layer) q.layers) size tile
@@ -167,6 +167,6 @@ key_between s a q e d (suc j) first last =
 pub keys_plain : (s : ScriptModel) → IsAccepted s → (ps : ℕ → List Move) (n : ℕ) (q : TileKey) → has_key (page_keys (page s ps n) (stamp_in s ps n)) q ≡ plain_key s n q
 keys_plain s a ps n q =
     let same : bare (page s ps n) ≡ bare (plain s n) = page_bare s ps n in
-    key_of_page (page s ps n) (stamp_in s ps n) q (subst (λ (z : Page). AreDistinct z.layers) (sym same) (plain_page s a n).distinct)
+    key_of_page (page s ps n) (stamp_in s ps n) q (subst (λ (z : Page). AreDistinctLayers z.layers) (sym same) (plain_page s a n).distinct)
     ∙ on_same (plain s n) (page s ps n) (stamp_in s no_pulls n) (stamp_in s ps n) q (find (has_id q.layer) (plain s n).layers) (find (has_id q.layer) (page s ps n).layers)
     (ap (λ (z : Page). size_of z q.layer) same) (ap (λ (z : Page). z.view.tile) same) (stamp_alike s ps n q.layer (place_named q))

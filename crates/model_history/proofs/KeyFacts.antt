@@ -4,8 +4,8 @@ use Rattle.std.specs.List.{list_all}
 use Rattle.std.proofs.lemmas.List.Folds.{list_any-append}
 use Rattle.geom.specs.declared.tile.TileKey.{TileKey}
 use Rattle.tile_priority.specs.Ordered.{In}
-use Rattle.geom.specs.KeyLists.{same_key, has_key, AreDistinct}
-use Rattle.model_history.specs.Tiles.{without}
+use Rattle.geom.specs.KeyLists.{same_key, has_key, AreDistinctKeys}
+use Rattle.model_history.specs.Tiles.{without_keys}
 pub use Rattle.geom.proofs.KeyLists.{one_key, key_itself, same_from}
 use Rattle.model_history.proofs.BoolFacts.{and_left, and_right, or_either, or_left, or_right}
 
@@ -62,7 +62,7 @@ has_filter f (k ∷ ks) q = at_head (f k) refl (has_filter f ks q)
     at_head false e r = r ∙ left_out (same_key k q) (has_key ks q) (f q) (λ s. ap f (sym (one_key k q s)) ∙ e)
 
 -- the keys that are not taken away
-pub has_without : (ks qs : List TileKey) (q : TileKey) → has_key (without ks qs) q ≡ (has_key ks q && not (has_key qs q))
+pub has_without : (ks qs : List TileKey) (q : TileKey) → has_key (without_keys ks qs) q ≡ (has_key ks q && not (has_key qs q))
 has_without ks [] q = all_stay (has_key ks q)
   where
     all_stay : (a : Bool) → a ≡ (a && true)
@@ -79,14 +79,14 @@ all_has f (k ∷ ks) q h t = by_or (or_either (same_key k q) (has_key ks q) t) (
     by_or (inl s) g = ap f (sym (one_key k q s)) ∙ and_left (f k) (list_all f ks) h
     by_or (inr s) g = g s
 
-pub distinct_filter : (f : TileKey → Bool) (ks : List TileKey) → AreDistinct ks → AreDistinct (filter f ks)
+pub distinct_filter : (f : TileKey → Bool) (ks : List TileKey) → AreDistinctKeys ks → AreDistinctKeys (filter f ks)
 distinct_filter f [] d = tt
 distinct_filter f (k ∷ ks) d = at_head (f k) (distinct_filter f ks d.1)
   where
-    at_head : (t : Bool) → AreDistinct (filter f ks) → AreDistinct (cond t (k ∷ filter f ks) (filter f ks))
+    at_head : (t : Bool) → AreDistinctKeys (filter f ks) → AreDistinctKeys (cond t (k ∷ filter f ks) (filter f ks))
     at_head true r = (has_filter f ks k ∙ ap (λ b. b && f k) d.0, r)
     at_head false r = r
 
-pub distinct_without : (ks qs : List TileKey) → AreDistinct ks → AreDistinct (without ks qs)
+pub distinct_without : (ks qs : List TileKey) → AreDistinctKeys ks → AreDistinctKeys (without_keys ks qs)
 distinct_without ks [] d = d
 distinct_without ks (q ∷ qs) d = distinct_filter (λ k. not (has_key (q ∷ qs) k)) ks d

@@ -9,11 +9,11 @@ use Rattle.page_layers.specs.declared.command.Command.TheVariants as command
 use Rattle.page_layers.specs.declared.fault.EditFault.TheVariants as fault
 use Rattle.page_layers.specs.Tests.{require}
 use Rattle.page_layers.specs.Layers.{PageLayer, has_id, with_size, with_colour, with_items}
-use Rattle.page_layers.specs.Lists.{changed}
+use Rattle.page_layers.specs.Lists.{with_first_changed}
 use Rattle.page_layers.specs.Pages.{Page}
 use Rattle.page_layers.specs.Refusals.{has_layer, test_of, add_layer_test}
 use Rattle.page_layers.specs.Sound.{IsLayer, IsPage, is_used}
-use Rattle.page_layers.specs.Effects.{after}
+use Rattle.page_layers.specs.Effects.{page_after_command}
 use Rattle.page_layers.specs.Outcomes.{Accepts}
 use Rattle.page_layers.proofs.LayerKeeps.{each-found, absent-without, found_id}
 use Rattle.page_layers.proofs.FoundLayers.{found-insert, found-other, found-here, found-moved}
@@ -29,13 +29,13 @@ use Rattle.model_history.proofs.ScriptPages.{page_after, ahead, plain, plain_tak
 used_more : (id i : ℕ) (used : List ℕ) → is_used id used ≡ true → is_used id (used ++ i ∷ []) ≡ true
 used_more id i used h = list_any-append (λ u. u == id) used (i ∷ []) ∙ ap (λ (b : Bool). b || is_used id (i ∷ [])) h
 
-used_after : (p : Page) (c : Command) (id : ℕ) → is_used id p.used ≡ true → is_used id (after p c).used ≡ true
+used_after : (p : Page) (c : Command) (id : ℕ) → is_used id p.used ≡ true → is_used id (page_after_command p c).used ≡ true
 used_after p (command.AddLayer i at transform clip effect w h colour) id u = used_more id i p.used u
 used_after p _ id u = u
 
 used_commanded : (cs : List Command) (p : Page) (id : ℕ) → is_used id p.used ≡ true → is_used id (commanded cs p).used ≡ true
 used_commanded [] p id u = u
-used_commanded (c ∷ cs) p id u = used_commanded cs (after p c) id (used_after p c id u)
+used_commanded (c ∷ cs) p id u = used_commanded cs (page_after_command p c) id (used_after p c id u)
 
 -- the id of a layer is used
 there_used : (p : Page) (id : ℕ) → IsPage p → has_layer id p.layers ≡ true → is_used id p.used ≡ true
@@ -69,20 +69,20 @@ is_some_map : {A B : Type 0} (f : A → B) (o : Option A) → is_some (option_ma
 is_some_map f None = refl
 is_some_map f (Some x) = refl
 
-there_changed : (i id : ℕ) (f : PageLayer → PageLayer) → ((l : PageLayer) → (f l).id ≡ l.id) → (ls : List PageLayer) → has_layer id (changed (has_id i) f ls) ≡ has_layer id ls
+there_changed : (i id : ℕ) (f : PageLayer → PageLayer) → ((l : PageLayer) → (f l).id ≡ l.id) → (ls : List PageLayer) → has_layer id (with_first_changed (has_id i) f ls) ≡ has_layer id ls
 there_changed i id f keeps ls = go (i == id) refl
   where
-    go : (b : Bool) → (i == id) ≡ b → has_layer id (changed (has_id i) f ls) ≡ has_layer id ls
+    go : (b : Bool) → (i == id) ≡ b → has_layer id (with_first_changed (has_id i) f ls) ≡ has_layer id ls
     go true e =
         let is : i ≡ id = eqb-true i id e in
-        ap (λ (n : ℕ). has_layer n (changed (has_id i) f ls)) (sym is)
+        ap (λ (n : ℕ). has_layer n (with_first_changed (has_id i) f ls)) (sym is)
         ∙ ap (λ (o : Option PageLayer). is_some o) (found-here i f keeps ls)
         ∙ is_some_map f (find (has_id i) ls)
         ∙ ap (λ (n : ℕ). has_layer n ls) is
     go false e = ap (λ (o : Option PageLayer). is_some o) (found-other i id f keeps ls e)
 
 -- a layer that is gone stays gone
-none_after : (p : Page) (c : Command) (id : ℕ) → IsPage p → test_of p c ≡ Ok tt → IsGone id p → has_layer id (after p c).layers ≡ false
+none_after : (p : Page) (c : Command) (id : ℕ) → IsPage p → test_of p c ≡ Ok tt → IsGone id p → has_layer id (page_after_command p c).layers ≡ false
 none_after p (command.AddLayer i at transform clip effect w h colour) id is ok g = ap (λ (o : Option PageLayer). is_some o) (found-insert id _ p.layers at (added_other p _ at id ok g.used)) ∙ g.none
 none_after p (command.RemoveLayer i) id is ok g = absent-without id (has_id i) p.layers g.none
 none_after p (command.ResizeLayer i w h) id is ok g = there_changed i id (with_size w h) (λ l. refl) p.layers ∙ g.none
@@ -93,12 +93,12 @@ none_after p (command.ReplaceItem i at item) id is ok g = there_changed i id (wi
 none_after p (command.MoveLayer i at) id is ok g = ap (λ (o : Option PageLayer). is_some o) (found-moved i at id p.layers is.distinct) ∙ g.none
 none_after p _ id is ok g = g.none
 
-gone_after : (p : Page) (c : Command) (id : ℕ) → IsPage p → Accepts p c → IsGone id p → IsGone id (after p c)
+gone_after : (p : Page) (c : Command) (id : ℕ) → IsPage p → Accepts p c → IsGone id p → IsGone id (page_after_command p c)
 gone_after p c id is ok g = record { used = used_after p c id g.used; none = none_after p c id is ok.passes g }
 
 gone_commanded : (cs : List Command) (p : Page) (id : ℕ) → IsPage p → TakesAll p cs → IsGone id p → IsGone id (commanded cs p)
 gone_commanded [] p id is t g = g
-gone_commanded (c ∷ cs) p id is t g = gone_commanded cs (after p c) id (page_after p c is t.0) t.1 (gone_after p c id is t.0 g)
+gone_commanded (c ∷ cs) p id is t g = gone_commanded cs (page_after_command p c) id (page_after p c is t.0) t.1 (gone_after p c id is t.0 g)
 
 gone_plain : (s : ScriptModel) → IsAccepted s → (id d m : ℕ) → IsGone id (plain s m) → IsGone id (plain s (ahead d m))
 gone_plain s a id zero m g = g
@@ -116,11 +116,11 @@ not_gone true h = refl
 not_gone false h = absurd (h refl)
 
 -- a layer that is there before and after some commands is there after the first
-pub there_between : (c : Command) (cs : List Command) (p : Page) (id : ℕ) → IsPage p → TakesAll p (c ∷ cs) → has_layer id p.layers ≡ true → has_layer id (commanded (c ∷ cs) p).layers ≡ true → has_layer id (after p c).layers ≡ true
+pub there_between : (c : Command) (cs : List Command) (p : Page) (id : ℕ) → IsPage p → TakesAll p (c ∷ cs) → has_layer id p.layers ≡ true → has_layer id (commanded (c ∷ cs) p).layers ≡ true → has_layer id (page_after_command p c).layers ≡ true
 there_between c cs p id is t before last =
-    not_gone (has_layer id (after p c).layers)
+    not_gone (has_layer id (page_after_command p c).layers)
     (λ out. not_both (has_layer id (commanded (c ∷ cs) p).layers) last
-    (gone_commanded cs (after p c) id (page_after p c is t.0) t.1 (record { used = used_after p c id (there_used p id is before); none = out })).none)
+    (gone_commanded cs (page_after_command p c) id (page_after p c is t.0) t.1 (record { used = used_after p c id (there_used p id is before); none = out })).none)
 
 -- a layer of two pages is one of each page between
 pub layer_between : (s : ScriptModel) → IsAccepted s → (id e d m : ℕ) → has_layer id (plain s m).layers ≡ true → has_layer id (plain s (ahead e (ahead d m))).layers ≡ true → has_layer id (plain s (ahead d m)).layers ≡ true

@@ -4,7 +4,7 @@ use Rattle.std.proofs.lemmas.List.{drop_more}
 use Rattle.page_layers.specs.declared.command.Command.{Command}
 use Rattle.page_layers.specs.declared.fault.EditFault.{EditFault}
 use Rattle.page_layers.specs.Pages.{Page}
-use Rattle.page_layers.specs.Effects.{after}
+use Rattle.page_layers.specs.Effects.{page_after_command}
 use Rattle.page_layers.specs.Outcomes.{Accepts}
 use Rattle.model_history.specs.Frames.{commanded}
 use Rattle.model_history.specs.Accepted.{TakesAll, TakesFrames}
@@ -32,7 +32,7 @@ pub leads_start : (p : Page) (all : List Command) → Leads p all 0 p all
 leads_start p all = record { taken = λ t. t; page = refl; refused = λ n fault r. subst (λ (k : ℕ). RefusedIn p all k fault) (omega arith) r }
 
 pub leads_on : (first : Page) (all : List Command) (i : ℕ) (now : Page) (c : Command) (rest : List Command) → Accepts now c
-    → Leads first all i now (c ∷ rest) → Leads first all (i + 1) (after now c) rest
+    → Leads first all i now (c ∷ rest) → Leads first all (i + 1) (page_after_command now c) rest
 leads_on first all i now c rest a l =
     record {
       taken = λ t. l.taken (a, t);

@@ -4,10 +4,10 @@ use Rattle.std.specs.Prelude.{unwrap_or}
 use Rattle.std.proofs.lemmas.Bool.Decides.{nat_tests}
 use Rattle.geom.specs.declared.rect.Rect.{Rect}
 use Rattle.geom.specs.declared.tile.Place.{Place}
-use Rattle.geom.specs.Grids.{rect_of}
+use Rattle.geom.specs.Grids.{rect_of_place}
 use Rattle.geom.specs.Sides.{Sides}
 use Rattle.region.specs.declared.change.LayerChange.{LayerChange}
-use Rattle.region.specs.Lists.{Changed, AllAbove, IsRising, change_of, is_listed_whole, has_changed}
+use Rattle.region.specs.Lists.{Changed, AreChangesAbove, IsRising, change_of, is_listed_whole, has_changed}
 use Rattle.region.specs.Points.{covered, touched}
 use Rattle.region.proofs.Covering.{points_decide}
 use Rattle.tile_tiling.specs.Tiles.{shows_in}
@@ -15,7 +15,7 @@ use Rattle.tile_tiling.specs.Stamps.{may_show_in, changes_in, stamp_of}
 use Rattle.page_layers.specs.declared.command.Command.{Command}
 use Rattle.page_layers.specs.Layers.{PageLayer, has_id}
 use Rattle.page_layers.specs.Pages.{Page}
-use Rattle.page_layers.specs.Effects.{after}
+use Rattle.page_layers.specs.Effects.{page_after_command}
 use Rattle.page_layers.specs.declared.moves.Move.{Move}
 use Rattle.model_history.specs.declared.history.Entry.{Entry}
 use Rattle.model_history.specs.Scripts.{ScriptModel}
@@ -37,7 +37,7 @@ abbrev region_of : Option LayerChange → List Rect
 region_of None = []
 region_of (Some c) = c.region
 
-above_unlisted : (n m : ℕ) (ds : List LayerChange) → n ≤ m → AllAbove m ds → (is_listed_whole ds n ≡ false) × ((x y : ℤ) → has_changed ds n x y ≡ false)
+above_unlisted : (n m : ℕ) (ds : List LayerChange) → n ≤ m → AreChangesAbove m ds → (is_listed_whole ds n ≡ false) × ((x y : ℤ) → has_changed ds n x y ≡ false)
 above_unlisted n m [] le all = (refl, λ x y. refl)
 above_unlisted n m (d ∷ ds) le all =
     let lt : m < d.layer = all.0 in
@@ -96,7 +96,7 @@ same_shows c d layer r same up vp =
 
 pub changed_rising : (cs : List Command) (p : Page) (done : Changed) → IsRising done.list → IsRising (changed_by p cs done).list
 changed_rising [] p done up = up
-changed_rising (c ∷ cs) p done up = changed_rising cs (after p c) (with_next p c done) (rising_command p c done.list up)
+changed_rising (c ∷ cs) p done up = changed_rising cs (page_after_command p c) (with_next p c done) (rising_command p c done.list up)
 
 pub frame_rising : (s : ScriptModel) (ps : ℕ → List Move) (k : ℕ) → IsRising (frame_changes s ps k).list
 frame_rising s ps k = changed_rising (commands_of s k) (page_before s ps k) unchanged tt
@@ -155,12 +155,12 @@ listed_rest (d ∷ ds) (suc i) layer c e =
 -- ---- a place of a layer of a page
 
 pub stamp_of_place : (s : ScriptModel) (h : List Entry) (list : List Changed) (grid : Sides) (layer : ℕ) (place : Place) (r : Rect) (n answer : ℕ) → n ≡ length list → AreChanges s h list
-    → IsGridOf (page s (pulls_of h) n) layer grid → r ≡ rect_of grid place → answer ≡ unwrap_or (stamp_of layer r (commits_of list n)) 0 → answer ≡ stamp_in s (pulls_of h) n layer place
+    → IsGridOf (page s (pulls_of h) n) layer grid → r ≡ rect_of_place grid place → answer ≡ unwrap_or (stamp_of layer r (commits_of list n)) 0 → answer ≡ stamp_in s (pulls_of h) n layer place
 unfolding stamp_in
 stamp_of_place s h list grid layer place r n answer e are g is stamp =
     let p : Page = page s (pulls_of h) n in
     let rect : r ≡ place_rect p place (find (has_id layer) p.layers) =
-    is ∙ (ap (λ (z : Sides). rect_of z place) g.cut ∙ ap (λ (o : Option PageLayer). place_rect p place o) (sym g.there)) in
+    is ∙ (ap (λ (z : Sides). rect_of_place z place) g.cut ∙ ap (λ (o : Option PageLayer). place_rect p place o) (sym g.there)) in
     stamp ∙ ap (λ o. unwrap_or o 0) (same_stamp s h list layer r n (omega (arith, e)) are ∙ ap (λ (z : Rect). stamp_of layer z (commits_to s (pulls_of h) n)) rect)
 
 -- the listed change of a layer is the first one of the layer

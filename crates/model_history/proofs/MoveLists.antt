@@ -4,7 +4,7 @@ use Rattle.std.specs.Prelude.{nat_lt}
 use Rattle.std.specs.Ordering.{int_eq}
 use Rattle.std.proofs.lemmas.Bool.Decides.{nat_tests, Decides-int_eq}
 use Rattle.page_layers.specs.declared.moves.Move.{Move}
-use Rattle.model_history.specs.ScrollLaws.{AllAbove, AreRising}
+use Rattle.model_history.specs.ScrollLaws.{AreMovesAbove, AreRising}
 use Rattle.page_layers.specs.Axes.{Axis, across, down, amount, amount_in, move_of, is_still, with_move, listed, named_in, with_number, with_numbers}
 
 -- a list of numbers has this one
@@ -115,15 +115,15 @@ abbrev pub AreRisingNumbers : List ℕ → Type 0
 AreRisingNumbers [] = Unit {0}
 AreRisingNumbers (m ∷ ms) = NumbersAbove m ms × AreRisingNumbers ms
 
-above_cond : (n : ℕ) (m : Move) (ms : List Move) (b : Bool) → n < m.scroller → AllAbove n ms → AllAbove n (cond b ms (m ∷ ms))
+above_cond : (n : ℕ) (m : Move) (ms : List Move) (b : Bool) → n < m.scroller → AreMovesAbove n ms → AreMovesAbove n (cond b ms (m ∷ ms))
 above_cond n m ms true l a = a
 above_cond n m ms false l a = (l, a)
 
-above_listed : (n : ℕ) (f : ℕ → Axis → ℤ) (scs : List ℕ) → NumbersAbove n scs → AllAbove n (listed f scs)
+above_listed : (n : ℕ) (f : ℕ → Axis → ℤ) (scs : List ℕ) → NumbersAbove n scs → AreMovesAbove n (listed f scs)
 above_listed n f [] a = tt
 above_listed n f (sc ∷ scs) a = above_cond n (move_of f sc) (listed f scs) (is_still (move_of f sc)) a.0 (above_listed n f scs a.1)
 
-rising_cond : (m : Move) (ms : List Move) (b : Bool) → is_still m ≡ b → AllAbove m.scroller ms → AreRising ms → AreRising (cond b ms (m ∷ ms))
+rising_cond : (m : Move) (ms : List Move) (b : Bool) → is_still m ≡ b → AreMovesAbove m.scroller ms → AreRising ms → AreRising (cond b ms (m ∷ ms))
 rising_cond m ms true e a r = r
 rising_cond m ms false e a r = (e, a, r)
 
@@ -166,7 +166,7 @@ rising_numbers [] ms r = r
 rising_numbers (n ∷ ns) ms r = rising_number n (with_numbers ns ms) (rising_numbers ns ms r)
 
 -- a list above a scroller has nothing for it
-nothing_below : (sc : ℕ) (ax : Axis) (ms : List Move) → AllAbove sc ms → amount_in sc ax ms ≡ pos 0
+nothing_below : (sc : ℕ) (ax : Axis) (ms : List Move) → AreMovesAbove sc ms → amount_in sc ax ms ≡ pos 0
 nothing_below sc ax [] a = refl
 nothing_below sc ax (m ∷ ms) a = go (m.scroller == sc) refl (nothing_below sc ax ms a.1)
   where
@@ -191,7 +191,7 @@ still_of : (m : Move) → amount across m ≡ pos 0 → amount down m ≡ pos 0 
 still_of m x y = ap (λ b. b && int_eq m.dy (pos 0)) (zero_test m.dx x) ∙ zero_test m.dy y
 
 -- a move that is not (0, 0) is nothing that a list above its scroller has
-not_above : (m : Move) (ms ns : List Move) → is_still m ≡ false → HaveSame (m ∷ ms) ns → AllAbove m.scroller ns → ⊥
+not_above : (m : Move) (ms ns : List Move) → is_still m ≡ false → HaveSame (m ∷ ms) ns → AreMovesAbove m.scroller ns → ⊥
 not_above m ms ns e same above =
     let x : amount across m ≡ pos 0 = sym (head_amount across m ms) ∙ (same m.scroller across ∙ nothing_below m.scroller across ns above) in
     let y : amount down m ≡ pos 0 = sym (head_amount down m ms) ∙ (same m.scroller down ∙ nothing_below m.scroller down ns above) in
@@ -201,10 +201,10 @@ not_above m ms ns e same above =
 same_sym : (ms ns : List Move) → HaveSame ms ns → HaveSame ns ms
 same_sym ms ns h sc ax = sym (h sc ax)
 
-above_first : (n : ℕ) (m : Move) (ms : List Move) → n < m.scroller → AreRising (m ∷ ms) → AllAbove n (m ∷ ms)
+above_first : (n : ℕ) (m : Move) (ms : List Move) → n < m.scroller → AreRising (m ∷ ms) → AreMovesAbove n (m ∷ ms)
 above_first n m ms l r = (l, lower n m.scroller ms l r.1)
   where
-    lower : (a b : ℕ) (ks : List Move) → a < b → AllAbove b ks → AllAbove a ks
+    lower : (a b : ℕ) (ks : List Move) → a < b → AreMovesAbove b ks → AreMovesAbove a ks
     lower a b [] l h = tt
     lower a b (k ∷ ks) l h = let x = h.0 in (omega arith, lower a b ks l h.1)
 
@@ -224,13 +224,13 @@ cases_order m n = go (nat_lt m n) (m == n) refl refl
     go false false e f = inr (inr (above_of m n e f))
 
 -- the rests of two such lists have the same
-same_rest : (m : Move) (ms ns : List Move) → HaveSame (m ∷ ms) (m ∷ ns) → AllAbove m.scroller ms → AllAbove m.scroller ns → HaveSame ms ns
+same_rest : (m : Move) (ms ns : List Move) → HaveSame (m ∷ ms) (m ∷ ns) → AreMovesAbove m.scroller ms → AreMovesAbove m.scroller ns → HaveSame ms ns
 same_rest m ms ns same a b sc ax = go (m.scroller == sc) refl (same sc ax)
   where
     go : (c : Bool) → (m.scroller == sc) ≡ c → cond c (amount ax m) (amount_in sc ax ms) ≡ cond c (amount ax m) (amount_in sc ax ns) → amount_in sc ax ms ≡ amount_in sc ax ns
     go true e f =
         let i = eqb-true m.scroller sc e in
-        nothing_below sc ax ms (subst (λ k. AllAbove k ms) i a) ∙ sym (nothing_below sc ax ns (subst (λ k. AllAbove k ns) i b))
+        nothing_below sc ax ms (subst (λ k. AreMovesAbove k ms) i a) ∙ sym (nothing_below sc ax ns (subst (λ k. AreMovesAbove k ns) i b))
     go false e f = f
 
 -- only one rising list has so much for each scroller
@@ -246,7 +246,7 @@ one_rising_list (m ∷ ms) (n ∷ ns) r q same = go (cases_order m.scroller n.sc
         λ ax. sym (head_amount ax m ms) ∙ (same m.scroller ax ∙ (ap (λ k. amount_in k ax (n ∷ ns)) e ∙ head_amount ax n ns)) in
         let one : m ≡ n = move_same m n e (along_both across) (along_both down) in
         let aligned : HaveSame (m ∷ ms) (m ∷ ns) = subst (λ k. HaveSame (m ∷ ms) (k ∷ ns)) (sym one) same in
-        let tails : ms ≡ ns = rest (same_rest m ms ns aligned r.1 (subst (λ (k : Move). AllAbove k.scroller ns) (sym one) q.1)) in
+        let tails : ms ≡ ns = rest (same_rest m ms ns aligned r.1 (subst (λ (k : Move). AreMovesAbove k.scroller ns) (sym one) q.1)) in
         cc
     go (inr (inl l)) rest = absurd (not_above m ms (n ∷ ns) r.0 same (above_first m.scroller n ns l q))
     go (inr (inr l)) rest = absurd (not_above n ns (m ∷ ms) q.0 (same_sym (m ∷ ms) (n ∷ ns) same) (above_first n.scroller m ms l r))

@@ -8,7 +8,7 @@ use Rattle.model_history.specs.EventFields.{sends}
 use Rattle.model_history.specs.Scans.{was_named, counted}
 use Rattle.page_layers.specs.Axes.{Axis, amount_in}
 use Rattle.model_history.specs.Frames.{pulls_of}
-use Rattle.model_history.specs.Scrolls.{moved, not_sent, by_send, any_carrier, unsent, carried, all_moved}
+use Rattle.model_history.specs.Scrolls.{sum_of_moves, not_sent, by_send, any_carrier, unsent, carried, all_moved}
 use Rattle.model_history.specs.ScrollLaws.{pulled_by}
 use Rattle.model_history.specs.Legal.{Legal}
 use Rattle.model_history.proofs.BoolFacts.{same_number}
@@ -55,12 +55,12 @@ regroup a b c d e = omega (arith, ints, e)
 none_below : (k : ℕ) → nat_lt k 0 ≡ false
 none_below k = grind (arith, nat_tests)
 
-within_is : (s : ScriptModel) (h : List Entry) (sc : ℕ) (ax : Axis) (n : ℕ) → moved s sc ax (sent_within n) None h ≡ unsent s h sc ax +ℤ carried_to s h sc ax n
+within_is : (s : ScriptModel) (h : List Entry) (sc : ℕ) (ax : Axis) (n : ℕ) → sum_of_moves s sc ax (sent_within n) None h ≡ unsent s h sc ax +ℤ carried_to s h sc ax n
 unfolding sent_within carried_to
 within_is s h sc ax zero = moved_alike s sc ax (sent_within zero) not_sent None None h refl (λ k t. none_below k) ∙ plain (unsent s h sc ax)
 within_is s h sc ax (suc n) =
     moved_both s sc ax (sent_within (suc n)) (sent_within n) (by_send n) None h (parts n)
-    ∙ regroup (moved s sc ax (sent_within n) None h) (unsent s h sc ax) (carried_to s h sc ax n) (carried s h n sc ax) (within_is s h sc ax n)
+    ∙ regroup (sum_of_moves s sc ax (sent_within n) None h) (unsent s h sc ax) (carried_to s h sc ax n) (carried s h n sc ax) (within_is s h sc ax n)
 
 -- where all sends are of the first n frames, all moves are unsent or carried by one of them
 all_carried : (s : ScriptModel) (h : List Entry) (sc : ℕ) (ax : Axis) (n : ℕ) → ((k : ℕ) → was_named sends h k ≡ true → k < n)

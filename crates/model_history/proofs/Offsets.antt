@@ -14,12 +14,12 @@ use Rattle.model_history.specs.declared.input.Input.TheVariants as input
 use Rattle.page_layers.specs.declared.moves.Move.{Move}
 use Rattle.model_history.specs.declared.history.Entry.{Entry}
 use Rattle.model_history.specs.Scripts.{ScriptModel}
-use Rattle.model_history.specs.EventFields.{settles, moves, scroll_move}
+use Rattle.model_history.specs.EventFields.{retires, moves, scroll_move}
 use Rattle.model_history.specs.Scans.{names, was_named}
 use Rattle.page_layers.specs.Axes.{Axis, across, down, along, amount, amount_in, is_still}
-use Rattle.page_layers.specs.Scrollers.{scrollers, has_scroller, most, offsets_in, taken}
+use Rattle.page_layers.specs.Scrollers.{scrollers, has_scroller, most, offsets_in, amount_taken}
 use Rattle.model_history.specs.Frames.{page, pulls_of, active, pending, up_to, active_page, pending_page}
-use Rattle.model_history.specs.Scrolls.{delta_of, base, delta, offset, settled_then, active_then, pending_base, offset_then, clobbers, pending_offset, clamp_move, next_clamps, carried, active_offsets}
+use Rattle.model_history.specs.Scrolls.{delta_of, base, delta, offset, retired_then, active_then, pending_base, offset_then, clobbers, pending_offset, clamp_move, next_clamps, carried, active_offsets}
 use Rattle.page_layers.specs.Wheels.{chain_parts, takes_at, chain_at, wheel_parts}
 use Rattle.model_history.specs.Values.{values}
 use Rattle.model_history.specs.ScrollLaws.{carried_by}
@@ -30,8 +30,8 @@ use Rattle.model_history.proofs.Course.{Course, course}
 use Rattle.model_history.proofs.PageRanges.{clamp_again, page_has_later}
 use Rattle.model_history.proofs.FrameFacts.{page_stays, active_sent}
 use Rattle.model_history.proofs.MoveLists.{amount_listed}
-use Rattle.model_history.proofs.FrameSums.{settled_delta}
-use Rattle.model_history.proofs.PastFacts.{pending_not_settled}
+use Rattle.model_history.proofs.FrameSums.{retired_delta}
+use Rattle.model_history.proofs.PastFacts.{pending_not_retired}
 use Rattle.model_history.proofs.ValueSums.{Sums, sums}
 use Rattle.model_history.proofs.PageStanding.{has_listed, zero_absent, pending_base_fits}
 
@@ -51,7 +51,7 @@ offset_is_value s h sc ax m = λ i. sym m.active_base i +ℤ sym m.active_delta 
 
 -- nothing, or what it takes of some amount
 abbrev pub IsTaken : Page → (ℕ → Axis → ℤ) → ℕ → Axis → ℤ → Type 0
-IsTaken p at sc ax x = (x ≡ pos 0) ⊎ ((z : ℤ) × (x ≡ taken p at sc ax z))
+IsTaken p at sc ax x = (x ≡ pos 0) ⊎ ((z : ℤ) × (x ≡ amount_taken p at sc ax z))
 
 plain : (z : ℤ) → z +ℤ pos 0 ≡ z
 plain z = omega (arith, ints)
@@ -93,11 +93,11 @@ taken_step p at v sc ax x stands_at (inr t) r = by_test (has_scroller p sc) ther
 
 -- a scroll
 
-taken_if : (p : Page) (at : ℕ → Axis → ℤ) (n sc : ℕ) (ax : Axis) (z x : ℤ) → x ≡ taken p at n ax z → IsTaken p at sc ax (cond (n == sc) x (pos 0))
+taken_if : (p : Page) (at : ℕ → Axis → ℤ) (n sc : ℕ) (ax : Axis) (z x : ℤ) → x ≡ amount_taken p at n ax z → IsTaken p at sc ax (cond (n == sc) x (pos 0))
 taken_if p at n sc ax z x e = go (n == sc) refl
   where
     go : (b : Bool) → (n == sc) ≡ b → IsTaken p at sc ax (cond b x (pos 0))
-    go true f = inr (z, e ∙ ap (λ k. taken p at k ax z) (same_number n sc f))
+    go true f = inr (z, e ∙ ap (λ k. amount_taken p at k ax z) (same_number n sc f))
     go false f = inl refl
 
 pub scroll_taken : (s : ScriptModel) (h : List Entry) (i : ℕ) (dx dy : ℤ) (sc : ℕ) (ax : Axis) → AtScroll s h i dx dy
@@ -116,7 +116,7 @@ at_place : (ax : Axis) (at : ℕ → Axis → ℤ) (sc : ℕ) → along ax (reco
 at_place across at sc = refl
 at_place down at sc = refl
 
-pub takes_is : (p : Page) (at : ℕ → Axis → ℤ) (sc : ℕ) (ax : Axis) (z : ℤ) → takes_at p (offsets_in p at) sc ax z ≡ taken p at sc ax z
+pub takes_is : (p : Page) (at : ℕ → Axis → ℤ) (sc : ℕ) (ax : Axis) (z : ℤ) → takes_at p (offsets_in p at) sc ax z ≡ amount_taken p at sc ax z
 takes_is p at sc ax z = go (has_scroller p sc)
   where
     m : ℕ
@@ -170,7 +170,7 @@ wheel_taken s h i layer rest_x rest_y ms sc ax t =
 
 -- Before the activation of frame k: where a scroller would stand, and what of the delta would be left.
 pub record Before (s : ScriptModel) (h : List Entry) (k sc : ℕ) (ax : Axis) : Type 0 where
-  pub left : delta_of s h (settled_then h) sc ax ≡ (values s sc ax h).active_delta -ℤ (values s sc ax h).reflected_pending
+  pub left : delta_of s h (retired_then h) sc ax ≡ (values s sc ax h).active_delta -ℤ (values s sc ax h).reflected_pending
   pub then_at : offset_then s h sc ax ≡ (values s sc ax h).pending_base +ℤ ((values s sc ax h).active_delta -ℤ (values s sc ax h).reflected_pending)
   pub fits : clamp_to (most (pending_page s h) sc ax) (pending_base s h sc ax) ≡ pending_base s h sc ax
   pub then_fits : clamp_to (most (pending_page s h) sc ax) (pending_offset s h sc ax) ≡ pending_offset s h sc ax
@@ -196,10 +196,10 @@ before s n h k sc ax legal waits = record {
     c : Course h
     c = course s n h legal
 
-    rest : delta_of s h (settled_then h) sc ax ≡ (values s sc ax h).active_delta -ℤ (values s sc ax h).reflected_pending
+    rest : delta_of s h (retired_then h) sc ax ≡ (values s sc ax h).active_delta -ℤ (values s sc ax h).reflected_pending
     rest =
-        subtract (delta s h sc ax) (carried s h k sc ax) (delta_of s h (settled_then h) sc ax) (values s sc ax h).active_delta (values s sc ax h).reflected_pending
-        (settled_delta s h sc ax (was_named settles h) (settled_then h) k (λ j. ap (λ o. names o j || was_named settles h j) waits) (pending_not_settled h k c waits))
+        subtract (delta s h sc ax) (carried s h k sc ax) (delta_of s h (retired_then h) sc ax) (values s sc ax h).active_delta (values s sc ax h).reflected_pending
+        (retired_delta s h sc ax (was_named retires h) (retired_then h) k (λ j. ap (λ o. names o j || was_named retires h j) waits) (pending_not_retired h k c waits))
         m.active_delta (m.reflected_pending ∙ ap (λ o. carried_by s h o sc ax) waits)
 
     same_page : page s (pulls_of h) (up_to (active_then h)) ≡ pending_page s h

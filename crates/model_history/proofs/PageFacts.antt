@@ -6,14 +6,14 @@ use Rattle.geom.specs.declared.rect.Point.{Point}
 use Rattle.page_layers.specs.declared.command.Command.{Command}
 use Rattle.page_layers.specs.declared.command.Command.TheVariants as command
 use Rattle.page_layers.specs.Pages.{Page}
-use Rattle.page_layers.specs.Effects.{scrolled_by, after}
+use Rattle.page_layers.specs.Effects.{scrolled_by, page_after_command}
 use Rattle.page_layers.specs.Outcomes.{Accepts, StandTogether}
 use Rattle.page_layers.specs.Refusals.{test_of, add_transform_test, set_transform_test, add_clip_test, set_clip_test, add_effect_test, set_opacity_test, add_scroller_test, set_range_test, scroll_by_test, scroll_to_test, add_layer_test, remove_layer_test, resize_layer_test, set_colour_test, insert_item_test, remove_item_test, replace_item_test, move_layer_test}
 use Rattle.page_layers.specs.declared.moves.Move.{Move}
 use Rattle.model_history.specs.Scripts.{ScriptModel}
 use Rattle.page_layers.specs.Axes.{Axis, across, down, amount_in, named_in}
 use Rattle.page_layers.specs.Scrollers.{scrollers, main_value}
-use Rattle.model_history.specs.Frames.{commands_of, pulled, commanded, page, page_before, main_move, changes, is_empty}
+use Rattle.model_history.specs.Frames.{commands_of, page_after_pulls, commanded, page, page_before, main_move, changes, is_empty}
 use Rattle.model_history.specs.Accepted.{TakesAll, TakesFrames, IsAccepted}
 
 -- a page depends on the pulls of the frames before it alone
@@ -22,13 +22,13 @@ page_alike s ps qs zero f = refl
 page_alike s ps qs (suc n) f =
     let p : page s ps n ≡ page s qs n = page_alike s ps qs n (λ k l. f k (omega arith)) in
     let q : ps n ≡ qs n = f n (omega arith) in
-    λ i. commanded (commands_of s n) (pulled (q i) (p i))
+    λ i. commanded (commands_of s n) (page_after_pulls (q i) (p i))
 
 pub page_before_alike : (s : ScriptModel) (ps qs : ℕ → List Move) (n : ℕ) → ((k : ℕ) → k < suc n → ps k ≡ qs k) → page_before s ps n ≡ page_before s qs n
 page_before_alike s ps qs n f =
     let p : page s ps n ≡ page s qs n = page_alike s ps qs n (λ k l. f k (omega arith)) in
     let q : ps n ≡ qs n = f n (omega arith) in
-    λ i. pulled (q i) (p i)
+    λ i. page_after_pulls (q i) (p i)
 
 pub main_move_alike : (s : ScriptModel) (ps qs : ℕ → List Move) (k sc : ℕ) (ax : Axis) → ((j : ℕ) → j < suc k → ps j ≡ qs j)
     → main_move s ps k sc ax ≡ main_move s qs k sc ax
@@ -51,11 +51,11 @@ changes_alike s ps qs k f =
 abbrev pub with_values : Page → List (ℕ × Point) → Page
 with_values p vs = record p { values = vs }
 
-pub pulled_values : (ms : List Move) (p : Page) → pulled ms p ≡ with_values p (pulled ms p).values
+pub pulled_values : (ms : List Move) (p : Page) → page_after_pulls ms p ≡ with_values p (page_after_pulls ms p).values
 pulled_values [] p = refl
 pulled_values (m ∷ ms) p = pulled_values ms (scrolled_by p m.scroller m.dx m.dy)
 
-pub after_values : (p : Page) (vs : List (ℕ × Point)) (c : Command) → after (with_values p vs) c ≡ with_values (after p c) (after (with_values p vs) c).values
+pub after_values : (p : Page) (vs : List (ℕ × Point)) (c : Command) → page_after_command (with_values p vs) c ≡ with_values (page_after_command p c) (page_after_command (with_values p vs) c).values
 after_values p vs (command.AddTransform id parent x y scroller) = refl
 after_values p vs _ = refl
 
@@ -63,8 +63,8 @@ pub commanded_values : (cs : List Command) (p : Page) (vs : List (ℕ × Point))
     → commanded cs (with_values p vs) ≡ with_values (commanded cs p) (commanded cs (with_values p vs)).values
 commanded_values [] p vs = refl
 commanded_values (c ∷ cs) p vs =
-    let us : List (ℕ × Point) = (after (with_values p vs) c).values in
-    subst (λ (q : Page). commanded cs q ≡ with_values (commanded cs (after p c)) (commanded cs q).values) (sym (after_values p vs c)) (commanded_values cs (after p c) us)
+    let us : List (ℕ × Point) = (page_after_command (with_values p vs) c).values in
+    subst (λ (q : Page). commanded cs q ≡ with_values (commanded cs (page_after_command p c)) (commanded cs q).values) (sym (after_values p vs c)) (commanded_values cs (page_after_command p c) us)
 
 commanded_alike : (cs : List Command) (p q : Page) → p ≡ with_values q p.values → commanded cs p ≡ with_values (commanded cs q) (commanded cs p).values
 commanded_alike cs p q e = subst (λ (x : Page). commanded cs x ≡ with_values (commanded cs q) (commanded cs x).values) (sym e) (commanded_values cs q p.values)
@@ -99,7 +99,7 @@ accepts_values p vs c a = record {
 pub takes_values : (cs : List Command) (p : Page) (vs : List (ℕ × Point)) → TakesAll p cs → TakesAll (with_values p vs) cs
 takes_values [] p vs t = tt
 takes_values (c ∷ cs) p vs t =
-    (accepts_values p vs c t.0, subst (λ (q : Page). TakesAll q cs) (sym (after_values p vs c)) (takes_values cs (after p c) (after (with_values p vs) c).values t.1))
+    (accepts_values p vs c t.0, subst (λ (q : Page). TakesAll q cs) (sym (after_values p vs c)) (takes_values cs (page_after_command p c) (page_after_command (with_values p vs) c).values t.1))
 
 -- pages without pulls take the commands of an accepted script
 

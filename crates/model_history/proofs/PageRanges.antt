@@ -9,12 +9,12 @@ use Rattle.page_layers.specs.declared.command.Command.{Command}
 use Rattle.page_layers.specs.declared.command.Command.TheVariants as command
 use Rattle.page_layers.specs.Scrolls.{clamp_to, origin, or_origin}
 use Rattle.page_layers.specs.Pages.{Page}
-use Rattle.page_layers.specs.Effects.{after, with_props, clamped_in, scrolled_to, scrolled_by, value_of}
+use Rattle.page_layers.specs.Effects.{page_after_command, with_props, clamped_in, scrolled_to, scrolled_by, main_point}
 use Rattle.page_layers.specs.declared.moves.Move.{Move}
 use Rattle.model_history.specs.Scripts.{ScriptModel}
 use Rattle.page_layers.specs.Axes.{Axis, across, down, along}
 use Rattle.page_layers.specs.Scrollers.{has_scroller, end_of, most, main_value}
-use Rattle.model_history.specs.Frames.{commands_of, pulled, commanded, page, page_before}
+use Rattle.model_history.specs.Frames.{commands_of, page_after_pulls, commanded, page, page_before}
 use Rattle.model_history.proofs.BoolFacts.{by_test, same_number, other_number}
 use Rattle.model_history.proofs.NodeFacts.{find_changed, find_other, knows_changed}
 
@@ -56,16 +56,16 @@ set_in_range p id x y r sc ax = by_test (id == sc) (λ h. at_same (same_number i
     f : Point → Point
     f v = clamped_in (find id p.props.scrollers) x y
 
-    at_same : id ≡ sc → Fits (find sc p.props.scrollers) (find sc (entries.changed id (λ v. clamped_in (find id p.props.scrollers) x y) p.values)) ax
+    at_same : id ≡ sc → Fits (find sc p.props.scrollers) (find sc (entries.with_node_changed id (λ v. clamped_in (find id p.props.scrollers) x y) p.values)) ax
     at_same i =
-        let e : find id (entries.changed id (λ v. clamped_in (find id p.props.scrollers) x y) p.values) ≡ option_map (λ v. clamped_in (find id p.props.scrollers) x y) (find id p.values) =
+        let e : find id (entries.with_node_changed id (λ v. clamped_in (find id p.props.scrollers) x y) p.values) ≡ option_map (λ v. clamped_in (find id p.props.scrollers) x y) (find id p.values) =
         find_changed id (λ v. clamped_in (find id p.props.scrollers) x y) p.values in
-        subst (λ z. Fits (find z p.props.scrollers) (find z (entries.changed id (λ v. clamped_in (find id p.props.scrollers) x y) p.values)) ax) i
+        subst (λ z. Fits (find z p.props.scrollers) (find z (entries.with_node_changed id (λ v. clamped_in (find id p.props.scrollers) x y) p.values)) ax) i
         (subst (λ (o : Option Point). Fits (find id p.props.scrollers) o ax) (sym e) (set_value (find id p.values) (find id p.props.scrollers) x y ax))
 
-    at_other : (id ≡ sc → ⊥) → Fits (find sc p.props.scrollers) (find sc (entries.changed id (λ v. clamped_in (find id p.props.scrollers) x y) p.values)) ax
+    at_other : (id ≡ sc → ⊥) → Fits (find sc p.props.scrollers) (find sc (entries.with_node_changed id (λ v. clamped_in (find id p.props.scrollers) x y) p.values)) ax
     at_other n =
-        let e : find sc (entries.changed id (λ v. clamped_in (find id p.props.scrollers) x y) p.values) ≡ find sc p.values =
+        let e : find sc (entries.with_node_changed id (λ v. clamped_in (find id p.props.scrollers) x y) p.values) ≡ find sc p.values =
         find_other id sc (λ v. clamped_in (find id p.props.scrollers) x y) p.values n in
         subst (λ (o : Option Point). Fits (find sc p.props.scrollers) o ax) (sym e) (r sc ax n)
 
@@ -74,25 +74,25 @@ added_value true node n o ax r = at_origin (Some node) ax
 added_value false node n o ax r = r
 
 -- a command keeps the main values in their ranges
-after_in_range : (p : Page) (c : Command) → InRange p → InRange (after p c)
+after_in_range : (p : Page) (c : Command) → InRange p → InRange (page_after_command p c)
 after_in_range p (command.AddScroller id parent x y) r = λ sc ax. added_value (id == sc) (record { parent = parent; max_x = x; max_y = y }) (find sc p.props.scrollers) (find sc p.values) ax (r sc ax)
 after_in_range p (command.SetRange id x y) r =
     let f : ScrollNode → ScrollNode = λ n. record n { max_x = x; max_y = y } in
-    set_in_range (with_props p (record p.props { scrollers = entries.changed id (λ n. record n { max_x = x; max_y = y }) p.props.scrollers })) id (value_of p id).x (value_of p id).y
+    set_in_range (with_props p (record p.props { scrollers = entries.with_node_changed id (λ n. record n { max_x = x; max_y = y }) p.props.scrollers })) id (main_point p id).x (main_point p id).y
     (λ sc ax n. subst (λ (o : Option ScrollNode). Fits o (find sc p.values) ax) (sym (find_other id sc (λ n. record n { max_x = x; max_y = y }) p.props.scrollers n)) (r sc ax))
-after_in_range p (command.ScrollBy id dx dy) r = set_in_range p id ((value_of p id).x +ℤ dx) ((value_of p id).y +ℤ dy) (λ sc ax n. r sc ax)
+after_in_range p (command.ScrollBy id dx dy) r = set_in_range p id ((main_point p id).x +ℤ dx) ((main_point p id).y +ℤ dy) (λ sc ax n. r sc ax)
 after_in_range p (command.ScrollTo id x y) r = set_in_range p id (pos x) (pos y) (λ sc ax n. r sc ax)
 after_in_range p _ r = r
 
 commanded_in_range : (cs : List Command) (p : Page) → InRange p → InRange (commanded cs p)
 commanded_in_range [] p r = r
-commanded_in_range (c ∷ cs) p r = commanded_in_range cs (after p c) (after_in_range p c r)
+commanded_in_range (c ∷ cs) p r = commanded_in_range cs (page_after_command p c) (after_in_range p c r)
 
-pub pulled_in_range : (ms : List Move) (p : Page) → InRange p → InRange (pulled ms p)
+pub pulled_in_range : (ms : List Move) (p : Page) → InRange p → InRange (page_after_pulls ms p)
 pulled_in_range [] p r = r
 pulled_in_range (m ∷ ms) p r =
     pulled_in_range ms (scrolled_by p m.scroller m.dx m.dy)
-    (set_in_range p m.scroller ((value_of p m.scroller).x +ℤ m.dx) ((value_of p m.scroller).y +ℤ m.dy) (λ sc ax n. r sc ax))
+    (set_in_range p m.scroller ((main_point p m.scroller).x +ℤ m.dx) ((main_point p m.scroller).y +ℤ m.dy) (λ sc ax n. r sc ax))
 
 -- every main value of every page is in its range, in any script
 pub page_in_range : (s : ScriptModel) (ps : ℕ → List Move) (n : ℕ) → InRange (page s ps n)
@@ -101,12 +101,12 @@ page_in_range s ps (suc n) = commanded_in_range (commands_of s n) (page_before s
 
 -- scrollers stay
 
-pub pulled_has : (ms : List Move) (p : Page) (sc : ℕ) → has_scroller (pulled ms p) sc ≡ has_scroller p sc
+pub pulled_has : (ms : List Move) (p : Page) (sc : ℕ) → has_scroller (page_after_pulls ms p) sc ≡ has_scroller p sc
 pulled_has [] p sc = refl
 pulled_has (m ∷ ms) p sc = pulled_has ms (scrolled_by p m.scroller m.dx m.dy) sc
 
 -- pulls leave the ranges
-pub pulled_most : (ms : List Move) (p : Page) (sc : ℕ) (ax : Axis) → most (pulled ms p) sc ax ≡ most p sc ax
+pub pulled_most : (ms : List Move) (p : Page) (sc : ℕ) (ax : Axis) → most (page_after_pulls ms p) sc ax ≡ most p sc ax
 pulled_most [] p sc ax = refl
 pulled_most (m ∷ ms) p sc ax = pulled_most ms (scrolled_by p m.scroller m.dx m.dy) sc ax
 
@@ -114,14 +114,14 @@ added_has : (b : Bool) (node : ScrollNode) (n : Option ScrollNode) → is_some n
 added_has true node n h = refl
 added_has false node n h = h
 
-after_has : (p : Page) (c : Command) (sc : ℕ) → has_scroller p sc ≡ true → has_scroller (after p c) sc ≡ true
+after_has : (p : Page) (c : Command) (sc : ℕ) → has_scroller p sc ≡ true → has_scroller (page_after_command p c) sc ≡ true
 after_has p (command.AddScroller id parent x y) sc h = added_has (id == sc) (record { parent = parent; max_x = x; max_y = y }) (find sc p.props.scrollers) h
 after_has p (command.SetRange id x y) sc h = knows_changed id sc (λ n. record n { max_x = x; max_y = y }) p.props.scrollers ∙ h
 after_has p _ sc h = h
 
 commanded_has : (cs : List Command) (p : Page) (sc : ℕ) → has_scroller p sc ≡ true → has_scroller (commanded cs p) sc ≡ true
 commanded_has [] p sc h = h
-commanded_has (c ∷ cs) p sc h = commanded_has cs (after p c) sc (after_has p c sc h)
+commanded_has (c ∷ cs) p sc h = commanded_has cs (page_after_command p c) sc (after_has p c sc h)
 
 pub page_has_next : (s : ScriptModel) (ps : ℕ → List Move) (n sc : ℕ) → has_scroller (page s ps n) sc ≡ true → has_scroller (page s ps (suc n)) sc ≡ true
 page_has_next s ps n sc h = commanded_has (commands_of s n) (page_before s ps n) sc (pulled_has (ps n) (page s ps n) sc ∙ h)

@@ -1,11 +1,11 @@
--- What the course of frames tells of the sums: which frames are settled, in flight and pending, and what the next send lists.
+-- What the course of frames tells of the sums: which frames are retired, in flight and pending, and what the next send lists.
 use Rattle.std.proofs.Common.{ℕ, ◌≡◌, ◌⊎◌, inl, inr, suc, ◌≤◌, ◌==◌, pos, Bool, true, false, cond, ◌||◌, List, [], ◌∷◌, Option, Some, None, refl, sym, ◌∙◌, ap, arith}
 use Rattle.model_scheduler.specs.Kinds.{is_main_idle}
 use Rattle.model_history.specs.declared.event.Event.{Event}
 use Rattle.model_history.specs.declared.event.Event.TheVariants as event
 use Rattle.model_history.specs.declared.history.Entry.{Entry}
 use Rattle.model_history.specs.Scripts.{ScriptModel}
-use Rattle.model_history.specs.EventFields.{sends, commits, aborts, activates, settles, moves}
+use Rattle.model_history.specs.EventFields.{sends, commits, aborts, activates, retires, moves}
 use Rattle.model_history.specs.Scans.{names, was_named, newest, counted}
 use Rattle.page_layers.specs.Axes.{Axis, amount_in, named_in}
 use Rattle.model_history.specs.Frames.{pending, up_to, has_frame_ended}
@@ -17,16 +17,16 @@ use Rattle.model_history.proofs.Course.{Course}
 use Rattle.model_history.proofs.MoveLists.{has, has-numbers, amount_listed, amount_absent}
 use Rattle.model_history.proofs.Sums.{Stays, moved_nothing}
 
--- settled frames
+-- retired frames
 
 or_none : (b : Bool) → b ≡ (b || false)
 or_none true = refl
 or_none false = refl
 
-settles_one : (e : Event) (k : ℕ) → names (settles e) k ≡ (names (aborts e) k || names (activates e) k)
-settles_one (event.Abort j) k = or_none (j == k)
-settles_one (event.Activate j ms) k = refl
-settles_one _ k = refl
+retires_one : (e : Event) (k : ℕ) → names (retires e) k ≡ (names (aborts e) k || names (activates e) k)
+retires_one (event.Abort j) k = or_none (j == k)
+retires_one (event.Activate j ms) k = refl
+retires_one _ k = refl
 
 or_four : (a b c d : Bool) → ((a || b) || (c || d)) ≡ ((a || c) || (b || d))
 or_four true b c d = refl
@@ -34,30 +34,30 @@ or_four false true true d = refl
 or_four false true false d = refl
 or_four false false c d = refl
 
--- a frame is settled where it was aborted or activated
-pub settles_is : (h : List Entry) (k : ℕ) → was_named settles h k ≡ (was_named aborts h k || was_named activates h k)
-settles_is [] k = refl
-settles_is (e ∷ h) k =
-    let a : names (settles e.event) k ≡ (names (aborts e.event) k || names (activates e.event) k) = settles_one e.event k in
-    let b : was_named settles h k ≡ (was_named aborts h k || was_named activates h k) = settles_is h k in
+-- a frame is retired where it was aborted or activated
+pub retires_is : (h : List Entry) (k : ℕ) → was_named retires h k ≡ (was_named aborts h k || was_named activates h k)
+retires_is [] k = refl
+retires_is (e ∷ h) k =
+    let a : names (retires e.event) k ≡ (names (aborts e.event) k || names (activates e.event) k) = retires_one e.event k in
+    let b : was_named retires h k ≡ (was_named aborts h k || was_named activates h k) = retires_is h k in
     (λ i. a i || b i) ∙ or_four (names (aborts e.event) k) (names (activates e.event) k) (was_named aborts h k) (was_named activates h k)
 
--- one that has not ended is not settled
-pub not_settled : (h : List Entry) (k : ℕ) → Course h → was_named commits h k ≡ false → was_named aborts h k ≡ false → was_named settles h k ≡ false
-not_settled h k c no_commit no_abort =
-    settles_is h k ∙ or_neither (was_named aborts h k) (was_named activates h k) no_abort
+-- one that has not ended is not retired
+pub not_retired : (h : List Entry) (k : ℕ) → Course h → was_named commits h k ≡ false → was_named aborts h k ≡ false → was_named retires h k ≡ false
+not_retired h k c no_commit no_abort =
+    retires_is h k ∙ or_neither (was_named aborts h k) (was_named activates h k) no_abort
     (is_false (was_named activates h k) (λ t. not_both (was_named commits h k) (c.activated_committed k t) no_commit))
 
 -- nor is one that was not sent
-pub later_not_settled : (h : List Entry) (k : ℕ) → Course h → counted sends h ≤ k → was_named settles h k ≡ false
-later_not_settled h k c l =
-    not_settled h k c (is_false (was_named commits h k) (λ t. let b = c.committed_below k t in absurd (omega arith)))
+pub later_not_retired : (h : List Entry) (k : ℕ) → Course h → counted sends h ≤ k → was_named retires h k ≡ false
+later_not_retired h k c l =
+    not_retired h k c (is_false (was_named commits h k) (λ t. let b = c.committed_below k t in absurd (omega arith)))
     (is_false (was_named aborts h k) (λ t. let b = c.aborted_below k t in absurd (omega arith)))
 
--- the pending commit is not settled
-pub pending_not_settled : (h : List Entry) (k : ℕ) → Course h → pending h ≡ Some k → was_named settles h k ≡ false
-pending_not_settled h k c e =
-    settles_is h k ∙ or_neither (was_named aborts h k) (was_named activates h k) (c.one_end k (c.pending_committed k e)) (c.pending_not_activated k e)
+-- the pending commit is not retired
+pub pending_not_retired : (h : List Entry) (k : ℕ) → Course h → pending h ≡ Some k → was_named retires h k ≡ false
+pending_not_retired h k c e =
+    retires_is h k ∙ or_neither (was_named aborts h k) (was_named activates h k) (c.one_end k (c.pending_committed k e)) (c.pending_not_activated k e)
 
 -- the pending commit was sent
 pub pending_within : (h : List Entry) (o : Option ℕ) → Course h → pending h ≡ o → up_to o ≤ counted sends h

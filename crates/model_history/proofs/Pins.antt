@@ -9,7 +9,7 @@ use Rattle.model_history.specs.Frames.{page, pulls_of, active, pending, up_to, p
 use Rattle.model_history.specs.Scrolls.{pending_offsets}
 use Rattle.model_history.specs.Stamps.{stamp_in}
 use Rattle.geom.specs.KeyLists.{same_key, has_key}
-use Rattle.model_history.specs.Tiles.{page_keys, keys_of, visible_in, active_tree, pending_tree, live_keys, made, ready, required, pinned, missing}
+use Rattle.model_history.specs.Tiles.{page_keys, keys_of, visible_in, active_tree, pending_tree, live_keys, made_so_far, ready, required, pinned, missing_visible}
 use Rattle.model_history.specs.Legal.{Next, Legal}
 use Rattle.model_history.specs.FrameLaws.{AtEach}
 use Rattle.model_history.specs.TileLaws.{Within, AreApart, is_activate, lacking}
@@ -27,11 +27,11 @@ pub record PinsOf (pins done keys : List TileKey) : Type 0 where
   pub active : (q : TileKey) → has_key pins q ≡ true → has_key keys q ≡ true
 
 abbrev pub Pins : ScriptModel → List Entry → Type 0
-Pins s h = PinsOf (pinned s h) (made h) (keys_of (active_tree s h))
+Pins s h = PinsOf (pinned s h) (made_so_far h) (keys_of (active_tree s h))
 
 -- a ready key is made
-pub ready_made : (s : ScriptModel) (h : List Entry) (q : TileKey) → has_key (ready s h) q ≡ true → has_key (made h) q ≡ true
-ready_made s h q t = and_left (has_key (made h) q) (has_key (live_keys s h) q) (sym (has_filter (has_key (live_keys s h)) (made h) q) ∙ t)
+pub ready_made : (s : ScriptModel) (h : List Entry) (q : TileKey) → has_key (ready s h) q ≡ true → has_key (made_so_far h) q ≡ true
+ready_made s h q t = and_left (has_key (made_so_far h) q) (has_key (live_keys s h) q) (sym (has_filter (has_key (live_keys s h)) (made_so_far h) q) ∙ t)
 
 -- all that an activation needs is ready
 pub required_ready : (s : ScriptModel) (n : ℕ) (h : List Entry) (e : Entry) → Next s n h e → is_activate e.event ≡ true
@@ -66,12 +66,12 @@ one_step s n h a (event.Start w k evicted) c p x =
     record {
       made = λ q t.
           let out : has_key evicted q ≡ false = is_false (has_key evicted q) (λ u. not_both (has_key (pinned s h) q) t
-          (evicted_may_go s h d.rank q (ap (λ ks. has_key ks q) (sym d.gives_up) ∙ u)).not_pinned) in
-          has_without (made h) evicted q ∙ and_both (has_key (made h) q) (not (has_key evicted q)) (p.made q t) (ap not out);
+          (evicted_may_go s h d.rank q (ap (λ ks. has_key ks q) (sym d.evictions) ∙ u)).not_pinned) in
+          has_without (made_so_far h) evicted q ∙ and_both (has_key (made_so_far h) q) (not (has_key evicted q)) (p.made q t) (ap not out);
       active = p.active;
     }
 one_step s n h a (event.DoneTile w k) c p x = record {
-  made = λ q t. or_right (same_key k q) (has_key (made h) q) (p.made q t);
+  made = λ q t. or_right (same_key k q) (has_key (made_so_far h) q) (p.made q t);
   active = p.active;
 }
 one_step s n h a (event.Activate k ms) c p x =
@@ -90,12 +90,12 @@ pins s n (e ∷ h) l = one_step s n h e.actor e.event (course s n h l.0) (pins s
 pub pinned_ready : (s : ScriptModel) (n : ℕ) (h : List Entry) → Legal s n h → (q : TileKey) → has_key (pinned s h) q ≡ true → has_key (ready s h) q ≡ true
 pinned_ready s n h l q t =
     let p = pins s n h l in
-    has_filter (has_key (live_keys s h)) (made h) q
-    ∙ and_both (has_key (made h) q) (has_key (live_keys s h) q) (p.made q t)
+    has_filter (has_key (live_keys s h)) (made_so_far h) q
+    ∙ and_both (has_key (made_so_far h) q) (has_key (live_keys s h) q) (p.made q t)
     (has_append (keys_of (active_tree s h)) (keys_of (pending_tree s h)) q ∙ or_left (has_key (keys_of (active_tree s h)) q) (has_key (keys_of (pending_tree s h)) q) (p.active q t))
 
 -- so none is missing
-pub missing_apart : (s : ScriptModel) (n : ℕ) (h : List Entry) → Legal s n h → (q : TileKey) → has_key (missing s h) q ≡ true → has_key (pinned s h) q ≡ false
+pub missing_apart : (s : ScriptModel) (n : ℕ) (h : List Entry) → Legal s n h → (q : TileKey) → has_key (missing_visible s h) q ≡ true → has_key (pinned s h) q ≡ false
 missing_apart s n h l q t =
     let m = sym (has_filter (λ k. not (has_key (ready s h) k)) (visible_in (active_tree s h)) q) ∙ t in
     is_false (has_key (pinned s h) q) (λ u. not_both (has_key (ready s h) q) (pinned_ready s n h l q u)

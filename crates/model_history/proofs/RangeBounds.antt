@@ -11,7 +11,7 @@ use Rattle.page_layers.specs.declared.command.Command.TheVariants as command
 use Rattle.page_layers.specs.Tests.{require}
 use Rattle.page_layers.specs.Refusals.{takes, test_of, add_scroller_test, set_range_test}
 use Rattle.page_layers.specs.Pages.{Page}
-use Rattle.page_layers.specs.Effects.{after}
+use Rattle.page_layers.specs.Effects.{page_after_command}
 use Rattle.page_layers.proofs.TestFacts.{passed, scroll_range_facts}
 use Rattle.model_history.specs.declared.event.Event.{Event}
 use Rattle.model_history.specs.declared.event.Event.TheVariants as event
@@ -62,19 +62,19 @@ ranged_short (Some n) x y across a b = a
 ranged_short (Some n) x y down a b = b
 
 changed_short : (id sc x y : ℕ) (nodes : List (ℕ × ScrollNode)) (ax : Axis) → x ≤ 1048576 → y ≤ 1048576 → end_of (find sc nodes) ax ≤ 1048576
-    → end_of (find sc (entries.changed id (λ n. record n { max_x = x; max_y = y }) nodes)) ax ≤ 1048576
+    → end_of (find sc (entries.with_node_changed id (λ n. record n { max_x = x; max_y = y }) nodes)) ax ≤ 1048576
 changed_short id sc x y nodes ax a b l = by_test (id == sc) same other
   where
-    same : (id == sc) ≡ true → end_of (find sc (entries.changed id (λ n. record n { max_x = x; max_y = y }) nodes)) ax ≤ 1048576
+    same : (id == sc) ≡ true → end_of (find sc (entries.with_node_changed id (λ n. record n { max_x = x; max_y = y }) nodes)) ax ≤ 1048576
     same t =
         let i : id ≡ sc = same_number id sc t in
-        subst (λ k. end_of (find k (entries.changed id (λ n. record n { max_x = x; max_y = y }) nodes)) ax ≤ 1048576) i
+        subst (λ k. end_of (find k (entries.with_node_changed id (λ n. record n { max_x = x; max_y = y }) nodes)) ax ≤ 1048576) i
         (subst (λ (o : Option ScrollNode). end_of o ax ≤ 1048576) (sym (find_changed id (λ n. record n { max_x = x; max_y = y }) nodes)) (ranged_short (find id nodes) x y ax a b))
 
-    other : (id == sc) ≡ false → end_of (find sc (entries.changed id (λ n. record n { max_x = x; max_y = y }) nodes)) ax ≤ 1048576
+    other : (id == sc) ≡ false → end_of (find sc (entries.with_node_changed id (λ n. record n { max_x = x; max_y = y }) nodes)) ax ≤ 1048576
     other t = subst (λ (o : Option ScrollNode). end_of o ax ≤ 1048576) (sym (find_other id sc (λ n. record n { max_x = x; max_y = y }) nodes (other_number id sc t))) l
 
-after_short : (p : Page) (c : Command) → AreShort p → test_of p c ≡ Ok tt → AreShort (after p c)
+after_short : (p : Page) (c : Command) → AreShort p → test_of p c ≡ Ok tt → AreShort (page_after_command p c)
 after_short p (command.AddScroller id parent x y) r ok =
     let l = add_range p id parent x y ok in
     λ sc ax. added_short (id == sc) (record { parent = parent; max_x = x; max_y = y }) (find sc p.props.scrollers) ax (short_node parent x y l.0 l.1 ax) (r sc ax)
@@ -85,7 +85,7 @@ after_short p _ r ok = r
 
 commanded_short : (cs : List Command) (p : Page) → AreShort p → TakesAll p cs → AreShort (commanded cs p)
 commanded_short [] p r t = r
-commanded_short (c ∷ cs) p r t = commanded_short cs (after p c) (after_short p c r t.0.passes) t.1
+commanded_short (c ∷ cs) p r t = commanded_short cs (page_after_command p c) (after_short p c r t.0.passes) t.1
 
 -- all pages of an accepted script have such ranges
 pub page_short : (s : ScriptModel) → IsAccepted s → (ps : ℕ → List Move) (n : ℕ) → AreShort (page s ps n)

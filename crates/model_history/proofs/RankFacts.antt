@@ -1,4 +1,4 @@
--- Ranks of keys: a rank is of its key, what starts is not made yet, and what is given up is ready and not pinned.
+-- Ranks of keys: a rank is of its key, what starts is not made yet, and what is evicted is ready and not pinned.
 use Rattle.std.proofs.Common.{◌≡◌, ◌⊎◌, inl, inr, Bool, true, false, cond, not, List, [], ◌∷◌, filter, filter_map, find, option_map, Option, Some, None, refl, sym, ◌∙◌, ap, subst}
 use Rattle.std.specs.List.{cons_option}
 use Rattle.std.specs.declared.cmp.Ordering.{Ordering}
@@ -15,7 +15,7 @@ use Rattle.tile_priority.specs.Ordered.{In}
 use Rattle.tile_priority.specs.Bins.{bin_of, rank_of, tree_number}
 use Rattle.tile_priority.specs.Ranks.{rank_cmp, least, at_order}
 use Rattle.tile_priority.specs.Tiles.{Tile, IsRankOfKey}
-use Rattle.tile_priority.specs.Choice.{victim_key, victim_by, victim_of, evicted, is_worse}
+use Rattle.tile_priority.specs.Choice.{evictable_key, evictable_by, evictable_of, evicted, is_worse}
 use Rattle.tile_priority.proofs.InOrder.{in_filter, in_map}
 use Rattle.tile_priority.proofs.Choosing.{first_is_one, evicted_give_way}
 use Rattle.page_layers.specs.Layers.{PageLayer, has_id}
@@ -24,7 +24,7 @@ use Rattle.model_history.specs.Scripts.{ScriptModel}
 use Rattle.tile_visible.specs.Visible.{seen}
 use Rattle.geom.specs.KeyLists.{has_key}
 use Rattle.model_history.specs.Tiles.{Tree, active_tree, pending_tree, keys_of, live_keys, ready, in_flight, pinned}
-use Rattle.model_history.specs.Ranking.{borders, place_named, rank_on, rank_in, rank, is_unmade, ready_tile, choice, first, evicted_for}
+use Rattle.model_history.specs.Ranking.{borders, place_named, rank_on, rank_in, rank, is_unmade, ready_tile, choice, rank_to_start, evicted_for}
 use Rattle.model_history.proofs.BoolFacts.{and_left, and_right, not_true}
 use Rattle.model_history.proofs.KeyFacts.{has_in, in_has}
 
@@ -88,7 +88,7 @@ pub record IsUnmade (s : ScriptModel) (h : List Entry) (q : TileKey) : Type 0 wh
   pub not_ready : has_key (ready s h) q ≡ false
   pub not_in_flight : has_key (in_flight h) q ≡ false
 
-pub first_unmade : (s : ScriptModel) (h : List Entry) (r : Rank) → first s h ≡ Some r → IsUnmade s h r.key
+pub first_unmade : (s : ScriptModel) (h : List Entry) (r : Rank) → rank_to_start s h ≡ Some r → IsUnmade s h r.key
 first_unmade s h r e =
     let f = first_is_one.there (choice s h) r e in
     let (q, i, o) = in_filter_map (rank s h) r (filter (is_unmade s h) (live_keys s h)) f.wanted in
@@ -101,11 +101,11 @@ first_unmade s h r e =
     } in
     subst (IsUnmade s h) (sym k) l
 
--- what is given up for it is ready and not pinned
+-- what is evicted for it is ready and not pinned
 
-pub key_of_victim : (k : TileKey) (o : Option Rank) → IsRankOfKey k o → victim_key (victim_by k o) ≡ k
-key_of_victim k None i = refl
-key_of_victim k (Some r) i = i
+pub key_of_evictable : (k : TileKey) (o : Option Rank) → IsRankOfKey k o → evictable_key (evictable_by k o) ≡ k
+key_of_evictable k None i = refl
+key_of_evictable k (Some r) i = i
 
 pub record MayGo (s : ScriptModel) (h : List Entry) (q : TileKey) : Type 0 where
   pub is_ready : has_key (ready s h) q ≡ true
@@ -113,10 +113,10 @@ pub record MayGo (s : ScriptModel) (h : List Entry) (q : TileKey) : Type 0 where
 
 pub evicted_may_go : (s : ScriptModel) (h : List Entry) (r : Rank) (q : TileKey) → has_key (evicted_for s h r) q ≡ true → MayGo s h q
 evicted_may_go s h r q t =
-    let (v, i, e) = in_map victim_key q (evicted (choice s h) r) (in_has (evicted_for s h r) q t) in
+    let (v, i, e) = in_map evictable_key q (evicted (choice s h) r) (in_has (evicted_for s h r) q t) in
     let (tile, j, w, g) = evicted_give_way.ready (choice s h) r v i in
     let (k, l, u) = in_map (ready_tile s h) tile (ready s h) j in
-    let key : k ≡ q = sym (key_of_victim k (rank s h k) (rank_key s h k)) ∙ (ap (λ (z : Tile). victim_key (victim_of z)) u ∙ (ap victim_key w ∙ e)) in
+    let key : k ≡ q = sym (key_of_evictable k (rank s h k) (rank_key s h k)) ∙ (ap (λ (z : Tile). evictable_key (evictable_of z)) u ∙ (ap evictable_key w ∙ e)) in
     let pin : tile.pinned ≡ false = not_true tile.pinned (and_left (not tile.pinned) (is_worse tile.rank r.bin) g) in
     let m : MayGo s h k = record { is_ready = has_in (ready s h) k l; not_pinned = ap (λ (z : Tile). z.pinned) u ∙ pin } in
     subst (MayGo s h) key m

@@ -20,7 +20,7 @@ use Rattle.model_history.specs.Values.{values}
 use Rattle.tile_visible.specs.Visible.{visible_keys}
 use Rattle.model_history.specs.Stamps.{stamp_in}
 use Rattle.geom.specs.KeyLists.{same_key, has_key}
-use Rattle.model_history.specs.Tiles.{visible_in, active_tree, ready, required, pinned, missing}
+use Rattle.model_history.specs.Tiles.{visible_in, active_tree, ready, required, pinned, missing_visible}
 use Rattle.model_history.specs.Legal.{Next, Legal}
 use Rattle.model_history.specs.FrameLaws.{AtEach}
 use Rattle.model_history.specs.TileLaws.{lacking, is_at_rest}
@@ -56,8 +56,8 @@ visible_alike s ps qs n at to f g =
 
 -- where a scroller stands: all events but scrolls, wheels and activations leave it there
 
-settled_too : (a d m : ℤ) → (a +ℤ m) +ℤ (d -ℤ m) ≡ a +ℤ d
-settled_too a d m = omega (arith, ints)
+retired_too : (a d m : ℤ) → (a +ℤ m) +ℤ (d -ℤ m) ≡ a +ℤ d
+retired_too a d m = omega (arith, ints)
 
 offset_stays : (s : ScriptModel) (n : ℕ) (h : List Entry) (e : Entry) (sc : ℕ) (ax : Axis) → Legal s n (e ∷ h)
     → table.active_value (values s sc ax (e ∷ h)) ≡ table.active_value (values s sc ax h) → offset s (e ∷ h) sc ax ≡ offset s h sc ax
@@ -103,7 +103,7 @@ one_step s n h a (event.Commit k) l c t =
     visible_stays s n h a (event.Commit k) l (λ sc ax. offset_stays s n h (entry a (event.Commit k)) sc ax l refl) ∙ c t
 one_step s n h a (event.Abort k) l c t =
     visible_stays s n h a (event.Abort k) l (λ sc ax. offset_stays s n h (entry a (event.Abort k)) sc ax l
-    (settled_too (values s sc ax h).active_base (values s sc ax h).active_delta (values s sc ax h).reflected_main)) ∙ c t
+    (retired_too (values s sc ax h).active_base (values s sc ax h).active_delta (values s sc ax h).reflected_main)) ∙ c t
 one_step s n h a (event.Activate k ms) l c t = visible_activated s n h a k ms l
 one_step s n h a (event.Scroll i dx dy) l c t = cc
 one_step s n h a (event.Wheel i layer rest_x rest_y ms) l c t = cc
@@ -121,7 +121,7 @@ all_left_out f (k ∷ ks) g =
     ap (λ b. cond b (k ∷ filter f ks) (filter f ks)) (g k (or_left (same_key k k) (has_key ks k) (key_itself k)))
     ∙ all_left_out f ks (λ q t. g q (or_right (same_key k q) (has_key ks q) t))
 
-pub nothing_missing : (s : ScriptModel) (n : ℕ) (h : List Entry) → Legal s n h → is_at_rest h ≡ true → missing s h ≡ []
+pub nothing_missing : (s : ScriptModel) (n : ℕ) (h : List Entry) → Legal s n h → is_at_rest h ≡ true → missing_visible s h ≡ []
 nothing_missing s n h l t =
     all_left_out (λ q. not (has_key (ready s h) q)) (visible_in (active_tree s h))
     (λ q u. ap not (pinned_ready s n h l q (ap (λ ks. has_key ks q) (sym (visible_at_rest s n h l t)) ∙ u)))

@@ -1,6 +1,6 @@
 -- The moves that sends and activations list stand by rising scroller, each once, and none is (0, 0).
 use Rattle.std.proofs.Common.{ℕ, ◌≡◌, zero, suc, ◌<◌, ◌==◌, nat_lt, Bool, true, false, not, cond, List, [], ◌∷◌, Ok, refl, sym, ◌∙◌, subst}
-use Rattle.page_properties.specs.Entries.{ids, put_id, rising, knows, is_known, AreDistinct}
+use Rattle.page_properties.specs.Entries.{ids, put_id, rising, knows, is_known, AreDistinctIds}
 use Rattle.page_properties.specs.Entries as entries
 use Rattle.page_layers.specs.declared.fault.EditFault.TheVariants as fault
 use Rattle.page_layers.specs.declared.command.Command.{Command}
@@ -8,7 +8,7 @@ use Rattle.page_layers.specs.declared.command.Command.TheVariants as command
 use Rattle.page_layers.specs.Tests.{require}
 use Rattle.page_layers.specs.Refusals.{takes, test_of, add_scroller_test}
 use Rattle.page_layers.specs.Pages.{Page}
-use Rattle.page_layers.specs.Effects.{after, scrolled_by}
+use Rattle.page_layers.specs.Effects.{page_after_command, scrolled_by}
 use Rattle.page_layers.proofs.TestFacts.{passed, held, is_not}
 use Rattle.model_history.specs.declared.event.Event.{Event}
 use Rattle.model_history.specs.declared.event.Event.TheVariants as event
@@ -18,7 +18,7 @@ use Rattle.model_history.specs.Scripts.{ScriptModel}
 use Rattle.model_history.specs.EventFields.{pulls, moves}
 use Rattle.page_layers.specs.Axes.{named_in}
 use Rattle.page_layers.specs.Scrollers.{scrollers}
-use Rattle.model_history.specs.Frames.{commands_of, pulled, commanded, page, page_before, pulls_of, pending, up_to, pending_page}
+use Rattle.model_history.specs.Frames.{commands_of, page_after_pulls, commanded, page, page_before, pulls_of, pending, up_to, pending_page}
 use Rattle.model_history.specs.Scrolls.{scrollers_moved, unsent, next_pulls, clamp_move, next_clamps}
 use Rattle.model_history.specs.ScrollLaws.{clamps, AreRising}
 use Rattle.model_history.specs.FrameLaws.{AtEach}
@@ -58,17 +58,17 @@ rising_put id (x ∷ xs) n r = go (nat_lt x id) refl (rising_put id xs (or_right
     go true e rest = (above_put x id xs (below_of x id e) r.0, rest)
     go false e rest = let l = above_of x id e (or_left_false (x == id) (has xs id) n) in ((l, numbers_lower id x xs l r.0), r)
 
-rising_ids : {N : Type 0} (nodes : List (ℕ × N)) → AreDistinct nodes → AreRisingNumbers (rising (ids nodes))
+rising_ids : {N : Type 0} (nodes : List (ℕ × N)) → AreDistinctIds nodes → AreRisingNumbers (rising (ids nodes))
 rising_ids [] d = tt
 rising_ids (e ∷ older) d = rising_put e.0 (rising (ids older)) (has_rising e.0 (ids older) ∙ (has_ids e.0 older ∙ d.0)) (rising_ids older d.1)
 
 -- the ids of a page's scrollers are distinct
 
-distinct_changed : {N : Type 0} (id : ℕ) (f : N → N) (nodes : List (ℕ × N)) → AreDistinct nodes → AreDistinct (entries.changed id f nodes)
+distinct_changed : {N : Type 0} (id : ℕ) (f : N → N) (nodes : List (ℕ × N)) → AreDistinctIds nodes → AreDistinctIds (entries.with_node_changed id f nodes)
 distinct_changed id f [] d = tt
 distinct_changed id f (e ∷ older) d = go (e.0 == id) (distinct_changed id f older d.1)
   where
-    go : (b : Bool) → AreDistinct (entries.changed id f older) → AreDistinct (cond b ((e.0, f e.1) ∷ older) (e ∷ entries.changed id f older))
+    go : (b : Bool) → AreDistinctIds (entries.with_node_changed id f older) → AreDistinctIds (cond b ((e.0, f e.1) ∷ older) (e ∷ entries.with_node_changed id f older))
     go true rest = d
     go false rest = (knows_changed id e.0 f older ∙ d.0, rest)
 
@@ -81,22 +81,22 @@ fresh_id p id parent x y ok =
     is_not (knows id p.props.scrollers) (held (not (knows id p.props.scrollers)) fault.IdUsed fresh.1)
 
 abbrev HasDistinct : Page → Type 0
-HasDistinct p = AreDistinct p.props.scrollers
+HasDistinct p = AreDistinctIds p.props.scrollers
 
-after_distinct : (p : Page) (c : Command) → HasDistinct p → test_of p c ≡ Ok tt → HasDistinct (after p c)
+after_distinct : (p : Page) (c : Command) → HasDistinct p → test_of p c ≡ Ok tt → HasDistinct (page_after_command p c)
 after_distinct p (command.AddScroller id parent x y) d ok = (fresh_id p id parent x y ok, d)
 after_distinct p (command.SetRange id x y) d ok = distinct_changed id (λ n. record n { max_x = x; max_y = y }) p.props.scrollers d
 after_distinct p _ d ok = d
 
 commanded_distinct : (cs : List Command) (p : Page) → HasDistinct p → TakesAll p cs → HasDistinct (commanded cs p)
 commanded_distinct [] p d t = d
-commanded_distinct (c ∷ cs) p d t = commanded_distinct cs (after p c) (after_distinct p c d t.0.passes) t.1
+commanded_distinct (c ∷ cs) p d t = commanded_distinct cs (page_after_command p c) (after_distinct p c d t.0.passes) t.1
 
-pulled_distinct : (ms : List Move) (p : Page) → HasDistinct p → HasDistinct (pulled ms p)
+pulled_distinct : (ms : List Move) (p : Page) → HasDistinct p → HasDistinct (page_after_pulls ms p)
 pulled_distinct [] p d = d
 pulled_distinct (m ∷ ms) p d = pulled_distinct ms (scrolled_by p m.scroller m.dx m.dy) d
 
-pub page_distinct : (s : ScriptModel) → IsAccepted s → (ps : ℕ → List Move) (n : ℕ) → AreDistinct (page s ps n).props.scrollers
+pub page_distinct : (s : ScriptModel) → IsAccepted s → (ps : ℕ → List Move) (n : ℕ) → AreDistinctIds (page s ps n).props.scrollers
 page_distinct s a ps zero = tt
 page_distinct s a ps (suc n) = commanded_distinct (commands_of s n) (page_before s ps n) (pulled_distinct (ps n) (page s ps n) (page_distinct s a ps n)) (takes_frame s a ps n)
 

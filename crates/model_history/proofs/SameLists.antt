@@ -6,12 +6,12 @@ use Rattle.std.proofs.lemmas.Bool.Decides.{nat_tests}
 use Rattle.std.proofs.lemmas.List.Folds.{list_any-append}
 use Rattle.geom.specs.Covers.{covers}
 use Rattle.region.specs.declared.change.LayerChange.{LayerChange}
-use Rattle.region.specs.Lists.{Changed, is_listed, is_listed_whole, has_changed, without, AreJoined}
+use Rattle.region.specs.Lists.{Changed, is_listed, is_listed_whole, has_changed, without_layer, AreJoined}
 use Rattle.region.specs.Points.{covered}
 use Rattle.page_layers.specs.declared.command.Command.{Command}
 use Rattle.page_layers.specs.declared.command.Command.TheVariants as command
 use Rattle.page_layers.specs.Pages.{Page}
-use Rattle.page_layers.specs.Effects.{Change, change_of}
+use Rattle.page_layers.specs.Effects.{Change, layer_change_of}
 use Rattle.page_layers.specs.Outcomes.{HoldsOnly}
 use Rattle.model_history.specs.Stamps.{with_later, alone, with_change, with_some, with_command}
 use Rattle.model_history.specs.SameChanges.{SameChanges}
@@ -97,7 +97,7 @@ sees_point n x y c d e =
 -- a layer less
 
 any_without : (f : LayerChange → Bool) (n id : ℕ) → ((d : LayerChange) → f d ≡ true → d.layer ≡ n) → (ds : List LayerChange)
-    → list_any f (without id ds) ≡ (not (nat_eq n id) && list_any f ds)
+    → list_any f (without_layer id ds) ≡ (not (nat_eq n id) && list_any f ds)
 any_without f n id own [] = nothing (not (nat_eq n id))
   where
     nothing : (b : Bool) → false ≡ b && false
@@ -114,7 +114,7 @@ any_without f n id own (d ∷ ds) = go (f d) refl (not (nat_eq d.layer id)) refl
     full true = refl
     full false = refl
 
-    any_cond : (a : Bool) → list_any f (cond a (d ∷ without id ds) (without id ds)) ≡ cond a (f d || list_any f (without id ds)) (list_any f (without id ds))
+    any_cond : (a : Bool) → list_any f (cond a (d ∷ without_layer id ds) (without_layer id ds)) ≡ cond a (f d || list_any f (without_layer id ds)) (list_any f (without_layer id ds))
     any_cond true = refl
     any_cond false = refl
 
@@ -122,16 +122,16 @@ any_without f n id own (d ∷ ds) = go (f d) refl (not (nat_eq d.layer id)) refl
     same_cond true w = refl
     same_cond false w = refl
 
-    go : (x : Bool) → f d ≡ x → (a : Bool) → not (nat_eq d.layer id) ≡ a → list_any f (without id ds) ≡ (not (nat_eq n id) && list_any f ds)
-        → list_any f (cond a (d ∷ without id ds) (without id ds)) ≡ (not (nat_eq n id) && (f d || list_any f ds))
+    go : (x : Bool) → f d ≡ x → (a : Bool) → not (nat_eq d.layer id) ≡ a → list_any f (without_layer id ds) ≡ (not (nat_eq n id) && list_any f ds)
+        → list_any f (cond a (d ∷ without_layer id ds) (without_layer id ds)) ≡ (not (nat_eq n id) && (f d || list_any f ds))
     go true e a h rest =
         let k : a ≡ not (nat_eq n id) = sym h ∙ ap (λ m. not (nat_eq m id)) (own d e) in
-        any_cond a ∙ (ap (λ b. cond a (b || list_any f (without id ds)) (list_any f (without id ds))) e
-        ∙ (kept a (not (nat_eq n id)) (list_any f ds) k (list_any f (without id ds)) rest
+        any_cond a ∙ (ap (λ b. cond a (b || list_any f (without_layer id ds)) (list_any f (without_layer id ds))) e
+        ∙ (kept a (not (nat_eq n id)) (list_any f ds) k (list_any f (without_layer id ds)) rest
         ∙ (full (not (nat_eq n id)) ∙ ap (λ b. not (nat_eq n id) && (b || list_any f ds)) (sym e))))
     go false e a h rest =
-        any_cond a ∙ (ap (λ b. cond a (b || list_any f (without id ds)) (list_any f (without id ds))) e
-        ∙ (same_cond a (list_any f (without id ds)) ∙ (rest ∙ ap (λ b. not (nat_eq n id) && (b || list_any f ds)) (sym e))))
+        any_cond a ∙ (ap (λ b. cond a (b || list_any f (without_layer id ds)) (list_any f (without_layer id ds))) e
+        ∙ (same_cond a (list_any f (without_layer id ds)) ∙ (rest ∙ ap (λ b. not (nat_eq n id) && (b || list_any f ds)) (sym e))))
 
 left_of : (a b : Bool) → a && b ≡ true → a ≡ true
 left_of true b h = refl
@@ -145,7 +145,7 @@ own_layer n d e = grind (arith, nat_tests, e)
 abbrev pub SameList : List LayerChange → List LayerChange → Type 0
 SameList cs ds = ((n : ℕ) → is_listed cs n ≡ is_listed ds n) × ((n : ℕ) → is_listed_whole cs n ≡ is_listed_whole ds n) × ((n : ℕ) (x y : ℤ) → has_changed cs n x y ≡ has_changed ds n x y)
 
-same_without : (id : ℕ) (cs ds : List LayerChange) → SameList cs ds → SameList (without id cs) (without id ds)
+same_without : (id : ℕ) (cs ds : List LayerChange) → SameList cs ds → SameList (without_layer id cs) (without_layer id ds)
 same_without id cs ds s = (
   λ n. less (names_layer n) n (λ d e. own_layer n d e) (λ fs. listed_any n fs) (s.0 n),
   λ n. less (names_whole n) n (λ d e. own_layer n d (left_of (nat_eq d.layer n) d.whole e)) (λ fs. whole_any n fs) (s.1 n),
@@ -153,9 +153,9 @@ same_without id cs ds s = (
 )
   where
     less : {g : List LayerChange → Bool} (f : LayerChange → Bool) (n : ℕ) → ((d : LayerChange) → f d ≡ true → d.layer ≡ n) → ((fs : List LayerChange) → g fs ≡ list_any f fs) → g cs ≡ g ds
-        → g (without id cs) ≡ g (without id ds)
+        → g (without_layer id cs) ≡ g (without_layer id ds)
     less f n own is e =
-        is (without id cs) ∙ (any_without f n id own cs ∙ (ap (λ b. not (nat_eq n id) && b) (sym (is cs) ∙ (e ∙ is ds)) ∙ (sym (any_without f n id own ds) ∙ sym (is (without id ds)))))
+        is (without_layer id cs) ∙ (any_without f n id own cs ∙ (ap (λ b. not (nat_eq n id) && b) (sym (is cs) ∙ (e ∙ is ds)) ∙ (sym (any_without f n id own ds) ∙ sym (is (without_layer id ds)))))
 
 -- with nothing more
 or_nothing : (a b : Bool) → a ≡ b || false → a ≡ b
@@ -199,7 +199,7 @@ same_list : (c d : Changed) → SameChanges c d → SameList c.list d.list
 same_list c d s = (s.listed, s.whole, s.points)
 
 -- a command that removes no layer
-listed_with : (p : Page) (c : Command) (ds : List LayerChange) → ((id : ℕ) → c ≡ command.RemoveLayer id → ⊥) → with_command p c ds ≡ with_some (change_of p c) ds
+listed_with : (p : Page) (c : Command) (ds : List LayerChange) → ((id : ℕ) → c ≡ command.RemoveLayer id → ⊥) → with_command p c ds ≡ with_some (layer_change_of p c) ds
 listed_with p (command.RemoveLayer id) ds out = absurd (out id refl)
 listed_with p (command.AddTransform id parent x y scroller) ds out = refl
 listed_with p _ ds out = refl
@@ -209,10 +209,10 @@ or_false true = refl
 or_false false = refl
 
 -- what a command lists is noted
-pub noted_removal : (id : ℕ) (listed old new : Changed) → new ≡ record old { list = without id old.list } → Noted (command.RemoveLayer id) listed old new
+pub noted_removal : (id : ℕ) (listed old new : Changed) → new ≡ record old { list = without_layer id old.list } → Noted (command.RemoveLayer id) listed old new
 noted_removal id listed old new is p done lists same =
-    let list : new.list ≡ without id old.list = ap (λ (c : Changed). c.list) is in
-    let kept : SameList (without id old.list) (without id done.list) = same_without id old.list done.list (same_list old done same) in
+    let list : new.list ≡ without_layer id old.list = ap (λ (c : Changed). c.list) is in
+    let kept : SameList (without_layer id old.list) (without_layer id done.list) = same_without id old.list done.list (same_list old done same) in
     record {
       listed = λ n. ap (λ (ds : List LayerChange). is_listed ds n) list ∙ kept.0 n;
       whole = λ n. ap (λ (ds : List LayerChange). is_listed_whole ds n) list ∙ kept.1 n;
@@ -222,8 +222,8 @@ noted_removal id listed old new is p done lists same =
 
 noted_joined : (c : Command) (listed old new : Changed) → ((id : ℕ) → c ≡ command.RemoveLayer id → ⊥) → AreJoined old.list listed.list new.list → new.retiled ≡ (old.retiled || listed.retiled) → Noted c listed old new
 noted_joined c listed old new out joined tiles p done lists same =
-    let list : with_command p c done.list ≡ with_some (change_of p c) done.list = listed_with p c done.list out in
-    let all : SameList new.list (with_some (change_of p c) done.list) = same_some (change_of p c) listed.list old.list new.list done.list lists.holds joined (same_list old done same) in
+    let list : with_command p c done.list ≡ with_some (layer_change_of p c) done.list = listed_with p c done.list out in
+    let all : SameList new.list (with_some (layer_change_of p c) done.list) = same_some (layer_change_of p c) listed.list old.list new.list done.list lists.holds joined (same_list old done same) in
     record {
       listed = λ n. all.0 n ∙ ap (λ (ds : List LayerChange). is_listed ds n) (sym list);
       whole = λ n. all.1 n ∙ ap (λ (ds : List LayerChange). is_listed_whole ds n) (sym list);

@@ -6,7 +6,7 @@ use Rattle.pixel.specs.Colours.{is_colour}
 use Rattle.page_layers.specs.declared.command.Command.{Command}
 use Rattle.page_layers.specs.Pages.{Page, IsView}
 use Rattle.page_layers.specs.Sound.{IsPage}
-use Rattle.page_layers.specs.Effects.{after}
+use Rattle.page_layers.specs.Effects.{page_after_command}
 use Rattle.page_layers.specs.Outcomes.{Accepts}
 use Rattle.page_layers.proofs.AfterKeeps.{after-keeps, empty-page}
 use Rattle.model_history.specs.Scripts.{ScriptModel}
@@ -68,12 +68,12 @@ ahead_is zero m = omega arith
 ahead_is (suc d) m = let e = ahead_is d m in omega (arith, e)
 
 -- a page after a command that it takes
-pub page_after : (p : Page) (c : Command) → IsPage p → Accepts p c → IsPage (after p c)
+pub page_after : (p : Page) (c : Command) → IsPage p → Accepts p c → IsPage (page_after_command p c)
 page_after p c is ok = after-keeps p c is ok.passes (λ m. ok.together)
 
 pub page_commanded : (cs : List Command) (p : Page) → IsPage p → TakesAll p cs → IsPage (commanded cs p)
 page_commanded [] p is t = is
-page_commanded (c ∷ cs) p is t = page_commanded cs (after p c) (page_after p c is t.0) t.1
+page_commanded (c ∷ cs) p is t = page_commanded cs (page_after_command p c) (page_after p c is t.0) t.1
 
 -- a page of a script without pulls
 abbrev pub plain : ScriptModel → ℕ → Page

@@ -6,8 +6,8 @@ use Rattle.model_history.specs.declared.event.Event.TheVariants as event
 use Rattle.model_history.specs.declared.history.Entry.{Entry}
 use Rattle.model_history.specs.Scripts.{ScriptModel}
 use Rattle.model_history.specs.Scans.{held}
-use Rattle.geom.specs.KeyLists.{same_key, has_key, AreDistinct}
-use Rattle.model_history.specs.Tiles.{without, live_keys, made, in_flight, ready}
+use Rattle.geom.specs.KeyLists.{same_key, has_key, AreDistinctKeys}
+use Rattle.model_history.specs.Tiles.{without_keys, live_keys, made_so_far, in_flight, ready}
 use Rattle.model_history.specs.Legal.{Next, Legal}
 use Rattle.model_history.proofs.BoolFacts.{not_both, is_false, and_left, and_right, and_both, or_either, or_left, or_right, same_number, other_number, is_same, is_other, not_true}
 use Rattle.model_history.proofs.DueFacts.{entry, at_start, at_done}
@@ -16,18 +16,18 @@ use Rattle.model_history.proofs.RankFacts.{first_unmade}
 
 -- the keys that are made, those in flight, and what each worker holds
 pub record TilesOf (done flying : List TileKey) (holds : ℕ → Option TileKey) : Type 0 where
-  pub made_once : AreDistinct done
-  pub in_flight_once : AreDistinct flying
+  pub made_once : AreDistinctKeys done
+  pub in_flight_once : AreDistinctKeys flying
   pub apart : (q : TileKey) → has_key flying q ≡ true → has_key done q ≡ false
   pub held_in_flight : (w : ℕ) (q : TileKey) → holds w ≡ Some q → has_key flying q ≡ true
   pub in_flight_held : (q : TileKey) → has_key flying q ≡ true → (w : ℕ) × (holds w ≡ Some q)
   pub one_holder : (v w : ℕ) (q : TileKey) → holds v ≡ Some q → holds w ≡ Some q → v ≡ w
 
 abbrev pub TileCourse : List Entry → Type 0
-TileCourse h = TilesOf (made h) (in_flight h) (λ w. held w h)
+TileCourse h = TilesOf (made_so_far h) (in_flight h) (λ w. held w h)
 
 -- a key of some taken from others is one of these
-fewer : (ks qs : List TileKey) (q : TileKey) → has_key ks q ≡ false → has_key (without ks qs) q ≡ false
+fewer : (ks qs : List TileKey) (q : TileKey) → has_key ks q ≡ false → has_key (without_keys ks qs) q ≡ false
 fewer ks qs q h = has_without ks qs q ∙ ap (λ b. b && not (has_key qs q)) h
 
 -- a key before others
@@ -47,7 +47,7 @@ has_later k ks q t = or_right (same_key k q) (has_key ks q) t
 module _ {done flying : List TileKey} {holds : ℕ → Option TileKey} where
   -- a worker starts a key that is neither made nor in flight
   start_step : TilesOf done flying holds → (w : ℕ) (q : TileKey) (evicted : List TileKey) → holds w ≡ None → has_key done q ≡ false → has_key flying q ≡ false
-      → TilesOf (without done evicted) (q ∷ flying) (λ v. cond (w == v) (Some q) (holds v))
+      → TilesOf (without_keys done evicted) (q ∷ flying) (λ v. cond (w == v) (Some q) (holds v))
   start_step c w q evicted idle new unstarted = record {
     made_once = distinct_without done evicted c.made_once;
     in_flight_once = (unstarted, c.in_flight_once);
@@ -83,7 +83,7 @@ module _ {done flying : List TileKey} {holds : ℕ → Option TileKey} where
 
   -- a worker is done with the key that it holds
   done_step : TilesOf done flying holds → (w : ℕ) (q : TileKey) → holds w ≡ Some q
-      → TilesOf (q ∷ done) (without flying (q ∷ [])) (λ v. cond (w == v) None (holds v))
+      → TilesOf (q ∷ done) (without_keys flying (q ∷ [])) (λ v. cond (w == v) None (holds v))
   done_step c w q e = record {
     made_once = (c.apart q (c.held_in_flight w q e), c.made_once);
     in_flight_once = distinct_without flying (q ∷ []) c.in_flight_once;
@@ -93,7 +93,7 @@ module _ {done flying : List TileKey} {holds : ℕ → Option TileKey} where
     one_holder = λ u v p f g. same_worker u v p (w == u) (w == v) f g;
   }
     where
-      left : (p : TileKey) → has_key (without flying (q ∷ [])) p ≡ true → (has_key flying p ≡ true) × (q ≡ p → ⊥)
+      left : (p : TileKey) → has_key (without_keys flying (q ∷ [])) p ≡ true → (has_key flying p ≡ true) × (q ≡ p → ⊥)
       left p t =
           let s = sym (has_without flying (q ∷ []) p) ∙ t in (
             and_left (has_key flying p) (not (has_key (q ∷ []) p)) s,
@@ -107,7 +107,7 @@ module _ {done flying : List TileKey} {holds : ℕ → Option TileKey} where
       other_worker : (v : ℕ) (p : TileKey) → (q ≡ p → ⊥) → holds v ≡ Some p → (w == v) ≡ false
       other_worker v p n f = is_other w v (λ (i : w ≡ v). n (let g : holds v ≡ Some q = ap holds (sym i) ∙ e in cc))
 
-      by_worker : (v : ℕ) (p : TileKey) (b : Bool) → (w == v) ≡ b → cond b None (holds v) ≡ Some p → has_key (without flying (q ∷ [])) p ≡ true
+      by_worker : (v : ℕ) (p : TileKey) (b : Bool) → (w == v) ≡ b → cond b None (holds v) ≡ Some p → has_key (without_keys flying (q ∷ [])) p ≡ true
       by_worker v p true i f = absurd cc
       by_worker v p false i f =
           let n : has_key (q ∷ []) p ≡ false = is_false (has_key (q ∷ []) p) (λ t. other_number w v i (c.one_holder w v p (e ∙ ap Some (has_one q p t)) f)) in
@@ -119,17 +119,17 @@ module _ {done flying : List TileKey} {holds : ℕ → Option TileKey} where
       same_worker u v p false true f g = absurd cc
 
 -- what starts is not made: it is live, and not ready
-starts_unmade : (s : ScriptModel) (h : List Entry) (q : TileKey) → has_key (live_keys s h) q ≡ true → has_key (ready s h) q ≡ false → has_key (made h) q ≡ false
+starts_unmade : (s : ScriptModel) (h : List Entry) (q : TileKey) → has_key (live_keys s h) q ≡ true → has_key (ready s h) q ≡ false → has_key (made_so_far h) q ≡ false
 starts_unmade s h q l r =
-    is_false (has_key (made h) q) (λ m. not_both (has_key (ready s h) q)
-    (has_filter (has_key (live_keys s h)) (made h) q ∙ and_both (has_key (made h) q) (has_key (live_keys s h) q) m l) r)
+    is_false (has_key (made_so_far h) q) (λ m. not_both (has_key (ready s h) q)
+    (has_filter (has_key (live_keys s h)) (made_so_far h) q ∙ and_both (has_key (made_so_far h) q) (has_key (live_keys s h) q) m l) r)
 
 one_step : (s : ScriptModel) (n : ℕ) (h : List Entry) (a : ℕ) (e : Event) → TileCourse h → Next s n h (entry a e) → TileCourse (entry a e ∷ h)
 one_step s n h a (event.Start w q evicted) c x =
     let d = at_start s n h a w q evicted x in
     let u = first_unmade s h d.rank d.is_first in
     let k : d.rank.key ≡ q = sym d.key in
-    let fresh : has_key (made h) q ≡ false = ap (has_key (made h)) (sym k) ∙ starts_unmade s h d.rank.key u.live u.not_ready in
+    let fresh : has_key (made_so_far h) q ≡ false = ap (has_key (made_so_far h)) (sym k) ∙ starts_unmade s h d.rank.key u.live u.not_ready in
     let unstarted : has_key (in_flight h) q ≡ false = ap (has_key (in_flight h)) (sym k) ∙ u.not_in_flight in
     start_step c w q evicted d.idle fresh unstarted
 one_step s n h a (event.DoneTile w q) c x = done_step c w q (at_done s n h a w q x)

@@ -6,12 +6,12 @@ use Rattle.model_scroll_values.specs.Table as table
 use Rattle.page_layers.specs.Scrolls.{clamp_to, IsInRange}
 use Rattle.model_history.specs.declared.history.Entry.{Entry}
 use Rattle.model_history.specs.Scripts.{ScriptModel}
-use Rattle.model_history.specs.EventFields.{settles}
+use Rattle.model_history.specs.EventFields.{retires}
 use Rattle.model_history.specs.Scans.{names, was_named}
 use Rattle.page_layers.specs.Axes.{Axis}
 use Rattle.page_layers.specs.Scrollers.{most}
 use Rattle.model_history.specs.Frames.{pulls_of, active, pending, up_to, active_page, pending_page}
-use Rattle.model_history.specs.Scrolls.{delta_of, delta, offset, offset_then, pending_base, pending_offset, clobbers, settled_then, unsent}
+use Rattle.model_history.specs.Scrolls.{delta_of, delta, offset, offset_then, pending_base, pending_offset, clobbers, retired_then, unsent}
 use Rattle.model_history.specs.Values.{values}
 use Rattle.model_history.specs.ScrollLaws.{carried_by, frame_in_flight}
 use Rattle.model_history.specs.Accepted.{IsAccepted}
@@ -34,7 +34,7 @@ by_pending : (s : ScriptModel) (n : ℕ) (h : List Entry) (sc : ℕ) (ax : Axis)
 by_pending s n h sc ax None l e =
     let v : Synced = values s sc ax h in
     let m : Sums s sc ax h = sums s n sc ax h l in
-    let d : delta_of s h (settled_then h) sc ax ≡ delta s h sc ax = ap (λ w. delta_of s h (λ k. names w k || was_named settles h k) sc ax) e in
+    let d : delta_of s h (retired_then h) sc ax ≡ delta s h sc ax = ap (λ w. delta_of s h (λ k. names w k || was_named retires h k) sc ax) e in
     let p : v.reflected_pending ≡ pos 0 = m.reflected_pending ∙ ap (λ w. carried_by s h w sc ax) e in
     (λ i. sym m.pending_base i +ℤ (d ∙ sym m.active_delta) i) ∙ no_part v.pending_base v.active_delta v.reflected_pending p
 by_pending s n h sc ax (Some k) l e =

@@ -9,12 +9,12 @@ use Rattle.model_history.specs.declared.event.Event.TheVariants as event
 use Rattle.page_layers.specs.declared.moves.Move.{Move}
 use Rattle.model_history.specs.declared.history.Entry.{Entry}
 use Rattle.model_history.specs.Scripts.{ScriptModel}
-use Rattle.model_history.specs.EventFields.{sends, commits, aborts, activates, settles, moves}
+use Rattle.model_history.specs.EventFields.{sends, commits, aborts, activates, retires, moves}
 use Rattle.model_history.specs.Scans.{names, was_named, counted}
 use Rattle.page_layers.specs.Axes.{Axis, across, down, amount_in}
 use Rattle.page_layers.specs.Scrollers.{main_value}
 use Rattle.model_history.specs.Frames.{blank, page, main_move, pulls_of, active, pending, up_to}
-use Rattle.model_history.specs.Scrolls.{added, moved, main_moves, in_base, in_delta, by_send, base_of, base, delta, active_then, settled_then, pending_base, unsent, carried}
+use Rattle.model_history.specs.Scrolls.{plus_counted, sum_of_moves, main_moves, in_base, in_delta, by_send, base_of, base, delta, active_then, retired_then, pending_base, unsent, carried}
 use Rattle.model_history.specs.Values.{values}
 use Rattle.model_history.specs.ScrollLaws.{frame_in_flight, carried_by, AreSums}
 use Rattle.model_history.specs.Legal.{sched, Next, Legal}
@@ -25,8 +25,8 @@ use Rattle.model_history.proofs.PageFacts.{page_alike}
 use Rattle.model_history.proofs.FrameFacts.{no_main_move, active_sent, active_then_sent}
 use Rattle.model_history.proofs.MoveLists.{or_swap}
 use Rattle.model_history.proofs.Sums.{added_is, added_not}
-use Rattle.model_history.proofs.FrameSums.{main_moves_alike, main_moves_stop, main_value_after, settled_base, settled_delta, sent_base, sent_delta, sent_unsent, sent_carried, sent_others}
-use Rattle.model_history.proofs.PastFacts.{not_settled, later_not_settled, pending_not_settled, pending_within, none_in_flight, InFlight, in_flight, amount_pulled}
+use Rattle.model_history.proofs.FrameSums.{main_moves_alike, main_moves_stop, main_value_after, retired_base, retired_delta, sent_base, sent_delta, sent_unsent, sent_carried, sent_others}
+use Rattle.model_history.proofs.PastFacts.{not_retired, later_not_retired, pending_not_retired, pending_within, none_in_flight, InFlight, in_flight, amount_pulled}
 
 -- how many frames have ended: those before the one in flight, or all that were sent
 abbrev pub ended_to : Option ℕ → ℕ → ℕ
@@ -54,8 +54,8 @@ Sums s sc ax h = SumsOf (values s sc ax h) (base s h sc ax) (delta s h sc ax) (p
     (λ k. amount_in sc ax (pulls_of h k)) (λ k. carried s h k sc ax) (was_named sends h)
 
 -- the frames that have settled, and the pending one
-abbrev settled_with : Option ℕ → (ℕ → Bool) → ℕ → Bool
-settled_with o f k = names o k || f k
+abbrev retired_with : Option ℕ → (ℕ → Bool) → ℕ → Bool
+retired_with o f k = names o k || f k
 
 -- arithmetic
 
@@ -73,12 +73,12 @@ added_parts x u m p = omega (arith, ints)
 send_case : (s : ScriptModel) (n : ℕ) (h : List Entry) (a k : ℕ) (ms : List Move) (sc : ℕ) (ax : Axis) → Course h → Sums s sc ax h
     → Next s n h (entry a (event.Send k ms)) → Sums s sc ax (entry a (event.Send k ms) ∷ h)
 send_case s n h a k ms sc ax c m x = record {
-  active_base = m.active_base ∙ sym (base_sent (active h) (was_named settles h) (ready (active h) (active_sent h c)) apart);
-  active_delta = m.active_delta ∙ sym (sent_delta s h sc ax (was_named settles h) k apart);
+  active_base = m.active_base ∙ sym (base_sent (active h) (was_named retires h) (ready (active h) (active_sent h c)) apart);
+  active_delta = m.active_delta ∙ sym (sent_delta s h sc ax (was_named retires h) k apart);
   pending_base = m.pending_base ∙ sym pending_same;
   reflected_main = told_all (values s sc ax h).active_delta (values s sc ax h).reflected_pending (delta s h sc ax) (carried_by s h (pending h) sc ax) (unsent s h sc ax) (carried_by s h (frame_in_flight h) sc ax) m.active_delta m.reflected_pending m.parts idle ∙ sym told;
   reflected_pending = m.reflected_pending ∙ sym (pending_told (pending h) refl);
-  parts = sent_delta s h sc ax (was_named settles h) k apart
+  parts = sent_delta s h sc ax (was_named retires h) k apart
       ∙ (nothing_unsent (delta s h sc ax) (unsent s h sc ax) (carried_by s h (frame_in_flight h) sc ax) (carried_by s h (pending h) sc ax) (unsent s g sc ax) (carried_by s g (frame_in_flight g) sc ax) m.parts idle (sent_unsent s h sc ax k) told
       ∙ ap (λ (z : ℤ). (unsent s g sc ax +ℤ carried_by s g (frame_in_flight g) sc ax) +ℤ z) (sym (pending_told (pending h) refl)));
   pulls = λ j e. by_test (k == j) (lists_new j) (λ t. lists_old j t (or_old (k == j) (was_named sends h j) t e));
@@ -94,8 +94,8 @@ send_case s n h a k ms sc ax c m x = record {
     total : k ≡ counted sends h
     total = t.frame
 
-    apart : was_named settles h k ≡ false
-    apart = let l = total in later_not_settled h k c (omega arith)
+    apart : was_named retires h k ≡ false
+    apart = let l = total in later_not_retired h k c (omega arith)
 
     ready : (o : Option ℕ) → up_to o ≤ counted sends h → up_to o ≤ k
     ready o l = let e = total in omega arith
@@ -107,7 +107,7 @@ send_case s n h a k ms sc ax c m x = record {
     base_sent on f l e =
         let p : main_moves s (pulls_of g) (was_named commits h) sc ax (up_to on) ≡ main_moves s (pulls_of h) (was_named commits h) sc ax (up_to on) =
         main_moves_alike s (pulls_of g) (pulls_of h) (was_named commits h) (was_named commits h) sc ax (up_to on) (λ j b. pulls_below j (omega arith)) (λ j b. refl) in
-        let q : moved s sc ax (in_base f) (Some k) h ≡ moved s sc ax (in_base f) None h = sent_base s h sc ax f k e in
+        let q : sum_of_moves s sc ax (in_base f) (Some k) h ≡ sum_of_moves s sc ax (in_base f) None h = sent_base s h sc ax f k e in
         λ i. p i +ℤ q i
 
     pending_other : (o : Option ℕ) → pending h ≡ o → names o k ≡ false
@@ -116,9 +116,9 @@ send_case s n h a k ms sc ax c m x = record {
 
     pending_same : pending_base s g sc ax ≡ pending_base s h sc ax
     pending_same =
-        base_sent (active_then h) (settled_then h)
+        base_sent (active_then h) (retired_then h)
         (ready (active_then h) (active_then_sent h c))
-        (or_neither (names (pending h) k) (was_named settles h k) (pending_other (pending h) refl) apart)
+        (or_neither (names (pending h) k) (was_named retires h k) (pending_other (pending h) refl) apart)
 
     idle : carried_by s h (frame_in_flight h) sc ax ≡ pos 0
     idle = ap (λ o. carried_by s h o sc ax) (none_in_flight h c t.main)
@@ -129,7 +129,7 @@ send_case s n h a k ms sc ax c m x = record {
         (is_false (was_named commits h k) (λ e. let l = c.committed_below k e in let l' = total in absurd (omega arith)))
         (is_false (was_named aborts h k) (λ e. let l = c.aborted_below k e in let l' = total in absurd (omega arith))))
 
-    carries_new : moved s sc ax (by_send k) (Some k) h ≡ unsent s h sc ax
+    carries_new : sum_of_moves s sc ax (by_send k) (Some k) h ≡ unsent s h sc ax
     carries_new = sent_carried s h sc ax k (λ j e. let l = c.sent_below j e in let l' = total in omega arith)
 
     told : carried_by s g (frame_in_flight g) sc ax ≡ unsent s h sc ax
@@ -147,7 +147,7 @@ send_case s n h a k ms sc ax c m x = record {
     lists_new j e =
         let i : k ≡ j = same_number k j e in
         ap (λ b. amount_in sc ax (cond b ms (pulls_of h j))) e
-        ∙ (ap (amount_in sc ax) t.pulls ∙ (amount_pulled s h sc ax ∙ (sym carries_new ∙ ap (λ z. moved s sc ax (by_send z) (Some k) h) i)))
+        ∙ (ap (amount_in sc ax) t.pulls ∙ (amount_pulled s h sc ax ∙ (sym carries_new ∙ ap (λ z. sum_of_moves s sc ax (by_send z) (Some k) h) i)))
 
     lists_old : (j : ℕ) → (k == j) ≡ false → was_named sends h j ≡ true → amount_in sc ax (pulls_of g j) ≡ carried s g j sc ax
     lists_old j e f = ap (λ b. amount_in sc ax (cond b ms (pulls_of h j))) e ∙ (m.pulls j f ∙ sym (sent_others s h sc ax k j e))
@@ -176,16 +176,16 @@ abort_main pb mm mb new c main0 main1 mv pull e f g i j k = omega (arith, ints, 
 abort_case : (s : ScriptModel) (n : ℕ) (h : List Entry) (a k : ℕ) (sc : ℕ) (ax : Axis) → Course h → Sums s sc ax h
     → Next s n h (entry a (event.Abort k)) → Course (entry a (event.Abort k) ∷ h) → Sums s sc ax (entry a (event.Abort k) ∷ h)
 abort_case s n h a k sc ax c m x d = record {
-  active_base = base_more (values s sc ax h).active_base (values s sc ax h).reflected_main (main_moves s (pulls_of h) (was_named commits h) sc ax (up_to (active h))) (moved s sc ax (in_base (was_named settles h)) None h) (carried s h k sc ax)
-      (moved s sc ax (in_base (was_named settles g)) None h) m.active_base told (settled_base s h sc ax (was_named settles h) (was_named settles g) k (λ j. refl) apart);
+  active_base = base_more (values s sc ax h).active_base (values s sc ax h).reflected_main (main_moves s (pulls_of h) (was_named commits h) sc ax (up_to (active h))) (sum_of_moves s sc ax (in_base (was_named retires h)) None h) (carried s h k sc ax)
+      (sum_of_moves s sc ax (in_base (was_named retires g)) None h) m.active_base told (retired_base s h sc ax (was_named retires h) (was_named retires g) k (λ j. refl) apart);
   active_delta = delta_less (values s sc ax h).active_delta (values s sc ax h).reflected_main (delta s h sc ax) (carried s h k sc ax) (delta s g sc ax) m.active_delta told less;
-  pending_base = base_more (values s sc ax h).pending_base (values s sc ax h).reflected_main (main_moves s (pulls_of h) (was_named commits h) sc ax (up_to (active_then h))) (moved s sc ax (in_base (settled_then h)) None h) (carried s h k sc ax)
-      (moved s sc ax (in_base (settled_then g)) None h) m.pending_base told pending_more;
+  pending_base = base_more (values s sc ax h).pending_base (values s sc ax h).reflected_main (main_moves s (pulls_of h) (was_named commits h) sc ax (up_to (active_then h))) (sum_of_moves s sc ax (in_base (retired_then h)) None h) (carried s h k sc ax)
+      (sum_of_moves s sc ax (in_base (retired_then g)) None h) m.pending_base told pending_more;
   reflected_main = sym idle;
   reflected_pending = m.reflected_pending;
   parts = abort_parts (delta s h sc ax) (delta s g sc ax) (unsent s h sc ax) (carried_by s h (frame_in_flight h) sc ax) (carried s h k sc ax) (carried_by s g (frame_in_flight g) sc ax) (carried_by s h (pending h) sc ax) m.parts flight less idle;
   pulls = m.pulls;
-  main_is = abort_main (pending_base s h sc ax) (main_moves s (pulls_of h) (was_named commits h) sc ax (up_to (active_then h))) (moved s sc ax (in_base (settled_then h)) None h) (moved s sc ax (in_base (settled_then g)) None h) (carried s h k sc ax)
+  main_is = abort_main (pending_base s h sc ax) (main_moves s (pulls_of h) (was_named commits h) sc ax (up_to (active_then h))) (sum_of_moves s sc ax (in_base (retired_then h)) None h) (sum_of_moves s sc ax (in_base (retired_then g)) None h) (carried s h k sc ax)
       (main_value (page s (pulls_of h) k) sc ax) (ended_value s g sc ax) (main_move s (pulls_of h) k sc ax) (amount_in sc ax (pulls_of h k)) refl pending_more (m.main_is ∙ main_then)
       (main_now ∙ main_value_after s (pulls_of h) k sc ax) (no_main_move s (pulls_of h) k t.unchanged sc ax) (m.pulls k (let z = fl.total in c.below_sent k (omega arith)));
 }
@@ -199,8 +199,8 @@ abort_case s n h a k sc ax c m x d = record {
     fl : InFlight h k
     fl = in_flight h k c (sent_not_idle (sched h).main_state t.sent) t.last
 
-    apart : was_named settles h k ≡ false
-    apart = not_settled h k c fl.no_commit fl.no_abort
+    apart : was_named retires h k ≡ false
+    apart = not_retired h k c fl.no_commit fl.no_abort
 
     flight : carried_by s h (frame_in_flight h) sc ax ≡ carried s h k sc ax
     flight = ap (λ o. carried_by s h o sc ax) fl.flies
@@ -209,15 +209,15 @@ abort_case s n h a k sc ax c m x d = record {
     told = m.reflected_main ∙ flight
 
     less : delta s h sc ax ≡ delta s g sc ax +ℤ carried s h k sc ax
-    less = settled_delta s h sc ax (was_named settles h) (was_named settles g) k (λ j. refl) apart
+    less = retired_delta s h sc ax (was_named retires h) (was_named retires g) k (λ j. refl) apart
 
     pending_other : (o : Option ℕ) → pending h ≡ o → names o k ≡ false
     pending_other None e = refl
     pending_other (Some j) e = is_other j k (λ i. not_both (was_named commits h k) (ap (was_named commits h) (sym i) ∙ c.pending_committed j e) fl.no_commit)
 
-    pending_more : moved s sc ax (in_base (settled_then g)) None h ≡ moved s sc ax (in_base (settled_then h)) None h +ℤ carried s h k sc ax
-    pending_more = settled_base s h sc ax (settled_then h) (settled_then g) k (λ j. or_swap (names (pending h) j) (k == j) (was_named settles h j))
-        (or_neither (names (pending h) k) (was_named settles h k) (pending_other (pending h) refl) apart)
+    pending_more : sum_of_moves s sc ax (in_base (retired_then g)) None h ≡ sum_of_moves s sc ax (in_base (retired_then h)) None h +ℤ carried s h k sc ax
+    pending_more = retired_base s h sc ax (retired_then h) (retired_then g) k (λ j. or_swap (names (pending h) j) (k == j) (was_named retires h j))
+        (or_neither (names (pending h) k) (was_named retires h k) (pending_other (pending h) refl) apart)
 
     none : frame_in_flight g ≡ None
     none = none_in_flight g d refl
@@ -242,7 +242,7 @@ commit_parts d u m p c m' p' e f g i j = omega (arith, ints, e, f, g, i, j)
 commit_case : (s : ScriptModel) (n : ℕ) (h : List Entry) (a k : ℕ) (sc : ℕ) (ax : Axis) → Course h → Sums s sc ax h
     → Next s n h (entry a (event.Commit k)) → Course (entry a (event.Commit k) ∷ h) → Sums s sc ax (entry a (event.Commit k) ∷ h)
 commit_case s n h a k sc ax c m x d = record {
-  active_base = m.active_base ∙ (λ i. sym (alike (up_to (active h)) (d.pending_from k pend)) i +ℤ moved s sc ax (in_base (was_named settles h)) None h);
+  active_base = m.active_base ∙ (λ i. sym (alike (up_to (active h)) (d.pending_from k pend)) i +ℤ sum_of_moves s sc ax (in_base (was_named retires h)) None h);
   active_delta = m.active_delta;
   pending_base = main_new ∙ sym pending_is;
   reflected_main = sym idle;
@@ -262,8 +262,8 @@ commit_case s n h a k sc ax c m x d = record {
     fl : InFlight h k
     fl = in_flight h k c (ready_not_idle (sched h).main_state t.prepared) t.last
 
-    apart : was_named settles h k ≡ false
-    apart = not_settled h k c fl.no_commit fl.no_abort
+    apart : was_named retires h k ≡ false
+    apart = not_retired h k c fl.no_commit fl.no_abort
 
     flight : carried_by s h (frame_in_flight h) sc ax ≡ carried s h k sc ax
     flight = ap (λ o. carried_by s h o sc ax) fl.flies
@@ -300,7 +300,7 @@ commit_case s n h a k sc ax c m x d = record {
     mm = main_moves s (pulls_of h) (was_named commits h) sc ax (up_to (active h))
 
     mb : ℤ
-    mb = moved s sc ax (in_base (was_named settles h)) None h
+    mb = sum_of_moves s sc ax (in_base (was_named retires h)) None h
 
     own : was_named commits g k ≡ true
     own = ap (λ q. q || was_named commits h k) (is_same k k refl)
@@ -308,14 +308,14 @@ commit_case s n h a k sc ax c m x d = record {
     pending_is : pending_base s g sc ax ≡ (mm +ℤ main_move s (pulls_of h) k sc ax) +ℤ (mb +ℤ carried s h k sc ax)
     pending_is =
         let e : main_moves s (pulls_of h) (was_named commits g) sc ax k ≡ mm = alike k (omega arith) ∙ main_moves_stop s (pulls_of h) (was_named commits h) sc ax (up_to (active h)) k (d.pending_from k pend) not_between in
-        let f : moved s sc ax (in_base (settled_with (Some k) (was_named settles h))) None h ≡ mb +ℤ carried s h k sc ax =
-        settled_base s h sc ax (was_named settles h) (settled_with (Some k) (was_named settles h)) k (λ j. refl) apart in
+        let f : sum_of_moves s sc ax (in_base (retired_with (Some k) (was_named retires h))) None h ≡ mb +ℤ carried s h k sc ax =
+        retired_base s h sc ax (was_named retires h) (retired_with (Some k) (was_named retires h)) k (λ j. refl) apart in
         let o = own in
-        ap (λ w. base_of s g (option_or w (active h)) (settled_with w (was_named settles h)) sc ax) pend
+        ap (λ w. base_of s g (option_or w (active h)) (retired_with w (was_named retires h)) sc ax) pend
         ∙ (λ i. (e i +ℤ cond (o i) (main_move s (pulls_of h) k sc ax) (pos 0)) +ℤ f i)
 
     none_then : pending_base s h sc ax ≡ mm +ℤ mb
-    none_then = ap (λ w. base_of s h (option_or w (active h)) (settled_with w (was_named settles h)) sc ax) none_pending
+    none_then = ap (λ w. base_of s h (option_or w (active h)) (retired_with w (was_named retires h)) sc ax) none_pending
 
     main_then : ended_value s h sc ax ≡ main_value (page s (pulls_of h) k) sc ax
     main_then = ap (λ o. main_value (page s (pulls_of h) (ended_to o (counted sends h))) sc ax) fl.flies
@@ -339,12 +339,12 @@ activate_case : (s : ScriptModel) (n : ℕ) (h : List Entry) (a k : ℕ) (ms : L
     → Next s n h (entry a (event.Activate k ms)) → Course (entry a (event.Activate k ms) ∷ h) → Sums s sc ax (entry a (event.Activate k ms) ∷ h)
 activate_case s n h a k ms sc ax c m x d = record {
   active_base = base_is;
-  active_delta = delta_moved (values s sc ax h).active_delta (values s sc ax h).reflected_pending (delta s h sc ax) (carried s h k sc ax) (moved s sc ax (in_delta (was_named settles g)) None h) (amount_in sc ax ms) m.active_delta (m.reflected_pending ∙ waits) less
+  active_delta = delta_moved (values s sc ax h).active_delta (values s sc ax h).reflected_pending (delta s h sc ax) (carried s h k sc ax) (sum_of_moves s sc ax (in_delta (was_named retires g)) None h) (amount_in sc ax ms) m.active_delta (m.reflected_pending ∙ waits) less
       ∙ sym delta_is;
   pending_base = base_is ∙ sym pending_is;
   reflected_main = m.reflected_main ∙ sym (same (frame_in_flight h));
   reflected_pending = sym none_waits;
-  parts = delta_is ∙ (activate_parts (delta s h sc ax) (moved s sc ax (in_delta (was_named settles g)) None h) (unsent s h sc ax) (carried_by s h (frame_in_flight h) sc ax) (carried_by s h (pending h) sc ax) (carried s h k sc ax) (amount_in sc ax ms)
+  parts = delta_is ∙ (activate_parts (delta s h sc ax) (sum_of_moves s sc ax (in_delta (was_named retires g)) None h) (unsent s h sc ax) (carried_by s h (frame_in_flight h) sc ax) (carried_by s h (pending h) sc ax) (carried s h k sc ax) (amount_in sc ax ms)
       (carried_by s g (frame_in_flight g) sc ax) (carried_by s g (pending g) sc ax) m.parts waits less (same (frame_in_flight h)) none_waits
       ∙ ap (λ (z : ℤ). (z +ℤ carried_by s g (frame_in_flight g) sc ax) +ℤ carried_by s g (pending g) sc ax) (sym (added_is sc ax ms true (unsent s h sc ax))));
   pulls = λ j e. m.pulls j e ∙ sym (added_not sc ax ms (carried s h j sc ax));
@@ -357,29 +357,29 @@ activate_case s n h a k ms sc ax c m x d = record {
     t : AtActivate s h k ms
     t = at_activate s n h a k ms x
 
-    apart : was_named settles h k ≡ false
-    apart = pending_not_settled h k c t.frame
+    apart : was_named retires h k ≡ false
+    apart = pending_not_retired h k c t.frame
 
     waits : carried_by s h (pending h) sc ax ≡ carried s h k sc ax
     waits = ap (λ o. carried_by s h o sc ax) t.frame
 
-    less : delta s h sc ax ≡ moved s sc ax (in_delta (was_named settles g)) None h +ℤ carried s h k sc ax
-    less = settled_delta s h sc ax (was_named settles h) (was_named settles g) k (λ j. refl) apart
+    less : delta s h sc ax ≡ sum_of_moves s sc ax (in_delta (was_named retires g)) None h +ℤ carried s h k sc ax
+    less = retired_delta s h sc ax (was_named retires h) (was_named retires g) k (λ j. refl) apart
 
-    base_then : pending_base s h sc ax ≡ main_moves s (pulls_of h) (was_named commits h) sc ax (suc k) +ℤ moved s sc ax (in_base (was_named settles g)) None h
-    base_then = ap (λ w. base_of s h (option_or w (active h)) (settled_with w (was_named settles h)) sc ax) t.frame
+    base_then : pending_base s h sc ax ≡ main_moves s (pulls_of h) (was_named commits h) sc ax (suc k) +ℤ sum_of_moves s sc ax (in_base (was_named retires g)) None h
+    base_then = ap (λ w. base_of s h (option_or w (active h)) (retired_with w (was_named retires h)) sc ax) t.frame
 
     base_is : (values s sc ax h).pending_base ≡ base s g sc ax
-    base_is = m.pending_base ∙ (base_then ∙ ap (λ (z : ℤ). main_moves s (pulls_of h) (was_named commits h) sc ax (suc k) +ℤ z) (sym (added_not sc ax ms (moved s sc ax (in_base (was_named settles g)) None h))))
+    base_is = m.pending_base ∙ (base_then ∙ ap (λ (z : ℤ). main_moves s (pulls_of h) (was_named commits h) sc ax (suc k) +ℤ z) (sym (added_not sc ax ms (sum_of_moves s sc ax (in_base (was_named retires g)) None h))))
 
-    delta_is : delta s g sc ax ≡ amount_in sc ax ms +ℤ moved s sc ax (in_delta (was_named settles g)) None h
-    delta_is = added_is sc ax ms true (moved s sc ax (in_delta (was_named settles g)) None h)
+    delta_is : delta s g sc ax ≡ amount_in sc ax ms +ℤ sum_of_moves s sc ax (in_delta (was_named retires g)) None h
+    delta_is = added_is sc ax ms true (sum_of_moves s sc ax (in_delta (was_named retires g)) None h)
 
     none : pending g ≡ None
     none = none_where (pending g) (sym d.pending_state)
 
     pending_is : pending_base s g sc ax ≡ base s g sc ax
-    pending_is = ap (λ w. base_of s g (option_or w (Some k)) (settled_with w (was_named settles g)) sc ax) none
+    pending_is = ap (λ w. base_of s g (option_or w (Some k)) (retired_with w (was_named retires g)) sc ax) none
 
     same : (o : Option ℕ) → carried_by s g o sc ax ≡ carried_by s h o sc ax
     same None = refl
@@ -398,7 +398,7 @@ moved_parts d u m p x m' p' e f g = omega (arith, ints, e, f, g)
 
 moving : (sc : ℕ) (ax : Axis) (ms : List Move) (v : Synced) (mm mb d pm pb u m p main m' p' : ℤ) (lists carries carries' : ℕ → ℤ) (sent : ℕ → Bool)
     → SumsOf v (mm +ℤ mb) d (pm +ℤ pb) u m p main lists carries sent → m' ≡ m → p' ≡ p → ((k : ℕ) → carries' k ≡ carries k)
-    → SumsOf (table.added (amount_in sc ax ms) v) (mm +ℤ added sc ax ms false mb) (added sc ax ms true d) (pm +ℤ added sc ax ms false pb) (added sc ax ms true u) m' p' main lists carries' sent
+    → SumsOf (table.added (amount_in sc ax ms) v) (mm +ℤ plus_counted sc ax ms false mb) (plus_counted sc ax ms true d) (pm +ℤ plus_counted sc ax ms false pb) (plus_counted sc ax ms true u) m' p' main lists carries' sent
 moving sc ax ms v mm mb d pm pb u m p main m' p' lists carries carries' sent c e f g = record {
   active_base = c.active_base ∙ ap (λ (z : ℤ). mm +ℤ z) (sym (added_not sc ax ms mb));
   active_delta = delta_added v.active_delta d (amount_in sc ax ms) c.active_delta ∙ sym (added_is sc ax ms true d);
@@ -412,14 +412,14 @@ moving sc ax ms v mm mb d pm pb u m p main m' p' lists carries carries' sent c e
 
 moved_case : (s : ScriptModel) (h : List Entry) (ms : List Move) (sc : ℕ) (ax : Axis) (g : List Entry) → Sums s sc ax h → ((o : Option ℕ) → carried_by s g o sc ax ≡ carried_by s h o sc ax)
     → SumsOf (table.added (amount_in sc ax ms) (values s sc ax h))
-    (main_moves s (pulls_of h) (was_named commits h) sc ax (up_to (active h)) +ℤ added sc ax ms false (moved s sc ax (in_base (was_named settles h)) None h))
-    (added sc ax ms true (delta s h sc ax))
-    (main_moves s (pulls_of h) (was_named commits h) sc ax (up_to (active_then h)) +ℤ added sc ax ms false (moved s sc ax (in_base (settled_then h)) None h))
-    (added sc ax ms true (unsent s h sc ax)) (carried_by s g (frame_in_flight h) sc ax) (carried_by s g (pending h) sc ax) (ended_value s h sc ax)
+    (main_moves s (pulls_of h) (was_named commits h) sc ax (up_to (active h)) +ℤ plus_counted sc ax ms false (sum_of_moves s sc ax (in_base (was_named retires h)) None h))
+    (plus_counted sc ax ms true (delta s h sc ax))
+    (main_moves s (pulls_of h) (was_named commits h) sc ax (up_to (active_then h)) +ℤ plus_counted sc ax ms false (sum_of_moves s sc ax (in_base (retired_then h)) None h))
+    (plus_counted sc ax ms true (unsent s h sc ax)) (carried_by s g (frame_in_flight h) sc ax) (carried_by s g (pending h) sc ax) (ended_value s h sc ax)
     (λ k. amount_in sc ax (pulls_of h k)) (λ k. carried_by s g (Some k) sc ax) (was_named sends h)
 moved_case s h ms sc ax g m same =
-    moving sc ax ms (values s sc ax h) (main_moves s (pulls_of h) (was_named commits h) sc ax (up_to (active h))) (moved s sc ax (in_base (was_named settles h)) None h) (delta s h sc ax)
-    (main_moves s (pulls_of h) (was_named commits h) sc ax (up_to (active_then h))) (moved s sc ax (in_base (settled_then h)) None h) (unsent s h sc ax)
+    moving sc ax ms (values s sc ax h) (main_moves s (pulls_of h) (was_named commits h) sc ax (up_to (active h))) (sum_of_moves s sc ax (in_base (was_named retires h)) None h) (delta s h sc ax)
+    (main_moves s (pulls_of h) (was_named commits h) sc ax (up_to (active_then h))) (sum_of_moves s sc ax (in_base (retired_then h)) None h) (unsent s h sc ax)
     (carried_by s h (frame_in_flight h) sc ax) (carried_by s h (pending h) sc ax) (ended_value s h sc ax)
     (carried_by s g (frame_in_flight h) sc ax) (carried_by s g (pending h) sc ax)
     (λ k. amount_in sc ax (pulls_of h k)) (λ k. carried s h k sc ax) (λ k. carried_by s g (Some k) sc ax) (was_named sends h)

@@ -2,7 +2,7 @@
 use Rattle.std.specs.Prelude.{◌≡◌, true, List, [], ◌∷◌}
 use Rattle.page_layers.specs.declared.command.Command.{Command}
 use Rattle.page_layers.specs.Pages.{Page}
-use Rattle.page_layers.specs.Effects.{after}
+use Rattle.page_layers.specs.Effects.{page_after_command}
 use Rattle.page_layers.specs.Outcomes.{Accepts}
 use Rattle.model_history.specs.Scripts.{ScriptModel}
 use Rattle.model_history.specs.Ranges.{is_in_ranges}
@@ -11,7 +11,7 @@ use Rattle.model_history.specs.Frames.{blank, commanded}
 -- the page takes these commands one after another
 abbrev pub TakesAll : Page → List Command → Type 0
 TakesAll p [] = Unit {0}
-TakesAll p (c ∷ cs) = Accepts p c × TakesAll (after p c) cs
+TakesAll p (c ∷ cs) = Accepts p c × TakesAll (page_after_command p c) cs
 
 -- it takes the commands of these main frames, one frame after another
 abbrev pub TakesFrames : Page → List (List Command) → Type 0

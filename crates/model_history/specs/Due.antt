@@ -16,8 +16,8 @@ use Rattle.model_history.specs.Scans.{newest, counted, held}
 use Rattle.page_layers.specs.Axes.{across, down}
 use Rattle.model_history.specs.Frames.{changes, pulls_of, is_left, has_frame_ended, active, pending, active_page, is_empty}
 use Rattle.model_history.specs.Scrolls.{next_pulls, next_clamps, accepted, active_offsets}
-use Rattle.model_history.specs.Tiles.{required, are_ready, in_flight, missing}
-use Rattle.model_history.specs.Ranking.{first, evicted_for}
+use Rattle.model_history.specs.Tiles.{required, are_ready, in_flight, missing_visible}
+use Rattle.model_history.specs.Ranking.{rank_to_start, evicted_for}
 use Rattle.page_layers.specs.Wheels.{wheel_parts, wheel_rest}
 
 -- the event where the condition holds
@@ -32,9 +32,9 @@ abbrev pub input_now : ScriptModel → List Entry → Option Input
 input_now s h = slice_get s.inputs (next_input h)
 
 -- whether it is a draw
-abbrev pub is_draw : Option Input → Bool
-is_draw (Some input.Draw) = true
-is_draw _ = false
+abbrev pub asks_draw : Option Input → Bool
+asks_draw (Some input.Draw) = true
+asks_draw _ = false
 
 -- the frame that was sent last is ready where it changes something, and else is aborted
 abbrev pub due_ready : ScriptModel → List Entry → Option ℕ → Option Event
@@ -70,7 +70,7 @@ due_wheel s h i (Some (input.Wheel x y dx dy)) =
     (wheel_parts (active_page s h) (active_offsets s h) (pos x) (pos y) dx dy))
 due_wheel s h i _ = None
 
--- a worker that holds nothing starts the first tile, and what is in its way is given up
+-- a worker that holds nothing starts the first tile, and what is in its way is evicted
 abbrev pub due_start : ScriptModel → List Entry → ℕ → Option TileKey → Option Rank → Option Event
 due_start s h w None (Some r) = Some (event.Start w r.key (evicted_for s h r))
 due_start s h w _ _ = None
@@ -83,7 +83,7 @@ due_done w (Some q) = Some (event.DoneTile w q)
 -- the draw for which the impl frame was begun draws the active tree, or is skipped where there is none
 abbrev pub due_draw : ScriptModel → List Entry → Option ℕ → Option Event
 due_draw s h None = None
-due_draw s h (Some i) = on_if (is_some (active h)) (event.Draw i (missing s h))
+due_draw s h (Some i) = on_if (is_some (active h)) (event.Draw i (missing_visible s h))
 
 abbrev pub due_skip : List Entry → Option ℕ → Option Event
 due_skip h None = None
@@ -101,7 +101,7 @@ due_await h i _ = None
 
 -- whether no tile is left to make: nothing is in flight, and none may start
 abbrev pub is_settled : ScriptModel → List Entry → Bool
-is_settled s h = is_empty (in_flight h) && not (is_some (first s h))
+is_settled s h = is_empty (in_flight h) && not (is_some (rank_to_start s h))
 
 -- a settle is over where no tile is left to make
 abbrev pub due_settle : ScriptModel → List Entry → ℕ → Option Input → Option Event
@@ -114,8 +114,8 @@ is_over s h = (next_input h == length s.inputs) && not (is_left s h) && is_empty
 
 -- the event of a kind and an actor that is due, by the table of the kinds: its fields, where its further condition holds
 abbrev pub due : ScriptModel → List Entry → Kind → ℕ → Option Event
-due s h kind.BeginDraw a = on_if (is_draw (input_now s h)) (event.Begin (next_input h))
-due s h kind.BeginPlain a = on_if (not (is_draw (input_now s h)) && is_left s h) event.BeginPlain
+due s h kind.BeginDraw a = on_if (asks_draw (input_now s h)) (event.Begin (next_input h))
+due s h kind.BeginPlain a = on_if (not (asks_draw (input_now s h)) && is_left s h) event.BeginPlain
 due s h kind.Send a = on_if (is_left s h) (event.Send (counted sends h) (next_pulls s h))
 due s h kind.Ready a = due_ready s h (newest sends h)
 due s h kind.Abort a = due_abort s h (newest sends h)
@@ -123,7 +123,7 @@ due s h kind.Commit a = due_commit (newest sends h)
 due s h kind.Activate a = due_activate s h (pending h)
 due s h kind.Scroll a = due_scroll s h (next_input h) (input_now s h)
 due s h kind.Wheel a = due_wheel s h (next_input h) (input_now s h)
-due s h kind.Start a = due_start s h (a - 2) (held (a - 2) h) (first s h)
+due s h kind.Start a = due_start s h (a - 2) (held (a - 2) h) (rank_to_start s h)
 due s h kind.Done a = due_done (a - 2) (held (a - 2) h)
 due s h kind.Draw a = due_draw s h (newest begins h)
 due s h kind.Skip a = due_skip h (newest begins h)

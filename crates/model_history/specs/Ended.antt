@@ -7,10 +7,10 @@ use Rattle.page_layers.specs.declared.command.Command.{Command}
 use Rattle.page_layers.specs.declared.fault.EditError.{EditError}
 use Rattle.page_layers.specs.declared.fault.EditError.TheVariants as error
 use Rattle.page_layers.specs.Pages.{Page}
-use Rattle.page_layers.specs.Effects.{after}
+use Rattle.page_layers.specs.Effects.{page_after_command}
 use Rattle.page_layers.specs.declared.moves.Move.{Move}
 use Rattle.model_history.specs.Scripts.{ScriptModel}
-use Rattle.model_history.specs.Frames.{commands_of, page, pulled, commanded, changes}
+use Rattle.model_history.specs.Frames.{commands_of, page, page_after_pulls, commanded, changes}
 use Rattle.model_history.specs.Accepted.{TakesAll}
 use Rattle.model_history.specs.Judging.{RefusedIn}
 use Rattle.model_history.specs.Stamps.{changed_by, unchanged}
@@ -33,7 +33,7 @@ TookCommands p cs q (Err (error.Memory e)) = (n : ℕ) × HasTaken p cs n q
 
 -- the pulls were added and the commands applied, and these are their changes; or the pulls were added and a command was refused, or memory ran out
 abbrev pub TookFrame : Page → List Move → List Command → Page → Result Changed EditError → Type 0
-TookFrame p ms cs q result = TookCommands (pulled ms p) cs q result
+TookFrame p ms cs q result = TookCommands (page_after_pulls ms p) cs q result
 
 -- the page is one of the script before this frame, which gets these pulls
 abbrev pub StandsBefore : ScriptModel → ℕ → List Move → Page → Type 0
@@ -41,13 +41,13 @@ StandsBefore s k ms p = (ps : ℕ → List Move) × (ps k ≡ ms) × (p ≡ page
 
 -- the frame with these pulls leads from the one page to the other, and these are its changes
 pub record EndsFrame (s : ScriptModel) (k : ℕ) (ms : List Move) (p q : Page) (done : Changed) : Type 0 where
-  pub page : q ≡ commanded (commands_of s k) (pulled ms p)
-  pub changes : SameChanges done (changed_by (pulled ms p) (commands_of s k) unchanged)
+  pub page : q ≡ commanded (commands_of s k) (page_after_pulls ms p)
+  pub changes : SameChanges done (changed_by (page_after_pulls ms p) (commands_of s k) unchanged)
 
 -- the frame with these pulls leads from the one page to the other, and these are its changes; or memory ran out, when the pulls had been added and the first few commands applied
 abbrev pub TookScriptFrame : ScriptModel → ℕ → List Move → Page → Page → Result Changed AllocError → Type 0
 TookScriptFrame s k ms p q (Ok done) = EndsFrame s k ms p q done
-TookScriptFrame s k ms p q (Err e) = (n : ℕ) × HasTaken (pulled ms p) (commands_of s k) n q
+TookScriptFrame s k ms p q (Err e) = (n : ℕ) × HasTaken (page_after_pulls ms p) (commands_of s k) n q
 
 -- the answer tells whether this frame changes something, where these are the pages before and after it
 abbrev pub Tells : ScriptModel → ℕ → List Move → Page → Page → Bool → Type 0

@@ -67,10 +67,10 @@ activates (event.Activate k clamps) = Some k
 activates _ = None
 
 -- the frame whose moves it brings into the base
-abbrev pub settles : Event → Option ℕ
-settles (event.Abort k) = Some k
-settles (event.Activate k clamps) = Some k
-settles _ = None
+abbrev pub retires : Event → Option ℕ
+retires (event.Abort k) = Some k
+retires (event.Activate k clamps) = Some k
+retires _ = None
 
 -- the draw for which it begins an impl frame
 abbrev pub begins : Event → Option ℕ
@@ -103,7 +103,7 @@ abbrev pub starts : Event → List TileKey
 starts (event.Start w q evicted) = q ∷ []
 starts _ = []
 
--- the ready tiles that it gives up
+-- the ready tiles that it evicts
 abbrev pub evicts : Event → List TileKey
 evicts (event.Start w q evicted) = evicted
 evicts _ = []

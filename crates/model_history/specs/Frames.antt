@@ -6,7 +6,7 @@ use Rattle.std.specs.List.{list_any}
 use Rattle.std.specs.Ordering.{int_eq}
 use Rattle.page_layers.specs.declared.command.Command.{Command}
 use Rattle.page_layers.specs.Pages.{Page}
-use Rattle.page_layers.specs.Effects.{scrolled_by, after}
+use Rattle.page_layers.specs.Effects.{scrolled_by, page_after_command}
 use Rattle.page_layers.specs.declared.moves.Move.{Move}
 use Rattle.model_history.specs.declared.history.Entry.{Entry}
 use Rattle.model_history.specs.Scripts.{ScriptModel}
@@ -30,23 +30,23 @@ abbrev pub commands_of : ScriptModel → ℕ → List Command
 commands_of s k = slice_index_or s.main k []
 
 -- the page after these pulls: each is added to the main value of its scroller and clamped to its range
-abbrev pub pulled : List Move → Page → Page
-pulled [] p = p
-pulled (m ∷ ms) p = pulled ms (scrolled_by p m.scroller m.dx m.dy)
+abbrev pub page_after_pulls : List Move → Page → Page
+page_after_pulls [] p = p
+page_after_pulls (m ∷ ms) p = page_after_pulls ms (scrolled_by p m.scroller m.dx m.dy)
 
 -- the page after these commands
 abbrev pub commanded : List Command → Page → Page
 commanded [] p = p
-commanded (c ∷ cs) p = commanded cs (after p c)
+commanded (c ∷ cs) p = commanded cs (page_after_command p c)
 
 -- the page after the first n frames, where `ps k` are the pulls of frame k: a frame takes its pulls, then its commands
 abbrev pub page : ScriptModel → (ℕ → List Move) → ℕ → Page
 page s ps zero = blank s
-page s ps (suc k) = commanded (commands_of s k) (pulled (ps k) (page s ps k))
+page s ps (suc k) = commanded (commands_of s k) (page_after_pulls (ps k) (page s ps k))
 
 -- the page that the commands of frame k act on
 abbrev pub page_before : ScriptModel → (ℕ → List Move) → ℕ → Page
-page_before s ps k = pulled (ps k) (page s ps k)
+page_before s ps k = page_after_pulls (ps k) (page s ps k)
 
 -- the main move of frame k: what it adds to the main value of a scroller beyond its pull
 abbrev pub main_move : ScriptModel → (ℕ → List Move) → ℕ → ℕ → Axis → ℤ

@@ -3,7 +3,7 @@ use Rattle.std.specs.Prelude.{◌≡◌, ℕ, zero, suc, List, [], ◌∷◌, Re
 use Rattle.page_layers.specs.declared.command.Command.{Command}
 use Rattle.page_layers.specs.declared.fault.EditFault.{EditFault}
 use Rattle.page_layers.specs.Pages.{Page}
-use Rattle.page_layers.specs.Effects.{after}
+use Rattle.page_layers.specs.Effects.{page_after_command}
 use Rattle.page_layers.specs.Outcomes.{Accepts, Refuses}
 use Rattle.model_history.specs.declared.script_error.ScriptError.{ScriptError}
 use Rattle.model_history.specs.declared.script_error.ScriptError.TheVariants as error
@@ -15,7 +15,7 @@ use Rattle.model_history.specs.Accepted.{TakesAll, IsAccepted}
 abbrev pub RefusedIn : Page → List Command → ℕ → EditFault → Type 0
 RefusedIn p [] n fault = ⊥
 RefusedIn p (c ∷ cs) zero fault = Refuses p c fault
-RefusedIn p (c ∷ cs) (suc n) fault = Accepts p c × RefusedIn (after p c) cs n fault
+RefusedIn p (c ∷ cs) (suc n) fault = Accepts p c × RefusedIn (page_after_command p c) cs n fault
 
 -- the page takes the main frames before frame k one after another, and refuses that one's command at place n with this fault
 abbrev pub RefusedAt : Page → List (List Command) → ℕ → ℕ → EditFault → Type 0

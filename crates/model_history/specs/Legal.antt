@@ -2,7 +2,7 @@
 use Rattle.std.specs.Prelude.{◌≡◌, ◌<◌, ℕ, ◌+◌, Bool, true, false, cond, not, ◌&&◌, List, [], ◌∷◌, reverse, Option, Some, None}
 use Rattle.model_scheduler.specs.declared.Sched.{Sched}
 use Rattle.model_scheduler.specs.declared.kind.Kind.{Kind}
-use Rattle.model_scheduler.specs.Kinds.{start, may, after}
+use Rattle.model_scheduler.specs.Kinds.{start_state, may, sched_after}
 use Rattle.model_history.specs.declared.event.Event.{Event}
 use Rattle.model_history.specs.declared.history.Entry.{Entry}
 use Rattle.model_history.specs.Scripts.{ScriptModel}
@@ -12,8 +12,8 @@ use Rattle.model_history.specs.Due.{due}
 
 -- the state of the scheduler after a past
 abbrev pub sched : List Entry → Sched
-sched [] = start
-sched (e ∷ h) = after (sched h) (kind_of e.event)
+sched [] = start_state
+sched (e ∷ h) = sched_after (sched h) (kind_of e.event)
 
 -- an event of this kind may come: nothing has ended the run, and the scheduler's state allows it
 abbrev pub is_open : List Entry → Kind → Bool

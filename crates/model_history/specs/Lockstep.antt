@@ -10,7 +10,7 @@ use Rattle.model_history.specs.declared.input.Input.TheVariants as input
 use Rattle.model_history.specs.declared.history.Entry.{Entry}
 use Rattle.model_history.specs.Scripts.{ScriptModel}
 use Rattle.model_history.specs.Frames.{is_left, active, pending}
-use Rattle.model_history.specs.Ranking.{first}
+use Rattle.model_history.specs.Ranking.{rank_to_start}
 use Rattle.model_history.specs.Legal.{can}
 
 -- a way from a past to a later one
@@ -57,7 +57,7 @@ may_send s h = is_left s h && not (waits h)
 
 -- a tile may start
 abbrev pub has_first : ScriptModel → List Entry → Bool
-has_first s h = is_some (first s h)
+has_first s h = is_some (rank_to_start s h)
 
 -- an event of this kind and actor may come
 abbrev pub is_possible : ScriptModel → Kind → ℕ → List Entry → Bool

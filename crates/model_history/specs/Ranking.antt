@@ -1,4 +1,4 @@
--- Which tile is made next, and which ready tiles are given up for it.
+-- Which tile is made next, and which ready tiles are evicted for it.
 use Rattle.std.specs.Prelude.{Bool, cond, not, ◌&&◌, List, length, map, filter, filter_map, find, Option, Some, None}
 use Rattle.geom.specs.declared.tile.Place.{Place}
 use Rattle.geom.specs.declared.tile.TileKey.{TileKey}
@@ -9,7 +9,7 @@ use Rattle.tile_priority.specs.declared.tile.Borders.{Borders}
 use Rattle.tile_priority.specs.Bins.{rank_of}
 use Rattle.tile_priority.specs.Ranks.{least}
 use Rattle.tile_priority.specs.Tiles.{Tile}
-use Rattle.tile_priority.specs.Choice.{Choice, victim_key, evicted}
+use Rattle.tile_priority.specs.Choice.{Choice, evictable_key, evicted}
 use Rattle.tile_priority.specs.Choice as choosing
 use Rattle.page_layers.specs.Layers.{PageLayer, has_id}
 use Rattle.page_layers.specs.Pages.{Page}
@@ -56,9 +56,9 @@ abbrev pub choice : ScriptModel → List Entry → Choice
 choice s h = record { wanted = wanted s h; ready = map (ready_tile s h) (ready s h); in_flight = length (in_flight h); budget = s.budget }
 
 -- the rank of the key that starts first, where one may start
-abbrev pub first : ScriptModel → List Entry → Option Rank
-first s h = choosing.first (choice s h)
+abbrev pub rank_to_start : ScriptModel → List Entry → Option Rank
+rank_to_start s h = choosing.first (choice s h)
 
--- the keys that are given up for it, the worst first
+-- the keys that are evicted for it, the worst first
 abbrev pub evicted_for : ScriptModel → List Entry → Rank → List TileKey
-evicted_for s h r = map victim_key (evicted (choice s h) r)
+evicted_for s h r = map evictable_key (evicted (choice s h) r)

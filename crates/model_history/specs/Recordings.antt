@@ -12,9 +12,9 @@ use Rattle.model_history.specs.Frames.{active_page}
 use Rattle.model_history.specs.Scrolls.{active_offsets}
 
 -- f 0, f 1, .., f (n - 1), joined one after another
-unfoldable pub joined : {X : Type 0} → ℕ → (ℕ → List X) → List X
-joined zero f = []
-joined (suc n) f = joined n f ++ f n
+unfoldable pub joined_to : {X : Type 0} → ℕ → (ℕ → List X) → List X
+joined_to zero f = []
+joined_to (suc n) f = joined_to n f ++ f n
 
 -- the head of a raw portable pixmap
 unfoldable pub image_head : ℕ → ℕ → List ℕ
@@ -26,19 +26,19 @@ rgb c = c.r ∷ c.g ∷ c.b ∷ []
 
 -- a row of a picture, from the left
 unfoldable pub image_row : (ℕ → ℕ → Parts) → ℕ → ℕ → List ℕ
-image_row pixel w y = joined w (λ x. rgb (pixel x y))
+image_row pixel w y = joined_to w (λ x. rgb (pixel x y))
 
 -- a picture of w by h whose pixel at column x and row y is `pixel x y`, rows from the top
 unfoldable pub image : (ℕ → ℕ → Parts) → ℕ → ℕ → List ℕ
-image pixel w h = image_head w h ++ joined h (image_row pixel w)
+image pixel w h = image_head w h ++ joined_to h (image_row pixel w)
 
 -- what the screen shows at column x and row y after a past, where these tiles are missing: the painting of the active page at the offsets of its scrollers
-abbrev pub shown : ScriptModel → List Entry → List TileKey → ℕ → ℕ → Parts
-shown s h missing x y = paint (active_page s h) (active_offsets s h) missing s.background (pos x) (pos y)
+abbrev pub screen_colour : ScriptModel → List Entry → List TileKey → ℕ → ℕ → Parts
+screen_colour s h missing x y = paint (active_page s h) (active_offsets s h) missing s.background (pos x) (pos y)
 
 -- the image of what the screen shows, as large as the view of the active page
 unfoldable pub shown_image : ScriptModel → List Entry → List TileKey → List ℕ
-shown_image s h missing = image (shown s h missing) (active_page s h).view.w (active_page s h).view.h
+shown_image s h missing = image (screen_colour s h missing) (active_page s h).view.w (active_page s h).view.h
 
 -- what stands behind the line of an event that came after a past: behind that of a draw the image of what it shows, with the tiles missing that it lists
 abbrev pub image_behind : ScriptModel → List Entry → Event → List ℕ

@@ -54,11 +54,11 @@ clamps (event.Activate k ms) = ms
 clamps _ = []
 
 -- every move names a scroller above a number
-abbrev pub AllAbove : ℕ → List Move → Type 0
-AllAbove n [] = Unit {0}
-AllAbove n (m ∷ ms) = (n < m.scroller) × AllAbove n ms
+abbrev pub AreMovesAbove : ℕ → List Move → Type 0
+AreMovesAbove n [] = Unit {0}
+AreMovesAbove n (m ∷ ms) = (n < m.scroller) × AreMovesAbove n ms
 
 -- by rising scroller, each once, and none is (0, 0)
 abbrev pub AreRising : List Move → Type 0
 AreRising [] = Unit {0}
-AreRising (m ∷ ms) = (is_still m ≡ false) × AllAbove m.scroller ms × AreRising ms
+AreRising (m ∷ ms) = (is_still m ≡ false) × AreMovesAbove m.scroller ms × AreRising ms

@@ -11,21 +11,21 @@ use Rattle.page_layers.specs.Scrolls.{clamp_to}
 use Rattle.page_layers.specs.declared.moves.Move.{Move}
 use Rattle.model_history.specs.declared.history.Entry.{Entry}
 use Rattle.model_history.specs.Scripts.{ScriptModel}
-use Rattle.model_history.specs.EventFields.{sends, commits, settles, moves}
+use Rattle.model_history.specs.EventFields.{sends, commits, retires, moves}
 use Rattle.model_history.specs.Scans.{names, was_named}
 use Rattle.page_layers.specs.Axes.{Axis, amount_in, listed, named_in, with_numbers}
-use Rattle.page_layers.specs.Scrollers.{scrollers, most, offsets_in, taken}
+use Rattle.page_layers.specs.Scrollers.{scrollers, most, offsets_in, amount_taken}
 use Rattle.model_history.specs.Frames.{commands_of, main_move, pulls_of, active, pending, up_to, active_page, pending_page}
 
 -- the moves of one event added to a sum, where they count; where there are none, nothing is
-abbrev pub added : ℕ → Axis → List Move → Bool → ℤ → ℤ
-added sc ax [] counts z = z
-added sc ax (m ∷ ms) counts z = cond counts (amount_in sc ax (m ∷ ms)) (pos 0) +ℤ z
+abbrev pub plus_counted : ℕ → Axis → List Move → Bool → ℤ → ℤ
+plus_counted sc ax [] counts z = z
+plus_counted sc ax (m ∷ ms) counts z = cond counts (amount_in sc ax (m ∷ ms)) (pos 0) +ℤ z
 
 -- the sum of the accepted moves whose carrier counts, where `carrier` is the frame of the first `send` after this past, if there is one
-abbrev pub moved : ScriptModel → ℕ → Axis → (Option ℕ → Bool) → Option ℕ → List Entry → ℤ
-moved s sc ax counts carrier [] = pos 0
-moved s sc ax counts carrier (e ∷ h) = added sc ax (moves s e.event) (counts carrier) (moved s sc ax counts (option_or (sends e.event) carrier) h)
+abbrev pub sum_of_moves : ScriptModel → ℕ → Axis → (Option ℕ → Bool) → Option ℕ → List Entry → ℤ
+sum_of_moves s sc ax counts carrier [] = pos 0
+sum_of_moves s sc ax counts carrier (e ∷ h) = plus_counted sc ax (moves s e.event) (counts carrier) (sum_of_moves s sc ax counts (option_or (sends e.event) carrier) h)
 
 -- no send carries the move yet
 abbrev pub not_sent : Option ℕ → Bool
@@ -36,13 +36,13 @@ not_sent (Some k) = false
 abbrev pub by_send : ℕ → Option ℕ → Bool
 by_send k c = names c k
 
--- the move is in the base, where these frames have settled; else it is in the delta
+-- the move is in the base, where these frames were retired; else it is in the delta
 abbrev pub in_base : (ℕ → Bool) → Option ℕ → Bool
-in_base settled None = false
-in_base settled (Some k) = settled k
+in_base retired None = false
+in_base retired (Some k) = retired k
 
 abbrev pub in_delta : (ℕ → Bool) → Option ℕ → Bool
-in_delta settled c = not (in_base settled c)
+in_delta retired c = not (in_base retired c)
 
 -- any move counts
 abbrev pub any_carrier : Option ℕ → Bool
@@ -53,36 +53,36 @@ abbrev pub main_moves : ScriptModel → (ℕ → List Move) → (ℕ → Bool) �
 main_moves s ps committed sc ax zero = pos 0
 main_moves s ps committed sc ax (suc k) = main_moves s ps committed sc ax k +ℤ cond (committed k) (main_move s ps k sc ax) (pos 0)
 
--- base and delta where frame a is active and these frames have settled
+-- base and delta where frame a is active and these frames were retired
 abbrev pub base_of : ScriptModel → List Entry → Option ℕ → (ℕ → Bool) → ℕ → Axis → ℤ
-base_of s h a settled sc ax = main_moves s (pulls_of h) (was_named commits h) sc ax (up_to a) +ℤ moved s sc ax (in_base settled) None h
+base_of s h a retired sc ax = main_moves s (pulls_of h) (was_named commits h) sc ax (up_to a) +ℤ sum_of_moves s sc ax (in_base retired) None h
 
 abbrev pub delta_of : ScriptModel → List Entry → (ℕ → Bool) → ℕ → Axis → ℤ
-delta_of s h settled sc ax = moved s sc ax (in_delta settled) None h
+delta_of s h retired sc ax = sum_of_moves s sc ax (in_delta retired) None h
 
 -- the base, the delta and the offset of a scroller
 abbrev pub base : ScriptModel → List Entry → ℕ → Axis → ℤ
-base s h sc ax = base_of s h (active h) (was_named settles h) sc ax
+base s h sc ax = base_of s h (active h) (was_named retires h) sc ax
 
 abbrev pub delta : ScriptModel → List Entry → ℕ → Axis → ℤ
-delta s h sc ax = delta_of s h (was_named settles h) sc ax
+delta s h sc ax = delta_of s h (was_named retires h) sc ax
 
 abbrev pub offset : ScriptModel → List Entry → ℕ → Axis → ℤ
 offset s h sc ax = base s h sc ax +ℤ delta s h sc ax
 
--- the active frame, and the settled frames, as if the pending commit were active
+-- the active frame, and the retired frames, as if the pending commit were active
 abbrev pub active_then : List Entry → Option ℕ
 active_then h = option_or (pending h) (active h)
 
-abbrev pub settled_then : List Entry → ℕ → Bool
-settled_then h k = names (pending h) k || was_named settles h k
+abbrev pub retired_then : List Entry → ℕ → Bool
+retired_then h k = names (pending h) k || was_named retires h k
 
 -- the base and the offset as if the pending commit were active
 abbrev pub pending_base : ScriptModel → List Entry → ℕ → Axis → ℤ
-pending_base s h sc ax = base_of s h (active_then h) (settled_then h) sc ax
+pending_base s h sc ax = base_of s h (active_then h) (retired_then h) sc ax
 
 abbrev pub offset_then : ScriptModel → List Entry → ℕ → Axis → ℤ
-offset_then s h sc ax = pending_base s h sc ax +ℤ delta_of s h (settled_then h) sc ax
+offset_then s h sc ax = pending_base s h sc ax +ℤ delta_of s h (retired_then h) sc ax
 
 -- whether a command sets the value of a scroller outright
 abbrev pub scrolls_to : ℕ → Command → Bool
@@ -101,15 +101,15 @@ pending_offset s h sc ax =
 
 -- the sum of the moves since the last send
 abbrev pub unsent : ScriptModel → List Entry → ℕ → Axis → ℤ
-unsent s h sc ax = moved s sc ax not_sent None h
+unsent s h sc ax = sum_of_moves s sc ax not_sent None h
 
 -- the sum of the moves that the send of frame k carries
 abbrev pub carried : ScriptModel → List Entry → ℕ → ℕ → Axis → ℤ
-carried s h k sc ax = moved s sc ax (by_send k) None h
+carried s h k sc ax = sum_of_moves s sc ax (by_send k) None h
 
 -- the sum of all accepted moves
 abbrev pub all_moved : ScriptModel → List Entry → ℕ → Axis → ℤ
-all_moved s h sc ax = moved s sc ax any_carrier None h
+all_moved s h sc ax = sum_of_moves s sc ax any_carrier None h
 
 -- the scrollers that moves name, by rising id
 abbrev pub scrollers_moved : ScriptModel → List Entry → List ℕ
@@ -130,7 +130,7 @@ next_clamps s h = listed (clamp_move s h) (scrollers (pending_page s h))
 
 -- what is accepted of a scroll: as far as the active range allows
 abbrev pub accepted : ScriptModel → List Entry → ℕ → Axis → ℤ → ℤ
-accepted s h sc ax asked = taken (active_page s h) (offset s h) sc ax asked
+accepted s h sc ax asked = amount_taken (active_page s h) (offset s h) sc ax asked
 
 -- the offsets of the active page, and those of the pending one
 abbrev pub active_offsets : ScriptModel → List Entry → ℕ → Point

@@ -2,16 +2,16 @@
 use Rattle.std.specs.Prelude.{ℕ, zero, suc, ◌==◌, nat_lt, false, cond, ◌||◌, List, [], ◌∷◌, ◌++◌, unwrap_or, Option, Some, None, find}
 use Rattle.geom.specs.declared.rect.Rect.{Rect}
 use Rattle.geom.specs.declared.tile.Place.{Place}
-use Rattle.geom.specs.Common.{nothing}
-use Rattle.geom.specs.Grids.{rect_of}
+use Rattle.geom.specs.Common.{empty_rect}
+use Rattle.geom.specs.Grids.{rect_of_place}
 use Rattle.region.specs.declared.change.LayerChange.{LayerChange}
-use Rattle.region.specs.Lists.{Changed, without}
+use Rattle.region.specs.Lists.{Changed, without_layer}
 use Rattle.tile_tiling.specs.Stamps.{Commit, stamp_of}
 use Rattle.page_layers.specs.declared.command.Command.{Command}
 use Rattle.page_layers.specs.declared.command.Command.TheVariants as command
 use Rattle.page_layers.specs.Layers.{PageLayer, has_id}
 use Rattle.page_layers.specs.Pages.{Page}
-use Rattle.page_layers.specs.Effects.{Change, after, change_of, retiles}
+use Rattle.page_layers.specs.Effects.{Change, page_after_command, layer_change_of, retiles}
 use Rattle.page_layers.specs.declared.moves.Move.{Move}
 use Rattle.model_history.specs.Scripts.{ScriptModel}
 use Rattle.tile_visible.specs.Visible.{grid_of}
@@ -36,13 +36,13 @@ with_some (Some c) ds = with_change c ds
 
 -- the changes of some commands with those of one more, which acts on this page; a layer that it removes is no longer listed
 abbrev pub with_command : Page → Command → List LayerChange → List LayerChange
-with_command p (command.RemoveLayer id) ds = without id ds
-with_command p c ds = with_some (change_of p c) ds
+with_command p (command.RemoveLayer id) ds = without_layer id ds
+with_command p c ds = with_some (layer_change_of p c) ds
 
 -- the changes of these commands together, the first of which acts on this page, behind those of earlier ones
 abbrev pub changed_by : Page → List Command → Changed → Changed
 changed_by p [] done = done
-changed_by p (c ∷ cs) done = changed_by (after p c) cs (record { list = with_command p c done.list; retiled = done.retiled || retiles p c })
+changed_by p (c ∷ cs) done = changed_by (page_after_command p c) cs (record { list = with_command p c done.list; retiled = done.retiled || retiles p c })
 
 -- nothing changed
 abbrev pub unchanged : Changed
@@ -59,8 +59,8 @@ commits_to s ps (suc k) = record { frame = k; changed = frame_changes s ps k } �
 
 -- the rect of a place of a layer, where the page has the layer
 abbrev pub place_rect : Page → Place → Option PageLayer → Rect
-place_rect p place None = nothing
-place_rect p place (Some l) = rect_of (grid_of p l) place
+place_rect p place None = empty_rect
+place_rect p place (Some l) = rect_of_place (grid_of p l) place
 
 -- the stamp of a place of a layer in page n
 unfoldable pub stamp_in : ScriptModel → (ℕ → List Move) → ℕ → ℕ → Place → ℕ

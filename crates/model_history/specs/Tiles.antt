@@ -40,31 +40,31 @@ abbrev pub visible_in : Tree → List TileKey
 visible_in t = visible_keys t.page t.offset t.stamp
 
 -- keys of which some are taken away; where there are none to take away, all stay
-abbrev pub without : List TileKey → List TileKey → List TileKey
-without ks [] = ks
-without ks (q ∷ qs) = filter (λ k. not (has_key (q ∷ qs) k)) ks
+abbrev pub without_keys : List TileKey → List TileKey → List TileKey
+without_keys ks [] = ks
+without_keys ks (q ∷ qs) = filter (λ k. not (has_key (q ∷ qs) k)) ks
 
 -- the keys of the active and of the pending tree
 abbrev pub live_keys : ScriptModel → List Entry → List TileKey
 live_keys s h = keys_of (active_tree s h) ++ keys_of (pending_tree s h)
 
--- the keys that were made and not given up since
-abbrev pub made : List Entry → List TileKey
-made [] = []
-made (e ∷ h) = finishes e.event ++ without (made h) (evicts e.event)
+-- the keys that were made and not evicted since
+abbrev pub made_so_far : List Entry → List TileKey
+made_so_far [] = []
+made_so_far (e ∷ h) = finishes e.event ++ without_keys (made_so_far h) (evicts e.event)
 
 -- the keys that were started and are not made yet
 abbrev pub in_flight : List Entry → List TileKey
 in_flight [] = []
-in_flight (e ∷ h) = starts e.event ++ without (in_flight h) (finishes e.event)
+in_flight (e ∷ h) = starts e.event ++ without_keys (in_flight h) (finishes e.event)
 
--- the ready keys: live, made and not given up
+-- the ready keys: live, made and not evicted
 abbrev pub ready : ScriptModel → List Entry → List TileKey
-ready s h = filter (has_key (live_keys s h)) (made h)
+ready s h = filter (has_key (live_keys s h)) (made_so_far h)
 
 -- how many tiles there are, ready or in flight
-abbrev pub used : ScriptModel → List Entry → ℕ
-used s h = length (ready s h) + length (in_flight h)
+abbrev pub tiles_used : ScriptModel → List Entry → ℕ
+tiles_used s h = length (ready s h) + length (in_flight h)
 
 -- what an activation needs: the visible keys of the pending tree
 abbrev pub required : ScriptModel → List Entry → List TileKey
@@ -84,5 +84,5 @@ abbrev pub are_ready : ScriptModel → List Entry → List TileKey → Bool
 are_ready s h ks = list_all (has_key (ready s h)) ks
 
 -- the visible keys of the active tree that are not ready, in key order
-abbrev pub missing : ScriptModel → List Entry → List TileKey
-missing s h = filter (λ q. not (has_key (ready s h) q)) (visible_in (active_tree s h))
+abbrev pub missing_visible : ScriptModel → List Entry → List TileKey
+missing_visible s h = filter (λ q. not (has_key (ready s h) q)) (visible_in (active_tree s h))

@@ -71,7 +71,7 @@ pub enum Event {
         worker: u32,
         /// The tile.
         key: TileKey,
-        /// The ready tiles that were given up for it, the worst first.
+        /// The ready tiles that were evicted for it, the worst first.
         evicted: Keys,
     },
     /// A worker has made its tile.

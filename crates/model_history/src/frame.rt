@@ -6,7 +6,7 @@ ghost use Rattle.std.specs.Ordering.{int_eq};
 ghost use Rattle.model_scroll_values.specs.Bounds.{IsBoundedNumber};
 ghost use Rattle.page_layers.specs.Effects.{scrolled_by};
 ghost use Rattle.page_layers.specs.Axes.{named_in};
-ghost use Rattle.model_history.specs.Frames.{pulled};
+ghost use Rattle.model_history.specs.Frames.{page_after_pulls};
 ghost use Rattle.model_history.specs.Ended.{AreBounded, TookCommands, TookFrame, StandsBefore, TookScriptFrame, Tells};
 ghost use Rattle.model_history.specs.inner.Ending.{Noted, TookCommand, IsPullOf, is_moved};
 
@@ -33,7 +33,7 @@ fn pull_one(tree: &mut LayerTree, pull: Move)
 // Adds pulls in order.
 fn pull_all(tree: &mut LayerTree, pulls: &[Move])
     requires { AreBounded pulls.now }
-    ensures { tree.new ≡ pulled pulls.now tree.old }
+    ensures { tree.new ≡ page_after_pulls pulls.now tree.old }
 {
     for pull in pulls {
         pull_one(tree, *pull);

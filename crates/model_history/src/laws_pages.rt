@@ -9,7 +9,7 @@ ghost use Rattle.model_history.specs.EventFields.{sends};
 ghost use Rattle.model_history.specs.Scans.{counted};
 ghost use Rattle.page_layers.specs.Axes.{Axis};
 ghost use Rattle.page_layers.specs.Scrollers.{has_scroller, most, main_value};
-ghost use Rattle.model_history.specs.Frames.{commands_of, page, page_before, pulled, main_move, changes, pulls_of};
+ghost use Rattle.model_history.specs.Frames.{commands_of, page, page_before, page_after_pulls, main_move, changes, pulls_of};
 ghost use Rattle.model_history.specs.Accepted.{IsAccepted, TakesAll};
 ghost use Rattle.model_history.specs.Legal.{Legal};
 
@@ -34,7 +34,7 @@ pub fn main_values_are_in_range()
 pub fn unchanged_frames_do_nothing()
     ensures commands { (s : ScriptModel) (ps : ℕ → List Move) (k : ℕ) → changes s ps k ≡ false → commands_of s k ≡ [] }
     ensures moves { (s : ScriptModel) (ps : ℕ → List Move) (k sc : ℕ) (ax : Axis) → changes s ps k ≡ false → main_move s ps k sc ax ≡ pos 0 }
-    ensures page { (s : ScriptModel) (ps : ℕ → List Move) (k : ℕ) → changes s ps k ≡ false → page s ps (suc k) ≡ pulled (ps k) (page s ps k) }
+    ensures page { (s : ScriptModel) (ps : ℕ → List Move) (k : ℕ) → changes s ps k ≡ false → page s ps (suc k) ≡ page_after_pulls (ps k) (page s ps k) }
 {}
 
 /// The commands of an accepted script are taken whatever was pulled.

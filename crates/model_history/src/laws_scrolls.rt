@@ -10,12 +10,12 @@ ghost use Rattle.model_history.specs.Scripts.{ScriptModel};
 ghost use Rattle.model_history.specs.declared.event.Event.TheVariants as event;
 ghost use Rattle.model_history.specs.declared.history.Entry.{Entry};
 ghost use Rattle.page_layers.specs.declared.moves.Move.{Move};
-ghost use Rattle.model_history.specs.EventFields.{sends, commits, settles, pulls, moves};
+ghost use Rattle.model_history.specs.EventFields.{sends, commits, retires, pulls, moves};
 ghost use Rattle.model_history.specs.Scans.{was_named, counted};
 ghost use Rattle.page_layers.specs.Axes.{Axis, amount_in};
 ghost use Rattle.page_layers.specs.Scrollers.{has_scroller, most};
 ghost use Rattle.model_history.specs.Frames.{pulls_of, active, up_to, active_page, pending_page};
-ghost use Rattle.model_history.specs.Scrolls.{moved, in_base, in_delta, by_send, main_moves, base, delta, offset, offset_then, pending_offset, clobbers, unsent, carried, all_moved};
+ghost use Rattle.model_history.specs.Scrolls.{sum_of_moves, in_base, in_delta, by_send, main_moves, base, delta, offset, offset_then, pending_offset, clobbers, unsent, carried, all_moved};
 ghost use Rattle.model_history.specs.Values.{values};
 ghost use Rattle.model_history.specs.ScrollLaws.{frame_in_flight, pulled_by, clamps, AreSums, AreSmall, AreRising};
 ghost use Rattle.model_history.specs.FrameLaws.{AtEach};
@@ -30,8 +30,8 @@ ghost use Rattle.model_history.specs.Legal.{Legal};
 pub fn scrolls_count_once()
     ensures offset { (s : ScriptModel) (h : List Entry) (sc : ℕ) (ax : Axis) → offset s h sc ax ≡ main_moves s (pulls_of h) (was_named commits h) sc ax (up_to (active h)) +ℤ all_moved s h sc ax }
     ensures each_event { (s : ScriptModel) (h : List Entry) (e : Entry) (sc : ℕ) (ax : Axis) → all_moved s (e ∷ h) sc ax ≡ amount_in sc ax (moves s e.event) +ℤ all_moved s h sc ax }
-    ensures one_part { (settled : ℕ → Bool) (carrier : Option ℕ) → in_delta settled carrier ≡ not (in_base settled carrier) }
-    ensures both_parts { (s : ScriptModel) (h : List Entry) (sc : ℕ) (ax : Axis) → all_moved s h sc ax ≡ moved s sc ax (in_base (was_named settles h)) None h +ℤ delta s h sc ax }
+    ensures one_part { (retired : ℕ → Bool) (carrier : Option ℕ) → in_delta retired carrier ≡ not (in_base retired carrier) }
+    ensures both_parts { (s : ScriptModel) (h : List Entry) (sc : ℕ) (ax : Axis) → all_moved s h sc ax ≡ sum_of_moves s sc ax (in_base (was_named retires h)) None h +ℤ delta s h sc ax }
     ensures one_send { (j k : ℕ) (carrier : Option ℕ) → by_send j carrier ≡ true → by_send k carrier ≡ true → j ≡ k }
     ensures pulls { (s : ScriptModel) (workers : ℕ) (h : List Entry) (k sc : ℕ) (ax : Axis) → Legal s workers h → was_named sends h k ≡ true → amount_in sc ax (pulls_of h k) ≡ carried s h k sc ax }
     ensures all_moves { (s : ScriptModel) (workers : ℕ) (h : List Entry) (sc : ℕ) (ax : Axis) → Legal s workers h → all_moved s h sc ax ≡ unsent s h sc ax +ℤ pulled_by (pulls_of h) sc ax (counted sends h) }

@@ -6,8 +6,8 @@ ghost use Rattle.geom.specs.declared.tile.TileKey.{TileKey};
 ghost use Rattle.model_history.specs.Scripts.{ScriptModel};
 ghost use Rattle.model_history.specs.declared.history.Entry.{Entry};
 ghost use Rattle.model_history.specs.Scans.{held};
-ghost use Rattle.geom.specs.KeyLists.{has_key, AreDistinct};
-ghost use Rattle.model_history.specs.Tiles.{made, in_flight, ready, required, pinned};
+ghost use Rattle.geom.specs.KeyLists.{has_key, AreDistinctKeys};
+ghost use Rattle.model_history.specs.Tiles.{made_so_far, in_flight, ready, required, pinned};
 ghost use Rattle.model_history.specs.Legal.{Legal};
 ghost use Rattle.model_history.specs.FrameLaws.{AtEach};
 ghost use Rattle.model_history.specs.TileLaws.{Within, AreApart, is_activate, lacking, is_at_rest};
@@ -25,9 +25,9 @@ pub fn required_stays_ready()
 /// After every legal past no key is made or in flight twice, or both. What a worker holds is in flight,
 /// what is in flight is held by a worker, and by one alone.
 pub fn no_key_twice()
-    ensures made { (s : ScriptModel) (workers : ℕ) (h : List Entry) → Legal s workers h → AreDistinct (made h) }
-    ensures in_flight { (s : ScriptModel) (workers : ℕ) (h : List Entry) → Legal s workers h → AreDistinct (in_flight h) }
-    ensures apart { (s : ScriptModel) (workers : ℕ) (h : List Entry) → Legal s workers h → AreApart (in_flight h) (made h) }
+    ensures made { (s : ScriptModel) (workers : ℕ) (h : List Entry) → Legal s workers h → AreDistinctKeys (made_so_far h) }
+    ensures in_flight { (s : ScriptModel) (workers : ℕ) (h : List Entry) → Legal s workers h → AreDistinctKeys (in_flight h) }
+    ensures apart { (s : ScriptModel) (workers : ℕ) (h : List Entry) → Legal s workers h → AreApart (in_flight h) (made_so_far h) }
     ensures held { (s : ScriptModel) (workers : ℕ) (h : List Entry) → Legal s workers h → (w : ℕ) (q : TileKey) → held w h ≡ Some q → has_key (in_flight h) q ≡ true }
     ensures holder { (s : ScriptModel) (workers : ℕ) (h : List Entry) → Legal s workers h → (q : TileKey) → has_key (in_flight h) q ≡ true → (w : ℕ) × (w < workers) × (held w h ≡ Some q) }
     ensures one_holder { (s : ScriptModel) (workers : ℕ) (h : List Entry) → Legal s workers h → (v w : ℕ) (q : TileKey) → held v h ≡ Some q → held w h ≡ Some q → v ≡ w }

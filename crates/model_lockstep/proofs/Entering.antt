@@ -10,16 +10,16 @@ use Rattle.model_scheduler.specs.declared.states.ImplState.TheVariants as impl
 use Rattle.model_scheduler.specs.declared.states.MainState.TheVariants as main
 use Rattle.model_scheduler.specs.declared.states.Begun.{Begun}
 use Rattle.model_scheduler.specs.declared.states.Begun.TheVariants as begun
-use Rattle.model_scheduler.specs.Kinds.{may, after}
+use Rattle.model_scheduler.specs.Kinds.{may, sched_after}
 use Rattle.model_history.specs.declared.event.Event.{Event}
 use Rattle.model_history.specs.declared.event.Event.TheVariants as event
 use Rattle.model_history.specs.declared.history.Entry.{Entry}
 use Rattle.model_history.specs.Scripts.{ScriptModel}
 use Rattle.model_history.specs.EventFields.{kind_of, sends, begins, starts, finishes, is_last}
 use Rattle.model_history.specs.Scans.{newest, counted, held, has_ended}
-use Rattle.model_history.specs.Tiles.{without, in_flight}
+use Rattle.model_history.specs.Tiles.{without_keys, in_flight}
 use Rattle.geom.specs.KeyLists.{same_key, has_key}
-use Rattle.model_history.specs.Ranking.{first, evicted_for}
+use Rattle.model_history.specs.Ranking.{rank_to_start, evicted_for}
 use Rattle.model_history.specs.Due.{due, due_start, next_input}
 use Rattle.model_history.specs.Legal.{sched, can, Legal}
 use Rattle.model_history.specs.Lockstep.{Step, Enters, Where, While, Pair, waits}
@@ -94,14 +94,14 @@ pub record IsPlain (k : Kind) (e : Event) : Type 0 where
 
 -- what is due in a state that allows it comes
 pub enters : (s : ScriptModel) (h : List Entry) (st : Sched) (k : Kind) (a : ℕ) (e : Event) → Rests s h st → MayAsk k a → a < 3 → may st k ≡ true → IsPlain k e → due s h k a ≡ Some e
-    → Enters s k a h (entry a e ∷ h) × Rests s (entry a e ∷ h) (after st k)
+    → Enters s k a h (entry a e ∷ h) × Rests s (entry a e ∷ h) (sched_after st k)
 enters s h st k a e r asks within m p d =
     let c : can s h k a ≡ Some e = can_then s h st k a r m ∙ d in
-    let x : Rests s (entry a e ∷ h) (after st k) = record {
+    let x : Rests s (entry a e ∷ h) (sched_after st k) = record {
       legal = (r.legal, can_next s 1 h k a e asks within c);
       going = or_neither (is_last e) (has_ended h) p.goes_on r.going;
-      state = (λ i. after (r.state i) (p.kind i));
-      none_flies = (λ i. p.starts_none i ++ without (r.none_flies i) (p.finishes_none i));
+      state = (λ i. sched_after (r.state i) (p.kind i));
+      none_flies = (λ i. p.starts_none i ++ without_keys (r.none_flies i) (p.finishes_none i));
     } in
     ((e, c, refl), x)
 
@@ -126,7 +126,7 @@ same_out : (b : Bool) (q : TileKey) → b ≡ true → cond (not (b || false)) (
 same_out true q e = refl
 same_out false q e = absurd cc
 
-pub pair : (s : ScriptModel) (h : List Entry) (st : Sched) (f : Rank) → Rests s h st → first s h ≡ Some f → Pair s h (after_pair s h f) × Rests s (after_pair s h f) st × Keeps h (after_pair s h f)
+pub pair : (s : ScriptModel) (h : List Entry) (st : Sched) (f : Rank) → Rests s h st → rank_to_start s h ≡ Some f → Pair s h (after_pair s h f) × Rests s (after_pair s h f) st × Keeps h (after_pair s h f)
 pair s h st f r e =
     let start : Event = event.Start 0 f.key (evicted_for s h f) in
     let h1 : List Entry = entry 2 start ∷ h in
@@ -141,7 +141,7 @@ pair s h st f r e =
       legal = (l1, can_next s 1 h1 kind.Done 2 made (omega arith) (omega arith) c1);
       going = r.going;
       state = r.state;
-      none_flies = ap (λ (ks : List TileKey). without (f.key ∷ ks) (f.key ∷ [])) r.none_flies ∙ same_out (same_key f.key f.key) f.key (key_itself f.key);
+      none_flies = ap (λ (ks : List TileKey). without_keys (f.key ∷ ks) (f.key ∷ [])) r.none_flies ∙ same_out (same_key f.key f.key) f.key (key_itself f.key);
     } in
     ((h1, (start, c, refl), (made, c1, refl)), x, record { inputs = refl; begun = refl; sends = omega arith })
 

@@ -13,8 +13,8 @@ use Rattle.model_history.specs.Scans.{newest, counted, was_named, held}
 use Rattle.model_history.specs.Frames.{is_left, pending, unless_activated}
 use Rattle.model_history.specs.Scrolls.{next_pulls, next_clamps}
 use Rattle.model_history.specs.Tiles.{required, are_ready}
-use Rattle.model_history.specs.Ranking.{first, evicted_for}
-use Rattle.model_history.specs.Due.{on_if, due_start, due_done, due_activate, input_now, is_draw}
+use Rattle.model_history.specs.Ranking.{rank_to_start, evicted_for}
+use Rattle.model_history.specs.Due.{on_if, due_start, due_done, due_activate, input_now, asks_draw}
 use Rattle.model_history.specs.Lockstep.{Enters, Stays, Then, Where, waits, is_possible, Pair, MainPart, ActivateNow, PlainFrame, Round}
 use Rattle.model_history.proofs.BoolFacts.{and_right, or_left, is_same}
 use Rattle.model_history.proofs.DueFacts.{entry}
@@ -28,15 +28,15 @@ use Rattle.model_lockstep.proofs.Fronts as fronts
 
 -- ---- a pair
 
-start_is : (s : ScriptModel) (h : List Entry) (o : Option TileKey) (f : Option Rank) (e : Event) → first s h ≡ f → due_start s h 0 o f ≡ Some e → (r : Rank) × (first s h ≡ Some r) × (e ≡ event.Start 0 r.key (evicted_for s h r))
+start_is : (s : ScriptModel) (h : List Entry) (o : Option TileKey) (f : Option Rank) (e : Event) → rank_to_start s h ≡ f → due_start s h 0 o f ≡ Some e → (r : Rank) × (rank_to_start s h ≡ Some r) × (e ≡ event.Start 0 r.key (evicted_for s h r))
 start_is s h None (Some r) e i d = (r, i, cc)
 start_is s h None None e i d = absurd cc
 start_is s h (Some q) f e i d = absurd cc
 
 -- a pair starts and makes the tile that is first
-pub pair_is : (s : ScriptModel) (h g : List Entry) → Pair s h g → (r : Rank) × (first s h ≡ Some r) × (g ≡ after_pair s h r)
+pub pair_is : (s : ScriptModel) (h g : List Entry) → Pair s h g → (r : Rank) × (rank_to_start s h ≡ Some r) × (g ≡ after_pair s h r)
 pair_is s h g (m, (e, c, is_m), (d, b, is_g)) =
-    let (r, i, starts) = start_is s h (held 0 h) (first s h) e refl (can_due s h kind.Start 2 e c).1 in
+    let (r, i, starts) = start_is s h (held 0 h) (rank_to_start s h) e refl (can_due s h kind.Start 2 e c).1 in
     let m_is : m ≡ entry 2 (event.Start 0 r.key (evicted_for s h r)) ∷ h = is_m ∙ ap (λ (v : Event). entry 2 v ∷ h) starts in
     let done : due_done 0 (held 0 m) ≡ Some d = (can_due s m kind.Done 2 d b).1 in
     let made : Some (event.DoneTile 0 r.key) ≡ Some d = ap (λ (z : List Entry). due_done 0 (held 0 z)) (sym m_is) ∙ done in
@@ -105,8 +105,8 @@ closes s h g (m, (e, c, is_m), (f, b, is_g)) =
 
 begins_left : (s : ScriptModel) (h g : List Entry) → Enters s kind.BeginPlain 0 h g → (is_left s h ≡ true) × (counted sends g ≡ counted sends h)
 begins_left s h g (e, c, is_g) =
-    let d = if_is (not (is_draw (input_now s h)) && is_left s h) event.BeginPlain e (can_due s h kind.BeginPlain 0 e c).1 in
-    (and_right (not (is_draw (input_now s h))) (is_left s h) d.0, ap (λ (z : List Entry). counted sends z) (is_g ∙ ap (λ (v : Event). entry 0 v ∷ h) d.1))
+    let d = if_is (not (asks_draw (input_now s h)) && is_left s h) event.BeginPlain e (can_due s h kind.BeginPlain 0 e c).1 in
+    (and_right (not (asks_draw (input_now s h))) (is_left s h) d.0, ap (λ (z : List Entry). counted sends z) (is_g ∙ ap (λ (v : Event). entry 0 v ∷ h) d.1))
 
 -- what an impl frame for a main frame alone does
 record FrameDoes (s : ScriptModel) (h g : List Entry) : Type 0 where

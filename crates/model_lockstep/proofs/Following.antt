@@ -8,15 +8,15 @@ use Rattle.model_history.specs.Scripts.{ScriptModel}
 use Rattle.model_history.specs.Legal.{can}
 use Rattle.model_history.specs.Lockstep.{Step, Stays, Then, Where, While, AtMost}
 use Rattle.model_history.proofs.LockstepWords.{Good}
-use Rattle.model_lockstep.specs.Walks.{Run, Way, CanFollow, Follows, IsOnWay, TurnsOf, Turns, entering}
+use Rattle.model_lockstep.specs.Walks.{WalkState, Way, CanFollow, Follows, IsOnWay, TurnsOf, Turns, entering}
 use Rattle.model_lockstep.proofs.Fronts.{Grows, enters}
 
 -- what can be entered is possible
-pub not_none : (k : Kind) (a : ℕ) (r : Run) → CanFollow (entering k a) r → can r.script r.past k a ≡ None → ⊥
+pub not_none : (k : Kind) (a : ℕ) (r : WalkState) → CanFollow (entering k a) r → can r.script r.past k a ≡ None → ⊥
 not_none k a r c n = let (e, d, i) = c.way in let j : can r.script r.past k a ≡ Some e = d in absurd cc
 
 -- a way that leads on and only adds entries begins where one stands
-pub begun : (P : Way) (r : Run) → ((s : ScriptModel) → Grows (P s)) → CanFollow P r → IsOnWay P r r
+pub begun : (P : Way) (r : WalkState) → ((s : ScriptModel) → Grows (P s)) → CanFollow P r → IsOnWay P r r
 begun P r grows c = let g = grows r.script r.past c.end c.way in record { same = refl; written = refl; end = c.end; way = c.way; newer = g.0; beginning = g.1 }
 
 -- ---- one way and then another
@@ -24,22 +24,22 @@ begun P r grows c = let g = grows r.script r.past c.end c.way in record { same =
 abbrev pub then' : Way → Way → Way
 then' P Q s = Then (P s) (Q s)
 
-pub first_part : (P Q : Way) (r : Run) → CanFollow (then' P Q) r → CanFollow P r
+pub first_part : (P Q : Way) (r : WalkState) → CanFollow (then' P Q) r → CanFollow P r
 first_part P Q r c = let (m, p, q) = c.way in record { end = m; way = p }
 
 -- the rest can be followed from where the first part leads, since that leads to one past only
-pub rest : (P Q : Way) (r m : Run) → ((s : ScriptModel) → Good s (P s)) → CanFollow (then' P Q) r → Follows P r m → CanFollow Q m
+pub rest : (P Q : Way) (r m : WalkState) → ((s : ScriptModel) → Good s (P s)) → CanFollow (then' P Q) r → Follows P r m → CanFollow Q m
 rest P Q r m good c f =
     let (n, p, q) = c.way in
     let one : n ≡ m.past = (good r.script).one r.past n m.past p f.way in
     let there : Q r.script m.past c.end = subst (λ (z : List Entry). Q r.script z c.end) one q in
     record { end = c.end; way = subst (λ (s : ScriptModel). Q s m.past c.end) (sym f.same) there }
 
-pub joined : (P Q : Way) (r m n : Run) → Follows P r m → Follows Q m n → Follows (then' P Q) r n
+pub joined : (P Q : Way) (r m n : WalkState) → Follows P r m → Follows Q m n → Follows (then' P Q) r n
 joined P Q r m n f h = record { same = h.same ∙ f.same; written = h.written ∙ f.written; way = (m.past, f.way, subst (λ (s : ScriptModel). Q s m.past n.past) f.same h.way) }
 
 -- the way is left in its first part
-pub left_in_first : (P Q : Way) (r m : Run) → ((s : ScriptModel) → Good s (P s)) → ((s : ScriptModel) → Grows (Q s)) → CanFollow (then' P Q) r → IsOnWay P r m → IsOnWay (then' P Q) r m
+pub left_in_first : (P Q : Way) (r m : WalkState) → ((s : ScriptModel) → Good s (P s)) → ((s : ScriptModel) → Grows (Q s)) → CanFollow (then' P Q) r → IsOnWay P r m → IsOnWay (then' P Q) r m
 left_in_first P Q r m good grows c w =
     let (n, p, q) = c.way in
     let one : n ≡ w.end = (good r.script).one r.past n w.end p w.way in
@@ -47,7 +47,7 @@ left_in_first P Q r m good grows c w =
     record { same = w.same; written = w.written; end = c.end; way = c.way; newer = more.0 ++ w.newer; beginning = more.1 ∙ ap (λ (z : List Entry). more.0 ++ z) (one ∙ w.beginning) ∙ sym (append_assoc more.0 w.newer m.past) }
 
 -- it is left after its first part
-pub left_in_rest : (P Q : Way) (r m n : Run) → Follows P r m → IsOnWay Q m n → IsOnWay (then' P Q) r n
+pub left_in_rest : (P Q : Way) (r m n : WalkState) → Follows P r m → IsOnWay Q m n → IsOnWay (then' P Q) r n
 left_in_rest P Q r m n f w = record {
   same = w.same ∙ f.same;
   written = w.written ∙ f.written;
@@ -58,7 +58,7 @@ left_in_rest P Q r m n f w = record {
 }
 
 -- nothing was played since
-pub on_same : (P : Way) (r m n : Run) → n ≡ m → IsOnWay P r m → IsOnWay P r n
+pub on_same : (P : Way) (r m n : WalkState) → n ≡ m → IsOnWay P r m → IsOnWay P r n
 on_same P r m n e w = subst (IsOnWay P r) (sym e) w
 
 -- a fact that holds whatever the answer
@@ -86,26 +86,26 @@ choose_else : (b : Bool) (A B : Type 0) → b ≡ false → B → MatchBool b A 
 choose_else b A B e x = subst (λ (c : Bool). MatchBool c A B) (sym e) x
 
 module _ (test : ScriptModel → List Entry → Bool) (P Q : Way) where
-  pub can_if : (r : Run) → test r.script r.past ≡ true → CanFollow (where' test P Q) r → CanFollow P r
+  pub can_if : (r : WalkState) → test r.script r.past ≡ true → CanFollow (where' test P Q) r → CanFollow P r
   can_if r t c = record { end = c.end; way = chosen (test r.script r.past) (P r.script r.past c.end) (Q r.script r.past c.end) t c.way }
 
-  pub can_else : (r : Run) → test r.script r.past ≡ false → CanFollow (where' test P Q) r → CanFollow Q r
+  pub can_else : (r : WalkState) → test r.script r.past ≡ false → CanFollow (where' test P Q) r → CanFollow Q r
   can_else r t c = record { end = c.end; way = not_chosen (test r.script r.past) (P r.script r.past c.end) (Q r.script r.past c.end) t c.way }
 
-  pub follows_if : (r m : Run) → test r.script r.past ≡ true → Follows P r m → Follows (where' test P Q) r m
+  pub follows_if : (r m : WalkState) → test r.script r.past ≡ true → Follows P r m → Follows (where' test P Q) r m
   follows_if r m t f = record { same = f.same; written = f.written; way = choose (test r.script r.past) (P r.script r.past m.past) (Q r.script r.past m.past) t f.way }
 
-  pub follows_else : (r m : Run) → test r.script r.past ≡ false → Follows Q r m → Follows (where' test P Q) r m
+  pub follows_else : (r m : WalkState) → test r.script r.past ≡ false → Follows Q r m → Follows (where' test P Q) r m
   follows_else r m t f = record { same = f.same; written = f.written; way = choose_else (test r.script r.past) (P r.script r.past m.past) (Q r.script r.past m.past) t f.way }
 
-  pub on_if : (r m : Run) → test r.script r.past ≡ true → IsOnWay P r m → IsOnWay (where' test P Q) r m
+  pub on_if : (r m : WalkState) → test r.script r.past ≡ true → IsOnWay P r m → IsOnWay (where' test P Q) r m
   on_if r m t w = record { same = w.same; written = w.written; end = w.end; way = choose (test r.script r.past) (P r.script r.past w.end) (Q r.script r.past w.end) t w.way; newer = w.newer; beginning = w.beginning }
 
-  pub on_else : (r m : Run) → test r.script r.past ≡ false → IsOnWay Q r m → IsOnWay (where' test P Q) r m
+  pub on_else : (r m : WalkState) → test r.script r.past ≡ false → IsOnWay Q r m → IsOnWay (where' test P Q) r m
   on_else r m t w = record { same = w.same; written = w.written; end = w.end; way = choose_else (test r.script r.past) (P r.script r.past w.end) (Q r.script r.past w.end) t w.way; newer = w.newer; beginning = w.beginning }
 
 -- nothing is played where there is nothing to do
-pub stayed : (r : Run) → Follows (λ s. Stays) r r
+pub stayed : (r : WalkState) → Follows (λ s. Stays) r r
 stayed r = record { same = refl; written = refl; way = refl }
 
 -- ---- loops
@@ -117,7 +117,7 @@ unrolled : (test : List Entry → Bool) (P : Step) (h g : List Entry) → test h
 unrolled test P h g t (zero, (f, e)) = absurd cc
 unrolled test P h g t (suc n, (u, m, p, w)) = (m, p, (n, w))
 
-module _ (test : ScriptModel → List Entry → Bool) (P : Way) (first now : Run) where
+module _ (test : ScriptModel → List Entry → Bool) (P : Way) (first now : WalkState) where
   -- a loop that goes on has a turn
   pub has_turn : test now.script now.past ≡ true → Turns (looped test P) first now → CanFollow P now
   has_turn t x =
@@ -126,7 +126,7 @@ module _ (test : ScriptModel → List Entry → Bool) (P : Way) (first now : Run
       record { end = m; way = subst (λ (s : ScriptModel). P s now.past m) (sym x.same) p }
 
   -- the loop goes on after a turn
-  pub turned : (next : Run) → ((s : ScriptModel) → Good s (P s)) → test now.script now.past ≡ true → Turns (looped test P) first now → Follows P now next → Turns (looped test P) first next
+  pub turned : (next : WalkState) → ((s : ScriptModel) → Good s (P s)) → test now.script now.past ≡ true → Turns (looped test P) first now → Follows P now next → Turns (looped test P) first next
   turned next good t x f =
       let u : test first.script now.past ≡ true = ap (λ (s : ScriptModel). test s now.past) (sym x.same) ∙ t in
       let (m, p, w) = unrolled (test first.script) (P first.script) now.past x.end u x.way in
@@ -145,7 +145,7 @@ module _ (test : ScriptModel → List Entry → Bool) (P : Way) (first now : Run
   over f x = record { same = x.same; written = x.written; way = x.leads now.past (zero, (ap (λ (s : ScriptModel). test s now.past) (sym x.same) ∙ f, refl)) }
 
   -- it is left in a turn
-  pub left_in_turn : (mid : Run) → ((s : ScriptModel) → Good s (P s)) → ((s : ScriptModel) → Grows (looped test P s)) → test now.script now.past ≡ true
+  pub left_in_turn : (mid : WalkState) → ((s : ScriptModel) → Good s (P s)) → ((s : ScriptModel) → Grows (looped test P s)) → test now.script now.past ≡ true
       → Turns (looped test P) first now → IsOnWay P now mid → IsOnWay (looped test P) first mid
   left_in_turn mid good grows t x o =
       let u : test first.script now.past ≡ true = ap (λ (s : ScriptModel). test s now.past) (sym x.same) ∙ t in
@@ -167,7 +167,7 @@ module _ (test : ScriptModel → List Entry → Bool) (P : Way) (first now : Run
 abbrev pub limited : (ScriptModel → List Entry → Bool) → Way → ℕ → Way
 limited test P n s = AtMost n (test s) (P s)
 
-module _ (test : ScriptModel → List Entry → Bool) (P : Way) (first now : Run) (most n : ℕ) where
+module _ (test : ScriptModel → List Entry → Bool) (P : Way) (first now : WalkState) (most n : ℕ) where
   abbrev Goes : ℕ → Type 0
   Goes k = TurnsOf (limited test P most) (limited test P k) first now
 
@@ -178,7 +178,7 @@ module _ (test : ScriptModel → List Entry → Bool) (P : Way) (first now : Run
       let (m, p, w) = chosen (test first.script now.past) (Then (P first.script) (AtMost n (test first.script) (P first.script)) now.past x.end) (Stays now.past x.end) u x.way in
       record { end = m; way = subst (λ (s : ScriptModel). P s now.past m) (sym x.same) p }
 
-  next_turned : (next : Run) → ((s : ScriptModel) → Good s (P s)) → test now.script now.past ≡ true → Goes (suc n) → Follows P now next → TurnsOf (limited test P most) (limited test P n) first next
+  next_turned : (next : WalkState) → ((s : ScriptModel) → Good s (P s)) → test now.script now.past ≡ true → Goes (suc n) → Follows P now next → TurnsOf (limited test P most) (limited test P n) first next
   next_turned next good t x f =
       let u : test first.script now.past ≡ true = ap (λ (s : ScriptModel). test s now.past) (sym x.same) ∙ t in
       let (m, p, w) = chosen (test first.script now.past) (Then (P first.script) (AtMost n (test first.script) (P first.script)) now.past x.end) (Stays now.past x.end) u x.way in
@@ -192,7 +192,7 @@ module _ (test : ScriptModel → List Entry → Bool) (P : Way) (first now : Run
         leads = λ g v. x.leads g (choose (test first.script now.past) (Then (P first.script) (AtMost n (test first.script) (P first.script)) now.past g) (Stays now.past g) u (next.past, q, v));
       }
 
-  next_left : (mid : Run) → ((s : ScriptModel) → Good s (P s)) → ((s : ScriptModel) → Grows (limited test P n s)) → test now.script now.past ≡ true
+  next_left : (mid : WalkState) → ((s : ScriptModel) → Good s (P s)) → ((s : ScriptModel) → Grows (limited test P n s)) → test now.script now.past ≡ true
       → Goes (suc n) → IsOnWay P now mid → IsOnWay (limited test P most) first mid
   next_left mid good grows t x o =
       let u : test first.script now.past ≡ true = ap (λ (s : ScriptModel). test s now.past) (sym x.same) ∙ t in
@@ -215,18 +215,18 @@ module _ (test : ScriptModel → List Entry → Bool) (P : Way) (first now : Run
       let u : test first.script now.past ≡ false = ap (λ (s : ScriptModel). test s now.past) (sym x.same) ∙ f in
       record { same = x.same; written = x.written; way = x.leads now.past (choose_else (test first.script now.past) (Then (P first.script) (AtMost n (test first.script) (P first.script)) now.past now.past) (Stays now.past now.past) u refl) }
 
-module _ (test : ScriptModel → List Entry → Bool) (P : Way) (first now : Run) (most left : ℕ) where
+module _ (test : ScriptModel → List Entry → Bool) (P : Way) (first now : WalkState) (most left : ℕ) where
   some_left : 0 < left → left ≡ suc (left - 1)
   some_left l = omega (arith, l)
 
   pub has_turn_left : 0 < left → test now.script now.past ≡ true → TurnsOf (limited test P most) (limited test P left) first now → CanFollow P now
   has_turn_left l t x = has_next test P first now most (left - 1) t (subst (λ (k : ℕ). TurnsOf (limited test P most) (limited test P k) first now) (some_left l) x)
 
-  pub one_turned : (next : Run) → ((s : ScriptModel) → Good s (P s)) → 0 < left → test now.script now.past ≡ true → TurnsOf (limited test P most) (limited test P left) first now → Follows P now next
+  pub one_turned : (next : WalkState) → ((s : ScriptModel) → Good s (P s)) → 0 < left → test now.script now.past ≡ true → TurnsOf (limited test P most) (limited test P left) first now → Follows P now next
       → TurnsOf (limited test P most) (limited test P (left - 1)) first next
   one_turned next good l t x f = next_turned test P first now most (left - 1) next good t (subst (λ (k : ℕ). TurnsOf (limited test P most) (limited test P k) first now) (some_left l) x) f
 
-  pub left_in_one : (mid : Run) → ((s : ScriptModel) → Good s (P s)) → ((k : ℕ) (s : ScriptModel) → Grows (limited test P k s)) → 0 < left → test now.script now.past ≡ true
+  pub left_in_one : (mid : WalkState) → ((s : ScriptModel) → Good s (P s)) → ((k : ℕ) (s : ScriptModel) → Grows (limited test P k s)) → 0 < left → test now.script now.past ≡ true
       → TurnsOf (limited test P most) (limited test P left) first now → IsOnWay P now mid → IsOnWay (limited test P most) first mid
   left_in_one mid good grows l t x o = next_left test P first now most (left - 1) mid good (grows (left - 1)) t (subst (λ (k : ℕ). TurnsOf (limited test P most) (limited test P k) first now) (some_left l) x) o
 
@@ -235,18 +235,18 @@ module _ (test : ScriptModel → List Entry → Bool) (P : Way) (first now : Run
 
 -- ---- a way of which the rest is one part and then another
 
-module _ (W P Q : Way) (first now : Run) where
+module _ (W P Q : Way) (first now : WalkState) where
   pub part_there : TurnsOf W (then' P Q) first now → CanFollow P now
   part_there x = let (m, p, q) = x.way in record { end = m; way = subst (λ (s : ScriptModel). P s now.past m) (sym x.same) p }
 
-  pub part_turned : (next : Run) → ((s : ScriptModel) → Good s (P s)) → TurnsOf W (then' P Q) first now → Follows P now next → TurnsOf W Q first next
+  pub part_turned : (next : WalkState) → ((s : ScriptModel) → Good s (P s)) → TurnsOf W (then' P Q) first now → Follows P now next → TurnsOf W Q first next
   part_turned next good x f =
       let (m, p, q) = x.way in
       let v : P first.script now.past next.past = subst (λ (s : ScriptModel). P s now.past next.past) x.same f.way in
       let one : m ≡ next.past = (good first.script).one now.past m next.past p v in
       record { same = f.same ∙ x.same; written = f.written ∙ x.written; end = x.end; way = subst (λ (z : List Entry). Q first.script z x.end) one q; leads = λ g u. x.leads g (next.past, v, u) }
 
-  pub part_left : (mid : Run) → ((s : ScriptModel) → Good s (P s)) → ((s : ScriptModel) → Grows (Q s)) → TurnsOf W (then' P Q) first now → IsOnWay P now mid → IsOnWay W first mid
+  pub part_left : (mid : WalkState) → ((s : ScriptModel) → Good s (P s)) → ((s : ScriptModel) → Grows (Q s)) → TurnsOf W (then' P Q) first now → IsOnWay P now mid → IsOnWay W first mid
   part_left mid good grows x o =
       let (m, p, q) = x.way in
       let v : P first.script now.past o.end = subst (λ (s : ScriptModel). P s now.past o.end) x.same o.way in
@@ -272,17 +272,17 @@ then_on_ok (Ok x) P Q h f = f h
 then_on_ok (Err e) P Q h f = tt
 
 -- nothing was played where the first event was refused
-pub refused : (P : Way) (r m : Run) → ((s : ScriptModel) → Grows (P s)) → CanFollow P r → m ≡ r → IsOnWay P r m
+pub refused : (P : Way) (r m : WalkState) → ((s : ScriptModel) → Grows (P s)) → CanFollow P r → m ≡ r → IsOnWay P r m
 refused P r m grows c e = on_same P r r m e (begun P r grows c)
 
 -- it is left between two turns
-pub left_between : (W R : Way) (first now mid : Run) → ((s : ScriptModel) → Grows (R s)) → TurnsOf W R first now → mid ≡ now → IsOnWay W first mid
+pub left_between : (W R : Way) (first now mid : WalkState) → ((s : ScriptModel) → Grows (R s)) → TurnsOf W R first now → mid ≡ now → IsOnWay W first mid
 left_between W R first now mid grows x e =
     let more = grows first.script now.past x.end x.way in
     on_same W first now mid e (record { same = x.same; written = x.written; end = x.end; way = x.leads x.end x.way; newer = more.0; beginning = more.1 })
 
 -- the last event was refused
-pub last_refused : (P : Way) (k : Kind) (a : ℕ) (r m n : Run) → ((s : ScriptModel) → Good s (P s)) → CanFollow (then' P (entering k a)) r → Follows P r m → n ≡ m → IsOnWay (then' P (entering k a)) r n
+pub last_refused : (P : Way) (k : Kind) (a : ℕ) (r m n : WalkState) → ((s : ScriptModel) → Good s (P s)) → CanFollow (then' P (entering k a)) r → Follows P r m → n ≡ m → IsOnWay (then' P (entering k a)) r n
 last_refused P k a r m n good c f e = left_in_rest P (entering k a) r m n f (refused (entering k a) m n (λ s. enters s k a) (rest P (entering k a) r m good c f) e)
 
 -- whatever the answer is

@@ -23,7 +23,7 @@ use Rattle.model_history.proofs.DueRows.{MayAsk}
 use Rattle.model_history.proofs.LockstepWords.{Good, can_due}
 use Rattle.model_history.proofs.LockstepWords as words
 use Rattle.model_lockstep.specs.Measures.{tiles_left, rounds_left}
-use Rattle.model_lockstep.specs.Walks.{Run, CanFollow, Follows, IsOnWay, TurnsOf, BeginsLockstep, entering, main_answer, commit_made, pairs_to_activation, activation_where, no_draw, frame_end, pairs_at_most, pairs_of_draw, all_pairs, input_played, inputs_from, main_part_where, activation_now, draw_or_skip, draw_end, draw_activated, draw_made, rounds_to_await, round_where, settled_rest, last_rounds, run_end}
+use Rattle.model_lockstep.specs.Walks.{WalkState, CanFollow, Follows, IsOnWay, TurnsOf, BeginsLockstep, entering, main_answer, commit_made, pairs_to_activation, activation_where, no_draw, frame_end, pairs_at_most, pairs_of_draw, all_pairs, input_played, inputs_from, main_part_where, activation_now, draw_or_skip, draw_end, draw_activated, draw_made, rounds_to_await, round_where, settled_rest, last_rounds, run_end}
 use Rattle.model_lockstep.proofs.Fronts.{Grows}
 use Rattle.model_lockstep.proofs.Fronts as fronts
 use Rattle.model_lockstep.proofs.Falls.{if_is, pair_falls, round_falls}
@@ -146,16 +146,16 @@ inputs_grow (i ∷ is) s = fronts.both (InputStep s i) (InputSteps s is) (input_
 
 -- ---- what a turn leaves less of
 
-pub fewer_tiles : (r m : Run) → Follows Pair r m → tiles_left m.script m.past < tiles_left r.script r.past
+pub fewer_tiles : (r m : WalkState) → Follows Pair r m → tiles_left m.script m.past < tiles_left r.script r.past
 fewer_tiles r m f = subst (λ (s : ScriptModel). tiles_left s m.past < tiles_left r.script r.past) (sym f.same) (pair_falls r.script r.past m.past f.way)
 
-pub fewer_rounds : (r m : Run) → Follows Round r m → rounds_left m.script m.past < rounds_left r.script r.past
+pub fewer_rounds : (r m : WalkState) → Follows Round r m → rounds_left m.script m.past < rounds_left r.script r.past
 fewer_rounds r m f = subst (λ (s : ScriptModel). rounds_left s m.past < rounds_left r.script r.past) (sym f.same) (round_falls r.script r.past m.past f.way)
 
 -- ---- the main side
 
 -- after a send a frame was sent
-pub sent_one : (r m : Run) → Follows (entering kind.Send 0) r m → (k : ℕ) × (newest sends m.past ≡ Some k)
+pub sent_one : (r m : WalkState) → Follows (entering kind.Send 0) r m → (k : ℕ) × (newest sends m.past ≡ Some k)
 sent_one r m f =
     let (e, c, is_m) = f.way in
     let k : ℕ = counted sends r.past in
@@ -167,11 +167,11 @@ none_aborts : (b : Bool) (o : Option Event) → o ≡ None → is_some (cond b o
 none_aborts true o e = ap is_some e
 none_aborts false o e = refl
 
-pub changed_goes_on : (r : Run) (k : ℕ) → newest sends r.past ≡ Some k → changes r.script (pulls_of r.past) k ≡ true → is_possible r.script kind.Abort 1 r.past ≡ false
+pub changed_goes_on : (r : WalkState) (k : ℕ) → newest sends r.past ≡ Some k → changes r.script (pulls_of r.past) k ≡ true → is_possible r.script kind.Abort 1 r.past ≡ false
 changed_goes_on r k n t =
     none_aborts (is_open r.past kind.Abort) (due_abort r.script r.past (newest sends r.past)) (ap (due_abort r.script r.past) n ∙ ap (λ b. on_if (not b) (event.Abort k)) t)
 
-pub unchanged_aborts : (r : Run) (k : ℕ) → CanFollow main_answer r → newest sends r.past ≡ Some k → changes r.script (pulls_of r.past) k ≡ false → is_possible r.script kind.Abort 1 r.past ≡ true
+pub unchanged_aborts : (r : WalkState) (k : ℕ) → CanFollow main_answer r → newest sends r.past ≡ Some k → changes r.script (pulls_of r.past) k ≡ false → is_possible r.script kind.Abort 1 r.past ≡ true
 unchanged_aborts r k c n f = by_test (is_possible r.script kind.Abort 1 r.past) (λ t. t) stuck
   where
     stuck : is_possible r.script kind.Abort 1 r.past ≡ false → is_possible r.script kind.Abort 1 r.past ≡ true
@@ -183,7 +183,7 @@ unchanged_aborts r k c n f = by_test (is_possible r.script kind.Abort 1 r.past) 
 
 -- ---- the pairs of a draw
 
-module _ (r m : Run) (n : ℕ) where
+module _ (r m : WalkState) (n : ℕ) where
   pub can_most : n ≡ r.script.raster_per_frame → CanFollow pairs_of_draw r → CanFollow (pairs_at_most n) r
   can_most e c = record { end = c.end; way = subst (λ (k : ℕ). AtMost k (has_first r.script) (Pair r.script) r.past c.end) (sym e) c.way }
 
@@ -202,17 +202,17 @@ pub inputs_good : (is : List Input) (s : ScriptModel) → Good s (InputSteps s i
 inputs_good is s = words.input_steps s is
 
 -- inputs of which this one comes first
-module _ (all rest after : List Input) (i : Input) (first now : Run) where
-  abbrev Goes : List Input → Run → Type 0
+module _ (all rest after : List Input) (i : Input) (first now : WalkState) where
+  abbrev Goes : List Input → WalkState → Type 0
   Goes is r = TurnsOf (inputs_from all) (inputs_from is) first r
 
   pub can_input : rest ≡ i ∷ after → Goes rest now → CanFollow (input_played i) now
   can_input e x = part_there (inputs_from all) (input_played i) (inputs_from after) first now (subst (λ (is : List Input). Goes is now) e x)
 
-  pub input_turned : (next : Run) → rest ≡ i ∷ after → Goes rest now → Follows (input_played i) now next → TurnsOf (inputs_from all) (inputs_from after) first next
+  pub input_turned : (next : WalkState) → rest ≡ i ∷ after → Goes rest now → Follows (input_played i) now next → TurnsOf (inputs_from all) (inputs_from after) first next
   input_turned next e x f = part_turned (inputs_from all) (input_played i) (inputs_from after) first now next (input_good i) (subst (λ (is : List Input). Goes is now) e x) f
 
-  pub input_left : (mid : Run) → rest ≡ i ∷ after → Goes rest now → IsOnWay (input_played i) now mid → IsOnWay (inputs_from all) first mid
+  pub input_left : (mid : WalkState) → rest ≡ i ∷ after → Goes rest now → IsOnWay (input_played i) now mid → IsOnWay (inputs_from all) first mid
   input_left mid e x w = part_left (inputs_from all) (input_played i) (inputs_from after) first now mid (input_good i) (inputs_grow after) (subst (λ (is : List Input). Goes is now) e x) w
 
 no_inputs : (is : List Input) → length is ≡ 0 → is ≡ []
@@ -220,13 +220,13 @@ no_inputs [] e = refl
 no_inputs (i ∷ is) e = absurd (omega (arith, e))
 
 -- where none comes all were played
-pub inputs_over : (all rest : List Input) (first now : Run) → length rest ≡ 0 → TurnsOf (inputs_from all) (inputs_from rest) first now → Follows (inputs_from all) first now
+pub inputs_over : (all rest : List Input) (first now : WalkState) → length rest ≡ 0 → TurnsOf (inputs_from all) (inputs_from rest) first now → Follows (inputs_from all) first now
 inputs_over all rest first now e x =
     record { same = x.same; written = x.written; way = x.leads now.past (subst (λ (is : List Input). inputs_from is first.script now.past now.past) (sym (no_inputs rest e)) refl) }
 
 -- ---- the whole run
 
-module _ (r : Run) (is : List Input) where
+module _ (r : WalkState) (is : List Input) where
   pub can_play : IsAccepted r.script → r.past ≡ [] → is ≡ r.script.inputs → CanFollow (then' (inputs_from is) run_end) r
   can_play a e i =
       let w = whole_run r.script a in
@@ -235,10 +235,10 @@ module _ (r : Run) (is : List Input) where
   plays_whole : (h : List Entry) → r.past ≡ [] → is ≡ r.script.inputs → then' (inputs_from is) run_end r.script r.past h → WholeRun r.script [] h
   plays_whole h e i w = subst (λ (js : List Input). then' (inputs_from js) run_end r.script [] h) i (subst (λ (g : List Entry). then' (inputs_from is) run_end r.script g h) e w)
 
-  pub is_lockstep : (m : Run) → r.past ≡ [] → is ≡ r.script.inputs → Follows (then' (inputs_from is) run_end) r m → IsLockstep r.script (reverse m.past)
+  pub is_lockstep : (m : WalkState) → r.past ≡ [] → is ≡ r.script.inputs → Follows (then' (inputs_from is) run_end) r m → IsLockstep r.script (reverse m.past)
   is_lockstep m e i f = subst (λ (h : List Entry). WholeRun r.script [] h) (sym (reverse-reverse m.past)) (plays_whole m.past e i f.way)
 
-  pub begins_lockstep : (m : Run) → r.past ≡ [] → is ≡ r.script.inputs → IsOnWay (then' (inputs_from is) run_end) r m → BeginsLockstep r.script (reverse m.past)
+  pub begins_lockstep : (m : WalkState) → r.past ≡ [] → is ≡ r.script.inputs → IsOnWay (then' (inputs_from is) run_end) r m → BeginsLockstep r.script (reverse m.past)
   begins_lockstep m e i w =
       let whole : List Entry = reverse m.past ++ reverse w.newer in
       let same : w.end ≡ reverse whole = w.beginning ∙ (sym (reverse-reverse (w.newer ++ m.past)) ∙ ap (λ (h : List Entry). reverse h) (reverse-append w.newer m.past)) in

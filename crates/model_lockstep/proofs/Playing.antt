@@ -5,7 +5,7 @@ use Rattle.model_scheduler.specs.declared.Sched.{Sched}
 use Rattle.model_scheduler.specs.declared.kind.Kind.TheVariants as kind
 use Rattle.model_scheduler.specs.declared.states.Begun.{Begun}
 use Rattle.model_scheduler.specs.declared.states.Begun.TheVariants as begun
-use Rattle.model_scheduler.specs.Kinds.{is_inside_deadline, may, after}
+use Rattle.model_scheduler.specs.Kinds.{is_inside_deadline, may, sched_after}
 use Rattle.model_history.specs.declared.event.Event.{Event}
 use Rattle.model_history.specs.declared.event.Event.TheVariants as event
 use Rattle.model_history.specs.declared.history.Entry.{Entry}
@@ -15,9 +15,9 @@ use Rattle.model_history.specs.EventFields.{sends, begins}
 use Rattle.model_history.specs.Scans.{newest, counted}
 use Rattle.model_history.specs.Frames.{changes, pulls_of, is_left, active, pending}
 use Rattle.model_history.specs.Scrolls.{next_pulls, next_clamps}
-use Rattle.model_history.specs.Tiles.{required, are_ready, missing}
-use Rattle.model_history.specs.Ranking.{first}
-use Rattle.model_history.specs.Due.{on_if, due, due_activate, due_draw, due_skip, next_input, input_now, is_draw}
+use Rattle.model_history.specs.Tiles.{required, are_ready, missing_visible}
+use Rattle.model_history.specs.Ranking.{rank_to_start}
+use Rattle.model_history.specs.Due.{on_if, due, due_activate, due_draw, due_skip, next_input, input_now, asks_draw}
 use Rattle.model_history.specs.Lockstep.{Step, Enters, Stays, Then, Where, AtMost, waits, may_send, has_first, is_possible, Pair, MainPart, ActivateNow, PlainFrame, Round, DrawFrame}
 use Rattle.model_history.proofs.BoolFacts.{by_test, and_left, and_right, and_both, or_either, not_true, not_false, none_or_some, is_below}
 use Rattle.model_history.proofs.DueFacts.{entry}
@@ -42,7 +42,7 @@ abbrev pub sent : ScriptModel → List Entry → List Entry
 sent s h = entry 0 (event.Send (counted sends h) (next_pulls s h)) ∷ h
 
 abbrev is_sent : Begun → Sched
-is_sent b = after (inside false false b) kind.Send
+is_sent b = sched_after (inside false false b) kind.Send
 
 aborted : (s : ScriptModel) (h : List Entry) (b : Begun) → Rests s (sent s h) (is_sent b) → Enters s kind.Send 0 h (sent s h)
     → changes s (pulls_of (sent s h)) (counted sends h) ≡ false → MainEnds s h b
@@ -74,7 +74,7 @@ committed s h b r way t =
     let f : is_possible s kind.Abort 1 (sent s h) ≡ false = ap is_some (can_then s (sent s h) (is_sent b) kind.Abort 1 r refl ∙ none) in
     let d : due s (sent s h) kind.Ready 1 ≡ Some ready = ap (λ c. on_if c ready) t in
     let x = enters s (sent s h) (is_sent b) kind.Ready 1 ready r refl (omega arith) refl (record { kind = refl; goes_on = refl; starts_none = refl; finishes_none = refl }) d in
-    let y = enters s prepared (after (is_sent b) kind.Ready) kind.Commit 0 commit x.1 refl (omega arith) refl (record { kind = refl; goes_on = refl; starts_none = refl; finishes_none = refl }) refl in
+    let y = enters s prepared (sched_after (is_sent b) kind.Ready) kind.Commit 0 commit x.1 refl (omega arith) refl (record { kind = refl; goes_on = refl; starts_none = refl; finishes_none = refl }) refl in
     record {
       waiting = true;
       reaches = record {
@@ -104,7 +104,7 @@ activatable s h st r m =
     let (k, e) = pending_there s h st r m in
     ap is_some (can_then s h st kind.Activate 0 r m ∙ ap (due_activate s h) e) ∙ some_if (are_ready s h (required s h)) (event.Activate k (next_clamps s h))
 
-pub activates : (s : ScriptModel) (h : List Entry) (st : Sched) → Rests s h st → may st kind.Activate ≡ true → are_ready s h (required s h) ≡ true → Reaches s (Enters s kind.Activate 0) h (after st kind.Activate)
+pub activates : (s : ScriptModel) (h : List Entry) (st : Sched) → Rests s h st → may st kind.Activate ≡ true → are_ready s h (required s h) ≡ true → Reaches s (Enters s kind.Activate 0) h (sched_after st kind.Activate)
 activates s h st r m ready =
     let (k, e) = pending_there s h st r m in
     let a : Event = event.Activate k (next_clamps s h) in
@@ -117,7 +117,7 @@ pub record Stands (s : ScriptModel) (st : Sched) (h g : List Entry) : Type 0 whe
   pub rests : Rests s g st
   pub keeps : Keeps h g
 
-pair_turn : (s : ScriptModel) (st : Sched) (h g : List Entry) (f : Rank) → Stands s st h g → first s g ≡ Some f → Turn (Pair s) (Stands s st h) (tiles_left s) g
+pair_turn : (s : ScriptModel) (st : Sched) (h g : List Entry) (f : Rank) → Stands s st h g → rank_to_start s g ≡ Some f → Turn (Pair s) (Stands s st h) (tiles_left s) g
 pair_turn s st h g f x e =
     let p = pair s g st f x.rests e in
     record {
@@ -127,7 +127,7 @@ pair_turn s st h g f x e =
       less = fewer_left s g f e;
     }
 
-pub activate_now : (s : ScriptModel) (h : List Entry) (st : Sched) → IsAccepted s → Rests s h st → may st kind.Activate ≡ true → Reaches s (ActivateNow s) h (after st kind.Activate)
+pub activate_now : (s : ScriptModel) (h : List Entry) (st : Sched) → IsAccepted s → Rests s h st → may st kind.Activate ≡ true → Reaches s (ActivateNow s) h (sched_after st kind.Activate)
 activate_now s h st ok r m =
     let u = while_ends (λ g. not (is_possible s kind.Activate 0 g)) (Pair s) (Stands s st h) (tiles_left s) turn h (record { rests = r; keeps = keeps_all h }) in
     let ready : are_ready s u.past (required s u.past) ≡ true = sym (activatable s u.past st u.holds.rests m) ∙ not_false (is_possible s kind.Activate 0 u.past) u.over in
@@ -147,7 +147,7 @@ pub all_pairs : (s : ScriptModel) (h : List Entry) (st : Sched) → Rests s h st
 all_pairs s h st r = while_ends (has_first s) (Pair s) (Stands s st h) (tiles_left s) turn h (record { rests = r; keeps = keeps_all h })
   where
     turn : (g : List Entry) → Stands s st h g → has_first s g ≡ true → Turn (Pair s) (Stands s st h) (tiles_left s) g
-    turn g x t = let (f, e) = none_or_some (first s g) t in pair_turn s st h g f x e
+    turn g x t = let (f, e) = none_or_some (rank_to_start s g) t in pair_turn s st h g f x e
 
 -- so many pairs at most
 pub some_pairs : (s : ScriptModel) (st : Sched) (n : ℕ) (h : List Entry) → Rests s h st → Reaches s (AtMost n (has_first s) (Pair s)) h st
@@ -156,7 +156,7 @@ some_pairs s st (suc n) h r = by_test (has_first s h) (more (some_pairs s st n))
   where
     more : ((g : List Entry) → Rests s g st → Reaches s (AtMost n (has_first s) (Pair s)) g st) → has_first s h ≡ true → Reaches s (AtMost (suc n) (has_first s) (Pair s)) h st
     more rest t =
-        let (f, e) = none_or_some (first s h) t in
+        let (f, e) = none_or_some (rank_to_start s h) t in
         let p = pair s h st f r e in
         let u = rest (after_pair s h f) p.1 in
         record {
@@ -182,7 +182,7 @@ closed h = entry 0 event.Finish ∷ entry 0 event.NoDraw ∷ h
 pub closes : (s : ScriptModel) (h : List Entry) → Rests s h (inside false true begun.Plain) → Then (Enters s kind.NoDraw 0) (Enters s kind.Finish 0) h (closed h) × Rests s (closed h) (at_rest false)
 closes s h r =
     let y = enters s h (inside false true begun.Plain) kind.NoDraw 0 event.NoDraw r refl (omega arith) refl (record { kind = refl; goes_on = refl; starts_none = refl; finishes_none = refl }) refl in
-    let z = enters s (entry 0 event.NoDraw ∷ h) (after (inside false true begun.Plain) kind.NoDraw) kind.Finish 0 event.Finish y.1 refl (omega arith) refl (record { kind = refl; goes_on = refl; starts_none = refl; finishes_none = refl }) refl in
+    let z = enters s (entry 0 event.NoDraw ∷ h) (sched_after (inside false true begun.Plain) kind.NoDraw) kind.Finish 0 event.Finish y.1 refl (omega arith) refl (record { kind = refl; goes_on = refl; starts_none = refl; finishes_none = refl }) refl in
     ((entry 0 event.NoDraw ∷ h, y.0, z.0), z.1)
 
 -- a frame for a main frame alone
@@ -193,9 +193,9 @@ pub record FrameEnds (s : ScriptModel) (h : List Entry) : Type 0 where
 abbrev pub begun_plain : List Entry → List Entry
 begun_plain h = entry 0 event.BeginPlain ∷ h
 
-pub plain_frame : (s : ScriptModel) (h : List Entry) → IsAccepted s → Rests s h (at_rest false) → is_draw (input_now s h) ≡ false → is_left s h ≡ true → FrameEnds s h
+pub plain_frame : (s : ScriptModel) (h : List Entry) → IsAccepted s → Rests s h (at_rest false) → asks_draw (input_now s h) ≡ false → is_left s h ≡ true → FrameEnds s h
 plain_frame s h ok r no_draw left =
-    let d : due s h kind.BeginPlain 0 ≡ Some event.BeginPlain = ap (λ c. on_if c event.BeginPlain) (and_both (not (is_draw (input_now s h))) (is_left s h) (ap not no_draw) left) in
+    let d : due s h kind.BeginPlain 0 ≡ Some event.BeginPlain = ap (λ c. on_if c event.BeginPlain) (and_both (not (asks_draw (input_now s h))) (is_left s h) (ap not no_draw) left) in
     let x = enters s h (at_rest false) kind.BeginPlain 0 event.BeginPlain r refl (omega arith) refl (record { kind = refl; goes_on = refl; starts_none = refl; finishes_none = refl }) d in
     let m = main_part s (begun_plain h) begun.Plain x.1 left in
     let a = activate_where s m.reaches.past begun.Plain m.waiting ok m.reaches.rests in
@@ -235,7 +235,7 @@ wait_falls s h g waiting more none =
     let f : one_if (waits h) ≡ 1 = ap one_if waiting in
     omega (arith, e, f, more)
 
-pub round : (s : ScriptModel) (h g : List Entry) → IsAccepted s → Between s h g → is_draw (input_now s g) ≡ false → is_left s g || waits g ≡ true → Turn (Round s) (Between s h) (rounds_left s) g
+pub round : (s : ScriptModel) (h g : List Entry) → IsAccepted s → Between s h g → asks_draw (input_now s g) ≡ false → is_left s g || waits g ≡ true → Turn (Round s) (Between s h) (rounds_left s) g
 round s h g ok x no_draw more = by_waiting x.waiting x.rests
   where
     by_waiting : (w : Bool) → Rests s g (at_rest w) → Turn (Round s) (Between s h) (rounds_left s) g
@@ -324,7 +324,7 @@ abbrev pub is_active : List Entry → Bool
 is_active h = is_some (active h)
 
 abbrev pub drawn : Bool → Bool → Sched
-drawn w sent = after (inside w sent begun.ForDraw) kind.Draw
+drawn w sent = sched_after (inside w sent begun.ForDraw) kind.Draw
 
 draw_or_skip : (s : ScriptModel) (h : List Entry) (w sent : Bool) (i : ℕ) → Rests s h (inside w sent begun.ForDraw) → newest begins h ≡ Some i
     → Reaches s (Where is_active (Enters s kind.Draw 0) (Enters s kind.Skip 0)) h (drawn w sent)
@@ -332,7 +332,7 @@ draw_or_skip s h w sent i r e = by_test (is_active h) draws skips
   where
     draws : is_active h ≡ true → Reaches s (Where is_active (Enters s kind.Draw 0) (Enters s kind.Skip 0)) h (drawn w sent)
     draws t =
-        let draw : Event = event.Draw i (missing s h) in
+        let draw : Event = event.Draw i (missing_visible s h) in
         let d : due s h kind.Draw 0 ≡ Some draw = ap (due_draw s h) e ∙ ap (λ c. on_if c draw) t in
         let x = enters s h (inside w sent begun.ForDraw) kind.Draw 0 draw r refl (omega arith) refl (record { kind = refl; goes_on = refl; starts_none = refl; finishes_none = refl }) d in
         record {
@@ -369,7 +369,7 @@ pub record Uses (s : ScriptModel) (P : Step) (h : List Entry) : Type 0 where
 abbrev begun_draw : List Entry → List Entry
 begun_draw h = entry 0 (event.Begin (next_input h)) ∷ h
 
-pub draw_frame : (s : ScriptModel) (h : List Entry) (w : Bool) → Rests s h (at_rest w) → is_draw (input_now s h) ≡ true → Uses s (DrawFrame s) h
+pub draw_frame : (s : ScriptModel) (h : List Entry) (w : Bool) → Rests s h (at_rest w) → asks_draw (input_now s h) ≡ true → Uses s (DrawFrame s) h
 draw_frame s h w r draws =
     let i : ℕ = next_input h in
     let d : due s h kind.BeginDraw 0 ≡ Some (event.Begin i) = ap (λ c. on_if c (event.Begin i)) draws in

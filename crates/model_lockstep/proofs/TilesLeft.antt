@@ -1,4 +1,4 @@
--- A pair leaves fewer tiles to make: the key that was first is ready, and what was given up for it is of a worse bin.
+-- A pair leaves fewer tiles to make: the key that was first is ready, and what was evicted for it is of a worse bin.
 use Rattle.std.proofs.Common.{◌≡◌, ◌<◌, ◌≤◌, Bool, true, false, not, ◌&&◌, Some, None, List, Option, filter, length, refl, ap, sym, ◌∙◌, subst, arith}
 use Rattle.geom.specs.declared.tile.TileKey.{TileKey}
 use Rattle.tile_priority.specs.declared.rank.Bin.{Bin}
@@ -6,54 +6,54 @@ use Rattle.tile_priority.specs.declared.rank.Bin.TheVariants as bin
 use Rattle.tile_priority.specs.declared.rank.Rank.{Rank}
 use Rattle.tile_priority.specs.Ranks.{bin_number}
 use Rattle.tile_priority.specs.Tiles.{Tile}
-use Rattle.tile_priority.specs.Choice.{victim_key, victim_of, evicted, is_worse}
+use Rattle.tile_priority.specs.Choice.{evictable_key, evictable_of, evicted, is_worse}
 use Rattle.tile_priority.proofs.InOrder.{in_map}
 use Rattle.tile_priority.proofs.Choosing.{first_is_one, evicted_give_way}
 use Rattle.model_history.specs.declared.history.Entry.{Entry}
 use Rattle.model_history.specs.Scripts.{ScriptModel}
 use Rattle.geom.specs.KeyLists.{same_key, has_key}
 use Rattle.geom.proofs.KeyLists.{key_itself}
-use Rattle.model_history.specs.Tiles.{without, live_keys, made, ready}
-use Rattle.model_history.specs.Ranking.{rank, is_unmade, ready_tile, choice, first, evicted_for}
+use Rattle.model_history.specs.Tiles.{without_keys, live_keys, made_so_far, ready}
+use Rattle.model_history.specs.Ranking.{rank, is_unmade, ready_tile, choice, rank_to_start, evicted_for}
 use Rattle.model_history.proofs.BoolFacts.{and_left, and_right, and_both, or_left, or_right, is_false, not_both, not_true, same_number, is_same, is_below}
 use Rattle.model_history.proofs.KeyFacts.{has_filter, has_without, has_in, in_has}
-use Rattle.model_history.proofs.RankFacts.{rank_key, key_of_rank, in_filter_map, first_unmade, key_of_victim}
+use Rattle.model_history.proofs.RankFacts.{rank_key, key_of_rank, in_filter_map, first_unmade, key_of_evictable}
 use Rattle.model_lockstep.specs.Measures.{is_of_bin, is_to_make, to_make, tiles_left}
 use Rattle.model_lockstep.proofs.Entering.{after_pair}
 use Rattle.model_lockstep.proofs.Counts.{no_more_pass, fewer_pass, filter_short, now_falls, soon_falls, last_falls}
 
 -- ---- what is ready after a pair
 
-ready_is : (s : ScriptModel) (h : List Entry) (q : TileKey) → has_key (ready s h) q ≡ (has_key (made h) q && has_key (live_keys s h) q)
-ready_is s h q = has_filter (has_key (live_keys s h)) (made h) q
+ready_is : (s : ScriptModel) (h : List Entry) (q : TileKey) → has_key (ready s h) q ≡ (has_key (made_so_far h) q && has_key (live_keys s h) q)
+ready_is s h q = has_filter (has_key (live_keys s h)) (made_so_far h) q
 
--- a live key that is not ready then was not ready before, or was given up
+-- a live key that is not ready then was not ready before, or was evicted
 was_unready : (s : ScriptModel) (h : List Entry) (r : Rank) (q : TileKey) → has_key (live_keys s h) q ≡ true → has_key (evicted_for s h r) q ≡ false
     → has_key (ready s (after_pair s h r)) q ≡ false → has_key (ready s h) q ≡ false
 was_unready s h r q live stays out =
     is_false (has_key (ready s h) q)
     (λ t.
-    let was : has_key (made h) q ≡ true = and_left (has_key (made h) q) (has_key (live_keys s h) q) (sym (ready_is s h q) ∙ t) in
-    let left : has_key (without (made h) (evicted_for s h r)) q ≡ true =
-    has_without (made h) (evicted_for s h r) q ∙ and_both (has_key (made h) q) (not (has_key (evicted_for s h r) q)) was (ap not stays) in
-    let now : has_key (made (after_pair s h r)) q ≡ true = or_right (same_key r.key q) (has_key (without (made h) (evicted_for s h r)) q) left in
-    not_both (has_key (ready s (after_pair s h r)) q) (ready_is s (after_pair s h r) q ∙ and_both (has_key (made (after_pair s h r)) q) (has_key (live_keys s h) q) now live) out)
+    let was : has_key (made_so_far h) q ≡ true = and_left (has_key (made_so_far h) q) (has_key (live_keys s h) q) (sym (ready_is s h q) ∙ t) in
+    let left : has_key (without_keys (made_so_far h) (evicted_for s h r)) q ≡ true =
+    has_without (made_so_far h) (evicted_for s h r) q ∙ and_both (has_key (made_so_far h) q) (not (has_key (evicted_for s h r) q)) was (ap not stays) in
+    let now : has_key (made_so_far (after_pair s h r)) q ≡ true = or_right (same_key r.key q) (has_key (without_keys (made_so_far h) (evicted_for s h r)) q) left in
+    not_both (has_key (ready s (after_pair s h r)) q) (ready_is s (after_pair s h r) q ∙ and_both (has_key (made_so_far (after_pair s h r)) q) (has_key (live_keys s h) q) now live) out)
 
 -- the key that was started is ready
 is_made : (s : ScriptModel) (h : List Entry) (r : Rank) → has_key (live_keys s h) r.key ≡ true → has_key (ready s (after_pair s h r)) r.key ≡ true
 is_made s h r live =
     ready_is s (after_pair s h r) r.key
-    ∙ and_both (has_key (made (after_pair s h r)) r.key) (has_key (live_keys s h) r.key) (or_left (same_key r.key r.key) (has_key (without (made h) (evicted_for s h r)) r.key) (key_itself r.key)) live
+    ∙ and_both (has_key (made_so_far (after_pair s h r)) r.key) (has_key (live_keys s h) r.key) (or_left (same_key r.key r.key) (has_key (without_keys (made_so_far h) (evicted_for s h r)) r.key) (key_itself r.key)) live
 
--- ---- what is given up
+-- ---- what is evicted
 
 -- it is of a worse bin, or of none
 evicted_worse : (s : ScriptModel) (h : List Entry) (r : Rank) (q : TileKey) → has_key (evicted_for s h r) q ≡ true → is_worse (rank s h q) r.bin ≡ true
 evicted_worse s h r q t =
-    let (v, i, e) = in_map victim_key q (evicted (choice s h) r) (in_has (evicted_for s h r) q t) in
+    let (v, i, e) = in_map evictable_key q (evicted (choice s h) r) (in_has (evicted_for s h r) q t) in
     let (tile, j, w, g) = evicted_give_way.ready (choice s h) r v i in
     let (k, l, u) = in_map (ready_tile s h) tile (ready s h) j in
-    let key : k ≡ q = sym (key_of_victim k (rank s h k) (rank_key s h k)) ∙ (ap (λ (z : Tile). victim_key (victim_of z)) u ∙ (ap victim_key w ∙ e)) in
+    let key : k ≡ q = sym (key_of_evictable k (rank s h k) (rank_key s h k)) ∙ (ap (λ (z : Tile). evictable_key (evictable_of z)) u ∙ (ap evictable_key w ∙ e)) in
     let worse : is_worse tile.rank r.bin ≡ true = and_right (not tile.pinned) (is_worse tile.rank r.bin) g in
     ap (λ (z : TileKey). is_worse (rank s h z) r.bin) (sym key) ∙ (ap (λ (z : Tile). is_worse z.rank r.bin) u ∙ worse)
 
@@ -80,14 +80,14 @@ no_more_to_make s h r b l =
     no_more_pass (is_to_make s (after_pair s h r) b) (is_to_make s h b) (live_keys s h) (λ q i t. still_to_make s h r b q l (has_in (live_keys s h) q i) t)
 
 -- the first key is to be made, by its own rank
-first_ranked : (s : ScriptModel) (h : List Entry) (r : Rank) → first s h ≡ Some r → rank s h r.key ≡ Some r
+first_ranked : (s : ScriptModel) (h : List Entry) (r : Rank) → rank_to_start s h ≡ Some r → rank s h r.key ≡ Some r
 first_ranked s h r e =
     let f = first_is_one.there (choice s h) r e in
     let (q, i, o) = in_filter_map (rank s h) r (filter (is_unmade s h) (live_keys s h)) f.wanted in
     let k : r.key ≡ q = key_of_rank q (rank s h q) r (rank_key s h q) o in
     ap (λ (z : TileKey). rank s h z) k ∙ o
 
-pub one_fewer_to_make : (s : ScriptModel) (h : List Entry) (r : Rank) → first s h ≡ Some r → to_make s (after_pair s h r) r.bin < to_make s h r.bin
+pub one_fewer_to_make : (s : ScriptModel) (h : List Entry) (r : Rank) → rank_to_start s h ≡ Some r → to_make s (after_pair s h r) r.bin < to_make s h r.bin
 unfolding to_make
 one_fewer_to_make s h r e =
     let u = first_unmade s h r e in
@@ -102,7 +102,7 @@ few_to_make : (s : ScriptModel) (h : List Entry) (b : Bin) → to_make s h b ≤
 unfolding to_make
 few_to_make s h b = filter_short (is_to_make s h b) (live_keys s h)
 
-by_bin : (s : ScriptModel) (h : List Entry) (r : Rank) (b : Bin) → r.bin ≡ b → first s h ≡ Some r → tiles_left s (after_pair s h r) < tiles_left s h
+by_bin : (s : ScriptModel) (h : List Entry) (r : Rank) (b : Bin) → r.bin ≡ b → rank_to_start s h ≡ Some r → tiles_left s (after_pair s h r) < tiles_left s h
 unfolding tiles_left
 by_bin s h r bin.Now f e =
     let now : to_make s (after_pair s h r) bin.Now < to_make s h bin.Now = subst (λ (b : Bin). to_make s (after_pair s h r) b < to_make s h b) f (one_fewer_to_make s h r e) in
@@ -120,5 +120,5 @@ by_bin s h r bin.Eventually f e =
     (to_make s h bin.Now) (to_make s h bin.Soon) (to_make s h bin.Eventually) (no_more_to_make s h r bin.Now (omega arith)) (no_more_to_make s h r bin.Soon (omega (arith, number))) later
 
 -- a pair leaves fewer tiles to make
-pub fewer_left : (s : ScriptModel) (h : List Entry) (r : Rank) → first s h ≡ Some r → tiles_left s (after_pair s h r) < tiles_left s h
+pub fewer_left : (s : ScriptModel) (h : List Entry) (r : Rank) → rank_to_start s h ≡ Some r → tiles_left s (after_pair s h r) < tiles_left s h
 fewer_left s h r e = by_bin s h r r.bin refl e

@@ -24,7 +24,7 @@ use Rattle.tile_priority.proofs.Choosing.{visible_start}
 use Rattle.page_layers.specs.Layers.{PageLayer, has_id}
 use Rattle.page_layers.specs.Pages.{Page}
 use Rattle.page_layers.specs.Refusals.{has_layer}
-use Rattle.page_layers.specs.Sound.{AreDistinct}
+use Rattle.page_layers.specs.Sound.{AreDistinctLayers}
 use Rattle.page_layers.specs.declared.moves.Move.{Move}
 use Rattle.model_history.specs.declared.history.Entry.{Entry}
 use Rattle.model_history.specs.Scripts.{ScriptModel}
@@ -33,7 +33,7 @@ use Rattle.model_history.specs.Frames.{page, pulls_of, pending, up_to}
 use Rattle.tile_visible.specs.Visible.{viewport, grid_of, seen, visible_places, visible_keys, put_layer, by_id, key_at}
 use Rattle.geom.specs.KeyLists.{has_key}
 use Rattle.model_history.specs.Tiles.{Tree, active_tree, pending_tree, keys_of, visible_in, live_keys, ready, in_flight, required, are_ready}
-use Rattle.model_history.specs.Ranking.{borders, place_named, rank_on, rank_in, rank as key_rank, is_unmade, wanted, choice, first}
+use Rattle.model_history.specs.Ranking.{borders, place_named, rank_on, rank_in, rank as key_rank, is_unmade, wanted, choice, rank_to_start}
 use Rattle.model_history.specs.Scans.{has_ended}
 use Rattle.model_history.specs.Scrolls.{next_clamps}
 use Rattle.model_history.specs.Due.{on_if, due_activate}
@@ -126,7 +126,7 @@ has_its_id l (k ∷ ks) (inr i) = by_test (k.id == l.id) (has_its_id l ks i)
     by_test false r = r
 
 -- of layers with ids of their own each is found by its id
-pub found_by_id : (l : PageLayer) (ls : List PageLayer) → AreDistinct ls → In l ls → find (has_id l.id) ls ≡ Some l
+pub found_by_id : (l : PageLayer) (ls : List PageLayer) → AreDistinctLayers ls → In l ls → find (has_id l.id) ls ≡ Some l
 found_by_id l [] d i = absurd i
 found_by_id l (k ∷ ks) d (inl e) =
     ap (λ (b : Bool). cond b (Some k) (find (has_id l.id) ks)) (eq-eqb k.id l.id (ap (λ (z : PageLayer). z.id) (sym e))) ∙ ap Some (sym e)
@@ -139,8 +139,8 @@ found_by_id l (k ∷ ks) d (inr i) = by_test (k.id == l.id) refl (found_by_id l 
         absurd cc
     by_test false e r = r
 
-pub layers_distinct : (s : ScriptModel) → IsAccepted s → (ps : ℕ → List Move) (n : ℕ) → AreDistinct (page s ps n).layers
-layers_distinct s a ps n = subst (λ (p : Page). AreDistinct p.layers) (sym (page_values s ps no_pulls n)) (plain_page s a n).distinct
+pub layers_distinct : (s : ScriptModel) → IsAccepted s → (ps : ℕ → List Move) (n : ℕ) → AreDistinctLayers (page s ps n).layers
+layers_distinct s a ps n = subst (λ (p : Page). AreDistinctLayers p.layers) (sym (page_values s ps no_pulls n)) (plain_page s a n).distinct
 
 -- ---- ranks of visible tiles
 
@@ -170,7 +170,7 @@ abbrev pub seen_rank : ScriptModel → Side → Tree → PageLayer → Place →
 seen_rank s a t l place q =
     record { bin = bin.Now; tree = tree_number s.priority a; distance = distance (seen t.page t.offset l place).screen (viewport t.page); key = q }
 
-pub rank_of_shown : (s : ScriptModel) (a : Side) (t : Tree) (q : TileKey) → AreDistinct t.page.layers → In q (visible_in t) → (x : Shown t.page t.offset t.stamp q) → rank_in s a t q ≡ Some (seen_rank s a t x.layer x.place q)
+pub rank_of_shown : (s : ScriptModel) (a : Side) (t : Tree) (q : TileKey) → AreDistinctLayers t.page.layers → In q (visible_in t) → (x : Shown t.page t.offset t.stamp q) → rank_in s a t q ≡ Some (seen_rank s a t x.layer x.place q)
 unfolding rank_in
 rank_of_shown s a t q d i x =
     let b : Borders = borders s t.page in
@@ -182,7 +182,7 @@ rank_of_shown s a t q d i x =
     let now : rank_on s a t q (Some x.layer) ≡ Some (seen_rank s a t x.layer x.place q) = ap (λ (z : Place). rank_of b a (seen t.page t.offset x.layer z) q) is_place ∙ rank_where_visible b a v q x.visible in
     ap (λ (z : Bool). cond z (rank_on s a t q (find (has_id q.layer) t.page.layers)) None) has ∙ (ap (λ (o : Option PageLayer). rank_on s a t q o) found ∙ now)
 
-now_in_tree : (s : ScriptModel) (a : Side) (t : Tree) (q : TileKey) → AreDistinct t.page.layers → In q (visible_in t) → (r : Rank) × (rank_in s a t q ≡ Some r) × (r.bin ≡ bin.Now)
+now_in_tree : (s : ScriptModel) (a : Side) (t : Tree) (q : TileKey) → AreDistinctLayers t.page.layers → In q (visible_in t) → (r : Rank) × (rank_in s a t q ≡ Some r) × (r.bin ≡ bin.Now)
 now_in_tree s a t q d i =
     let x = shown t.page t.offset t.stamp q i in
     (seen_rank s a t x.layer x.place q, rank_of_shown s a t q d i x, refl)
@@ -223,7 +223,7 @@ required_wanted s a h q flies i out =
     record { rank = r; ranked = e; now = r_now; wanted = filter_map_in (key_rank s h) q r (filter (is_unmade s h) (live_keys s h)) among e }
 
 -- where not all that an activation needs is ready, a visible tile is the first
-pub required_first : (s : ScriptModel) → IsAccepted s → (h : List Entry) → in_flight h ≡ [] → are_ready s h (required s h) ≡ false → (r : Rank) × (first s h ≡ Some r) × (r.bin ≡ bin.Now)
+pub required_first : (s : ScriptModel) → IsAccepted s → (h : List Entry) → in_flight h ≡ [] → are_ready s h (required s h) ≡ false → (r : Rank) × (rank_to_start s h ≡ Some r) × (r.bin ≡ bin.Now)
 required_first s a h flies out =
     let (q, i, lacks) = not_all (has_key (ready s h)) (required s h) out in
     let w = required_wanted s a h q flies i lacks in
@@ -241,7 +241,7 @@ stuck s h k o e f = by_ready (are_ready s h (required s h)) refl
         absurd cc
 
 pub stuck_first : (s : ScriptModel) (n : ℕ) (h : List Entry) → IsAccepted s → Legal s n h → in_flight h ≡ [] → is_open h kind.Activate ≡ true → is_possible s kind.Activate 0 h ≡ false
-    → (r : Rank) × (first s h ≡ Some r) × (r.bin ≡ bin.Now)
+    → (r : Rank) × (rank_to_start s h ≡ Some r) × (r.bin ≡ bin.Now)
 stuck_first s n h a l flies o f =
     let state : may (sched h) kind.Activate ≡ true = and_right (not (has_ended h)) (may (sched h) kind.Activate) o in
     let pend : (sched h).has_pending ≡ true = and_right (not (is_inside_deadline (sched h).impl_state)) (sched h).has_pending state in

@@ -21,10 +21,10 @@ use Rattle.page_layers.specs.Axes.{across, down}
 use Rattle.model_history.specs.Frames.{is_left, has_frame_ended, pending, is_empty, active_page}
 use Rattle.model_history.specs.Scrolls.{accepted, active_offsets}
 use Rattle.model_history.specs.Tiles.{in_flight}
-use Rattle.model_history.specs.Ranking.{first}
+use Rattle.model_history.specs.Ranking.{rank_to_start}
 use Rattle.page_layers.specs.Wheels.{wheel_parts, wheel_rest}
 use Rattle.page_layers.specs.Hits.{target}
-use Rattle.model_history.specs.Due.{on_if, due, due_scroll, due_wheel, due_await, due_settle, next_input, input_now, is_draw, is_pending_to, is_settled, is_over}
+use Rattle.model_history.specs.Due.{on_if, due, due_scroll, due_wheel, due_await, due_settle, next_input, input_now, asks_draw, is_pending_to, is_settled, is_over}
 use Rattle.model_history.specs.Legal.{sched}
 use Rattle.model_history.specs.Lockstep.{Enters, Stays, Where, waits, is_possible, ActivateNow, PlainFrame, Round, InputStep, InputSteps, WholeRun, IsLockstep}
 use Rattle.model_history.proofs.BoolFacts.{by_test, and_left, and_right, and_both, or_left, or_right, or_left_false, or_right_false, not_true, not_false, not_both, is_same, is_below, none_where}
@@ -117,8 +117,8 @@ round_left : (s : ScriptModel) (h : List Entry) (w : Bool) (f : ℕ) → Rests s
 round_left s h true f r l out = or_right (is_left s h) (waits h) (waits_as s h (at_rest true) r)
 round_left s h false f r l out = by_test (is_left s h) (or_left (is_left s h) (waits h)) (λ none. absurd (not_both (is_await_over h f) (await_over s h f r none l) out))
 
-pub no_draw : (o : Option Input) (f : ℕ) → o ≡ Some (input.Await f) → is_draw o ≡ false
-no_draw o f e = ap is_draw e
+pub no_draw : (o : Option Input) (f : ℕ) → o ≡ Some (input.Await f) → asks_draw o ≡ false
+no_draw o f e = ap asks_draw e
 
 awaits : (s : ScriptModel) (h : List Entry) (w : Bool) (f : ℕ) → IsAccepted s → Rests s h (at_rest w) → input_now s h ≡ Some (input.Await f) → f < length s.main → Uses s (InputStep s (input.Await f)) h
 awaits s h w f ok r e l =
@@ -154,7 +154,7 @@ settles s h w ok r e =
     let used : next_input g ≡ next_input h = u.holds.keeps.inputs ∙ a.keeps.inputs in
     let now : input_now s g ≡ Some input.Settle = ap (λ n. slice_get s.inputs n) used ∙ e in
     let settle : Event = event.Settle (next_input g) in
-    let settled : is_settled s g ≡ true = and_both (is_empty (in_flight g)) (not (is_some (first s g))) (ap is_empty u.holds.rests.none_flies) (ap not u.over) in
+    let settled : is_settled s g ≡ true = and_both (is_empty (in_flight g)) (not (is_some (rank_to_start s g))) (ap is_empty u.holds.rests.none_flies) (ap not u.over) in
     let d : due s g kind.Settle 0 ≡ Some settle = ap (due_settle s g (next_input g)) now ∙ ap (λ c. on_if c settle) settled in
     let x = enters s g (at_rest false) kind.Settle 0 settle u.holds.rests refl (omega arith) refl (record { kind = refl; goes_on = refl; starts_none = refl; finishes_none = refl }) d in
     record { past = entry 0 settle ∷ g; way = (a.past, a.way, (g, u.way, x.0)); waiting = false; rests = x.1; used = ap suc used }
@@ -165,7 +165,7 @@ frame_below n f t = is_below f n (and_right (is_u32 f) (nat_lt f n) t)
 input_step : (s : ScriptModel) (h : List Entry) (w : Bool) (i : Input) → IsAccepted s → Rests s h (at_rest w) → input_now s h ≡ Some i → input_in_range (length s.main) i ≡ true → Uses s (InputStep s i) h
 input_step s h w (input.Scroll sc dx dy) ok r e t = scrolls s h w sc dx dy r e
 input_step s h w (input.Wheel x y dx dy) ok r e t = wheels s h w x y dx dy r e
-input_step s h w input.Draw ok r e t = draw_frame s h w r (ap is_draw e)
+input_step s h w input.Draw ok r e t = draw_frame s h w r (ap asks_draw e)
 input_step s h w (input.Await f) ok r e t = awaits s h w f ok r e (frame_below (length s.main) f t)
 input_step s h w input.Settle ok r e t = settles s h w ok r e
 
@@ -198,7 +198,7 @@ last_rounds s h w ok r used = while_ends (goes_on s) (Round s) (Between s h) (ro
     turn : (g : List Entry) → Between s h g → goes_on s g ≡ true → Turn (Round s) (Between s h) (rounds_left s) g
     turn g b t =
         let all : next_input g ≡ length s.inputs = b.keeps.inputs ∙ used in
-        round s h g ok b (ap is_draw (none_after s.inputs (next_input g) (omega (arith, all)))) t
+        round s h g ok b (ap asks_draw (none_after s.inputs (next_input g) (omega (arith, all)))) t
 
 pub ends : (s : ScriptModel) (h : List Entry) (w : Bool) → Rests s h (at_rest w) → next_input h ≡ length s.inputs → goes_on s h ≡ false → Enters s kind.End 0 h (entry 0 event.End ∷ h)
 ends s h true r used over = absurd (not_both (waits h) (waits_as s h (at_rest true) r) (or_right_false (is_left s h) (waits h) over))

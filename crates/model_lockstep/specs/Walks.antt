@@ -12,7 +12,7 @@ use Rattle.model_lockstep.specs.declared.compositor.EnterFault.{EnterFault}
 use Rattle.model_lockstep.specs.declared.compositor.EnterFault.TheVariants.{NotNow, Memory}
 
 -- the script that is played, what was played of it, the newest entry first, and how many of the entries were written
-pub record Run : Type 0 where
+pub record WalkState : Type 0 where
   pub script : ScriptModel
   pub past : List Entry
   pub written : ℕ
@@ -22,18 +22,18 @@ abbrev pub Way : Type 1
 Way = ScriptModel → Step
 
 -- the way leads from here to some past
-pub record CanFollow (P : Way) (r : Run) : Type 0 where
+pub record CanFollow (P : Way) (r : WalkState) : Type 0 where
   pub end : List Entry
   pub way : P r.script r.past end
 
 -- the way was followed from the first run to the second
-pub record Follows (P : Way) (r q : Run) : Type 0 where
+pub record Follows (P : Way) (r q : WalkState) : Type 0 where
   pub same : q.script ≡ r.script
   pub written : q.written ≡ r.written
   pub way : P r.script r.past q.past
 
 -- the second run lies on the way from the first: what was played is a beginning of what the way brings
-pub record IsOnWay (P : Way) (r q : Run) : Type 0 where
+pub record IsOnWay (P : Way) (r q : WalkState) : Type 0 where
   pub same : q.script ≡ r.script
   pub written : q.written ≡ r.written
   pub end : List Entry
@@ -42,7 +42,7 @@ pub record IsOnWay (P : Way) (r q : Run) : Type 0 where
   pub beginning : end ≡ newer ++ q.past
 
 -- on a way: from where it stands this rest leads on, and wherever it leads from there the whole leads from the beginning
-pub record TurnsOf (Whole Rest : Way) (first now : Run) : Type 0 where
+pub record TurnsOf (Whole Rest : Way) (first now : WalkState) : Type 0 where
   pub same : now.script ≡ first.script
   pub written : now.written ≡ first.written
   pub end : List Entry
@@ -50,7 +50,7 @@ pub record TurnsOf (Whole Rest : Way) (first now : Run) : Type 0 where
   pub leads : (g : List Entry) → Rest first.script now.past g → Whole first.script first.past g
 
 -- the rest of a loop is the loop again
-abbrev pub Turns : Way → Run → Run → Type 0
+abbrev pub Turns : Way → WalkState → WalkState → Type 0
 Turns W = TurnsOf W W
 
 -- ---- the ways that have no word in lockstep
@@ -152,7 +152,7 @@ actor_for kind.Stop = None
 actor_for _ = Some 0
 
 -- the event of this kind and actor was entered; or nothing was, since none is possible or there was no memory
-abbrev pub Entered : Kind → ℕ → Run → Run → Result ⊤ EnterFault → Type 0
-Entered k a old new (Ok _) = Follows (entering k a) old new
-Entered k a old new (Err NotNow) = (new ≡ old) × (can old.script old.past k a ≡ None)
-Entered k a old new (Err (Memory e)) = new ≡ old
+abbrev pub WalkEnters : Kind → ℕ → WalkState → WalkState → Result ⊤ EnterFault → Type 0
+WalkEnters k a old new (Ok _) = Follows (entering k a) old new
+WalkEnters k a old new (Err NotNow) = (new ≡ old) × (can old.script old.past k a ≡ None)
+WalkEnters k a old new (Err (Memory e)) = new ≡ old

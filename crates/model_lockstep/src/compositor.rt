@@ -7,7 +7,7 @@ ghost use Rattle.model_history.specs.EventFields.{sends};
 ghost use Rattle.model_history.specs.Scans.{newest};
 ghost use Rattle.model_history.specs.Frames.{active, changes as frame_changes, is_left as is_frame_left, pulls_of};
 ghost use Rattle.model_history.specs.Lockstep.{has_first as is_tile_first, is_possible, waits as is_waiting};
-ghost use Rattle.model_lockstep.specs.Walks.{actor_for, Entered, Run};
+ghost use Rattle.model_lockstep.specs.Walks.{actor_for, WalkEnters, WalkState};
 
 use model_scheduler::Kind;
 use std::alloc::AllocError;
@@ -28,13 +28,13 @@ pub enum EnterFault {
 /// For clauses it tells the script, what was played of it and how much of that was written (`run`); no
 /// call of the loops writes. Actor 1 is the main side, actor 2 a worker, and 0 the compositor itself.
 pub trait Compositor {
-    ghost run: { Self → Run };
+    ghost run: { Self → WalkState };
 
     /// Enters the event of this kind and of its actor. On an error nothing was entered; `NotNow` comes
     /// only where none is possible.
     fn enter(&mut self, kind: Kind, actor: u32) -> Result<(), EnterFault>
         requires { actor_for kind ≡ Some actor }
-        ensures { Entered kind actor (run self.old) (run self.new) result };
+        ensures { WalkEnters kind actor (run self.old) (run self.new) result };
 
     /// Whether the pending commit can be activated. An error is want of memory. Nothing is entered.
     fn can_activate(&mut self) -> Result<bool, AllocError>

@@ -14,7 +14,7 @@ ghost use Rattle.model_history.specs.EventFields.{sends};
 ghost use Rattle.model_history.specs.Scans.{counted};
 ghost use Rattle.geom.specs.KeyLists.{has_key};
 ghost use Rattle.model_history.specs.Tiles.{in_flight, ready, required};
-ghost use Rattle.model_history.specs.Ranking.{rank, wanted, first};
+ghost use Rattle.model_history.specs.Ranking.{rank, wanted, rank_to_start};
 ghost use Rattle.model_history.specs.Legal.{is_open, Legal};
 ghost use Rattle.model_history.specs.Lockstep.{waits, is_possible, Pair, Round, IsLockstep};
 ghost use Rattle.model_lockstep.specs.Measures.{tiles_left, rounds_left};
@@ -29,7 +29,7 @@ pub fn lockstep_exists()
 /// tile starts first.
 pub fn required_tiles_start()
     ensures wanted { (s : ScriptModel) (h : List Entry) (q : TileKey) → IsAccepted s → in_flight h ≡ [] → has_key (required s h) q ≡ true → has_key (ready s h) q ≡ false → (r : Rank) × (rank s h q ≡ Some r) × (r.bin ≡ bin.Now) × In r (wanted s h) }
-    ensures first { (s : ScriptModel) (workers : ℕ) (h : List Entry) → IsAccepted s → Legal s workers h → in_flight h ≡ [] → is_open h kind.Activate ≡ true → is_possible s kind.Activate 0 h ≡ false → (r : Rank) × (first s h ≡ Some r) × (r.bin ≡ bin.Now) }
+    ensures first { (s : ScriptModel) (workers : ℕ) (h : List Entry) → IsAccepted s → Legal s workers h → in_flight h ≡ [] → is_open h kind.Activate ≡ true → is_possible s kind.Activate 0 h ≡ false → (r : Rank) × (rank_to_start s h ≡ Some r) × (r.bin ≡ bin.Now) }
 {}
 
 /// A pair leaves fewer tiles to make.

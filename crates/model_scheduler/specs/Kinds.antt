@@ -11,8 +11,8 @@ use Rattle.model_scheduler.specs.declared.states.Begun.{Begun}
 use Rattle.model_scheduler.specs.declared.states.Begun.TheVariants as begun
 
 -- the state before the first event
-abbrev pub start : Sched
-start = record { impl_state = impl.Idle; main_state = main.Idle; has_pending = false; sent_in_frame = false; begun = begun.Nothing }
+abbrev pub start_state : Sched
+start_state = record { impl_state = impl.Idle; main_state = main.Idle; has_pending = false; sent_in_frame = false; begun = begun.Nothing }
 
 -- no impl frame is open
 abbrev pub is_idle : ImplState → Bool
@@ -126,5 +126,5 @@ abbrev pub may : Sched → Kind → Bool
 may s k = (row k).states s
 
 -- the state after an event of this kind
-abbrev pub after : Sched → Kind → Sched
-after s k = (row k).after s
+abbrev pub sched_after : Sched → Kind → Sched
+sched_after s k = (row k).after s

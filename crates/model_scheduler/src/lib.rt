@@ -10,7 +10,7 @@
 #![tactic(auto)]
 
 ghost use Rattle.std.specs.Prelude.{◌≡◌, IsTrue};
-ghost use Rattle.model_scheduler.specs.Kinds.{may, after, begun_for, start};
+ghost use Rattle.model_scheduler.specs.Kinds.{may, sched_after, begun_for, start_state};
 
 mod kind;
 mod states;
@@ -75,7 +75,7 @@ impl Sched {
     /// The state after an event of this kind, which may come in this state.
     pub fn after(self, kind: Kind) -> Sched
         requires { IsTrue (may self kind) }
-        ensures { result ≡ after self kind }
+        ensures { result ≡ sched_after self kind }
     {
         match kind {
             Kind::BeginDraw => self.begun_for(Begun::ForDraw),
@@ -140,5 +140,5 @@ impl Sched {
 
 /// The constant is the state before the first event.
 pub fn starts_idle()
-    ensures { Sched.START ≡ start }
+    ensures { Sched.START ≡ start_state }
 {}

@@ -4,15 +4,15 @@ use Rattle.std.specs.Prelude.{option_map, is_some}
 use Rattle.std.specs.List.{find}
 use Rattle.page_display_list.specs.declared.item.Item.{Item}
 use Rattle.region.specs.declared.change.LayerChange.{LayerChange}
-use Rattle.region.specs.Lists.{Changed, is_listed, is_listed_whole, without}
+use Rattle.region.specs.Lists.{Changed, is_listed, is_listed_whole, without_layer}
 use Rattle.page_layers.specs.declared.command.Command.{Command}
 use Rattle.page_layers.specs.declared.command.Command.TheVariants as command
 use Rattle.page_layers.specs.Layers.{PageLayer, has_id, with_size, with_colour, with_items}
 use Rattle.page_layers.specs.Lists as layers
 use Rattle.page_layers.specs.Pages.{Page}
 use Rattle.page_layers.specs.Refusals.{has_layer}
-use Rattle.page_layers.specs.Sound.{AreDistinct, IsPage}
-use Rattle.page_layers.specs.Effects.{Change, after, change_of, retiles}
+use Rattle.page_layers.specs.Sound.{AreDistinctLayers, IsPage}
+use Rattle.page_layers.specs.Effects.{Change, page_after_command, layer_change_of, retiles}
 use Rattle.page_layers.specs.Contents.{size_of, is_changed_whole, KeepsTheRest}
 use Rattle.page_layers.proofs.LayerKeeps.{absent-taken, absent-without}
 use Rattle.page_layers.proofs.FoundLayers.{found-insert, found-without, found-other, found-here, found-moved}
@@ -82,19 +82,19 @@ listed_change c (d ∷ ds) id = go (d.layer == c.layer) refl (nat_lt d.layer c.l
 out_of : (i id : ℕ) (d : LayerChange) → (i == id) ≡ false → nat_eq d.layer i ≡ true → nat_eq d.layer id ≡ false
 out_of i id d out e = ap (λ (n : ℕ). nat_eq n id) (eqb-true d.layer i e) ∙ out
 
-whole_without : (i id : ℕ) (ds : List LayerChange) → (i == id) ≡ false → is_listed_whole (without i ds) id ≡ is_listed_whole ds id
+whole_without : (i id : ℕ) (ds : List LayerChange) → (i == id) ≡ false → is_listed_whole (without_layer i ds) id ≡ is_listed_whole ds id
 whole_without i id [] out = refl
 whole_without i id (d ∷ ds) out = go (nat_eq d.layer i) refl (whole_without i id ds out)
   where
-    go : (b : Bool) → nat_eq d.layer i ≡ b → is_listed_whole (without i ds) id ≡ is_listed_whole ds id → is_listed_whole (cond (not b) (d ∷ without i ds) (without i ds)) id ≡ (nat_eq d.layer id && d.whole) || is_listed_whole ds id
+    go : (b : Bool) → nat_eq d.layer i ≡ b → is_listed_whole (without_layer i ds) id ≡ is_listed_whole ds id → is_listed_whole (cond (not b) (d ∷ without_layer i ds) (without_layer i ds)) id ≡ (nat_eq d.layer id && d.whole) || is_listed_whole ds id
     go true e rest = rest ∙ sym (ap (λ (x : Bool). (x && d.whole) || is_listed_whole ds id) (out_of i id d out e))
     go false e rest = ap (λ (w : Bool). (nat_eq d.layer id && d.whole) || w) rest
 
-listed_without : (i id : ℕ) (ds : List LayerChange) → (i == id) ≡ false → is_listed (without i ds) id ≡ is_listed ds id
+listed_without : (i id : ℕ) (ds : List LayerChange) → (i == id) ≡ false → is_listed (without_layer i ds) id ≡ is_listed ds id
 listed_without i id [] out = refl
 listed_without i id (d ∷ ds) out = go (nat_eq d.layer i) refl (listed_without i id ds out)
   where
-    go : (b : Bool) → nat_eq d.layer i ≡ b → is_listed (without i ds) id ≡ is_listed ds id → is_listed (cond (not b) (d ∷ without i ds) (without i ds)) id ≡ nat_eq d.layer id || is_listed ds id
+    go : (b : Bool) → nat_eq d.layer i ≡ b → is_listed (without_layer i ds) id ≡ is_listed ds id → is_listed (cond (not b) (d ∷ without_layer i ds) (without_layer i ds)) id ≡ nat_eq d.layer id || is_listed ds id
     go true e rest = rest ∙ sym (ap (λ (x : Bool). x || is_listed ds id) (out_of i id d out e))
     go false e rest = ap (λ (w : Bool). nat_eq d.layer id || w) rest
 
@@ -118,34 +118,34 @@ some_listed (Some c) ds id h =
 -- ---- one command
 
 -- a layer that is still there is not the one that was removed
-still_there : (i id : ℕ) (ls : List PageLayer) → AreDistinct ls → has_layer id (layers.without (has_id i) ls) ≡ true → (i == id) ≡ false
-still_there i id ls d there = is_false (i == id) (λ e. not_both (has_layer id (layers.without (has_id i) ls)) there (ap (λ (n : ℕ). has_layer n (layers.without (has_id i) ls)) (sym (eqb-true i id e)) ∙ absent-taken i ls d))
+still_there : (i id : ℕ) (ls : List PageLayer) → AreDistinctLayers ls → has_layer id (layers.without_first (has_id i) ls) ≡ true → (i == id) ≡ false
+still_there i id ls d there = is_false (i == id) (λ e. not_both (has_layer id (layers.without_first (has_id i) ls)) there (ap (λ (n : ℕ). has_layer n (layers.without_first (has_id i) ls)) (sym (eqb-true i id e)) ∙ absent-taken i ls d))
 
-command_whole : (p : Page) (c : Command) (id : ℕ) (ds : List LayerChange) → IsPage p → has_layer id (after p c).layers ≡ true → is_listed_whole (with_command p c ds) id ≡ false
-    → (is_listed_whole ds id ≡ false) × (is_changed_whole (change_of p c) id ≡ false)
+command_whole : (p : Page) (c : Command) (id : ℕ) (ds : List LayerChange) → IsPage p → has_layer id (page_after_command p c).layers ≡ true → is_listed_whole (with_command p c ds) id ≡ false
+    → (is_listed_whole ds id ≡ false) × (is_changed_whole (layer_change_of p c) id ≡ false)
 command_whole p (command.RemoveLayer i) id ds is there h = (sym (whole_without i id ds (still_there i id p.layers is.distinct there)) ∙ h, refl)
 command_whole p (command.AddTransform i parent x y scroller) id ds is there h = (h, refl)
-command_whole p c id ds is there h = some_whole (change_of p c) ds id h
+command_whole p c id ds is there h = some_whole (layer_change_of p c) ds id h
 
-command_listed : (p : Page) (c : Command) (id : ℕ) (ds : List LayerChange) → IsPage p → has_layer id (after p c).layers ≡ true → is_listed (with_command p c ds) id ≡ false
-    → (is_listed ds id ≡ false) × (names (change_of p c) id ≡ false)
+command_listed : (p : Page) (c : Command) (id : ℕ) (ds : List LayerChange) → IsPage p → has_layer id (page_after_command p c).layers ≡ true → is_listed (with_command p c ds) id ≡ false
+    → (is_listed ds id ≡ false) × (names (layer_change_of p c) id ≡ false)
 command_listed p (command.RemoveLayer i) id ds is there h = (sym (listed_without i id ds (still_there i id p.layers is.distinct there)) ∙ h, refl)
 command_listed p (command.AddTransform i parent x y scroller) id ds is there h = (h, refl)
-command_listed p c id ds is there h = some_listed (change_of p c) ds id h
+command_listed p c id ds is there h = some_listed (layer_change_of p c) ds id h
 
 -- what is read of a layer that a command changes elsewhere
 view_changed : {V : Type 0} (v : PageLayer → V) (i id : ℕ) (f : PageLayer → PageLayer) → ((l : PageLayer) → (f l).id ≡ l.id) → ((l : PageLayer) → v (f l) ≡ v l) → (ls : List PageLayer)
-    → option_map v (find (has_id id) (layers.changed (has_id i) f ls)) ≡ option_map v (find (has_id id) ls)
+    → option_map v (find (has_id id) (layers.with_first_changed (has_id i) f ls)) ≡ option_map v (find (has_id id) ls)
 view_changed {V} v i id f keeps same ls = go (i == id) refl
   where
     twice : (o : Option PageLayer) → option_map v (option_map f o) ≡ option_map v o
     twice None = refl
     twice (Some l) = ap Some (same l)
 
-    go : (b : Bool) → (i == id) ≡ b → option_map v (find (has_id id) (layers.changed (has_id i) f ls)) ≡ option_map v (find (has_id id) ls)
+    go : (b : Bool) → (i == id) ≡ b → option_map v (find (has_id id) (layers.with_first_changed (has_id i) f ls)) ≡ option_map v (find (has_id id) ls)
     go true e =
         let is : i ≡ id = eqb-true i id e in
-        ap (λ (n : ℕ). option_map v (find (has_id n) (layers.changed (has_id i) f ls))) (sym is)
+        ap (λ (n : ℕ). option_map v (find (has_id n) (layers.with_first_changed (has_id i) f ls))) (sym is)
         ∙ ap (option_map v) (found-here i f keeps ls)
         ∙ twice (find (has_id i) ls)
         ∙ ap (λ (n : ℕ). option_map v (find (has_id n) ls)) is
@@ -155,9 +155,9 @@ there_is : (o : Option PageLayer) → is_some (option_map (λ l. l.id) o) ≡ is
 there_is None = refl
 there_is (Some l) = refl
 
-there_changed : (i id : ℕ) (f : PageLayer → PageLayer) → ((l : PageLayer) → (f l).id ≡ l.id) → (ls : List PageLayer) → has_layer id (layers.changed (has_id i) f ls) ≡ has_layer id ls
+there_changed : (i id : ℕ) (f : PageLayer → PageLayer) → ((l : PageLayer) → (f l).id ≡ l.id) → (ls : List PageLayer) → has_layer id (layers.with_first_changed (has_id i) f ls) ≡ has_layer id ls
 there_changed i id f keeps ls =
-    sym (there_is (find (has_id id) (layers.changed (has_id i) f ls))) ∙ ap is_some (view_changed (λ l. l.id) i id f keeps keeps ls) ∙ there_is (find (has_id id) ls)
+    sym (there_is (find (has_id id) (layers.with_first_changed (has_id i) f ls))) ∙ ap is_some (view_changed (λ l. l.id) i id f keeps keeps ls) ∙ there_is (find (has_id id) ls)
 
 not_absent : (b : Bool) → (b ≡ false → ⊥) → b ≡ true
 not_absent true f = refl
@@ -168,9 +168,9 @@ and_true_false true h = h
 and_true_false false h = refl
 
 -- a layer that is there after a command that does not list it whole was there before
-there_before : (p : Page) (c : Command) (id : ℕ) → IsPage p → has_layer id (after p c).layers ≡ true → is_changed_whole (change_of p c) id ≡ false → has_layer id p.layers ≡ true
+there_before : (p : Page) (c : Command) (id : ℕ) → IsPage p → has_layer id (page_after_command p c).layers ≡ true → is_changed_whole (layer_change_of p c) id ≡ false → has_layer id p.layers ≡ true
 there_before p (command.AddLayer i at transform clip effect w h colour) id is there out = sym (ap is_some (found-insert id _ p.layers at (and_true_false (i == id) out))) ∙ there
-there_before p (command.RemoveLayer i) id is there out = not_absent (has_layer id p.layers) (λ none. not_both (has_layer id (layers.without (has_id i) p.layers)) there (absent-without id (has_id i) p.layers none))
+there_before p (command.RemoveLayer i) id is there out = not_absent (has_layer id p.layers) (λ none. not_both (has_layer id (layers.without_first (has_id i) p.layers)) there (absent-without id (has_id i) p.layers none))
 there_before p (command.ResizeLayer i w h) id is there out = sym (there_changed i id (with_size w h) (λ l. refl) p.layers) ∙ there
 there_before p (command.SetColour i colour) id is there out = sym (there_changed i id (with_colour colour) (λ l. refl) p.layers) ∙ there
 there_before p (command.InsertItem i at item) id is there out = sym (there_changed i id (with_items _) (λ l. refl) p.layers) ∙ there
@@ -183,7 +183,7 @@ abbrev shown : Option PageLayer → Option (List Item)
 shown o = option_map (λ l. l.items) o
 
 -- the items of a layer that a command does not list
-command_items : (p : Page) (c : Command) (id : ℕ) → IsPage p → has_layer id (after p c).layers ≡ true → names (change_of p c) id ≡ false → items_of (after p c) id ≡ items_of p id
+command_items : (p : Page) (c : Command) (id : ℕ) → IsPage p → has_layer id (page_after_command p c).layers ≡ true → names (layer_change_of p c) id ≡ false → items_of (page_after_command p c) id ≡ items_of p id
 command_items p (command.AddLayer i at transform clip effect w h colour) id is there out = ap shown (found-insert id _ p.layers at out)
 command_items p (command.RemoveLayer i) id is there out = ap shown (found-without i id p.layers (still_there i id p.layers is.distinct there))
 command_items p (command.ResizeLayer i w h) id is there out = ap shown (found-other i id (with_size w h) (λ l. refl) p.layers out)
@@ -194,7 +194,7 @@ command_items p (command.ReplaceItem i at item) id is there out = ap shown (foun
 command_items p (command.MoveLayer i at) id is there out = ap shown (found-moved i at id p.layers is.distinct)
 command_items p _ id is there out = refl
 
-command_tile : (p : Page) (c : Command) → retiles p c ≡ false → (after p c).view.tile ≡ p.view.tile
+command_tile : (p : Page) (c : Command) → retiles p c ≡ false → (page_after_command p c).view.tile ≡ p.view.tile
 command_tile p (command.SetView w h tile) out = eqb-true tile p.view.tile (not_false (tile == p.view.tile) out)
 command_tile p _ out = refl
 
@@ -205,7 +205,7 @@ pub frame_sizes : (cs : List Command) (p : Page) (id : ℕ) (done : Changed) →
     → (is_listed_whole done.list id ≡ false) × (has_layer id p.layers ≡ true) × (size_of (commanded cs p) id ≡ size_of p id)
 frame_sizes [] p id done is t there h = (h, there, refl)
 frame_sizes (c ∷ cs) p id done is t there h =
-    let (listed, between, size) = frame_sizes cs (after p c) id (with_next p c done) (page_after p c is t.0) t.1 there h in
+    let (listed, between, size) = frame_sizes cs (page_after_command p c) id (with_next p c done) (page_after p c is t.0) t.1 there h in
     let (before, out) = command_whole p c id done.list is between listed in
     let was : has_layer id p.layers ≡ true = there_before p c id is between out in
     let keeps : KeepsTheRest p c = unlisted_stays p c is t.0 in
@@ -216,8 +216,8 @@ pub frame_items : (cs : List Command) (p : Page) (id : ℕ) (done : Changed) →
     → is_listed (changed_by p cs done).list id ≡ false → (is_listed done.list id ≡ false) × (items_of (commanded cs p) id ≡ items_of p id)
 frame_items [] p id done is t there w h = (h, refl)
 frame_items (c ∷ cs) p id done is t there w h =
-    let (listed, between, size) = frame_sizes cs (after p c) id (with_next p c done) (page_after p c is t.0) t.1 there w in
-    let (left, items) = frame_items cs (after p c) id (with_next p c done) (page_after p c is t.0) t.1 there w h in
+    let (listed, between, size) = frame_sizes cs (page_after_command p c) id (with_next p c done) (page_after p c is t.0) t.1 there w in
+    let (left, items) = frame_items cs (page_after_command p c) id (with_next p c done) (page_after p c is t.0) t.1 there w h in
     let (before, out) = command_listed p c id done.list is between left in
     (before, items ∙ command_items p c id is between out)
 
@@ -225,7 +225,7 @@ frame_items (c ∷ cs) p id done is t there w h =
 pub frame_tile : (cs : List Command) (p : Page) (done : Changed) → (changed_by p cs done).retiled ≡ false → (done.retiled ≡ false) × ((commanded cs p).view.tile ≡ p.view.tile)
 frame_tile [] p done h = (h, refl)
 frame_tile (c ∷ cs) p done h =
-    let (flat, tile) = frame_tile cs (after p c) (with_next p c done) h in
+    let (flat, tile) = frame_tile cs (page_after_command p c) (with_next p c done) h in
     (or_left_false done.retiled (retiles p c) flat, tile ∙ command_tile p c (or_right_false done.retiled (retiles p c) flat))
 
 -- what is not listed is not listed whole

@@ -1,11 +1,11 @@
 -- Lists that are picked by tests.
 use Rattle.std.proofs.Common.{◌≡◌, inl, inr, Bool, true, false, cond, not, ◌&&◌, ◌||◌, List, [], ◌∷◌, length, filter, map, suc, refl, sym, ◌∙◌, ap}
 use Rattle.geom.specs.declared.tile.TileKey.{TileKey}
-use Rattle.geom.specs.KeyLists.{same_key, has_key, AreDistinct}
+use Rattle.geom.specs.KeyLists.{same_key, has_key, AreDistinctKeys}
 use Rattle.geom.proofs.KeyLists.{one_key, same_from}
 use Rattle.tile_priority.specs.Ordered.{In}
 use Rattle.tile_priority.proofs.StayAlike.{filter_both}
-use Rattle.model_history.specs.Tiles.{without}
+use Rattle.model_history.specs.Tiles.{without_keys}
 use Rattle.model_history.proofs.BoolFacts.{not_both, is_false, or_left_false, or_right_false}
 
 -- tests that agree on the elements of a list pick the same
@@ -38,7 +38,7 @@ all_stay : (ks : List TileKey) → ks ≡ filter (λ k. not (has_key [] k)) ks
 all_stay [] = refl
 all_stay (k ∷ ks) = ap (λ ls. k ∷ ls) (all_stay ks)
 
-pub without_is : (ks qs : List TileKey) → without ks qs ≡ filter (λ k. not (has_key qs k)) ks
+pub without_is : (ks qs : List TileKey) → without_keys ks qs ≡ filter (λ k. not (has_key qs k)) ks
 without_is ks [] = all_stay ks
 without_is ks (q ∷ qs) = refl
 
@@ -50,7 +50,7 @@ none_gone (k ∷ ks) q h =
     rw n (ap (λ ls. k ∷ ls) r)
 
 -- a key that is taken from others that have it once leaves one fewer
-pub shorter : (ks : List TileKey) (q : TileKey) → AreDistinct ks → has_key ks q ≡ true → suc (length (filter (λ k. not (has_key (q ∷ []) k)) ks)) ≡ length ks
+pub shorter : (ks : List TileKey) (q : TileKey) → AreDistinctKeys ks → has_key ks q ≡ true → suc (length (filter (λ k. not (has_key (q ∷ []) k)) ks)) ≡ length ks
 shorter [] q d h = absurd cc
 shorter (k ∷ ks) q d h = by_key (same_key q k) refl (shorter ks q d.1)
   where

@@ -5,13 +5,13 @@ use Rattle.std.specs.List.{find}
 use Rattle.geom.specs.declared.rect.Point.{Point}
 use Rattle.geom.specs.declared.rect.Rect.{Rect}
 use Rattle.geom.specs.declared.tile.Place.{Place}
-use Rattle.geom.specs.Grids.{has, rect_of}
+use Rattle.geom.specs.Grids.{has, rect_of_place}
 use Rattle.region.specs.Lists.{Changed, IsRising, change_of, is_listed, is_listed_whole}
 use Rattle.tile_tiling.specs.Tiles.{Tiled, stamp_at}
 use Rattle.tile_tiling.specs.Stamps.{Commit, may_show_in, changes_in, stamp_of, IsStamped}
 use Rattle.page_layers.specs.declared.command.Command.{Command}
 use Rattle.page_layers.specs.declared.command.Command.TheVariants as command
-use Rattle.page_layers.specs.Effects.{after}
+use Rattle.page_layers.specs.Effects.{page_after_command}
 use Rattle.page_layers.specs.declared.moves.Move.{Move}
 use Rattle.page_layers.specs.Layers.{PageLayer, has_id}
 use Rattle.page_layers.specs.Pages.{Page}
@@ -139,9 +139,9 @@ next_values p vs _ done = refl
 changed_values : (cs : List Command) (p : Page) (vs : List (ℕ × Point)) (done : Changed) → changed_by (with_values p vs) cs done ≡ changed_by p cs done
 changed_values [] p vs done = refl
 changed_values (c ∷ cs) p vs done =
-    ap (λ (d : Changed). changed_by (after (with_values p vs) c) cs d) (next_values p vs c done)
+    ap (λ (d : Changed). changed_by (page_after_command (with_values p vs) c) cs d) (next_values p vs c done)
     ∙ ap (λ (q : Page). changed_by q cs (with_next p c done)) (after_values p vs c)
-    ∙ changed_values cs (after p c) (after (with_values p vs) c).values (with_next p c done)
+    ∙ changed_values cs (page_after_command p c) (page_after_command (with_values p vs) c).values (with_next p c done)
 
 frame_plain : (s : ScriptModel) (ps : ℕ → List Move) (k : ℕ) → frame_changes s ps k ≡ frame_changes s no_pulls k
 frame_plain s ps k =

@@ -12,7 +12,7 @@ use Rattle.model_history.specs.declared.history.Entry.{Entry}
 use Rattle.model_history.specs.Scripts.{ScriptModel}
 use Rattle.model_history.specs.Accepted.{IsAccepted}
 use Rattle.model_history.specs.Stamps.{stamp_in}
-use Rattle.model_history.specs.Tiles.{page_keys, without, active_tree, pending_tree, keys_of, live_keys, made, in_flight, ready}
+use Rattle.model_history.specs.Tiles.{page_keys, without_keys, active_tree, pending_tree, keys_of, live_keys, made_so_far, in_flight, ready}
 use Rattle.model_history.specs.Frames.{page, pulls_of, pending, up_to}
 use Rattle.model_history.specs.Sharing.{was_live}
 use Rattle.model_history.specs.Legal.{Next, Legal}
@@ -34,15 +34,15 @@ pub record WereOf (done flying : List TileKey) (was : TileKey → Bool) : Type 0
   pub of_flying : (q : TileKey) → has_key flying q ≡ true → was q ≡ true
 
 abbrev pub Were : ScriptModel → List Entry → Type 0
-Were s h = WereOf (made h) (in_flight h) (was_live s h)
+Were s h = WereOf (made_so_far h) (in_flight h) (was_live s h)
 
 -- a key that is there once some were taken away was there before
-stood : (ks qs : List TileKey) (q : TileKey) → has_key (without ks qs) q ≡ true → has_key ks q ≡ true
+stood : (ks qs : List TileKey) (q : TileKey) → has_key (without_keys ks qs) q ≡ true → has_key ks q ≡ true
 stood ks qs q t = and_left (has_key ks q) _ (sym (has_without ks qs q) ∙ t)
 
 one_step : (s : ScriptModel) (n : ℕ) (h : List Entry) (a : ℕ) (e : Event) → Legal s n h → Were s h → Next s n h (entry a e) → Were s (entry a e ∷ h)
 one_step s n h a (event.Start w k evicted) l r x = record {
-  of_made = λ q t. later q (r.of_made q (stood (made h) evicted q t));
+  of_made = λ q t. later q (r.of_made q (stood (made_so_far h) evicted q t));
   of_flying = λ q t. by_or q (or_either (same_key k q) (has_key (in_flight h) q) t);
 }
   where
@@ -59,14 +59,14 @@ one_step s n h a (event.Start w k evicted) l r x = record {
         or_left (has_key (live_keys s (entry a (event.Start w k evicted) ∷ h)) q) (was_live s h q) (ap (has_key (live_keys s h)) (sym (one_key k q t)) ∙ live_now)
     by_or q (inr t) = later q (r.of_flying q t)
 one_step s n h a (event.DoneTile w k) l r x = record {
-  of_made = λ q t. by_or q (or_either (same_key k q) (has_key (made h) q) t);
+  of_made = λ q t. by_or q (or_either (same_key k q) (has_key (made_so_far h) q) t);
   of_flying = λ q t. later q (r.of_flying q (stood (in_flight h) (k ∷ []) q t));
 }
   where
     later : (q : TileKey) → was_live s h q ≡ true → was_live s (entry a (event.DoneTile w k) ∷ h) q ≡ true
     later q t = or_right (has_key (live_keys s (entry a (event.DoneTile w k) ∷ h)) q) (was_live s h q) t
 
-    by_or : (q : TileKey) → (same_key k q ≡ true) ⊎ (has_key (made h) q ≡ true) → was_live s (entry a (event.DoneTile w k) ∷ h) q ≡ true
+    by_or : (q : TileKey) → (same_key k q ≡ true) ⊎ (has_key (made_so_far h) q ≡ true) → was_live s (entry a (event.DoneTile w k) ∷ h) q ≡ true
     by_or q (inl t) =
         later q (ap (was_live s h) (sym (one_key k q t)) ∙ r.of_flying k ((tile_course s n h l).held_in_flight w k (at_done s n h a w k x)))
     by_or q (inr t) = later q (r.of_made q t)
@@ -85,12 +85,12 @@ same_test : (a b : Bool) → (a ≡ true → b ≡ true) → (b ≡ true → a �
 same_test true b f g = sym (f refl)
 same_test false b f g = sym (is_false b (λ t. not_both false (g t) refl))
 
-pub ready_kept : (s : ScriptModel) (n : ℕ) (h : List Entry) (e : Entry) → IsAccepted s → Legal s n (e ∷ h) → made (e ∷ h) ≡ made h
+pub ready_kept : (s : ScriptModel) (n : ℕ) (h : List Entry) (e : Entry) → IsAccepted s → Legal s n (e ∷ h) → made_so_far (e ∷ h) ≡ made_so_far h
     → ready s (e ∷ h) ≡ filter (has_key (live_keys s (e ∷ h))) (ready s h)
 ready_kept s n h e acc legal same =
     ap (filter now) same
-    ∙ (filter_same now (λ q. before q && now q) (made h) (λ q i. same_test (now q) (before q && now q) (λ t. and_both (before q) (now q) (was q i t) t) (λ t. and_right (before q) (now q) t))
-    ∙ sym (filter_both now before (made h)))
+    ∙ (filter_same now (λ q. before q && now q) (made_so_far h) (λ q i. same_test (now q) (before q && now q) (λ t. and_both (before q) (now q) (was q i t) t) (λ t. and_right (before q) (now q) t))
+    ∙ sym (filter_both now before (made_so_far h)))
   where
     now : TileKey → Bool
     now = has_key (live_keys s (e ∷ h))
@@ -98,8 +98,8 @@ ready_kept s n h e acc legal same =
     before : TileKey → Bool
     before = has_key (live_keys s h)
 
-    was : (q : TileKey) → In q (made h) → now q ≡ true → before q ≡ true
-    was q i t = still_live s n h e q acc legal ((were s n h legal.0).of_made q (has_in (made h) q i)) t
+    was : (q : TileKey) → In q (made_so_far h) → now q ≡ true → before q ≡ true
+    was q i t = still_live s n h e q acc legal ((were s n h legal.0).of_made q (has_in (made_so_far h) q i)) t
 
 -- a tree of no commit has no keys
 
@@ -113,7 +113,7 @@ none_before : (s : ScriptModel) (n : ℕ) (h : List Entry) (a k : ℕ) → Legal
 none_before s n h a k legal = none_where (pending h) (sym (course s n h legal.0).pending_state ∙ (at_commit s n h a k legal.1).none_pending)
 
 pub commit_ready : (s : ScriptModel) (n : ℕ) (h : List Entry) (a k : ℕ) → IsAccepted s → Legal s n (commit a k ∷ h) → ready s (commit a k ∷ h) ≡ ready s h
-commit_ready s n h a k acc legal = filter_same now before (made h) (λ q i. same_test (now q) (before q) (was q i) (still q))
+commit_ready s n h a k acc legal = filter_same now before (made_so_far h) (λ q i. same_test (now q) (before q) (was q i) (still q))
   where
     now : TileKey → Bool
     now = has_key (live_keys s (commit a k ∷ h))
@@ -121,8 +121,8 @@ commit_ready s n h a k acc legal = filter_same now before (made h) (λ q i. same
     before : TileKey → Bool
     before = has_key (live_keys s h)
 
-    was : (q : TileKey) → In q (made h) → now q ≡ true → before q ≡ true
-    was q i t = still_live s n h (commit a k) q acc legal ((were s n h legal.0).of_made q (has_in (made h) q i)) t
+    was : (q : TileKey) → In q (made_so_far h) → now q ≡ true → before q ≡ true
+    was q i t = still_live s n h (commit a k) q acc legal ((were s n h legal.0).of_made q (has_in (made_so_far h) q i)) t
 
     of_active : (q : TileKey) → (has_key (keys_of (active_tree s h)) q ≡ true) ⊎ (has_key (keys_of (pending_tree s h)) q ≡ true) → now q ≡ true
     of_active q (inl t) =

@@ -1,7 +1,7 @@
 -- Lists with the same keys, and the choice that is made from them.
 use Rattle.std.proofs.Common.{◌≡◌, ◌⊎◌, inl, inr, ℕ, suc, Bool, true, false, cond, not, ◌&&◌, ◌||◌, List, [], ◌∷◌, ◌++◌, length, map, filter, filter_map, refl, sym, ◌∙◌, ap, subst, arith}
 use Rattle.geom.specs.declared.tile.TileKey.{TileKey}
-use Rattle.geom.specs.KeyLists.{same_key, has_key, AreDistinct}
+use Rattle.geom.specs.KeyLists.{same_key, has_key, AreDistinctKeys}
 use Rattle.geom.proofs.KeyLists.{one_key, same_from}
 use Rattle.tile_priority.specs.declared.rank.Rank.{Rank}
 use Rattle.tile_priority.specs.Tiles.{Tile}
@@ -12,7 +12,7 @@ use Rattle.model_history.specs.Scripts.{ScriptModel}
 use Rattle.model_history.specs.Tiles.{Tree, keys_of}
 use Rattle.model_history.proofs.BoolFacts.{not_both}
 use Rattle.model_history.proofs.KeyFacts.{has_in, in_has, has_filter, distinct_filter}
-use Rattle.model_steps.specs.Choices.{rank_in_both, is_missing, tile_in_both, choice_of}
+use Rattle.model_steps.specs.Choices.{rank_in_both, lacks_key, tile_in_both, choice_of}
 use Rattle.model_steps.proofs.Picks.{filter_map_test, shorter}
 
 self_key : (k : TileKey) → same_key k k ≡ true
@@ -20,7 +20,7 @@ self_key k = same_from k k refl
 
 -- distinct keys are as many as others that are the same
 
-pub same_count : (ks ls : List TileKey) → AreDistinct ks → AreDistinct ls → ((q : TileKey) → has_key ks q ≡ has_key ls q) → length ks ≡ length ls
+pub same_count : (ks ls : List TileKey) → AreDistinctKeys ks → AreDistinctKeys ls → ((q : TileKey) → has_key ks q ≡ has_key ls q) → length ks ≡ length ls
 same_count [] [] d e same = refl
 same_count [] (l ∷ ls) d e same = absurd (not_both (same_key l l || has_key ls l) (ap (λ b. b || has_key ls l) (self_key l)) (sym (same l)))
 same_count (k ∷ ks) ls d e same = (let n : length ks ≡ length others = same_count ks others d.1 (distinct_filter (λ x. not (has_key (k ∷ []) x)) ls e) rest in ap suc n) ∙ shorter ls k e there
@@ -44,7 +44,7 @@ same_count (k ∷ ks) ls d e same = (let n : length ks ≡ length others = same_
 
 -- and as many of them pass each test
 
-pub as_many_keys : (ks ls : List TileKey) → AreDistinct ks → AreDistinct ls → ((q : TileKey) → has_key ks q ≡ has_key ls q) → AsMany ks ls
+pub as_many_keys : (ks ls : List TileKey) → AreDistinctKeys ks → AreDistinctKeys ls → ((q : TileKey) → has_key ks q ≡ has_key ls q) → AsMany ks ls
 as_many_keys ks ls d e same f =
     same_count (filter f ks) (filter f ls) (distinct_filter f ks d) (distinct_filter f ls e)
     (λ q. has_filter f ks q ∙ (ap (λ b. b && f q) (same q) ∙ sym (has_filter f ls q)))
@@ -73,8 +73,8 @@ same_tiles g ks ls same = record {
 -- a choice from these ranks and ready keys, where they are those of the trees
 
 pub rebuilt_alike : (s : ScriptModel) (a p : Tree) (ready in_flight pinned kept : List TileKey) (ranks : List Rank)
-    → SameMembers ranks (filter_map (rank_in_both s a p) (filter (is_missing ready in_flight) (keys_of a ++ keys_of p)))
-    → AreDistinct kept → AreDistinct ready → ((q : TileKey) → has_key kept q ≡ has_key ready q)
+    → SameMembers ranks (filter_map (rank_in_both s a p) (filter (lacks_key ready in_flight) (keys_of a ++ keys_of p)))
+    → AreDistinctKeys kept → AreDistinctKeys ready → ((q : TileKey) → has_key kept q ≡ has_key ready q)
     → Alike (record { wanted = ranks; ready = map (tile_in_both s a p pinned) kept; in_flight = length in_flight; budget = s.budget }) (choice_of s a p ready in_flight pinned)
 rebuilt_alike s a p ready in_flight pinned kept ranks w d e same = record {
   wanted = w;

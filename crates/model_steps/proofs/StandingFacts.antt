@@ -6,7 +6,7 @@ use Rattle.model_scroll_values.specs.Table.{pending_value}
 use Rattle.page_layers.specs.Scrolls.{clamp_to, origin}
 use Rattle.page_layers.specs.Pages.{Page}
 use Rattle.page_layers.specs.Axes.{Axis, across, down}
-use Rattle.page_layers.specs.Scrollers.{has_scroller, most, offsets_in, taken}
+use Rattle.page_layers.specs.Scrollers.{has_scroller, most, offsets_in, amount_taken}
 use Rattle.model_history.specs.declared.history.Entry.{Entry}
 use Rattle.model_history.specs.Scripts.{ScriptModel}
 use Rattle.model_history.specs.Frames.{pending, active_page, pending_page}
@@ -42,8 +42,8 @@ module _ (s : ScriptModel) (n : ℕ) (h : List Entry) (legal : Legal s n h) wher
       let o = offset_then_is_value s n h sc ax legal in
       λ i. p i -ℤ o i
 
-  pub accepted_is : (sc : ℕ) (ax : Axis) (asked : ℤ) → accepted s h sc ax asked ≡ taken (active_page s h) (active_at value) sc ax asked
-  accepted_is sc ax asked = ap (λ (f : ℕ → Axis → ℤ). taken (active_page s h) f sc ax asked) (λ i k a. active_is_value s n h k a legal i)
+  pub accepted_is : (sc : ℕ) (ax : Axis) (asked : ℤ) → accepted s h sc ax asked ≡ amount_taken (active_page s h) (active_at value) sc ax asked
+  accepted_is sc ax asked = ap (λ (f : ℕ → Axis → ℤ). amount_taken (active_page s h) f sc ax asked) (λ i k a. active_is_value s n h k a legal i)
 
   pub active_offsets_are : active_offsets s h ≡ offsets_in (active_page s h) (active_at value)
   active_offsets_are = ap (offsets_in (active_page s h)) (λ i sc ax. active_is_value s n h sc ax legal i)

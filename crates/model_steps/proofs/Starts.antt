@@ -7,13 +7,13 @@ use Rattle.geom.proofs.KeyLists.{one_key, same_from}
 use Rattle.tile_priority.specs.declared.rank.Rank.{Rank}
 use Rattle.tile_priority.specs.Tiles.{Tile}
 use Rattle.tile_priority.specs.Ordered.{In, SameMembers}
-use Rattle.tile_priority.specs.Alike.{Alike, is_of, is_among, tile_rank, started}
+use Rattle.tile_priority.specs.Alike.{Alike, is_of, is_among, tile_rank, choice_after_start}
 use Rattle.tile_priority.proofs.InOrder.{in_filter, filter_in, in_map, map_in}
 use Rattle.tile_priority.proofs.Members.{in_append, in_append_left, in_append_right, in_filter_map, filter_map_in, same_itself}
 use Rattle.model_history.specs.declared.history.Entry.{Entry}
 use Rattle.model_history.specs.Scripts.{ScriptModel}
 use Rattle.model_history.specs.Legal.{Legal}
-use Rattle.model_history.specs.Tiles.{live_keys, made, in_flight, ready}
+use Rattle.model_history.specs.Tiles.{live_keys, made_so_far, in_flight, ready}
 use Rattle.model_history.specs.Ranking.{rank, is_unmade, wanted, ready_tile, choice}
 use Rattle.model_history.proofs.BoolFacts.{not_both, is_false, and_left, and_right, and_both, or_neither, or_left_false, or_right_false, not_true}
 use Rattle.model_history.proofs.DueFacts.{at_start}
@@ -29,7 +29,7 @@ module _ (s : ScriptModel) (n : ℕ) (h : List Entry) (actor w : ℕ) (q : TileK
 
   -- the ready keys
   ready_next : ready s next ≡ filter (λ k. not (has_key evicted k)) (ready s h)
-  ready_next = ap (filter (has_key (live_keys s h))) (without_is (made h) evicted) ∙ filter_swap (has_key (live_keys s h)) (λ k. not (has_key evicted k)) (made h)
+  ready_next = ap (filter (has_key (live_keys s h))) (without_is (made_so_far h) evicted) ∙ filter_swap (has_key (live_keys s h)) (λ k. not (has_key evicted k)) (made_so_far h)
 
   tiles_next : filter (λ t. not (is_among evicted t)) (map (ready_tile s h) (ready s h)) ≡ map (ready_tile s next) (ready s next)
   tiles_next = filter_map_test (ready_tile s h) (λ t. not (is_among evicted t)) (ready s h) ∙ ap (map (ready_tile s h)) (sym ready_next)
@@ -37,7 +37,7 @@ module _ (s : ScriptModel) (n : ℕ) (h : List Entry) (actor w : ℕ) (q : TileK
   pub has_ready_next : (k : TileKey) → has_key (ready s next) k ≡ (has_key (ready s h) k && not (has_key evicted k))
   has_ready_next k = ap (λ ks. has_key ks k) ready_next ∙ has_filter (λ k. not (has_key evicted k)) (ready s h) k
 
-  -- what starts is neither ready nor in flight, and what is given up is ready and not in flight
+  -- what starts is neither ready nor in flight, and what is evicted is ready and not in flight
   pub new_key : (has_key (ready s h) q ≡ false) × (has_key (in_flight h) q ≡ false)
   new_key =
       let d = at_start s n h actor w q evicted legal.1 in
@@ -47,15 +47,15 @@ module _ (s : ScriptModel) (n : ℕ) (h : List Entry) (actor w : ℕ) (q : TileK
   pub gone_ready : (k : TileKey) → has_key evicted k ≡ true → has_key (ready s h) k ≡ true
   gone_ready k t =
       let d = at_start s n h actor w q evicted legal.1 in
-      (evicted_may_go s h d.rank k (ap (λ ks. has_key ks k) (sym d.gives_up) ∙ t)).is_ready
+      (evicted_may_go s h d.rank k (ap (λ ks. has_key ks k) (sym d.evictions) ∙ t)).is_ready
 
-  ready_made : (k : TileKey) → has_key (ready s h) k ≡ true → has_key (made h) k ≡ true
-  ready_made k t = and_left (has_key (made h) k) (has_key (live_keys s h) k) (sym (has_filter (has_key (live_keys s h)) (made h) k) ∙ t)
+  ready_made : (k : TileKey) → has_key (ready s h) k ≡ true → has_key (made_so_far h) k ≡ true
+  ready_made k t = and_left (has_key (made_so_far h) k) (has_key (live_keys s h) k) (sym (has_filter (has_key (live_keys s h)) (made_so_far h) k) ∙ t)
 
   ready_lands : (k : TileKey) → has_key (ready s h) k ≡ true → has_key (in_flight h) k ≡ false
   ready_lands k t =
       let c = tile_course s n h legal.0 in
-      is_false (has_key (in_flight h) k) (λ f. not_both (has_key (made h) k) (ready_made k t) (c.apart k f))
+      is_false (has_key (in_flight h) k) (λ f. not_both (has_key (made_so_far h) k) (ready_made k t) (c.apart k f))
 
   -- the wanted ranks
 
@@ -86,7 +86,7 @@ module _ (s : ScriptModel) (n : ℕ) (h : List Entry) (actor w : ℕ) (q : TileK
       let (t, j, e) = in_filter_map tile_rank r (filter (is_among evicted) (map (ready_tile s h) (ready s h))) i in
       let (m, g) = in_filter (is_among evicted) t (map (ready_tile s h) (ready s h)) j in
       let (k, l, v) = in_map (ready_tile s h) t (ready s h) m in
-      let (x, y) = in_filter (has_key (live_keys s h)) k (made h) l in
+      let (x, y) = in_filter (has_key (live_keys s h)) k (made_so_far h) l in
       let gone : has_key evicted k ≡ true = ap (λ (z : Tile). has_key evicted z.key) v ∙ g in
       let is : has_key (ready s h) k ≡ true = has_in (ready s h) k l in
       let not_q : same_key q k ≡ false = other_key k (λ d. not_both (has_key (ready s h) k) is (ap (has_key (ready s h)) (sym d) ∙ new_key.0)) in
@@ -120,7 +120,7 @@ module _ (s : ScriptModel) (n : ℕ) (h : List Entry) (actor w : ℕ) (q : TileK
           (filter_in (is_unmade s h) k (live_keys s h) m (and_both (not (has_key (ready s h) k)) (not (has_key (in_flight h) k)) (ap not old) (ap not (or_right_false (same_key q k) (has_key (in_flight h) k) fly)))) e in
           in_append_left r (filter (λ r. not (is_of q r)) (wanted s h)) (filter_map tile_rank (filter (is_among evicted) (map (ready_tile s h) (ready s h)))) (filter_in (λ r. not (is_of q r)) r (wanted s h) there not_q)
 
-  pub start_alike : Alike (started (choice s h) q evicted) (choice s next)
+  pub start_alike : Alike (choice_after_start (choice s h) q evicted) (choice s next)
   start_alike = record {
     wanted = record {
       there = λ r i. elim (in_append r (filter (λ r. not (is_of q r)) (wanted s h)) (filter_map tile_rank (filter (is_among evicted) (map (ready_tile s h) (ready s h)))) i) [ inl j ↦ still_wanted r j | inr j ↦ wanted_again r j ];

@@ -20,7 +20,7 @@ use Rattle.model_history.specs.Scans.{newest, counted}
 use Rattle.model_history.specs.Frames.{page, pulls_of, active, pending, up_to, active_page, pending_page}
 use Rattle.model_history.specs.Scrolls.{offset, offset_then, pending_offset, clobbers, active_offsets, pending_offsets}
 use Rattle.model_history.specs.Stamps.{stamp_in}
-use Rattle.model_history.specs.Tiles.{Tree, active_tree, pending_tree, keys_of, made, in_flight, ready, pinned}
+use Rattle.model_history.specs.Tiles.{Tree, active_tree, pending_tree, keys_of, made_so_far, in_flight, ready, pinned}
 use Rattle.model_history.specs.Ranking.{choice}
 use Rattle.model_history.specs.Values.{values}
 use Rattle.model_history.specs.Legal.{Legal}
@@ -47,11 +47,11 @@ same_tree p q f g st su e o t = λ i. tree_of (e i) (o i) (λ layer place. t lay
 
 -- the choice is made from the trees and the keys
 pub same_choice : (s : ScriptModel) (h g : List Entry) → active_tree s g ≡ active_tree s h → pending_tree s g ≡ pending_tree s h
-    → made g ≡ made h → in_flight g ≡ in_flight h → pinned s g ≡ pinned s h → choice s g ≡ choice s h
+    → made_so_far g ≡ made_so_far h → in_flight g ≡ in_flight h → pinned s g ≡ pinned s h → choice s g ≡ choice s h
 same_choice s h g a p m f q = λ i. choice_of s (a i) (p i) (filter (has_key (keys_of (a i) ++ keys_of (p i))) (m i)) (f i) (q i)
 
 -- and so are the ready keys
-pub same_ready : (s : ScriptModel) (h g : List Entry) → active_tree s g ≡ active_tree s h → pending_tree s g ≡ pending_tree s h → made g ≡ made h → ready s g ≡ ready s h
+pub same_ready : (s : ScriptModel) (h g : List Entry) → active_tree s g ≡ active_tree s h → pending_tree s g ≡ pending_tree s h → made_so_far g ≡ made_so_far h → ready s g ≡ ready s h
 same_ready s h g a p m = λ i. filter (has_key (keys_of (a i) ++ keys_of (p i))) (m i)
 
 -- a send

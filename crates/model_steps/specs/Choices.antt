@@ -16,8 +16,8 @@ abbrev pub rank_in_both : ScriptModel → Tree → Tree → TileKey → Option R
 rank_in_both s a p q = least (rank_in s side.Active a q) (rank_in s side.Pending p q)
 
 -- the key is neither ready nor in flight
-abbrev pub is_missing : List TileKey → List TileKey → TileKey → Bool
-is_missing ready in_flight q = not (has_key ready q) && not (has_key in_flight q)
+abbrev pub lacks_key : List TileKey → List TileKey → TileKey → Bool
+lacks_key ready in_flight q = not (has_key ready q) && not (has_key in_flight q)
 
 -- a ready key with its rank, and whether it must stay
 abbrev pub tile_in_both : ScriptModel → Tree → Tree → List TileKey → TileKey → Tile
@@ -26,7 +26,7 @@ tile_in_both s a p pinned q = record { key = q; rank = rank_in_both s a p q; pin
 -- what the choice is made from, where these trees are active and pending, and these keys ready, in flight and pinned
 abbrev pub choice_of : ScriptModel → Tree → Tree → List TileKey → List TileKey → List TileKey → Choice
 choice_of s a p ready in_flight pinned = record {
-  wanted = filter_map (rank_in_both s a p) (filter (is_missing ready in_flight) (keys_of a ++ keys_of p));
+  wanted = filter_map (rank_in_both s a p) (filter (lacks_key ready in_flight) (keys_of a ++ keys_of p));
   ready = map (tile_in_both s a p pinned) ready;
   in_flight = length in_flight;
   budget = s.budget;

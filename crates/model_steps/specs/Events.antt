@@ -5,7 +5,7 @@ use Rattle.page_layers.specs.declared.moves.Move.{Move}
 use Rattle.model_history.specs.declared.event.Event.TheVariants as event
 use Rattle.model_history.specs.declared.history.Entry.{Entry}
 
--- a worker starts a key, for which these are given up
+-- a worker starts a key, for which these are evicted
 abbrev pub start : ℕ → ℕ → TileKey → List TileKey → Entry
 start actor w q evicted = record { actor = actor; event = event.Start w q evicted }
 

@@ -3,7 +3,7 @@
 
 ghost use Rattle.std.specs.Prelude.{◌≡◌, ℕ, false, List, ◌∷◌, ◌++◌, map, filter, filter_map, length, Some, None};
 ghost use Rattle.geom.specs.declared.tile.TileKey.{TileKey as Key};
-ghost use Rattle.geom.specs.KeyLists.{has_key, AreDistinct};
+ghost use Rattle.geom.specs.KeyLists.{has_key, AreDistinctKeys};
 ghost use Rattle.tile_priority.specs.declared.rank.Rank.{Rank};
 ghost use Rattle.tile_priority.specs.Ordered.{SameMembers};
 ghost use Rattle.tile_priority.specs.Alike.{Alike};
@@ -17,7 +17,7 @@ ghost use Rattle.model_history.specs.Legal.{Legal};
 ghost use Rattle.model_history.specs.Tiles.{Tree, active_tree, pending_tree, keys_of, live_keys, in_flight, ready, pinned};
 ghost use Rattle.model_history.specs.Ranking.{choice};
 ghost use Rattle.model_steps.specs.Events.{send, abort, commit, activate};
-ghost use Rattle.model_steps.specs.Choices.{rank_in_both, is_missing, tile_in_both, choice_of};
+ghost use Rattle.model_steps.specs.Choices.{rank_in_both, lacks_key, tile_in_both, choice_of};
 
 /// The choice of tiles is made from the two trees and the ready, the pinned and the keys in flight.
 pub fn trees_and_keys_make_the_choice()
@@ -59,5 +59,5 @@ pub fn activations_keep_the_pending_tree()
 /// A choice is that of two trees, but for the order of its lists, where its ranks are those of the keys
 /// that are neither ready nor in flight, and its tiles those of the ready keys, each once.
 pub fn rebuilt_choices_are_alike()
-    ensures { (s : ScriptModel) (a p : Tree) (ready in_flight pinned kept : List Key) (ranks : List Rank) → SameMembers ranks (filter_map (rank_in_both s a p) (filter (is_missing ready in_flight) (keys_of a ++ keys_of p))) → AreDistinct kept → AreDistinct ready → ((q : Key) → has_key kept q ≡ has_key ready q) → Alike (record { wanted = ranks; ready = map (tile_in_both s a p pinned) kept; in_flight = length in_flight; budget = s.budget }) (choice_of s a p ready in_flight pinned) }
+    ensures { (s : ScriptModel) (a p : Tree) (ready in_flight pinned kept : List Key) (ranks : List Rank) → SameMembers ranks (filter_map (rank_in_both s a p) (filter (lacks_key ready in_flight) (keys_of a ++ keys_of p))) → AreDistinctKeys kept → AreDistinctKeys ready → ((q : Key) → has_key kept q ≡ has_key ready q) → Alike (record { wanted = ranks; ready = map (tile_in_both s a p pinned) kept; in_flight = length in_flight; budget = s.budget }) (choice_of s a p ready in_flight pinned) }
 {}

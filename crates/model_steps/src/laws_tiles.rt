@@ -12,19 +12,19 @@ ghost use Rattle.model_history.specs.Frames.{page};
 ghost use Rattle.model_history.specs.Accepted.{IsAccepted};
 ghost use Rattle.model_history.specs.Legal.{Legal};
 ghost use Rattle.model_history.specs.Sharing.{was_live, has_page_key, key_rect};
-ghost use Rattle.model_history.specs.Tiles.{live_keys, made, in_flight, ready};
-ghost use Rattle.model_steps.specs.ShownKeys.{Shows};
+ghost use Rattle.model_history.specs.Tiles.{live_keys, made_so_far, in_flight, ready};
+ghost use Rattle.model_steps.specs.ShownKeys.{KeyShows};
 
 /// What was made, and what is in flight, was live at some time. So an event that makes no tile and gives
 /// none up leaves of the ready keys those that are still live, and makes no other ready.
 pub fn ready_keys_were_ready()
-    ensures made { (s : ScriptModel) (workers : ℕ) (h : List Entry) (q : Key) → Legal s workers h → has_key (made h) q ≡ true → was_live s h q ≡ true }
+    ensures made { (s : ScriptModel) (workers : ℕ) (h : List Entry) (q : Key) → Legal s workers h → has_key (made_so_far h) q ≡ true → was_live s h q ≡ true }
     ensures in_flight { (s : ScriptModel) (workers : ℕ) (h : List Entry) (q : Key) → Legal s workers h → has_key (in_flight h) q ≡ true → was_live s h q ≡ true }
-    ensures ready { (s : ScriptModel) (workers : ℕ) (h : List Entry) (e : Entry) → IsAccepted s → Legal s workers (e ∷ h) → made (e ∷ h) ≡ made h → ready s (e ∷ h) ≡ filter (has_key (live_keys s (e ∷ h))) (ready s h) }
+    ensures ready { (s : ScriptModel) (workers : ℕ) (h : List Entry) (e : Entry) → IsAccepted s → Legal s workers (e ∷ h) → made_so_far (e ∷ h) ≡ made_so_far h → ready s (e ∷ h) ≡ filter (has_key (live_keys s (e ∷ h))) (ready s h) }
 {}
 
 /// A layer's own list, on the rect of the key's place, shows the key in every page of the script that has
 /// it, whatever was pulled.
 pub fn layers_show_their_keys()
-    ensures { (s : ScriptModel) (pulls : ℕ → List Move) (n : ℕ) (q : Key) (layer : PageLayer) → IsAccepted s → has_page_key s pulls n q ≡ true → find (has_id q.layer) (page s pulls n).layers ≡ Some layer → Shows s q (key_rect (page s pulls n) q) layer.items }
+    ensures { (s : ScriptModel) (pulls : ℕ → List Move) (n : ℕ) (q : Key) (layer : PageLayer) → IsAccepted s → has_page_key s pulls n q ≡ true → find (has_id q.layer) (page s pulls n).layers ≡ Some layer → KeyShows s q (key_rect (page s pulls n) q) layer.items }
 {}

@@ -6,7 +6,7 @@ ghost use Rattle.std.specs.Prelude.{◌≡◌, ℕ, ℤ, pos, cond, List, None};
 ghost use Rattle.model_scroll_values.specs.Table.{pull_answer};
 ghost use Rattle.page_layers.specs.declared.moves.Move.{Move};
 ghost use Rattle.page_layers.specs.Axes.{Axis, amount_in};
-ghost use Rattle.page_layers.specs.Scrollers.{has_scroller, offsets_in, taken};
+ghost use Rattle.page_layers.specs.Scrollers.{has_scroller, offsets_in, amount_taken};
 ghost use Rattle.model_history.specs.declared.history.Entry.{Entry};
 ghost use Rattle.model_history.specs.Scripts.{ScriptModel};
 ghost use Rattle.model_history.specs.Frames.{pending, active_page, pending_page};
@@ -23,7 +23,7 @@ pub fn values_tell_the_offsets()
     ensures active { (s : ScriptModel) (workers : ℕ) (h : List Entry) → Legal s workers h → active_offsets s h ≡ offsets_in (active_page s h) (active_at (λ sc ax. values s sc ax h)) }
     ensures pending { (s : ScriptModel) (workers : ℕ) (h : List Entry) → Legal s workers h → pending_offsets s h ≡ offsets_in (pending_page s h) (pending_at (clobbers s (pending h)) (pending_page s h) (λ sc ax. values s sc ax h)) }
     ensures pending_offset { (s : ScriptModel) (workers : ℕ) (h : List Entry) (sc : ℕ) (ax : Axis) → Legal s workers h → pending_offset s h sc ax ≡ pending_at (clobbers s (pending h)) (pending_page s h) (λ sc ax. values s sc ax h) sc ax }
-    ensures accepted { (s : ScriptModel) (workers : ℕ) (h : List Entry) (sc : ℕ) (ax : Axis) (asked : ℤ) → Legal s workers h → accepted s h sc ax asked ≡ taken (active_page s h) (active_at (λ sc ax. values s sc ax h)) sc ax asked }
+    ensures accepted { (s : ScriptModel) (workers : ℕ) (h : List Entry) (sc : ℕ) (ax : Axis) (asked : ℤ) → Legal s workers h → accepted s h sc ax asked ≡ amount_taken (active_page s h) (active_at (λ sc ax. values s sc ax h)) sc ax asked }
     ensures clamp { (s : ScriptModel) (workers : ℕ) (h : List Entry) (sc : ℕ) (ax : Axis) → Legal s workers h → clamp_move s h sc ax ≡ clamped_by (clobbers s (pending h)) (pending_page s h) (λ sc ax. values s sc ax h) sc ax }
 {}
 

@@ -6,16 +6,16 @@ use Rattle.geom.specs.Covers.{covers}
 use Rattle.std.specs.Prelude.{length, fold}
 use Rattle.pixel.specs.Colours.{Parts, blend, clear}
 use Rattle.pixel.specs.Rows.{pixel, ArePremultiplied}
-use Rattle.pixel.specs.Surfaces.{EachPixel, holds, within}
+use Rattle.pixel.specs.Surfaces.{EachPixel, holds, within_rows}
 use Rattle.page_display_list.specs.Bitmaps.{near, byte_count, BitmapModel, bitmap_pixel}
 use Rattle.page_display_list.specs.Content.{painted, IsRaster}
 use Rattle.page_display_list.specs.declared.item.Item.{Item}
 use Rattle.page_display_list.specs.Shared.{IsShared}
-use Rattle.page_display_list.specs.declared.part.Part.{Part}
+use Rattle.page_display_list.specs.declared.covered_area.CoveredArea.{CoveredArea}
 
 -- a rect of one colour
-pub colour_shown : (rect area : Rect) (part : Part) (c : Parts) (old new : List ℕ) → IsShared rect area part
-    → EachPixel (near area.w) (near area.h) (within part.at part.at.h (λ x y below. blend below c)) old new
+pub colour_shown : (rect area : Rect) (part : CoveredArea) (c : Parts) (old new : List ℕ) → IsShared rect area part
+    → EachPixel (near area.w) (near area.h) (within_rows part.at part.at.h (λ x y below. blend below c)) old new
     → EachPixel (near area.w) (near area.h)
     (λ x y below. cond (covers rect (area.x +ℤ pos x) (area.y +ℤ pos y)) (blend below c) below) old new
 colour_shown rect area part c old new shared each x y xw yh =
@@ -23,14 +23,14 @@ colour_shown rect area part c old new shared each x y xw yh =
     each x y xw yh ∙ ap (λ (b : Bool). cond b (blend before c) before) (sym (shared.points x y xw yh))
 
 -- the place of an area is right of the left border, and below the upper, of the parts that hold it
-from_left : (part : Part) (x y : ℕ) → holds part.at x y ≡ true → part.at.x ≤ x
+from_left : (part : CoveredArea) (x y : ℕ) → holds part.at x y ≡ true → part.at.x ≤ x
 from_left part x y h = grind (arith, nat_tests)
 
-from_top : (part : Part) (x y : ℕ) → holds part.at x y ≡ true → part.at.y ≤ y
+from_top : (part : CoveredArea) (x y : ℕ) → holds part.at x y ≡ true → part.at.y ≤ y
 from_top part x y h = grind (arith, nat_tests)
 
 -- the pixel of a picture that is drawn at a place of the area
-shown_pixel : (p : BitmapModel) (area : Rect) (part : Part) (x y : ℕ) → IsShared p.rect area part → holds part.at x y ≡ true
+shown_pixel : (p : BitmapModel) (area : Rect) (part : CoveredArea) (x y : ℕ) → IsShared p.rect area part → holds part.at x y ≡ true
     → pixel p.pixels ((y - part.at.y + part.above) * near p.rect.w + (x - part.at.x + part.left))
     ≡ bitmap_pixel p (area.x +ℤ pos x) (area.y +ℤ pos y)
 unfolding bitmap_pixel
@@ -46,9 +46,9 @@ where_held true c d below h = h refl
 where_held false c d below h = refl
 
 -- a bitmap
-pub picture_shown : (p : BitmapModel) (area : Rect) (part : Part) (old new : List ℕ) → IsShared p.rect area part
+pub picture_shown : (p : BitmapModel) (area : Rect) (part : CoveredArea) (old new : List ℕ) → IsShared p.rect area part
     → EachPixel (near area.w) (near area.h)
-    (within part.at part.at.h (λ x y below. blend below
+    (within_rows part.at part.at.h (λ x y below. blend below
     (pixel p.pixels ((y - part.at.y + part.above) * near p.rect.w + (x - part.at.x + part.left))))) old new
     → EachPixel (near area.w) (near area.h)
     (λ x y below. cond (covers p.rect (area.x +ℤ pos x) (area.y +ℤ pos y))

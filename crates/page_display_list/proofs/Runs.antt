@@ -8,7 +8,7 @@ use Rattle.geom.specs.Covers.{within, IsSpan, IsSound}
 use Rattle.geom.proofs.Spans.{inside, is_within_of, same_test}
 use Rattle.page_display_list.specs.Bitmaps.{near}
 use Rattle.page_display_list.specs.Shared.{IsRun, IsApart, IsOutside, IsShared}
-use Rattle.page_display_list.specs.declared.part.Run.{Run}
+use Rattle.page_display_list.specs.declared.covered_area.CoveredSpan.{CoveredSpan}
 
 -- a count that is not negative
 near_is : (z : ℤ) → pos 0 ≤ℤ z → pos (near z) ≡ z
@@ -38,7 +38,7 @@ high_bound : (a p b : ℕ) → nat_le a p && nat_lt p b ≡ true → p < b
 high_bound a p b h = grind (arith, nat_tests)
 
 -- a place of the axis is in the run exactly where the span covers its number
-covered : (at len from count : ℤ) (run : Run) (p : ℕ) → IsSpan from count → IsRun at len from count run → p < near count
+covered : (at len from count : ℤ) (run : CoveredSpan) (p : ℕ) → IsSpan from count → IsRun at len from count run → p < near count
     → within at len (from +ℤ pos p) ≡ nat_le run.at p && nat_lt p (run.at + run.len)
 covered at len from count run p axis r lt =
     let size = near_is count axis.length_low in
@@ -59,15 +59,15 @@ uncovered at len from count p axis apart lt =
     same_test _ _ (λ h. let i = inside _ _ _ h in absurd (omega (arith, ints, clamps))) (λ h. cc)
 
 -- the run ends inside the axis
-ends : (at len from count : ℤ) (run : Run) → IsSpan from count → IsRun at len from count run → run.at + run.len ≤ near count
+ends : (at len from count : ℤ) (run : CoveredSpan) → IsSpan from count → IsRun at len from count run → run.at + run.len ≤ near count
 ends at len from count run axis r = let size = near_is count axis.length_low in omega (arith, ints, clamps)
 
 -- and inside the span
-kept : (at len from count : ℤ) (run : Run) → IsSpan at len → IsRun at len from count run → run.skipped + run.len ≤ near len
+kept : (at len from count : ℤ) (run : CoveredSpan) → IsSpan at len → IsRun at len from count run → run.skipped + run.len ≤ near len
 kept at len from count run span r = let size = near_is len span.length_low in omega (arith, ints, clamps)
 
 -- the place in the span of a place of the run
-placed : (at len from count : ℤ) (run : Run) (p : ℕ) → IsRun at len from count run → run.at ≤ p
+placed : (at len from count : ℤ) (run : CoveredSpan) (p : ℕ) → IsRun at len from count run → run.at ≤ p
     → near ((from +ℤ pos p) -ℤ at) ≡ p - run.at + run.skipped
 placed at len from count run p r le =
     let e : (from +ℤ pos p) -ℤ at ≡ pos (p - run.at + run.skipped) = omega (arith, ints, clamps) in
@@ -84,7 +84,7 @@ and_false true = refl
 and_false false = refl
 
 -- the part of two runs
-pub part_of_runs : (rect area : Rect) (across down : Run) → IsSound rect → IsSound area
+pub part_of_runs : (rect area : Rect) (across down : CoveredSpan) → IsSound rect → IsSound area
     → IsRun rect.x rect.w area.x area.w across → IsRun rect.y rect.h area.y area.h down
     → IsShared rect area (record {
       at = record { x = across.at; y = down.at; w = across.len; h = down.len };

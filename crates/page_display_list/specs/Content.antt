@@ -9,9 +9,9 @@ use Rattle.page_display_list.specs.declared.item.Item.{Item}
 use Rattle.page_display_list.specs.declared.item.Item.TheVariants as kind
 
 -- the rect of an item
-abbrev pub rect_of : Item → Rect
-rect_of (kind.Rect rect colour) = rect
-rect_of (kind.Bitmap picture) = picture.rect
+abbrev pub rect_of_item : Item → Rect
+rect_of_item (kind.Rect rect colour) = rect
+rect_of_item (kind.Bitmap picture) = picture.rect
 
 -- the colour of an item at a point that its rect covers
 abbrev pub colour_of : Item → ℤ → ℤ → Parts
@@ -20,7 +20,7 @@ colour_of (kind.Bitmap picture) x y = bitmap_pixel picture x y
 
 -- an item laid over a colour at a point: nothing where its rect does not cover the point
 abbrev pub painted : ℤ → ℤ → Parts → Item → Parts
-painted x y below item = cond (covers (rect_of item) x y) (blend below (colour_of item x y)) below
+painted x y below item = cond (covers (rect_of_item item) x y) (blend below (colour_of item x y)) below
 
 -- what the items show at a point: each laid over those before it, from the transparent colour on
 abbrev pub content : List Item → ℤ → ℤ → Parts
@@ -28,7 +28,7 @@ content items x y = fold (painted x y) clear items
 
 -- the rect of an item is sound
 abbrev pub IsSoundItem : Item → Type 0
-IsSoundItem item = IsSound (rect_of item)
+IsSoundItem item = IsSound (rect_of_item item)
 
 -- these bytes are what the items show in an area, row by row from the top, each row from the left
 pub record IsRaster (items : List Item) (area : Rect) (bytes : List ℕ) : Type 0 where

@@ -3,7 +3,7 @@
 ghost use Rattle.std.specs.Prelude.{◌≡◌, ℕ, ◌+◌, ◌*◌, ◌<◌, ◌-ℤ◌, Bool, true, false, MatchOption, MatchResult, IfOk};
 ghost use Rattle.geom.specs.Covers.{covers, within, IsSound, IsSpan};
 ghost use Rattle.page_display_list.specs.Bitmaps.{BitmapModel, IsBitmap, bitmap_pixel, has_sides, byte_count, near};
-ghost use Rattle.page_display_list.specs.Causes.{CauseOf};
+ghost use Rattle.page_display_list.specs.Causes.{IsBitmapCause};
 
 use geom::Rect;
 use pixel::{Colour, colour_at, first_wrong};
@@ -96,7 +96,7 @@ impl Bitmap {
     pub(crate) fn new(rect: Rect, pixels: Vec<u8>) -> Result<Bitmap, BadBitmap>
         ensures { MatchResult result
             (λ b. (b ≡ record { rect = rect; pixels = pixels.items }) × IsBitmap b)
-            (λ e. (e.pixels ≡ pixels) × CauseOf rect pixels.items e.cause) }
+            (λ e. (e.pixels ≡ pixels) × IsBitmapCause rect pixels.items e.cause) }
     {
         let Some(wanted) = bytes_of(rect.w, rect.h) else {
             return Err(BadBitmap {

@@ -2,8 +2,8 @@
 
 ghost use Rattle.std.specs.Prelude.{◌≡◌, MatchResult, IfOk};
 ghost use Rattle.page_display_list.specs.Bitmaps.{BitmapModel, IsBitmap};
-ghost use Rattle.page_display_list.specs.Causes.{CauseOf};
-ghost use Rattle.page_display_list.specs.Content.{rect_of, painted, IsSoundItem};
+ghost use Rattle.page_display_list.specs.Causes.{IsBitmapCause};
+ghost use Rattle.page_display_list.specs.Content.{rect_of_item, painted, IsSoundItem};
 
 use crate::bitmap::{BadBitmap, Bitmap};
 use geom::{Point, Rect};
@@ -32,7 +32,7 @@ impl Item {
     pub fn bitmap(rect: Rect, pixels: Vec<u8>) -> Result<Item, BadBitmap>
         ensures { MatchResult result
             (λ item. let picture : BitmapModel = record { rect = rect; pixels = pixels.items } in (item ≡ Item.Bitmap picture) × IsBitmap picture)
-            (λ e. (e.pixels ≡ pixels) × CauseOf rect pixels.items e.cause) }
+            (λ e. (e.pixels ≡ pixels) × IsBitmapCause rect pixels.items e.cause) }
     {
         match Bitmap::new(rect, pixels) {
             Ok(bitmap) => Ok(Item::Bitmap(bitmap)),
@@ -42,7 +42,7 @@ impl Item {
 
     /// Where the item lies.
     pub fn rect(&self) -> Rect
-        ensures { result ≡ rect_of self.now }
+        ensures { result ≡ rect_of_item self.now }
     {
         match self {
             Item::Rect { rect, .. } => *rect,

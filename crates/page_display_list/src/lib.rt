@@ -7,13 +7,13 @@
 mod bitmap;
 mod item;
 mod list;
-mod part;
+mod covered_area;
 mod raster;
 
 pub use bitmap::{BadBitmap, Bitmap, BitmapCause};
 pub use item::Item;
 pub use list::DisplayList;
-pub use part::{Part, shared_part};
+pub use covered_area::{CoveredArea, shared_part};
 
 #[cfg(test)]
 mod tests;

@@ -4,13 +4,13 @@ ghost use Rattle.std.specs.Prelude.{◌≡◌, ℕ, ◌+◌, ◌-◌, ◌*◌, �
 ghost use Rattle.geom.specs.Covers.{IsSound};
 ghost use Rattle.pixel.specs.Colours.{Parts, blend, clear};
 ghost use Rattle.pixel.specs.Rows.{pixel, ArePremultiplied};
-ghost use Rattle.pixel.specs.Surfaces.{IsInside, EachPixel, within};
+ghost use Rattle.pixel.specs.Surfaces.{IsInside, EachPixel, within_rows};
 ghost use Rattle.page_display_list.specs.Bitmaps.{near, byte_count};
 ghost use Rattle.page_display_list.specs.Content.{painted, IsSoundItem};
 
 use crate::bitmap::Bitmap;
 use crate::item::Item;
-use crate::part::{Part, shared_part};
+use crate::covered_area::{CoveredArea, shared_part};
 use geom::Rect;
 use pixel::{Colour, colour_over_area, fill_area, image_over_area};
 use std::alloc::{AllocError, Global};
@@ -54,14 +54,14 @@ fn draw_colour(
     surface: &mut [u8],
     width: usize,
     height: usize,
-    part: Part,
+    part: CoveredArea,
     colour: Colour,
     scratch: &mut [u8],
 )
     requires size { length surface.old ≡ 4 * (width * height) }
     requires inside { IsInside part.at width height }
     requires room { 4 * width ≤ length scratch.old }
-    ensures pixels { EachPixel width height (within part.at part.at.h (λ x y below. blend below colour)) surface.old surface.new }
+    ensures pixels { EachPixel width height (within_rows part.at part.at.h (λ x y below. blend below colour)) surface.old surface.new }
     ensures premultiplied { ArePremultiplied surface.old → ArePremultiplied surface.new }
 {
     if colour.a() == 255 {
@@ -72,13 +72,13 @@ fn draw_colour(
 }
 
 /// Draws a bitmap into the part of an area's pixels that it covers.
-fn draw_bitmap(surface: &mut [u8], width: usize, height: usize, part: Part, bitmap: &Bitmap)
+fn draw_bitmap(surface: &mut [u8], width: usize, height: usize, part: CoveredArea, bitmap: &Bitmap)
     requires size { length surface.old ≡ 4 * (width * height) }
     requires inside { IsInside part.at width height }
     requires columns { part.left + part.at.w ≤ near bitmap.now.rect.w }
     requires rows { part.above + part.at.h ≤ near bitmap.now.rect.h }
     ensures pixels { EachPixel width height
-        (within part.at part.at.h (λ x y below. blend below
+        (within_rows part.at part.at.h (λ x y below. blend below
         (pixel bitmap.now.pixels ((y - part.at.y + part.above) * near bitmap.now.rect.w + (x - part.at.x + part.left)))))
         surface.old surface.new }
     ensures premultiplied { ArePremultiplied surface.old → ArePremultiplied surface.new }

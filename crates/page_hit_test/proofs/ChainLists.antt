@@ -6,7 +6,7 @@ use Rattle.page_properties.specs.Trees.{AreScrollers, IsTrees}
 use Rattle.page_layers.specs.Layers.{PageLayer}
 use Rattle.page_layers.specs.Pages.{Page}
 use Rattle.page_layers.specs.Hits.{nearest_scroller, scrollers_from, chain}
-use Rattle.page_hit_test.specs.Laws.{stands_in, AreDistinct, AreScrollersOf}
+use Rattle.page_hit_test.specs.Laws.{stands_in, AreDistinctNumbers, AreScrollersOf}
 
 known_more : (e : ℕ × ScrollNode) (older : List (ℕ × ScrollNode)) (n : ℕ) → knows n older ≡ true → knows n (e ∷ older) ≡ true
 known_more e older n h = by_test (e.0 == n)
@@ -38,15 +38,15 @@ not_known nodes id n h = by_test (stands_in (scrollers_from nodes id) n) refl
     by_test true e = let k : knows n nodes ≡ true = all_known nodes id n e in absurd cc
     by_test false e = refl
 
-pub all_distinct : (nodes : List (ℕ × ScrollNode)) → AreScrollers nodes → (id : ℕ) → AreDistinct (scrollers_from nodes id)
+pub all_distinct : (nodes : List (ℕ × ScrollNode)) → AreScrollers nodes → (id : ℕ) → AreDistinctNumbers (scrollers_from nodes id)
 all_distinct [] s id = tt
 all_distinct (e ∷ older) s id = by_test (e.0 == id) (all_distinct older s.1 e.1.parent) (all_distinct older s.1 id)
   where
-    by_test : (b : Bool) → AreDistinct (scrollers_from older e.1.parent) → AreDistinct (scrollers_from older id) → AreDistinct (cond b (e.0 ∷ scrollers_from older e.1.parent) (scrollers_from older id))
+    by_test : (b : Bool) → AreDistinctNumbers (scrollers_from older e.1.parent) → AreDistinctNumbers (scrollers_from older id) → AreDistinctNumbers (cond b (e.0 ∷ scrollers_from older e.1.parent) (scrollers_from older id))
     by_test true f g = (not_known older e.1.parent e.0 s.0.fresh, f)
     by_test false f g = g
 
-pub chain_distinct : (p : Page) (l : PageLayer) → IsTrees p.props → AreDistinct (chain p l)
+pub chain_distinct : (p : Page) (l : PageLayer) → IsTrees p.props → AreDistinctNumbers (chain p l)
 unfolding chain
 chain_distinct p l t = all_distinct p.props.scrollers t.scrollers (nearest_scroller p.props.transforms l.transform)
 

@@ -14,7 +14,7 @@ use Rattle.page_properties.specs.declared.nodes.TransformNode.{TransformNode}
 use Rattle.page_properties.specs.Entries.{find}
 use Rattle.page_properties.specs.Families.{IsFamily}
 use Rattle.page_properties.specs.OffsetMap.{origin, IsOffset, AreOffsets}
-use Rattle.page_properties.specs.Placement.{plus, minus, own, scrolled, translation, both, clip_of, draws, placed_rect, IsWithin}
+use Rattle.page_properties.specs.Placement.{plus, minus, own_translation, scrolled, translation, both, clip_of, draws, placed_rect, IsWithin}
 use Rattle.page_properties.specs.Trees.{Trees, IsTrees, IsTransform, IsClip, IsEffect, AreTransforms}
 use Rattle.page_properties.proofs.Chains.{follow_the_parent}
 use Rattle.page_properties.proofs.Families.{family_few}
@@ -59,7 +59,7 @@ near_nodes offset a [] j id = record { left = omega (arith, ints); right = omega
 near_nodes offset a (e ∷ older) j id = go (e.0 == id) (near_nodes offset a older j.1 e.1.parent) (near_nodes offset a older j.1 id)
   where
     go : (b : Bool) → IsWithin (length older * 1114112) (translation offset older e.1.parent) → IsWithin (length older * 1114112) (translation offset older id)
-        → IsWithin (suc (length older) * 1114112) (cond b (plus (translation offset older e.1.parent) (own offset e.1)) (translation offset older id))
+        → IsWithin (suc (length older) * 1114112) (cond b (plus (translation offset older e.1.parent) (own_translation offset e.1)) (translation offset older id))
     go true h k =
         within_wider (length older * 1114112 + 1114112) _ _ (omega arith)
         (within_more (length older * 1114112) (translation offset older e.1.parent) (scrolled offset e.1.scroller) e.1 h j.0.in_range (own_offset offset a e.1.scroller))
@@ -84,7 +84,7 @@ place_more offset t j id n h above o r ea eo ex ey =
 
 pub place_none : (offset : ℕ → Point) (t : Trees) (id : ℕ) → find id t.transforms ≡ None → origin ≡ translation offset t.transforms id
 unfolding translation
-place_none offset t id h = sym (gathered_none (λ (m : TransformNode). m.parent) IsTransform origin (λ e above. plus above (own offset e.1)) t.transforms id h)
+place_none offset t id h = sym (gathered_none (λ (m : TransformNode). m.parent) IsTransform origin (λ e above. plus above (own_translation offset e.1)) t.transforms id h)
 
 -- what two restrictions let through
 lets_both : (o : Option Rect) (r : Rect) (x y : ℤ) → lets_through (both o (Some r)) x y ≡ lets_through o x y && covers r x y

@@ -9,7 +9,7 @@ use Rattle.page_layers.specs.Layers.{PageLayer}
 use Rattle.geom.specs.Covers.{within}
 use Rattle.page_layers.specs.Pages.{Page}
 use Rattle.page_layers.specs.Sound.{IsPage}
-use Rattle.page_layers.specs.Paintings.{IsOnScreen}
+use Rattle.page_layers.specs.Paintings.{IsScreenPoint}
 use Rattle.page_layers.specs.Hits.{last_covering, covers_point}
 use Rattle.page_hit_test.specs.inner.Screens.{is_in_view}
 
@@ -77,7 +77,7 @@ in_span : (n : ℕ) (z : ℤ) → n ≤ 2048 → within (pos 0) (pos n) z ≡ tr
 unfolding within
 in_span n z h e = (grind (arith, ints), grind (arith, ints))
 
-pub on_screen : (p : Page) (x y : ℤ) → IsPage p → is_in_view p x y ≡ true → IsOnScreen x y
+pub on_screen : (p : Page) (x y : ℤ) → IsPage p → is_in_view p x y ≡ true → IsScreenPoint x y
 on_screen p x y page h =
     let a = in_span p.view.w x page.view.w_high (and_left (within (pos 0) (pos p.view.w) x) (within (pos 0) (pos p.view.h) y) h) in
     let b = in_span p.view.h y page.view.h_high (and_right (within (pos 0) (pos p.view.w) x) (within (pos 0) (pos p.view.h) y) h) in

@@ -11,7 +11,7 @@ use Rattle.page_layers.specs.Scrollers.{has_scroller, most}
 use Rattle.page_layers.specs.Pages.{Page}
 use Rattle.page_layers.specs.Wheels.{chain_parts, chain_rest, takes_at}
 use Rattle.page_hit_test.specs.Wheels.{IsAmount, AreWithinRanges}
-use Rattle.page_hit_test.specs.Laws.{total, TakeInTurn}
+use Rattle.page_hit_test.specs.Laws.{total_amount, TakeInTurn}
 
 -- what is left of an amount is no more than it
 pub what_is_left : (most : ℕ) (at asked : ℤ) → pos 0 ≤ℤ at → at ≤ℤ pos most → IsAmount asked → IsAmount (asked -ℤ (clamp_to most (at +ℤ asked) -ℤ at))
@@ -138,21 +138,21 @@ still_zero : (ax : Axis) (m : Move) → is_still m ≡ true → amount ax m ≡ 
 still_zero across m h = is_zero m.dx (and_left (int_eq m.dx (pos 0)) (int_eq m.dy (pos 0)) h)
 still_zero down m h = is_zero m.dy (and_right (int_eq m.dx (pos 0)) (int_eq m.dy (pos 0)) h)
 
-total_with : (ax : Axis) (m : Move) (ms : List Move) → total ax (with_move m ms) ≡ amount ax m +ℤ total ax ms
+total_with : (ax : Axis) (m : Move) (ms : List Move) → total_amount ax (with_move m ms) ≡ amount ax m +ℤ total_amount ax ms
 total_with ax m ms = by_still (is_still m) refl
   where
-    by_still : (b : Bool) → is_still m ≡ b → total ax (cond b ms (m ∷ ms)) ≡ amount ax m +ℤ total ax ms
+    by_still : (b : Bool) → is_still m ≡ b → total_amount ax (cond b ms (m ∷ ms)) ≡ amount ax m +ℤ total_amount ax ms
     by_still true e = let z = still_zero ax m e in omega (arith, ints)
     by_still false e = refl
 
-pub adds_across : (takes : ℕ → Axis → ℤ → ℤ) (scs : List ℕ) (dx dy : ℤ) → total across (chain_parts takes scs dx dy) +ℤ chain_rest takes across scs dx ≡ dx
+pub adds_across : (takes : ℕ → Axis → ℤ → ℤ) (scs : List ℕ) (dx dy : ℤ) → total_amount across (chain_parts takes scs dx dy) +ℤ chain_rest takes across scs dx ≡ dx
 adds_across takes [] dx dy = omega (arith, ints)
 adds_across takes (sc ∷ scs) dx dy =
     let r = adds_across takes scs (dx -ℤ takes sc across dx) (dy -ℤ takes sc down dy) in
     let t = total_with across (record { scroller = sc; dx = takes sc across dx; dy = takes sc down dy }) (chain_parts takes scs (dx -ℤ takes sc across dx) (dy -ℤ takes sc down dy)) in
     omega (arith, ints)
 
-pub adds_down : (takes : ℕ → Axis → ℤ → ℤ) (scs : List ℕ) (dx dy : ℤ) → total down (chain_parts takes scs dx dy) +ℤ chain_rest takes down scs dy ≡ dy
+pub adds_down : (takes : ℕ → Axis → ℤ → ℤ) (scs : List ℕ) (dx dy : ℤ) → total_amount down (chain_parts takes scs dx dy) +ℤ chain_rest takes down scs dy ≡ dy
 adds_down takes [] dx dy = omega (arith, ints)
 adds_down takes (sc ∷ scs) dx dy =
     let r = adds_down takes scs (dx -ℤ takes sc across dx) (dy -ℤ takes sc down dy) in

@@ -9,18 +9,18 @@ use Rattle.page_layers.specs.Pages.{Page}
 use Rattle.page_layers.specs.Wheels.{chain_rest, takes_at}
 
 -- the sum of the moves along an axis
-abbrev pub total : Axis → List Move → ℤ
-total ax [] = pos 0
-total ax (m ∷ ms) = amount ax m +ℤ total ax ms
+abbrev pub total_amount : Axis → List Move → ℤ
+total_amount ax [] = pos 0
+total_amount ax (m ∷ ms) = amount ax m +ℤ total_amount ax ms
 
 -- a number stands in a list
 abbrev pub stands_in : List ℕ → ℕ → Bool
 stands_in ns n = list_any (λ m. m == n) ns
 
 -- no number stands twice
-abbrev pub AreDistinct : List ℕ → Type 0
-AreDistinct [] = Unit {0}
-AreDistinct (n ∷ ns) = (stands_in ns n ≡ false) × AreDistinct ns
+abbrev pub AreDistinctNumbers : List ℕ → Type 0
+AreDistinctNumbers [] = Unit {0}
+AreDistinctNumbers (n ∷ ns) = (stands_in ns n ≡ false) × AreDistinctNumbers ns
 
 -- each of them is a scroller of the page
 abbrev pub AreScrollersOf : Page → List ℕ → Type 0

@@ -9,15 +9,15 @@ use Rattle.page_layers.specs.Scrolls.{IsInRange}
 use Rattle.page_layers.specs.Pages.{Page}
 use Rattle.page_layers.specs.Hits.{target}
 use Rattle.page_layers.specs.Wheels.{wheel_parts, wheel_rest}
-use Rattle.page_hit_test.specs.declared.parts.Part.{Part}
+use Rattle.page_hit_test.specs.declared.parts.WheelPart.{WheelPart}
 use Rattle.page_hit_test.specs.declared.wheels.Wheel.{Wheel}
 
 -- the part of a scroller that moves by so much
-abbrev pub part_of : ℕ → ℤ → ℤ → Part
-part_of sc dx dy = record { scroller = sc; by = record { x = dx; y = dy } }
+abbrev pub wheel_part : ℕ → ℤ → ℤ → WheelPart
+wheel_part sc dx dy = record { scroller = sc; by = record { x = dx; y = dy } }
 
 -- the move that a part is
-abbrev pub part_move : Part → Move
+abbrev pub part_move : WheelPart → Move
 part_move p = record { scroller = p.scroller; dx = p.by.x; dy = p.by.y }
 
 -- each scroller of a page stands in its range, and a number that names none at the origin

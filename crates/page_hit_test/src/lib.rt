@@ -18,6 +18,6 @@ pub use laws::{
     chains_are_distinct, later_scrollers_take_what_is_left, main_values_are_within_ranges,
     parts_add_up,
 };
-pub use parts::{Part, Parts};
+pub use parts::{WheelPart, WheelParts};
 pub use targets::target;
 pub use wheels::{Wheel, wheel_parts};

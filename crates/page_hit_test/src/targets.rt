@@ -3,13 +3,13 @@
 ghost use Rattle.std.specs.Prelude.{◌≡◌, ◌≤◌, true, pos, cond, ◌-ℤ◌, map, All, FitsSigned};
 ghost use mir.Syntax.{w32};
 ghost use Rattle.geom.specs.Covers.{covers};
-ghost use Rattle.geom.specs.Sides.{IsSide};
+ghost use Rattle.geom.specs.Sides.{IsLayerSide};
 ghost use Rattle.page_properties.specs.OffsetMap.{offset_at, AreOffsets};
 ghost use Rattle.page_properties.specs.Placement.{draws, translation as translation_at};
 ghost use Rattle.page_properties.specs.Trees.{IsTrees};
 ghost use Rattle.page_layers.specs.Layers.{parts_of};
 ghost use Rattle.page_layers.specs.Hits as hits;
-ghost use Rattle.page_layers.specs.Paintings.{IsOnScreen};
+ghost use Rattle.page_layers.specs.Paintings.{IsScreenPoint};
 ghost use Rattle.page_hit_test.specs.inner.Found.{IsTable, is_open_at};
 ghost use Rattle.page_hit_test.specs.inner.Screens.{is_in_view, is_within_bounds};
 
@@ -64,9 +64,9 @@ fn is_inside(
 ) -> bool
     requires trees { IsTrees tree.now.props }
     requires offsets { AreOffsets (offset_at offsets.now) }
-    requires screen { IsOnScreen p.x p.y }
-    requires wide { IsSide layer.now.w }
-    requires tall { IsSide layer.now.h }
+    requires screen { IsScreenPoint p.x p.y }
+    requires wide { IsLayerSide layer.now.w }
+    requires tall { IsLayerSide layer.now.h }
     requires places { IsTable (translation_at (offset_at offsets.now) tree.now.props.transforms) places.old }
     ensures value { result ≡ is_within_bounds tree.now (offset_at offsets.now) p.x p.y (parts_of layer.now) }
     ensures places { IsTable (translation_at (offset_at offsets.now) tree.now.props.transforms) places.new }
@@ -89,10 +89,10 @@ fn covering_id(
 ) -> u32
     requires trees { IsTrees tree.now.props }
     requires offsets { AreOffsets (offset_at offsets.now) }
-    requires screen { IsOnScreen p.x p.y }
+    requires screen { IsScreenPoint p.x p.y }
     requires view { is_in_view tree.now p.x p.y ≡ true }
-    requires wide { IsSide layer.now.w }
-    requires tall { IsSide layer.now.h }
+    requires wide { IsLayerSide layer.now.w }
+    requires tall { IsLayerSide layer.now.h }
     requires places { IsTable (translation_at (offset_at offsets.now) tree.now.props.transforms) places.old }
     requires clips { IsTable (is_open_at (offset_at offsets.now) tree.now.props p) clips.old }
     requires effects { IsTable (draws tree.now.props.effects) effects.old }
@@ -119,9 +119,9 @@ fn covering_id(
 fn topmost(tree: &LayerTree, offsets: &Offsets, p: Point, layers: &[Layer]) -> u32
     requires trees { IsTrees tree.now.props }
     requires offsets { AreOffsets (offset_at offsets.now) }
-    requires screen { IsOnScreen p.x p.y }
+    requires screen { IsScreenPoint p.x p.y }
     requires view { is_in_view tree.now p.x p.y ≡ true }
-    requires sizes { All (λ l. IsSide l.w × IsSide l.h) layers.now }
+    requires sizes { All (λ l. IsLayerSide l.w × IsLayerSide l.h) layers.now }
     ensures { result ≡ hits.last_covering (hits.covers_point tree.now (offset_at offsets.now) p.x p.y) (map parts_of layers.now) }
 {
     let mut places = root_place();

@@ -8,7 +8,7 @@ ghost use Rattle.page_layers.specs.Wheels as spec;
 ghost use Rattle.page_hit_test.specs.Wheels.{part_move, AreWithinRanges, IsAmount, IsWheel};
 
 use crate::chains::chain;
-use crate::parts::{Parts, push_moving};
+use crate::parts::{WheelParts, push_moving};
 use crate::targets::{back, target};
 use geom::Point;
 use page_layers::LayerTree;
@@ -21,7 +21,7 @@ pub struct Wheel {
     /// The layer that it hits; 0 where there is none.
     pub target: u32,
     /// What the scrollers of its chain take, the nearest first; no part is (0, 0).
-    pub parts: Parts,
+    pub parts: WheelParts,
     /// What none of them takes.
     pub rest: Point,
 }
@@ -104,7 +104,7 @@ fn parts_along(
     chain: &[u32],
     asked_x: i32,
     asked_y: i32,
-) -> Result<(Parts, Point), AllocError>
+) -> Result<(WheelParts, Point), AllocError>
     requires ranges { AreWithinRanges tree.now (offset_at offsets.now) }
     requires across { IsAmount asked_x }
     requires down { IsAmount asked_y }
@@ -112,7 +112,7 @@ fn parts_along(
     ensures rest_x { IfOk result (λ r. r.1.x ≡ spec.chain_rest (spec.takes_at tree.now (offset_at offsets.now)) across chain.now asked_x) }
     ensures rest_y { IfOk result (λ r. r.1.y ≡ spec.chain_rest (spec.takes_at tree.now (offset_at offsets.now)) down chain.now asked_y) }
 {
-    let mut parts = Parts::new(alloc);
+    let mut parts = WheelParts::new(alloc);
     let mut left_x = asked_x;
     let mut left_y = asked_y;
     for &scroller in chain {

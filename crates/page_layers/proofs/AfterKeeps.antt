@@ -21,10 +21,10 @@ use Rattle.page_layers.specs.Layers.{PageLayer, has_id, with_size, with_colour, 
 use Rattle.page_layers.specs.Pages.{Page, IsView}
 use Rattle.page_layers.specs.Scrolls.{IsInRange, AreInRange}
 use Rattle.page_layers.specs.Refusals.{has_layer, takes, test_of, add_effect_test, add_scroller_test, set_range_test, add_layer_test, resize_layer_test, move_layer_test, set_view_test}
-use Rattle.page_layers.specs.Effects.{after, with_layer, scrolled_to, clamped_in, value_of}
+use Rattle.page_layers.specs.Effects.{page_after_command, with_layer_changed, scrolled_to, clamped_in, main_point}
 use Rattle.page_layers.specs.Outcomes.{StandTogether}
 use Rattle.page_layers.specs.inner.Tested.{may_part}
-use Rattle.page_layers.specs.Sound.{is_used, IsLayer, AreDistinct, IsPage}
+use Rattle.page_layers.specs.Sound.{is_used, IsLayer, AreDistinctLayers, IsPage}
 use Rattle.page_layers.proofs.LayerKeeps.{each-weaker, each-changed, each-without, each-insert, each-moved, length-changed, length-without, length-moved, view-changed, absent-both, distinct-changed, distinct-without, distinct-insert, distinct-moved}
 use Rattle.page_layers.proofs.TestFacts.{passed, held, both, is_not, scroll_range_facts, add_effect_facts, view_facts}
 use Rattle.page_layers.proofs.NodeKeeps.{values-in_range, is_known-more, is_known-changed, in_range_clamped, in_range_origin, values-set, values-ranged, found-changed, known_found}
@@ -114,7 +114,7 @@ effects-known : (props : Props) (used : List ℕ) (ls : List PageLayer) → AllB
 effects-known props used [] all = tt
 effects-known props used (l ∷ ls) all = (all.0.effect, effects-known props used ls all.1)
 
-after-add_effect : (p : Page) (id parent opacity : ℕ) → IsPage p → test_of p (command.AddEffect id parent opacity) ≡ Ok tt → IsPage (after p (command.AddEffect id parent opacity))
+after-add_effect : (p : Page) (id parent opacity : ℕ) → IsPage p → test_of p (command.AddEffect id parent opacity) ≡ Ok tt → IsPage (page_after_command p (command.AddEffect id parent opacity))
 unfolding add_effect_test takes
 after-add_effect p id parent opacity h ok =
     let known = passed (require (is_known parent p.props.effects) fault.UnknownId) _ tt ok in
@@ -141,17 +141,17 @@ after-scrolled p id x y h = record {
   values = values-set id (clamped_in (find id p.props.scrollers) x y) p.props.scrollers p.values (λ n found. let old = values-in_range id n p.props.scrollers p.values h.values found in clamped_in_range id x y p.props.scrollers n old.0.bounded old.1.bounded found) h.values;
 }
 
-after-set_range : (p : Page) (id max_x max_y : ℕ) → IsPage p → test_of p (command.SetRange id max_x max_y) ≡ Ok tt → IsPage (after p (command.SetRange id max_x max_y))
+after-set_range : (p : Page) (id max_x max_y : ℕ) → IsPage p → test_of p (command.SetRange id max_x max_y) ≡ Ok tt → IsPage (page_after_command p (command.SetRange id max_x max_y))
 unfolding set_range_test
 after-set_range p id max_x max_y h ok =
     let known = passed (require (knows id p.props.scrollers) fault.UnknownId) _ tt ok in
     let node = known_found id p.props.scrollers (held (knows id p.props.scrollers) fault.UnknownId known.1) in
     let size = scroll_range_facts max_x max_y known.2 in
-    let ranges : List (ℕ × ScrollNode) = entries.changed id (λ n. record n { max_x = max_x; max_y = max_y }) p.props.scrollers in
-    let fits = clamped_in_range id (value_of p id).x (value_of p id).y ranges (record node.0 { max_x = max_x; max_y = max_y }) size.0 size.1 (found-changed id (λ n. record n { max_x = max_x; max_y = max_y }) p.props.scrollers node.0 node.1) in
-    after-scrollers p ranges _ (values-ranged id max_x max_y (clamped_in (find id ranges) (value_of p id).x (value_of p id).y) p.props.scrollers p.values fits.0 fits.1 h.values) h
+    let ranges : List (ℕ × ScrollNode) = entries.with_node_changed id (λ n. record n { max_x = max_x; max_y = max_y }) p.props.scrollers in
+    let fits = clamped_in_range id (main_point p id).x (main_point p id).y ranges (record node.0 { max_x = max_x; max_y = max_y }) size.0 size.1 (found-changed id (λ n. record n { max_x = max_x; max_y = max_y }) p.props.scrollers node.0 node.1) in
+    after-scrollers p ranges _ (values-ranged id max_x max_y (clamped_in (find id ranges) (main_point p id).x (main_point p id).y) p.props.scrollers p.values fits.0 fits.1 h.values) h
 
-after-add_scroller : (p : Page) (id parent max_x max_y : ℕ) → IsPage p → test_of p (command.AddScroller id parent max_x max_y) ≡ Ok tt → IsPage (after p (command.AddScroller id parent max_x max_y))
+after-add_scroller : (p : Page) (id parent max_x max_y : ℕ) → IsPage p → test_of p (command.AddScroller id parent max_x max_y) ≡ Ok tt → IsPage (page_after_command p (command.AddScroller id parent max_x max_y))
 unfolding add_scroller_test
 after-add_scroller p id parent max_x max_y h ok =
     let known = passed (require (is_known parent p.props.scrollers) fault.UnknownId) _ tt ok in
@@ -162,7 +162,7 @@ after-add_scroller p id parent max_x max_y h ok =
 -- ---- the layers
 
 -- a layer that keeps its id, its named nodes and has a size in range
-after-layer : (p : Page) (id : ℕ) (f : PageLayer → PageLayer) → ((l : PageLayer) → (f l).id ≡ l.id) → ((l : PageLayer) → (f l).effect ≡ l.effect) → ((l : PageLayer) → IsLayer p.props p.used l → IsLayer p.props p.used (f l)) → IsPage p → IsPage (with_layer p id f)
+after-layer : (p : Page) (id : ℕ) (f : PageLayer → PageLayer) → ((l : PageLayer) → (f l).id ≡ l.id) → ((l : PageLayer) → (f l).effect ≡ l.effect) → ((l : PageLayer) → IsLayer p.props p.used l → IsLayer p.props p.used (f l)) → IsPage p → IsPage (with_layer_changed p id f)
 after-layer p id f ids effects fits h = record {
   view = h.view;
   few = omega (arith, h.few, length-changed (has_id id) f p.layers);
@@ -172,17 +172,17 @@ after-layer p id f ids effects fits h = record {
   values = h.values;
 }
 
-after-resize_layer : (p : Page) (id w h : ℕ) → IsPage p → test_of p (command.ResizeLayer id w h) ≡ Ok tt → IsPage (after p (command.ResizeLayer id w h))
+after-resize_layer : (p : Page) (id w h : ℕ) → IsPage p → test_of p (command.ResizeLayer id w h) ≡ Ok tt → IsPage (page_after_command p (command.ResizeLayer id w h))
 unfolding resize_layer_test
 after-resize_layer p id w h' h ok =
     let known = passed (require (has_layer id p.layers) fault.UnknownId) _ tt ok in
     after-layer p id (with_size w h') (λ l. refl) (λ l. refl) (λ l k. record { transform = k.transform; clip = k.clip; effect = k.effect; id_used = k.id_used; id = k.id; size = known.2 }) h
 
 -- a layer that keeps all but its colour and its items
-after-shown : (p : Page) (id : ℕ) (f : PageLayer → PageLayer) → IsPage p → IsPage (with_layer p id (λ l. record l { colour = (f l).colour; items = (f l).items }))
+after-shown : (p : Page) (id : ℕ) (f : PageLayer → PageLayer) → IsPage p → IsPage (with_layer_changed p id (λ l. record l { colour = (f l).colour; items = (f l).items }))
 after-shown p id f h = after-layer p id (λ l. record l { colour = (f l).colour; items = (f l).items }) (λ l. refl) (λ l. refl) (λ l k. record { transform = k.transform; clip = k.clip; effect = k.effect; id_used = k.id_used; id = k.id; size = k.size }) h
 
-after-remove_layer : (p : Page) (id : ℕ) → IsPage p → IsPage (after p (command.RemoveLayer id))
+after-remove_layer : (p : Page) (id : ℕ) → IsPage p → IsPage (page_after_command p (command.RemoveLayer id))
 after-remove_layer p id h = record {
   view = h.view;
   few = omega (arith, h.few, length-without (has_id id) p.layers);
@@ -192,7 +192,7 @@ after-remove_layer p id h = record {
   values = h.values;
 }
 
-after-move_layer : (p : Page) (id at : ℕ) → IsPage p → test_of p (command.MoveLayer id at) ≡ Ok tt → StandTogether (after p (command.MoveLayer id at)) → IsPage (after p (command.MoveLayer id at))
+after-move_layer : (p : Page) (id at : ℕ) → IsPage p → test_of p (command.MoveLayer id at) ≡ Ok tt → StandTogether (page_after_command p (command.MoveLayer id at)) → IsPage (page_after_command p (command.MoveLayer id at))
 unfolding move_layer_test
 after-move_layer p id at h ok stand =
     let known = passed (require (has_layer id p.layers) fault.UnknownId) _ tt ok in
@@ -229,7 +229,7 @@ after-add_layer p l at h ok stand =
       values = h.values;
     }
 
-after-set_view : (p : Page) (w h tile : ℕ) → IsPage p → set_view_test w h tile ≡ Ok tt → IsPage (after p (command.SetView w h tile))
+after-set_view : (p : Page) (w h tile : ℕ) → IsPage p → set_view_test w h tile ≡ Ok tt → IsPage (page_after_command p (command.SetView w h tile))
 after-set_view p w h tile k ok = record {
   view = view_facts w h tile ok;
   few = k.few;
@@ -240,7 +240,7 @@ after-set_view p w h tile k ok = record {
 }
 
 -- a page stays a page
-pub after-keeps : (p : Page) (c : Command) → IsPage p → test_of p c ≡ Ok tt → (may_part c ≡ true → StandTogether (after p c)) → IsPage (after p c)
+pub after-keeps : (p : Page) (c : Command) → IsPage p → test_of p c ≡ Ok tt → (may_part c ≡ true → StandTogether (page_after_command p c)) → IsPage (page_after_command p c)
 after-keeps p (command.AddTransform id parent x y scroller) h ok stand = after-transforms p _ (λ n. is_known-more n id (record { parent = parent; x = x; y = y; scroller = scroller }) p.props.transforms) h
 after-keeps p (command.SetTransform id x y) h ok stand = after-transforms p _ (λ n. is_known-changed n id (λ t. record t { x = x; y = y }) p.props.transforms) h
 after-keeps p (command.AddClip id parent transform rect) h ok stand = after-clips p _ (λ n. is_known-more n id (record { parent = parent; transform = transform; rect = rect }) p.props.clips) h
@@ -267,7 +267,7 @@ empty-page p view layers values scrollers = record {
   view = view;
   few = subst (λ (ls : List PageLayer). length ls ≤ 64) (sym layers) (omega arith);
   layers = subst (λ (ls : List PageLayer). AllByRecursion (IsLayer p.props p.used) ls) (sym layers) tt;
-  distinct = subst AreDistinct (sym layers) tt;
+  distinct = subst AreDistinctLayers (sym layers) tt;
   nested = subst (λ (ls : List PageLayer). AreNested p.props.effects (map (λ l. l.effect) ls)) (sym layers) (λ e i j k ij jk kl first last. absurd (omega (arith, kl)));
   values = subst (λ (ss : List (ℕ × ScrollNode)). AreInRange ss p.values) (sym scrollers) (subst (λ (vs : List (ℕ × Point)). AreInRange [] vs) (sym values) tt);
 }

@@ -12,7 +12,7 @@ use Rattle.page_layers.specs.declared.fault.EditError.TheVariants as error
 use Rattle.page_layers.specs.declared.command.Command.{Command}
 use Rattle.page_layers.specs.Pages.{Page}
 use Rattle.page_layers.specs.Refusals.{test_of}
-use Rattle.page_layers.specs.Effects.{after}
+use Rattle.page_layers.specs.Effects.{page_after_command}
 use Rattle.page_layers.specs.Outcomes.{StandTogether, Accepts, Refuses, Outcome}
 use Rattle.page_layers.specs.inner.Tested.{may_part, Tested}
 use Rattle.page_layers.specs.Sound.{IsPage}
@@ -23,7 +23,7 @@ pub passed_inside : (inside old : Page) (c : Command) → inside ≡ old → (u 
 passed_inside inside old c same u ok = ap (λ (p : Page). test_of p c) same ∙ sym ok ∙ ap (λ (x : ⊤). let r : Result ⊤ EditFault = Ok x in r) (Unit-prop u tt)
 
 -- the page that a command made which cannot part layers
-pub kept : (inside old new : Page) (c : Command) → may_part c ≡ false → inside ≡ old → IsPage inside → (u : ⊤) → Ok u ≡ test_of old c → new ≡ after inside c → IsPage new
+pub kept : (inside old new : Page) (c : Command) → may_part c ≡ false → inside ≡ old → IsPage inside → (u : ⊤) → Ok u ≡ test_of old c → new ≡ page_after_command inside c → IsPage new
 kept inside old new c whole same is u ok made = subst IsPage (sym made) (after-keeps inside c is (passed_inside inside old c same u ok) (λ e. absurd (cc)))
 
 -- what such a command promises in all
@@ -35,21 +35,21 @@ outcome_of old new c (Err (error.Memory e)) whole is t = t
 -- ---- commands that may part layers
 
 -- a test of the effects of the layers after a command decides whether they would stand together
-pub decided : (inside old : Page) (c : Command) (b : Bool) (es : List ℕ) → inside ≡ old → (IsTrue b ↔ AreNested (after inside c).props.effects es) → es ≡ map (λ l. l.effect) (after inside c).layers → Decides b (StandTogether (after old c))
+pub decided : (inside old : Page) (c : Command) (b : Bool) (es : List ℕ) → inside ≡ old → (IsTrue b ↔ AreNested (page_after_command inside c).props.effects es) → es ≡ map (λ l. l.effect) (page_after_command inside c).layers → Decides b (StandTogether (page_after_command old c))
 decided inside old c b es same tells is =
-    let P : Page → Type 0 = λ p. Decides b (StandTogether (after p c)) in
-    subst P same (subst (λ (xs : List ℕ). Decides b (AreNested (after inside c).props.effects xs)) is tells)
+    let P : Page → Type 0 = λ p. Decides b (StandTogether (page_after_command p c)) in
+    subst P same (subst (λ (xs : List ℕ). Decides b (AreNested (page_after_command inside c).props.effects xs)) is tells)
 
 -- a page takes a command after which its layers stand together
-pub accepted : (old : Page) (c : Command) (b : Bool) (u : ⊤) → Decides b (StandTogether (after old c)) → b ≡ true → Ok u ≡ test_of old c → Accepts old c
+pub accepted : (old : Page) (c : Command) (b : Bool) (u : ⊤) → Decides b (StandTogether (page_after_command old c)) → b ≡ true → Ok u ≡ test_of old c → Accepts old c
 accepted old c b u d e ok = record { passes = passed_inside old old c refl u ok; together = d.0 e }
 
 -- and refuses one after which they do not
-pub parted : (old : Page) (c : Command) (b : Bool) (u : ⊤) → Decides b (StandTogether (after old c)) → b ≡ false → Ok u ≡ test_of old c → Refuses old c kind.NotNested
+pub parted : (old : Page) (c : Command) (b : Bool) (u : ⊤) → Decides b (StandTogether (page_after_command old c)) → b ≡ false → Ok u ≡ test_of old c → Refuses old c kind.NotNested
 parted old c b u d e ok = inr (passed_inside old old c refl u ok, refl, λ stand. let yes : b ≡ true = d.1 stand in absurd (cc))
 
 -- the page that such a command made
-pub kept_together : (inside old new : Page) (c : Command) → inside ≡ old → IsPage inside → Accepts old c → new ≡ after inside c → IsPage new
+pub kept_together : (inside old new : Page) (c : Command) → inside ≡ old → IsPage inside → Accepts old c → new ≡ page_after_command inside c → IsPage new
 kept_together inside old new c same is ok made =
     let P : Page → Type 0 = λ p. Accepts p c in
     let here : Accepts inside c = subst P (sym same) ok in

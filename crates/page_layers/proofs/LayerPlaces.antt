@@ -4,9 +4,9 @@ use Rattle.std.specs.Prelude.{MatchOption, is_some, IfSome, slice_get, Result, O
 use Rattle.std.specs.List.{position, position_or_len, find, insert, remove}
 use Rattle.std.proofs.lemmas.List.{length-map, map-set, get_or-map}
 use Rattle.page_layers.specs.declared.layer.Layer.{Layer}
-use Rattle.page_layers.specs.Layers.{PageLayer, parts_of, has_id, with_items, put_at, moved}
+use Rattle.page_layers.specs.Layers.{PageLayer, parts_of, has_id, with_items, put_at, with_layer_moved}
 use Rattle.page_layers.specs.inner.FoundPlaces.{StandsAt}
-use Rattle.page_layers.specs.Lists.{changed, without}
+use Rattle.page_layers.specs.Lists.{with_first_changed, without_first}
 use Rattle.page_layers.specs.Refusals.{count_in, item_count}
 use Rattle.page_display_list.specs.declared.item.Item.{Item}
 use Rattle.page_layers.proofs.LayerKeeps.{nothing_taken}
@@ -31,7 +31,7 @@ found_is id i ls d at =
     ∙ ap (λ (l : PageLayer). Some l) (get_or-map parts_of ls i d (parts_of d) at.within)
 
 -- a layer that is changed at its place
-pub changed_is : (id i : ℕ) (ls : List Layer) (d new : Layer) (f : PageLayer → PageLayer) → StandsAt id ls i → parts_of new ≡ f (parts_of (get_or ls i d)) → map parts_of (set ls i new) ≡ changed (has_id id) f (map parts_of ls)
+pub changed_is : (id i : ℕ) (ls : List Layer) (d new : Layer) (f : PageLayer → PageLayer) → StandsAt id ls i → parts_of new ≡ f (parts_of (get_or ls i d)) → map parts_of (set ls i new) ≡ with_first_changed (has_id id) f (map parts_of ls)
 changed_is id i ls d new f at is =
     let lt : i < length (map parts_of ls) = omega (arith, at.within, length-map ls parts_of) in
     map-set parts_of ls i new
@@ -39,35 +39,35 @@ changed_is id i ls d new f at is =
     ∙ changed_at (has_id id) f (map parts_of ls) i (parts_of d) (viewed id i ls at) lt
 
 -- a layer that is taken out at its place
-pub removed_is : (id i : ℕ) (ls : List Layer) → StandsAt id ls i → map parts_of (remove ls i) ≡ without (has_id id) (map parts_of ls)
+pub removed_is : (id i : ℕ) (ls : List Layer) → StandsAt id ls i → map parts_of (remove ls i) ≡ without_first (has_id id) (map parts_of ls)
 removed_is id i ls at =
     let lt : i < length (map parts_of ls) = omega (arith, at.within, length-map ls parts_of) in
     map-remove parts_of ls i
     ∙ removed_at (has_id id) (map parts_of ls) i (viewed id i ls at) lt
 
 -- a layer that is taken out at its place and put in at another
-pub moved_is : (id i to : ℕ) (ls others after : List Layer) (l : Layer) → StandsAt id ls i → l ≡ get_or ls i l → others ≡ remove ls i → after ≡ insert others to l → map parts_of after ≡ moved id to (map parts_of ls)
+pub moved_is : (id i to : ℕ) (ls others after : List Layer) (l : Layer) → StandsAt id ls i → l ≡ get_or ls i l → others ≡ remove ls i → after ≡ insert others to l → map parts_of after ≡ with_layer_moved id to (map parts_of ls)
 moved_is id i to ls others after l at l-is others-is after-is =
     ap (λ (xs : List Layer). map parts_of xs) after-is
     ∙ map-insert parts_of others to l
     ∙ ap (λ (xs : List PageLayer). insert xs to (parts_of l)) (ap (λ (xs : List Layer). map parts_of xs) others-is ∙ removed_is id i ls at)
-    ∙ ap (λ (o : Option PageLayer). put_at to o (without (has_id id) (map parts_of ls))) (ap (λ (x : Layer). Some (parts_of x)) l-is ∙ sym (found_is id i ls l at))
+    ∙ ap (λ (o : Option PageLayer). put_at to o (without_first (has_id id) (map parts_of ls))) (ap (λ (x : Layer). Some (parts_of x)) l-is ∙ sym (found_is id i ls l at))
 
 -- ---- where no layer has the id
 
-pub not_changed : (id : ℕ) (f : PageLayer → PageLayer) (ls : List PageLayer) → find (has_id id) ls ≡ None → ls ≡ changed (has_id id) f ls
+pub not_changed : (id : ℕ) (f : PageLayer → PageLayer) (ls : List PageLayer) → find (has_id id) ls ≡ None → ls ≡ with_first_changed (has_id id) f ls
 not_changed id f [] none = refl
 not_changed id f (l ∷ ls) none = go (l.id == id) none (not_changed id f ls)
   where
-    go : (b : Bool) → cond b (Some l) (find (has_id id) ls) ≡ None → (find (has_id id) ls ≡ None → ls ≡ changed (has_id id) f ls) → l ∷ ls ≡ cond b (f l ∷ ls) (l ∷ changed (has_id id) f ls)
+    go : (b : Bool) → cond b (Some l) (find (has_id id) ls) ≡ None → (find (has_id id) ls ≡ None → ls ≡ with_first_changed (has_id id) f ls) → l ∷ ls ≡ cond b (f l ∷ ls) (l ∷ with_first_changed (has_id id) f ls)
     go true none rest = absurd (cc)
     go false none rest = ap (λ (ks : List PageLayer). l ∷ ks) (rest none)
 
-pub not_taken : (id : ℕ) (ls : List PageLayer) → find (has_id id) ls ≡ None → ls ≡ without (has_id id) ls
+pub not_taken : (id : ℕ) (ls : List PageLayer) → find (has_id id) ls ≡ None → ls ≡ without_first (has_id id) ls
 not_taken id ls none = sym (nothing_taken (has_id id) ls none)
 
-pub not_moved : (id at : ℕ) (ls : List PageLayer) → find (has_id id) ls ≡ None → ls ≡ moved id at ls
-not_moved id at ls none = not_taken id ls none ∙ ap (λ (o : Option PageLayer). put_at at o (without (has_id id) ls)) (sym none)
+pub not_moved : (id at : ℕ) (ls : List PageLayer) → find (has_id id) ls ≡ None → ls ≡ with_layer_moved id at ls
+not_moved id at ls none = not_taken id ls none ∙ ap (λ (o : Option PageLayer). put_at at o (without_first (has_id id) ls)) (sym none)
 
 -- a layer is there where it stands at a place
 pub there_is : (id i : ℕ) (ls : List Layer) → StandsAt id ls i → is_some (find (has_id id) (map parts_of ls)) ≡ true
@@ -96,15 +96,15 @@ item_past (x ∷ xs) zero le = absurd (omega arith)
 item_past (x ∷ xs) (suc n) le = item_past xs n (omega arith)
 
 -- a layer whose items are changed at its place
-pub edited_is : (id i : ℕ) (ls : List Layer) (d new : Layer) (f : List Item → List Item) → StandsAt id ls i → d ≡ get_or ls i d → parts_of new ≡ with_items f (parts_of d) → map parts_of (set ls i new) ≡ changed (has_id id) (with_items f) (map parts_of ls)
+pub edited_is : (id i : ℕ) (ls : List Layer) (d new : Layer) (f : List Item → List Item) → StandsAt id ls i → d ≡ get_or ls i d → parts_of new ≡ with_items f (parts_of d) → map parts_of (set ls i new) ≡ with_first_changed (has_id id) (with_items f) (map parts_of ls)
 edited_is id i ls d new f at same made = changed_is id i ls d new (with_items f) at (made ∙ ap (λ (l : Layer). with_items f (parts_of l)) same)
 
 -- a layer that is not changed at its place
-changed_nothing : (p : PageLayer → Bool) (ls : List PageLayer) → changed p (λ l. l) ls ≡ ls
+changed_nothing : (p : PageLayer → Bool) (ls : List PageLayer) → with_first_changed p (λ l. l) ls ≡ ls
 changed_nothing p [] = refl
 changed_nothing p (l ∷ ls) = go (p l) (changed_nothing p ls)
   where
-    go : (b : Bool) → changed p (λ k. k) ls ≡ ls → cond b (l ∷ ls) (l ∷ changed p (λ k. k) ls) ≡ l ∷ ls
+    go : (b : Bool) → with_first_changed p (λ k. k) ls ≡ ls → cond b (l ∷ ls) (l ∷ with_first_changed p (λ k. k) ls) ≡ l ∷ ls
     go true rest = refl
     go false rest = ap (λ (ks : List PageLayer). l ∷ ks) rest
 
@@ -134,17 +134,17 @@ effects_with ls at l es more es-is more-is =
     ∙ sym (map-insert (λ (k : PageLayer). k.effect) (map parts_of ls) at l)
 
 -- with a layer moved
-moved_effects_at : (id i to : ℕ) (ls : List Layer) (d : Layer) (es fewer more : List ℕ) (e : ℕ) → StandsAt id ls i → es ≡ map (λ (k : Layer). k.effect) ls → e ≡ get_or es i e → fewer ≡ remove es i → more ≡ insert fewer to e → more ≡ map (λ (k : PageLayer). k.effect) (moved id to (map parts_of ls))
+moved_effects_at : (id i to : ℕ) (ls : List Layer) (d : Layer) (es fewer more : List ℕ) (e : ℕ) → StandsAt id ls i → es ≡ map (λ (k : Layer). k.effect) ls → e ≡ get_or es i e → fewer ≡ remove es i → more ≡ insert fewer to e → more ≡ map (λ (k : PageLayer). k.effect) (with_layer_moved id to (map parts_of ls))
 moved_effects_at id i to ls d es fewer more e at es-is e-is fewer-is more-is =
     let lt : i < length (map parts_of ls) = omega (arith, at.within, length-map ls parts_of) in
     let view : es ≡ map (λ (k : PageLayer). k.effect) (map parts_of ls) = es-is ∙ effects-view ls in
     let mine : e ≡ (get_or ls i d).effect = e-is ∙ ap (λ (xs : List ℕ). get_or xs i e) es-is ∙ get_or-map (λ (k : Layer). k.effect) ls i d e at.within in
     more-is
     ∙ ap (λ (xs : List ℕ). insert xs to e) (fewer-is ∙ ap (λ (xs : List ℕ). remove xs i) view ∙ sym (map-remove (λ (k : PageLayer). k.effect) (map parts_of ls) i) ∙ ap (λ (ks : List PageLayer). map (λ (k : PageLayer). k.effect) ks) (removed_at (has_id id) (map parts_of ls) i (viewed id i ls at) lt))
-    ∙ ap (λ (x : ℕ). insert (map (λ (k : PageLayer). k.effect) (without (has_id id) (map parts_of ls))) to x) mine
-    ∙ sym (map-insert (λ (k : PageLayer). k.effect) (without (has_id id) (map parts_of ls)) to (parts_of (get_or ls i d)))
-    ∙ ap (λ (o : Option PageLayer). map (λ (k : PageLayer). k.effect) (put_at to o (without (has_id id) (map parts_of ls)))) (sym (found_is id i ls d at))
+    ∙ ap (λ (x : ℕ). insert (map (λ (k : PageLayer). k.effect) (without_first (has_id id) (map parts_of ls))) to x) mine
+    ∙ sym (map-insert (λ (k : PageLayer). k.effect) (without_first (has_id id) (map parts_of ls)) to (parts_of (get_or ls i d)))
+    ∙ ap (λ (o : Option PageLayer). map (λ (k : PageLayer). k.effect) (put_at to o (without_first (has_id id) (map parts_of ls)))) (sym (found_is id i ls d at))
 
-pub moved_effects : (id i to : ℕ) (ls : List Layer) (es fewer more : List ℕ) (e : ℕ) → StandsAt id ls i → es ≡ map (λ (k : Layer). k.effect) ls → e ≡ get_or es i e → fewer ≡ remove es i → more ≡ insert fewer to e → more ≡ map (λ (k : PageLayer). k.effect) (moved id to (map parts_of ls))
+pub moved_effects : (id i to : ℕ) (ls : List Layer) (es fewer more : List ℕ) (e : ℕ) → StandsAt id ls i → es ≡ map (λ (k : Layer). k.effect) ls → e ≡ get_or es i e → fewer ≡ remove es i → more ≡ insert fewer to e → more ≡ map (λ (k : PageLayer). k.effect) (with_layer_moved id to (map parts_of ls))
 moved_effects id i to [] es fewer more e at es-is e-is fewer-is more-is = absurd (omega (arith, at.within))
 moved_effects id i to (d ∷ ls) es fewer more e at es-is e-is fewer-is more-is = moved_effects_at id i to (d ∷ ls) d es fewer more e at es-is e-is fewer-is more-is

@@ -5,7 +5,7 @@ use Rattle.std.specs.Prelude.{MatchOption, nat_lt}
 use Rattle.std.proofs.lemmas.List.{length-map, map-append, set_split}
 use Rattle.std.proofs.Math.Seq.{drop-cons}
 use Rattle.std.proofs.lemmas.Bool.Decides.{nat_tests}
-use Rattle.page_layers.specs.Lists.{changed, without}
+use Rattle.page_layers.specs.Lists.{with_first_changed, without_first}
 
 -- where the first element passes, its place is 0, else one more than its place in the rest
 there : {A : Type 0} (p : A → Bool) (xs : List A) (b : Bool) (i : ℕ) → i ≡ cond (not b) (1 + position_or_len p xs) 0 → i ≡ cond b 0 (suc (position_or_len p xs))
@@ -13,20 +13,20 @@ there p xs true i e = e
 there p xs false i e = omega (arith, e)
 
 -- a change at the place of the first element that passes
-pub changed_at : {A : Type 0} (p : A → Bool) (f : A → A) (xs : List A) (i : ℕ) (d : A) → i ≡ position_or_len p xs → i < length xs → set xs i (f (get_or xs i d)) ≡ changed p f xs
+pub changed_at : {A : Type 0} (p : A → Bool) (f : A → A) (xs : List A) (i : ℕ) (d : A) → i ≡ position_or_len p xs → i < length xs → set xs i (f (get_or xs i d)) ≡ with_first_changed p f xs
 changed_at p f [] i d at lt = absurd (omega arith)
 changed_at {A} p f (x ∷ xs) i d at lt = go (p x) i (there p xs (p x) i at) lt (changed_at p f xs (position_or_len p xs) d refl)
   where
-    go : (b : Bool) (i : ℕ) → i ≡ cond b 0 (suc (position_or_len p xs)) → i < suc (length xs) → (position_or_len p xs < length xs → set xs (position_or_len p xs) (f (get_or xs (position_or_len p xs) d)) ≡ changed p f xs) → set (x ∷ xs) i (f (get_or (x ∷ xs) i d)) ≡ cond b (f x ∷ xs) (x ∷ changed p f xs)
+    go : (b : Bool) (i : ℕ) → i ≡ cond b 0 (suc (position_or_len p xs)) → i < suc (length xs) → (position_or_len p xs < length xs → set xs (position_or_len p xs) (f (get_or xs (position_or_len p xs) d)) ≡ with_first_changed p f xs) → set (x ∷ xs) i (f (get_or (x ∷ xs) i d)) ≡ cond b (f x ∷ xs) (x ∷ with_first_changed p f xs)
     go true i at lt rest = ap (λ (k : ℕ). set (x ∷ xs) k (f (get_or (x ∷ xs) k d))) at
     go false i at lt rest = ap (λ (k : ℕ). set (x ∷ xs) k (f (get_or (x ∷ xs) k d))) at ∙ ap (λ (ys : List A). x ∷ ys) (rest (omega (arith, at, lt)))
 
 -- a removal at the place of the first element that passes
-pub removed_at : {A : Type 0} (p : A → Bool) (xs : List A) (i : ℕ) → i ≡ position_or_len p xs → i < length xs → remove xs i ≡ without p xs
+pub removed_at : {A : Type 0} (p : A → Bool) (xs : List A) (i : ℕ) → i ≡ position_or_len p xs → i < length xs → remove xs i ≡ without_first p xs
 removed_at p [] i at lt = absurd (omega arith)
 removed_at {A} p (x ∷ xs) i at lt = go (p x) i (there p xs (p x) i at) lt (removed_at p xs (position_or_len p xs) refl)
   where
-    go : (b : Bool) (i : ℕ) → i ≡ cond b 0 (suc (position_or_len p xs)) → i < suc (length xs) → (position_or_len p xs < length xs → remove xs (position_or_len p xs) ≡ without p xs) → remove (x ∷ xs) i ≡ cond b xs (x ∷ without p xs)
+    go : (b : Bool) (i : ℕ) → i ≡ cond b 0 (suc (position_or_len p xs)) → i < suc (length xs) → (position_or_len p xs < length xs → remove xs (position_or_len p xs) ≡ without_first p xs) → remove (x ∷ xs) i ≡ cond b xs (x ∷ without_first p xs)
     go true i at lt rest = ap (λ (k : ℕ). remove (x ∷ xs) k) at
     go false i at lt rest = ap (λ (k : ℕ). remove (x ∷ xs) k) at ∙ ap (λ (ys : List A). x ∷ ys) (rest (omega (arith, at, lt)))
 
@@ -80,9 +80,9 @@ pub map-insert : {A B : Type 0} (v : A → B) (xs : List A) (i : ℕ) (x : A) �
 map-insert v xs i x = map-append v (take i xs) (x ∷ drop i xs) ∙ ap (λ (ys : List _). map v (take i xs) ++ v x ∷ ys) (sym (drop-map v i xs)) ∙ ap (λ (ys : List _). ys ++ v x ∷ drop i (map v xs)) (sym (take-map v i xs))
 
 -- a change where a walk from the front has come to the first that passes
-pub changed_here : {A : Type 0} (p : A → Bool) (f : A → A) (xs all : List A) (i : ℕ) (d : A) → i < length xs → p (get_or xs i d) ≡ true → take i xs ++ changed p f (drop i xs) ≡ all → set xs i (f (get_or xs i d)) ≡ all
+pub changed_here : {A : Type 0} (p : A → Bool) (f : A → A) (xs all : List A) (i : ℕ) (d : A) → i < length xs → p (get_or xs i d) ≡ true → take i xs ++ with_first_changed p f (drop i xs) ≡ all → set xs i (f (get_or xs i d)) ≡ all
 changed_here {A} p f xs all i d lt here rest =
     set_split xs i (f (get_or xs i d)) lt
-    ∙ ap (λ (ys : List A). take i xs ++ ys) (sym (ap (λ (b : Bool). cond b (f (get_or xs i d) ∷ drop (suc i) xs) (get_or xs i d ∷ changed p f (drop (suc i) xs))) here))
-    ∙ ap (λ (ys : List A). take i xs ++ changed p f ys) (sym (drop-cons xs i d lt))
+    ∙ ap (λ (ys : List A). take i xs ++ ys) (sym (ap (λ (b : Bool). cond b (f (get_or xs i d) ∷ drop (suc i) xs) (get_or xs i d ∷ with_first_changed p f (drop (suc i) xs))) here))
+    ∙ ap (λ (ys : List A). take i xs ++ with_first_changed p f ys) (sym (drop-cons xs i d lt))
     ∙ rest

@@ -6,7 +6,7 @@ use Rattle.std.proofs.lemmas.List.{drop_all}
 use Rattle.geom.specs.declared.rect.Point.{Point}
 use Rattle.page_properties.specs.Entries.{find}
 use Rattle.page_properties.specs.OffsetMap.{IsOffset, AreOffsets}
-use Rattle.page_layers.specs.Effects.{value_of}
+use Rattle.page_layers.specs.Effects.{main_point}
 use Rattle.page_layers.specs.Pages.{Page}
 use Rattle.page_layers.specs.Scrolls.{or_origin}
 use Rattle.page_layers.specs.Sound.{IsPage}
@@ -36,5 +36,5 @@ pub none_set : (values : List (ℕ × Point)) (n k : ℕ) (p : Point) → n ≡ 
 none_set values n k p all is = is ∙ ap (λ (vs : List (ℕ × Point)). or_origin (find k vs)) (sym (drop_all n values (omega (arith, all))))
 
 -- the values of a page are offsets
-pub values_are_offsets : (p : Page) (offset : ℕ → Point) → IsPage p → ((id : ℕ) → offset id ≡ value_of p id) → AreOffsets offset
+pub values_are_offsets : (p : Page) (offset : ℕ → Point) → IsPage p → ((id : ℕ) → offset id ≡ main_point p id) → AreOffsets offset
 values_are_offsets p offset is same id = subst IsOffset (sym (same id)) (values-offset id p.props.scrollers p.values is.values)

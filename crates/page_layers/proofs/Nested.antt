@@ -5,10 +5,10 @@ use Rattle.std.specs.List.{AllByRecursion}
 use Rattle.std.proofs.lemmas.List.Elements.{All-from_recursion}
 use Rattle.std.proofs.lemmas.Bool.Decides.{nat_tests}
 use Rattle.page_properties.specs.declared.nodes.EffectNode.{EffectNode}
-use Rattle.page_properties.specs.Entries.{knows, is_known, changed, gathered}
+use Rattle.page_properties.specs.Entries.{knows, is_known, with_node_changed, gathered}
 use Rattle.page_properties.specs.Nesting.{lies_in, AreNested}
 use Rattle.page_layers.specs.Layers.{PageLayer}
-use Rattle.page_layers.specs.Lists.{without}
+use Rattle.page_layers.specs.Lists.{without_first}
 
 -- ---- without one of the layers
 
@@ -40,13 +40,13 @@ within-next x some all w = record { place = up w.place; bound = bound; same = sa
     same zero lt = refl
     same (suc k) lt = w.same k (omega arith)
 
-without-within : (p : PageLayer → Bool) (ls : List PageLayer) → Within (map (λ l. l.effect) (without p ls)) (map (λ l. l.effect) ls)
+without-within : (p : PageLayer → Bool) (ls : List PageLayer) → Within (map (λ l. l.effect) (without_first p ls)) (map (λ l. l.effect) ls)
 without-within p [] = record { place = λ k. k; bound = λ k lt. lt; same = λ k lt. refl; order = λ i j le. le }
 without-within p (l ∷ ls) = go (p l) (without-within p ls)
   where
-    go : (b : Bool) → Within (map (λ l. l.effect) (without p ls)) (map (λ l. l.effect) ls) → Within (map (λ l. l.effect) (cond b ls (l ∷ without p ls))) (map (λ l. l.effect) (l ∷ ls))
+    go : (b : Bool) → Within (map (λ l. l.effect) (without_first p ls)) (map (λ l. l.effect) ls) → Within (map (λ l. l.effect) (cond b ls (l ∷ without_first p ls))) (map (λ l. l.effect) (l ∷ ls))
     go true w = record { place = suc; bound = λ k lt. omega (arith, lt); same = λ k lt. refl; order = λ i j le. omega (arith, le) }
-    go false w = within-next l.effect (map (λ l. l.effect) (without p ls)) (map (λ l. l.effect) ls) w
+    go false w = within-next l.effect (map (λ l. l.effect) (without_first p ls)) (map (λ l. l.effect) ls) w
 
 nested-within : (nodes : List (ℕ × EffectNode)) (some all : List ℕ) → Within some all → AreNested nodes all → AreNested nodes some
 nested-within nodes some all w h = λ e i j k ij jk kl first last.
@@ -57,8 +57,8 @@ nested-within nodes some all w h = λ e i j k ij jk kl first last.
     (ap (λ (x : ℕ). lies_in nodes e x) (sym (w.same i il)) ∙ first)
     (ap (λ (x : ℕ). lies_in nodes e x) (sym (w.same k kl)) ∙ last)
 
-pub nested-without : (nodes : List (ℕ × EffectNode)) (p : PageLayer → Bool) (ls : List PageLayer) → AreNested nodes (map (λ l. l.effect) ls) → AreNested nodes (map (λ l. l.effect) (without p ls))
-nested-without nodes p ls h = nested-within nodes (map (λ l. l.effect) (without p ls)) (map (λ l. l.effect) ls) (without-within p ls) h
+pub nested-without : (nodes : List (ℕ × EffectNode)) (p : PageLayer → Bool) (ls : List PageLayer) → AreNested nodes (map (λ l. l.effect) ls) → AreNested nodes (map (λ l. l.effect) (without_first p ls))
+nested-without nodes p ls h = nested-within nodes (map (λ l. l.effect) (without_first p ls)) (map (λ l. l.effect) ls) (without-within p ls) h
 
 -- ---- with other nodes
 
@@ -93,18 +93,18 @@ pub nested-more : (id : ℕ) (n : EffectNode) (nodes : List (ℕ × EffectNode))
 nested-more id n nodes es low new known h =
     nested-alike nodes ((id, n) ∷ nodes) es (λ e k kl. lies-more id n nodes e (slice_index es k) (not_new id (slice_index es k) nodes low new (All-from_recursion (λ (x : ℕ). is_known x nodes ≡ true) es known k 0 kl))) h
 
-lies-changed : (id opacity : ℕ) (nodes : List (ℕ × EffectNode)) (e x : ℕ) → gathered (λ (m : EffectNode). m.parent) false (λ m t. (m.0 == e) || t) (changed id (λ n. record n { opacity = opacity }) nodes) x ≡ gathered (λ (m : EffectNode). m.parent) false (λ m t. (m.0 == e) || t) nodes x
+lies-changed : (id opacity : ℕ) (nodes : List (ℕ × EffectNode)) (e x : ℕ) → gathered (λ (m : EffectNode). m.parent) false (λ m t. (m.0 == e) || t) (with_node_changed id (λ n. record n { opacity = opacity }) nodes) x ≡ gathered (λ (m : EffectNode). m.parent) false (λ m t. (m.0 == e) || t) nodes x
 lies-changed id opacity [] e x = refl
 lies-changed id opacity (m ∷ older) e x = go (m.0 == id) (lies-changed id opacity older e m.1.parent) (lies-changed id opacity older e x)
   where
     go : (b : Bool)
-        → gathered (λ (m : EffectNode). m.parent) false (λ m t. (m.0 == e) || t) (changed id (λ n. record n { opacity = opacity }) older) m.1.parent ≡ gathered (λ (m : EffectNode). m.parent) false (λ m t. (m.0 == e) || t) older m.1.parent
-        → gathered (λ (m : EffectNode). m.parent) false (λ m t. (m.0 == e) || t) (changed id (λ n. record n { opacity = opacity }) older) x ≡ gathered (λ (m : EffectNode). m.parent) false (λ m t. (m.0 == e) || t) older x
-        → gathered (λ (m : EffectNode). m.parent) false (λ m t. (m.0 == e) || t) (cond b ((m.0, record m.1 { opacity = opacity }) ∷ older) (m ∷ changed id (λ n. record n { opacity = opacity }) older)) x ≡ gathered (λ (m : EffectNode). m.parent) false (λ m t. (m.0 == e) || t) (m ∷ older) x
+        → gathered (λ (m : EffectNode). m.parent) false (λ m t. (m.0 == e) || t) (with_node_changed id (λ n. record n { opacity = opacity }) older) m.1.parent ≡ gathered (λ (m : EffectNode). m.parent) false (λ m t. (m.0 == e) || t) older m.1.parent
+        → gathered (λ (m : EffectNode). m.parent) false (λ m t. (m.0 == e) || t) (with_node_changed id (λ n. record n { opacity = opacity }) older) x ≡ gathered (λ (m : EffectNode). m.parent) false (λ m t. (m.0 == e) || t) older x
+        → gathered (λ (m : EffectNode). m.parent) false (λ m t. (m.0 == e) || t) (cond b ((m.0, record m.1 { opacity = opacity }) ∷ older) (m ∷ with_node_changed id (λ n. record n { opacity = opacity }) older)) x ≡ gathered (λ (m : EffectNode). m.parent) false (λ m t. (m.0 == e) || t) (m ∷ older) x
     go true above here = refl
-    go false above here = ap (λ (t : Bool). cond (m.0 == x) ((m.0 == e) || t) (gathered (λ (m : EffectNode). m.parent) false (λ m t. (m.0 == e) || t) (changed id (λ n. record n { opacity = opacity }) older) x)) above ∙ ap (λ (t : Bool). cond (m.0 == x) ((m.0 == e) || gathered (λ (m : EffectNode). m.parent) false (λ m t. (m.0 == e) || t) older m.1.parent) t) here
+    go false above here = ap (λ (t : Bool). cond (m.0 == x) ((m.0 == e) || t) (gathered (λ (m : EffectNode). m.parent) false (λ m t. (m.0 == e) || t) (with_node_changed id (λ n. record n { opacity = opacity }) older) x)) above ∙ ap (λ (t : Bool). cond (m.0 == x) ((m.0 == e) || gathered (λ (m : EffectNode). m.parent) false (λ m t. (m.0 == e) || t) older m.1.parent) t) here
 
 -- where the opacity of an effect is another
-pub nested-changed : (id opacity : ℕ) (nodes : List (ℕ × EffectNode)) (es : List ℕ) → AreNested nodes es → AreNested (changed id (λ n. record n { opacity = opacity }) nodes) es
+pub nested-changed : (id opacity : ℕ) (nodes : List (ℕ × EffectNode)) (es : List ℕ) → AreNested nodes es → AreNested (with_node_changed id (λ n. record n { opacity = opacity }) nodes) es
 unfolding lies_in
-nested-changed id opacity nodes es h = nested-alike nodes (changed id (λ n. record n { opacity = opacity }) nodes) es (λ e k kl. lies-changed id opacity nodes e (slice_index es k)) h
+nested-changed id opacity nodes es h = nested-alike nodes (with_node_changed id (λ n. record n { opacity = opacity }) nodes) es (λ e k kl. lies-changed id opacity nodes e (slice_index es k)) h

@@ -3,7 +3,7 @@ use Rattle.std.proofs.Common.{ℕ, zero, suc, ◌≡◌, ◌+◌, ◌<◌, ◌�
 use Rattle.std.specs.List.{prefix_len}
 use Rattle.std.proofs.lemmas.Bool.Decides.{nat_tests}
 use Rattle.pixel.specs.Colours.{Parts, blend, scaled, clear}
-use Rattle.page_layers.specs.Painting.{Items, none, layer, group, folded, inside, after, with_layer, items_at}
+use Rattle.page_layers.specs.Painting.{Items, none, layer, group, folded, inside, after_group, layer_before, items_at}
 use Rattle.page_layers.specs.inner.Runs.{first_is, lies_in}
 
 -- the first of the groups from a depth on, where there is one
@@ -35,11 +35,11 @@ drop_one zero f (g ∷ gs) fs e = cc
 drop_one (suc n) f (g ∷ gs) fs e = drop_one n f gs fs e
 
 -- a layer whose first group is the effect's begins that effect's group
-is_group : (e : ℕ) (gs : List ℕ) (c : Parts) (items : Items) → first_is e gs ≡ true → with_layer gs c items ≡ group e (inside e (with_layer gs c items)) (after e (with_layer gs c items))
+is_group : (e : ℕ) (gs : List ℕ) (c : Parts) (items : Items) → first_is e gs ≡ true → layer_before gs c items ≡ group e (inside e (layer_before gs c items)) (after_group e (layer_before gs c items))
 is_group e [] c items h = absurd (cc)
 is_group e (f ∷ fs) c items h =
     let same : e ≡ f = grind (arith, nat_tests, h) in
-    subst (λ (g : ℕ). group g (with_layer fs c (inside g items)) (after g items) ≡ group e (inside e (group g (with_layer fs c (inside g items)) (after g items))) (after e (group g (with_layer fs c (inside g items)) (after g items)))) same (own e (e == e) (grind (arith, nat_tests)) (with_layer fs c (inside e items)) (after e items))
+    subst (λ (g : ℕ). group g (layer_before fs c (inside g items)) (after_group g items) ≡ group e (inside e (group g (layer_before fs c (inside g items)) (after_group g items))) (after_group e (group g (layer_before fs c (inside g items)) (after_group g items)))) same (own e (e == e) (grind (arith, nat_tests)) (layer_before fs c (inside e items)) (after_group e items))
   where
     own : (e : ℕ) (b : Bool) → b ≡ true → (x y : Items) → group e x y ≡ group e (cond b x none) (cond b y (group e x y))
     own e true h x y = refl
@@ -52,33 +52,33 @@ module _ {A : Type 0} (groups_of : A → List ℕ) (colour_of : A → Parts) whe
   inside_is e depth (l ∷ more) = step (items_at groups_of colour_of depth more) (prefix_len (lies_in groups_of depth e) more) (inside_is e depth more) (drop depth (groups_of l)) refl
     where
       pick : (items : Items) (n : ℕ) → inside e items ≡ items_at groups_of colour_of (suc depth) (take n more) → (f : ℕ) (fs : List ℕ) (b : Bool) → (b ≡ true → e ≡ f) → drop (suc depth) (groups_of l) ≡ fs
-          → cond b (with_layer fs (colour_of l) (inside f items)) none ≡ items_at groups_of colour_of (suc depth) (take (cond b (1 + n) 0) (l ∷ more))
+          → cond b (layer_before fs (colour_of l) (inside f items)) none ≡ items_at groups_of colour_of (suc depth) (take (cond b (1 + n) 0) (l ∷ more))
       pick items n rest f fs false same next = refl
       pick items n rest f fs true same next =
           let one : 1 + n ≡ suc n = omega arith in
           let here : inside f items ≡ items_at groups_of colour_of (suc depth) (take n more) = ap (λ (g : ℕ). inside g items) (sym (same refl)) ∙ rest in
-          rw one (ap (λ (x : Items). with_layer fs (colour_of l) x) here ∙ ap (λ (gs : List ℕ). with_layer gs (colour_of l) (items_at groups_of colour_of (suc depth) (take n more))) (sym next))
+          rw one (ap (λ (x : Items). layer_before fs (colour_of l) x) here ∙ ap (λ (gs : List ℕ). layer_before gs (colour_of l) (items_at groups_of colour_of (suc depth) (take n more))) (sym next))
 
       step : (items : Items) (n : ℕ) → inside e items ≡ items_at groups_of colour_of (suc depth) (take n more) → (gs : List ℕ) → drop depth (groups_of l) ≡ gs
-          → inside e (with_layer gs (colour_of l) items) ≡ items_at groups_of colour_of (suc depth) (take (cond (first_is e gs) (1 + n) 0) (l ∷ more))
+          → inside e (layer_before gs (colour_of l) items) ≡ items_at groups_of colour_of (suc depth) (take (cond (first_is e gs) (1 + n) 0) (l ∷ more))
       step items n rest [] at = refl
       step items n rest (f ∷ fs) at = pick items n rest f fs (e == f) (λ h. grind (arith, nat_tests, h)) (drop_one depth f (groups_of l) fs at)
 
   -- the layers behind that run make what follows the group
-  pub after_is : (e depth : ℕ) (ls : List A) → after e (items_at groups_of colour_of depth ls) ≡ items_at groups_of colour_of depth (drop (prefix_len (lies_in groups_of depth e) ls) ls)
+  pub after_is : (e depth : ℕ) (ls : List A) → after_group e (items_at groups_of colour_of depth ls) ≡ items_at groups_of colour_of depth (drop (prefix_len (lies_in groups_of depth e) ls) ls)
   after_is e depth [] = refl
   after_is e depth (l ∷ more) = step (items_at groups_of colour_of depth more) refl (prefix_len (lies_in groups_of depth e) more) (after_is e depth more) (drop depth (groups_of l)) refl
     where
-      pick : (items : Items) → items_at groups_of colour_of depth more ≡ items → (n : ℕ) → after e items ≡ items_at groups_of colour_of depth (drop n more) → (f : ℕ) (fs : List ℕ) (b : Bool) → (b ≡ true → e ≡ f) → drop depth (groups_of l) ≡ f ∷ fs
-          → cond b (after f items) (group f (with_layer fs (colour_of l) (inside f items)) (after f items)) ≡ items_at groups_of colour_of depth (drop (cond b (1 + n) 0) (l ∷ more))
-      pick items is n rest f fs false same at = ap (λ (gs : List ℕ). with_layer gs (colour_of l) items) (sym at) ∙ ap (λ (x : Items). with_layer (drop depth (groups_of l)) (colour_of l) x) (sym is)
+      pick : (items : Items) → items_at groups_of colour_of depth more ≡ items → (n : ℕ) → after_group e items ≡ items_at groups_of colour_of depth (drop n more) → (f : ℕ) (fs : List ℕ) (b : Bool) → (b ≡ true → e ≡ f) → drop depth (groups_of l) ≡ f ∷ fs
+          → cond b (after_group f items) (group f (layer_before fs (colour_of l) (inside f items)) (after_group f items)) ≡ items_at groups_of colour_of depth (drop (cond b (1 + n) 0) (l ∷ more))
+      pick items is n rest f fs false same at = ap (λ (gs : List ℕ). layer_before gs (colour_of l) items) (sym at) ∙ ap (λ (x : Items). layer_before (drop depth (groups_of l)) (colour_of l) x) (sym is)
       pick items is n rest f fs true same at =
           let one : 1 + n ≡ suc n = omega arith in
-          rw one (ap (λ (g : ℕ). after g items) (sym (same refl)) ∙ rest)
+          rw one (ap (λ (g : ℕ). after_group g items) (sym (same refl)) ∙ rest)
 
-      step : (items : Items) → items_at groups_of colour_of depth more ≡ items → (n : ℕ) → after e items ≡ items_at groups_of colour_of depth (drop n more) → (gs : List ℕ) → drop depth (groups_of l) ≡ gs
-          → after e (with_layer gs (colour_of l) items) ≡ items_at groups_of colour_of depth (drop (cond (first_is e gs) (1 + n) 0) (l ∷ more))
-      step items is n rest [] at = ap (λ (x : Items). layer (colour_of l) x) (sym is) ∙ ap (λ (gs : List ℕ). with_layer gs (colour_of l) (items_at groups_of colour_of depth more)) (sym at)
+      step : (items : Items) → items_at groups_of colour_of depth more ≡ items → (n : ℕ) → after_group e items ≡ items_at groups_of colour_of depth (drop n more) → (gs : List ℕ) → drop depth (groups_of l) ≡ gs
+          → after_group e (layer_before gs (colour_of l) items) ≡ items_at groups_of colour_of depth (drop (cond (first_is e gs) (1 + n) 0) (l ∷ more))
+      step items is n rest [] at = ap (λ (x : Items). layer (colour_of l) x) (sym is) ∙ ap (λ (gs : List ℕ). layer_before gs (colour_of l) (items_at groups_of colour_of depth more)) (sym at)
       step items is n rest (f ∷ fs) at = pick items is n rest f fs (e == f) (λ h. grind (arith, nat_tests, h)) at
 
   -- a layer that lies in no further group is laid over what stands below it
@@ -86,15 +86,15 @@ module _ {A : Type 0} (groups_of : A → List ℕ) (colour_of : A → Parts) whe
       → folded opacity (items_at groups_of colour_of depth ls) below ≡ folded opacity (items_at groups_of colour_of depth more) (blend below (colour_of l))
   layer_step opacity depth ls l more below is past =
       ap (λ (xs : List A). folded opacity (items_at groups_of colour_of depth xs) below) is
-      ∙ ap (λ (gs : List ℕ). folded opacity (with_layer gs (colour_of l) (items_at groups_of colour_of depth more)) below) past
+      ∙ ap (λ (gs : List ℕ). folded opacity (layer_before gs (colour_of l) (items_at groups_of colour_of depth more)) below) past
 
   -- a run of layers in one group is folded from transparent, scaled, and laid over what stands below it
   pub group_step : (opacity : ℕ → ℕ) (depth e : ℕ) (ls : List A) (l : A) (more : List A) (below : Parts) → ls ≡ l ∷ more → lies_in groups_of depth e l ≡ true
       → folded opacity (items_at groups_of colour_of depth ls) below ≡ folded opacity (items_at groups_of colour_of depth (drop (prefix_len (lies_in groups_of depth e) ls) ls)) (blend below (scaled (folded opacity (items_at groups_of colour_of (suc depth) (take (prefix_len (lies_in groups_of depth e) ls) ls)) clear) (opacity e)))
   group_step opacity depth e ls l more below is first =
-      let parts : items_at groups_of colour_of depth (l ∷ more) ≡ group e (inside e (items_at groups_of colour_of depth (l ∷ more))) (after e (items_at groups_of colour_of depth (l ∷ more))) = is_group e (drop depth (groups_of l)) (colour_of l) (items_at groups_of colour_of depth more) first in
-      let whole : items_at groups_of colour_of depth ls ≡ group e (inside e (items_at groups_of colour_of depth ls)) (after e (items_at groups_of colour_of depth ls)) = subst (λ (xs : List A). items_at groups_of colour_of depth xs ≡ group e (inside e (items_at groups_of colour_of depth xs)) (after e (items_at groups_of colour_of depth xs))) (sym is) parts in
-      ap (λ (items : Items). folded opacity items below) (whole ∙ ap (λ (x : Items). group e x (after e (items_at groups_of colour_of depth ls))) (inside_is e depth ls) ∙ ap (λ (x : Items). group e (items_at groups_of colour_of (suc depth) (take (prefix_len (lies_in groups_of depth e) ls) ls)) x) (after_is e depth ls))
+      let parts : items_at groups_of colour_of depth (l ∷ more) ≡ group e (inside e (items_at groups_of colour_of depth (l ∷ more))) (after_group e (items_at groups_of colour_of depth (l ∷ more))) = is_group e (drop depth (groups_of l)) (colour_of l) (items_at groups_of colour_of depth more) first in
+      let whole : items_at groups_of colour_of depth ls ≡ group e (inside e (items_at groups_of colour_of depth ls)) (after_group e (items_at groups_of colour_of depth ls)) = subst (λ (xs : List A). items_at groups_of colour_of depth xs ≡ group e (inside e (items_at groups_of colour_of depth xs)) (after_group e (items_at groups_of colour_of depth xs))) (sym is) parts in
+      ap (λ (items : Items). folded opacity items below) (whole ∙ ap (λ (x : Items). group e x (after_group e (items_at groups_of colour_of depth ls))) (inside_is e depth ls) ∙ ap (λ (x : Items). group e (items_at groups_of colour_of (suc depth) (take (prefix_len (lies_in groups_of depth e) ls) ls)) x) (after_is e depth ls))
 
 -- a run whose first layer lies in the group is not empty
 pub run_some : {A : Type 0} (p : A → Bool) (ls : List A) (l : A) (more : List A) → ls ≡ l ∷ more → p l ≡ true → 1 ≤ prefix_len p ls

@@ -11,10 +11,10 @@ use Rattle.page_layers.specs.declared.paint.Group.{Group}
 use Rattle.page_layers.specs.declared.paint.LayerSample.{LayerSample}
 use Rattle.page_layers.specs.Layers.{PageLayer}
 use Rattle.page_layers.specs.Pages.{Page}
-use Rattle.page_layers.specs.Painting.{Items, folded, items_at, with_layer}
+use Rattle.page_layers.specs.Painting.{Items, folded, items_at, layer_before}
 use Rattle.page_layers.specs.inner.LayerSamples.{groups_of, colour_of, HaveOpacities}
-use Rattle.page_layers.specs.TreePainting.{groups_in, opacity_in, colour_at, paint}
-use Rattle.page_layers.specs.Paintings.{Placed, Ready, Shows, shown}
+use Rattle.page_layers.specs.TreePainting.{groups_in, opacity_in, layer_colour_at, paint}
+use Rattle.page_layers.specs.Paintings.{Placed, Ready, ReadyShows, placed_colour}
 
 -- ---- colours, one sample after another
 
@@ -60,13 +60,13 @@ same_items ga ca gb cb depth (x ∷ xs) (y ∷ ys) groups colours =
     let c : ca x ≡ cb y = cc in
     let gs : map ga xs ≡ map gb ys = cc in
     let cs : map ca xs ≡ map cb ys = cc in
-    ap (λ (es : List ℕ). with_layer (drop depth es) (ca x) (items_at ga ca depth xs)) g
-    ∙ ap (λ (p : Parts). with_layer (drop depth (gb y)) p (items_at ga ca depth xs)) c
-    ∙ ap (λ (items : Items). with_layer (drop depth (gb y)) (cb y) items) (same_items ga ca gb cb depth xs ys gs cs)
+    ap (λ (es : List ℕ). layer_before (drop depth es) (ca x) (items_at ga ca depth xs)) g
+    ∙ ap (λ (p : Parts). layer_before (drop depth (gb y)) p (items_at ga ca depth xs)) c
+    ∙ ap (λ (items : Items). layer_before (drop depth (gb y)) (cb y) items) (same_items ga ca gb cb depth xs ys gs cs)
 
 -- samples with the groups and the colours of what is ready are painted as the page that it shows
-pub painted : (p : Page) (offset : ℕ → Point) (missing : List TileKey) (r : Ready) (ss : List LayerSample) (background result : Parts) (x y : ℤ) → Shows p offset missing r
-    → lists_of ss ≡ r.groups → map colour_of ss ≡ map (shown r.tile x y) r.layers
+pub painted : (p : Page) (offset : ℕ → Point) (missing : List TileKey) (r : Ready) (ss : List LayerSample) (background result : Parts) (x y : ℤ) → ReadyShows p offset missing r
+    → lists_of ss ≡ r.groups → map colour_of ss ≡ map (placed_colour r.tile x y) r.layers
     → ((opacity : ℕ → ℕ) → HaveOpacities opacity ss → result ≡ folded opacity (items_at groups_of colour_of 0 ss) background)
     → result ≡ paint p offset missing background x y
 unfolding paint
@@ -76,4 +76,4 @@ painted p offset missing r ss background result x y shows lists colours is =
     let groups : map groups_of ss ≡ map (λ (l : PageLayer). groups_in p.props.effects l.effect) p.layers =
     effects_of_lists ss ∙ ap (λ (ls : List (List Group)). map (λ (gs : List Group). map (λ (g : Group). g.effect) gs) ls) lists ∙ shows.groups in
     is opacity have
-    ∙ ap (λ (items : Items). folded opacity items background) (same_items groups_of colour_of (λ (l : PageLayer). groups_in p.props.effects l.effect) (colour_at p offset missing x y) 0 ss p.layers groups (colours ∙ shows.colours x y))
+    ∙ ap (λ (items : Items). folded opacity items background) (same_items groups_of colour_of (λ (l : PageLayer). groups_in p.props.effects l.effect) (layer_colour_at p offset missing x y) 0 ss p.layers groups (colours ∙ shows.colours x y))

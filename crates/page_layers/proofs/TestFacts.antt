@@ -7,12 +7,12 @@ use Rattle.std.proofs.lemmas.Bool.Decides.{nat_tests}
 use Rattle.geom.specs.declared.rect.Rect.{Rect}
 use Rattle.geom.specs.Covers.{IsSound}
 use Rattle.page_properties.specs.Entries.{knows, is_known}
-use Rattle.page_properties.specs.Trees.{IsNear, IsClipRect, MayJoinTransforms, MayJoinClips, MayJoinEffects, MayJoinScrollers}
+use Rattle.page_properties.specs.Trees.{IsNearParent, IsClipRect, MayJoinTransforms, MayJoinClips, MayJoinEffects, MayJoinScrollers}
 use Rattle.page_display_list.specs.declared.item.Item.{Item}
-use Rattle.page_display_list.specs.Content.{rect_of}
+use Rattle.page_display_list.specs.Content.{rect_of_item}
 use Rattle.page_layers.specs.declared.fault.EditFault.{EditFault}
 use Rattle.page_layers.specs.declared.fault.EditFault.TheVariants as fault
-use Rattle.page_layers.specs.Tests.{◌>>=◌, require, in_range, is_id}
+use Rattle.page_layers.specs.Tests.{◌>>=◌, require, check_range, is_id}
 use Rattle.page_layers.specs.Pages.{Page, IsView}
 use Rattle.page_layers.specs.Layers.{PageLayer, has_id}
 use Rattle.page_layers.specs.Refusals.{is_offset, is_clip_rect, is_item_rect, is_scroll_range, takes, count_in, item_count, add_transform_test, set_transform_test, add_clip_test, set_clip_test, add_effect_test, set_opacity_test, add_scroller_test, set_range_test, insert_item_test, remove_item_test, replace_item_test, set_view_test, move_layer_test, add_layer_test, has_layer}
@@ -48,26 +48,26 @@ above_start z low true f r e ok = absurd (cc)
 above_start z low false f r e ok = (grind (arith, ints, e), ok)
 
 -- a number in a range
-pub range_facts : (z low high : ℤ) → in_range z low high ≡ Ok tt → (low ≤ℤ z) × (z ≤ℤ high)
-unfolding in_range
+pub range_facts : (z low high : ℤ) → check_range z low high ≡ Ok tt → (low ≤ℤ z) × (z ≤ℤ high)
+unfolding check_range
 range_facts z low high ok =
     let first = above_start z low (int_lt z low) (fault.OutOfRange z low) (cond (int_lt high z) (Err (fault.OutOfRange z high)) (Ok tt)) refl ok in
     (first.0, below_end z high (int_lt high z) (fault.OutOfRange z high) (Ok tt) refl refl first.1)
 
 -- a number without a sign in a range
-pub count_facts : (n low high : ℕ) → in_range (pos n) (pos low) (pos high) ≡ Ok tt → (low ≤ n) × (n ≤ high)
+pub count_facts : (n low high : ℕ) → check_range (pos n) (pos low) (pos high) ≡ Ok tt → (low ≤ n) × (n ≤ high)
 count_facts n low high ok = let r = range_facts (pos n) (pos low) (pos high) ok in (omega (arith, ints, r.0), omega (arith, ints, r.1))
 
 pub scroll_range_facts : (x y : ℕ) → is_scroll_range x y ≡ Ok tt → (x ≤ 1048576) × (y ≤ 1048576)
 unfolding is_scroll_range
 scroll_range_facts x y ok =
-    let first = passed (in_range (pos x) (pos 0) (pos 1048576)) _ tt ok in
+    let first = passed (check_range (pos x) (pos 0) (pos 1048576)) _ tt ok in
     ((count_facts x 0 1048576 first.1).1, (count_facts y 0 1048576 first.2).1)
 
-offset_facts : (x y : ℤ) → is_offset x y ≡ Ok tt → IsNear x × IsNear y
+offset_facts : (x y : ℤ) → is_offset x y ≡ Ok tt → IsNearParent x × IsNearParent y
 unfolding is_offset
 offset_facts x y ok =
-    let first = passed (in_range x (neg_ℤ (pos 65536)) (pos 65536)) _ tt ok in
+    let first = passed (check_range x (neg_ℤ (pos 65536)) (pos 65536)) _ tt ok in
     let a = range_facts x (neg_ℤ (pos 65536)) (pos 65536) first.1 in
     let b = range_facts y (neg_ℤ (pos 65536)) (pos 65536) first.2 in
     (record { low = a.0; high = a.1 }, record { low = b.0; high = b.1 })
@@ -75,9 +75,9 @@ offset_facts x y ok =
 clip_rect_facts : (r : Rect) → is_clip_rect r ≡ Ok tt → IsClipRect r
 unfolding is_clip_rect
 clip_rect_facts r ok =
-    let first = passed (in_range r.x (neg_ℤ (pos 65536)) (pos 65536)) _ tt ok in
-    let second = passed (in_range r.y (neg_ℤ (pos 65536)) (pos 65536)) _ tt first.2 in
-    let third = passed (in_range r.w (pos 0) (pos 65536)) _ tt second.2 in
+    let first = passed (check_range r.x (neg_ℤ (pos 65536)) (pos 65536)) _ tt ok in
+    let second = passed (check_range r.y (neg_ℤ (pos 65536)) (pos 65536)) _ tt first.2 in
+    let third = passed (check_range r.w (pos 0) (pos 65536)) _ tt second.2 in
     let a = range_facts r.x (neg_ℤ (pos 65536)) (pos 65536) first.1 in
     let b = range_facts r.y (neg_ℤ (pos 65536)) (pos 65536) second.1 in
     let c = range_facts r.w (pos 0) (pos 65536) third.1 in
@@ -88,9 +88,9 @@ clip_rect_facts r ok =
 pub item_rect_facts : (r : Rect) → is_item_rect r ≡ Ok tt → IsSound r
 unfolding is_item_rect
 item_rect_facts r ok =
-    let first = passed (in_range r.x (neg_ℤ (pos 16384)) (pos 16384)) _ tt ok in
-    let second = passed (in_range r.y (neg_ℤ (pos 16384)) (pos 16384)) _ tt first.2 in
-    let third = passed (in_range r.w (pos 1) (pos 16384)) _ tt second.2 in
+    let first = passed (check_range r.x (neg_ℤ (pos 16384)) (pos 16384)) _ tt ok in
+    let second = passed (check_range r.y (neg_ℤ (pos 16384)) (pos 16384)) _ tt first.2 in
+    let third = passed (check_range r.w (pos 1) (pos 16384)) _ tt second.2 in
     let a = range_facts r.x (neg_ℤ (pos 16384)) (pos 16384) first.1 in
     let b = range_facts r.y (neg_ℤ (pos 16384)) (pos 16384) second.1 in
     let c = range_facts r.w (pos 1) (pos 16384) third.1 in
@@ -129,7 +129,7 @@ add_transform_facts p id parent x y scroller ok =
     let near = offset_facts x y new.2 in
     (record { fresh = t.fresh; id_low = t.low; id_high = t.high; few = t.few; parent_known = names.0; in_range = record { across = near.0; down = near.1 } }, names.1)
 
-pub set_transform_facts : (p : Page) (id : ℕ) (x y : ℤ) → set_transform_test p id x y ≡ Ok tt → (knows id p.props.transforms ≡ true) × IsNear x × IsNear y
+pub set_transform_facts : (p : Page) (id : ℕ) (x y : ℤ) → set_transform_test p id x y ≡ Ok tt → (knows id p.props.transforms ≡ true) × IsNearParent x × IsNearParent y
 unfolding set_transform_test
 set_transform_facts p id x y ok =
     let known = passed (require (knows id p.props.transforms) fault.UnknownId) _ tt ok in
@@ -192,7 +192,7 @@ count_found : (o : Option PageLayer) (n : ℕ) (P : ℕ → Type 0) → count_in
 count_found None n P e h = absurd (cc)
 count_found (Some l) n P e h = let same : length l.items ≡ n = cc in subst P (sym same) h
 
-pub insert_item_facts : (p : Page) (layer at : ℕ) (item : Item) → insert_item_test p layer at item ≡ Ok tt → IfSome (find (has_id layer) p.layers) (λ l. (at ≤ length l.items) × (length l.items < 256)) × IsSound (rect_of item)
+pub insert_item_facts : (p : Page) (layer at : ℕ) (item : Item) → insert_item_test p layer at item ≡ Ok tt → IfSome (find (has_id layer) p.layers) (λ l. (at ≤ length l.items) × (length l.items < 256)) × IsSound (rect_of_item item)
 unfolding insert_item_test
 insert_item_facts p layer at item ok =
     let count = passed (item_count layer p.layers) _ tt ok in
@@ -202,7 +202,7 @@ insert_item_facts p layer at item ok =
     let few : nat_lt count.0 256 ≡ true = held (nat_lt count.0 256) (fault.TooMany 256) room.1 in
     let a : at ≤ count.0 = grind (arith, nat_tests, below) in
     let b : count.0 < 256 = grind (arith, nat_tests, few) in
-    (count_found (find (has_id layer) p.layers) count.0 (λ (n : ℕ). (at ≤ n) × (n < 256)) count.1 (a, b), item_rect_facts (rect_of item) room.2)
+    (count_found (find (has_id layer) p.layers) count.0 (λ (n : ℕ). (at ≤ n) × (n < 256)) count.1 (a, b), item_rect_facts (rect_of_item item) room.2)
 
 pub remove_item_facts : (p : Page) (layer at : ℕ) → remove_item_test p layer at ≡ Ok tt → IfSome (find (has_id layer) p.layers) (λ l. at < length l.items)
 unfolding remove_item_test
@@ -212,20 +212,20 @@ remove_item_facts p layer at ok =
     let a : at < count.0 = grind (arith, nat_tests, below) in
     count_found (find (has_id layer) p.layers) count.0 (λ (n : ℕ). at < n) count.1 a
 
-pub replace_item_facts : (p : Page) (layer at : ℕ) (item : Item) → replace_item_test p layer at item ≡ Ok tt → IfSome (find (has_id layer) p.layers) (λ l. at < length l.items) × IsSound (rect_of item)
+pub replace_item_facts : (p : Page) (layer at : ℕ) (item : Item) → replace_item_test p layer at item ≡ Ok tt → IfSome (find (has_id layer) p.layers) (λ l. at < length l.items) × IsSound (rect_of_item item)
 unfolding replace_item_test
 replace_item_facts p layer at item ok =
     let count = passed (item_count layer p.layers) _ tt ok in
     let place = passed (require (nat_lt at count.0) fault.BadPlace) _ tt count.2 in
     let below : nat_lt at count.0 ≡ true = held (nat_lt at count.0) fault.BadPlace place.1 in
     let a : at < count.0 = grind (arith, nat_tests, below) in
-    (count_found (find (has_id layer) p.layers) count.0 (λ (n : ℕ). at < n) count.1 a, item_rect_facts (rect_of item) place.2)
+    (count_found (find (has_id layer) p.layers) count.0 (λ (n : ℕ). at < n) count.1 a, item_rect_facts (rect_of_item item) place.2)
 
 pub view_facts : (w h tile : ℕ) → set_view_test w h tile ≡ Ok tt → IsView (record { w = w; h = h; tile = tile })
 unfolding set_view_test
 view_facts w h tile ok =
-    let first = passed (in_range (pos w) (pos 1) (pos 2048)) _ tt ok in
-    let second = passed (in_range (pos h) (pos 1) (pos 2048)) _ tt first.2 in
+    let first = passed (check_range (pos w) (pos 1) (pos 2048)) _ tt ok in
+    let second = passed (check_range (pos h) (pos 1) (pos 2048)) _ tt first.2 in
     let a = count_facts w 1 2048 first.1 in
     let b = count_facts h 1 2048 second.1 in
     let c = count_facts tile 16 256 second.2 in

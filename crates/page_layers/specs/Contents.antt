@@ -8,7 +8,7 @@ use Rattle.page_layers.specs.declared.command.Command.TheVariants as command
 use Rattle.page_layers.specs.Layers.{has_id}
 use Rattle.page_layers.specs.Pages.{Page}
 use Rattle.page_layers.specs.Refusals.{has_layer}
-use Rattle.page_layers.specs.Effects.{Change, after, change_of}
+use Rattle.page_layers.specs.Effects.{Change, page_after_command, layer_change_of}
 
 -- what the layer with this id shows at one of its points; None where there is no such layer
 abbrev pub content_at : Page → ℕ → ℤ → ℤ → Option Parts
@@ -30,8 +30,8 @@ is_changed_whole (Some change) id = (change.layer == id) && change.whole
 
 -- what a command does not list it does not change, in each layer that is there before and after it: neither what the layer shows at a point, nor the size of a layer that is not listed whole; a layer that is resized keeps its list, so it shows at each point what it showed
 pub record KeepsTheRest (p : Page) (c : Command) : Type 0 where
-  pub content : (id : ℕ) (x y : ℤ) → has_layer id p.layers ≡ true → has_layer id (after p c).layers ≡ true
-      → shows_at (change_of p c) id x y ≡ false → content_at (after p c) id x y ≡ content_at p id x y
-  pub size : (id : ℕ) → has_layer id p.layers ≡ true → has_layer id (after p c).layers ≡ true
-      → is_changed_whole (change_of p c) id ≡ false → size_of (after p c) id ≡ size_of p id
-  pub resized : (id w h : ℕ) (x y : ℤ) → c ≡ command.ResizeLayer id w h → content_at (after p c) id x y ≡ content_at p id x y
+  pub content : (id : ℕ) (x y : ℤ) → has_layer id p.layers ≡ true → has_layer id (page_after_command p c).layers ≡ true
+      → shows_at (layer_change_of p c) id x y ≡ false → content_at (page_after_command p c) id x y ≡ content_at p id x y
+  pub size : (id : ℕ) → has_layer id p.layers ≡ true → has_layer id (page_after_command p c).layers ≡ true
+      → is_changed_whole (layer_change_of p c) id ≡ false → size_of (page_after_command p c) id ≡ size_of p id
+  pub resized : (id w h : ℕ) (x y : ℤ) → c ≡ command.ResizeLayer id w h → content_at (page_after_command p c) id x y ≡ content_at p id x y

@@ -3,7 +3,7 @@ use Rattle.std.specs.Prelude.{ℕ, ◌==◌, Bool, Option, None, Some, List, ins
 use Rattle.pixel.specs.Colours.{Parts}
 use Rattle.page_display_list.specs.declared.item.Item.{Item}
 use Rattle.page_layers.specs.declared.layer.Layer.{Layer}
-use Rattle.page_layers.specs.Lists.{without}
+use Rattle.page_layers.specs.Lists.{without_first}
 
 -- a layer: its id, the nodes that it names, its size, its background colour and the items of its display list
 pub record PageLayer : Type 0 where
@@ -42,5 +42,5 @@ put_at at None layers = layers
 put_at at (Some l) layers = insert layers at l
 
 -- the layers with this one taken out and inserted at a place of the others
-abbrev pub moved : ℕ → ℕ → List PageLayer → List PageLayer
-moved id at layers = put_at at (find (has_id id) layers) (without (has_id id) layers)
+abbrev pub with_layer_moved : ℕ → ℕ → List PageLayer → List PageLayer
+with_layer_moved id at layers = put_at at (find (has_id id) layers) (without_first (has_id id) layers)

@@ -11,7 +11,7 @@ use Rattle.page_layers.specs.declared.fault.EditError.TheVariants as error
 use Rattle.page_layers.specs.declared.command.Command.{Command}
 use Rattle.page_layers.specs.Pages.{Page}
 use Rattle.page_layers.specs.Refusals.{test_of}
-use Rattle.page_layers.specs.Effects.{Change, after, change_of, retiles}
+use Rattle.page_layers.specs.Effects.{Change, page_after_command, layer_change_of, retiles}
 
 -- a listed change is this one: its region covers exactly what the rects cover
 pub record IsChange (change : Change) (c : LayerChange) : Type 0 where
@@ -28,7 +28,7 @@ HoldsOnly (Some change) (c ∷ []) = IsChange change c
 HoldsOnly (Some change) (c ∷ d ∷ ds) = ⊥
 
 -- what is said to have changed is this change, and whether the page was retiled
-pub record Lists (change : Option Change) (tiles : Bool) (c : Changed) : Type 0 where
+pub record ListsChange (change : Option Change) (tiles : Bool) (c : Changed) : Type 0 where
   pub holds : HoldsOnly change c.list
   pub retiled : c.retiled ≡ tiles
 
@@ -39,14 +39,14 @@ StandTogether p = AreNested p.props.effects (map (λ l. l.effect) p.layers)
 -- a page takes a command
 pub record Accepts (p : Page) (c : Command) : Type 0 where
   pub passes : test_of p c ≡ Ok tt
-  pub together : StandTogether (after p c)
+  pub together : StandTogether (page_after_command p c)
 
 -- a page refuses a command with the fault of least number that applies: its first test that fails, else that its layers would not stand together
 abbrev pub Refuses : Page → Command → EditFault → Type 0
-Refuses p c fault = (test_of p c ≡ Err fault) ⊎ ((test_of p c ≡ Ok tt) × (fault ≡ kind.NotNested) × ¬ StandTogether (after p c))
+Refuses p c fault = (test_of p c ≡ Err fault) ⊎ ((test_of p c ≡ Ok tt) × (fault ≡ kind.NotNested) × ¬ StandTogether (page_after_command p c))
 
 -- a command was applied to a page exactly, with exactly its changes; or it was refused with this fault, and the page is as it was; or memory ran out, and the page is as it was
 abbrev pub Outcome : Page → Command → Page → Result Changed EditError → Type 0
-Outcome old c new (Ok changes) = Accepts old c × (new ≡ after old c) × Lists (change_of old c) (retiles old c) changes
+Outcome old c new (Ok changes) = Accepts old c × (new ≡ page_after_command old c) × ListsChange (layer_change_of old c) (retiles old c) changes
 Outcome old c new (Err (error.Refused fault)) = Refuses old c fault × (new ≡ old)
 Outcome old c new (Err (error.Memory e)) = new ≡ old

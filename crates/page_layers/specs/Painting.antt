@@ -22,19 +22,19 @@ inside e (layer c rest) = none
 inside e (group f items rest) = cond (e == f) items none
 
 -- what follows the effect's group where that group stands first
-abbrev pub after : ℕ → Items → Items
-after e none = none
-after e (layer c rest) = layer c rest
-after e (group f items rest) = cond (e == f) rest (group f items rest)
+abbrev pub after_group : ℕ → Items → Items
+after_group e none = none
+after_group e (layer c rest) = layer c rest
+after_group e (group f items rest) = cond (e == f) rest (group f items rest)
 
 -- a layer before the items, that lies in these groups, the outermost first: it joins the group that stands first where that is its own
-abbrev pub with_layer : List ℕ → Parts → Items → Items
-with_layer [] c items = layer c items
-with_layer (e ∷ es) c items = group e (with_layer es c (inside e items)) (after e items)
+abbrev pub layer_before : List ℕ → Parts → Items → Items
+layer_before [] c items = layer c items
+layer_before (e ∷ es) c items = group e (layer_before es c (inside e items)) (after_group e items)
 
 -- layers of any kind, with the groups that each lies in, the outermost first, and its colour at the point
 module _ {A : Type 0} (groups_of : A → List ℕ) (colour_of : A → Parts) where
   -- the items that the layers make, counting their groups from a depth on
   abbrev pub items_at : ℕ → List A → Items
   items_at depth [] = none
-  items_at depth (l ∷ more) = with_layer (drop depth (groups_of l)) (colour_of l) (items_at depth more)
+  items_at depth (l ∷ more) = layer_before (drop depth (groups_of l)) (colour_of l) (items_at depth more)

@@ -13,10 +13,10 @@ use Rattle.page_display_list.specs.declared.item.Item.{Item}
 use Rattle.page_display_list.specs.Content.{content}
 use Rattle.page_layers.specs.declared.paint.Group.{Group}
 use Rattle.page_layers.specs.Pages.{Page}
-use Rattle.page_layers.specs.TreePainting.{groups_in, opacity_in, place_at, colour_at}
+use Rattle.page_layers.specs.TreePainting.{groups_in, opacity_in, place_at, layer_colour_at}
 
 -- a point that may lie on a screen: both from 0 to 2047
-pub record IsOnScreen (x y : ℤ) : Type 0 where
+pub record IsScreenPoint (x y : ℤ) : Type 0 where
   pub left : pos 0 ≤ℤ x
   pub right : x <ℤ pos max_viewport
   pub upper : pos 0 ≤ℤ y
@@ -45,11 +45,11 @@ unfoldable pub colour_there : ℕ → Placed → Point → Parts
 colour_there tile l q = cond (has_place l.missing (place_at tile q)) l.colour (content l.items q.x q.y)
 
 -- the colour of a layer at a point of the screen
-unfoldable pub shown : ℕ → ℤ → ℤ → Placed → Parts
-shown tile x y l = cond (covers l.area x y) (colour_there tile l (minus (record { x = x; y = y }) l.by)) clear
+unfoldable pub placed_colour : ℕ → ℤ → ℤ → Placed → Parts
+placed_colour tile x y l = cond (covers l.area x y) (colour_there tile l (minus (record { x = x; y = y }) l.by)) clear
 
 -- what is ready shows this page at these offsets, where the tiles of these keys are missing: the same colours, groups and opacities of the layers
-pub record Shows (p : Page) (offset : ℕ → Point) (missing : List TileKey) (r : Ready) : Type 0 where
-  pub colours : (x y : ℤ) → map (shown r.tile x y) r.layers ≡ map (colour_at p offset missing x y) p.layers
+pub record ReadyShows (p : Page) (offset : ℕ → Point) (missing : List TileKey) (r : Ready) : Type 0 where
+  pub colours : (x y : ℤ) → map (placed_colour r.tile x y) r.layers ≡ map (layer_colour_at p offset missing x y) p.layers
   pub groups : map (λ gs. map (λ g. g.effect) gs) r.groups ≡ map (λ l. groups_in p.props.effects l.effect) p.layers
   pub opacities : All (λ gs. All (λ g. opacity_in p.props.effects g.effect ≡ g.opacity) gs) r.groups

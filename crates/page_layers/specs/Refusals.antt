@@ -5,48 +5,48 @@ use Rattle.geom.specs.Limits.{max_nodes, max_layers, max_items, max_side, max_vi
 use Rattle.geom.specs.declared.rect.Rect.{Rect}
 use Rattle.page_properties.specs.Entries.{knows, is_known}
 use Rattle.page_display_list.specs.declared.item.Item.{Item}
-use Rattle.page_display_list.specs.Content.{rect_of}
+use Rattle.page_display_list.specs.Content.{rect_of_item}
 use Rattle.page_layers.specs.declared.fault.EditFault.{EditFault}
 use Rattle.page_layers.specs.declared.fault.EditFault.TheVariants as fault
 use Rattle.page_layers.specs.declared.command.Command.{Command}
 use Rattle.page_layers.specs.declared.command.Command.TheVariants as command
-use Rattle.page_layers.specs.Tests.{◌>>=◌, require, in_range, is_id, is_size}
+use Rattle.page_layers.specs.Tests.{◌>>=◌, require, check_range, is_id, is_size}
 use Rattle.page_layers.specs.Layers.{PageLayer, has_id}
 use Rattle.page_layers.specs.Pages.{Page}
 
 -- the offset of a transform: both -65536 to 65536
 unfoldable pub is_offset : ℤ → ℤ → Result ⊤ EditFault
 is_offset x y = do
-  _ ← in_range x (neg_ℤ (pos max_offset)) (pos max_offset)
-  in_range y (neg_ℤ (pos max_offset)) (pos max_offset)
+  _ ← check_range x (neg_ℤ (pos max_offset)) (pos max_offset)
+  check_range y (neg_ℤ (pos max_offset)) (pos max_offset)
 
 -- the rect of a clip: x and y -65536 to 65536, w and h 0 to 65536
 unfoldable pub is_clip_rect : Rect → Result ⊤ EditFault
 is_clip_rect r = do
-  _ ← in_range r.x (neg_ℤ (pos max_offset)) (pos max_offset)
-  _ ← in_range r.y (neg_ℤ (pos max_offset)) (pos max_offset)
-  _ ← in_range r.w (pos 0) (pos max_offset)
-  in_range r.h (pos 0) (pos max_offset)
+  _ ← check_range r.x (neg_ℤ (pos max_offset)) (pos max_offset)
+  _ ← check_range r.y (neg_ℤ (pos max_offset)) (pos max_offset)
+  _ ← check_range r.w (pos 0) (pos max_offset)
+  check_range r.h (pos 0) (pos max_offset)
 
 -- the rect of an item: x and y -16384 to 16384, w and h 1 to 16384
 unfoldable pub is_item_rect : Rect → Result ⊤ EditFault
 is_item_rect r = do
-  _ ← in_range r.x (neg_ℤ (pos max_side)) (pos max_side)
-  _ ← in_range r.y (neg_ℤ (pos max_side)) (pos max_side)
-  _ ← in_range r.w (pos 1) (pos max_side)
-  in_range r.h (pos 1) (pos max_side)
+  _ ← check_range r.x (neg_ℤ (pos max_side)) (pos max_side)
+  _ ← check_range r.y (neg_ℤ (pos max_side)) (pos max_side)
+  _ ← check_range r.w (pos 1) (pos max_side)
+  check_range r.h (pos 1) (pos max_side)
 
 -- the ends of a scroll range, or a place in the largest: both 0 to 1048576
 unfoldable pub is_scroll_range : ℕ → ℕ → Result ⊤ EditFault
 is_scroll_range x y = do
-  _ ← in_range (pos x) (pos 0) (pos max_scroll)
-  in_range (pos y) (pos 0) (pos max_scroll)
+  _ ← check_range (pos x) (pos 0) (pos max_scroll)
+  check_range (pos y) (pos 0) (pos max_scroll)
 
 -- a scroll: both -1048576 to 1048576
-unfoldable pub is_scroll : ℤ → ℤ → Result ⊤ EditFault
-is_scroll dx dy = do
-  _ ← in_range dx (neg_ℤ (pos max_scroll)) (pos max_scroll)
-  in_range dy (neg_ℤ (pos max_scroll)) (pos max_scroll)
+unfoldable pub check_scroll : ℤ → ℤ → Result ⊤ EditFault
+check_scroll dx dy = do
+  _ ← check_range dx (neg_ℤ (pos max_scroll)) (pos max_scroll)
+  check_range dy (neg_ℤ (pos max_scroll)) (pos max_scroll)
 
 -- how many items the layer with this id has
 abbrev pub count_in : Option PageLayer → Result ℕ EditFault
@@ -93,12 +93,12 @@ unfoldable pub add_effect_test : Page → ℕ → ℕ → ℕ → Result ⊤ Edi
 add_effect_test p id parent opacity = do
   _ ← require (is_known parent p.props.effects) fault.UnknownId
   _ ← takes id p.props.effects
-  in_range (pos opacity) (pos 0) (pos 255)
+  check_range (pos opacity) (pos 0) (pos 255)
 
 unfoldable pub set_opacity_test : Page → ℕ → ℕ → Result ⊤ EditFault
 set_opacity_test p id opacity = do
   _ ← require (knows id p.props.effects) fault.UnknownId
-  in_range (pos opacity) (pos 0) (pos 255)
+  check_range (pos opacity) (pos 0) (pos 255)
 
 unfoldable pub add_scroller_test : Page → ℕ → ℕ → ℕ → ℕ → Result ⊤ EditFault
 add_scroller_test p id parent max_x max_y = do
@@ -114,7 +114,7 @@ set_range_test p id max_x max_y = do
 unfoldable pub scroll_by_test : Page → ℕ → ℤ → ℤ → Result ⊤ EditFault
 scroll_by_test p id dx dy = do
   _ ← require (knows id p.props.scrollers) fault.UnknownId
-  is_scroll dx dy
+  check_scroll dx dy
 
 unfoldable pub scroll_to_test : Page → ℕ → ℕ → ℕ → Result ⊤ EditFault
 scroll_to_test p id x y = do
@@ -146,7 +146,7 @@ insert_item_test p layer at item = do
   count ← item_count layer p.layers
   _ ← require (nat_le at count) fault.BadPlace
   _ ← require (nat_lt count max_items) (fault.TooMany max_items)
-  is_item_rect (rect_of item)
+  is_item_rect (rect_of_item item)
 
 unfoldable pub remove_item_test : Page → ℕ → ℕ → Result ⊤ EditFault
 remove_item_test p layer at = do
@@ -157,7 +157,7 @@ unfoldable pub replace_item_test : Page → ℕ → ℕ → Item → Result ⊤ 
 replace_item_test p layer at item = do
   count ← item_count layer p.layers
   _ ← require (nat_lt at count) fault.BadPlace
-  is_item_rect (rect_of item)
+  is_item_rect (rect_of_item item)
 
 unfoldable pub move_layer_test : Page → ℕ → ℕ → Result ⊤ EditFault
 move_layer_test p id at = do
@@ -166,9 +166,9 @@ move_layer_test p id at = do
 
 unfoldable pub set_view_test : ℕ → ℕ → ℕ → Result ⊤ EditFault
 set_view_test w h tile = do
-  _ ← in_range (pos w) (pos 1) (pos max_viewport)
-  _ ← in_range (pos h) (pos 1) (pos max_viewport)
-  in_range (pos tile) (pos min_tile) (pos max_tile)
+  _ ← check_range (pos w) (pos 1) (pos max_viewport)
+  _ ← check_range (pos h) (pos 1) (pos max_viewport)
+  check_range (pos tile) (pos min_tile) (pos max_tile)
 
 -- the tests of a command in a page: passed, or the fault of least number
 abbrev pub test_of : Page → Command → Result ⊤ EditFault

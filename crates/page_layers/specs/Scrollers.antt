@@ -4,7 +4,7 @@ use Rattle.geom.specs.declared.rect.Point.{Point}
 use Rattle.page_properties.specs.declared.nodes.ScrollNode.{ScrollNode}
 use Rattle.page_properties.specs.Entries.{ids, rising, find, knows}
 use Rattle.page_layers.specs.Scrolls.{clamp_to, origin}
-use Rattle.page_layers.specs.Effects.{value_of}
+use Rattle.page_layers.specs.Effects.{main_point}
 use Rattle.page_layers.specs.Pages.{Page}
 use Rattle.page_layers.specs.Axes.{Axis, across, down, along}
 
@@ -28,12 +28,12 @@ most p sc ax = end_of (find sc p.props.scrollers) ax
 
 -- the main value of a scroller along an axis
 abbrev pub main_value : Page → ℕ → Axis → ℤ
-main_value p sc ax = along ax (value_of p sc)
+main_value p sc ax = along ax (main_point p sc)
 
 -- the offsets of a page: its own scrollers stand at these numbers, all others at the origin
 abbrev pub offsets_in : Page → (ℕ → Axis → ℤ) → ℕ → Point
 offsets_in p at sc = cond (has_scroller p sc) (record { x = at sc across; y = at sc down }) origin
 
 -- how far a scroller of the page at this number moves where so much is asked: as far as its range allows
-abbrev pub taken : Page → (ℕ → Axis → ℤ) → ℕ → Axis → ℤ → ℤ
-taken p at sc ax asked = cond (has_scroller p sc) (clamp_to (most p sc ax) (at sc ax +ℤ asked) -ℤ at sc ax) (pos 0)
+abbrev pub amount_taken : Page → (ℕ → Axis → ℤ) → ℕ → Axis → ℤ → ℤ
+amount_taken p at sc ax asked = cond (has_scroller p sc) (clamp_to (most p sc ax) (at sc ax +ℤ asked) -ℤ at sc ax) (pos 0)

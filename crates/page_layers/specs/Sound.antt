@@ -25,15 +25,15 @@ pub record IsLayer (props : Props) (used : List ℕ) (l : PageLayer) : Type 0 wh
   pub size : is_size l.w l.h ≡ Ok tt
 
 -- no two layers have one id
-abbrev pub AreDistinct : List PageLayer → Type 0
-AreDistinct [] = Unit {0}
-AreDistinct (l ∷ ls) = (has_layer l.id ls ≡ false) × AreDistinct ls
+abbrev pub AreDistinctLayers : List PageLayer → Type 0
+AreDistinctLayers [] = Unit {0}
+AreDistinctLayers (l ∷ ls) = (has_layer l.id ls ≡ false) × AreDistinctLayers ls
 
 -- a page: at most 64 layers with ids of their own, whose named nodes are there; the layers of each effect, with those of the effects below it, stand together; the main scroll values are in their ranges
 pub record IsPage (p : Page) : Type 0 where
   pub view : IsView p.view
   pub few : length p.layers ≤ max_layers
   pub layers : AllByRecursion (IsLayer p.props p.used) p.layers
-  pub distinct : AreDistinct p.layers
+  pub distinct : AreDistinctLayers p.layers
   pub nested : AreNested p.props.effects (map (λ l. l.effect) p.layers)
   pub values : AreInRange p.props.scrollers p.values

@@ -16,15 +16,15 @@ require true fault = Ok tt
 require false fault = Err fault
 
 -- passes where the value lies in the range; else it is out of range, with the end that it passes
-unfoldable pub in_range : ℤ → ℤ → ℤ → Result ⊤ EditFault
-in_range value low high = cond (int_lt value low) (Err (fault.OutOfRange value low)) (cond (int_lt high value) (Err (fault.OutOfRange value high)) (Ok tt))
+unfoldable pub check_range : ℤ → ℤ → ℤ → Result ⊤ EditFault
+check_range value low high = cond (int_lt value low) (Err (fault.OutOfRange value low)) (cond (int_lt high value) (Err (fault.OutOfRange value high)) (Ok tt))
 
 -- a new id: 1 to 65535
 unfoldable pub is_id : ℕ → Result ⊤ EditFault
-is_id id = in_range (pos id) (pos 1) (pos max_id)
+is_id id = check_range (pos id) (pos 1) (pos max_id)
 
 -- a layer's size: both sides 1 to 16384
 unfoldable pub is_size : ℕ → ℕ → Result ⊤ EditFault
 is_size w h = do
-  _ ← in_range (pos w) (pos 1) (pos max_side)
-  in_range (pos h) (pos 1) (pos max_side)
+  _ ← check_range (pos w) (pos 1) (pos max_side)
+  check_range (pos h) (pos 1) (pos max_side)

@@ -46,19 +46,19 @@ abbrev pub place_at : ℕ → Point → Place
 place_at tile q = record { x = unsigned_abs q.x / tile; y = unsigned_abs q.y / tile }
 
 -- whether a key of this layer and place is among those of the missing tiles, whatever its stamp
-abbrev pub is_missing : List TileKey → ℕ → Place → Bool
-is_missing [] layer place = false
-is_missing (k ∷ ks) layer place = ((k.layer == layer) && (k.x == place.x) && (k.y == place.y)) || is_missing ks layer place
+abbrev pub lacks_tile_at : List TileKey → ℕ → Place → Bool
+lacks_tile_at [] layer place = false
+lacks_tile_at (k ∷ ks) layer place = ((k.layer == layer) && (k.x == place.x) && (k.y == place.y)) || lacks_tile_at ks layer place
 
 -- a layer's colour at one of its points: its background colour where the tile is missing, else what its display list shows
 abbrev pub colour_inside : ℕ → List TileKey → PageLayer → Point → Parts
-colour_inside tile missing l q = cond (is_missing missing l.id (place_at tile q)) l.colour (content l.items q.x q.y)
+colour_inside tile missing l q = cond (lacks_tile_at missing l.id (place_at tile q)) l.colour (content l.items q.x q.y)
 
 -- a layer's colour at a screen point: transparent where the layer does not lie
-abbrev pub colour_at : Page → (ℕ → Point) → List TileKey → ℤ → ℤ → PageLayer → Parts
-colour_at p offset missing x y l = cond (lies_at p offset x y l) (colour_inside p.view.tile missing l (point_in p offset l x y)) clear
+abbrev pub layer_colour_at : Page → (ℕ → Point) → List TileKey → ℤ → ℤ → PageLayer → Parts
+layer_colour_at p offset missing x y l = cond (lies_at p offset x y l) (colour_inside p.view.tile missing l (point_in p offset l x y)) clear
 
 -- the colour of the screen at a point, over a background
 unfoldable pub paint : Page → (ℕ → Point) → List TileKey → Parts → ℤ → ℤ → Parts
 paint p offset missing background x y =
-    folded (opacity_in p.props.effects) (items_at (λ l. groups_in p.props.effects l.effect) (colour_at p offset missing x y) 0 p.layers) background
+    folded (opacity_in p.props.effects) (items_at (λ l. groups_in p.props.effects l.effect) (layer_colour_at p offset missing x y) 0 p.layers) background

@@ -6,7 +6,7 @@ use Rattle.page_layers.specs.Pages.{Page}
 use Rattle.page_layers.specs.Hits.{target, chain}
 use Rattle.page_layers.specs.declared.moves.Move.{Move}
 use Rattle.page_layers.specs.Axes.{Axis, across, down, along, with_move}
-use Rattle.page_layers.specs.Scrollers.{taken}
+use Rattle.page_layers.specs.Scrollers.{amount_taken}
 
 -- the parts along a chain, where `takes` tells how much of an amount a scroller takes: each takes of what those before it have left; a part of (0, 0) is left out
 abbrev pub chain_parts : (ℕ → Axis → ℤ → ℤ) → List ℕ → ℤ → ℤ → List Move
@@ -29,7 +29,7 @@ chain_at p layer = chain_or_none p (find (has_id layer) p.layers)
 
 -- how much of an amount a scroller takes in a page at these offsets
 abbrev pub takes_at : Page → (ℕ → Point) → ℕ → Axis → ℤ → ℤ
-takes_at p offset = taken p (λ sc ax. along ax (offset sc))
+takes_at p offset = amount_taken p (λ sc ax. along ax (offset sc))
 
 -- what the scrollers under a point take of a wheel, in the order of the chain
 abbrev pub wheel_parts : Page → (ℕ → Point) → ℤ → ℤ → ℤ → ℤ → List Move

@@ -6,7 +6,7 @@
 ghost use Rattle.std.specs.Prelude.{◌≡◌, ◌≤◌, ◌<◌, ℕ, length, map, insert, remove, slice_set, OnOk, OnErr, IfOk, IfSome, find, Option, Some};
 ghost use Rattle.geom.specs.Covers.{IsSound};
 ghost use Rattle.page_display_list.specs.Content.{IsSoundItem};
-ghost use Rattle.page_layers.specs.Lists.{changed};
+ghost use Rattle.page_layers.specs.Lists.{with_first_changed};
 ghost use Rattle.page_layers.specs.Layers.{parts_of, has_id, with_items};
 ghost use Rattle.page_layers.specs.inner.FoundPlaces.{StandsAt};
 ghost use Rattle.page_layers.specs.Refusals as refusals;
@@ -44,7 +44,7 @@ pub(crate) fn item_count(layers: &[Layer], id: u32) -> Result<usize, EditFault>
 // The rect of an item of a layer, if there is one.
 #[tactic(auto, using(crate::proofs::LayerPlaces::item_there, crate::proofs::LayerPlaces::item_past))]
 fn rect_in(layer: &Layer, at: usize) -> Option<Rect>
-    ensures value { result ≡ effects.rect_in at (Some (parts_of layer.now)) }
+    ensures value { result ≡ effects.item_rect_in at (Some (parts_of layer.now)) }
     ensures sound { IfSome result IsSound }
 {
     match layer.list.item(at) {
@@ -56,7 +56,7 @@ fn rect_in(layer: &Layer, at: usize) -> Option<Rect>
 /// The rect of the item at a place of a layer's display list, if there is one.
 #[tactic(auto, using(crate::proofs::LayerPlaces::found_is))]
 pub(crate) fn rect_at(layers: &[Layer], id: u32, at: usize) -> Option<Rect>
-    ensures value { result ≡ effects.rect_at id at (map parts_of layers.now) }
+    ensures value { result ≡ effects.item_rect_at id at (map parts_of layers.now) }
     ensures sound { IfSome result IsSound }
 {
     match place_of(layers, id) {
@@ -152,7 +152,7 @@ pub(crate) fn insert(
 ) -> Result<(), AllocError>
     requires fits { IfSome (find (has_id id) (map parts_of layers.old.items)) (λ l. (at ≤ length l.items) × (length l.items < 256)) }
     requires sound { IsSoundItem item }
-    ensures ok { OnOk result (map parts_of layers.new.items ≡ changed (has_id id) (with_items (λ items. insert items at item)) (map parts_of layers.old.items)) }
+    ensures ok { OnOk result (map parts_of layers.new.items ≡ with_first_changed (has_id id) (with_items (λ items. insert items at item)) (map parts_of layers.old.items)) }
     ensures err { OnErr result (map parts_of layers.new.items ≡ map parts_of layers.old.items) }
 {
     let alloc = *layers.allocator();
@@ -169,7 +169,7 @@ pub(crate) fn insert(
 #[tactic(auto, using(crate::proofs::LayerPlaces::not_changed))]
 pub(crate) fn remove(layers: &mut Vec<Layer>, id: u32, at: usize) -> Result<(), AllocError>
     requires { IfSome (find (has_id id) (map parts_of layers.old.items)) (λ l. at < length l.items) }
-    ensures ok { OnOk result (map parts_of layers.new.items ≡ changed (has_id id) (with_items (λ items. remove items at)) (map parts_of layers.old.items)) }
+    ensures ok { OnOk result (map parts_of layers.new.items ≡ with_first_changed (has_id id) (with_items (λ items. remove items at)) (map parts_of layers.old.items)) }
     ensures err { OnErr result (map parts_of layers.new.items ≡ map parts_of layers.old.items) }
 {
     let alloc = *layers.allocator();
@@ -192,7 +192,7 @@ pub(crate) fn replace(
 ) -> Result<(), AllocError>
     requires fits { IfSome (find (has_id id) (map parts_of layers.old.items)) (λ l. at < length l.items) }
     requires sound { IsSoundItem item }
-    ensures ok { OnOk result (map parts_of layers.new.items ≡ changed (has_id id) (with_items (λ items. slice_set items at item)) (map parts_of layers.old.items)) }
+    ensures ok { OnOk result (map parts_of layers.new.items ≡ with_first_changed (has_id id) (with_items (λ items. slice_set items at item)) (map parts_of layers.old.items)) }
     ensures err { OnErr result (map parts_of layers.new.items ≡ map parts_of layers.old.items) }
 {
     let alloc = *layers.allocator();

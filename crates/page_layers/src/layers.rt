@@ -2,9 +2,9 @@
 
 ghost use Rattle.std.specs.Prelude.{◌≡◌, ◌==◌, ◌<◌, ◌≤◌, ℕ, length, vec_len, map, MatchOption, None, OnOk, OnErr, insert};
 ghost use Rattle.std.specs.List.{find, position};
-ghost use Rattle.page_layers.specs.Lists.{changed, without};
+ghost use Rattle.page_layers.specs.Lists.{with_first_changed, without_first};
 ghost use Rattle.page_layers.specs.Refusals as refusals;
-ghost use Rattle.page_layers.specs.Layers.{parts_of, has_id, with_size, with_colour, moved};
+ghost use Rattle.page_layers.specs.Layers.{parts_of, has_id, with_size, with_colour, with_layer_moved};
 ghost use Rattle.page_layers.specs.inner.FoundPlaces.{StandsAt};
 
 use crate::layer::Layer;
@@ -29,7 +29,7 @@ pub(crate) fn place_of(layers: &[Layer], id: u32) -> Option<usize>
 fn set_size(layers: &mut Vec<Layer>, place: usize, w: u32, h: u32)
     requires { place < vec_len layers.old }
     ensures { (id : ℕ) → StandsAt id layers.old.items place →
-        map parts_of layers.new.items ≡ changed (has_id id) (with_size w h) (map parts_of layers.old.items) }
+        map parts_of layers.new.items ≡ with_first_changed (has_id id) (with_size w h) (map parts_of layers.old.items) }
 {
     let layer = &mut layers[place];
     layer.w = w;
@@ -40,7 +40,7 @@ fn set_size(layers: &mut Vec<Layer>, place: usize, w: u32, h: u32)
 fn set_colour(layers: &mut Vec<Layer>, place: usize, colour: Colour)
     requires { place < vec_len layers.old }
     ensures { (id : ℕ) → StandsAt id layers.old.items place →
-        map parts_of layers.new.items ≡ changed (has_id id) (with_colour colour) (map parts_of layers.old.items) }
+        map parts_of layers.new.items ≡ with_first_changed (has_id id) (with_colour colour) (map parts_of layers.old.items) }
 {
     let layer = &mut layers[place];
     layer.colour = colour;
@@ -50,7 +50,7 @@ fn set_colour(layers: &mut Vec<Layer>, place: usize, colour: Colour)
 fn take_out(layers: &mut Vec<Layer>, place: usize)
     requires { place < vec_len layers.old }
     ensures { (id : ℕ) → StandsAt id layers.old.items place →
-        map parts_of layers.new.items ≡ without (has_id id) (map parts_of layers.old.items) }
+        map parts_of layers.new.items ≡ without_first (has_id id) (map parts_of layers.old.items) }
 {
     layers.remove(place);
 }
@@ -70,7 +70,7 @@ fn move_to(layers: &mut Vec<Layer>, place: usize, at: usize)
     requires from { place < vec_len layers.old }
     requires to { at < vec_len layers.old }
     ensures { (id : ℕ) → StandsAt id layers.old.items place →
-        map parts_of layers.new.items ≡ moved id at (map parts_of layers.old.items) }
+        map parts_of layers.new.items ≡ with_layer_moved id at (map parts_of layers.old.items) }
 {
     let layer = layers.remove(place);
     match layers.insert(at, layer) {
@@ -82,7 +82,7 @@ fn move_to(layers: &mut Vec<Layer>, place: usize, at: usize)
 /// Gives the layer with this id another size.
 #[tactic(auto, using(crate::proofs::LayerPlaces::not_changed))]
 pub(crate) fn resize(layers: &mut Vec<Layer>, id: u32, w: u32, h: u32)
-    ensures { map parts_of layers.new.items ≡ changed (has_id id) (with_size w h) (map parts_of layers.old.items) }
+    ensures { map parts_of layers.new.items ≡ with_first_changed (has_id id) (with_size w h) (map parts_of layers.old.items) }
 {
     if let Some(place) = place_of(layers, id) {
         set_size(layers, place, w, h);
@@ -92,7 +92,7 @@ pub(crate) fn resize(layers: &mut Vec<Layer>, id: u32, w: u32, h: u32)
 /// Gives the layer with this id another background colour.
 #[tactic(auto, using(crate::proofs::LayerPlaces::not_changed))]
 pub(crate) fn recolour(layers: &mut Vec<Layer>, id: u32, colour: Colour)
-    ensures { map parts_of layers.new.items ≡ changed (has_id id) (with_colour colour) (map parts_of layers.old.items) }
+    ensures { map parts_of layers.new.items ≡ with_first_changed (has_id id) (with_colour colour) (map parts_of layers.old.items) }
 {
     if let Some(place) = place_of(layers, id) {
         set_colour(layers, place, colour);
@@ -102,7 +102,7 @@ pub(crate) fn recolour(layers: &mut Vec<Layer>, id: u32, colour: Colour)
 /// Takes the layer with this id out.
 #[tactic(auto, using(crate::proofs::LayerPlaces::not_taken))]
 pub(crate) fn remove(layers: &mut Vec<Layer>, id: u32)
-    ensures { map parts_of layers.new.items ≡ without (has_id id) (map parts_of layers.old.items) }
+    ensures { map parts_of layers.new.items ≡ without_first (has_id id) (map parts_of layers.old.items) }
 {
     if let Some(place) = place_of(layers, id) {
         take_out(layers, place);
@@ -113,7 +113,7 @@ pub(crate) fn remove(layers: &mut Vec<Layer>, id: u32)
 #[tactic(auto, using(crate::proofs::LayerPlaces::not_moved))]
 pub(crate) fn reorder(layers: &mut Vec<Layer>, id: u32, at: usize)
     requires { at < length layers.old.items }
-    ensures { map parts_of layers.new.items ≡ moved id at (map parts_of layers.old.items) }
+    ensures { map parts_of layers.new.items ≡ with_layer_moved id at (map parts_of layers.old.items) }
 {
     if let Some(place) = place_of(layers, id) {
         move_to(layers, place, at);

@@ -37,9 +37,9 @@ pub(crate) fn require(condition: bool, fault: EditFault) -> Result<(), EditFault
 }
 
 /// Passes where the value lies in the range, else answers it with the end that it passes.
-#[tactic(auto, unfolding(crate::specs::Tests::in_range))]
+#[tactic(auto, unfolding(crate::specs::Tests::check_range))]
 pub(crate) fn in_range(value: i64, low: i64, high: i64) -> Result<(), EditFault>
-    ensures { result ≡ spec.in_range value low high }
+    ensures { result ≡ spec.check_range value low high }
 {
     if value < low {
         return Err(EditFault::OutOfRange { value, limit: low });
@@ -101,9 +101,9 @@ pub(crate) fn is_scroll_range(x: u32, y: u32) -> Result<(), EditFault>
     in_range(y as i64, 0, MAX_SCROLL)
 }
 
-#[tactic(auto, unfolding(crate::specs::Refusals::is_scroll))]
+#[tactic(auto, unfolding(crate::specs::Refusals::check_scroll))]
 pub(crate) fn is_scroll(dx: i32, dy: i32) -> Result<(), EditFault>
-    ensures { result ≡ refusals.is_scroll dx dy }
+    ensures { result ≡ refusals.check_scroll dx dy }
 {
     in_range(dx as i64, -MAX_SCROLL, MAX_SCROLL)?;
     in_range(dy as i64, -MAX_SCROLL, MAX_SCROLL)

@@ -3,7 +3,7 @@
 ghost use Rattle.std.specs.Prelude.{◌≡◌, ◌∷◌, ◌++◌, [], true, false, IfOk, IfSome, Option, None, Some};
 ghost use Rattle.geom.specs.Covers.{IsSound};
 ghost use Rattle.page_layers.specs.Effects.{rects_of};
-ghost use Rattle.page_layers.specs.Outcomes.{Lists};
+ghost use Rattle.page_layers.specs.Outcomes.{ListsChange};
 
 use geom::Rect;
 use region::{Changes, LayerChange, Region};
@@ -11,7 +11,7 @@ use std::alloc::{AllocError, Global};
 
 // One layer with a region.
 fn one(alloc: Global, layer: u32, whole: bool, region: Region) -> Result<Changes, AllocError>
-    ensures { IfOk result (λ c. Lists (Some (record { layer = layer; whole = whole; rects = region })) false c) }
+    ensures { IfOk result (λ c. ListsChange (Some (record { layer = layer; whole = whole; rects = region })) false c) }
 {
     let mut changes = Changes::new(alloc);
     match changes.push(LayerChange {
@@ -26,7 +26,7 @@ fn one(alloc: Global, layer: u32, whole: bool, region: Region) -> Result<Changes
 
 /// A layer that changed whole.
 pub(crate) fn whole(alloc: Global, layer: u32) -> Result<Changes, AllocError>
-    ensures { IfOk result (λ c. Lists (Some (record { layer = layer; whole = true; rects = [] })) false c) }
+    ensures { IfOk result (λ c. ListsChange (Some (record { layer = layer; whole = true; rects = [] })) false c) }
 {
     one(alloc, layer, true, Region::new(alloc))
 }
@@ -34,7 +34,7 @@ pub(crate) fn whole(alloc: Global, layer: u32) -> Result<Changes, AllocError>
 /// A layer that changed where a rect covers it.
 pub(crate) fn inside(alloc: Global, layer: u32, rect: Rect) -> Result<Changes, AllocError>
     requires { IsSound rect }
-    ensures { IfOk result (λ c. Lists (Some (record { layer = layer; whole = false; rects = rect ∷ [] })) false c) }
+    ensures { IfOk result (λ c. ListsChange (Some (record { layer = layer; whole = false; rects = rect ∷ [] })) false c) }
 {
     let mut region = Region::new(alloc);
     region.add(rect)?;
@@ -48,7 +48,7 @@ pub(crate) fn inside_old(
     old: Option<Rect>,
 ) -> Result<Changes, AllocError>
     requires { IfSome old IsSound }
-    ensures { IfOk result (λ c. Lists (Some (record { layer = layer; whole = false; rects = rects_of old })) false c) }
+    ensures { IfOk result (λ c. ListsChange (Some (record { layer = layer; whole = false; rects = rects_of old })) false c) }
 {
     match old {
         Some(rect) => inside(alloc, layer, rect),
@@ -65,7 +65,7 @@ pub(crate) fn inside_both(
 ) -> Result<Changes, AllocError>
     requires first { IsSound new }
     requires second { IfSome old IsSound }
-    ensures { IfOk result (λ c. Lists (Some (record { layer = layer; whole = false; rects = new ∷ rects_of old })) false c) }
+    ensures { IfOk result (λ c. ListsChange (Some (record { layer = layer; whole = false; rects = new ∷ rects_of old })) false c) }
 {
     let Some(old) = old else {
         return inside(alloc, layer, new);

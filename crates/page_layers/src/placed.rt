@@ -4,12 +4,12 @@ ghost use Rattle.std.specs.Prelude.{◌≡◌, ◌≤◌, ◌*◌, ◌==◌, ◌
 ghost use mir.Syntax.{w32};
 ghost use Rattle.geom.specs.Covers.{covers, IsSound};
 ghost use Rattle.geom.specs.Gaps.{shifted};
-ghost use Rattle.geom.specs.Sides.{IsSide};
+ghost use Rattle.geom.specs.Sides.{IsLayerSide};
 ghost use Rattle.page_properties.specs.OffsetMap.{offset_at, AreOffsets};
 ghost use Rattle.page_properties.specs.Placement.{IsWithin};
 ghost use Rattle.page_layers.specs.Layers.{parts_of};
 ghost use Rattle.page_layers.specs.TreePainting as painting;
-ghost use Rattle.page_layers.specs.Paintings.{IsOnScreen, has_place, colour_there, shown};
+ghost use Rattle.page_layers.specs.Paintings.{IsScreenPoint, has_place, colour_there, placed_colour};
 
 use crate::layer::Layer;
 use crate::tree::LayerTree;
@@ -124,9 +124,9 @@ pub(crate) fn placed(
     layer: &Layer,
 ) -> Result<PlacedLayer, AllocError>
     requires offsets { AreOffsets (offset_at offsets.now) }
-    requires wide { IsSide layer.now.w }
-    requires tall { IsSide layer.now.h }
-    ensures { IfOk result (λ l. (x y : ℤ) → shown tree.now.view.tile x y l ≡ painting.colour_at tree.now (offset_at offsets.now) missing.now x y (parts_of layer.now)) }
+    requires wide { IsLayerSide layer.now.w }
+    requires tall { IsLayerSide layer.now.h }
+    ensures { IfOk result (λ l. (x y : ℤ) → placed_colour tree.now.view.tile x y l ≡ painting.layer_colour_at tree.now (offset_at offsets.now) missing.now x y (parts_of layer.now)) }
 {
     let props = tree.props();
     let by = props.translation(layer.transform, offsets);
@@ -159,11 +159,11 @@ impl PlacedLayer {
     }
 
     /// The colour at a point of the screen, where tiles have this side.
-    #[tactic(auto, unfolding(crate::specs::Paintings::shown))]
+    #[tactic(auto, unfolding(crate::specs::Paintings::placed_colour))]
     pub(crate) fn colour_at(&self, tile: u32, x: i32, y: i32) -> Colour
         requires cut { 1 ≤ tile }
-        requires screen { IsOnScreen x y }
-        ensures { result ≡ shown tile x y self.now }
+        requires screen { IsScreenPoint x y }
+        ensures { result ≡ placed_colour tile x y self.now }
     {
         if !self.area.contains(Point { x, y }) {
             return Colour::CLEAR;

@@ -1,7 +1,7 @@
 //! The main scroll values.
 
 ghost use Rattle.std.specs.Prelude.{◌≡◌, ◌≤◌, ◌<◌, ℕ, ℤ, pos, ◌≤ℤ◌, ◌<ℤ◌, ◌+ℤ◌, neg_ℤ, ◌^◌, List};
-ghost use Rattle.page_properties.specs.Entries.{find, changed};
+ghost use Rattle.page_properties.specs.Entries.{find, with_node_changed};
 ghost use Rattle.page_layers.specs.Scrolls as spec;
 
 use geom::Point;
@@ -29,7 +29,7 @@ pub(crate) fn value_in(values: &[(u32, Point)], id: u32) -> Point
 
 // Sets the value of a scroller in a slice.
 fn set_in(values: &mut [(u32, Point)], id: u32, at: Point)
-    ensures { values.new ≡ changed id (λ _. at) values.old }
+    ensures { values.new ≡ with_node_changed id (λ _. at) values.old }
 {
     for value in values.iter_mut() {
         if value.0 == id {
@@ -41,7 +41,7 @@ fn set_in(values: &mut [(u32, Point)], id: u32, at: Point)
 
 /// Sets the value of a scroller.
 pub(crate) fn set_value(values: &mut Vec<(u32, Point)>, id: u32, at: Point)
-    ensures { values.new.items ≡ changed id (λ _. at) values.old.items }
+    ensures { values.new.items ≡ with_node_changed id (λ _. at) values.old.items }
 {
     set_in(values, id, at);
 }

@@ -6,14 +6,14 @@
 ghost use Rattle.std.specs.Prelude.{◌≡◌, ◌≤◌, ℕ, ℤ, List, map, length, All, IfOk, vec_len};
 ghost use Rattle.geom.specs.declared.rect.Point.{Point};
 ghost use Rattle.geom.specs.declared.tile.TileKey.{TileKey as Key};
-ghost use Rattle.geom.specs.Sides.{IsSide};
+ghost use Rattle.geom.specs.Sides.{IsLayerSide};
 ghost use Rattle.page_properties.specs.OffsetMap.{offset_at, AreOffsets};
 ghost use Rattle.page_properties.specs.Trees.{IsTrees};
 ghost use Rattle.page_layers.specs.Layers.{parts_of};
 ghost use Rattle.page_layers.specs.Pages.{Page};
 ghost use Rattle.page_layers.specs.inner.LayerSamples.{groups_of, colour_of, HaveOpacities};
-ghost use Rattle.page_layers.specs.TreePainting.{colour_at, groups_in, opacity_in, paint};
-ghost use Rattle.page_layers.specs.Paintings.{IsOnScreen, Shows, shown};
+ghost use Rattle.page_layers.specs.TreePainting.{layer_colour_at, groups_in, opacity_in, paint};
+ghost use Rattle.page_layers.specs.Paintings.{IsScreenPoint, ReadyShows, placed_colour};
 
 use crate::groups;
 use crate::layer::Layer;
@@ -55,8 +55,8 @@ fn placed_layers(
     layers: &[Layer],
 ) -> Result<Vec<PlacedLayer>, AllocError>
     requires offsets { AreOffsets (offset_at offsets.now) }
-    requires sizes { All (λ l. IsSide l.w × IsSide l.h) layers.now }
-    ensures colours { IfOk result (λ ready. (x y : ℤ) → map (shown tree.now.view.tile x y) ready.items ≡ map (λ l. colour_at tree.now (offset_at offsets.now) missing.now x y (parts_of l)) layers.now) }
+    requires sizes { All (λ l. IsLayerSide l.w × IsLayerSide l.h) layers.now }
+    ensures colours { IfOk result (λ ready. (x y : ℤ) → map (placed_colour tree.now.view.tile x y) ready.items ≡ map (λ l. layer_colour_at tree.now (offset_at offsets.now) missing.now x y (parts_of l)) layers.now) }
     ensures count { IfOk result (λ ready. length ready.items ≡ length layers.now) }
 {
     let mut ready = Vec::new(alloc);
@@ -93,8 +93,8 @@ fn samples_of(
 fn set_colours(layers: &[PlacedLayer], samples: &mut [LayerSample], tile: u32, x: i32, y: i32)
     requires count { length layers.now ≡ length samples.old }
     requires cut { 1 ≤ tile }
-    requires screen { IsOnScreen x y }
-    ensures colours { map colour_of samples.new ≡ map (shown tile x y) layers.now }
+    requires screen { IsScreenPoint x y }
+    ensures colours { map colour_of samples.new ≡ map (placed_colour tile x y) layers.now }
     ensures groups { map (λ s. s.groups.items) samples.new ≡ map (λ s. s.groups.items) samples.old }
 {
     for i in 0..layers.len() {
@@ -112,7 +112,7 @@ impl Painting {
         missing: &[TileKey],
     ) -> Result<Painting, AllocError>
         requires { AreOffsets (offset_at offsets.now) }
-        ensures { IfOk result (λ painting. Shows tree.now (offset_at offsets.now) missing.now painting) }
+        ensures { IfOk result (λ painting. ReadyShows tree.now (offset_at offsets.now) missing.now painting) }
     {
         tree.is_page();
         let props = tree.props();
@@ -130,8 +130,8 @@ impl Painting {
     /// What the screen shows at a point, where nothing stands below the layers but this background.
     /// Both coordinates are from 0 to 2047. It takes no memory.
     pub fn pixel(&mut self, background: Colour, x: i32, y: i32) -> Colour
-        requires { IsOnScreen x y }
-        ensures value { (p : Page) (offset : ℕ → Point) (missing : List Key) → Shows p offset missing self.old → result ≡ paint p offset missing background x y }
+        requires { IsScreenPoint x y }
+        ensures value { (p : Page) (offset : ℕ → Point) (missing : List Key) → ReadyShows p offset missing self.old → result ≡ paint p offset missing background x y }
         ensures same { self.new ≡ self.old }
     {
         set_colours(
@@ -159,7 +159,7 @@ pub fn paint_at(
     y: i32,
 ) -> Result<Colour, AllocError>
     requires offsets { AreOffsets (offset_at offsets.now) }
-    requires screen { IsOnScreen x y }
+    requires screen { IsScreenPoint x y }
     ensures { IfOk result (λ c. c ≡ paint tree.now (offset_at offsets.now) missing.now background x y) }
 {
     let mut painting = Painting::new(alloc, tree, offsets, missing)?;

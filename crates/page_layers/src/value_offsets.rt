@@ -2,7 +2,7 @@
 
 ghost use Rattle.std.specs.Prelude.{◌≡◌, ℕ, IfOk};
 ghost use Rattle.page_properties.specs.OffsetMap.{offset_at, AreOffsets};
-ghost use Rattle.page_layers.specs.Effects.{value_of};
+ghost use Rattle.page_layers.specs.Effects.{main_point};
 ghost use Rattle.page_layers.specs.Scrolls.{or_origin};
 ghost use Rattle.page_properties.specs.Entries.{find};
 
@@ -28,7 +28,7 @@ fn offsets_of(alloc: Global, values: &[(u32, Point)]) -> Result<Offsets, AllocEr
 /// The main scroll values of a tree as offsets: each scroller's own, and (0, 0) for what is no scroller
 /// of the tree. An error is want of memory.
 pub fn main_offsets(alloc: Global, tree: &LayerTree) -> Result<Offsets, AllocError>
-    ensures values { IfOk result (λ offsets. (id : ℕ) → offset_at offsets id ≡ value_of tree.now id) }
+    ensures values { IfOk result (λ offsets. (id : ℕ) → offset_at offsets id ≡ main_point tree.now id) }
     ensures in_range { IfOk result (λ offsets. AreOffsets (offset_at offsets)) }
 {
     tree.is_page();

@@ -11,7 +11,7 @@ use Rattle.page_properties.specs.Families.{MayJoin, IsFamily}
 use Rattle.page_properties.specs.Laws.{FollowTheParent}
 use Rattle.page_properties.specs.Nesting.{lies_in}
 use Rattle.page_properties.specs.OffsetMap.{origin}
-use Rattle.page_properties.specs.Placement.{plus, own, translation, both, placed_rect, clip_of, draws}
+use Rattle.page_properties.specs.Placement.{plus, own_translation, translation, both, placed_rect, clip_of, draws}
 use Rattle.page_properties.specs.Trees.{IsTransform, IsClip, IsEffect}
 
 some_is : {A : Type 0} (x y : A) → Some x ≡ Some y → x ≡ y
@@ -83,13 +83,13 @@ module _ {N : Type 0} (parent : N → ℕ) (fits : N → Type 0) where
 
 -- the laws of placement
 translation_law : (offset : ℕ → Point) (nodes : List (ℕ × TransformNode)) → IsFamily (λ (n : TransformNode). n.parent) IsTransform nodes → (id : ℕ) (n : TransformNode)
-    → find id nodes ≡ Some n → translation offset nodes id ≡ plus (translation offset nodes n.parent) (own offset n)
+    → find id nodes ≡ Some n → translation offset nodes id ≡ plus (translation offset nodes n.parent) (own_translation offset n)
 unfolding translation
-translation_law offset nodes j id n h = gathered_law (λ (m : TransformNode). m.parent) IsTransform origin (λ e above. plus above (own offset e.1)) nodes j id n h
+translation_law offset nodes j id n h = gathered_law (λ (m : TransformNode). m.parent) IsTransform origin (λ e above. plus above (own_translation offset e.1)) nodes j id n h
 
 translation_root : (offset : ℕ → Point) (nodes : List (ℕ × TransformNode)) → IsFamily (λ (n : TransformNode). n.parent) IsTransform nodes → translation offset nodes 0 ≡ origin
 unfolding translation
-translation_root offset nodes j = gathered_root (λ (m : TransformNode). m.parent) IsTransform origin (λ e above. plus above (own offset e.1)) nodes j
+translation_root offset nodes j = gathered_root (λ (m : TransformNode). m.parent) IsTransform origin (λ e above. plus above (own_translation offset e.1)) nodes j
 
 clip_law : (offset : ℕ → Point) (transforms : List (ℕ × TransformNode)) (nodes : List (ℕ × ClipNode)) → IsFamily (λ (n : ClipNode). n.parent) IsClip nodes → (id : ℕ) (n : ClipNode)
     → find id nodes ≡ Some n → clip_of offset transforms nodes id ≡ both (clip_of offset transforms nodes n.parent) (Some (placed_rect offset transforms n))

@@ -5,14 +5,14 @@ use Rattle.std.specs.Int.{int_max, int_min}
 use Rattle.geom.specs.declared.rect.Rect.{Rect}
 use Rattle.geom.specs.declared.span.Span.{Span}
 use Rattle.geom.specs.Covers.{within, covers}
-use Rattle.geom.specs.Common.{common, common_span, rect_of_spans, nothing}
+use Rattle.geom.specs.Common.{common, common_span, rect_of_spans, empty_rect}
 use Rattle.geom.proofs.Spans.{inside, is_within_of, first_holds, within_none, common_points}
 use Rattle.geom.proofs.Spans as spans
 use Rattle.page_properties.specs.Placement.{both}
 
 -- a rect that has a point, or the one that stands for all that have none
 abbrev pub IsNormal : Rect → Type 0
-IsNormal r = (r ≡ nothing) ⊎ ((pos 0 <ℤ r.w) × (pos 0 <ℤ r.h))
+IsNormal r = (r ≡ empty_rect) ⊎ ((pos 0 <ℤ r.w) × (pos 0 <ℤ r.h))
 
 abbrev pub IsLong : Option Span → Type 0
 IsLong None = Unit {0}
@@ -50,7 +50,7 @@ corners : (r : Rect) → pos 0 <ℤ r.w → pos 0 <ℤ r.h
 corners r w h =
     (spans.both_of _ _ (first_holds r.x r.w w) (first_holds r.y r.h h), spans.both_of _ _ (last_holds r.x r.w w) (last_holds r.y r.h h))
 
-covers_nothing : (x y : ℤ) → covers nothing x y ≡ false
+covers_nothing : (x y : ℤ) → covers empty_rect x y ≡ false
 covers_nothing x y = rw (within_none x) refl
 
 -- normal rects that cover the same points are the same

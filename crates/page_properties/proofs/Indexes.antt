@@ -8,7 +8,7 @@ use Rattle.std.specs.List.{prefix_len, insert}
 use Rattle.std.specs.List.Sorted.{IsPartitionedBy, IsPartitionPoint}
 use Rattle.page_properties.specs.declared.index.IndexEntry.{IndexEntry}
 use Rattle.page_properties.specs.inner.Index.{put, index_of, place_of, listed_place, front, AreAbove, AreRising, IsIndex, IsEntryOf}
-use Rattle.page_properties.specs.Entries.{ids, find, knows, changed, AreDistinct}
+use Rattle.page_properties.specs.Entries.{ids, find, knows, with_node_changed, AreDistinctIds}
 
 above_at : (id : ℕ) (entries : List IndexEntry) (k : ℕ) (d : IndexEntry) → AreAbove id entries → k < length entries → id < (get_or entries k d).id
 above_at id [] k d a h = absurd (omega arith)
@@ -176,7 +176,7 @@ none_of None h = refl
 none_of (Some x) h = cc
 
 -- the index of distinct ids rises
-pub rising_index : {N : Type 0} (nodes : List (ℕ × N)) → AreDistinct nodes → AreRising (index_of (ids nodes))
+pub rising_index : {N : Type 0} (nodes : List (ℕ × N)) → AreDistinctIds nodes → AreRising (index_of (ids nodes))
 rising_index [] d = tt
 rising_index (e ∷ older) d =
     rising_put _ (index_of (ids older)) (rising_index older d.1)
@@ -234,8 +234,8 @@ unknown_place id nodes h = none_of (find id nodes) (sym (known_place id nodes) �
 -- another node at the place of an id
 changed_by : {N : Type 0} (id : ℕ) (n : N) (e : ℕ × N) (older : List (ℕ × N)) (p : ℕ) (t : Bool) → e.0 == id ≡ t
     → cond t (Some (length (ids older))) (place_of id (ids older)) ≡ Some p
-    → (place_of id (ids older) ≡ Some p → reverse (set (reverse older) p (id, n)) ≡ changed id (λ _. n) older)
-    → reverse (set (reverse older ++ e ∷ []) p (id, n)) ≡ cond t ((e.0, n) ∷ older) (e ∷ changed id (λ _. n) older)
+    → (place_of id (ids older) ≡ Some p → reverse (set (reverse older) p (id, n)) ≡ with_node_changed id (λ _. n) older)
+    → reverse (set (reverse older ++ e ∷ []) p (id, n)) ≡ cond t ((e.0, n) ∷ older) (e ∷ with_node_changed id (λ _. n) older)
 changed_by id n e older p true h k f =
     let l : length (ids older) ≡ length (reverse older) = length-map older (λ g. g.0) ∙ sym (length-reverse older) in
     let q : p ≡ length (reverse older) = cc in
@@ -248,31 +248,31 @@ changed_by id n e older p false h k f =
     (ap (λ l. e ∷ l) (f k))
 
 pub set_changed : {N : Type 0} (id : ℕ) (n : N) (nodes : List (ℕ × N)) (p : ℕ) → place_of id (ids nodes) ≡ Some p
-    → reverse (set (reverse nodes) p (id, n)) ≡ changed id (λ _. n) nodes
+    → reverse (set (reverse nodes) p (id, n)) ≡ with_node_changed id (λ _. n) nodes
 set_changed id n [] p h = cc
 set_changed id n (e ∷ older) p h =
     rw (reverse-append (e ∷ []) older) (changed_by id n e older p (e.0 == id) refl h (λ k. set_changed id n older p k))
 
 -- a change keeps the ids
-ids_by : {N : Type 0} (id : ℕ) (f : N → N) (e : ℕ × N) (older : List (ℕ × N)) (t : Bool) → ids (changed id f older) ≡ ids older
-    → ids (cond t ((e.0, f e.1) ∷ older) (e ∷ changed id f older)) ≡ e.0 ∷ ids older
+ids_by : {N : Type 0} (id : ℕ) (f : N → N) (e : ℕ × N) (older : List (ℕ × N)) (t : Bool) → ids (with_node_changed id f older) ≡ ids older
+    → ids (cond t ((e.0, f e.1) ∷ older) (e ∷ with_node_changed id f older)) ≡ e.0 ∷ ids older
 ids_by id f e older true h = refl
 ids_by id f e older false h = ap (λ l. e.0 ∷ l) h
 
-pub ids_changed : {N : Type 0} (id : ℕ) (f : N → N) (nodes : List (ℕ × N)) → ids (changed id f nodes) ≡ ids nodes
+pub ids_changed : {N : Type 0} (id : ℕ) (f : N → N) (nodes : List (ℕ × N)) → ids (with_node_changed id f nodes) ≡ ids nodes
 ids_changed id f [] = refl
 ids_changed id f (e ∷ older) = ids_by id f e older (e.0 == id) (ids_changed id f older)
 
-pub knows_changed : {N : Type 0} (id : ℕ) (f : N → N) (nodes : List (ℕ × N)) (k : ℕ) → knows k (changed id f nodes) ≡ knows k nodes
+pub knows_changed : {N : Type 0} (id : ℕ) (f : N → N) (nodes : List (ℕ × N)) (k : ℕ) → knows k (with_node_changed id f nodes) ≡ knows k nodes
 knows_changed id f nodes k =
-    sym (known_place k (changed id f nodes)) ∙ (ap (λ l. is_some (place_of k l)) (ids_changed id f nodes) ∙ known_place k nodes)
+    sym (known_place k (with_node_changed id f nodes)) ∙ (ap (λ l. is_some (place_of k l)) (ids_changed id f nodes) ∙ known_place k nodes)
 
-distinct_by : {N : Type 0} (id : ℕ) (f : N → N) (e : ℕ × N) (older : List (ℕ × N)) (t : Bool) → AreDistinct (e ∷ older) → AreDistinct (changed id f older)
-    → AreDistinct (cond t ((e.0, f e.1) ∷ older) (e ∷ changed id f older))
+distinct_by : {N : Type 0} (id : ℕ) (f : N → N) (e : ℕ × N) (older : List (ℕ × N)) (t : Bool) → AreDistinctIds (e ∷ older) → AreDistinctIds (with_node_changed id f older)
+    → AreDistinctIds (cond t ((e.0, f e.1) ∷ older) (e ∷ with_node_changed id f older))
 distinct_by id f e older true d h = d
 distinct_by id f e older false d h = (knows_changed id f older e.0 ∙ d.0, h)
 
-pub distinct_changed : {N : Type 0} (id : ℕ) (f : N → N) (nodes : List (ℕ × N)) → AreDistinct nodes → AreDistinct (changed id f nodes)
+pub distinct_changed : {N : Type 0} (id : ℕ) (f : N → N) (nodes : List (ℕ × N)) → AreDistinctIds nodes → AreDistinctIds (with_node_changed id f nodes)
 distinct_changed id f [] d = tt
 distinct_changed id f (e ∷ older) d = distinct_by id f e older (e.0 == id) d (distinct_changed id f older d.1)
 
@@ -307,16 +307,16 @@ unknown_entry id items entries i h = unknown_place id (reverse items) (sym (entr
 
 -- another node under an id
 pub set_entry : {N : Type 0} (id : ℕ) (n : N) (items : List (ℕ × N)) (entries : List IndexEntry) (p : ℕ) → IsIndex (ids (reverse items)) entries → listed_place id entries ≡ Some p
-    → reverse (set items p (id, n)) ≡ changed id (λ _. n) (reverse items)
+    → reverse (set items p (id, n)) ≡ with_node_changed id (λ _. n) (reverse items)
 set_entry id n items entries p i h =
     ap (λ l. reverse (set l p (id, n))) (sym (reverse-reverse items))
     ∙ set_changed id n (reverse items) p (sym (entry_index id (ids (reverse items))) ∙ (ap (listed_place id) (sym i.all) ∙ h))
 
 -- one more node
 pub added : {N : Type 0} (id : ℕ) (n : N) (items : List (ℕ × N)) (entries : List IndexEntry) (items' : List (ℕ × N)) (entries' : List IndexEntry)
-    → AreDistinct (reverse items) → IsIndex (ids (reverse items)) entries → knows id (reverse items) ≡ false
+    → AreDistinctIds (reverse items) → IsIndex (ids (reverse items)) entries → knows id (reverse items) ≡ false
     → items' ≡ items ++ (id, n) ∷ [] → entries' ≡ insert entries (front id entries) (record { id = id; place = length items })
-    → AreDistinct (reverse items') × IsIndex (ids (reverse items')) entries'
+    → AreDistinctIds (reverse items') × IsIndex (ids (reverse items')) entries'
 added id n items entries items' entries' d i fresh e f =
     let r : reverse items' ≡ (id, n) ∷ reverse items = ap reverse e ∙ reverse-append items ((id, n) ∷ []) in
     let l : length (ids (reverse items)) ≡ length items = length-map (reverse items) (λ g. g.0) ∙ length-reverse items in

@@ -13,7 +13,7 @@ use Rattle.page_properties.specs.declared.nodes.ClipNode.{ClipNode}
 use Rattle.page_properties.specs.declared.nodes.EffectNode.{EffectNode}
 use Rattle.page_properties.specs.Families.{MayJoin}
 use Rattle.page_properties.specs.OffsetMap.{origin, IsOffset}
-use Rattle.page_properties.specs.Placement.{plus, minus, own, scrolled, translation, both, clip_of, draws, IsWithin}
+use Rattle.page_properties.specs.Placement.{plus, minus, own_translation, scrolled, translation, both, clip_of, draws, IsWithin}
 use Rattle.page_properties.specs.Trees.{AreClips, AreTransforms, IsClip, IsClipRect, IsTransform}
 use Rattle.page_properties.proofs.Families.{family_few}
 use Rattle.page_properties.proofs.Clips.{both_assoc}
@@ -70,7 +70,7 @@ module _ (offset : ℕ → Point) (nodes : List (ℕ × TransformNode)) (start :
     joined = subst AreTransforms (newest rest older last split) w.family
 
     -- a node of the chain adds its own translation
-    translated : (last.0 == id) ≡ true → translation offset (reverse rest) id ≡ plus (translation offset (reverse older) last.1.parent) (own offset last.1)
+    translated : (last.0 == id) ≡ true → translation offset (reverse rest) id ≡ plus (translation offset (reverse older) last.1.parent) (own_translation offset last.1)
     unfolding translation
     translated h = ap (λ (l : List (ℕ × TransformNode)). translation offset l id) (newest rest older last split) ∙ rw h refl
 

@@ -27,14 +27,14 @@ abbrev pub is_known : {N : Type 0} → ℕ → List (ℕ × N) → Bool
 is_known id nodes = (id == 0) || knows id nodes
 
 -- the node of one id changed, all others as they were
-abbrev pub changed : {N : Type 0} → ℕ → (N → N) → List (ℕ × N) → List (ℕ × N)
-changed id f [] = []
-changed id f (e ∷ older) = cond (e.0 == id) ((e.0, f e.1) ∷ older) (e ∷ changed id f older)
+abbrev pub with_node_changed : {N : Type 0} → ℕ → (N → N) → List (ℕ × N) → List (ℕ × N)
+with_node_changed id f [] = []
+with_node_changed id f (e ∷ older) = cond (e.0 == id) ((e.0, f e.1) ∷ older) (e ∷ with_node_changed id f older)
 
 -- no id stands twice
-abbrev pub AreDistinct : {N : Type 0} → List (ℕ × N) → Type 0
-AreDistinct [] = Unit {0}
-AreDistinct (e ∷ older) = (knows e.0 older ≡ false) × AreDistinct older
+abbrev pub AreDistinctIds : {N : Type 0} → List (ℕ × N) → Type 0
+AreDistinctIds [] = Unit {0}
+AreDistinctIds (e ∷ older) = (knows e.0 older ≡ false) × AreDistinctIds older
 
 -- what is gathered along the chain of a node, from the root down: `root` above all nodes, and `step` at each node of the chain
 abbrev pub gathered : {N A : Type 0} → (N → ℕ) → A → (ℕ × N → A → A) → List (ℕ × N) → ℕ → A

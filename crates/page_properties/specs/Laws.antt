@@ -7,14 +7,14 @@ use Rattle.page_properties.specs.declared.nodes.EffectNode.{EffectNode}
 use Rattle.page_properties.specs.Entries.{find}
 use Rattle.page_properties.specs.Nesting.{lies_in}
 use Rattle.page_properties.specs.OffsetMap.{origin}
-use Rattle.page_properties.specs.Placement.{plus, own, translation, both, placed_rect, clip_of, draws}
+use Rattle.page_properties.specs.Placement.{plus, own_translation, translation, both, placed_rect, clip_of, draws}
 use Rattle.page_properties.specs.Trees.{Trees, IsTrees}
 
 -- in all property trees, at all offsets
 pub record FollowTheParent : Type 0 where
   pub root_translation : (offset : ℕ → Point) (t : Trees) → IsTrees t → translation offset t.transforms 0 ≡ origin
   pub translation_of : (offset : ℕ → Point) (t : Trees) → IsTrees t → (id : ℕ) (n : TransformNode) → find id t.transforms ≡ Some n
-      → translation offset t.transforms id ≡ plus (translation offset t.transforms n.parent) (own offset n)
+      → translation offset t.transforms id ≡ plus (translation offset t.transforms n.parent) (own_translation offset n)
   pub root_clip : (offset : ℕ → Point) (t : Trees) → IsTrees t → clip_of offset t.transforms t.clips 0 ≡ None
   pub clip : (offset : ℕ → Point) (t : Trees) → IsTrees t → (id : ℕ) (n : ClipNode) → find id t.clips ≡ Some n
       → clip_of offset t.transforms t.clips id ≡ both (clip_of offset t.transforms t.clips n.parent) (Some (placed_rect offset t.transforms n))

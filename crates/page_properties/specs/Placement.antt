@@ -21,12 +21,12 @@ abbrev pub scrolled : (ℕ → Point) → ℕ → Point
 scrolled offset scroller = cond (scroller == 0) origin (offset scroller)
 
 -- a node's own translation: its place, minus the offset of the scroller that it names
-abbrev pub own : (ℕ → Point) → TransformNode → Point
-own offset n = minus (record { x = n.x; y = n.y }) (scrolled offset n.scroller)
+abbrev pub own_translation : (ℕ → Point) → TransformNode → Point
+own_translation offset n = minus (record { x = n.x; y = n.y }) (scrolled offset n.scroller)
 
 -- the translation of a transform: its parent's plus its own. The root's is the origin
 unfoldable pub translation : (ℕ → Point) → List (ℕ × TransformNode) → ℕ → Point
-translation offset nodes id = gathered (λ n. n.parent) origin (λ e above. plus above (own offset e.1)) nodes id
+translation offset nodes id = gathered (λ n. n.parent) origin (λ e above. plus above (own_translation offset e.1)) nodes id
 
 -- at most this far from the origin on both axes
 pub record IsWithin (most : ℕ) (p : Point) : Type 0 where

@@ -15,7 +15,7 @@ pub record Trees : Type 0 where
   pub scrollers : List (ℕ × ScrollNode)
 
 -- a place of a node, at most 65536 from the origin of its parent
-pub record IsNear (z : ℤ) : Type 0 where
+pub record IsNearParent (z : ℤ) : Type 0 where
   pub low : neg_ℤ (pos (2 ^ 16)) ≤ℤ z
   pub high : z ≤ℤ pos (2 ^ 16)
 
@@ -26,12 +26,12 @@ pub record IsExtent (z : ℤ) : Type 0 where
 
 -- the ranges of the nodes' values
 pub record IsTransform (n : TransformNode) : Type 0 where
-  pub across : IsNear n.x
-  pub down : IsNear n.y
+  pub across : IsNearParent n.x
+  pub down : IsNearParent n.y
 
 pub record IsClipRect (r : Rect) : Type 0 where
-  pub across : IsNear r.x
-  pub down : IsNear r.y
+  pub across : IsNearParent r.x
+  pub down : IsNearParent r.y
   pub width : IsExtent r.w
   pub height : IsExtent r.h
 

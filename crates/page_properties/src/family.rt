@@ -2,7 +2,7 @@
 
 ghost use Rattle.std.specs.Prelude.{◌≡◌, ℕ, Bool, true, false, ◌∷◌, [], List, length, if◌then◌else◌, is_ok, IfOk, MatchOption, IsTrue, reverse, slice_get};
 ghost use Rattle.std.specs.Option.{option_copied};
-ghost use Rattle.page_properties.specs.Entries.{changed, find, ids, knows, rising};
+ghost use Rattle.page_properties.specs.Entries.{with_node_changed, find, ids, knows, rising};
 ghost use Rattle.page_properties.specs.inner.Index.{IsEntryOf};
 
 use crate::index::{IndexEntry, count_below, place_in};
@@ -18,14 +18,14 @@ pub struct Family<N> {
 
 impl<N> Model for Family<N> {
     ghost use Rattle.std.specs.Prelude.{◌≡◌, ℕ, List, reverse};
-    ghost use Rattle.page_properties.specs.Entries.{ids, AreDistinct};
+    ghost use Rattle.page_properties.specs.Entries.{ids, AreDistinctIds};
     ghost use Rattle.page_properties.specs.inner.Index.{IsIndex};
 
     ghost Value = { List (ℕ × N) };
 
     ghost view = { λ f. reverse f.nodes.items };
 
-    ghost invariant = { λ f. AreDistinct (reverse f.nodes.items) × IsIndex (ids (reverse f.nodes.items)) f.entries.items };
+    ghost invariant = { λ f. AreDistinctIds (reverse f.nodes.items) × IsIndex (ids (reverse f.nodes.items)) f.entries.items };
 }
 
 impl<N: Copy> Family<N> {
@@ -76,7 +76,7 @@ impl<N: Copy> Family<N> {
     /// Puts another node under an id that the family has.
     pub fn set(&mut self, id: u32, node: &N)
         requires { IsTrue (knows id self.old) }
-        ensures { self.new ≡ changed id (λ _. node.now) self.old }
+        ensures { self.new ≡ with_node_changed id (λ _. node.now) self.old }
     {
         if let Some(place) = place_in(&self.entries, id) {
             self.nodes[place] = (id, *node);

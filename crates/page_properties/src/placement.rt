@@ -8,7 +8,7 @@ ghost use Rattle.geom.specs.Covers.{IsSound};
 ghost use Rattle.geom.specs.Gaps.{shifted};
 ghost use Rattle.page_properties.specs.Entries.{knows};
 ghost use Rattle.page_properties.specs.OffsetMap.{offset_at, AreOffsets, IsOffset};
-ghost use Rattle.page_properties.specs.Placement.{both, clip_of, draws, own, plus, scrolled, translation, IsWithin};
+ghost use Rattle.page_properties.specs.Placement.{both, clip_of, draws, own_translation, plus, scrolled, translation, IsWithin};
 ghost use Rattle.page_properties.specs.Trees.{AreClips, AreTransforms, IsClip, IsTransform};
 ghost use mir.Syntax.{w32};
 

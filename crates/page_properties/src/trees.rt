@@ -2,12 +2,12 @@
 
 ghost use Rattle.std.specs.Prelude.{◌≡◌, ◌∷◌, ℕ, ℤ, [], if◌then◌else◌, is_ok, IsTrue, IfOk, IfSome, IsSome, ◌↔◌, ◌*◌, length, slice_get, ◌≤◌, ◌^◌};
 ghost use Rattle.std.specs.Option.{option_copied};
-ghost use Rattle.page_properties.specs.Entries.{changed, find, ids, is_known, knows, rising};
+ghost use Rattle.page_properties.specs.Entries.{with_node_changed, find, ids, is_known, knows, rising};
 ghost use Rattle.geom.specs.Covers.{IsSound};
 ghost use Rattle.page_properties.specs.Nesting.{AreNested};
 ghost use Rattle.page_properties.specs.OffsetMap.{offset_at, AreOffsets};
 ghost use Rattle.page_properties.specs.Placement.{clip_of, draws, translation, IsWithin};
-ghost use Rattle.page_properties.specs.Trees.{IsTrees, MayJoinTransforms, MayJoinClips, MayJoinEffects, MayJoinScrollers, IsNear, IsClipRect};
+ghost use Rattle.page_properties.specs.Trees.{IsTrees, MayJoinTransforms, MayJoinClips, MayJoinEffects, MayJoinScrollers, IsNearParent, IsClipRect};
 
 use crate::family::Family;
 use crate::nesting::nested_in;
@@ -153,9 +153,9 @@ impl PropertyTrees {
     /// Moves a transform to another place, relative to its parent.
     pub fn set_transform(&mut self, id: u32, x: i32, y: i32)
         requires known { IsTrue (knows id self.old.transforms) }
-        requires across { IsNear x }
-        requires down { IsNear y }
-        ensures { self.new ≡ record self.old { transforms = changed id (λ n. record n { x = x; y = y }) self.old.transforms } }
+        requires across { IsNearParent x }
+        requires down { IsNearParent y }
+        ensures { self.new ≡ record self.old { transforms = with_node_changed id (λ n. record n { x = x; y = y }) self.old.transforms } }
     {
         if let Some(node) = self.transforms.get(id) {
             let node = node.moved(x, y);
@@ -167,7 +167,7 @@ impl PropertyTrees {
     pub fn set_clip(&mut self, id: u32, rect: Rect)
         requires known { IsTrue (knows id self.old.clips) }
         requires in_range { IsClipRect rect }
-        ensures { self.new ≡ record self.old { clips = changed id (λ n. record n { rect = rect }) self.old.clips } }
+        ensures { self.new ≡ record self.old { clips = with_node_changed id (λ n. record n { rect = rect }) self.old.clips } }
     {
         if let Some(node) = self.clips.get(id) {
             let node = node.with_rect(rect);
@@ -178,7 +178,7 @@ impl PropertyTrees {
     /// Gives an effect another opacity.
     pub fn set_opacity(&mut self, id: u32, opacity: u8)
         requires { IsTrue (knows id self.old.effects) }
-        ensures { self.new ≡ record self.old { effects = changed id (λ n. record n { opacity = opacity }) self.old.effects } }
+        ensures { self.new ≡ record self.old { effects = with_node_changed id (λ n. record n { opacity = opacity }) self.old.effects } }
     {
         if let Some(node) = self.effects.get(id) {
             let node = node.with_opacity(opacity);
@@ -191,7 +191,7 @@ impl PropertyTrees {
         requires known { IsTrue (knows id self.old.scrollers) }
         requires across { max_x ≤ 2 ^ 20 }
         requires down { max_y ≤ 2 ^ 20 }
-        ensures { self.new ≡ record self.old { scrollers = changed id (λ n. record n { max_x = max_x; max_y = max_y }) self.old.scrollers } }
+        ensures { self.new ≡ record self.old { scrollers = with_node_changed id (λ n. record n { max_x = max_x; max_y = max_y }) self.old.scrollers } }
     {
         if let Some(node) = self.scrollers.get(id) {
             let node = node.with_range(max_x, max_y);

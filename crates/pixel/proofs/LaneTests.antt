@@ -6,7 +6,7 @@ use Rattle.std.proofs.lemmas.List.{length-map}
 use Rattle.std.proofs.lemmas.Simd.{length-zip2, mask_l-mod, get_or-chunk}
 use lib.Lanes.{zip2, sel_l, mask_l, top, chunk}
 use Rattle.pixel.specs.Colours.{Parts, above}
-use Rattle.pixel.specs.Rows.{alpha_place, part_of, AreOpaque, AreClear}
+use Rattle.pixel.specs.Rows.{alpha_place, component_of, AreOpaque, AreClear}
 use Rattle.pixel.specs.LaneBytes.{IsBytes}
 use Rattle.pixel.proofs.LaneWise.{repeated, four_pixels}
 
@@ -149,7 +149,7 @@ opaque_lanes : (v : List ℕ) → IsBytes v → AreLeast v (repeated 4 black) �
 opaque_lanes v b = (
   λ h i from lt.
       let place : alpha_place i % 4 ≡ 3 = omega arith in
-      let there = four_pixels black black (alpha_place i) refl refl refl refl (omega arith) ∙ ap (part_of black) place in
+      let there = four_pixels black black (alpha_place i) refl refl refl refl (omega arith) ∙ ap (component_of black) place in
       let least = h (alpha_place i) (omega (arith, b.count)) in
       let most = b.bytes (alpha_place i) (omega arith) in
       omega arith,
@@ -160,7 +160,7 @@ opaque_lanes v b = (
       part_least v i there here,
 )
   where
-    part_least : (v : List ℕ) (i : ℕ) → slice_index (repeated 4 black) i ≡ part_of black (i % 4) → slice_index v (alpha_place i) ≡ 255
+    part_least : (v : List ℕ) (i : ℕ) → slice_index (repeated 4 black) i ≡ component_of black (i % 4) → slice_index v (alpha_place i) ≡ 255
         → slice_index (repeated 4 black) i ≤ slice_index v i
     part_least v i there here = part_by (eqb (i % 4) 3) refl
       where
@@ -169,11 +169,11 @@ opaque_lanes v b = (
             let last : i % 4 ≡ 3 = eqb-true _ _ e in
             let place : alpha_place i ≡ i = omega arith in
             let value = sym (ap (slice_index v) place) ∙ here in
-            let black_here = there ∙ ap (part_of black) last in
+            let black_here = there ∙ ap (component_of black) last in
             omega arith
         part_by false e =
             let other = eqb-false _ _ e in
-            let none : part_of black (i % 4) ≡ 0 = grind (arith, nat_tests) in
+            let none : component_of black (i % 4) ≡ 0 = grind (arith, nat_tests) in
             omega (arith, there ∙ none)
 
 pub opaque_of_mask : (v : List ℕ) → IsBytes v → (eqb (mask_l (map (top 7) (zip2 below_mask v (repeated 4 black))) % 2 ^ 64) 0 ≡ true) ↔ AreOpaque 0 16 v

@@ -9,7 +9,7 @@ use mir.Val.{Fits}
 use Rattle.std.proofs.lemmas.List.{get_or-map}
 use Rattle.std.proofs.lemmas.Grind.{and_numeral}
 use Rattle.pixel.specs.Colours.{Parts, times_255, above}
-use Rattle.pixel.specs.Rows.{alpha_place, ArePremultiplied, IsLaid, IsFaded, IsFilled, part_of, AreOpaque}
+use Rattle.pixel.specs.Rows.{alpha_place, ArePremultiplied, IsLaid, IsFaded, IsFilled, component_of, AreOpaque}
 use Rattle.pixel.proofs.Fills.{same_parts}
 use Rattle.pixel.specs.LaneBytes.{IsBytes, AreParts}
 
@@ -306,7 +306,7 @@ faded_lanes old new at opacity fit count lanes = record {
 
 -- sixteen bytes of a row hold one colour in each pixel
 pub filled_lanes : (c : Parts) (old new : List ℕ) (at : ℕ) → at + 16 ≤ length old → at % 4 ≡ 0 → length new ≡ 16
-    → ((i : ℕ) → i < 16 → slice_index new i ≡ part_of c (i % 4))
+    → ((i : ℕ) → i < 16 → slice_index new i ≡ component_of c (i % 4))
     → IsFilled at 16 c old (put_chunk at old new)
 filled_lanes c old new at fit whole count lanes = record {
   inside = λ i from to.
@@ -317,7 +317,7 @@ filled_lanes c old new at fit whole count lanes = record {
       sym (ap (slice_index (put_chunk at old new)) place)
       ∙ get_or-put_chunk_at at old new j 0 (omega arith) (omega arith)
       ∙ lanes j lt
-      ∙ ap (part_of c) same;
+      ∙ ap (component_of c) same;
   before = λ i lt. get_or-put_chunk_below at old new i 0 lt;
   behind = λ i le. get_or-put_chunk_above at old new i 0 (omega arith);
 }
@@ -327,7 +327,7 @@ abbrev pub repeated : ℕ → Parts → List ℕ
 repeated zero c = []
 repeated (suc n) c = c.r ∷ c.g ∷ c.b ∷ c.a ∷ repeated n c
 
-repeated_at : (n : ℕ) (c : Parts) (i : ℕ) → i < 4 * n → slice_index (repeated n c) i ≡ part_of c (i % 4)
+repeated_at : (n : ℕ) (c : Parts) (i : ℕ) → i < 4 * n → slice_index (repeated n c) i ≡ component_of c (i % 4)
 repeated_at zero c i lt = absurd (omega arith)
 repeated_at (suc n) c zero lt = refl
 repeated_at (suc n) c (suc zero) lt = refl
@@ -335,9 +335,9 @@ repeated_at (suc n) c (suc (suc zero)) lt = refl
 repeated_at (suc n) c (suc (suc (suc zero))) lt = refl
 repeated_at (suc n) c (suc (suc (suc (suc i)))) lt =
     let same : i % 4 ≡ suc (suc (suc (suc i))) % 4 = omega arith in
-    repeated_at n c i (omega arith) ∙ ap (part_of c) same
+    repeated_at n c i (omega arith) ∙ ap (component_of c) same
 
 -- four pixels of one colour
 pub four_pixels : (c d : Parts) (i : ℕ) → d.r ≡ c.r → d.g ≡ c.g → d.b ≡ c.b → d.a ≡ c.a → i < 16
-    → slice_index (repeated 4 d) i ≡ part_of c (i % 4)
-four_pixels c d i r g b a lt = repeated_at 4 d i lt ∙ ap (λ (e : Parts). part_of e (i % 4)) (same_parts d c r g b a)
+    → slice_index (repeated 4 d) i ≡ component_of c (i % 4)
+four_pixels c d i r g b a lt = repeated_at 4 d i lt ∙ ap (λ (e : Parts). component_of e (i % 4)) (same_parts d c r g b a)

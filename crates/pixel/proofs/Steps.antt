@@ -5,7 +5,7 @@ use Rattle.std.proofs.lemmas.Bool.{cases_order, cases_lt}
 use Rattle.std.proofs.lemmas.Bool.Decides.{nat_tests}
 use Rattle.pixel.specs.Colours.{Parts}
 use Rattle.pixel.specs.Rows.{pixel}
-use Rattle.pixel.specs.Surfaces.{IsPart, IsInside, EachPixel, within, in_rows}
+use Rattle.pixel.specs.Surfaces.{IsPart, IsInside, EachPixel, within_rows, in_rows}
 use Rattle.pixel.specs.declared.surface.Area.{Area}
 
 -- a row that is not of the area has the same pixels in one row more
@@ -26,12 +26,12 @@ now_in at r j lt = grind (arith, nat_tests)
 
 -- a pixel that the next row's part does not hold
 elsewhere : (w h : ℕ) (at : Area) (r : ℕ) (g : ℕ → ℕ → Parts → Parts) (start old new : List ℕ)
-    → EachPixel w h (within at r g) start old
+    → EachPixel w h (within_rows at r g) start old
     → IsPart ((at.y + r) * w + at.x) at.w (λ j. g (at.x + j) (at.y + r)) old new
     → (x y : ℕ) → x < w → y < h
     → (y * w + x < (at.y + r) * w + at.x) ⊎ ((at.y + r) * w + at.x + at.w ≤ y * w + x)
     → in_rows at (r + 1) x y ≡ in_rows at r x y
-    → pixel new (y * w + x) ≡ within at (r + 1) g x y (pixel start (y * w + x))
+    → pixel new (y * w + x) ≡ within_rows at (r + 1) g x y (pixel start (y * w + x))
 elsewhere w h at r g start old new each part x y xw yh away same =
     let kept : pixel new (y * w + x) ≡ pixel old (y * w + x) =
     elim away [ inl less ↦ part.before (y * w + x) less | inr more ↦ part.behind (y * w + x) more ] in
@@ -53,10 +53,10 @@ beside w h at r x y xw inside (inr more) = inr (behind_row w (at.x + at.w) (at.y
 
 -- a pixel of the next row and a column of the area
 drawn : (w h : ℕ) (at : Area) (r : ℕ) (g : ℕ → ℕ → Parts → Parts) (start old new : List ℕ)
-    → EachPixel w h (within at r g) start old
+    → EachPixel w h (within_rows at r g) start old
     → IsPart ((at.y + r) * w + at.x) at.w (λ j. g (at.x + j) (at.y + r)) old new
     → (j : ℕ) → j < at.w → at.x + j < w → at.y + r < h
-    → pixel new ((at.y + r) * w + (at.x + j)) ≡ within at (r + 1) g (at.x + j) (at.y + r) (pixel start ((at.y + r) * w + (at.x + j)))
+    → pixel new ((at.y + r) * w + (at.x + j)) ≡ within_rows at (r + 1) g (at.x + j) (at.y + r) (pixel start ((at.y + r) * w + (at.x + j)))
 drawn w h at r g start old new each part j jw xw yh =
     let P : ℕ → Type 0 = λ k. pixel new k ≡ g (at.x + j) (at.y + r) (pixel old k) in
     let place : (at.y + r) * w + at.x + j ≡ (at.y + r) * w + (at.x + j) = omega arith in
@@ -69,12 +69,12 @@ drawn w h at r g start old new each part j jw xw yh =
 -- a pixel of the next row
 in_row : (w h : ℕ) (at : Area) (r : ℕ) (g : ℕ → ℕ → Parts → Parts) (start old new : List ℕ)
     → IsInside at w h → r < at.h
-    → EachPixel w h (within at r g) start old
+    → EachPixel w h (within_rows at r g) start old
     → IsPart ((at.y + r) * w + at.x) at.w (λ j. g (at.x + j) (at.y + r)) old new
     → (x y : ℕ) → x < w → y < h → y ≡ at.y + r
-    → pixel new (y * w + x) ≡ within at (r + 1) g x y (pixel start (y * w + x))
+    → pixel new (y * w + x) ≡ within_rows at (r + 1) g x y (pixel start (y * w + x))
 in_row w h at r g start old new inside lt each part x y xw yh same =
-    let Goal : ℕ → ℕ → Type 0 = λ x y. pixel new (y * w + x) ≡ within at (r + 1) g x y (pixel start (y * w + x)) in
+    let Goal : ℕ → ℕ → Type 0 = λ x y. pixel new (y * w + x) ≡ within_rows at (r + 1) g x y (pixel start (y * w + x)) in
     elim (cases_lt x at.x) as (λ _. Goal x y) [
       | inl left ↦ elsewhere w h at r g start old new each part x y xw yh (inl (grind arith)) (other_column at r x y (inl left))
       | inr from ↦ elim (cases_lt x (at.x + at.w)) as (λ _. Goal x y) [
@@ -89,11 +89,11 @@ in_row w h at r g start old new inside lt each part x y xw yh same =
 -- what is drawn in the rows so far and what is drawn in the next row make what is drawn in all of them
 pub row_step : (w h : ℕ) (at : Area) (r : ℕ) (g : ℕ → ℕ → Parts → Parts) (start old new : List ℕ)
     → IsInside at w h → r < at.h
-    → EachPixel w h (within at r g) start old
+    → EachPixel w h (within_rows at r g) start old
     → IsPart ((at.y + r) * w + at.x) at.w (λ j. g (at.x + j) (at.y + r)) old new
-    → EachPixel w h (within at (r + 1) g) start new
+    → EachPixel w h (within_rows at (r + 1) g) start new
 row_step w h at r g start old new inside lt each part x y xw yh =
-    elim (cases_order y (at.y + r)) as (λ _. pixel new (y * w + x) ≡ within at (r + 1) g x y (pixel start (y * w + x))) [
+    elim (cases_order y (at.y + r)) as (λ _. pixel new (y * w + x) ≡ within_rows at (r + 1) g x y (pixel start (y * w + x))) [
       | inl same ↦ in_row w h at r g start old new inside lt each part x y xw yh same
       | inr other ↦ elsewhere w h at r g start old new each part x y xw yh (beside w h at r x y xw inside other) (other_row at r x y (elim other [ inl less ↦ inl less | inr more ↦ inr more ]))
     ]

@@ -20,7 +20,7 @@ abbrev pub ArePremultiplied : List ℕ → Type 0
 ArePremultiplied row = (i : ℕ) → i < length row → slice_index row i ≤ slice_index row (alpha_place i)
 
 -- pixel `k` is the first of a row that is no premultiplied colour
-pub record IsFirstWrong (row : List ℕ) (k : ℕ) : Type 0 where
+pub record IsFirstBadPixel (row : List ℕ) (k : ℕ) : Type 0 where
   pub inside : k < length row / 4
   pub wrong : is_colour (pixel row k) ≡ false
   pub before : (j : ℕ) → j < k → is_colour (pixel row j) ≡ true
@@ -33,12 +33,12 @@ pub record IsLaid (at n : ℕ) (source old new : List ℕ) : Type 0 where
   pub behind : (i : ℕ) → at + n ≤ i → slice_index new i ≡ slice_index old i
 
 -- component `j` of a colour: red, green, blue, alpha
-abbrev pub part_of : Parts → ℕ → ℕ
-part_of c j = cond (j == 0) c.r (cond (j == 1) c.g (cond (j == 2) c.b c.a))
+abbrev pub component_of : Parts → ℕ → ℕ
+component_of c j = cond (j == 0) c.r (cond (j == 1) c.g (cond (j == 2) c.b c.a))
 
 -- bytes `at` to `at + n` of a row hold one colour in each pixel, and no other changed
 pub record IsFilled (at n : ℕ) (c : Parts) (old new : List ℕ) : Type 0 where
-  pub inside : (i : ℕ) → at ≤ i → i < at + n → slice_index new i ≡ part_of c (i % 4)
+  pub inside : (i : ℕ) → at ≤ i → i < at + n → slice_index new i ≡ component_of c (i % 4)
   pub before : (i : ℕ) → i < at → slice_index new i ≡ slice_index old i
   pub behind : (i : ℕ) → at + n ≤ i → slice_index new i ≡ slice_index old i
 

@@ -30,5 +30,5 @@ EachPixel width height f old new =
     (x y : ℕ) → x < width → y < height → pixel new (y * width + x) ≡ f x y (pixel old (y * width + x))
 
 -- `g` in the first rows of an area, and nothing elsewhere
-abbrev pub within : Area → ℕ → (ℕ → ℕ → Parts → Parts) → ℕ → ℕ → Parts → Parts
-within at rows g x y below = cond (in_rows at rows x y) (g x y below) below
+abbrev pub within_rows : Area → ℕ → (ℕ → ℕ → Parts → Parts) → ℕ → ℕ → Parts → Parts
+within_rows at rows g x y below = cond (in_rows at rows x y) (g x y below) below

@@ -2,7 +2,7 @@
 
 ghost use Rattle.std.specs.Prelude.{◌≡◌, ℕ, ◌+◌, ◌-◌, ◌*◌, ◌/◌, ◌%◌, ◌<◌, ◌≤◌, ◌↔◌, IsTrue, length, slice_index};
 ghost use Rattle.pixel.specs.Colours.{above, times_255};
-ghost use Rattle.pixel.specs.Rows.{alpha_place, ArePremultiplied, IsLaid, IsFaded, IsFilled, part_of, AreOpaque, AreClear};
+ghost use Rattle.pixel.specs.Rows.{alpha_place, ArePremultiplied, IsLaid, IsFaded, IsFilled, component_of, AreOpaque, AreClear};
 ghost use Rattle.pixel.specs.LaneBytes.{IsBytes, AreParts};
 
 use crate::colour::Colour;
@@ -151,7 +151,7 @@ pub(crate) fn fade_lanes(row: &mut [u8], at: usize, opacity: u8)
 #[inline(always)]
 pub fn four_pixels(colour: Colour) -> u8x16
     ensures len { length result ≡ 16 }
-    ensures lanes { (i : ℕ) → i < 16 → slice_index result i ≡ part_of colour (i % 4) }
+    ensures lanes { (i : ℕ) → i < 16 → slice_index result i ≡ component_of colour (i % 4) }
 {
     let (r, g, b, a) = (colour.r(), colour.g(), colour.b(), colour.a());
     u8x16::from_array([r, g, b, a, r, g, b, a, r, g, b, a, r, g, b, a])

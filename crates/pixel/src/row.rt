@@ -2,7 +2,7 @@
 
 ghost use Rattle.std.specs.Prelude.{◌≡◌, ℕ, ◌+◌, ◌<◌, ◌≤◌, ◌%◌, ◌/◌, length, slice_index, MatchOption};
 ghost use Rattle.pixel.specs.Colours.{is_colour, above, times_255};
-ghost use Rattle.pixel.specs.Rows.{pixel, ArePremultiplied, IsFirstWrong, IsFilled, alpha_place};
+ghost use Rattle.pixel.specs.Rows.{pixel, ArePremultiplied, IsFirstBadPixel, IsFilled, alpha_place};
 
 use crate::blocks::{BLOCK, over_block};
 use crate::colour::Colour;
@@ -30,7 +30,7 @@ fn is_premultiplied(r: u8, g: u8, b: u8, a: u8) -> bool
 /// The first pixel of a row of whole pixels that is not premultiplied; `None` where all are.
 pub fn first_wrong(row: &[u8]) -> Option<usize>
     requires { length row.now % 4 ≡ 0 }
-    ensures { MatchOption result (ArePremultiplied row.now) (λ k. IsFirstWrong row.now k) }
+    ensures { MatchOption result (ArePremultiplied row.now) (λ k. IsFirstBadPixel row.now k) }
 {
     let count = row.len() / 4;
     for k in 0..count {

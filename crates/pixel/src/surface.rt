@@ -3,7 +3,7 @@
 ghost use Rattle.std.specs.Prelude.{◌≡◌, ℕ, ◌+◌, ◌-◌, ◌*◌, ◌<◌, ◌≤◌, ◌^◌, length};
 ghost use Rattle.pixel.specs.Colours.{Parts, blend};
 ghost use Rattle.pixel.specs.Rows.{pixel, ArePremultiplied};
-ghost use Rattle.pixel.specs.Surfaces.{IsPart, IsInside, EachPixel, within};
+ghost use Rattle.pixel.specs.Surfaces.{IsPart, IsInside, EachPixel, within_rows};
 
 use crate::colour::Colour;
 use crate::row::{fill_row, over_row};
@@ -69,7 +69,7 @@ fn image_over_part(surface: &mut [u8], k: usize, n: usize, image: &[u8], from: u
 pub fn fill_area(surface: &mut [u8], width: usize, height: usize, at: Area, colour: Colour)
     requires size { length surface.old ≡ 4 * (width * height) }
     requires inside { IsInside at width height }
-    ensures pixels { EachPixel width height (within at at.h (λ x y below. colour)) surface.old surface.new }
+    ensures pixels { EachPixel width height (within_rows at at.h (λ x y below. colour)) surface.old surface.new }
     ensures premultiplied { ArePremultiplied surface.old → ArePremultiplied surface.new }
 {
     for row in 0..at.h {
@@ -90,7 +90,7 @@ pub fn colour_over_area(
     requires size { length surface.old ≡ 4 * (width * height) }
     requires inside { IsInside at width height }
     requires room { 4 * at.w ≤ length scratch.old }
-    ensures pixels { EachPixel width height (within at at.h (λ x y below. blend below colour)) surface.old surface.new }
+    ensures pixels { EachPixel width height (within_rows at at.h (λ x y below. blend below colour)) surface.old surface.new }
     ensures premultiplied { ArePremultiplied surface.old → ArePremultiplied surface.new }
 {
     let source = &mut scratch[..4 * at.w];
@@ -122,7 +122,7 @@ pub fn image_over_area(
     requires rows { from_y + at.h ≤ image_height }
     requires premultiplied { ArePremultiplied image.now }
     ensures pixels { EachPixel width height
-        (within at at.h (λ x y below. blend below (pixel image.now ((y - at.y + from_y) * image_width + (x - at.x + from_x)))))
+        (within_rows at at.h (λ x y below. blend below (pixel image.now ((y - at.y + from_y) * image_width + (x - at.x + from_x)))))
         surface.old surface.new }
     ensures premultiplied { ArePremultiplied surface.old → ArePremultiplied surface.new }
 {

@@ -20,7 +20,7 @@ use Rattle.proxy_threads.proofs.Holds.{entries_pairs}
 use Rattle.player_run.specs.declared.beside.Ending.{Ending}
 use Rattle.player_run.specs.declared.beside.Ran.{Ran}
 use Rattle.player_run.specs.Runs.{Causes}
-use Rattle.player_run.specs.inner.Actors.{HasRun, IsRunAt, PlayEnds, settled_as}
+use Rattle.player_run.specs.inner.Actors.{HasRun, IsRunAt, PlayEnds, joint_outcome}
 
 -- a count that did not rise
 no_rise : {X : Type 0} → Rose 0 0 → X
@@ -30,7 +30,7 @@ no_rise (inr is) = absurd (omega (arith, is))
 some_is : (a b : Origin) → Some a ≡ Some b → a ≡ b
 some_is a b is = cc
 
-written_cause : (last : Turned) (over : Bool) (f g : ℕ) → Causes 0 0 f g (settled_as presented.Written (record { last = last; over = over }))
+written_cause : (last : Turned) (over : Bool) (f g : ℕ) → Causes 0 0 f g (joint_outcome presented.Written (record { last = last; over = over }))
 written_cause turned.Ended true f g = tt
 written_cause turned.Ended false f g = tt
 written_cause turned.Went over f g = tt
@@ -39,7 +39,7 @@ written_cause turned.Memory over f g = tt
 written_cause turned.WriteFault over f g = tt
 
 -- a fault has its cause
-pub told_cause : (r : Presented) (ending : Ending) (f g : ℕ) → FaultRose r f g → Causes 0 0 f g (settled_as r ending)
+pub told_cause : (r : Presented) (ending : Ending) (f g : ℕ) → FaultRose r f g → Causes 0 0 f g (joint_outcome r ending)
 told_cause presented.Fault ending f g rose = rose
 told_cause presented.Memory ending f g rose = tt
 told_cause presented.Written ending f g rose = written_cause ending.last ending.over f g
@@ -58,7 +58,7 @@ module _ (o : Origin) (run : Run) (at : IsRunAt o run) (q : Seat) (seen : q.seen
   over_is : (over : Bool) → KnowsEnd (Some q) over turned.Ended → over ≡ is_played run.entries
   over_is over knows = knows ∙ ap (λ (es : List Entry). is_played es) (ap (λ (xs : List (ℕ × Event)). entries_of xs) seen ∙ entries_pairs run.entries)
 
-  whole_ends : (over : Bool) (r : Presented) → put ≡ text → over ≡ is_played run.entries → Gained r first new put → PlayEnds o before first new (settled_as r (record { last = turned.Ended; over = over }))
+  whole_ends : (over : Bool) (r : Presented) → put ≡ text → over ≡ is_played run.entries → Gained r first new put → PlayEnds o before first new (joint_outcome r (record { last = turned.Ended; over = over }))
   whole_ends true presented.Written is knows g = (run, at, sym knows, subst (λ (w : List ℕ). Appends first new w) is g)
   whole_ends false presented.Written is knows g = (run, at, some [] (append-nil put ∙ is) g)
   whole_ends true presented.Fault is knows g = (run, at, less [] (append-nil put ∙ is) g)
@@ -66,7 +66,7 @@ module _ (o : Origin) (run : Run) (at : IsRunAt o run) (q : Seat) (seen : q.seen
   whole_ends true presented.Memory is knows g = (run, at, less [] (append-nil put ∙ is) g)
   whole_ends false presented.Memory is knows g = (run, at, less [] (append-nil put ∙ is) g)
 
-  front_ends : (over : Bool) (r : Presented) (rest : List ℕ) → put ++ rest ≡ text → Gained r first new put → PlayEnds o before first new (settled_as r (record { last = turned.Memory; over = over }))
+  front_ends : (over : Bool) (r : Presented) (rest : List ℕ) → put ++ rest ≡ text → Gained r first new put → PlayEnds o before first new (joint_outcome r (record { last = turned.Memory; over = over }))
   front_ends over presented.Written rest is g = (run, at, some rest is g)
   front_ends over presented.Fault rest is g = (run, at, less rest is g)
   front_ends over presented.Memory rest is g = (run, at, less rest is g)
@@ -75,14 +75,14 @@ module _ (o : Origin) (run : Run) (at : IsRunAt o run) (q : Seat) (seen : q.seen
   front_put g = (g.1, ap (λ (w : List ℕ). w ++ g.1) g.3 ∙ (append_assoc before g.0 g.1 ∙ ap (λ (w : List ℕ). before ++ w) g.2))
 
   pub run_ends : (last : Turned) (over : Bool) (r : Presented) → IsLast last → FaultCause 0 0 last → Wrote (Some before) (Some put) (part run.script [] (pairs run.entries)) last → KnowsEnd (Some q) over last → Gained r first new put
-      → PlayEnds o before first new (settled_as r (record { last = last; over = over }))
+      → PlayEnds o before first new (joint_outcome r (record { last = last; over = over }))
   run_ends turned.Ended over r is_last calm wrote knows g = whole_ends over r wrote (over_is over knows) g
   run_ends turned.Memory over r is_last calm wrote knows g = let f = front_put wrote in front_ends over r f.0 f.1 g
   run_ends turned.WriteFault over r is_last calm wrote knows g = no_rise calm
   run_ends turned.Went over r is_last calm wrote knows g = absurd is_last
   run_ends turned.Blocked over r is_last calm wrote knows g = absurd is_last
 
-pub settles : (p : Seat) (o : Origin) (before : List ℕ) (ran : Ran) (first old new : Option (List ℕ)) (r : Presented) → p.stem ≡ Some o → HasRun p before ran first old → Gained r first new (whole ran.sink) → PlayEnds o before first new (settled_as r ran.ending)
+pub settles : (p : Seat) (o : Origin) (before : List ℕ) (ran : Ran) (first old new : Option (List ℕ)) (r : Presented) → p.stem ≡ Some o → HasRun p before ran first old → Gained r first new (whole ran.sink) → PlayEnds o before first new (joint_outcome r ran.ending)
 settles p o before ran first old new r stem has gained =
     let turns = has.drove.turns in
     let run = turns.run in

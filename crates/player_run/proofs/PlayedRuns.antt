@@ -19,7 +19,7 @@ use Rattle.proxy_threads.specs.Writing.{part}
 use Rattle.proxy_threads.proofs.Holds.{entries_pairs}
 use Rattle.player_run.specs.declared.outcome.Outcome.{Outcome}
 use Rattle.player_run.specs.declared.outcome.Outcome.TheVariants.{Done, Usage, Json, Shape, Script, ReadFault, WriteFault, TooLong, BadRecording, No, Memory}
-use Rattle.player_run.specs.Promises.{Ends, IsSound}
+use Rattle.player_run.specs.Promises.{HasEnded, IsSoundHistory}
 use Rattle.player_run.specs.Runs.{IsPlayOf, IsPlayUpTo, IsRunOf}
 use Rattle.player_run.specs.inner.Actors.{IsRunAt, PlayEnds}
 use Rattle.player_run.specs.inner.Outputs.{WritesOrBegins, WritesSome}
@@ -53,7 +53,7 @@ played_last (e ∷ []) is = ([], e, refl, is)
 played_last (e ∷ f ∷ es) is = let l = played_last (f ∷ es) is in (e ∷ l.0, l.1, ap (λ (xs : List Entry). e ∷ xs) l.2, l.3)
 
 -- a run that was played to its end ends with the end, which is the compositor's
-ends_of : (s : ScriptModel) (workers : ℕ) (es : List Entry) → IsLegal s workers es → is_played es ≡ true → Ends es
+ends_of : (s : ScriptModel) (workers : ℕ) (es : List Entry) → IsLegal s workers es → is_played es ≡ true → HasEnded es
 ends_of s workers es legal is =
     let l = played_last es is in
     let whole : Legal s workers (l.1 ∷ reverse l.0) = subst (Legal s workers) (past_more l.0 es l.1 l.2) legal in
@@ -75,7 +75,7 @@ module _ (s : ScriptModel) (workers : ℕ) (accepted : IsAccepted s) (before : L
       ap (λ (w : List ℕ). w ++ part r.script [] (pairs r.entries)) lines
       ∙ (ap (λ (z : Origin). header (script_text s) ++ part z.script [] (pairs r.entries)) (sym at.origin) ∙ recording_is s r.entries)
 
-  sound_is : IsSound s workers r.entries
+  sound_is : IsSoundHistory s workers r.entries
   sound_is = sound_of s workers r.entries accepted legal_is
 
   up_to : IsPlayUpTo workers s (before ++ part r.script [] (pairs r.entries))

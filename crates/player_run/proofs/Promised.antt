@@ -13,7 +13,7 @@ use Rattle.model_history.proofs.Sums.{offset_is}
 use Rattle.model_history.proofs.ValueReadings.{active_is_value, offset_in_range}
 use Rattle.recording_check.proofs.WrittenRuns.{legal_with_more}
 use Rattle.recording_writer.specs.Recordings.{IsLockstepRecording}
-use Rattle.player_run.specs.Promises.{StandsRight, IsSound, IsPromised}
+use Rattle.player_run.specs.Promises.{StandsRight, IsSoundHistory, IsPromised}
 use Rattle.player_run.specs.Runs.{IsRunOf}
 
 -- after a legal past of an accepted script each scroller stands right
@@ -29,7 +29,7 @@ legal_prefix : (s : ScriptModel) (workers : ℕ) (history before after : List En
 legal_prefix s workers history before after legal is = legal_beginning s workers before after (subst (IsLegal s workers) (sym is) legal)
 
 -- a legal history of an accepted script keeps what is promised
-pub sound_of : (s : ScriptModel) (workers : ℕ) (history : List Entry) → IsAccepted s → IsLegal s workers history → IsSound s workers history
+pub sound_of : (s : ScriptModel) (workers : ℕ) (history : List Entry) → IsAccepted s → IsLegal s workers history → IsSoundHistory s workers history
 sound_of s workers history accepted legal = record {
   legal = legal;
   required = required_at_each s workers (reverse history) legal;

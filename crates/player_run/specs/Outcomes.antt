@@ -25,8 +25,8 @@ status_of (No event) = 10
 status_of Memory = 11
 
 -- texts, one after another
-abbrev pub joined : List (List ℕ) → List ℕ
-joined texts = flat_map (λ text. text) texts
+abbrev pub joined_texts : List (List ℕ) → List ℕ
+joined_texts texts = flat_map (λ text. text) texts
 
 -- why a command was refused
 abbrev pub fault_text : EditFault → List (List ℕ)
@@ -52,16 +52,16 @@ shape_text f = codes "cc: shape: list " ∷ decimal f.list ∷ codes " index " �
 -- the line that tells of an outcome; none where all was done
 abbrev pub line_of : Outcome → List ℕ
 line_of Done = []
-line_of (Usage word) = joined (codes "cc: usage: word " ∷ decimal word ∷ codes "\n" ∷ [])
-line_of Json = joined (codes "cc: not JSON\n" ∷ [])
-line_of (Shape fault) = joined (shape_text fault)
-line_of (Script frame command why) = joined (refused_text frame command why)
-line_of ReadFault = joined (codes "cc: read fault\n" ∷ [])
-line_of WriteFault = joined (codes "cc: write fault\n" ∷ [])
-line_of (TooLong limit) = joined (codes "cc: too long, limit " ∷ decimal limit ∷ codes "\n" ∷ [])
-line_of (BadRecording place) = joined (codes "cc: bad recording at " ∷ decimal place ∷ codes "\n" ∷ [])
-line_of (No event) = joined (codes "cc: event " ∷ decimal event ∷ codes " is wrong\n" ∷ [])
-line_of Memory = joined (codes "cc: out of memory\n" ∷ [])
+line_of (Usage word) = joined_texts (codes "cc: usage: word " ∷ decimal word ∷ codes "\n" ∷ [])
+line_of Json = joined_texts (codes "cc: not JSON\n" ∷ [])
+line_of (Shape fault) = joined_texts (shape_text fault)
+line_of (Script frame command why) = joined_texts (refused_text frame command why)
+line_of ReadFault = joined_texts (codes "cc: read fault\n" ∷ [])
+line_of WriteFault = joined_texts (codes "cc: write fault\n" ∷ [])
+line_of (TooLong limit) = joined_texts (codes "cc: too long, limit " ∷ decimal limit ∷ codes "\n" ∷ [])
+line_of (BadRecording place) = joined_texts (codes "cc: bad recording at " ∷ decimal place ∷ codes "\n" ∷ [])
+line_of (No event) = joined_texts (codes "cc: event " ∷ decimal event ∷ codes " is wrong\n" ∷ [])
+line_of Memory = joined_texts (codes "cc: out of memory\n" ∷ [])
 
 -- the notes gained the line; or a front of it, and one of their two counts rose
 abbrev pub Told : Option (List ℕ) → Option (List ℕ) → ℕ → ℕ → ℕ → ℕ → List ℕ → Type 0

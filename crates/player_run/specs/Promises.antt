@@ -19,8 +19,8 @@ use Rattle.model_history.specs.Tiles.{pinned, ready, required}
 use Rattle.model_history.specs.Values.{values}
 
 -- the last entry is the end of the run
-abbrev pub Ends : List Entry → Type 0
-Ends history = (before : List Entry) × (history ≡ before ++ record { actor = 0; event = event.End } ∷ [])
+abbrev pub HasEnded : List Entry → Type 0
+HasEnded history = (before : List Entry) × (history ≡ before ++ record { actor = 0; event = event.End } ∷ [])
 
 -- where a scroller stands after a past
 pub record StandsRight (s : ScriptModel) (h : List Entry) (sc : ℕ) (ax : Axis) : Type 0 where
@@ -36,7 +36,7 @@ abbrev pub StandRight : ScriptModel → List Entry → Type 0
 StandRight s h = (sc : ℕ) (ax : Axis) → StandsRight s h sc ax
 
 -- a history of a script with so many raster workers, up to its end or not
-pub record IsSound (s : ScriptModel) (workers : ℕ) (history : List Entry) : Type 0 where
+pub record IsSoundHistory (s : ScriptModel) (workers : ℕ) (history : List Entry) : Type 0 where
   -- each entry is what is due after those before it
   pub legal : IsLegal s workers history
   -- at each activation all tiles that it needs are ready
@@ -48,8 +48,8 @@ pub record IsSound (s : ScriptModel) (workers : ℕ) (history : List Entry) : Ty
 
 -- the history of a script that is played with so many raster workers
 pub record IsPlayed (s : ScriptModel) (workers : ℕ) (history : List Entry) : Type 0 where
-  pub sound : IsSound s workers history
-  pub ends : Ends history
+  pub sound : IsSoundHistory s workers history
+  pub ends : HasEnded history
 
 -- the same in lockstep
 pub record IsPromised (s : ScriptModel) (workers : ℕ) (history : List Entry) : Type 0 where

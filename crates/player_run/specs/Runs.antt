@@ -14,7 +14,7 @@ use Rattle.script_json.specs.Causes.{IsTextOf, IsScriptText}
 use Rattle.script_json.specs.Reading.{parts_at}
 use Rattle.recording_reader.specs.Pieces.{Piece, images_text}
 use Rattle.recording_check.specs.Recordings.{IsRecording, IsBadAt}
-use Rattle.recording_check.specs.Verdicts.{IsLegalRecording, IsFirstWrong}
+use Rattle.recording_check.specs.Verdicts.{IsLegalRecording, IsFirstWrongEvent}
 use Rattle.model_history.specs.declared.history.Entry.{Entry}
 use Rattle.model_history.specs.Lockstep.{IsLockstep}
 use Rattle.script_json.specs.Recordings.{recording, script_text}
@@ -23,7 +23,7 @@ use Rattle.player_run.specs.declared.outcome.Outcome.{Outcome}
 use Rattle.player_run.specs.declared.outcome.Outcome.TheVariants.{Done, Usage, Json, Shape, Script, ReadFault, WriteFault, TooLong, BadRecording, No, Memory}
 use Rattle.player_run.specs.declared.words.Use.{Use}
 use Rattle.player_run.specs.declared.words.Use.TheVariants.{Step, Play, Gen, Demo, Frames, Check}
-use Rattle.player_run.specs.Promises.{IsSound, IsPlayed, IsPromised}
+use Rattle.player_run.specs.Promises.{IsSoundHistory, IsPlayed, IsPromised}
 use Rattle.player_run.specs.Demos.{demo_line}
 
 -- the greatest number of bytes of a script
@@ -75,7 +75,7 @@ RefusedRecording bytes _ = ⊥
 
 -- why bytes are refused as the recording of a legal history: this event is the first that is wrong; or they are no recording
 abbrev pub RefusedHistory : List ℕ → Outcome → Type 0
-RefusedHistory bytes (No event) = (length bytes ≤ recording_limit) × IsFirstWrong 16 bytes event
+RefusedHistory bytes (No event) = (length bytes ≤ recording_limit) × IsFirstWrongEvent 16 bytes event
 RefusedHistory bytes result = RefusedRecording bytes result
 
 -- why a use refuses bytes
@@ -153,7 +153,7 @@ IsPlayOf workers s whole = (history : List Entry) × IsPlayed s workers history 
 
 -- the same where the run may have been given up
 abbrev pub IsPlayUpTo : ℕ → ScriptModel → List ℕ → Type 0
-IsPlayUpTo workers s whole = (history : List Entry) × IsSound s workers history × (whole ≡ recording s history)
+IsPlayUpTo workers s whole = (history : List Entry) × IsSoundHistory s workers history × (whole ≡ recording s history)
 
 -- the line that sums up the recording of a script in lockstep
 abbrev pub IsDemoOf : ScriptModel → List ℕ → Type 0

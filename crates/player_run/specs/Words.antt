@@ -23,14 +23,14 @@ abbrev pub workers_in : List ℕ → Option ℕ
 workers_in w = few (number_in w)
 
 -- the use, where no word stands behind its own; else the index of the next word
-abbrev pub no_more : Use → ℕ → List (List ℕ) → Result Use ℕ
-no_more wanted index [] = Ok wanted
-no_more wanted index (w ∷ ws) = Err index
+abbrev pub no_more_words : Use → ℕ → List (List ℕ) → Result Use ℕ
+no_more_words wanted index [] = Ok wanted
+no_more_words wanted index (w ∷ ws) = Err index
 
 -- the use of a number, which is word 1, where there is one
 abbrev pub numbered : Option ℕ → (ℕ → Use) → List (List ℕ) → Result Use ℕ
 numbered None wanted ws = Err 1
-numbered (Some n) wanted ws = no_more (wanted n) 2 ws
+numbered (Some n) wanted ws = no_more_words (wanted n) 2 ws
 
 -- behind `step` stands the number of raster workers
 abbrev pub after_step : List (List ℕ) → Result Use ℕ
@@ -57,8 +57,8 @@ after_other w ws =
     if bytes_eq w (codes "play") then after_play ws
     else (if bytes_eq w (codes "gen") then after_gen ws
     else (if bytes_eq w (codes "demo") then after_demo ws
-    else (if bytes_eq w (codes "frames") then no_more Frames 1 ws
-    else (if bytes_eq w (codes "check") then no_more Check 1 ws else Err 0))))
+    else (if bytes_eq w (codes "frames") then no_more_words Frames 1 ws
+    else (if bytes_eq w (codes "check") then no_more_words Check 1 ws else Err 0))))
 
 -- what the words ask for; or the index of the first word that, with those before it, begins no use, and
 -- where there is no such word and more words are needed, their count

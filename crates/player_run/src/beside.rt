@@ -2,13 +2,13 @@
 
 ghost use Rattle.std.specs.Prelude.{◌≡◌, ◌≤◌, ℕ, List, [], Option, Some};
 ghost use Rattle.std.specs.Thread.{IsSync};
-ghost use Rattle.thread_ring.specs.Ring.{OneRing, SameSink, taken, whole};
+ghost use Rattle.thread_ring.specs.Ring.{OneRing, SameSink, bytes_taken, whole};
 ghost use Rattle.thread_ring.specs.Answers.{FaultRose};
 ghost use Rattle.impl_core.specs.Origins.{Origin};
 ghost use Rattle.proxy_threads.specs.Seats.{Of, OfBoth, Seat};
 ghost use Rattle.proxy_threads.specs.Writing.{FaultCause};
 ghost use Rattle.player_run.specs.Runs.{Causes};
-ghost use Rattle.player_run.specs.inner.Actors.{Drove, HasRun, IsFirst, PlayEnds, ended_as, settled_as};
+ghost use Rattle.player_run.specs.inner.Actors.{Drove, HasRun, IsFirst, PlayEnds, ended_as, joint_outcome};
 
 use crate::outcome::Outcome;
 use impl_core::Core;
@@ -102,7 +102,7 @@ pub(crate) fn run_beside<R: Threads + Wait + Sync, K: Sink + Send>(
 ) -> Ran
     requires first { IsFirst lock.now.id pass }
     requires ring { OneRing ends.0 ends.1 }
-    requires none { taken ends.1 ≡ [] }
+    requires none { bytes_taken ends.1 ≡ [] }
     ensures ran { HasRun pass (whole ends.0) result (K.held out.old) (K.held out.new) }
     ensures grows { K.faults out.old ≤ K.faults out.new }
     ensures cause { FaultRose result.served (K.faults out.old) (K.faults out.new) }
@@ -142,7 +142,7 @@ fn ended(ending: Ending) -> Outcome
 
 // How the run ended.
 fn told(presented: Presented, ending: Ending) -> Outcome
-    ensures { result ≡ settled_as presented ending }
+    ensures { result ≡ joint_outcome presented ending }
 {
     match presented {
         Presented::Written => ended(ending),
@@ -152,7 +152,7 @@ fn told(presented: Presented, ending: Ending) -> Outcome
 }
 
 /// Puts what is left, and tells how the run ended.
-pub(crate) fn settle<K: Sink>(ran: Ran, out: &mut K) -> Outcome
+pub(crate) fn join_outcomes<K: Sink>(ran: Ran, out: &mut K) -> Outcome
     requires { OneRing ran.sink ran.presenter }
     ensures ends { (p : Seat) (o : Origin) (before : List ℕ) (first : Option (List ℕ)) → p.stem ≡ Some o → HasRun p before ran first (K.held out.old) → PlayEnds o before first (K.held out.new) result }
     ensures grows { K.faults out.old ≤ K.faults out.new }

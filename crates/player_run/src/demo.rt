@@ -9,7 +9,7 @@ ghost use Rattle.player_run.specs.inner.Summaries.{IsDemoSummary, IsSummary, sum
 
 use crate::fragments::{Fragment, put_fragments};
 use crate::outcome::Outcome;
-use crate::tally::tally_of;
+use crate::draw_counts::tally_of;
 use model_history::Script;
 use player_io::{PutFault, Sink};
 use recording_sums::SumSink;

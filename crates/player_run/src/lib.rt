@@ -21,7 +21,7 @@ mod play;
 mod program;
 mod script_input;
 mod step;
-mod tally;
+mod draw_counts;
 mod threads;
 mod words;
 

@@ -4,7 +4,7 @@ ghost use Rattle.std.specs.Prelude.{◌≡◌, ◌≤◌, ◌∷◌, [], flat_ma
 ghost use Rattle.player_io.specs.Pieces.{PutCause};
 ghost use Rattle.recording_writer.specs.Writing.{PutsAll};
 ghost use Rattle.player_run.specs.inner.Fragments.{fragment_text};
-ghost use Rattle.player_run.specs.Outcomes.{joined, fault_text, refused_text, shape_text, line_of, Told};
+ghost use Rattle.player_run.specs.Outcomes.{joined_texts, fault_text, refused_text, shape_text, line_of, Told};
 
 use crate::fragments::{Fragment, put_fragments};
 use crate::outcome::Outcome;
@@ -29,7 +29,7 @@ fn short_line(first: Fragment, second: Fragment, third: Fragment) -> [Fragment; 
 
 // Why a command was refused.
 fn fault_fragments(fault: EditFault) -> [Fragment; 3]
-    ensures { flat_map fragment_text result ≡ joined (fault_text fault) }
+    ensures { flat_map fragment_text result ≡ joined_texts (fault_text fault) }
 {
     match fault {
         EditFault::UnknownId => [Fragment::Text(b"unknown id"), NOTHING, NOTHING],
@@ -51,7 +51,7 @@ fn fault_fragments(fault: EditFault) -> [Fragment; 3]
 
 // The line of a refused script.
 fn refused_line(frame: u32, command: u32, why: EditFault) -> [Fragment; 9]
-    ensures { flat_map fragment_text result ≡ joined (refused_text frame command why) }
+    ensures { flat_map fragment_text result ≡ joined_texts (refused_text frame command why) }
 {
     let [first, second, third] = fault_fragments(why);
     [
@@ -69,7 +69,7 @@ fn refused_line(frame: u32, command: u32, why: EditFault) -> [Fragment; 9]
 
 // The line of a value that is no script.
 fn shape_line(fault: ShapeFault) -> [Fragment; 9]
-    ensures { flat_map fragment_text result ≡ joined (shape_text fault) }
+    ensures { flat_map fragment_text result ≡ joined_texts (shape_text fault) }
 {
     [
         Fragment::Text(b"cc: shape: list "),
@@ -86,7 +86,7 @@ fn shape_line(fault: ShapeFault) -> [Fragment; 9]
 
 // A line that is one text.
 fn text_line(text: &'static [u8]) -> [Fragment; 9]
-    ensures { flat_map fragment_text result ≡ joined (text.now ∷ []) }
+    ensures { flat_map fragment_text result ≡ joined_texts (text.now ∷ []) }
 {
     short_line(Fragment::Text(text), NOTHING, NOTHING)
 }

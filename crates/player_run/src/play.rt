@@ -1,7 +1,7 @@
 //! A script of the source, played by actors on threads.
 
 ghost use Rattle.std.specs.Prelude.{◌≡◌, ◌≤◌, [], Ok, IfOk, IfSome, MatchOption};
-ghost use Rattle.thread_ring.specs.Ring.{OneRing, taken, whole};
+ghost use Rattle.thread_ring.specs.Ring.{OneRing, bytes_taken, whole};
 ghost use Rattle.model_history.specs.Recordings.{header};
 ghost use Rattle.script_json.specs.Recordings.{script_text};
 ghost use Rattle.player_run.specs.Runs.{TellsMisfit, CauseFrom, IsPlayOf, IsPlayUpTo, Reads, ReadToEnd, Writes, Causes};
@@ -27,7 +27,7 @@ use thread_ring::{Presenter, RingSink, ring};
 fn ring_of(alloc: Global, script: &Script) -> Result<(RingSink, Presenter), AllocError>
     ensures ring { IfOk result (λ ends. OneRing ends.0 ends.1) }
     ensures lines { IfOk result (λ ends. whole ends.0 ≡ header (script_text script.now)) }
-    ensures none { IfOk result (λ ends. taken ends.1 ≡ []) }
+    ensures none { IfOk result (λ ends. bytes_taken ends.1 ≡ []) }
 {
     let text = print_script(alloc, script)?;
     let header = header_of(alloc, text.as_slice())?;

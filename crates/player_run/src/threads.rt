@@ -1,7 +1,7 @@
 //! The threads of a run.
 
 ghost use Rattle.std.specs.Prelude.{◌≡◌, ◌≤◌, [], Some, All, MatchOption, IfSome};
-ghost use Rattle.thread_ring.specs.Ring.{OneRing, taken, whole};
+ghost use Rattle.thread_ring.specs.Ring.{OneRing, bytes_taken, whole};
 ghost use Rattle.thread_ring.specs.Answers.{FaultRose};
 ghost use Rattle.impl_core.specs.Origins.{Origin};
 ghost use Rattle.proxy_threads.specs.Seats.{Of};
@@ -10,7 +10,7 @@ ghost use Rattle.proxy_threads.specs.WorkTurns.{WorkIsReady};
 ghost use Rattle.player_run.specs.Runs.{Causes};
 ghost use Rattle.player_run.specs.inner.Actors.{HasRun, IsFirst, PlayEnds};
 
-use crate::beside::{Ran, run_beside, settle, take_back};
+use crate::beside::{Ran, run_beside, join_outcomes, take_back};
 use crate::crew::Crew;
 use crate::outcome::Outcome;
 use impl_core::Core;
@@ -90,7 +90,7 @@ fn run_started<'s, E, R: Threads + Wait + Sync, G: Gate + Sync, K: Sink + Send>(
     requires main { Of main.pass (MainIsReady lock.now.id main.host) }
     requires workers { All (λ worker. Of worker.pass (WorkIsReady lock.now.id worker.worker)) workers.items }
     requires ring { OneRing ends.0 ends.1 }
-    requires none { taken ends.1 ≡ [] }
+    requires none { bytes_taken ends.1 ≡ [] }
     ensures ran { MatchOption result (out.new ≡ out.old) (λ ran. HasRun pass (whole ends.0) ran (K.held out.old) (K.held out.new)) }
     ensures grows { K.faults out.old ≤ K.faults out.new }
     ensures cause { IfSome result (λ ran. FaultRose ran.served (K.faults out.old) (K.faults out.new)) }
@@ -119,7 +119,7 @@ fn run_scope<'g, R: Threads + Wait + Sync, G: Gate + Sync, K: Sink + Send>(
     requires main { Of main.pass (MainIsReady lock.now.id main.host) }
     requires workers { All (λ worker. Of worker.pass (WorkIsReady lock.now.id worker.worker)) workers.items }
     requires ring { OneRing ends.0 ends.1 }
-    requires none { taken ends.1 ≡ [] }
+    requires none { bytes_taken ends.1 ≡ [] }
     ensures ran { MatchOption result (out.new ≡ out.old) (λ ran. HasRun pass (whole ends.0) ran (K.held out.old) (K.held out.new)) }
     ensures grows { K.faults out.old ≤ K.faults out.new }
     ensures cause { IfSome result (λ ran. FaultRose ran.served (K.faults out.old) (K.faults out.new)) }
@@ -134,7 +134,7 @@ fn run_scope<'g, R: Threads + Wait + Sync, G: Gate + Sync, K: Sink + Send>(
             requires main { Of main.pass (MainIsReady lock.now.id main.host) }
             requires workers { All (λ worker. Of worker.pass (WorkIsReady lock.now.id worker.worker)) workers.items }
             requires ring { OneRing ends.0 ends.1 }
-            requires none { taken ends.1 ≡ [] }
+            requires none { bytes_taken ends.1 ≡ [] }
             ensures same_reference { result.0.ghost_name ≡ out.entry.ghost_name }
             ensures ran { MatchOption result.1 (result.0.now ≡ out.entry.now) (λ ran. HasRun pass (whole ends.0) ran (K.held out.entry.now) (K.held result.0.now)) }
             ensures grows { K.faults out.entry.now ≤ K.faults result.0.now }
@@ -161,7 +161,7 @@ pub(crate) fn run_crew<'g, R: Threads + Wait + Sync, G: Gate + Sync, K: Sink + S
     requires main { Of crew.main.pass (MainIsReady crew.lock.id crew.main.host) }
     requires workers { All (λ worker. Of worker.pass (WorkIsReady crew.lock.id worker.worker)) crew.workers.items }
     requires ring { OneRing ends.0 ends.1 }
-    requires none { taken ends.1 ≡ [] }
+    requires none { bytes_taken ends.1 ≡ [] }
     ensures ends { MatchOption result (out.new ≡ out.old) (λ outcome. (o : Origin) → crew.entry.pass.stem ≡ Some o → PlayEnds o (whole ends.0) (K.held out.old) (K.held out.new) outcome) }
     ensures grows { K.faults out.old ≤ K.faults out.new }
     ensures cause { IfSome result (λ outcome. Causes 0 0 (K.faults out.old) (K.faults out.new) outcome) }
@@ -173,5 +173,5 @@ pub(crate) fn run_crew<'g, R: Threads + Wait + Sync, G: Gate + Sync, K: Sink + S
         workers,
     } = crew;
     let ran = run_scope(rt, alloc, &lock, pass, main, workers, ends, out)?;
-    Some(settle(ran, out))
+    Some(join_outcomes(ran, out))
 }

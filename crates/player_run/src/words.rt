@@ -102,7 +102,7 @@ fn few(number: Option<u64>) -> Option<u32>
 
 // The use, where no word is left; else the index of the next one.
 fn no_more(wanted: Use, index: u32, rest: &[String]) -> Result<Use, u32>
-    ensures { result ≡ words.no_more wanted index (map string_bytes rest.now) }
+    ensures { result ≡ words.no_more_words wanted index (map string_bytes rest.now) }
 {
     match rest {
         [] => Ok(wanted),

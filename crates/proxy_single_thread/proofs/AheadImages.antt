@@ -7,7 +7,7 @@ use Rattle.tile_raster.specs.Images.{Image}
 use Rattle.tile_raster.specs.declared.job.Job.{Job}
 use Rattle.tile_raster.specs.declared.image.TileImage.{TileImage}
 use Rattle.model_history.specs.Scripts.{ScriptModel}
-use Rattle.model_steps.specs.ShownKeys.{Shows}
+use Rattle.model_steps.specs.ShownKeys.{KeyShows}
 use Rattle.proxy_single_thread.specs.inner.Images.{ShowsItsKey, ArePrepared}
 
 -- what a job makes
@@ -23,5 +23,5 @@ made_alike P (j ∷ js) (i ∷ is) are all = (subst P (cc) all.0, made_alike P j
 
 -- they are the images of jobs that show their keys
 pub prepared_of : (s : ScriptModel) (jobs : List Job) (images : List (Arc TileImage Global)) → map (λ (i : Arc TileImage Global). i.value) images ≡ map made jobs
-    → AllByRecursion (λ (j : Job). Shows s j.key j.rect j.list.value) jobs → ArePrepared s images
-prepared_of s jobs images are all = All-from_recursion (ShowsItsKey s) images (made_alike (λ (i : Image). Shows s i.key i.rect i.list) jobs images are all)
+    → AllByRecursion (λ (j : Job). KeyShows s j.key j.rect j.list.value) jobs → ArePrepared s images
+prepared_of s jobs images are all = All-from_recursion (ShowsItsKey s) images (made_alike (λ (i : Image). KeyShows s i.key i.rect i.list) jobs images are all)

@@ -12,7 +12,7 @@ use Rattle.model_history.specs.declared.history.Entry.{Entry}
 use Rattle.model_history.specs.EventFields.{kind_of, held_after}
 use Rattle.model_history.specs.Scans.{held}
 use Rattle.model_history.specs.Scripts.{ScriptModel}
-use Rattle.model_steps.specs.ShownKeys.{Shows}
+use Rattle.model_steps.specs.ShownKeys.{KeyShows}
 use Rattle.impl_log.specs.Runs.{Run, past, with_entry}
 use Rattle.proxy_single_thread.specs.inner.Sides.{HasJob, HaveJobs}
 use Rattle.proxy_single_thread.proofs.Steps.{past_with}
@@ -38,11 +38,11 @@ jobs_stay r new a e is jobs have f = subst (λ (z : Run). HaveJobs z jobs) (sym 
 
 -- a job that a worker has shows its key
 
-job_shows : (s : ScriptModel) (holds : Option TileKey) (job : Job) → HasJob s holds (Some job) → Shows s job.key job.rect job.list.value
+job_shows : (s : ScriptModel) (holds : Option TileKey) (job : Job) → HasJob s holds (Some job) → KeyShows s job.key job.rect job.list.value
 job_shows s None job has = absurd cc
-job_shows s (Some q) job has = subst (λ (k : TileKey). Shows s k job.rect job.list.value) (sym has.key) has.shows
+job_shows s (Some q) job has = subst (λ (k : TileKey). KeyShows s k job.rect job.list.value) (sym has.key) has.shows
 
-pub held_shows : (r : Run) (jobs : List (Option Job)) (w : ℕ) (o : Option Job) (job : Job) → HaveJobs r jobs → w < r.workers → slice_index_or jobs w o ≡ o → o ≡ Some job → Shows r.script job.key job.rect job.list.value
+pub held_shows : (r : Run) (jobs : List (Option Job)) (w : ℕ) (o : Option Job) (job : Job) → HaveJobs r jobs → w < r.workers → slice_index_or jobs w o ≡ o → o ≡ Some job → KeyShows r.script job.key job.rect job.list.value
 held_shows r jobs w o job have lt at is =
     job_shows r.script (held w (past r)) job
     (subst (λ (p : Option Job). HasJob r.script (held w (past r)) p) (get_or_default jobs w None o (subst (λ (n : ℕ). w < n) (sym have.count) lt) ∙ (at ∙ is)) (have.each w lt))

@@ -16,7 +16,7 @@ use Rattle.model_history.proofs.BoolFacts.{by_test}
 use Rattle.model_history.proofs.RangeBounds.{sent_few}
 use Rattle.model_history.proofs.PullBounds.{pulls_bounded}
 use Rattle.impl_log.specs.Runs.{Run, past, now, with_entry}
-use Rattle.main_host.specs.Hosts.{HostModel, IsEnd, with_frame}
+use Rattle.main_host.specs.Hosts.{MainHostModel, IsEnd, with_frame}
 use Rattle.main_host.specs.declared.main_end.MainEnd.{MainEnd}
 use Rattle.main_host.specs.declared.main_end.MainEnd.TheVariants as end
 use Rattle.impl_core.specs.Replies.{told_frame}
@@ -83,7 +83,7 @@ module _ (r : Run) (side : MainSide) (legal : Legal r.script r.workers (past r))
   pub told_bounded : IsAccepted r.script → AreBounded ms
   told_bounded a = subst (λ (l : List Move). AreBounded l) (sym t.pulls) (pulls_bounded r.script r.workers (past r) k a legal)
 
-  pub runs_frame : (host : HostModel) (e : MainEnd) (changed : Bool) → host ≡ with_frame side.host ms → IsEnd side.host ms e → changed ≡ is_ready e → IsMain r (record { host = host; end = Some e; changed = changed })
+  pub runs_frame : (host : MainHostModel) (e : MainEnd) (changed : Bool) → host ≡ with_frame side.host ms → IsEnd side.host ms e → changed ≡ is_ready e → IsMain r (record { host = host; end = Some e; changed = changed })
   runs_frame host e changed more ends so =
       subst (λ (b : Bool). IsMainOf r.script (pulls_of (past r)) (counted sends (past r)) (record { host = host; end = Some e; changed = changed }) b) (sym t.sent)
       (has_run r.script (pulls_of (past r)) (counted sends (past r)) before.frame side.host host ms e changed before.last before.run (t.pulls ∙ ap (pulls_of (past r)) (sym same)) more ends so)

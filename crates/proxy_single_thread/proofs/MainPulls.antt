@@ -15,7 +15,7 @@ use Rattle.model_history.proofs.BoolFacts.{by_test, same_number, other_number}
 use Rattle.model_history.proofs.Course.{Course, course, sent_not_idle}
 use Rattle.model_history.proofs.PageFacts.{changes_alike}
 use Rattle.impl_log.specs.Runs.{Run, past}
-use Rattle.main_host.specs.Hosts.{HostModel, IsEnd, with_frame}
+use Rattle.main_host.specs.Hosts.{MainHostModel, IsEnd, with_frame}
 use Rattle.main_host.specs.declared.main_end.MainEnd.{MainEnd}
 use Rattle.main_host.specs.declared.main_end.MainEnd.TheVariants as end
 use Rattle.main_host.proofs.HostFacts.{pulls_last, pulls_before, more_long}
@@ -25,7 +25,7 @@ use Rattle.proxy_single_thread.specs.inner.Sides.{HasRun, IsEndOf}
 
 -- one frame more was run, with the pulls that it got
 
-module _ (s : ScriptModel) (ps : ℕ → List Move) (k : ℕ) (host : HostModel) (ms : List Move) (run : HasRun s ps k host) (is : ms ≡ ps k) where
+module _ (s : ScriptModel) (ps : ℕ → List Move) (k : ℕ) (host : MainHostModel) (ms : List Move) (run : HasRun s ps k host) (is : ms ≡ ps k) where
   more_each : (j : ℕ) → j < suc k → pulls_in (host.sends ++ ms ∷ []) j ≡ ps j
   more_each j lt = by_test (j == k) at_last before
     where

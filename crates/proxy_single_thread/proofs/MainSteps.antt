@@ -18,7 +18,7 @@ use Rattle.model_history.proofs.BoolFacts.{is_other}
 use Rattle.model_history.proofs.DueFacts.{entry, at_send, at_commit}
 use Rattle.impl_log.specs.Runs.{Run, past, with_entry}
 use Rattle.impl_log.proofs.LogSteps.{past_more}
-use Rattle.main_host.specs.Hosts.{HostModel, IsEnd, with_frame}
+use Rattle.main_host.specs.Hosts.{MainHostModel, IsEnd, with_frame}
 use Rattle.main_host.specs.declared.main_end.MainEnd.{MainEnd}
 use Rattle.proxy_single_thread.specs.declared.main_side.MainSide.{MainSide}
 use Rattle.proxy_single_thread.specs.inner.Ends.{is_ready}
@@ -35,13 +35,13 @@ main_after r new a e side is m =
     subst (λ (z : Run). IsMain z side) (sym is) (subst (λ (h : List Entry). IsMainAt r.script h side) (sym (past_more r.entries (r.entries ++ entry a e ∷ []) (entry a e) refl)) m)
 
 -- the frame in flight was run
-pub has_run : (s : ScriptModel) (ps : ℕ → List Move) (n k : ℕ) (host new : HostModel) (ms : List Move) (e : MainEnd) (changed : Bool) → n ≡ suc k → HasRun s ps k host → ms ≡ ps k → new ≡ with_frame host ms
+pub has_run : (s : ScriptModel) (ps : ℕ → List Move) (n k : ℕ) (host new : MainHostModel) (ms : List Move) (e : MainEnd) (changed : Bool) → n ≡ suc k → HasRun s ps k host → ms ≡ ps k → new ≡ with_frame host ms
     → IsEnd host ms e → changed ≡ is_ready e → IsBehind s ps n (record { host = new; end = Some e; changed = changed }) e
 has_run s ps n k host new ms e changed last run is more ends so = record {
   frame = k;
   last = last;
   run = subst (λ (m : ℕ). HasRun s ps m new) (sym last) (subst (HasRun s ps (suc k)) (sym more) (run_more s ps k host ms run is));
-  ends = subst (λ (z : HostModel). IsEndOf s ps k z.sends e) (sym more) (ends_so s ps k host ms run is e ends);
+  ends = subst (λ (z : MainHostModel). IsEndOf s ps k z.sends e) (sym more) (ends_so s ps k host ms run is e ends);
   changed = so ∙ ready_tells s ps k (host.sends ++ ms ∷ []) e (ends_so s ps k host ms run is e ends);
 }
 

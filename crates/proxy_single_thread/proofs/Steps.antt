@@ -17,7 +17,7 @@ use Rattle.impl_log.specs.Runs.{Run, past, with_entry, Entered}
 use Rattle.impl_log.proofs.LogSteps.{past_more, now_is}
 use Rattle.model_lockstep.specs.declared.compositor.EnterFault.{EnterFault}
 use Rattle.model_lockstep.specs.declared.compositor.EnterFault.TheVariants.{NotNow, Memory}
-use Rattle.proxy_single_thread.specs.Singles.{Answers}
+use Rattle.proxy_single_thread.specs.Singles.{SingleEnters}
 
 -- the kind of the event that was entered
 pub entered_kind : (r new : Run) (k : Kind) (a : ℕ) (e : Entered r k a new) → kind_of e.event ≡ k
@@ -28,7 +28,7 @@ pub past_with : (r new : Run) (a : ℕ) (e : Event) → new ≡ with_entry r a e
 past_with r new a e is = ap (λ (z : Run). past z) is ∙ past_more r.entries (r.entries ++ entry a e ∷ []) (entry a e) refl
 
 -- what stays with each entry of a kind stays with an answer
-pub answered : (P : Run → Type 0) (r new : Run) (k : Kind) (a : ℕ) (x : Result ⊤ EnterFault) → Answers r k a new x → ((e : Event) → kind_of e ≡ k → new ≡ with_entry r a e → P new) → P r → P new
+pub answered : (P : Run → Type 0) (r new : Run) (k : Kind) (a : ℕ) (x : Result ⊤ EnterFault) → SingleEnters r k a new x → ((e : Event) → kind_of e ≡ k → new ≡ with_entry r a e → P new) → P r → P new
 answered P r new k a (Ok done) answer next old = next answer.event (entered_kind r new k a answer) answer.is_entered
 answered P r new k a (Err NotNow) answer next old = subst P (sym answer.1) old
 answered P r new k a (Err (Memory e)) answer next old = subst P (sym answer) old

@@ -19,7 +19,7 @@ pub record SingleModel : Type 0 where
   pub written : ℕ
 
 -- the same as the loops of lockstep see it
-abbrev pub walk_of : SingleModel → walks.Run
+abbrev pub walk_of : SingleModel → walks.WalkState
 walk_of m = record { script = m.run.script; past = past m.run; written = m.written }
 
 -- the actor has events of this kind, where there are so many workers: the main side, a worker, anybody, or the compositor
@@ -32,10 +32,10 @@ HasKind n kind.Stop a = a < 2 + n
 HasKind n _ a = a ≡ 0
 
 -- the event of this kind and actor was entered; or none might come, and nothing has changed; or memory was refused, and nothing has changed
-abbrev pub Answers : Run → Kind → ℕ → Run → Result ⊤ EnterFault → Type 0
-Answers old k a new (Ok _) = Entered old k a new
-Answers old k a new (Err NotNow) = (now old k a ≡ None) × (new ≡ old)
-Answers old k a new (Err (Memory e)) = new ≡ old
+abbrev pub SingleEnters : Run → Kind → ℕ → Run → Result ⊤ EnterFault → Type 0
+SingleEnters old k a new (Ok _) = Entered old k a new
+SingleEnters old k a new (Err NotNow) = (now old k a ≡ None) × (new ≡ old)
+SingleEnters old k a new (Err (Memory e)) = new ≡ old
 
 -- the last of them is the picture of this past, and the others are these
 pub record EndsWith (s : ScriptModel) (h : List Entry) (rest : List SceneView → Type 0) (scenes : List SceneView) : Type 0 where
@@ -46,12 +46,12 @@ pub record EndsWith (s : ScriptModel) (h : List Entry) (rest : List SceneView �
   pub earlier : rest front
 
 -- an event adds the picture of the past before it where it is a draw, and else nothing
-abbrev pub Adds : ScriptModel → List Entry → Event → (List SceneView → Type 0) → List SceneView → Type 0
-Adds s h (event.Draw i missing) rest scenes = EndsWith s h rest scenes
-Adds s h _ rest scenes = rest scenes
+abbrev pub AddsScene : ScriptModel → List Entry → Event → (List SceneView → Type 0) → List SceneView → Type 0
+AddsScene s h (event.Draw i missing) rest scenes = EndsWith s h rest scenes
+AddsScene s h _ rest scenes = rest scenes
 
 -- the scenes of the draws among the newest n entries of a past, the oldest first
 abbrev pub AreScenes : ScriptModel → ℕ → List Entry → List SceneView → Type 0
 AreScenes s zero h scenes = scenes ≡ []
 AreScenes s (suc n) [] scenes = ⊥
-AreScenes s (suc n) (e ∷ h) scenes = Adds s h e.event (AreScenes s n h) scenes
+AreScenes s (suc n) (e ∷ h) scenes = AddsScene s h e.event (AreScenes s n h) scenes

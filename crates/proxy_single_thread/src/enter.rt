@@ -3,7 +3,7 @@
 ghost use Rattle.std.specs.Prelude.{◌≡◌, ◌+◌, ◌≤◌, ◌<◌, true};
 ghost use Rattle.model_scheduler.specs.declared.kind.Kind.TheVariants as kind;
 ghost use Rattle.impl_core.specs.Replies.{is_own};
-ghost use Rattle.proxy_single_thread.specs.Singles.{Answers, HasKind};
+ghost use Rattle.proxy_single_thread.specs.Singles.{SingleEnters, HasKind};
 
 use crate::single::SingleThread;
 use model_lockstep::EnterFault;
@@ -15,7 +15,7 @@ impl SingleThread {
     /// each of them has a `Stop`. `NotNow` comes exactly where none may come; on an error nothing was entered.
     pub fn enter(&mut self, kind: Kind, actor: u32) -> Result<(), EnterFault>
         requires { HasKind self.old.run.workers kind actor }
-        ensures answer { Answers self.old.run kind actor self.new.run result }
+        ensures answer { SingleEnters self.old.run kind actor self.new.run result }
         ensures written { self.new.written ≡ self.old.written }
     {
         match kind {
@@ -30,7 +30,7 @@ impl SingleThread {
 
     // The main side is ready with the frame in flight.
     fn enter_ready(&mut self) -> Result<(), EnterFault>
-        ensures answer { Answers self.old.run kind.Ready 1 self.new.run result }
+        ensures answer { SingleEnters self.old.run kind.Ready 1 self.new.run result }
         ensures written { self.new.written ≡ self.old.written }
     {
         self.main.ready(&mut self.core)
@@ -38,7 +38,7 @@ impl SingleThread {
 
     // The main side has changed nothing in the frame in flight.
     fn enter_abort(&mut self) -> Result<(), EnterFault>
-        ensures answer { Answers self.old.run kind.Abort 1 self.new.run result }
+        ensures answer { SingleEnters self.old.run kind.Abort 1 self.new.run result }
         ensures written { self.new.written ≡ self.old.written }
     {
         self.main.abort(&mut self.core)
@@ -47,7 +47,7 @@ impl SingleThread {
     // A worker starts the next tile.
     fn enter_start(&mut self, actor: u32) -> Result<(), EnterFault>
         requires { (2 ≤ actor) × (actor < 2 + self.old.run.workers) }
-        ensures answer { Answers self.old.run kind.Start actor self.new.run result }
+        ensures answer { SingleEnters self.old.run kind.Start actor self.new.run result }
         ensures written { self.new.written ≡ self.old.written }
     {
         let answer = self.workers.start(&mut self.core, actor - 2);
@@ -58,7 +58,7 @@ impl SingleThread {
     // A worker is done with its tile.
     fn enter_done(&mut self, actor: u32) -> Result<(), EnterFault>
         requires { (2 ≤ actor) × (actor < 2 + self.old.run.workers) }
-        ensures answer { Answers self.old.run kind.Done actor self.new.run result }
+        ensures answer { SingleEnters self.old.run kind.Done actor self.new.run result }
         ensures written { self.new.written ≡ self.old.written }
     {
         let answer = self.workers.done(&mut self.core, actor - 2);
@@ -69,7 +69,7 @@ impl SingleThread {
     // An actor stops, where the run has not ended.
     fn enter_stop(&mut self, actor: u32) -> Result<(), EnterFault>
         requires { actor < 2 + self.old.run.workers }
-        ensures answer { Answers self.old.run kind.Stop actor self.new.run result }
+        ensures answer { SingleEnters self.old.run kind.Stop actor self.new.run result }
         ensures written { self.new.written ≡ self.old.written }
     {
         if self.core.ended() {
@@ -83,7 +83,7 @@ impl SingleThread {
     // The compositor does something itself.
     fn enter_own(&mut self, kind: Kind) -> Result<(), EnterFault>
         requires { is_own kind ≡ true }
-        ensures answer { Answers self.old.run kind 0 self.new.run result }
+        ensures answer { SingleEnters self.old.run kind 0 self.new.run result }
         ensures written { self.new.written ≡ self.old.written }
     {
         let answer = self.shown.play(&mut self.core, kind);

@@ -10,7 +10,7 @@ mod compositor;
 mod enter;
 mod main_side;
 mod prepared;
-mod shown;
+mod unwritten_scenes;
 mod single;
 mod workers;
 

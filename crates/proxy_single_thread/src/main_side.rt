@@ -4,7 +4,7 @@ ghost use Rattle.std.specs.Prelude.{◌≡◌, ℕ, false, OnOk};
 ghost use Rattle.model_scheduler.specs.declared.kind.Kind.TheVariants as kind;
 ghost use Rattle.model_history.specs.Scans.{has_ended};
 ghost use Rattle.impl_log.specs.Runs.{new_run, past};
-ghost use Rattle.proxy_single_thread.specs.Singles.{Answers};
+ghost use Rattle.proxy_single_thread.specs.Singles.{SingleEnters};
 ghost use Rattle.proxy_single_thread.specs.inner.Ends.{is_ready};
 ghost use Rattle.proxy_single_thread.specs.inner.Sides.{IsMain, WasRun};
 
@@ -75,7 +75,7 @@ impl MainSide {
         requires stands { IsMain core.old self.old }
         requires run { WasRun core.old self.old }
         ensures stands { IsMain core.new self.new }
-        ensures answer { Answers core.old kind.Ready 1 core.new result }
+        ensures answer { SingleEnters core.old kind.Ready 1 core.new result }
     {
         core.is_legal();
         match self.end.take() {
@@ -100,7 +100,7 @@ impl MainSide {
         requires stands { IsMain core.old self.old }
         requires run { WasRun core.old self.old }
         ensures stands { IsMain core.new self.new }
-        ensures answer { Answers core.old kind.Abort 1 core.new result }
+        ensures answer { SingleEnters core.old kind.Abort 1 core.new result }
     {
         core.is_legal();
         match self.end.take() {
@@ -123,7 +123,7 @@ impl MainSide {
     pub(crate) fn ready(&mut self, core: &mut Core) -> Result<(), EnterFault>
         requires { IsMain core.old self.old }
         ensures stands { IsMain core.new self.new }
-        ensures answer { Answers core.old kind.Ready 1 core.new result }
+        ensures answer { SingleEnters core.old kind.Ready 1 core.new result }
     {
         if core.ended() {
             return Err(EnterFault::NotNow);
@@ -138,7 +138,7 @@ impl MainSide {
     pub(crate) fn abort(&mut self, core: &mut Core) -> Result<(), EnterFault>
         requires { IsMain core.old self.old }
         ensures stands { IsMain core.new self.new }
-        ensures answer { Answers core.old kind.Abort 1 core.new result }
+        ensures answer { SingleEnters core.old kind.Abort 1 core.new result }
     {
         if core.ended() {
             return Err(EnterFault::NotNow);

@@ -3,7 +3,7 @@
 ghost use Rattle.std.specs.Prelude.{◌≡◌, ◌≤◌, ◌*◌, [], IfOk, IfErr, IfSome};
 ghost use Rattle.geom.specs.Covers.{IsSound};
 ghost use Rattle.model_history.specs.Scripts.{ScriptModel};
-ghost use Rattle.model_steps.specs.ShownKeys.{Shows};
+ghost use Rattle.model_steps.specs.ShownKeys.{KeyShows};
 ghost use Rattle.proxy_single_thread.specs.inner.Images.{ArePrepared, IsOfKey, ShowsItsKey};
 
 use geom::TileKey;
@@ -76,7 +76,7 @@ impl Prepared {
     ) -> Result<Arc<TileImage>, (AllocError, Job)>
         requires { IsSound job.rect }
         ensures key { IfOk result (λ image. image.value.key ≡ job.key) }
-        ensures shows { (s : ScriptModel) → ArePrepared s self.old.images.items → Shows s job.key job.rect job.list.value → IfOk result (ShowsItsKey s) }
+        ensures shows { (s : ScriptModel) → ArePrepared s self.old.images.items → KeyShows s job.key job.rect job.list.value → IfOk result (ShowsItsKey s) }
         ensures stands { (s : ScriptModel) → ArePrepared s self.old.images.items → ArePrepared s self.new.images.items }
         ensures err { IfErr result (λ e. e.1 ≡ job) }
     {

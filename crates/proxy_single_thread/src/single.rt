@@ -6,7 +6,7 @@ ghost use Rattle.impl_core.specs.Replies.{AreUpcoming};
 ghost use Rattle.proxy_single_thread.specs.Singles.{AreScenes};
 
 use crate::main_side::MainSide;
-use crate::shown::Shown;
+use crate::unwritten_scenes::UnwrittenScenes;
 use crate::workers::Workers;
 use impl_core::Core;
 use model_history::{History, Script};
@@ -26,7 +26,7 @@ pub struct SingleThread {
     pub(crate) core: Core,
     pub(crate) main: MainSide,
     pub(crate) workers: Workers,
-    pub(crate) shown: Shown,
+    pub(crate) shown: UnwrittenScenes,
 }
 
 impl Model for SingleThread {
@@ -62,7 +62,7 @@ impl SingleThread {
         let main = MainSide::new(alloc, Arc::try_clone(&script)?);
         let jobs = Workers::new(alloc, workers)?;
         let core = Core::new(alloc, script, workers)?;
-        let shown = Shown::new(alloc);
+        let shown = UnwrittenScenes::new(alloc);
         Ok(SingleThread {
             core,
             main,

@@ -4,7 +4,7 @@ ghost use Rattle.std.specs.Prelude.{◌≡◌, ◌+◌, ◌<◌, IfOk, ℕ};
 ghost use Rattle.model_scheduler.specs.declared.kind.Kind.TheVariants as kind;
 ghost use Rattle.model_history.specs.Scripts.{ScriptModel};
 ghost use Rattle.impl_log.specs.Runs.{new_run};
-ghost use Rattle.proxy_single_thread.specs.Singles.{Answers};
+ghost use Rattle.proxy_single_thread.specs.Singles.{SingleEnters};
 ghost use Rattle.proxy_single_thread.specs.inner.Sides.{AreWorkers};
 
 use crate::prepared::Prepared;
@@ -43,7 +43,7 @@ impl Workers {
         requires worker { worker < core.old.workers }
         requires stands { AreWorkers core.old self.old }
         ensures stands { AreWorkers core.new self.new }
-        ensures answer { Answers core.old kind.Start (2 + worker) core.new result }
+        ensures answer { SingleEnters core.old kind.Start (2 + worker) core.new result }
     {
         let place = worker as usize;
         if self.jobs[place].is_some() {
@@ -65,7 +65,7 @@ impl Workers {
         requires worker { worker < core.old.workers }
         requires stands { AreWorkers core.old self.old }
         ensures stands { AreWorkers core.new self.new }
-        ensures answer { Answers core.old kind.Done (2 + worker) core.new result }
+        ensures answer { SingleEnters core.old kind.Done (2 + worker) core.new result }
     {
         if core.ended() {
             return Err(EnterFault::NotNow);

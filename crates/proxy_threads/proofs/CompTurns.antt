@@ -6,7 +6,7 @@ use Rattle.std.proofs.lemmas.List.{take-append-drop, length-take}
 use Rattle.player_io.specs.Pieces.{GainsPrefix}
 use Rattle.model_scheduler.specs.declared.kind.Kind.{Kind}
 use Rattle.model_scheduler.specs.declared.kind.Kind.TheVariants as kind
-use Rattle.thread_lock.specs.Lists.{own}
+use Rattle.thread_lock.specs.Lists.{entries_by}
 use Rattle.model_history.specs.declared.event.Event.{Event}
 use Rattle.model_history.specs.declared.history.Entry.{Entry}
 use Rattle.model_history.specs.EventFields.{kind_of}
@@ -17,7 +17,7 @@ use Rattle.model_history.proofs.DueRows.{due_row}
 use Rattle.impl_log.specs.Runs.{Run, past, with_entry, Entered}
 use Rattle.impl_log.proofs.LogSteps.{now_is, past_more}
 use Rattle.impl_core.specs.Origins.{Origin}
-use Rattle.impl_core.specs.Replies.{is_played, is_draw, IsPicture}
+use Rattle.impl_core.specs.Replies.{is_played, is_draw_kind, IsPicture}
 use Rattle.recording_writer.specs.inner.Scenes.{scene_image}
 use Rattle.recording_writer.proofs.Gains.{gains_longer}
 use Rattle.proxy_threads.specs.declared.turned.Turned.{Turned}
@@ -29,7 +29,7 @@ use Rattle.proxy_threads.specs.Seats.{Seat, entries_of, pairs, past_of}
 use Rattle.proxy_threads.specs.Causes.{EnteredLast, HasNone, HasWaited}
 use Rattle.proxy_threads.specs.Writing.{part, KnowsEnd, HasWritten, Wrote, CompTurn}
 use Rattle.proxy_threads.specs.inner.Holdings.{Steps, Holding}
-use Rattle.proxy_threads.specs.inner.Steps.{Stops, Settles, Plays, Gathers, GathersAll, Composes, Answers, answer_for, lines_of, text_for}
+use Rattle.proxy_threads.specs.inner.Steps.{Stops, StopsIfFailed, Plays, Gathers, GathersAll, Composes, Answers, answer_for, lines_of, text_for}
 use Rattle.proxy_threads.proofs.Holds.{entries_pairs, past_pairs, pairs_more, drop_front, same_since, mine_kept, entered_last, same_origin}
 use Rattle.proxy_threads.proofs.Others.{others_since}
 use Rattle.proxy_threads.proofs.Parts.{part_more, others_part, plain_part, drawn_part}
@@ -79,11 +79,11 @@ module _ (p q : Seat) (written : ℕ) (lines : Lines) (x : Played) (actor : p.ac
   count : length before ≡ written
   count = let few = have.few in let size : length before ≡ min written (length p.seen) = length-take written p.seen in omega (arith, few, size)
 
-  zero_own : own 0 (pairs hold.found.entries) ≡ p.mine
-  zero_own = ap (λ (a : ℕ). own a (pairs hold.found.entries)) (sym actor) ∙ hold.sees.own
+  zero_own : entries_by 0 (pairs hold.found.entries) ≡ p.mine
+  zero_own = ap (λ (a : ℕ). entries_by a (pairs hold.found.entries)) (sym actor) ∙ hold.sees.own
 
-  none : own 0 more ≡ []
-  none = others_since 0 before more (ap (λ (xs : List (ℕ × Event)). own 0 xs) split ∙ (zero_own ∙ sym have.own))
+  none : entries_by 0 more ≡ []
+  none = others_since 0 before more (ap (λ (xs : List (ℕ × Event)). entries_by 0 xs) split ∙ (zero_own ∙ sym have.own))
 
   found_past : past_of (before ++ more) ≡ past hold.found
   found_past = ap (λ (xs : List (ℕ × Event)). past_of xs) split ∙ past_pairs hold.found.entries
@@ -142,7 +142,7 @@ module _ (p q : Seat) (written : ℕ) (lines : Lines) (x : Played) (actor : p.ac
   part_is played.Blocked plays g = text_kept g plays.0
   part_is played.Plain plays g =
       let e = plays.2 in
-      text_more g e.event [] e.is_entered (plain_part hold.found.script hold.found.workers before more none legal e.event (ap is_draw (kind_entered plays.0 e) ∙ plays.1))
+      text_more g e.event [] e.is_entered (plain_part hold.found.script hold.found.workers before more none legal e.event (ap is_draw_kind (kind_entered plays.0 e) ∙ plays.1))
   part_is (played.Shown scene) plays g =
       let e = plays.entered in
       text_more g e.event (scene_image scene) e.is_entered
@@ -195,7 +195,7 @@ module _ (p q : Seat) (written : ℕ) (lines : Lines) (x : Played) (actor : p.ac
   over_seen : lines.over ≡ is_played (entries_of q.seen)
   over_seen = hold.acts.over ∙ ap (λ (es : List Entry). is_played es) (sym (ap (λ (xs : List (ℕ × Event)). entries_of xs) hold.stands.seen ∙ entries_pairs hold.left.entries))
 
-  pub knows_end : (q2 : Seat) (t : Turned) → Settles t q q2 → KnowsEnd (Some q2) lines.over t
+  pub knows_end : (q2 : Seat) (t : Turned) → StopsIfFailed t q q2 → KnowsEnd (Some q2) lines.over t
   knows_end q2 turned.Went is = subst (λ (z : Seat). lines.over ≡ is_played (entries_of z.seen)) (sym is) over_seen
   knows_end q2 turned.Blocked is = subst (λ (z : Seat). lines.over ≡ is_played (entries_of z.seen)) (sym is) over_seen
   knows_end q2 turned.Ended is = subst (λ (z : Seat). lines.over ≡ is_played (entries_of z.seen)) (sym is) over_seen
@@ -206,7 +206,7 @@ module _ (p q : Seat) (written : ℕ) (lines : Lines) (x : Played) (actor : p.ac
   has_written all = (
     record {
       few = omega (arith, all);
-      own = ap (λ (n : ℕ). own 0 (take n q.seen)) all ∙ (ap (λ (xs : List (ℕ × Event)). own 0 xs) (take_whole q.seen) ∙ (ap (λ (a : ℕ). own a q.seen) (sym (hold.same.actor ∙ actor)) ∙ sym hold.stands.mine));
+      own = ap (λ (n : ℕ). entries_by 0 (take n q.seen)) all ∙ (ap (λ (xs : List (ℕ × Event)). entries_by 0 xs) (take_whole q.seen) ∙ (ap (λ (a : ℕ). entries_by a q.seen) (sym (hold.same.actor ∙ actor)) ∙ sym hold.stands.mine));
     },
     all,
   )
@@ -245,7 +245,7 @@ module _ (p q : Seat) (written : ℕ) (lines : Lines) (x : Played) (actor : p.ac
         (subst (GainsPrefix old new) (sym (part_more hold.found.script before (drop written q.seen) later))
         (front_for x old new (part hold.found.script (before ++ drop written q.seen) later) part_here gains)))
 
-    pub comp_turn : (q2 : Seat) (t : Turned) → Answers x t → Wrote old new (text_for x lines.text.items) t → Settles t q q2 → CompTurn p q2 written lines.written old new t
+    pub comp_turn : (q2 : Seat) (t : Turned) → Answers x t → Wrote old new (text_for x lines.text.items) t → StopsIfFailed t q q2 → CompTurn p q2 written lines.written old new t
     comp_turn q2 turned.Went answer wrote is = subst (λ (z : Seat). CompTurn p z written lines.written old new turned.Went) (sym is) (record {
       same = hold.same;
       run = hold.left;

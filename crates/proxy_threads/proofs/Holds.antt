@@ -2,7 +2,7 @@
 use Rattle.std.proofs.Common.{◌≡◌, ◌⊎◌, inl, inr, ℕ, false, List, [], ◌∷◌, ◌++◌, length, drop, Some, refl, sym, ◌∙◌, ap, subst, arith, append-nil, append_assoc}
 use Rattle.std.specs.Prelude.{reverse}
 use mathlib.Core.List.{IsPrefix}
-use Rattle.thread_lock.specs.Lists.{own, gained}
+use Rattle.thread_lock.specs.Lists.{entries_by, gained}
 use Rattle.thread_lock.proofs.Histories.{own_here, prefix_more}
 use Rattle.model_history.specs.declared.event.Event.{Event}
 use Rattle.model_history.specs.declared.history.Entry.{Entry}
@@ -11,7 +11,7 @@ use Rattle.model_history.specs.Legal.{Legal}
 use Rattle.model_history.proofs.DueFacts.{entry}
 use Rattle.impl_log.specs.Runs.{Run, past, with_entry}
 use Rattle.impl_core.specs.Origins.{Origin, origin_of, pair_of}
-use Rattle.proxy_threads.specs.Seats.{Seat, SamePass, Stands, entry_of, entries_of, pairs, past_of}
+use Rattle.proxy_threads.specs.Seats.{Seat, SamePass, HasSeenRun, entry_of_pair, entries_of, pairs, past_of}
 use Rattle.proxy_threads.specs.Causes.{EnteredLast}
 use Rattle.proxy_threads.specs.inner.Holdings.{Steps, Finds, CanPut, Puts, Holding}
 
@@ -29,7 +29,7 @@ pairs_more (e ∷ es) fs = ap (λ (xs : List (ℕ × Event)). pair_of e ∷ xs) 
 
 pub entries_more : (xs ys : List (ℕ × Event)) → entries_of (xs ++ ys) ≡ entries_of xs ++ entries_of ys
 entries_more [] ys = refl
-entries_more (x ∷ xs) ys = ap (λ (es : List Entry). entry_of x ∷ es) (entries_more xs ys)
+entries_more (x ∷ xs) ys = ap (λ (es : List Entry). entry_of_pair x ∷ es) (entries_more xs ys)
 
 pub drop_front : {X : Type 0} (xs ys : List X) → drop (length xs) (xs ++ ys) ≡ ys
 drop_front [] ys = refl
@@ -45,25 +45,25 @@ can_put p e found left f steps = record { found = found; seen = f.seen; stem = f
 
 module _ (p e : Seat) (found : Run) (f : Finds p e found) where
   -- nothing was entered
-  kept_gains : e.mine ++ gained e.seen (pairs found.entries) ≡ own p.actor (pairs found.entries)
+  kept_gains : e.mine ++ gained e.seen (pairs found.entries) ≡ entries_by p.actor (pairs found.entries)
   kept_gains =
       ap (λ (xs : List (ℕ × Event)). e.mine ++ gained e.seen xs) (sym f.seen ∙ sym (append-nil e.seen))
       ∙ ap (λ (xs : List (ℕ × Event)). e.mine ++ xs) (drop_front e.seen [])
       ∙ (append-nil e.mine ∙ (f.mine ∙ sym f.sees.own))
 
   -- one event was entered
-  more_gains : (ev : Event) → e.mine ++ gained e.seen (pairs (found.entries ++ entry p.actor ev ∷ [])) ≡ own p.actor (pairs (found.entries ++ entry p.actor ev ∷ []))
+  more_gains : (ev : Event) → e.mine ++ gained e.seen (pairs (found.entries ++ entry p.actor ev ∷ [])) ≡ entries_by p.actor (pairs (found.entries ++ entry p.actor ev ∷ []))
   more_gains ev =
       let one : List (ℕ × Event) = (p.actor, ev) ∷ [] in
       let more : pairs (found.entries ++ entry p.actor ev ∷ []) ≡ e.seen ++ one = pairs_more found.entries (entry p.actor ev ∷ []) ∙ ap (λ (xs : List (ℕ × Event)). xs ++ one) (sym f.seen) in
-      let mine : e.mine ≡ own p.actor e.seen = f.mine ∙ (sym f.sees.own ∙ ap (λ (xs : List (ℕ × Event)). own p.actor xs) (sym f.seen)) in
+      let mine : e.mine ≡ entries_by p.actor e.seen = f.mine ∙ (sym f.sees.own ∙ ap (λ (xs : List (ℕ × Event)). entries_by p.actor xs) (sym f.seen)) in
       ap (λ (xs : List (ℕ × Event)). e.mine ++ gained e.seen xs) more
       ∙ ap (λ (xs : List (ℕ × Event)). e.mine ++ xs) (drop_front e.seen one)
-      ∙ (ap (λ (xs : List (ℕ × Event)). xs ++ one) mine ∙ (sym (own_here p.actor ev e.seen) ∙ ap (λ (xs : List (ℕ × Event)). own p.actor xs) (sym more)))
+      ∙ (ap (λ (xs : List (ℕ × Event)). xs ++ one) mine ∙ (sym (own_here p.actor ev e.seen) ∙ ap (λ (xs : List (ℕ × Event)). entries_by p.actor xs) (sym more)))
 
-  mine_put : (left : Run) → Steps p.actor found left → e.mine ++ gained e.seen (pairs left.entries) ≡ own p.actor (pairs left.entries)
-  mine_put left (inl kept) = subst (λ (r : Run). e.mine ++ gained e.seen (pairs r.entries) ≡ own p.actor (pairs r.entries)) (sym kept) kept_gains
-  mine_put left (inr more) = subst (λ (r : Run). e.mine ++ gained e.seen (pairs r.entries) ≡ own p.actor (pairs r.entries)) (sym more.1) (more_gains more.0)
+  mine_put : (left : Run) → Steps p.actor found left → e.mine ++ gained e.seen (pairs left.entries) ≡ entries_by p.actor (pairs left.entries)
+  mine_put left (inl kept) = subst (λ (r : Run). e.mine ++ gained e.seen (pairs r.entries) ≡ entries_by p.actor (pairs r.entries)) (sym kept) kept_gains
+  mine_put left (inr more) = subst (λ (r : Run). e.mine ++ gained e.seen (pairs r.entries) ≡ entries_by p.actor (pairs r.entries)) (sym more.1) (more_gains more.0)
 
   seen_put : (left : Run) → Steps p.actor found left → IsPrefix p.seen (pairs left.entries)
   seen_put left (inl kept) = subst (λ (r : Run). IsPrefix p.seen (pairs r.entries)) (sym kept) f.sees.began
@@ -84,7 +84,7 @@ module _ (p e : Seat) (found : Run) (f : Finds p e found) where
     stands = record {
       seen = refl;
       stem = f.stem ∙ (f.sees.origin ∙ ap (λ (o : Origin). Some o) (origin_put left steps));
-      mine = mine_put left steps ∙ ap (λ (a : ℕ). own a (pairs left.entries)) (sym f.actor);
+      mine = mine_put left steps ∙ ap (λ (a : ℕ). entries_by a (pairs left.entries)) (sym f.actor);
       legal = legal;
     };
     acts = acts;
@@ -115,7 +115,7 @@ module _ (p q : Seat) (Acts : Run → Run → Type 0) (hold : Holding p q Acts) 
   pub mine_kept : hold.left ≡ hold.found → q.mine ≡ p.mine
   mine_kept is =
       hold.stands.mine
-      ∙ (ap (λ (a : ℕ). own a q.seen) hold.same.actor ∙ (ap (λ (xs : List (ℕ × Event)). own p.actor xs) (hold.stands.seen ∙ ap (λ (r : Run). pairs r.entries) is) ∙ hold.sees.own))
+      ∙ (ap (λ (a : ℕ). entries_by a q.seen) hold.same.actor ∙ (ap (λ (xs : List (ℕ × Event)). entries_by p.actor xs) (hold.stands.seen ∙ ap (λ (r : Run). pairs r.entries) is) ∙ hold.sees.own))
 
   seen_more : (e : Event) → hold.left ≡ with_entry hold.found p.actor e → q.seen ≡ pairs hold.found.entries ++ (p.actor, e) ∷ []
   seen_more e is = hold.stands.seen ∙ (ap (λ (r : Run). pairs r.entries) is ∙ pairs_more hold.found.entries (entry p.actor e ∷ []))
@@ -124,8 +124,8 @@ module _ (p q : Seat) (Acts : Run → Run → Type 0) (hold : Holding p q Acts) 
   pub mine_more : (e : Event) → hold.left ≡ with_entry hold.found p.actor e → q.mine ≡ p.mine ++ (q.actor, e) ∷ []
   mine_more e is =
       hold.stands.mine
-      ∙ (ap (λ (a : ℕ). own a q.seen) hold.same.actor
-      ∙ (ap (λ (xs : List (ℕ × Event)). own p.actor xs) (seen_more e is)
+      ∙ (ap (λ (a : ℕ). entries_by a q.seen) hold.same.actor
+      ∙ (ap (λ (xs : List (ℕ × Event)). entries_by p.actor xs) (seen_more e is)
       ∙ (own_here p.actor e (pairs hold.found.entries)
       ∙ (ap (λ (xs : List (ℕ × Event)). xs ++ (p.actor, e) ∷ []) hold.sees.own ∙ ap (λ (a : ℕ). p.mine ++ (a, e) ∷ []) (sym hold.same.actor)))))
 
@@ -142,7 +142,7 @@ module _ (p q : Seat) (Acts : Run → Run → Type 0) (hold : Holding p q Acts) 
   past_left = ap (λ (xs : List (ℕ × Event)). past_of xs) hold.stands.seen ∙ past_pairs hold.left.entries
 
   -- it is of the run that another holding before has left
-  pub same_origin : (r : Run) → Stands p r → origin_of hold.left ≡ origin_of r
+  pub same_origin : (r : Run) → HasSeenRun p r → origin_of hold.left ≡ origin_of r
   same_origin r stands = some_same (origin_of hold.left) (origin_of r) (sym hold.stands.stem ∙ (hold.same.stem ∙ stands.stem))
 
 -- ---- what is put back has the stem, and the history or one event more

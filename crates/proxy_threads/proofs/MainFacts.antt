@@ -1,7 +1,7 @@
 -- The main side over what others have entered since.
 use Rattle.std.proofs.Common.{◌≡◌, ◌≢◌, ◌⊎◌, inl, inr, ℕ, Bool, true, false, List, [], ◌∷◌, ◌++◌, length, Some, None, refl, sym, ◌∙◌, ap, subst, arith, append_assoc, append-nil}
 use Rattle.page_layers.specs.declared.moves.Move.{Move}
-use Rattle.thread_lock.specs.Lists.{own}
+use Rattle.thread_lock.specs.Lists.{entries_by}
 use Rattle.model_history.specs.declared.event.Event.{Event}
 use Rattle.model_history.specs.declared.event.Event.TheVariants as event
 use Rattle.model_history.specs.declared.history.Entry.{Entry}
@@ -13,7 +13,7 @@ use Rattle.model_history.specs.Legal.{Legal}
 use Rattle.model_history.proofs.BoolFacts.{by_test, not_both}
 use Rattle.impl_log.specs.Runs.{Run, past, with_entry}
 use Rattle.impl_core.specs.Origins.{Origin, origin_of}
-use Rattle.main_host.specs.Hosts.{HostModel, IsEnd, with_frame}
+use Rattle.main_host.specs.Hosts.{MainHostModel, IsEnd, with_frame}
 use Rattle.main_host.specs.declared.main_end.MainEnd.{MainEnd}
 use Rattle.main_host.specs.declared.main_end.MainEnd.TheVariants as end
 use Rattle.proxy_single_thread.specs.declared.main_side.MainSide.{MainSide}
@@ -26,11 +26,11 @@ use Rattle.proxy_threads.specs.declared.turned.Turned.{Turned}
 use Rattle.proxy_threads.specs.declared.turned.Turned.TheVariants as turned
 use Rattle.proxy_threads.specs.declared.main_actor.Told.{Told}
 use Rattle.proxy_threads.specs.declared.main_actor.Told.TheVariants as told
-use Rattle.proxy_threads.specs.Seats.{Seat, Stands, entry_of, pairs, past_of}
+use Rattle.proxy_threads.specs.Seats.{Seat, HasSeenRun, entry_of_pair, pairs, past_of}
 use Rattle.proxy_threads.specs.Causes.{HasNone, HasWaited, MainCause, have_frames_ended}
 use Rattle.proxy_threads.specs.MainTurns.{IsTied, IsInStep}
 use Rattle.proxy_threads.specs.inner.Holdings.{Steps, Sees, Holding}
-use Rattle.proxy_threads.specs.inner.Steps.{Stops, Settles}
+use Rattle.proxy_threads.specs.inner.Steps.{Stops, StopsIfFailed}
 use Rattle.proxy_threads.specs.inner.Mains.{Tells, Listens, IsSentTo, IsHeldBy, event_of, CanEnd, Hands, MainTurns}
 use Rattle.proxy_threads.proofs.Holds.{past_pairs, some_same, same_since, mine_kept, entered_last, past_left}
 use Rattle.proxy_threads.proofs.Others.{past_longer, ended_since, others_since, kept_by_others}
@@ -43,15 +43,15 @@ not_mains (event.Ready k) a is other = absurd (other is)
 not_mains (event.Abort k) a is other = absurd (other is)
 not_mains _ a is other = refl
 
-side_stays : (s : ScriptModel) (n : ℕ) (side : MainSide) (h : List Entry) (x : ℕ × Event) → Legal s n (entry_of x ∷ h) → x.0 ≢ 1 → IsMainAt s h side → IsMainAt s (entry_of x ∷ h) side
+side_stays : (s : ScriptModel) (n : ℕ) (side : MainSide) (h : List Entry) (x : ℕ × Event) → Legal s n (entry_of_pair x ∷ h) → x.0 ≢ 1 → IsMainAt s h side → IsMainAt s (entry_of_pair x ∷ h) side
 side_stays s n side h x legal other m = main_stays s n h x.0 side x.1 legal (not_mains x.1 x.0 legal.1.actor other) m
 
 -- from a front of what the pass saw, in which all is that the main side entered, to the run that it finds
-pub main_found : (p : Seat) (r : Run) (side : MainSide) (o : Origin) (base rest : List (ℕ × Event)) → Sees p r → p.actor ≡ 1 → base ++ rest ≡ p.seen → own 1 base ≡ p.mine → p.stem ≡ Some o → IsMainAt o.script (past_of base) side → IsMain r side
+pub main_found : (p : Seat) (r : Run) (side : MainSide) (o : Origin) (base rest : List (ℕ × Event)) → Sees p r → p.actor ≡ 1 → base ++ rest ≡ p.seen → entries_by 1 base ≡ p.mine → p.stem ≡ Some o → IsMainAt o.script (past_of base) side → IsMain r side
 main_found p r side o base rest sees actor seen mine stem m =
     let longer : base ++ (rest ++ sees.began.0) ≡ pairs r.entries = sym (append_assoc base rest sees.began.0) ∙ (ap (λ (xs : List (ℕ × Event)). xs ++ sees.began.0) seen ∙ sees.began.1) in
-    let all : own 1 (pairs r.entries) ≡ p.mine = ap (λ (a : ℕ). own a (pairs r.entries)) (sym actor) ∙ sees.own in
-    let none : own 1 (rest ++ sees.began.0) ≡ [] = others_since 1 base (rest ++ sees.began.0) (ap (λ (xs : List (ℕ × Event)). own 1 xs) longer ∙ (all ∙ sym mine)) in
+    let all : entries_by 1 (pairs r.entries) ≡ p.mine = ap (λ (a : ℕ). entries_by a (pairs r.entries)) (sym actor) ∙ sees.own in
+    let none : entries_by 1 (rest ++ sees.began.0) ≡ [] = others_since 1 base (rest ++ sees.began.0) (ap (λ (xs : List (ℕ × Event)). entries_by 1 xs) longer ∙ (all ∙ sym mine)) in
     let past_is : past_of (base ++ (rest ++ sees.began.0)) ≡ past r = ap (λ (xs : List (ℕ × Event)). past_of xs) longer ∙ past_pairs r.entries in
     let grown_is = sym (past_longer base (rest ++ sees.began.0)) ∙ past_is in
     let same : o ≡ origin_of r = some_same o (origin_of r) (sym stem ∙ sees.origin) in
@@ -61,18 +61,18 @@ main_found p r side o base rest sees actor seen mine stem m =
     (subst (Legal r.script r.workers) (sym grown_is) sees.legal) there)
 
 -- from a run that the pass saw to the run that it finds
-pub main_since : (p : Seat) (r : Run) (side : MainSide) (before : Run) → Sees p r → p.actor ≡ 1 → Stands p before → IsMain before side → IsMain r side
+pub main_since : (p : Seat) (r : Run) (side : MainSide) (before : Run) → Sees p r → p.actor ≡ 1 → HasSeenRun p before → IsMain before side → IsMain r side
 main_since p r side before sees actor stands m =
-    main_found p r side (origin_of before) p.seen [] sees actor (append-nil p.seen) (ap (λ (a : ℕ). own a p.seen) (sym actor) ∙ sym stands.mine) stands.stem
+    main_found p r side (origin_of before) p.seen [] sees actor (append-nil p.seen) (ap (λ (a : ℕ). entries_by a p.seen) (sym actor) ∙ sym stands.mine) stands.stem
     (subst (λ (h : List Entry). IsMainAt before.script h side) (sym (ap (λ (xs : List (ℕ × Event)). past_of xs) stands.seen ∙ past_pairs before.entries)) m)
 
 -- a pass that stands for a run is tied to its host
-pub tied_after : (q : Seat) (r : Run) (host : HostModel) (changed : Bool) → Stands q r → q.actor ≡ 1 → IsMain r (record { host = host; end = None; changed = changed }) → IsTied q host
+pub tied_after : (q : Seat) (r : Run) (host : MainHostModel) (changed : Bool) → HasSeenRun q r → q.actor ≡ 1 → IsMain r (record { host = host; end = None; changed = changed }) → IsTied q host
 tied_after q r host changed stands actor m = record {
   base = q.seen;
   rest = [];
   seen = append-nil q.seen;
-  mine = ap (λ (a : ℕ). own a q.seen) (sym actor) ∙ sym stands.mine;
+  mine = ap (λ (a : ℕ). entries_by a q.seen) (sym actor) ∙ sym stands.mine;
   origin = origin_of r;
   stem = stands.stem;
   changed = changed;
@@ -83,17 +83,17 @@ tied_after q r host changed stands actor m = record {
 -- ---- the first holding
 
 -- in a run that goes on, the host has run its main frames
-pub record Unrun (r : Run) (host : HostModel) : Type 0 where
+pub record Unrun (r : Run) (host : MainHostModel) : Type 0 where
   pub changed : Bool
   pub main : IsMain r (record { host = host; end = None; changed = changed })
 
-pub unrun_is : (p : Seat) (r : Run) (host : HostModel) → Sees p r → p.actor ≡ 1 → IsInStep p host → has_ended (past r) ≡ false → Unrun r host
+pub unrun_is : (p : Seat) (r : Run) (host : MainHostModel) → Sees p r → p.actor ≡ 1 → IsInStep p host → has_ended (past r) ≡ false → Unrun r host
 unrun_is p r host sees actor (inl ended) going =
     absurd (not_both (has_ended (past r)) (ap (λ (h : List Entry). has_ended h) (sym (past_pairs r.entries)) ∙ ended_since p.seen (pairs r.entries) sees.began ended) going)
 unrun_is p r host sees actor (inr tied) going =
     record { changed = tied.changed; main = main_found p r (record { host = host; end = None; changed = tied.changed }) tied.origin tied.base tied.rest sees actor tied.seen tied.mine tied.stem tied.main }
 
-module _ (p q : Seat) (x : Told) (hold : Holding p q (Listens x)) (actor : p.actor ≡ 1) (host : HostModel) (step : IsInStep p host) where
+module _ (p q : Seat) (x : Told) (hold : Holding p q (Listens x)) (actor : p.actor ≡ 1) (host : MainHostModel) (step : IsInStep p host) where
   actor_after : q.actor ≡ 1
   actor_after = hold.same.actor ∙ actor
 
@@ -152,7 +152,7 @@ module _ (p q : Seat) (x : Told) (hold : Holding p q (Listens x)) (actor : p.act
       let u = unrun_is p hold.found host hold.sees actor step tells.0.going in
       record {
         run = hold.found;
-        stands = subst (λ (r : Run). Stands q r) same hold.stands;
+        stands = subst (λ (r : Run). HasSeenRun q r) same hold.stands;
         actor = actor_after;
         going = tells.0.going;
         accepted = hold.sees.accepted;
@@ -163,7 +163,7 @@ module _ (p q : Seat) (x : Told) (hold : Holding p q (Listens x)) (actor : p.act
       }
 
   -- what a later holding answers is the answer of the turn
-  pub then_turn : (q2 : Seat) (after : HostModel) (t : Turned) → MainTurns q q2 after t → MainTurns p q2 after t
+  pub then_turn : (q2 : Seat) (after : MainHostModel) (t : Turned) → MainTurns q q2 after t → MainTurns p q2 after t
   then_turn q2 after t m = record {
     turn = record { same = same_since p q q2 hold.same m.turn.same; run = m.turn.run; stands = m.turn.stands; cause = cause t m.turn.cause };
     in_step = m.in_step;
@@ -180,7 +180,7 @@ module _ (p q : Seat) (x : Told) (hold : Holding p q (Listens x)) (actor : p.act
       cause turned.WriteFault c = c
 
 -- the actor gave up
-pub stop_turn : (p q : Seat) (host : HostModel) → Holding p q (Stops p.actor) → MainTurns p q host turned.Memory
+pub stop_turn : (p q : Seat) (host : MainHostModel) → Holding p q (Stops p.actor) → MainTurns p q host turned.Memory
 stop_turn p q host hold = record {
   turn = record { same = hold.same; run = hold.left; stands = hold.stands; cause = hold.acts.ended };
   in_step = inl (ap (λ (h : List Entry). has_ended h) (past_left p q (Stops p.actor) hold) ∙ hold.acts.ended);
@@ -189,7 +189,7 @@ stop_turn p q host hold = record {
 -- ---- between the holdings
 
 -- the frame was run, and its end is kept
-pub held_by : (p : Seat) (host after : HostModel) (ms : List Move) (e : MainEnd) → IsSentTo p host ms → after ≡ with_frame host ms → IsEnd host ms e → IsHeldBy p after e
+pub held_by : (p : Seat) (host after : MainHostModel) (ms : List Move) (e : MainEnd) → IsSentTo p host ms → after ≡ with_frame host ms → IsEnd host ms e → IsHeldBy p after e
 held_by p host after ms e sent more ends = record {
   run = sent.run;
   stands = sent.stands;
@@ -200,7 +200,7 @@ held_by p host after ms e sent more ends = record {
 
 -- ---- the second holding
 
-module _ (p : Seat) (r : Run) (host : HostModel) (e : MainEnd) (sees : Sees p r) (held : IsHeldBy p host e) where
+module _ (p : Seat) (r : Run) (host : MainHostModel) (e : MainEnd) (sees : Sees p r) (held : IsHeldBy p host e) where
   abbrev side : MainSide
   side = record { host = host; end = Some e; changed = held.changed }
 
@@ -211,7 +211,7 @@ module _ (p : Seat) (r : Run) (host : HostModel) (e : MainEnd) (sees : Sees p r)
   is_held = held_is r side e main_now refl
 
 -- the end of the frame may come
-pub can_end : (p : Seat) (r : Run) (host : HostModel) (e : MainEnd) → Sees p r → IsHeldBy p host e → has_ended (past r) ≡ false → CanEnd r e
+pub can_end : (p : Seat) (r : Run) (host : MainHostModel) (e : MainEnd) → Sees p r → IsHeldBy p host e → has_ended (past r) ≡ false → CanEnd r e
 can_end p r host (end.Ready c) sees held going =
     let k = is_held p r host (end.Ready c) sees held in
     let frame = k.behind.ends.1 in
@@ -223,14 +223,14 @@ can_end p r host (end.Ready c) sees held going =
 can_end p r host (end.Abort k) sees held going = abort_now r (side p r host (end.Abort k) sees held) sees.legal going k (is_held p r host (end.Abort k) sees held)
 
 -- after the end of the frame the host has run all main frames
-pub after_end : (p : Seat) (r new : Run) (host : HostModel) (e : MainEnd) → Sees p r → IsHeldBy p host e → has_ended (past r) ≡ false → new ≡ with_entry r 1 (event_of e) → Unrun new host
+pub after_end : (p : Seat) (r new : Run) (host : MainHostModel) (e : MainEnd) → Sees p r → IsHeldBy p host e → has_ended (past r) ≡ false → new ≡ with_entry r 1 (event_of e) → Unrun new host
 after_end p r new host (end.Ready c) sees held going is =
     record { changed = held.changed; main = after_ready r (side p r host (end.Ready c) sees held) sees.legal going c (is_held p r host (end.Ready c) sees held) new is }
 after_end p r new host (end.Abort k) sees held going is =
     record { changed = held.changed; main = after_abort r (side p r host (end.Abort k) sees held) sees.legal going k (is_held p r host (end.Abort k) sees held) new is }
 
 -- the end was handed over, or not
-pub handed : (p q q2 : Seat) (host : HostModel) (e : MainEnd) (t : Turned) → IsHeldBy p host e → Holding p q (Hands e t) → Settles t q q2 → MainTurns p q2 host t
+pub handed : (p q q2 : Seat) (host : MainHostModel) (e : MainEnd) (t : Turned) → IsHeldBy p host e → Holding p q (Hands e t) → StopsIfFailed t q q2 → MainTurns p q2 host t
 handed p q q2 host e turned.Went held hold is =
     let left : hold.left ≡ with_entry hold.found p.actor (event_of e) = hold.acts.1 ∙ ap (λ (a : ℕ). with_entry hold.found a (event_of e)) (sym held.actor) in
     let u = after_end p hold.found hold.left host e hold.sees held hold.acts.0 hold.acts.1 in
@@ -259,7 +259,7 @@ hands_steps e turned.Blocked old new h = absurd h
 hands_steps e turned.WriteFault old new h = absurd h
 
 -- before all main frames the host is tied to the pass
-pub fresh_tied : (p : Seat) (host : HostModel) (o : Origin) → p.mine ≡ [] → p.stem ≡ Some o → host.script ≡ o.script → host.sends ≡ [] → IsTied p host
+pub fresh_tied : (p : Seat) (host : MainHostModel) (o : Origin) → p.mine ≡ [] → p.stem ≡ Some o → host.script ≡ o.script → host.sends ≡ [] → IsTied p host
 fresh_tied p host o fresh stem script before = record {
   base = [];
   rest = p.seen;

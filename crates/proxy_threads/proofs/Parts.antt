@@ -3,7 +3,7 @@ use Rattle.std.proofs.Common.{◌≡◌, ◌≢◌, ℕ, false, List, [], ◌∷
 use mathlib.Core.List.{reverse_aux}
 use Rattle.viz_scene.specs.Views.{SceneView}
 use Rattle.model_scheduler.specs.declared.kind.Kind.TheVariants as kind
-use Rattle.thread_lock.specs.Lists.{own}
+use Rattle.thread_lock.specs.Lists.{entries_by}
 use Rattle.model_history.specs.declared.event.Event.{Event}
 use Rattle.model_history.specs.declared.event.Event.TheVariants as event
 use Rattle.model_history.specs.declared.history.Entry.{Entry}
@@ -14,10 +14,10 @@ use Rattle.model_history.specs.Recordings.{piece, pieces}
 use Rattle.model_history.specs.Texts.{event_line}
 use Rattle.model_history.proofs.BoolFacts.{other_number}
 use Rattle.model_history.proofs.DueFacts.{entry}
-use Rattle.impl_core.specs.Replies.{IsPicture, is_draw}
+use Rattle.impl_core.specs.Replies.{IsPicture, is_draw_kind}
 use Rattle.recording_writer.specs.inner.Scenes.{scene_image}
 use Rattle.recording_writer.proofs.DrawnScenes.{draw_image}
-use Rattle.proxy_threads.specs.Seats.{entry_of, entries_of, past_of}
+use Rattle.proxy_threads.specs.Seats.{entry_of_pair, entries_of, past_of}
 use Rattle.proxy_threads.specs.Writing.{part}
 use Rattle.proxy_threads.specs.inner.Steps.{lines_of}
 use Rattle.proxy_threads.proofs.Holds.{entries_more}
@@ -32,7 +32,7 @@ line_alone s h a (event.Draw i lacks) other is = absurd (other is)
 line_alone s h a e other is = append-nil (event_line e)
 
 -- an event that shows nothing adds its line alone
-plain_piece : (s : ScriptModel) (h : List Entry) (e : Event) → is_draw (kind_of e) ≡ false → piece s h e ≡ event_line e
+plain_piece : (s : ScriptModel) (h : List Entry) (e : Event) → is_draw_kind (kind_of e) ≡ false → piece s h e ≡ event_line e
 unfolding piece
 plain_piece s h (event.Draw i lacks) f = absurd (cc)
 plain_piece s h e f = append-nil (event_line e)
@@ -62,16 +62,16 @@ part_more s before xs ys =
     ∙ ap (λ (h : List Entry). pieces s (past_of before) (entries_of xs) ++ pieces s h (entries_of ys)) (grown_aux xs (past_of before) ∙ sym (past_longer before xs)))
 
 -- what the others entered adds its lines alone
-pub others_lines : (s : ScriptModel) (n : ℕ) (ys : List (ℕ × Event)) (h : List Entry) → own 0 ys ≡ [] → Legal s n (grown h ys) → pieces s h (entries_of ys) ≡ lines_of (entries_of ys)
+pub others_lines : (s : ScriptModel) (n : ℕ) (ys : List (ℕ × Event)) (h : List Entry) → entries_by 0 ys ≡ [] → Legal s n (grown h ys) → pieces s h (entries_of ys) ≡ lines_of (entries_of ys)
 others_lines s n [] h none legal = refl
 others_lines s n (y ∷ ys) h none legal =
     let t = theirs 0 y ys none in
-    let next = (legal_front s n 0 ys (entry_of y ∷ h) legal).1 in
-    ap (λ (w : List ℕ). w ++ pieces s (entry_of y ∷ h) (entries_of ys)) (line_alone s h y.0 y.1 (other_number y.0 0 t.first) next.actor)
-    ∙ ap (λ (w : List ℕ). event_line y.1 ++ w) (others_lines s n ys (entry_of y ∷ h) t.others legal)
+    let next = (legal_front s n 0 ys (entry_of_pair y ∷ h) legal).1 in
+    ap (λ (w : List ℕ). w ++ pieces s (entry_of_pair y ∷ h) (entries_of ys)) (line_alone s h y.0 y.1 (other_number y.0 0 t.first) next.actor)
+    ∙ ap (λ (w : List ℕ). event_line y.1 ++ w) (others_lines s n ys (entry_of_pair y ∷ h) t.others legal)
 
 -- the others' part, and one own event behind it, which adds its line and this
-module _ (s : ScriptModel) (n : ℕ) (before more : List (ℕ × Event)) (none : own 0 more ≡ []) (legal : Legal s n (past_of (before ++ more))) where
+module _ (s : ScriptModel) (n : ℕ) (before more : List (ℕ × Event)) (none : entries_by 0 more ≡ []) (legal : Legal s n (past_of (before ++ more))) where
   pub others_part : part s before more ≡ lines_of (entries_of more)
   unfolding part
   others_part = others_lines s n more (past_of before) none (subst (Legal s n) (past_longer before more) legal)
@@ -86,7 +86,7 @@ module _ (s : ScriptModel) (n : ℕ) (before more : List (ℕ × Event)) (none :
       ∙ (sym (append_assoc (lines_of (entries_of more)) (lines_of one) image)
       ∙ ap (λ (w : List ℕ). w ++ image) (sym (ap (λ (es : List Entry). lines_of es) (entries_more more ((0, e) ∷ [])) ∙ lines_more (entries_of more) one)))
 
-  pub plain_part : (e : Event) → is_draw (kind_of e) ≡ false → part s before (more ++ (0, e) ∷ []) ≡ lines_of (entries_of (more ++ (0, e) ∷ [])) ++ []
+  pub plain_part : (e : Event) → is_draw_kind (kind_of e) ≡ false → part s before (more ++ (0, e) ∷ []) ≡ lines_of (entries_of (more ++ (0, e) ∷ [])) ++ []
   plain_part e f = own_part e [] (plain_piece s (past_of (before ++ more)) e f ∙ sym (append-nil (event_line e)))
 
   pub drawn_part : (e : Event) (scene : SceneView) → kind_of e ≡ kind.Draw → Legal s n (entry 0 e ∷ past_of (before ++ more)) → IsPicture s (past_of (before ++ more)) scene

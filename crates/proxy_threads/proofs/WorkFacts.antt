@@ -4,7 +4,7 @@ use Rattle.atomic_table.specs.Seated.{TableId}
 use Rattle.geom.specs.declared.tile.TileKey.{TileKey}
 use Rattle.tile_raster.specs.Images.{Image}
 use Rattle.tile_raster.specs.declared.job.Job.{Job}
-use Rattle.thread_lock.specs.Lists.{own}
+use Rattle.thread_lock.specs.Lists.{entries_by}
 use Rattle.model_history.specs.declared.event.Event.{Event}
 use Rattle.model_history.specs.declared.event.Event.TheVariants as event
 use Rattle.model_history.specs.declared.history.Entry.{Entry}
@@ -14,7 +14,7 @@ use Rattle.model_history.specs.Scans.{has_ended, held}
 use Rattle.model_history.specs.Legal.{Legal}
 use Rattle.model_history.proofs.BoolFacts.{by_test, not_both, is_same, is_other, other_number}
 use Rattle.model_history.proofs.DueFacts.{entry}
-use Rattle.model_steps.specs.ShownKeys.{Shows}
+use Rattle.model_steps.specs.ShownKeys.{KeyShows}
 use Rattle.impl_log.specs.Runs.{Run, past, with_entry}
 use Rattle.impl_log.proofs.LogSteps.{past_more}
 use Rattle.impl_core.specs.Origins.{Origin, origin_of}
@@ -22,7 +22,7 @@ use Rattle.proxy_threads.specs.declared.turned.Turned.{Turned}
 use Rattle.proxy_threads.specs.declared.turned.Turned.TheVariants as turned
 use Rattle.proxy_threads.specs.declared.raster_actor.Started.{Started}
 use Rattle.proxy_threads.specs.declared.raster_actor.Started.TheVariants as started
-use Rattle.proxy_threads.specs.Seats.{Seat, Stands, entry_of, pairs, past_of}
+use Rattle.proxy_threads.specs.Seats.{Seat, HasSeenRun, entry_of_pair, pairs, past_of}
 use Rattle.proxy_threads.specs.Causes.{HasNone, HasWaited}
 use Rattle.proxy_threads.specs.WorkTurns.{WorkIsReady}
 use Rattle.proxy_threads.specs.inner.Holdings.{Steps, Sees, Holding}
@@ -40,34 +40,34 @@ held_else w a (event.DoneTile v q) old is other = ap (λ (b : Bool). cond b None
 held_else w a _ old is other = refl
 
 module _ (s : ScriptModel) (n w : ℕ) where
-  held_own : (ys : List (ℕ × Event)) (h g : List Entry) → Legal s n (grown h ys) → held w h ≡ held w g → held w (grown h ys) ≡ held w (grown g (own (2 + w) ys))
+  held_own : (ys : List (ℕ × Event)) (h g : List Entry) → Legal s n (grown h ys) → held w h ≡ held w g → held w (grown h ys) ≡ held w (grown g (entries_by (2 + w) ys))
   held_own [] h g legal same = same
   held_own (y ∷ ys) h g legal same =
       by_test (y.0 == 2 + w)
       (λ t.
-      held_own ys (entry_of y ∷ h) (entry_of y ∷ g) legal (ap (λ (o : Option TileKey). held_after y.1 w o) same)
-      ∙ ap (λ (b : Bool). held w (grown g (cond b (y ∷ own (2 + w) ys) (own (2 + w) ys)))) (sym t))
+      held_own ys (entry_of_pair y ∷ h) (entry_of_pair y ∷ g) legal (ap (λ (o : Option TileKey). held_after y.1 w o) same)
+      ∙ ap (λ (b : Bool). held w (grown g (cond b (y ∷ entries_by (2 + w) ys) (entries_by (2 + w) ys)))) (sym t))
       (λ f.
-      held_own ys (entry_of y ∷ h) g legal (held_else w y.0 y.1 (held w h) (legal_front s n 0 ys (entry_of y ∷ h) legal).1.actor (other_number y.0 (2 + w) f) ∙ same)
-      ∙ ap (λ (b : Bool). held w (grown g (cond b (y ∷ own (2 + w) ys) (own (2 + w) ys)))) (sym f))
+      held_own ys (entry_of_pair y ∷ h) g legal (held_else w y.0 y.1 (held w h) (legal_front s n 0 ys (entry_of_pair y ∷ h) legal).1.actor (other_number y.0 (2 + w) f) ∙ same)
+      ∙ ap (λ (b : Bool). held w (grown g (cond b (y ∷ entries_by (2 + w) ys) (entries_by (2 + w) ys)))) (sym f))
 
-  held_mine : (ys : List (ℕ × Event)) → Legal s n (past_of ys) → held w (past_of ys) ≡ held w (past_of (own (2 + w) ys))
+  held_mine : (ys : List (ℕ × Event)) → Legal s n (past_of ys) → held w (past_of ys) ≡ held w (past_of (entries_by (2 + w) ys))
   held_mine ys legal =
       ap (λ (h : List Entry). held w h) (past_grown ys)
-      ∙ (held_own ys [] [] (subst (Legal s n) (past_grown ys) legal) refl ∙ ap (λ (h : List Entry). held w h) (sym (past_grown (own (2 + w) ys))))
+      ∙ (held_own ys [] [] (subst (Legal s n) (past_grown ys) legal) refl ∙ ap (λ (h : List Entry). held w h) (sym (past_grown (entries_by (2 + w) ys))))
 
 -- at the run that a pass finds
 pub held_found : (w : ℕ) (p : Seat) (r : Run) → Sees p r → p.actor ≡ 2 + w → held w (past r) ≡ held w (past_of p.mine)
 held_found w p r sees actor =
     ap (λ (h : List Entry). held w h) (sym (past_pairs r.entries))
     ∙ (held_mine r.script r.workers w (pairs r.entries) (subst (Legal r.script r.workers) (sym (past_pairs r.entries)) sees.legal)
-    ∙ ap (λ (xs : List (ℕ × Event)). held w (past_of xs)) (ap (λ (a : ℕ). own a (pairs r.entries)) (sym actor) ∙ sees.own))
+    ∙ ap (λ (xs : List (ℕ × Event)). held w (past_of xs)) (ap (λ (a : ℕ). entries_by a (pairs r.entries)) (sym actor) ∙ sees.own))
 
 -- at the run that a pass stands for
-pub held_standing : (w : ℕ) (p : Seat) (r : Run) → Stands p r → p.actor ≡ 2 + w → held w (past_of p.mine) ≡ held w (past r)
+pub held_standing : (w : ℕ) (p : Seat) (r : Run) → HasSeenRun p r → p.actor ≡ 2 + w → held w (past_of p.mine) ≡ held w (past r)
 held_standing w p r stands actor =
     let all : past_of p.seen ≡ past r = ap (λ (xs : List (ℕ × Event)). past_of xs) stands.seen ∙ past_pairs r.entries in
-    ap (λ (xs : List (ℕ × Event)). held w (past_of xs)) (stands.mine ∙ ap (λ (a : ℕ). own a p.seen) actor)
+    ap (λ (xs : List (ℕ × Event)). held w (past_of xs)) (stands.mine ∙ ap (λ (a : ℕ). entries_by a p.seen) actor)
     ∙ (sym (held_mine r.script r.workers w p.seen (subst (Legal r.script r.workers) (sym all) stands.legal)) ∙ ap (λ (h : List Entry). held w h) all)
 
 -- ---- the first holding
@@ -184,7 +184,7 @@ module _ (w : ℕ) (p q : Seat) (x : Started) (hold : Holding p q (StartsOne w x
 pub can_be_done : (w : ℕ) (p : Seat) (r : Run) (image : Image) → Holds w p image → Sees p r → CanBeDone w image r
 can_be_done w p r image held sees = record {
   held = λ going. held_found w p r sees held.actor ∙ (held_standing w p held.run held.stands held.actor ∙ held.held);
-  shows = subst (λ (o : Origin). Shows o.script image.key image.rect image.list) (some_same (origin_of held.run) (origin_of r) (sym held.stands.stem ∙ sees.origin)) held.shows;
+  shows = subst (λ (o : Origin). KeyShows o.script image.key image.rect image.list) (some_same (origin_of held.run) (origin_of r) (sym held.stands.stem ∙ sees.origin)) held.shows;
 }
 
 pub done_steps : (w : ℕ) (key : TileKey) (old new : Run) (t : Turned) → IsDone w key t old new → Steps (2 + w) old new

@@ -2,7 +2,7 @@
 use Rattle.std.specs.Prelude.{◌≡◌, ℕ, ◌<◌, List, map, reverse, Option, Some, None}
 use mathlib.Core.List.{IsPrefix}
 use Rattle.thread_lock.specs.PassModels.{PassModel}
-use Rattle.thread_lock.specs.Lists.{own}
+use Rattle.thread_lock.specs.Lists.{entries_by}
 use Rattle.model_history.specs.declared.event.Event.{Event}
 use Rattle.model_history.specs.declared.history.Entry.{Entry}
 use Rattle.model_history.specs.Legal.{Legal}
@@ -14,11 +14,11 @@ abbrev pub Seat : Type 0
 Seat = PassModel Origin Event
 
 -- an event beside its actor, as an entry
-abbrev pub entry_of : ℕ × Event → Entry
-entry_of p = record { actor = p.0; event = p.1 }
+abbrev pub entry_of_pair : ℕ × Event → Entry
+entry_of_pair p = record { actor = p.0; event = p.1 }
 
 abbrev pub entries_of : List (ℕ × Event) → List Entry
-entries_of ps = map entry_of ps
+entries_of ps = map entry_of_pair ps
 
 -- entries as a pass sees them
 abbrev pub pairs : List Entry → List (ℕ × Event)
@@ -38,10 +38,10 @@ pub record SamePass (p q : Seat) : Type 0 where
   pub seen : IsPrefix p.seen q.seen
 
 -- what the pass saw last is this run, which is legal; and what the actor entered is all that the run has of it
-pub record Stands (p : Seat) (r : Run) : Type 0 where
+pub record HasSeenRun (p : Seat) (r : Run) : Type 0 where
   pub seen : p.seen ≡ pairs r.entries
   pub stem : p.stem ≡ Some (origin_of r)
-  pub mine : p.mine ≡ own p.actor p.seen
+  pub mine : p.mine ≡ entries_by p.actor p.seen
   pub legal : Legal r.script r.workers (past r)
 
 -- there is a pass, and it is so

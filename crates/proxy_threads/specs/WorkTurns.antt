@@ -9,7 +9,7 @@ use Rattle.impl_log.specs.Runs.{Run, past}
 use Rattle.impl_core.specs.Origins.{Origin}
 use Rattle.proxy_threads.specs.declared.turned.Turned.{Turned}
 use Rattle.proxy_threads.specs.declared.turned.Turned.TheVariants as turned
-use Rattle.proxy_threads.specs.Seats.{Seat, SamePass, Stands, past_of}
+use Rattle.proxy_threads.specs.Seats.{Seat, SamePass, HasSeenRun, past_of}
 use Rattle.proxy_threads.specs.Causes.{EnteredLast, HasWaited}
 
 -- the worker's pass is of this lock; the worker is one of the run's, and holds no key, unless the run has ended
@@ -45,5 +45,5 @@ WorkCause p q r turned.WriteFault = ⊥
 pub record WorkTurn (p q : Seat) (t : Turned) : Type 0 where
   pub same : SamePass p q
   pub run : Run
-  pub stands : Stands q run
+  pub stands : HasSeenRun q run
   pub cause : WorkCause p q run t

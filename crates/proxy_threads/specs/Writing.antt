@@ -4,7 +4,7 @@ use Rattle.std.specs.Io.KnownBytes.{Appends}
 use Rattle.player_io.specs.Counts.{Rose}
 use Rattle.player_io.specs.Pieces.{GainsPrefix}
 use Rattle.atomic_table.specs.Seated.{TableId}
-use Rattle.thread_lock.specs.Lists.{own}
+use Rattle.thread_lock.specs.Lists.{entries_by}
 use Rattle.model_history.specs.declared.event.Event.{Event}
 use Rattle.model_history.specs.Scripts.{ScriptModel}
 use Rattle.model_history.specs.Recordings.{pieces}
@@ -13,7 +13,7 @@ use Rattle.impl_log.specs.Runs.{Run, past}
 use Rattle.impl_core.specs.Replies.{is_played}
 use Rattle.proxy_threads.specs.declared.turned.Turned.{Turned}
 use Rattle.proxy_threads.specs.declared.turned.Turned.TheVariants as turned
-use Rattle.proxy_threads.specs.Seats.{Seat, SamePass, Stands, entries_of, past_of}
+use Rattle.proxy_threads.specs.Seats.{Seat, SamePass, HasSeenRun, entries_of, past_of}
 use Rattle.proxy_threads.specs.Causes.{CompCause}
 
 -- what a recording has of some entries, behind those before them
@@ -23,7 +23,7 @@ part s before more = pieces s (past_of before) (entries_of more)
 -- the first so many entries that the pass saw were written, and all of its own are among them
 pub record HasWritten (p : Seat) (written : ℕ) : Type 0 where
   pub few : written ≤ length p.seen
-  pub own : own 0 (take written p.seen) ≡ p.mine
+  pub own : entries_by 0 (take written p.seen) ≡ p.mine
 
 -- the sink gained the whole, or where the actor gave up, a front of it
 abbrev pub Wrote : Option (List ℕ) → Option (List ℕ) → List ℕ → Turned → Type 0
@@ -48,7 +48,7 @@ FaultCause old new _ = ⊤
 pub record CompTurn (p q : Seat) (written after : ℕ) (old new : Option (List ℕ)) (t : Turned) : Type 0 where
   pub same : SamePass p q
   pub run : Run
-  pub stands : Stands q run
+  pub stands : HasSeenRun q run
   pub cause : CompCause p q run t
   pub wrote : Wrote old new (part run.script (take written p.seen) (drop written q.seen)) t
   pub all : HasWrittenAll q after t
@@ -81,7 +81,7 @@ KnowsEnd (Some q) over t = over ≡ is_played (entries_of q.seen)
 pub record Driven (p q : Seat) (written : ℕ) (old new : Option (List ℕ)) (t : Turned) : Type 0 where
   pub same : SamePass p q
   pub run : Run
-  pub stands : Stands q run
+  pub stands : HasSeenRun q run
   pub last : IsLast t
   pub ended : has_ended (past run) ≡ true
   pub wrote : Wrote old new (part run.script (take written p.seen) (drop written q.seen)) t

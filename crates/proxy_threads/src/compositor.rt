@@ -5,7 +5,7 @@ ghost use Rattle.proxy_threads.specs.Seats.{Of};
 ghost use Rattle.proxy_threads.specs.Writing.{CompTurns, FaultCause, KnowsEnd, MayTurn};
 
 use crate::drawing::Drawer;
-use crate::holding::settle;
+use crate::holding::stop_if_failed;
 use crate::lines::Lines;
 use crate::playing::hold;
 use crate::turned::Turned;
@@ -72,7 +72,7 @@ impl<'a, K: Sink> CompActor<'a, K> {
             self.lines.text.as_slice(),
             played,
         );
-        self.pass = Some(settle(rt, lock, pass, answer));
+        self.pass = Some(stop_if_failed(rt, lock, pass, answer));
         answer
     }
 

@@ -2,7 +2,7 @@
 
 ghost use Rattle.std.specs.Prelude.{◌≡◌, ◌+◌, ◌<◌};
 ghost use Rattle.proxy_threads.specs.inner.Holdings.{CanPut, Finds, Holding, Puts};
-ghost use Rattle.proxy_threads.specs.inner.Steps.{HasSeat, Settles, Stops};
+ghost use Rattle.proxy_threads.specs.inner.Steps.{HasSeat, StopsIfFailed, Stops};
 
 use crate::turned::Turned;
 use impl_core::Core;
@@ -57,7 +57,7 @@ pub(crate) fn stop<R: Wait>(rt: &R, lock: &TurnLock<Core>, pass: Pass<Core>) -> 
 }
 
 /// Gives up where the answer says so.
-pub(crate) fn settle<R: Wait>(
+pub(crate) fn stop_if_failed<R: Wait>(
     rt: &R,
     lock: &TurnLock<Core>,
     pass: Pass<Core>,
@@ -65,7 +65,7 @@ pub(crate) fn settle<R: Wait>(
 ) -> Pass<Core>
     requires lock { pass.lock ≡ lock.now.id }
     requires seat { HasSeat pass }
-    ensures { Settles answer pass result }
+    ensures { StopsIfFailed answer pass result }
 {
     match answer {
         Turned::Memory | Turned::WriteFault => stop(rt, lock, pass),

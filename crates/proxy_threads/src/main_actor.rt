@@ -4,14 +4,14 @@ ghost use Rattle.std.specs.Prelude.{◌≡◌, [], Some, IsSome, false};
 ghost use Rattle.model_history.specs.Scans.{has_ended};
 ghost use Rattle.impl_log.specs.Runs.{past};
 ghost use Rattle.impl_core.specs.Origins.{Origin};
-ghost use Rattle.main_host.specs.Hosts.{HostModel};
+ghost use Rattle.main_host.specs.Hosts.{MainHostModel};
 ghost use Rattle.main_host.specs.declared.main_end.MainEnd.TheVariants as end;
 ghost use Rattle.proxy_threads.specs.Seats.{Of, OfBoth};
 ghost use Rattle.proxy_threads.specs.MainTurns.{MainIsReady, MainTurn};
 ghost use Rattle.proxy_threads.specs.inner.Holdings.{Holding};
 ghost use Rattle.proxy_threads.specs.inner.Mains.{CanEnd, CanHandOver, Hands, IsHeldBy, IsSentTo, Listens, MainTurns, Tells};
 
-use crate::holding::{put_back, settle, stop, take_turn};
+use crate::holding::{put_back, stop_if_failed, stop, take_turn};
 use crate::turned::Turned;
 use impl_core::Core;
 use main_host::{MainEnd, MainHost};
@@ -112,7 +112,7 @@ fn hand_over<R: Wait>(
     end: MainEnd,
 ) -> (Pass<Core>, Turned)
     requires lock { pass.lock ≡ lock.now.id }
-    requires held { (host : HostModel) × IsHeldBy pass host end }
+    requires held { (host : MainHostModel) × IsHeldBy pass host end }
     ensures { Holding pass result.0 (Hands end result.1) }
 {
     let (mut core, empty) = take_turn(rt, lock, pass);
@@ -129,11 +129,11 @@ fn finish<R: Wait>(
     end: MainEnd,
 ) -> (Pass<Core>, Turned)
     requires lock { pass.lock ≡ lock.now.id }
-    requires held { (host : HostModel) × IsHeldBy pass host end }
-    ensures { (host : HostModel) → IsHeldBy pass host end → MainTurns pass result.0 host result.1 }
+    requires held { (host : MainHostModel) × IsHeldBy pass host end }
+    ensures { (host : MainHostModel) → IsHeldBy pass host end → MainTurns pass result.0 host result.1 }
 {
     let (pass, answer) = hand_over(rt, lock, pass, end);
-    (settle(rt, lock, pass, answer), answer)
+    (stop_if_failed(rt, lock, pass, answer), answer)
 }
 
 // Runs the frame in flight outside of any turn, and enters its end.

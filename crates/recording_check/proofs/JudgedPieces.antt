@@ -8,13 +8,13 @@ use Rattle.model_history.specs.declared.history.Entry.{Entry}
 use Rattle.model_history.specs.Scripts.{ScriptModel}
 use Rattle.impl_log.specs.Runs.{Run, past, with_entry}
 use Rattle.recording_reader.specs.declared.cursor.Cursor.{Cursor}
-use Rattle.recording_reader.specs.declared.cursor.Step.{Step}
+use Rattle.recording_reader.specs.declared.cursor.EventSpan.{EventSpan}
 use Rattle.recording_reader.specs.BadParts.{IsBadPart, AreFront, shown_behind, StopsAt}
 use Rattle.recording_reader.specs.Bodies.{ArePiecesFrom}
 use Rattle.recording_reader.specs.Pieces.{Piece, piece_text, IsPiece, ArePieces, entry_of, entries, is_end, shown_after}
-use Rattle.recording_reader.specs.Taking.{StandsAt, TakesPiece, Takes, start_at}
+use Rattle.recording_reader.specs.Taking.{IsImageAt, TakesPiece, TakesNext, start_at}
 use Rattle.recording_reader.specs.Views.{ViewTable, view_at}
-use Rattle.recording_check.specs.Verdicts.{IsRight, AreRight, IsWrongAt}
+use Rattle.recording_check.specs.Verdicts.{IsRight, AreRightPieces, IsWrongAt}
 use Rattle.recording_check.specs.inner.Judgements.{AreJudged, JudgesNext, JudgesParts, verdict_where}
 use Rattle.recording_check.specs.inner.Rightness.{Judged}
 
@@ -28,11 +28,11 @@ entries_more (q ∷ ps) p = ap (λ (es : List Entry). entry_of q.event ∷ es) (
 pub past_on : (e : Entry) (es h : List Entry) → reverse (e ∷ es) ++ h ≡ reverse es ++ (e ∷ h)
 past_on e es h = ap (λ (xs : List Entry). xs ++ h) (reverse-append (e ∷ []) es) ∙ append_assoc (reverse es) (e ∷ []) h
 
-right_more_on : (s : ScriptModel) (n : ℕ) (h : List Entry) (ps : List Piece) (p : Piece) → AreRight s n h ps → IsRight s n (reverse (entries ps) ++ h) p → AreRight s n h (ps ++ p ∷ [])
+right_more_on : (s : ScriptModel) (n : ℕ) (h : List Entry) (ps : List Piece) (p : Piece) → AreRightPieces s n h ps → IsRight s n (reverse (entries ps) ++ h) p → AreRightPieces s n h (ps ++ p ∷ [])
 right_more_on s n h [] p all one = (one, tt)
 right_more_on s n h (q ∷ ps) p all one = (all.0, right_more_on s n (entry_of q.event ∷ h) ps p all.1 (subst (λ (g : List Entry). IsRight s n g p) (past_on (entry_of q.event) (entries ps) h) one))
 
-right_more : (s : ScriptModel) (n : ℕ) (ps : List Piece) (p : Piece) → AreRight s n [] ps → IsRight s n (reverse (entries ps)) p → AreRight s n [] (ps ++ p ∷ [])
+right_more : (s : ScriptModel) (n : ℕ) (ps : List Piece) (p : Piece) → AreRightPieces s n [] ps → IsRight s n (reverse (entries ps)) p → AreRightPieces s n [] (ps ++ p ∷ [])
 right_more s n ps p all one = right_more_on s n [] ps p all (subst (λ (g : List Entry). IsRight s n g p) (sym (append-nil (reverse (entries ps)))) one)
 
 -- what is judged, with a piece more
@@ -49,15 +49,15 @@ stays_wrong s n ps p place w = record {
 }
 
 -- none was wrong, and the piece is right
-goes_right : (ps : List Piece) (old new : Run) (p : Piece) → old.entries ≡ entries ps → AreRight old.script old.workers [] ps → IsRight old.script old.workers (past old) p
+goes_right : (ps : List Piece) (old new : Run) (p : Piece) → old.entries ≡ entries ps → AreRightPieces old.script old.workers [] ps → IsRight old.script old.workers (past old) p
     → new ≡ with_entry old (entry_of p.event).actor (entry_of p.event).event → AreJudged (ps ++ p ∷ []) new None
 goes_right ps old new p has all one is =
     let entries_are : new.entries ≡ entries (ps ++ p ∷ []) = ap (λ (r : Run). r.entries) is ∙ ap (λ (es : List Entry). es ++ entry_of p.event ∷ []) has ∙ sym (entries_more ps p) in
-    let more : AreRight old.script old.workers [] (ps ++ p ∷ []) = right_more old.script old.workers ps p all (subst (λ (es : List Entry). IsRight old.script old.workers (reverse es) p) has one) in
-    (entries_are, subst (λ (r : Run). AreRight r.script r.workers [] (ps ++ p ∷ [])) (sym is) more)
+    let more : AreRightPieces old.script old.workers [] (ps ++ p ∷ []) = right_more old.script old.workers ps p all (subst (λ (es : List Entry). IsRight old.script old.workers (reverse es) p) has one) in
+    (entries_are, subst (λ (r : Run). AreRightPieces r.script r.workers [] (ps ++ p ∷ [])) (sym is) more)
 
 -- none was wrong, and the piece is
-goes_wrong : (ps : List Piece) (old new : Run) (p : Piece) (index : ℕ) → old.entries ≡ entries ps → AreRight old.script old.workers [] ps → (IsRight old.script old.workers (past old) p → ⊥)
+goes_wrong : (ps : List Piece) (old new : Run) (p : Piece) (index : ℕ) → old.entries ≡ entries ps → AreRightPieces old.script old.workers [] ps → (IsRight old.script old.workers (past old) p → ⊥)
     → new ≡ old → index ≡ length ps → AreJudged (ps ++ p ∷ []) new (Some index)
 goes_wrong ps old new p index has all stops is at =
     subst (λ (r : Run). IsWrongAt r.script r.workers (ps ++ p ∷ []) index) (sym is) (record {
@@ -128,10 +128,10 @@ text_more bytes start at now ps p text more =
     text ∙ ap (λ (x : List ℕ). flat_map piece_text ps ++ x) more ∙ sym (append_assoc (flat_map piece_text ps) (piece_text p) (drop now bytes)) ∙ ap (λ (x : List ℕ). x ++ drop now bytes) (sym one)
 
 -- the piece of a step
-abbrev pub piece_in : Step → List ℕ → Piece
+abbrev pub piece_in : EventSpan → List ℕ → Piece
 piece_in step image = record { event = step.event; image = image }
 
-module _ (bytes : List ℕ) (t : ViewTable) (start : ℕ) (old new : Cursor) (step : Step) (ps : List Piece) (behind : StandsBehind bytes t start old ps) (takes : TakesPiece bytes t old new step) where
+module _ (bytes : List ℕ) (t : ViewTable) (start : ℕ) (old new : Cursor) (step : EventSpan) (ps : List Piece) (behind : StandsBehind bytes t start old ps) (takes : TakesPiece bytes t old new step) where
   whole : drop start bytes ≡ flat_map piece_text (ps ++ piece_in step takes.image ∷ []) ++ drop new.at bytes
   whole = text_more bytes start old.at new.at ps (piece_in step takes.image) behind.text takes.text
 
@@ -165,7 +165,7 @@ module _ (bytes : List ℕ) (t : ViewTable) (start : ℕ) (old new : Cursor) (st
   )
 
 -- what is not of its form stops the walk
-pub stops_here : (bytes : List ℕ) (t : ViewTable) (start : ℕ) (old new : Cursor) (place : ℕ) (ps : List Piece) → StandsBehind bytes t start old ps → Takes bytes t old new (Err place) → StopsAt bytes t start place
+pub stops_here : (bytes : List ℕ) (t : ViewTable) (start : ℕ) (old new : Cursor) (place : ℕ) (ps : List Piece) → StandsBehind bytes t start old ps → TakesNext bytes t old new (Err place) → StopsAt bytes t start place
 stops_here bytes t start old new place ps behind takes =
     let n : ℕ = takes.0 in
     let bad : IsBadPart (view_at t (shown_behind None ps)) (drop old.at bytes) n = subst (λ (o : Option ℕ). IsBadPart (view_at t o) (drop old.at bytes) n) behind.shown takes.1 in
@@ -178,7 +178,7 @@ stops_here bytes t start old new place ps behind takes =
 
 -- the answer at the end
 pub told : (bytes : List ℕ) (t : ViewTable) (start : ℕ) (s : ScriptModel) (n : ℕ) (ps : List Piece) (r : Run) (o : Option ℕ) → ArePiecesFrom bytes t start ps → r.script ≡ s → r.workers ≡ n → AreJudged ps r o → JudgesParts bytes s n t start (Ok (verdict_where o))
-told bytes t start s n ps r None are script workers judged = (ps, are, subst (λ (m : ℕ). AreRight s m [] ps) workers (subst (λ (z : ScriptModel). AreRight z r.workers [] ps) script judged.1))
+told bytes t start s n ps r None are script workers judged = (ps, are, subst (λ (m : ℕ). AreRightPieces s m [] ps) workers (subst (λ (z : ScriptModel). AreRightPieces z r.workers [] ps) script judged.1))
 told bytes t start s n ps r (Some place) are script workers judged = (ps, are, subst (λ (m : ℕ). IsWrongAt s m ps place) workers (subst (λ (z : ScriptModel). IsWrongAt z r.workers ps place) script judged))
 
 -- a piece more behind one that is wrong
@@ -187,12 +187,12 @@ still_wrong : (o : Option ℕ) (ps : List Piece) (r : Run) (p : Piece) → is_so
 still_wrong None ps r p some so = absurd (cc (some))
 still_wrong (Some place) ps r p some so = stays_wrong r.script r.workers ps p place so
 
-pub passed : (bytes : List ℕ) (r : Run) (o : Option ℕ) (index : ℕ) (step : Step) → is_some o ≡ true → JudgesNext bytes r o index step r o
+pub passed : (bytes : List ℕ) (r : Run) (o : Option ℕ) (index : ℕ) (step : EventSpan) → is_some o ≡ true → JudgesNext bytes r o index step r o
 passed bytes r o index step some = record { script = refl; workers = refl; judged = λ ps image stands at so. still_wrong o ps r (piece_in step image) some so }
 
 -- a piece more behind right ones
-pub looked_at : (bytes : List ℕ) (old new : Run) (o : Option ℕ) (index : ℕ) (step : Step) (b : Bool) (there : List ℕ) → is_some o ≡ false → StandsAt bytes step.image there
-    → ((image : List ℕ) → StandsAt bytes step.image image → Judged old (piece_in step image) new b) → JudgesNext bytes old o index step new (told_by b index)
+pub looked_at : (bytes : List ℕ) (old new : Run) (o : Option ℕ) (index : ℕ) (step : EventSpan) (b : Bool) (there : List ℕ) → is_some o ≡ false → IsImageAt bytes step.image there
+    → ((image : List ℕ) → IsImageAt bytes step.image image → Judged old (piece_in step image) new b) → JudgesNext bytes old o index step new (told_by b index)
 looked_at bytes old new (Some place) index step b there none stands judged = absurd (cc (none))
 looked_at bytes old new None index step b there none stands judged = record {
   script = same_script b old new (piece_in step there) (judged there stands);

@@ -8,15 +8,15 @@ use Rattle.geom.specs.declared.tile.Place.{Place}
 use Rattle.geom.specs.declared.tile.TileKey.{TileKey}
 use Rattle.geom.specs.Grids.{has, places, tiles}
 use Rattle.geom.specs.KeyLists.{has_key}
-use Rattle.geom.specs.Sides.{IsSide}
+use Rattle.geom.specs.Sides.{IsLayerSide}
 use Rattle.geom.proofs.Cuts.{tiles_few}
 use Rattle.tile_tiling.specs.Stamps.{Commit, last_that, changes_in}
 use Rattle.page_layers.specs.declared.moves.Move.{Move}
 use Rattle.page_layers.specs.Hits.{covers_point, last_covering, target}
 use Rattle.page_layers.specs.Layers.{PageLayer, has_id}
 use Rattle.page_layers.specs.Pages.{Page, IsView}
-use Rattle.page_layers.specs.Sound.{IsLayer, AreDistinct}
-use Rattle.page_layers.specs.Tests.{in_range, is_id, is_size}
+use Rattle.page_layers.specs.Sound.{IsLayer, AreDistinctLayers}
+use Rattle.page_layers.specs.Tests.{check_range, is_id, is_size}
 use Rattle.page_layers.proofs.LayerKeeps.{each-found}
 use Rattle.page_layers.proofs.TestFacts.{passed, count_facts}
 use Rattle.tile_visible.specs.Visible.{grid_of}
@@ -31,7 +31,7 @@ use Rattle.model_history.specs.Legal.{Legal}
 use Rattle.model_history.specs.Ranking.{place_named}
 use Rattle.model_history.specs.Scans.{counted}
 use Rattle.model_history.specs.Stamps.{commits_to, frame_changes, place_rect, stamp_in}
-use Rattle.model_history.specs.Tiles.{page_keys, keys_of, active_tree, pending_tree, live_keys, made, ready, missing, visible_in}
+use Rattle.model_history.specs.Tiles.{page_keys, keys_of, active_tree, pending_tree, live_keys, made_so_far, ready, missing_visible, visible_in}
 use Rattle.model_history.proofs.BarePages.{page_bare}
 use Rattle.model_history.proofs.BoolFacts.{and_left, and_right, or_either, same_number, is_below}
 use Rattle.model_history.proofs.Course.{course}
@@ -72,10 +72,10 @@ low_id : (id : ℕ) → is_id id ≡ Ok tt → id ≤ 65535
 unfolding is_id
 low_id id ok = (count_facts id 1 65535 ok).1
 
-sides_of : (w h : ℕ) → is_size w h ≡ Ok tt → IsSide w × IsSide h
+sides_of : (w h : ℕ) → is_size w h ≡ Ok tt → IsLayerSide w × IsLayerSide h
 unfolding is_size
 sides_of w h ok =
-    let first = passed (in_range (pos w) (pos 1) (pos 16384)) _ tt ok in
+    let first = passed (check_range (pos w) (pos 1) (pos 16384)) _ tt ok in
     let a = count_facts w 1 16384 first.1 in
     let b = count_facts h 1 16384 first.2 in
     (record { low = a.0; high = a.1 }, record { low = b.0; high = b.1 })
@@ -87,13 +87,13 @@ module _ (s : ScriptModel) (ps : ℕ → List Move) (n : ℕ) (accepted : IsAcce
   abbrev shown : Page
   shown = page s ps n
 
-  distinct : AreDistinct shown.layers
-  distinct = subst (λ (z : Page). AreDistinct z.layers) (sym (page_bare s ps n)) (plain_page s accepted n).distinct
+  distinct : AreDistinctLayers shown.layers
+  distinct = subst (λ (z : Page). AreDistinctLayers z.layers) (sym (page_bare s ps n)) (plain_page s accepted n).distinct
 
   view : IsView shown.view
   view = subst (λ (z : Page). IsView z.view) (sym (page_bare s ps n)) (plain_page s accepted n).view
 
-  tile_side : IsSide shown.view.tile
+  tile_side : IsLayerSide shown.view.tile
   tile_side = record { low = omega (arith, view.tile_low); high = omega (arith, view.tile_high) }
 
   on_layer : (q : TileKey) (o : Option PageLayer) → find (has_id q.layer) shown.layers ≡ o → key_on shown (stamp_in s ps n) q o ≡ true → FitsKey q
@@ -152,9 +152,9 @@ module _ (s : ScriptModel) (workers : ℕ) (h : List Entry) (accepted : IsAccept
       by_or (inr t) = pending_key_fits q t
 
   pub ready_key_fits : (q : TileKey) → has_key (ready s h) q ≡ true → FitsKey q
-  ready_key_fits q there = live_key_fits q (and_right (has_key (made h) q) (has_key (live_keys s h) q) (sym (has_filter (has_key (live_keys s h)) (made h) q) ∙ there))
+  ready_key_fits q there = live_key_fits q (and_right (has_key (made_so_far h) q) (has_key (live_keys s h) q) (sym (has_filter (has_key (live_keys s h)) (made_so_far h) q) ∙ there))
 
-  pub missing_key_fits : (q : TileKey) → has_key (missing s h) q ≡ true → FitsKey q
+  pub missing_key_fits : (q : TileKey) → has_key (missing_visible s h) q ≡ true → FitsKey q
   missing_key_fits q there =
       active_key_fits q (visible_is_key (active_tree s h).page (active_tree s h).offset (active_tree s h).stamp q
       (and_left (has_key (visible_in (active_tree s h)) q) _ (sym (has_filter _ (visible_in (active_tree s h)) q) ∙ there)))

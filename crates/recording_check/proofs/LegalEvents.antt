@@ -9,7 +9,7 @@ use Rattle.page_properties.specs.Entries.{ids}
 use Rattle.page_layers.specs.declared.moves.Move.{Move}
 use Rattle.page_layers.specs.Axes.{Axis, across, down, named_in}
 use Rattle.page_layers.specs.Hits.{target}
-use Rattle.page_layers.specs.Scrollers.{scrollers, taken}
+use Rattle.page_layers.specs.Scrollers.{scrollers, amount_taken}
 use Rattle.page_layers.specs.Wheels.{chain_at, chain_rest, takes_at}
 use Rattle.model_history.specs.declared.event.Event.{Event}
 use Rattle.model_history.specs.declared.event.Event.TheVariants as event
@@ -18,7 +18,7 @@ use Rattle.model_history.specs.declared.input.Input.{Input}
 use Rattle.model_history.specs.declared.input.Input.TheVariants as input
 use Rattle.model_history.specs.Scripts.{ScriptModel}
 use Rattle.model_history.specs.Accepted.{IsAccepted}
-use Rattle.model_history.specs.Due.{input_now, next_input, is_draw, due_skip, due_await, due_settle, is_pending_to, is_settled}
+use Rattle.model_history.specs.Due.{input_now, next_input, asks_draw, due_skip, due_await, due_settle, is_pending_to, is_settled}
 use Rattle.model_history.specs.EventFields.{sends, begins, pulls, moves, scroll_move}
 use Rattle.model_history.specs.FrameLaws.{AtEach}
 use Rattle.model_history.specs.Frames.{pulls_of, active, pending, up_to, active_page, pending_page, has_frame_ended}
@@ -27,7 +27,7 @@ use Rattle.model_history.specs.Ranking.{evicted_for}
 use Rattle.model_history.specs.Scans.{newest, counted, held}
 use Rattle.model_history.specs.ScrollLaws.{AreSmall}
 use Rattle.model_history.specs.Scrolls.{offset, next_pulls, next_clamps, clamp_move, unsent, scrollers_moved, active_offsets}
-use Rattle.model_history.specs.Tiles.{missing}
+use Rattle.model_history.specs.Tiles.{missing_visible}
 use Rattle.model_history.proofs.BoolFacts.{is_below}
 use Rattle.model_history.proofs.Bounds.{all_small}
 use Rattle.model_history.proofs.Course.{course}
@@ -36,7 +36,7 @@ use Rattle.model_history.proofs.Offsets.{takes_is}
 use Rattle.model_history.proofs.RangeBounds.{few_frames}
 use Rattle.model_history.proofs.RankFacts.{first_unmade, evicted_may_go}
 use Rattle.model_history.proofs.ValueReadings.{offset_in_range}
-use Rattle.recording_text.specs.Fits.{Fits, FitsKey, FitKeys, FitMoves}
+use Rattle.recording_text.specs.Fits.{FitsEvent, FitsKey, FitKeys, FitMoves}
 use Rattle.recording_check.proofs.InputsFit.{input_there, scroll_ranges, wheel_ranges}
 use Rattle.recording_check.proofs.KeysFit.{frames, target_low, live_key_fits, ready_key_fits, missing_key_fits, keys_fit}
 use Rattle.recording_check.proofs.MovesFit.{AreLow, page_low, low_rising, low_chain_at, low_listed, low_parts, low_numbers, moves_fit, IsAmount, amount_fits, taken_amount, rest_amount}
@@ -66,10 +66,10 @@ moved_low s n (e ∷ h) accepted l = low_numbers (named_in (moves s e.event)) (s
 
 -- ---- the inputs that events name
 
-draw_there : (s : ScriptModel) (h : List Entry) → IsAccepted s → is_draw (input_now s h) ≡ true → next_input h < 65536
+draw_there : (s : ScriptModel) (h : List Entry) → IsAccepted s → asks_draw (input_now s h) ≡ true → next_input h < 65536
 draw_there s h accepted t = go (input_now s h) refl t
   where
-    go : (o : Option Input) → input_now s h ≡ o → is_draw o ≡ true → next_input h < 65536
+    go : (o : Option Input) → input_now s h ≡ o → asks_draw o ≡ true → next_input h < 65536
     go None e t = absurd cc
     go (Some x) e t = (input_there s accepted (next_input h) x e).0
 
@@ -138,7 +138,7 @@ held_fits s n (e ∷ h) w q accepted l is = held_step s n h e.actor e.event w q 
 
 -- ---- what is taken of a scroll, and what a wheel leaves
 
-taken_fits : (s : ScriptModel) (n : ℕ) (h : List Entry) (sc : ℕ) (ax : Axis) (z : ℤ) → IsAccepted s → Legal s n h → IsAmount z → IsAmount (taken (active_page s h) (offset s h) sc ax z) × IsAmount (z -ℤ taken (active_page s h) (offset s h) sc ax z)
+taken_fits : (s : ScriptModel) (n : ℕ) (h : List Entry) (sc : ℕ) (ax : Axis) (z : ℤ) → IsAccepted s → Legal s n h → IsAmount z → IsAmount (amount_taken (active_page s h) (offset s h) sc ax z) × IsAmount (z -ℤ amount_taken (active_page s h) (offset s h) sc ax z)
 taken_fits s n h sc ax z accepted l is = taken_amount (active_page s h) (offset s h) sc ax z (offset_in_range s n h sc ax accepted l) is
 
 rest_fits : (s : ScriptModel) (n : ℕ) (h : List Entry) (scs : List ℕ) (ax : Axis) (z : ℤ) → IsAccepted s → Legal s n h → IsAmount z → IsAmount (chain_rest (takes_at (active_page s h) (active_offsets s h)) ax scs z)
@@ -155,7 +155,7 @@ sent_few s n h k accepted l sent = let f = frames s n h accepted l in omega (ari
 last_few : (s : ScriptModel) (n : ℕ) (h : List Entry) (k : ℕ) → IsAccepted s → Legal s n h → newest sends h ≡ Some k → k < 2 ^ 32
 last_few s n h k accepted l last = let total = (course s n h l).last_is k last in sent_few s n h k accepted l (omega (arith, total))
 
-pub event_fits : (s : ScriptModel) (n : ℕ) (h : List Entry) (a : ℕ) (e : Event) → IsAccepted s → n ≤ 65536 → Legal s n (entry a e ∷ h) → Fits e
+pub event_fits : (s : ScriptModel) (n : ℕ) (h : List Entry) (a : ℕ) (e : Event) → IsAccepted s → n ≤ 65536 → Legal s n (entry a e ∷ h) → FitsEvent e
 event_fits s n h a (event.Begin i) accepted few (l, x) =
     let d = at_begin s n h a i x in
     let there = draw_there s h accepted d.draw in
@@ -204,14 +204,14 @@ event_fits s n h a (event.Start w q evicted) accepted few (l, x) =
     let t : AtStart s h w q evicted = at_start s n h a w q evicted x in (
       omega (arith, x.actor, x.within, few),
       started_fits s n h a w q evicted accepted l x,
-      subst FitKeys (sym t.gives_up) (keys_fit (evicted_for s h t.rank) (λ k there. ready_key_fits s n h accepted l k (evicted_may_go s h t.rank k there).is_ready)),
+      subst FitKeys (sym t.evictions) (keys_fit (evicted_for s h t.rank) (λ k there. ready_key_fits s n h accepted l k (evicted_may_go s h t.rank k there).is_ready)),
     )
 event_fits s n h a (event.DoneTile w q) accepted few (l, x) =
     (omega (arith, x.actor, x.within, few), held_fits s n h w q accepted l (at_done s n h a w q x))
 event_fits s n h a (event.Draw i lacks) accepted few (l, x) =
     let t = at_draw s n h a i lacks x in
     let place = begun_few s n h i accepted l t.place in
-    (omega (arith, place), subst FitKeys (sym t.lacking) (keys_fit (missing s h) (missing_key_fits s n h accepted l)))
+    (omega (arith, place), subst FitKeys (sym t.lacking) (keys_fit (missing_visible s h) (missing_key_fits s n h accepted l)))
 event_fits s n h a (event.Skip i) accepted few (l, x) = let place = begun_few s n h i accepted l (skip_due h (newest begins h) i x.is_due) in omega (arith, place)
 event_fits s n h a event.NoDraw accepted few (l, x) = tt
 event_fits s n h a event.Finish accepted few (l, x) = tt
@@ -220,6 +220,6 @@ event_fits s n h a (event.Settle i) accepted few (l, x) = named_few s h i accept
 event_fits s n h a event.End accepted few (l, x) = tt
 event_fits s n h a (event.Stop b) accepted few (l, x) = omega (arith, x.actor, x.within, few)
 
-pub all_fit : (s : ScriptModel) (n : ℕ) (h : List Entry) → IsAccepted s → n ≤ 65536 → Legal s n h → AtEach (λ g e. Fits e.event) h
+pub all_fit : (s : ScriptModel) (n : ℕ) (h : List Entry) → IsAccepted s → n ≤ 65536 → Legal s n h → AtEach (λ g e. FitsEvent e.event) h
 all_fit s n [] accepted few l = tt
 all_fit s n (e ∷ h) accepted few l = (all_fit s n h accepted few l.0, event_fits s n h e.actor e.event accepted few l)

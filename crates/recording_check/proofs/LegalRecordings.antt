@@ -19,7 +19,7 @@ use Rattle.recording_check.specs.declared.verdict.Verdict.TheVariants.{Good, No}
 use Rattle.recording_check.specs.Openings.{OpensWith}
 use Rattle.recording_check.specs.Painted.{ArePainted, IsNamed, IsRecorded, IsOver}
 use Rattle.recording_check.specs.Recordings.{IsRecording, IsBadAt}
-use Rattle.recording_check.specs.Verdicts.{IsRight, AreRight, IsWrongAt, IsLegalRecording, IsFirstWrong, Judges}
+use Rattle.recording_check.specs.Verdicts.{IsRight, AreRightPieces, IsWrongAt, IsLegalRecording, IsFirstWrongEvent, Judges}
 use Rattle.recording_check.specs.inner.Judgements.{JudgesParts}
 use Rattle.recording_check.proofs.JudgedPieces.{past_on}
 use Rattle.recording_check.proofs.OneReading.{one_reading, not_bad}
@@ -28,11 +28,11 @@ use Rattle.recording_check.proofs.Wholes.{is_recording}
 
 -- right pieces are painted, and their entries legal
 
-are_painted : (s : ScriptModel) (n : ℕ) (h : List Entry) (ps : List Piece) → AreRight s n h ps → ArePainted s h ps
+are_painted : (s : ScriptModel) (n : ℕ) (h : List Entry) (ps : List Piece) → AreRightPieces s n h ps → ArePainted s h ps
 are_painted s n h [] right = tt
 are_painted s n h (p ∷ ps) right = (right.0.image, are_painted s n (entry_of p.event ∷ h) ps right.1)
 
-are_legal : (s : ScriptModel) (n : ℕ) (h : List Entry) (ps : List Piece) → Legal s n h → AreRight s n h ps → Legal s n (reverse (entries ps) ++ h)
+are_legal : (s : ScriptModel) (n : ℕ) (h : List Entry) (ps : List Piece) → Legal s n h → AreRightPieces s n h ps → Legal s n (reverse (entries ps) ++ h)
 are_legal s n h [] legal right = legal
 are_legal s n h (p ∷ ps) legal right =
     subst (λ (g : List Entry). Legal s n g) (sym (past_on (entry_of p.event) (entries ps) h)) (are_legal s n (entry_of p.event ∷ h) ps (legal, right.0.next) right.1)
@@ -57,7 +57,7 @@ over_in : (b : Bool) (s : ScriptModel) (t : ViewTable) (shown : Option ℕ) (ps 
 over_in true s t shown ps none more = ap entries none
 over_in false s t shown ps are more = more are
 
-are_over : (s : ScriptModel) (n : ℕ) (h : List Entry) (t : ViewTable) (shown : Option ℕ) (ps : List Piece) → Legal s n h → ArePieces t shown ps → AreRight s n h ps → IsOver s (entries ps)
+are_over : (s : ScriptModel) (n : ℕ) (h : List Entry) (t : ViewTable) (shown : Option ℕ) (ps : List Piece) → Legal s n h → ArePieces t shown ps → AreRightPieces s n h ps → IsOver s (entries ps)
 unfolding entry_of
 are_over s n h t shown [] legal are right = are
 are_over s n h t shown (p ∷ ps) legal are right = (
@@ -65,7 +65,7 @@ are_over s n h t shown (p ∷ ps) legal are right = (
   over_in (is_end p.event) s t (shown_after shown p.event) ps are.1 (λ more. are_over s n (entry_of p.event ∷ h) t (shown_after shown p.event) ps (legal, right.0.next) more right.1),
 )
 
-pub right_is_legal : (n : ℕ) (bytes : List ℕ) (s : ScriptModel) (ps : List Piece) → IsRecording bytes s ps → AreRight s n [] ps → IsLegalRecording n bytes
+pub right_is_legal : (n : ℕ) (bytes : List ℕ) (s : ScriptModel) (ps : List Piece) → IsRecording bytes s ps → AreRightPieces s n [] ps → IsLegalRecording n bytes
 right_is_legal n bytes s ps is right = record {
   script = s;
   history = entries ps;
@@ -77,7 +77,7 @@ right_is_legal n bytes s ps is right = record {
 
 -- the other way: the pieces of a legal recording are right
 
-are_right : (s : ScriptModel) (n : ℕ) (h : List Entry) (ps : List Piece) → ArePainted s h ps → Legal s n (reverse (entries ps) ++ h) → AreRight s n h ps × Legal s n h
+are_right : (s : ScriptModel) (n : ℕ) (h : List Entry) (ps : List Piece) → ArePainted s h ps → Legal s n (reverse (entries ps) ++ h) → AreRightPieces s n h ps × Legal s n h
 are_right s n h [] painted legal = (tt, legal)
 are_right s n h (p ∷ ps) painted legal =
     let rest = are_right s n (entry_of p.event ∷ h) ps painted.1 (subst (λ (g : List Entry). Legal s n g) (past_on (entry_of p.event) (entries ps) h) legal) in
@@ -85,16 +85,16 @@ are_right s n h (p ∷ ps) painted legal =
 
 -- all of them are right, so none is wrong
 
-right_at : (s : ScriptModel) (n : ℕ) (h : List Entry) (before later : List Piece) (p : Piece) → AreRight s n h (before ++ p ∷ later) → IsRight s n (reverse (entries before) ++ h) p
+right_at : (s : ScriptModel) (n : ℕ) (h : List Entry) (before later : List Piece) (p : Piece) → AreRightPieces s n h (before ++ p ∷ later) → IsRight s n (reverse (entries before) ++ h) p
 right_at s n h [] later p right = right.0
 right_at s n h (q ∷ before) later p right = subst (λ (g : List Entry). IsRight s n g p) (sym (past_on (entry_of q.event) (entries before) h)) (right_at s n (entry_of q.event ∷ h) before later p right.1)
 
-none_wrong : (s : ScriptModel) (n : ℕ) (ps : List Piece) (place : ℕ) → AreRight s n [] ps → IsWrongAt s n ps place → ⊥
+none_wrong : (s : ScriptModel) (n : ℕ) (ps : List Piece) (place : ℕ) → AreRightPieces s n [] ps → IsWrongAt s n ps place → ⊥
 none_wrong s n ps place right w =
-    let there : IsRight s n (reverse (entries w.before) ++ []) w.piece = right_at s n [] w.before w.later w.piece (subst (λ (qs : List Piece). AreRight s n [] qs) w.is right) in
+    let there : IsRight s n (reverse (entries w.before) ++ []) w.piece = right_at s n [] w.before w.later w.piece (subst (λ (qs : List Piece). AreRightPieces s n [] qs) w.is right) in
     w.wrong (subst (λ (g : List Entry). IsRight s n g w.piece) (append-nil (reverse (entries w.before))) there)
 
-pub legal_not_wrong : (n : ℕ) (bytes : List ℕ) (place : ℕ) → IsLegalRecording n bytes → IsFirstWrong n bytes place → ⊥
+pub legal_not_wrong : (n : ℕ) (bytes : List ℕ) (place : ℕ) → IsLegalRecording n bytes → IsFirstWrongEvent n bytes place → ⊥
 legal_not_wrong n bytes place good (t, qs, is, w) =
     let a = history_is_painted good.script good.history good.line good.over in
     let there : IsRecording bytes good.script a.0 = subst (λ (xs : List ℕ). IsRecording xs good.script a.0) (sym good.text) a.1 in
@@ -109,7 +109,7 @@ legal_not_bad n bytes place good bad =
     let a = history_is_painted good.script good.history good.line good.over in
     not_bad bytes good.script a.0 place (subst (λ (xs : List ℕ). IsRecording xs good.script a.0) (sym good.text) a.1) bad
 
-pub wrong_not_bad : (n : ℕ) (bytes : List ℕ) (event place : ℕ) → IsFirstWrong n bytes event → IsBadAt bytes place → ⊥
+pub wrong_not_bad : (n : ℕ) (bytes : List ℕ) (event place : ℕ) → IsFirstWrongEvent n bytes event → IsBadAt bytes place → ⊥
 wrong_not_bad n bytes event place (s, ps, is, w) bad = not_bad bytes s ps place is bad
 
 -- what is said of the parts is said of the whole

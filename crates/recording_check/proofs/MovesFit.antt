@@ -11,12 +11,12 @@ use Rattle.page_layers.specs.declared.command.Command.{Command}
 use Rattle.page_layers.specs.declared.command.Command.TheVariants as command
 use Rattle.page_layers.specs.declared.moves.Move.{Move}
 use Rattle.page_layers.specs.Axes.{Axis, across, down, move_of, is_still, listed, named_in, with_number, with_numbers}
-use Rattle.page_layers.specs.Effects.{after}
+use Rattle.page_layers.specs.Effects.{page_after_command}
 use Rattle.page_layers.specs.Hits.{scrollers_from, nearest_scroller, chain}
 use Rattle.page_layers.specs.Layers.{PageLayer, has_id}
 use Rattle.page_layers.specs.Pages.{Page}
 use Rattle.page_layers.specs.Refusals.{test_of}
-use Rattle.page_layers.specs.Scrollers.{scrollers, has_scroller, most, taken}
+use Rattle.page_layers.specs.Scrollers.{scrollers, has_scroller, most, amount_taken}
 use Rattle.page_layers.specs.Scrolls.{clamp_to, IsInRange}
 use Rattle.page_layers.specs.Wheels.{chain_parts, chain_rest, chain_or_none, chain_at, takes_at}
 use Rattle.page_layers.proofs.TestFacts.{add_scroller_facts}
@@ -39,22 +39,22 @@ AreLow (n ∷ ns) = (n ≤ 65535) × AreLow ns
 abbrev HasLow : Page → Type 0
 HasLow p = AreLow (ids p.props.scrollers)
 
-low_changed : {N : Type 0} (id : ℕ) (f : N → N) (nodes : List (ℕ × N)) → AreLow (ids nodes) → AreLow (ids (entries.changed id f nodes))
+low_changed : {N : Type 0} (id : ℕ) (f : N → N) (nodes : List (ℕ × N)) → AreLow (ids nodes) → AreLow (ids (entries.with_node_changed id f nodes))
 low_changed id f [] low = tt
 low_changed id f (e ∷ older) low = go (e.0 == id) (low_changed id f older low.1)
   where
-    go : (b : Bool) → AreLow (ids (entries.changed id f older)) → AreLow (ids (cond b ((e.0, f e.1) ∷ older) (e ∷ entries.changed id f older)))
+    go : (b : Bool) → AreLow (ids (entries.with_node_changed id f older)) → AreLow (ids (cond b ((e.0, f e.1) ∷ older) (e ∷ entries.with_node_changed id f older)))
     go true rest = low
     go false rest = (low.0, rest)
 
-low_after : (p : Page) (c : Command) → HasLow p → test_of p c ≡ Ok tt → HasLow (after p c)
+low_after : (p : Page) (c : Command) → HasLow p → test_of p c ≡ Ok tt → HasLow (page_after_command p c)
 low_after p (command.AddScroller id parent x y) low ok = ((add_scroller_facts p id parent x y ok).id_high, low)
 low_after p (command.SetRange id x y) low ok = low_changed id (λ n. record n { max_x = x; max_y = y }) p.props.scrollers low
 low_after p _ low ok = low
 
 low_commanded : (cs : List Command) (p : Page) → HasLow p → TakesAll p cs → HasLow (commanded cs p)
 low_commanded [] p low t = low
-low_commanded (c ∷ cs) p low t = low_commanded cs (after p c) (low_after p c low t.0.passes) t.1
+low_commanded (c ∷ cs) p low t = low_commanded cs (page_after_command p c) (low_after p c low t.0.passes) t.1
 
 plain_low : (s : ScriptModel) → IsAccepted s → (n : ℕ) → HasLow (plain s n)
 plain_low s accepted zero = tt
@@ -153,7 +153,7 @@ moved_amount m at z range is = (
 nothing_taken : (z : ℤ) → IsAmount z → IsAmount (pos 0) × IsAmount (z -ℤ pos 0)
 nothing_taken z is = (record { low = omega (arith, ints); high = omega (arith, ints) }, record { low = omega (arith, ints, is.low); high = omega (arith, ints, is.high) })
 
-pub taken_amount : (p : Page) (at : ℕ → Axis → ℤ) (sc : ℕ) (ax : Axis) (z : ℤ) → IsInRange (most p sc ax) (at sc ax) → IsAmount z → IsAmount (taken p at sc ax z) × IsAmount (z -ℤ taken p at sc ax z)
+pub taken_amount : (p : Page) (at : ℕ → Axis → ℤ) (sc : ℕ) (ax : Axis) (z : ℤ) → IsInRange (most p sc ax) (at sc ax) → IsAmount z → IsAmount (amount_taken p at sc ax z) × IsAmount (z -ℤ amount_taken p at sc ax z)
 taken_amount p at sc ax z range is = go (has_scroller p sc)
   where
     go : (b : Bool) → IsAmount (cond b (clamp_to (most p sc ax) (at sc ax +ℤ z) -ℤ at sc ax) (pos 0)) × IsAmount (z -ℤ cond b (clamp_to (most p sc ax) (at sc ax +ℤ z) -ℤ at sc ax) (pos 0))

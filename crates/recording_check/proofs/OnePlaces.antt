@@ -12,7 +12,7 @@ use Rattle.recording_reader.specs.inner.Parts.{Body, body}
 use Rattle.recording_reader.proofs.BadRuns.{breaks_again}
 use Rattle.recording_check.specs.Openings.{OpensWith, IsBadOpening, opening_length}
 use Rattle.recording_check.specs.Recordings.{IsRecording, IsBadAt}
-use Rattle.recording_check.specs.Verdicts.{IsRight, AreRight, IsWrongAt, IsFirstWrong}
+use Rattle.recording_check.specs.Verdicts.{IsRight, AreRightPieces, IsWrongAt, IsFirstWrongEvent}
 use Rattle.recording_check.proofs.JudgedPieces.{past_on}
 use Rattle.recording_check.proofs.OneReading.{one_opening, one_reading}
 use Rattle.recording_check.proofs.OpeningFacts.{header_parts}
@@ -50,7 +50,7 @@ one_bad_place bytes m n (inr (s, xs, opens, i, breaks, from)) (inr (t, ys, also,
 
 -- ---- the first event that is wrong
 
-one_wrong : (s : ScriptModel) (workers : ℕ) (h : List Entry) (b c l m : List Piece) (p q : Piece) → b ++ p ∷ l ≡ c ++ q ∷ m → AreRight s workers h b → AreRight s workers h c
+one_wrong : (s : ScriptModel) (workers : ℕ) (h : List Entry) (b c l m : List Piece) (p q : Piece) → b ++ p ∷ l ≡ c ++ q ∷ m → AreRightPieces s workers h b → AreRightPieces s workers h c
     → (IsRight s workers (reverse (entries b) ++ h) p → ⊥) → (IsRight s workers (reverse (entries c) ++ h) q → ⊥) → length b ≡ length c
 one_wrong s workers h [] [] l m p q same right also wrong false = refl
 one_wrong s workers h [] (y ∷ c) l m p q same right also wrong false =
@@ -62,7 +62,7 @@ one_wrong s workers h (x ∷ b) [] l m p q same right also wrong false =
 one_wrong s workers h (x ∷ b) (y ∷ c) l m p q same right also wrong false =
     let head : x ≡ y = cc (same) in
     let tail : b ++ p ∷ l ≡ c ++ q ∷ m = cc (same) in
-    let next : AreRight s workers (entry_of x.event ∷ h) c = subst (λ (z : Piece). AreRight s workers (entry_of z.event ∷ h) c) (sym head) also.1 in
+    let next : AreRightPieces s workers (entry_of x.event ∷ h) c = subst (λ (z : Piece). AreRightPieces s workers (entry_of z.event ∷ h) c) (sym head) also.1 in
     let past : reverse (entries (y ∷ c)) ++ h ≡ reverse (entries c) ++ (entry_of x.event ∷ h) = past_on (entry_of y.event) (entries c) h ∙ ap (λ (z : Piece). reverse (entries c) ++ (entry_of z.event ∷ h)) (sym head) in
     ap suc (one_wrong s workers (entry_of x.event ∷ h) b c l m p q tail right.1 next
     (λ r. wrong (subst (λ (g : List Entry). IsRight s workers g p) (sym (past_on (entry_of x.event) (entries b) h)) r))
@@ -76,7 +76,7 @@ one_place s workers ps m n a b =
     (λ r. b.wrong (subst (λ (g : List Entry). IsRight s workers g b.piece) (append-nil (reverse (entries b.before))) r))
     ∙ b.at
 
-pub one_first_wrong : (workers : ℕ) (bytes : List ℕ) (m n : ℕ) → IsFirstWrong workers bytes m → IsFirstWrong workers bytes n → m ≡ n
+pub one_first_wrong : (workers : ℕ) (bytes : List ℕ) (m n : ℕ) → IsFirstWrongEvent workers bytes m → IsFirstWrongEvent workers bytes n → m ≡ n
 one_first_wrong workers bytes m n (s, ps, is, at) (t, qs, also, there) =
     let one = one_reading bytes s t ps qs is also in
     one_place s workers ps m n at

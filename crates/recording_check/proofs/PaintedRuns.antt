@@ -10,7 +10,7 @@ use Rattle.model_history.specs.declared.event.Event.TheVariants as event
 use Rattle.model_history.specs.declared.history.Entry.{Entry}
 use Rattle.model_history.specs.EventFields.{activates}
 use Rattle.model_history.specs.Frames.{active, active_page}
-use Rattle.model_history.specs.Recordings.{joined, image_row, image, rgb, shown, shown_image, image_behind, piece, pieces, header, recorded}
+use Rattle.model_history.specs.Recordings.{joined_to, image_row, image, rgb, screen_colour, shown_image, image_behind, piece, pieces, header, recorded}
 use Rattle.model_history.specs.Scripts.{ScriptModel}
 use Rattle.model_history.specs.Texts.{event_line}
 use Rattle.script_json.specs.Recordings.{script_text, recording}
@@ -46,19 +46,19 @@ text_of s h [] = refl
 text_of s h (e ∷ es) = ap (λ (x : List ℕ). (event_line e.event ++ image_behind s h e.event) ++ x) (text_of s (e ∷ h) es)
 
 -- the bytes of a picture
-row_length : (pixel : ℕ → ℕ → Parts) (y w : ℕ) → length (joined w (λ x. rgb (pixel x y))) ≡ 3 * w
-unfolding joined
+row_length : (pixel : ℕ → ℕ → Parts) (y w : ℕ) → length (joined_to w (λ x. rgb (pixel x y))) ≡ 3 * w
+unfolding joined_to
 row_length pixel y zero = refl
 row_length pixel y (suc w) =
-    let all = length-append (joined w (λ x. rgb (pixel x y))) (rgb (pixel w y)) in
+    let all = length-append (joined_to w (λ x. rgb (pixel x y))) (rgb (pixel w y)) in
     let front = row_length pixel y w in
     omega (arith, all, front)
 
-rows_length : (pixel : ℕ → ℕ → Parts) (w h : ℕ) → length (joined h (image_row pixel w)) ≡ 3 * (w * h)
-unfolding joined image_row
+rows_length : (pixel : ℕ → ℕ → Parts) (w h : ℕ) → length (joined_to h (image_row pixel w)) ≡ 3 * (w * h)
+unfolding joined_to image_row
 rows_length pixel w zero = omega arith
 rows_length pixel w (suc h) =
-    let all = length-append (joined h (image_row pixel w)) (joined w (λ x. rgb (pixel x h))) in
+    let all = length-append (joined_to h (image_row pixel w)) (joined_to w (λ x. rgb (pixel x h))) in
     let front = rows_length pixel w h in
     let row = row_length pixel h w in
     let more : w * suc h ≡ w * h + w = grind arith in
@@ -66,11 +66,11 @@ rows_length pixel w (suc h) =
 
 image_is : (pixel : ℕ → ℕ → Parts) (v : View) → IsImage v (image pixel v.w v.h)
 unfolding image
-image_is pixel v = (joined v.h (image_row pixel v.w), rows_length pixel v.w v.h, refl)
+image_is pixel v = (joined_to v.h (image_row pixel v.w), rows_length pixel v.w v.h, refl)
 
 shown_is_image : (s : ScriptModel) (h : List Entry) (missing : _) → IsImage (active_page s h).view (shown_image s h missing)
 unfolding shown_image
-shown_is_image s h missing = image_is (shown s h missing) (active_page s h).view
+shown_is_image s h missing = image_is (screen_colour s h missing) (active_page s h).view
 
 has_image : (s : ScriptModel) (h : List Entry) (e : Event) → IsNamed s e → IsFrame s (active h) → HasImage (view_at (views_of s) (active h)) e (image_behind s h e)
 has_image s h (event.Draw i ms) named frame = subst (λ (v : View). IsImage v (shown_image s h ms)) (active_view s h frame) (shown_is_image s h ms)

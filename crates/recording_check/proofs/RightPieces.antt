@@ -19,8 +19,8 @@ use Rattle.model_history.specs.Legal.{Next}
 use Rattle.model_history.specs.Recordings.{image, shown_image, image_behind}
 use Rattle.model_history.specs.Scripts.{ScriptModel}
 use Rattle.impl_log.specs.Runs.{Run, past, with_entry}
-use Rattle.recording_judge.specs.declared.shown.Shown.{Shown}
-use Rattle.recording_judge.specs.Judging.{Enters, IsShown}
+use Rattle.recording_judge.specs.declared.screen_state.ScreenState.{ScreenState}
+use Rattle.recording_judge.specs.Judging.{JudgesEntry, IsShown}
 use Rattle.recording_pixels.specs.inner.Behind.{pixel_of}
 use Rattle.recording_reader.specs.Pieces.{HasImage, entry_of}
 use Rattle.recording_check.specs.inner.Rightness.{missing_in, TellsDrawn, CanHave, TellsImage, Judged}
@@ -52,7 +52,7 @@ pub drawn_right : (s : ScriptModel) (h : List Entry) (e : Event) (image : List �
 drawn_right s h e image ms b is tells = drawn_in s h e image ms b is tells
 
 -- the painting of what is shown
-painted_is : (s : ScriptModel) (h : List Entry) (ms : List TileKey) (v : Shown) → IsShown s h v → image (pixel_of v.page.now (offset_at v.offsets.now) ms v.background) v.page.now.view.w v.page.now.view.h ≡ shown_image s h ms
+painted_is : (s : ScriptModel) (h : List Entry) (ms : List TileKey) (v : ScreenState) → IsShown s h v → image (pixel_of v.page.now (offset_at v.offsets.now) ms v.background) v.page.now.view.w v.page.now.view.h ≡ shown_image s h ms
 unfolding shown_image
 painted_is s h ms v is =
     ap (λ (p : Page). image (pixel_of p (offset_at v.offsets.now) ms v.background) p.view.w p.view.h) is.page
@@ -69,7 +69,7 @@ piece_entered : (e : Entry) → e ≡ entry_of e.event → (old : Run) → with_
 piece_entered e own old = ap (λ (x : Entry). with_entry old x.actor x.event) own
 
 -- the image is right, and the entry was entered or not
-pub entered : (old new : Run) (e : Entry) (image : List ℕ) (b : Bool) → e ≡ entry_of e.event → TellsImage old.script (past old) e.event image true → Enters old e new b → Judged old (record { event = e.event; image = image }) new b
+pub entered : (old new : Run) (e : Entry) (image : List ℕ) (b : Bool) → e ≡ entry_of e.event → TellsImage old.script (past old) e.event image true → JudgesEntry old e new b → Judged old (record { event = e.event; image = image }) new b
 entered old new e image true own same enters = (record { next = subst (λ (x : Entry). Next old.script old.workers (past old) x) own enters.0; image = same }, enters.1 ∙ piece_entered e own old)
 entered old new e image false own same enters = (λ right. enters.0 (subst (λ (x : Entry). Next old.script old.workers (past old) x) (sym own) right.next), enters.1)
 
@@ -77,7 +77,7 @@ entered old new e image false own same enters = (λ right. enters.0 (subst (λ (
 pub refused : (old : Run) (e : Event) (image : List ℕ) → TellsImage old.script (past old) e image false → Judged old (record { event = e; image = image }) old false
 refused old e image tells = (λ right. tells old.workers right.image right.next, refl)
 
-pub looked_at : (s : ScriptModel) (h : List Entry) (ms : List TileKey) (v : Shown) (bytes : List ℕ) (b : Bool) → IsShown s h v
+pub looked_at : (s : ScriptModel) (h : List Entry) (ms : List TileKey) (v : ScreenState) (bytes : List ℕ) (b : Bool) → IsShown s h v
     → Decides b (bytes ≡ image (pixel_of v.page.now (offset_at v.offsets.now) ms v.background) v.page.now.view.w v.page.now.view.h) → TellsDrawn s h ms bytes b
 looked_at s h ms v bytes b is decides = compared s h ms bytes _ b (painted_is s h ms v is) decides
 

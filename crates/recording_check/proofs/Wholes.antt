@@ -8,8 +8,8 @@ use Rattle.recording_reader.specs.declared.body.Body.{Body}
 use Rattle.recording_reader.specs.declared.cursor.ImageSpan.{ImageSpan}
 use Rattle.recording_reader.specs.BadParts.{StopsAt}
 use Rattle.recording_reader.specs.Bodies.{ArePiecesFrom, ReadsBody, FindsImages}
-use Rattle.recording_reader.specs.Pieces.{Piece, images}
-use Rattle.recording_reader.specs.Places.{place_of}
+use Rattle.recording_reader.specs.Pieces.{Piece, image_spans}
+use Rattle.recording_reader.specs.Places.{image_place_of}
 use Rattle.recording_reader.specs.Views.{ViewTable, views_of}
 use Rattle.recording_check.specs.declared.recording.Recording.{Recording}
 use Rattle.recording_check.specs.Answers.{ReadsRecording, ReadsImages}
@@ -29,7 +29,7 @@ recording_read bytes r b end opens at read events places = (
   read.0,
   is_recording bytes r.script end read.0 opens read.1,
   events ∙ read.2,
-  places ∙ read.3 ∙ ap (λ (n : ℕ). map place_of (images 0 n read.0)) at,
+  places ∙ read.3 ∙ ap (λ (n : ℕ). map image_place_of (image_spans 0 n read.0)) at,
 )
 
 pub images_read : {V : Type 0} (spans : V → List ImageSpan) (bytes : List ℕ) (s : ScriptModel) (v : V) (end : ℕ) → OpensWith bytes s (drop end bytes) → end ≡ opening_length s → FindsImages spans bytes (views_of s) end (Ok v) → ReadsImages spans bytes (Ok v)

@@ -6,15 +6,15 @@ use Rattle.recording_check.specs.declared.fault.RecordingFault.{RecordingFault}
 use Rattle.recording_check.specs.declared.fault.RecordingFault.TheVariants as fault
 use Rattle.recording_check.specs.declared.recording.Recording.{Recording}
 use Rattle.recording_check.specs.Openings.{opening_length}
-use Rattle.recording_reader.specs.Places.{place_of}
+use Rattle.recording_reader.specs.Places.{image_place_of}
 use Rattle.recording_check.specs.Recordings.{IsRecording, IsBadAt}
-use Rattle.recording_reader.specs.Pieces.{Piece, entries, images, images_text}
+use Rattle.recording_reader.specs.Pieces.{Piece, entries, image_spans, images_text}
 use Rattle.recording_reader.specs.Spans.{span_bytes, AreWithin}
 
 -- the bytes are the recording of the script with these events, whose images stand at these places; or the first bad part begins here; or memory ran out
 abbrev pub ReadsRecording : List ℕ → Result Recording RecordingFault → Type 0
 ReadsRecording bytes (Ok r) =
-    (ps : List Piece) × IsRecording bytes r.script ps × (r.events.entries ≡ entries ps) × (r.images.items ≡ map place_of (images 0 (opening_length r.script) ps))
+    (ps : List Piece) × IsRecording bytes r.script ps × (r.events.entries ≡ entries ps) × (r.images.items ≡ map image_place_of (image_spans 0 (opening_length r.script) ps))
 ReadsRecording bytes (Err (fault.Bad place)) = IsBadAt bytes place
 ReadsRecording bytes (Err (fault.Memory e)) = ⊤
 

@@ -5,7 +5,7 @@ use Rattle.model_history.specs.declared.event.Event.TheVariants as event
 use Rattle.model_history.specs.declared.history.Entry.{Entry}
 use Rattle.model_history.specs.Recordings.{image_behind}
 use Rattle.model_history.specs.Scripts.{ScriptModel}
-use Rattle.recording_text.specs.Fits.{Fits}
+use Rattle.recording_text.specs.Fits.{FitsEvent}
 use Rattle.recording_reader.specs.Pieces.{Piece, entry_of, is_end}
 
 -- each image is what its draw shows after the events before it
@@ -21,7 +21,7 @@ IsNamed s _ = Unit {0}
 
 -- an entry of a recording: its numbers fit, and its actor is the one whose event it is
 pub record IsRecorded (s : ScriptModel) (e : Entry) : Type 0 where
-  pub fits : Fits e.event
+  pub fits : FitsEvent e.event
   pub named : IsNamed s e.event
   pub actor : e ≡ entry_of e.event
 

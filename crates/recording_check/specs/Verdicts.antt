@@ -20,9 +20,9 @@ pub record IsRight (s : ScriptModel) (workers : ℕ) (h : List Entry) (p : Piece
   pub image : p.image ≡ image_behind s h p.event
 
 -- each of these pieces is, after a past
-abbrev pub AreRight : ScriptModel → ℕ → List Entry → List Piece → Type 0
-AreRight s workers h [] = Unit {0}
-AreRight s workers h (p ∷ ps) = IsRight s workers h p × AreRight s workers (entry_of p.event ∷ h) ps
+abbrev pub AreRightPieces : ScriptModel → ℕ → List Entry → List Piece → Type 0
+AreRightPieces s workers h [] = Unit {0}
+AreRightPieces s workers h (p ∷ ps) = IsRight s workers h p × AreRightPieces s workers (entry_of p.event ∷ h) ps
 
 -- the first of these pieces that is not right stands here
 pub record IsWrongAt (s : ScriptModel) (workers : ℕ) (ps : List Piece) (place : ℕ) : Type 0 where
@@ -31,7 +31,7 @@ pub record IsWrongAt (s : ScriptModel) (workers : ℕ) (ps : List Piece) (place 
   pub later : List Piece
   pub is : ps ≡ before ++ piece ∷ later
   pub at : length before ≡ place
-  pub right : AreRight s workers [] before
+  pub right : AreRightPieces s workers [] before
   pub wrong : IsRight s workers (reverse (entries before)) piece → ⊥
 
 -- the bytes are the recording of a script, and of a history that is legal for it and so many workers and ends with the end
@@ -44,12 +44,12 @@ pub record IsLegalRecording (workers : ℕ) (bytes : List ℕ) : Type 0 where
   pub text : bytes ≡ recording script history
 
 -- the bytes have the form of a recording, and this is the first of its events that may not come, or whose image is not the painting
-abbrev pub IsFirstWrong : ℕ → List ℕ → ℕ → Type 0
-IsFirstWrong workers bytes place = (s : ScriptModel) × (ps : List Piece) × IsRecording bytes s ps × IsWrongAt s workers ps place
+abbrev pub IsFirstWrongEvent : ℕ → List ℕ → ℕ → Type 0
+IsFirstWrongEvent workers bytes place = (s : ScriptModel) × (ps : List Piece) × IsRecording bytes s ps × IsWrongAt s workers ps place
 
 -- the bytes are a recording, judged for 16 workers; or they have the form of one, and this event is the first that is wrong; or the first bad part begins here; or memory ran out
 abbrev pub Judges : List ℕ → Result Verdict RecordingFault → Type 0
 Judges bytes (Ok Good) = IsLegalRecording 16 bytes
-Judges bytes (Ok (No event)) = IsFirstWrong 16 bytes event
+Judges bytes (Ok (No event)) = IsFirstWrongEvent 16 bytes event
 Judges bytes (Err (fault.Bad place)) = IsBadAt bytes place
 Judges bytes (Err (fault.Memory e)) = ⊤

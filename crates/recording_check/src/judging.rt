@@ -13,7 +13,7 @@ use crate::right::enter_step;
 use crate::verdict::Verdict;
 use model_history::{Event, Script};
 use recording_judge::Judge;
-use recording_reader::{Cursor, ImageViews, Step, take_piece};
+use recording_reader::{Cursor, ImageViews, EventSpan, take_piece};
 use recording_text::Scratch;
 use std::alloc::{AllocError, Global};
 use std::sync::Arc;
@@ -43,7 +43,7 @@ fn judge_next(
     bytes: &[u8],
     wrong: Option<u64>,
     index: u64,
-    step: Step,
+    step: EventSpan,
 ) -> Result<Option<u64>, AllocError>
     requires { IsPieceIn bytes.now step }
     ensures { IfOk result (JudgesNext bytes.now judge.old wrong index step judge.new) }

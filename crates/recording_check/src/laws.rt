@@ -11,8 +11,8 @@ ghost use Rattle.script_json.specs.Recordings.{script_text, recording};
 ghost use Rattle.recording_check.specs.Openings.{IsScriptLine};
 ghost use Rattle.recording_check.specs.Painted.{ArePainted, IsOver};
 ghost use Rattle.recording_check.specs.Recordings.{IsRecording, IsBadAt};
-ghost use Rattle.recording_check.specs.Verdicts.{IsFirstWrong, IsLegalRecording};
-ghost use Rattle.recording_text.specs.Fits.{Fits};
+ghost use Rattle.recording_check.specs.Verdicts.{IsFirstWrongEvent, IsLegalRecording};
+ghost use Rattle.recording_text.specs.Fits.{FitsEvent};
 ghost use Rattle.recording_reader.specs.Pieces.{Piece, entries};
 
 /// A recording is read in one way: bytes are that of one script, and of one list of events and images, at
@@ -41,22 +41,22 @@ pub fn a_recording_has_no_bad_part()
 /// What [`check`](crate::check) may answer excludes each other: the recording of a legal history has no first
 /// event that is wrong and no part that is not of its form, nor have bytes both of these.
 pub fn verdicts_exclude_each_other()
-    ensures legal_not_wrong { (workers event : ℕ) (bytes : List ℕ) → IsLegalRecording workers bytes → IsFirstWrong workers bytes event → ⊥ }
+    ensures legal_not_wrong { (workers event : ℕ) (bytes : List ℕ) → IsLegalRecording workers bytes → IsFirstWrongEvent workers bytes event → ⊥ }
     ensures legal_not_bad { (workers place : ℕ) (bytes : List ℕ) → IsLegalRecording workers bytes → IsBadAt bytes place → ⊥ }
-    ensures wrong_not_bad { (workers event place : ℕ) (bytes : List ℕ) → IsFirstWrong workers bytes event → IsBadAt bytes place → ⊥ }
+    ensures wrong_not_bad { (workers event place : ℕ) (bytes : List ℕ) → IsFirstWrongEvent workers bytes event → IsBadAt bytes place → ⊥ }
 {}
 
 /// What is refused is told in one way: at most one place is that of the first part that is not of its form,
 /// and at most one event is the first that is wrong.
 pub fn a_refusal_has_one_place()
     ensures bad { (bytes : List ℕ) (place other : ℕ) → IsBadAt bytes place → IsBadAt bytes other → place ≡ other }
-    ensures wrong { (workers event other : ℕ) (bytes : List ℕ) → IsFirstWrong workers bytes event → IsFirstWrong workers bytes other → event ≡ other }
+    ensures wrong { (workers event other : ℕ) (bytes : List ℕ) → IsFirstWrongEvent workers bytes event → IsFirstWrongEvent workers bytes other → event ≡ other }
 {}
 
 /// The events of a legal past of an accepted script fit the format: each number that they name fits the
 /// type of its field. With more than 65,536 workers a worker's number might not.
 pub fn legal_events_fit()
-    ensures { (s : ScriptModel) (workers : ℕ) (past : List Entry) → IsAccepted s → workers ≤ 65536 → Legal s workers past → AtEach (λ before entry. Fits entry.event) past }
+    ensures { (s : ScriptModel) (workers : ℕ) (past : List Entry) → IsAccepted s → workers ≤ 65536 → Legal s workers past → AtEach (λ before entry. FitsEvent entry.event) past }
 {}
 
 /// What is written is what [`check`](crate::check) takes: the recording of a script and of a history that is

@@ -3,14 +3,14 @@
 ghost use Rattle.std.specs.Prelude.{◌≡◌, ℕ, List, length, IfOk, option_copied};
 ghost use Rattle.impl_log.specs.Runs.{past};
 ghost use Rattle.recording_reader.specs.Pieces as pieces;
-ghost use Rattle.recording_reader.specs.Taking.{StandsAt};
+ghost use Rattle.recording_reader.specs.Taking.{IsImageAt};
 ghost use Rattle.recording_check.specs.inner.Rightness.{Arrives, CanHave, IsPieceIn, Judged, TellsDrawn, TellsImage, missing_in};
 
 use geom::TileKey;
 use model_history::{Entry, Event};
 use recording_judge::Judge;
 use recording_pixels::is_painted;
-use recording_reader::{ImageSpan, Step, entry_of};
+use recording_reader::{ImageSpan, EventSpan, entry_of};
 use std::alloc::{AllocError, Global};
 
 // The keys that a draw lists as missing; None where the event is no draw.
@@ -83,7 +83,7 @@ fn enter_right(
 // The bytes of an image; none where there is no image.
 fn image_in(bytes: &[u8], image: Option<ImageSpan>) -> &[u8]
     requires { Arrives bytes.now image }
-    ensures { (there : List ℕ) → StandsAt bytes.now image there → result.now ≡ there }
+    ensures { (there : List ℕ) → IsImageAt bytes.now image there → result.now ≡ there }
 {
     match image {
         Some(span) => {
@@ -100,10 +100,10 @@ pub(crate) fn enter_step(
     alloc: Global,
     judge: &mut Judge,
     bytes: &[u8],
-    step: Step,
+    step: EventSpan,
 ) -> Result<bool, AllocError>
     requires { IsPieceIn bytes.now step }
-    ensures { IfOk result (λ yes. (image : List ℕ) → StandsAt bytes.now step.image image → Judged judge.old (record { event = step.event; image = image }) judge.new yes) }
+    ensures { IfOk result (λ yes. (image : List ℕ) → IsImageAt bytes.now step.image image → Judged judge.old (record { event = step.event; image = image }) judge.new yes) }
 {
     let image = image_in(bytes, step.image);
     let entry = entry_of(step.event);

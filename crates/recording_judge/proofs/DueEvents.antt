@@ -17,8 +17,8 @@ use Rattle.model_history.specs.Scans.{newest, counted, held}
 use Rattle.model_history.specs.Frames.{is_left, active, pending, active_page, is_empty}
 use Rattle.model_history.proofs.BoolFacts.{is_false, is_same, same_number}
 use Rattle.model_history.specs.Scrolls.{accepted, next_pulls, next_clamps, active_offsets}
-use Rattle.model_history.specs.Tiles.{required, are_ready, missing}
-use Rattle.model_history.specs.Ranking.{first, evicted_for}
+use Rattle.model_history.specs.Tiles.{required, are_ready, missing_visible}
+use Rattle.model_history.specs.Ranking.{rank_to_start, evicted_for}
 use Rattle.model_history.specs.Due.{due, on_if, next_input, input_now, due_activate, due_scroll, due_wheel, due_start, due_done, due_draw}
 use Rattle.recording_judge.specs.inner.States.{IsFirstKey}
 
@@ -45,13 +45,13 @@ module _ (s : ScriptModel) (h : List Entry) where
       sym (ap (due_wheel s h (next_input h)) asked ∙ (λ j. Some (event.Wheel (sym place j) (sym hits j) (sym right j) (sym downwards j) (sym parts j))))
 
   pub start_is : (a : ℕ) → held (a - 2) h ≡ None → (q : TileKey) (f : IsFirstKey s h q) (ks : List TileKey) → ks ≡ evicted_for s h f.rank → Some (event.Start (a - 2) q ks) ≡ due s h kind.Start a
-  start_is a free q f ks gives_up = sym ((λ j. due_start s h (a - 2) (free j) (f.is_first j)) ∙ (λ j. Some (event.Start (a - 2) (f.key j) (sym gives_up j))))
+  start_is a free q f ks evictions = sym ((λ j. due_start s h (a - 2) (free j) (f.is_first j)) ∙ (λ j. Some (event.Start (a - 2) (f.key j) (sym evictions j))))
 
-  pub start_none : (a : ℕ) → held (a - 2) h ≡ None → first s h ≡ None → None ≡ due s h kind.Start a
+  pub start_none : (a : ℕ) → held (a - 2) h ≡ None → rank_to_start s h ≡ None → None ≡ due s h kind.Start a
   start_none a free none = sym (λ j. due_start s h (a - 2) (free j) (none j))
 
   pub start_held : (a : ℕ) (q : TileKey) → held (a - 2) h ≡ Some q → None ≡ due s h kind.Start a
-  start_held a q holds = sym (ap (λ o. due_start s h (a - 2) o (first s h)) holds)
+  start_held a q holds = sym (ap (λ o. due_start s h (a - 2) o (rank_to_start s h)) holds)
 
   pub done_is : (a : ℕ) (q : TileKey) → held (a - 2) h ≡ Some q → Some (event.DoneTile (a - 2) q) ≡ due s h kind.Done a
   done_is a q holds = sym (ap (due_done (a - 2)) holds)
@@ -59,19 +59,19 @@ module _ (s : ScriptModel) (h : List Entry) where
   pub done_none : (a : ℕ) → held (a - 2) h ≡ None → None ≡ due s h kind.Done a
   done_none a free = sym (ap (due_done (a - 2)) free)
 
-  pub draw_is : (i : ℕ) → newest begins h ≡ Some i → is_some (active h) ≡ true → (ks : List TileKey) → ks ≡ missing s h → Some (event.Draw i ks) ≡ due s h kind.Draw 0
-  draw_is i begun there ks lacks = sym (ap (due_draw s h) begun ∙ (ap (λ b. on_if b (event.Draw i (missing s h))) there ∙ ap (λ l. Some (event.Draw i l)) (sym lacks)))
+  pub draw_is : (i : ℕ) → newest begins h ≡ Some i → is_some (active h) ≡ true → (ks : List TileKey) → ks ≡ missing_visible s h → Some (event.Draw i ks) ≡ due s h kind.Draw 0
+  draw_is i begun there ks lacks = sym (ap (due_draw s h) begun ∙ (ap (λ b. on_if b (event.Draw i (missing_visible s h))) there ∙ ap (λ l. Some (event.Draw i l)) (sym lacks)))
 
   pub draw_not : (i : ℕ) → newest begins h ≡ Some i → is_some (active h) ≡ false → None ≡ due s h kind.Draw 0
-  draw_not i begun none = sym (ap (due_draw s h) begun ∙ ap (λ b. on_if b (event.Draw i (missing s h))) none)
+  draw_not i begun none = sym (ap (due_draw s h) begun ∙ ap (λ b. on_if b (event.Draw i (missing_visible s h))) none)
 
   -- the key that is first, and none
 
-  pub first_key : (o : Option Rank) (q : TileKey) → first s h ≡ o → Some q ≡ option_map rank_key o → IsFirstKey s h q
+  pub first_key : (o : Option Rank) (q : TileKey) → rank_to_start s h ≡ o → Some q ≡ option_map rank_key o → IsFirstKey s h q
   first_key None q e f = absurd cc
   first_key (Some r) q e f = record { rank = r; is_first = e; key = let k : q ≡ r.key = cc in sym k }
 
-  pub none_first : (o : Option Rank) → first s h ≡ o → None ≡ option_map rank_key o → first s h ≡ None
+  pub none_first : (o : Option Rank) → rank_to_start s h ≡ o → None ≡ option_map rank_key o → rank_to_start s h ≡ None
   none_first None e f = e
   none_first (Some r) e f = absurd cc
 

@@ -8,8 +8,8 @@ use Rattle.model_history.specs.Commits.{CommitModel}
 use Rattle.model_history.specs.Scripts.{ScriptModel}
 use Rattle.page_layers.specs.declared.moves.Move.{Move}
 use Rattle.model_history.proofs.BoolFacts.{same_number}
-use Rattle.impl_scroll.specs.Rows.{is_among}
-use Rattle.impl_scroll.specs.Standings.{is_scroll}
+use Rattle.impl_scroll.specs.Rows.{has_number}
+use Rattle.impl_scroll.specs.Standings.{uses_scroll}
 use Rattle.main_host.specs.declared.main_end.MainEnd.{MainEnd}
 use Rattle.main_host.specs.declared.main_end.MainEnd.TheVariants as end
 use Rattle.recording_judge.specs.inner.Mains.{IsCommitOf, IsCommitted, commit_of}
@@ -19,13 +19,13 @@ pub record IsNoFrame (e : Event) : Type 0 where
   pub commits : commits e ≡ None
   pub activates : activates e ≡ None
 
-pub scroll_is_none : (e : Event) → is_scroll e ≡ true → IsNoFrame e
+pub scroll_is_none : (e : Event) → uses_scroll e ≡ true → IsNoFrame e
 scroll_is_none (event.Scroll i dx dy) t = record { sends = refl; commits = refl; activates = refl }
 scroll_is_none (event.Wheel i layer x y ms) t = record { sends = refl; commits = refl; activates = refl }
 scroll_is_none _ t = absurd cc
 
 -- an empty list names no scroller
-pub none_named : (ids : List ℕ) → (length ids == 0) ≡ true → (sc : ℕ) → is_among ids sc ≡ false
+pub none_named : (ids : List ℕ) → (length ids == 0) ≡ true → (sc : ℕ) → has_number ids sc ≡ false
 none_named [] e sc = refl
 none_named (i ∷ is) e sc = let z : length (i ∷ is) ≡ 0 = same_number (length (i ∷ is)) 0 e in absurd (omega (arith, z))
 

@@ -8,7 +8,7 @@ use Rattle.std.specs.Ordering.{eq_by_cmp, is_eq}
 use Rattle.std.specs.declared.cmp.Ordering.TheVariants.{Less}
 use Rattle.geom.specs.declared.tile.TileKey.{TileKey}
 use Rattle.geom.specs.KeyOrder.{key_cmp}
-use Rattle.geom.specs.KeyLists.{same_key, has_key, AreDistinct}
+use Rattle.geom.specs.KeyLists.{same_key, has_key, AreDistinctKeys}
 use Rattle.tile_priority.specs.Ordered.{BeforeAll, IsInOrder}
 use Rattle.geom.proofs.KeyLists.{one_key, same_from, same_ties, has_key_more, has_key_ties}
 
@@ -59,7 +59,7 @@ not_later : (k : TileKey) (ks : List TileKey) → AllByRecursion (λ q. key_cmp 
 not_later k [] h = refl
 not_later k (q ∷ ks) h = neither (same_key q k) (has_key ks k) (same_ties q k ∙ ap is_eq h.0) (not_later k ks h.1)
 
-pub rising_once : (ks : List TileKey) → IsStrictlySortedBy key_cmp ks → AreDistinct ks
+pub rising_once : (ks : List TileKey) → IsStrictlySortedBy key_cmp ks → AreDistinctKeys ks
 unfolding IsStrictlySortedBy
 rising_once [] h = tt
 rising_once (k ∷ ks) h = (not_later k ks h.0, rising_once ks h.1)

@@ -26,16 +26,16 @@ use Rattle.model_history.proofs.PageFacts.{changes_alike, page_alike, page_befor
 use Rattle.model_history.proofs.PullBounds.{pulls_bounded}
 use Rattle.model_history.proofs.RangeBounds.{sent_few}
 use Rattle.model_steps.specs.Events.{send}
-use Rattle.main_host.specs.Hosts.{HostModel, IsEnd, with_frame}
+use Rattle.main_host.specs.Hosts.{MainHostModel, IsEnd, with_frame}
 use Rattle.main_host.specs.declared.main_end.MainEnd.{MainEnd}
 use Rattle.main_host.specs.declared.main_end.MainEnd.TheVariants as end
 use Rattle.main_host.proofs.HostFacts.{pulls_last, pulls_before, more_long}
-use Rattle.recording_judge.specs.declared.main_side.MainSide.{MainSide}
+use Rattle.recording_judge.specs.declared.judged_main.JudgedMain.{JudgedMain}
 use Rattle.recording_judge.specs.inner.Mains.{HasRun, IsCommitOf, IsEndOf, EndsSo, IsCommitted, IsMain, ready_event, abort_event}
 
 -- one frame more was run, with the pulls that it got
 
-module _ (s : ScriptModel) (ps : ℕ → List Move) (k : ℕ) (host : HostModel) (ms : List Move) (run : HasRun s ps k host) (is : ms ≡ ps k) where
+module _ (s : ScriptModel) (ps : ℕ → List Move) (k : ℕ) (host : MainHostModel) (ms : List Move) (run : HasRun s ps k host) (is : ms ≡ ps k) where
   more_each : (j : ℕ) → j < suc k → pulls_in (host.sends ++ ms ∷ []) j ≡ ps j
   more_each j lt = by_test (j == k) at_last before
     where
@@ -75,7 +75,7 @@ module _ (s : ScriptModel) (ps : ℕ → List Move) (k : ℕ) (host : HostModel)
 
 -- at the beginning
 
-pub begin_main : (s : ScriptModel) (side : MainSide) → side.host.script ≡ s → side.host.sends ≡ [] → IsMain s [] side
+pub begin_main : (s : ScriptModel) (side : JudgedMain) → side.host.script ≡ s → side.host.sends ≡ [] → IsMain s [] side
 begin_main s side script none = record {
   run = record { script = script; count = ap length none; each = λ k lt. absurd (omega (arith, lt)) };
   ends = λ f k e. absurd cc;
@@ -83,7 +83,7 @@ begin_main s side script none = record {
 
 -- a frame is sent
 
-module _ (s : ScriptModel) (n : ℕ) (h : List Entry) (a k : ℕ) (ms : List Move) (accepted : IsAccepted s) (legal : Legal s n (send a k ms ∷ h)) (side : MainSide) (m : IsMain s h side) where
+module _ (s : ScriptModel) (n : ℕ) (h : List Entry) (a k : ℕ) (ms : List Move) (accepted : IsAccepted s) (legal : Legal s n (send a k ms ∷ h)) (side : JudgedMain) (m : IsMain s h side) where
   abbrev sent : List Entry
   sent = send a k ms ∷ h
 
@@ -113,7 +113,7 @@ module _ (s : ScriptModel) (n : ℕ) (h : List Entry) (a k : ℕ) (ms : List Mov
   same_pulls : ms ≡ pulls_of sent (counted sends h)
   same_pulls = pulls_are ∙ ap (pulls_of sent) frame
 
-  pub sent_main : (new : MainSide) (e : MainEnd) → new.host ≡ with_frame side.host ms → new.end ≡ Some e → IsEnd side.host ms e → IsMain s sent new
+  pub sent_main : (new : JudgedMain) (e : MainEnd) → new.host ≡ with_frame side.host ms → new.end ≡ Some e → IsEnd side.host ms e → IsMain s sent new
   sent_main new e more is ends = record {
     run = subst (HasRun s (pulls_of sent) (suc (counted sends h))) (sym more) (run_more s (pulls_of sent) (counted sends h) side.host ms has_run same_pulls);
     ends = λ f j i.
@@ -124,7 +124,7 @@ module _ (s : ScriptModel) (n : ℕ) (h : List Entry) (a k : ℕ) (ms : List Mov
 
 -- an event of another kind
 
-module _ (s : ScriptModel) (n : ℕ) (h : List Entry) (a : ℕ) (side : MainSide) where
+module _ (s : ScriptModel) (n : ℕ) (h : List Entry) (a : ℕ) (side : JudgedMain) where
   pub main_stays : (e : Event) → Legal s n (entry a e ∷ h) → sends e ≡ None → IsMain s h side → IsMain s (entry a e ∷ h) side
   main_stays (event.Send k ms) legal f m = absurd cc
   main_stays (event.Ready k) legal f m = record { run = m.run; ends = λ t. m.ends (sent_not_idle (sched h).main_state (at_ready s n h a k legal.1).sent) }
@@ -134,7 +134,7 @@ module _ (s : ScriptModel) (n : ℕ) (h : List Entry) (a : ℕ) (side : MainSide
 
 -- what is due
 
-module _ (s : ScriptModel) (n : ℕ) (h : List Entry) (legal : Legal s n h) (side : MainSide) (m : IsMain s h side) where
+module _ (s : ScriptModel) (n : ℕ) (h : List Entry) (legal : Legal s n h) (side : JudgedMain) (m : IsMain s h side) where
   -- the frame in flight
   flies : is_sent (sched h).main_state ≡ true → (k : ℕ) × (newest sends h ≡ Some k) × EndsSo s (pulls_of h) k side.end
   flies t =
@@ -168,7 +168,7 @@ by_end s ps k None x t = x
 by_end s ps k (Some (end.Ready c)) x t = x.1
 by_end s ps k (Some (end.Abort j)) x t = not_both (changes s ps k) t x.0
 
-pub commit_there : (s : ScriptModel) (n : ℕ) (h : List Entry) (a k : ℕ) (side : MainSide) → Legal s n (entry a (event.Commit k) ∷ h) → IsMain s h side → IsCommitted s (pulls_of h) k side.end
+pub commit_there : (s : ScriptModel) (n : ℕ) (h : List Entry) (a k : ℕ) (side : JudgedMain) → Legal s n (entry a (event.Commit k) ∷ h) → IsMain s h side → IsCommitted s (pulls_of h) k side.end
 commit_there s n h a k side legal m =
     let d = at_commit s n h a k legal.1 in
     by_end s (pulls_of h) k side.end (m.ends (ready_not_idle (sched h).main_state d.prepared) k d.last) ((changes_course s n h legal.0).prepared_changed k d.prepared d.last)

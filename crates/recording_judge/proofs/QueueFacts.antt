@@ -5,7 +5,7 @@ use Rattle.std.proofs.lemmas.List.{take_more}
 use Rattle.std.specs.FinSet.{contains-from_list}
 use Rattle.geom.specs.declared.tile.TileKey.{TileKey}
 use Rattle.geom.specs.KeyOrder.{key_cmp}
-use Rattle.geom.specs.KeyLists.{same_key, has_key, AreDistinct}
+use Rattle.geom.specs.KeyLists.{same_key, has_key, AreDistinctKeys}
 use Rattle.geom.proofs.KeyOrders.{key_total}
 use Rattle.geom.proofs.KeyLists.{one_key, key_itself, has_key_ties}
 use Rattle.tile_priority.specs.Ordered.{IsInOrder}
@@ -72,7 +72,7 @@ module _ (s : ScriptModel) (n : ℕ) (h : List Entry) (t : TileKeys) (legal : Le
       back : has_key (in_flight h) q ≡ true → has_key (held_keys t.held.items) q ≡ true
       back e = let w = holder s n h legal q e in held_in t.held.items w.0 q (holds.held w.0 w.1 ∙ w.2)
 
-  pub tiles_at : (flying : List TileKey) (count : ℕ) → ((q : TileKey) → has_key flying q ≡ has_key (held_keys t.held.items) q) → AreDistinct t.ready → IsInOrder key_cmp t.ready → count ≡ length (in_flight h)
+  pub tiles_at : (flying : List TileKey) (count : ℕ) → ((q : TileKey) → has_key flying q ≡ has_key (held_keys t.held.items) q) → AreDistinctKeys t.ready → IsInOrder key_cmp t.ready → count ≡ length (in_flight h)
       → AreTilesAt s h (store_of flying) t.ready t.pins count
   tiles_at flying count are once order as_many = record {
     once = once;

@@ -18,15 +18,15 @@ use Rattle.tile_priority.specs.Choice.{Choice}
 use Rattle.tile_priority.specs.Alike.{Alike}
 use Rattle.model_steps.specs.Events.{send, abort, commit, start, done}
 use Rattle.model_steps.proofs.TreesAfter.{send_ready, send_choice, abort_choice}
-use Rattle.impl_scroll.specs.Standings.{StandingModel, Stands, is_scroll}
+use Rattle.impl_scroll.specs.Standings.{StandingModel, StandsForPast, uses_scroll}
 use Rattle.tile_prepare.proofs.SameTiles.{same_tiles, same_after_commit}
 use Rattle.tile_prepare.specs.Rebuilds.{leaves_tiles}
 use Rattle.model_history.specs.Accepted.{IsAccepted}
-use Rattle.impl_host.specs.Hosts.{HostModel, Hosts, with_standing}
+use Rattle.impl_host.specs.Hosts.{ImplHostModel, Hosts, with_standing}
 use Rattle.geom.specs.declared.tile.TileKey.{TileKey}
 use Rattle.geom.specs.KeyLists.{has_key}
 use Rattle.recording_judge.specs.declared.tile_keys.TileKeys.{TileKeys}
-use Rattle.recording_judge.specs.declared.main_side.MainSide.{MainSide}
+use Rattle.recording_judge.specs.declared.judged_main.JudgedMain.{JudgedMain}
 use Rattle.recording_judge.specs.inner.Tiles.{Holds, HaveSameKeys}
 use Rattle.recording_judge.specs.inner.Mains.{IsMain}
 use Rattle.recording_judge.specs.inner.States.{Keeps, entry, is_quiet, IsState, IsReadyFor, HasKind, needs_queue}
@@ -38,11 +38,11 @@ use Rattle.recording_judge.proofs.MainSteps.{main_stays}
 pub use Rattle.recording_judge.proofs.HostFacts.{on_ok}
 
 -- a host with where its scrollers stand
-pub hosts_with : (s : ScriptModel) (h : List Entry) (m : HostModel) (st : StandingModel) → Hosts s h m → st ≡ m.standing → Hosts s h (with_standing m st)
-hosts_with s h m st hosts is = record { active = hosts.active; pending = hosts.pending; standing = subst (λ (z : StandingModel). Stands s h z) (sym is) hosts.standing; outright = hosts.outright }
+pub hosts_with : (s : ScriptModel) (h : List Entry) (m : ImplHostModel) (st : StandingModel) → Hosts s h m → st ≡ m.standing → Hosts s h (with_standing m st)
+hosts_with s h m st hosts is = record { active = hosts.active; pending = hosts.pending; standing = subst (λ (z : StandingModel). StandsForPast s h z) (sym is) hosts.standing; outright = hosts.outright }
 
 -- before all events
-pub state_begins : (r : Run) (s : ScriptModel) (n : ℕ) (host : HostModel) (tiles : TileKeys) (main : MainSide) → r ≡ new_run s n → Hosts s [] host → Holds s n [] tiles → IsMain s [] main → Keeps r.script r.workers (past r) host tiles main
+pub state_begins : (r : Run) (s : ScriptModel) (n : ℕ) (host : ImplHostModel) (tiles : TileKeys) (main : JudgedMain) → r ≡ new_run s n → Hosts s [] host → Holds s n [] tiles → IsMain s [] main → Keeps r.script r.workers (past r) host tiles main
 state_begins r s n host tiles main is hosts holds runs = subst (λ (z : Run). Keeps z.script z.workers (past z) host tiles main) (sym is) (record { host = hosts; tiles = holds; main = runs })
 
 -- ---- the tiles after an event that starts and ends none
@@ -55,12 +55,12 @@ held_same s h a (event.Commit k) t = absurd cc
 held_same s h a (event.Activate k ms) t = absurd cc
 held_same s h a e t = record { tiles = same_tiles s h (entry a e) t; held = λ w. refl }
 
-scroll_leaves : (e : Event) → is_scroll e ≡ true → leaves_tiles e ≡ true
+scroll_leaves : (e : Event) → uses_scroll e ≡ true → leaves_tiles e ≡ true
 scroll_leaves (event.Scroll i dx dy) t = refl
 scroll_leaves (event.Wheel i layer x y ms) t = refl
 scroll_leaves _ t = absurd cc
 
-pub scroll_keys : (s : ScriptModel) (h : List Entry) (a : ℕ) (e : Event) → is_scroll e ≡ true → HaveSameKeys s h (entry a e ∷ h)
+pub scroll_keys : (s : ScriptModel) (h : List Entry) (a : ℕ) (e : Event) → uses_scroll e ≡ true → HaveSameKeys s h (entry a e ∷ h)
 scroll_keys s h a e t = held_same s h a e (scroll_leaves e t)
 
 pub abort_keys : (s : ScriptModel) (h : List Entry) (a k : ℕ) → HaveSameKeys s h (abort a k ∷ h)
@@ -97,7 +97,7 @@ abort_tiles s n h a k t legal none holds = record {
 
 -- ---- an event that changes nothing but the history
 
-module _ (s : ScriptModel) (n : ℕ) (h : List Entry) (a : ℕ) (host : HostModel) (tiles : TileKeys) (main : MainSide) where
+module _ (s : ScriptModel) (n : ℕ) (h : List Entry) (a : ℕ) (host : ImplHostModel) (tiles : TileKeys) (main : JudgedMain) where
   pub quiet_keeps : (e : Event) → is_quiet e ≡ true → Legal s n (entry a e ∷ h) → Keeps s n h host tiles main → Keeps s n (entry a e ∷ h) host tiles main
   quiet_keeps (event.Send k ms) t legal k0 = absurd cc
   quiet_keeps (event.Abort k) t legal k0 = absurd cc
@@ -125,7 +125,7 @@ done_within s n h a w q legal = let within = legal.1.within in let actor = legal
 
 -- ---- entering
 
-pub state_after : (r new : Run) (a : ℕ) (e : Event) (host : HostModel) (tiles : TileKeys) (main : MainSide) → new ≡ with_entry r a e → Keeps r.script r.workers (entry a e ∷ past r) host tiles main
+pub state_after : (r new : Run) (a : ℕ) (e : Event) (host : ImplHostModel) (tiles : TileKeys) (main : JudgedMain) → new ≡ with_entry r a e → Keeps r.script r.workers (entry a e ∷ past r) host tiles main
     → Keeps new.script new.workers (past new) host tiles main
 state_after r new a e host tiles main is keeps =
     subst (λ (z : Run). Keeps z.script z.workers (past z) host tiles main) (sym is)

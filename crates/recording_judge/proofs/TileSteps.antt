@@ -5,7 +5,7 @@ use Rattle.geom.specs.declared.tile.TileKey.{TileKey}
 use Rattle.geom.specs.KeyLists.{same_key, has_key}
 use Rattle.tile_priority.specs.declared.rank.Rank.{Rank}
 use Rattle.tile_priority.specs.Tiles.{Tile}
-use Rattle.tile_priority.specs.Choice.{Choice, victim_key}
+use Rattle.tile_priority.specs.Choice.{Choice, evictable_key}
 use Rattle.tile_priority.specs.Choice as choosing
 use Rattle.tile_priority.specs.Alike.{Alike}
 use Rattle.tile_priority.specs.Alike as alike
@@ -20,8 +20,8 @@ use Rattle.model_history.specs.Scripts.{ScriptModel}
 use Rattle.model_history.specs.Accepted.{IsAccepted}
 use Rattle.model_history.specs.Legal.{Legal}
 use Rattle.model_history.specs.Scans.{held}
-use Rattle.model_history.specs.Tiles.{live_keys, made, in_flight, ready, required, pending_tree, keys_of}
-use Rattle.model_history.specs.Ranking.{choice, rank, is_unmade, ready_tile, first, evicted_for}
+use Rattle.model_history.specs.Tiles.{live_keys, made_so_far, in_flight, ready, required, pending_tree, keys_of}
+use Rattle.model_history.specs.Ranking.{choice, rank, is_unmade, ready_tile, rank_to_start, evicted_for}
 use Rattle.model_history.proofs.BoolFacts.{not_both, is_false, and_right, not_true}
 use Rattle.model_history.proofs.DueFacts.{AtStart, at_start}
 use Rattle.model_history.proofs.KeyFacts.{has_in, in_has, has_filter}
@@ -62,14 +62,14 @@ forgets s n h g t u ready pins held none holds same = record {
 queue_there : (o : Option Choice) (c d : Choice) → IfSome o (λ q. Alike q d) → o ≡ Some c → Alike c d
 queue_there o c d same is = subst (λ (z : Option Choice). IfSome z (λ q. Alike q d)) is same
 
-pub first_told : (s : ScriptModel) (h : List Entry) (o : Option Choice) (c : Choice) (k : Option TileKey) → IfSome o (λ q. Alike q (choice s h)) → o ≡ Some c → k ≡ option_map rank_key (choosing.first c) → k ≡ option_map rank_key (first s h)
+pub first_told : (s : ScriptModel) (h : List Entry) (o : Option Choice) (c : Choice) (k : Option TileKey) → IfSome o (λ q. Alike q (choice s h)) → o ≡ Some c → k ≡ option_map rank_key (choosing.first c) → k ≡ option_map rank_key (rank_to_start s h)
 first_told s h o c k same is e = e ∙ ap (option_map rank_key) (order_is_free.first c (choice s h) (alike_stay.same_choice c (choice s h) (queue_there o c (choice s h) same is)))
 
-pub evicted_told : (s : ScriptModel) (h : List Entry) (o : Option Choice) (c : Choice) (k : TileKey) (ks : List TileKey) (r : Rank) → IfSome o (λ q. Alike q (choice s h)) → o ≡ Some c → first s h ≡ Some r → r.key ≡ k → AreEvictedFor c k ks
+pub evicted_told : (s : ScriptModel) (h : List Entry) (o : Option Choice) (c : Choice) (k : TileKey) (ks : List TileKey) (r : Rank) → IfSome o (λ q. Alike q (choice s h)) → o ≡ Some c → rank_to_start s h ≡ Some r → r.key ≡ k → AreEvictedFor c k ks
     → ks ≡ evicted_for s h r
 evicted_told s h o c k ks r same is is_first is_key given =
     let alike_now = queue_there o c (choice s h) same is in
-    given r (alike_now.wanted.back r (first_is_one.there (choice s h) r is_first).wanted) is_key ∙ ap (map victim_key) (order_is_free.evicted c (choice s h) r (alike_stay.same_choice c (choice s h) alike_now))
+    given r (alike_now.wanted.back r (first_is_one.there (choice s h) r is_first).wanted) is_key ∙ ap (map evictable_key) (order_is_free.evicted c (choice s h) r (alike_stay.same_choice c (choice s h) alike_now))
 
 -- a start
 
@@ -78,8 +78,8 @@ queue_started : (s : ScriptModel) (n : ℕ) (h : List Entry) (a w : ℕ) (q : Ti
 queue_started s n h a w q ks legal None p same is = subst (λ (o : Option Choice). IfSome o (λ c. Alike c (choice s (start a w q ks ∷ h)))) (sym is) tt
 queue_started s n h a w q ks legal (Some c) None same is = absurd is
 queue_started s n h a w q ks legal (Some c) (Some d) same is =
-    alike_stay.through d (alike.started c q ks) (choice s (start a w q ks ∷ h)) is
-    (alike_stay.through (alike.started c q ks) (alike.started (choice s h) q ks) (choice s (start a w q ks ∷ h))
+    alike_stay.through d (alike.choice_after_start c q ks) (choice s (start a w q ks ∷ h)) is
+    (alike_stay.through (alike.choice_after_start c q ks) (alike.choice_after_start (choice s h) q ks) (choice s (start a w q ks ∷ h))
     (alike_stay.started c (choice s h) q ks same) (start_alike s n h a w q ks legal))
 
 module _ (s : ScriptModel) (n : ℕ) (h : List Entry) (a w : ℕ) (q : TileKey) (ks : List TileKey) (legal : Legal s n (start a w q ks ∷ h)) (t : TileKeys) (holds : Holds s n h t) where
@@ -91,7 +91,7 @@ module _ (s : ScriptModel) (n : ℕ) (h : List Entry) (a w : ℕ) (q : TileKey) 
     rank = d.rank;
     wanted = same.wanted.back d.rank (first_is_one.there (choice s h) d.rank d.is_first).wanted;
     key = sym d.key;
-    evicted = d.gives_up ∙ ap (map victim_key) (sym (order_is_free.evicted c (choice s h) d.rank (alike_stay.same_choice c (choice s h) same)));
+    evicted = d.evictions ∙ ap (map evictable_key) (sym (order_is_free.evicted c (choice s h) d.rank (alike_stay.same_choice c (choice s h) same)));
   }
 
   may_start : (o : Option Choice) → IfSome o (λ c. Alike c (choice s h)) → IfSome o (λ c. MayStartWith c q ks)
@@ -134,7 +134,7 @@ module _ (s : ScriptModel) (n : ℕ) (h : List Entry) (a w : ℕ) (q : TileKey) 
         let (u, j, e) = in_map tile_key q c.ready (in_has (map tile_key c.ready) q t) in
         let (k, l, v) = in_map (ready_tile s h) u (ready s h) (same.ready.there u j) in
         let is : k ≡ q = ap (λ (z : Tile). z.key) v ∙ e in
-        not_both (has_key (made h) q) (ready_made s h q (ap (has_key (ready s h)) (sym is) ∙ has_in (ready s h) k l)) ((tile_course s n h legal.0).apart q flying))
+        not_both (has_key (made_so_far h) q) (ready_made s h q (ap (has_key (ready s h)) (sym is) ∙ has_in (ready s h) k l)) ((tile_course s n h legal.0).apart q flying))
 
     new_tile : (tile : Option Tile) → tile ≡ tile_made s h q → IfSome tile (λ t. IsNew c t.key)
     new_tile tile e = subst (λ (o : Option Tile). IfSome o (λ t. IsNew c t.key)) (sym e) (by_live (has_key (live_keys s h) q))

@@ -237,9 +237,9 @@ impl State {
         requires first { IsFirstKey self.now.log.script (past self.now.log) key }
         ensures { IfOk result (λ event. event ≡ dues.due self.now.log.script (past self.now.log) kind.Start actor) }
     {
-        let given_up = self.tiles.evicted(key)?;
+        let evicted_keys = self.tiles.evicted(key)?;
         // The log keeps the keys: a copy has no room for more of them.
-        let evicted = given_up.copy()?;
+        let evicted = evicted_keys.copy()?;
         let worker = actor - 2;
         Ok(Some(Event::Start {
             worker,

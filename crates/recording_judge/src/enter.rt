@@ -7,7 +7,7 @@ ghost use Rattle.model_history.specs.Due.{due};
 ghost use Rattle.model_history.specs.Legal.{is_open};
 ghost use Rattle.impl_log.specs.Runs.{past, now};
 ghost use Rattle.impl_host.specs.Hosts.{Hosts};
-ghost use Rattle.recording_judge.specs.Judging.{Enters};
+ghost use Rattle.recording_judge.specs.Judging.{JudgesEntry};
 ghost use Rattle.recording_judge.specs.inner.Tiles.{Holds};
 ghost use Rattle.recording_judge.specs.inner.States.{IsState, HasKind, IsReadyFor, Comes, HasEntered, needs_queue};
 
@@ -163,7 +163,7 @@ impl State {
         requires actor { entry.now.actor ≡ fields.actor_of entry.now.event }
         requires within { entry.now.actor < 2 + self.old.log.workers }
         ensures state { OnOk result (IsState self.new) }
-        ensures enters { IfOk result (Enters self.old.log entry.now self.new.log) }
+        ensures enters { IfOk result (JudgesEntry self.old.log entry.now self.new.log) }
     {
         let same = same_event(&event, &entry.event);
         if same {
@@ -181,7 +181,7 @@ impl State {
         requires actor { entry.now.actor ≡ fields.actor_of entry.now.event }
         requires within { entry.now.actor < 2 + self.old.log.workers }
         ensures state { OnOk result (IsState self.new) }
-        ensures enters { IfOk result (Enters self.old.log entry.now self.new.log) }
+        ensures enters { IfOk result (JudgesEntry self.old.log entry.now self.new.log) }
     {
         match coming {
             Some(event) => self.enter_event(event, entry),
@@ -195,7 +195,7 @@ impl State {
         requires actor { entry.now.actor ≡ fields.actor_of entry.now.event }
         requires within { entry.now.actor < 2 + self.old.log.workers }
         ensures state { OnOk result (IsState self.new) }
-        ensures enters { IfOk result (Enters self.old.log entry.now self.new.log) }
+        ensures enters { IfOk result (JudgesEntry self.old.log entry.now self.new.log) }
     {
         let kind = kind_of(&entry.event);
         self.prepare(kind)?;
@@ -208,7 +208,7 @@ impl State {
     pub(crate) fn enter(&mut self, entry: &Entry) -> Result<bool, AllocError>
         requires { IsState self.old }
         ensures state { OnOk result (IsState self.new) }
-        ensures enters { IfOk result (Enters self.old.log entry.now self.new.log) }
+        ensures enters { IfOk result (JudgesEntry self.old.log entry.now self.new.log) }
     {
         let own = is_by_actor(entry, self.log.workers());
         if own {

@@ -10,7 +10,7 @@ ghost use Rattle.model_history.specs.Frames.{pending, pulls_of};
 ghost use Rattle.model_history.specs.Scrolls.{clobbers};
 ghost use Rattle.model_history.specs.Legal.{Legal};
 ghost use Rattle.model_steps.specs.Events.{abort, commit, activate};
-ghost use Rattle.impl_scroll.specs.Standings.{is_scroll};
+ghost use Rattle.impl_scroll.specs.Standings.{uses_scroll};
 ghost use Rattle.impl_host.specs.Hosts.{Hosts};
 ghost use Rattle.recording_judge.specs.inner.Mains as mains;
 ghost use Rattle.recording_judge.specs.inner.Mains.{IsCommitted};
@@ -29,7 +29,7 @@ pub(crate) fn move_host(
     moves: &[Move],
 ) -> Result<(), AllocError>
     requires { HostMoves host.old moves.now }
-    ensures { OnOk result ((s : ScriptModel) (workers : ℕ) (h : List Entry) (e : Entry) → Legal s workers (e ∷ h) → is_scroll e.event ≡ true → fields.moves s e.event ≡ moves.now → Hosts s h host.old → Hosts s (e ∷ h) host.new) }
+    ensures { OnOk result ((s : ScriptModel) (workers : ℕ) (h : List Entry) (e : Entry) → Legal s workers (e ∷ h) → uses_scroll e.event ≡ true → fields.moves s e.event ≡ moves.now → Hosts s h host.old → Hosts s (e ∷ h) host.new) }
 {
     let standing = host.standing().moved(alloc, host.pages(), moves)?;
     host.stand(standing);

@@ -3,9 +3,9 @@
 ghost use Rattle.std.specs.Prelude.{◌≡◌, ◌≤◌, IfOk};
 ghost use Rattle.model_history.specs.Legal.{Legal};
 ghost use Rattle.impl_log.specs.Runs.{new_run, past};
-ghost use Rattle.recording_judge.specs.Judging.{Enters, IsShownNow};
+ghost use Rattle.recording_judge.specs.Judging.{JudgesEntry, IsShownNow};
 
-use crate::shown::Shown;
+use crate::screen_state::ScreenState;
 use crate::state::State;
 use model_history::{Entry, Script};
 use std::alloc::{AllocError, Global};
@@ -65,7 +65,7 @@ impl Judge {
 
     /// What the screen shows after the entries so far: the active page where its scrollers stand. None before
     /// the first activation. An error comes where an earlier call was refused memory.
-    pub fn shown(&self) -> Result<Option<Shown<'_>>, AllocError>
+    pub fn shown(&self) -> Result<Option<ScreenState<'_>>, AllocError>
         ensures { IfOk result (IsShownNow self.now.script (past self.now)) }
     {
         if self.is_spent {
@@ -77,7 +77,7 @@ impl Judge {
     /// Enters an entry where it may come next, and answers whether it may. An error is want of memory, and
     /// comes at each later call too.
     pub fn enter(&mut self, entry: &Entry) -> Result<bool, AllocError>
-        ensures { IfOk result (Enters self.old entry.now self.new) }
+        ensures { IfOk result (JudgesEntry self.old entry.now self.new) }
     {
         if self.is_spent {
             return Err(AllocError);

@@ -3,7 +3,7 @@
 ghost use Rattle.std.specs.Prelude.{◌≡◌, [], not, ◌&&◌, ◌||◌, filter, IfOk, OnOk};
 ghost use Rattle.std.specs.List.{list_all};
 ghost use Rattle.geom.specs.declared.tile.TileKey.{TileKey as Key};
-ghost use Rattle.geom.specs.KeyLists.{same_key, has_key, AreDistinct};
+ghost use Rattle.geom.specs.KeyLists.{same_key, has_key, AreDistinctKeys};
 ghost use Rattle.geom.specs.KeyOrder.{key_cmp};
 ghost use Rattle.tile_priority.specs.Ordered.{IsInOrder};
 
@@ -43,7 +43,7 @@ fn keys_of(alloc: Global, tree: &BTreeSet<TileKey>) -> Result<Keys, AllocError>
 // A tree has its keys in order, each once. A law that does nothing when it runs.
 fn is_rising(tree: &BTreeSet<TileKey>)
     ensures order { IsInOrder key_cmp tree.now.keys }
-    ensures once { AreDistinct tree.now.keys }
+    ensures once { AreDistinctKeys tree.now.keys }
 {
     let _ = tree.len();
 }
@@ -113,7 +113,7 @@ impl KeySet {
     /// The keys stand in key order, each once. A law that does nothing when it runs.
     pub(crate) fn is_in_order(&self)
         ensures order { IsInOrder key_cmp self.now }
-        ensures once { AreDistinct self.now }
+        ensures once { AreDistinctKeys self.now }
     {
         is_rising(&self.keys);
     }

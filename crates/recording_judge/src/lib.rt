@@ -11,14 +11,14 @@ mod enter;
 mod host_steps;
 mod judge;
 mod key_set;
-mod main_side;
+mod judged_main;
 mod queues;
 mod same_events;
-mod shown;
+mod screen_state;
 mod state;
 mod steps;
 mod tile_keys;
 
 pub use judge::Judge;
 pub use same_events::same_event;
-pub use shown::Shown;
+pub use screen_state::ScreenState;

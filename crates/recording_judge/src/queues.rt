@@ -28,7 +28,7 @@ use tile_ranks::{SeenTree, ranked, tile};
 struct Tiles<'a> {
     // the ready keys
     ready: &'a KeySet,
-    // the keys that are not to be given up
+    // the keys that are not to be evicted
     pins: &'a KeySet,
     // the keys that are being made
     flying: &'a KeySet,

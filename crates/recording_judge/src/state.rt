@@ -5,8 +5,8 @@ ghost use Rattle.impl_log.specs.Runs.{new_run, past};
 ghost use Rattle.recording_judge.specs.Judging.{IsShownNow};
 ghost use Rattle.recording_judge.specs.inner.States.{IsState};
 
-use crate::main_side::MainSide;
-use crate::shown::Shown;
+use crate::judged_main::JudgedMain;
+use crate::screen_state::ScreenState;
 use crate::tile_keys::TileKeys;
 use impl_host::ImplHost;
 use impl_log::Log;
@@ -22,7 +22,7 @@ pub(crate) struct State {
     pub(crate) log: Log,
     pub(crate) host: ImplHost,
     pub(crate) tiles: TileKeys,
-    pub(crate) main: MainSide,
+    pub(crate) main: JudgedMain,
     pub(crate) alloc: Global,
 }
 
@@ -45,7 +45,7 @@ impl State {
         ensures run { IfOk result (λ state. state.log ≡ new_run script.value workers) }
         ensures state { IfOk result IsState }
     {
-        let main = MainSide::new(alloc, Arc::try_clone(&script)?);
+        let main = JudgedMain::new(alloc, Arc::try_clone(&script)?);
         let tiles = TileKeys::new(alloc, workers)?;
         let log = Log::new(alloc, script, workers)?;
         Ok(State {
@@ -58,13 +58,13 @@ impl State {
     }
 
     /// What the screen shows: the active page where its scrollers stand. None before the first activation.
-    pub(crate) fn shown_page(&self) -> Option<Shown<'_>>
+    pub(crate) fn shown_page(&self) -> Option<ScreenState<'_>>
         requires { IsState self.now }
         ensures { IsShownNow self.now.log.script (past self.now.log) result }
     {
         match self.host.pages().active {
             None => None,
-            Some(page) => Some(Shown {
+            Some(page) => Some(ScreenState {
                 page,
                 offsets: self.host.standing().active(),
                 background: self.log.script().background(),

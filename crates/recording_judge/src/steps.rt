@@ -9,7 +9,7 @@ ghost use Rattle.model_history.specs.Accepted.{IsAccepted};
 ghost use Rattle.model_history.specs.EventFields as fields;
 ghost use Rattle.model_history.specs.Legal.{Legal};
 ghost use Rattle.model_steps.specs.Events.{activate};
-ghost use Rattle.impl_scroll.specs.Standings.{is_scroll};
+ghost use Rattle.impl_scroll.specs.Standings.{uses_scroll};
 ghost use Rattle.impl_host.specs.Hosts.{Hosts};
 ghost use Rattle.recording_judge.specs.inner.Hosts.{HostActivates};
 ghost use Rattle.recording_judge.specs.inner.Tiles.{Holds, HaveSameKeys};
@@ -135,7 +135,7 @@ impl State {
     // Scrollers are moved by a scroll or a wheel.
     fn step_moves(&mut self, actor: u32, event: &Event, moves: &[Move]) -> Result<(), AllocError>
         requires may { MayStep self.old actor event.now }
-        requires scroll { is_scroll event.now ≡ true }
+        requires scroll { uses_scroll event.now ≡ true }
         requires moves { fields.moves self.old.log.script event.now ≡ moves.now }
         ensures { OnOk result (IsStepped self.old actor event.now self.new) }
     {

@@ -14,7 +14,7 @@ ghost use Rattle.model_history.specs.Legal.{Legal};
 ghost use Rattle.model_history.specs.Scans as scans;
 ghost use Rattle.model_history.specs.Tiles as model;
 ghost use Rattle.model_history.specs.Tiles.{Tree, active_tree, pending_tree, keys_of, required};
-ghost use Rattle.model_history.specs.Ranking.{first as first_rank, evicted_for};
+ghost use Rattle.model_history.specs.Ranking.{rank_to_start as first_rank, evicted_for};
 ghost use Rattle.model_steps.specs.Events.{start, done, activate};
 ghost use Rattle.tile_ranks.specs.SeenTrees.{IsSeenTree, IsSeenWhere};
 ghost use Rattle.tile_manager.specs.Managers.{tile_made};
@@ -37,7 +37,7 @@ use tile_ranks::SeenTree;
 pub(crate) struct TileKeys {
     /// The ready keys.
     pub(crate) ready: KeySet,
-    /// The keys that are not to be given up.
+    /// The keys that are not to be evicted.
     pub(crate) pins: KeySet,
     /// The key that each worker holds.
     pub(crate) held: Vec<Option<TileKey>>,
@@ -168,7 +168,7 @@ impl TileKeys {
         held_at(self.held.as_slice(), worker as usize)
     }
 
-    /// Whether the key is not to be given up.
+    /// Whether the key is not to be evicted.
     pub(crate) fn pinned(&self, key: TileKey) -> bool
         ensures { (s : ScriptModel) (workers : ℕ) (h : List Entry) → Holds s workers h self.now → result ≡ has_key (model.pinned s h) key }
     {
@@ -200,7 +200,7 @@ impl TileKeys {
         queue.first()
     }
 
-    /// The keys that are given up for the next one, the worst first. There is a queue. An error is want of
+    /// The keys that are evicted for the next one, the worst first. There is a queue. An error is want of
     /// memory.
     pub(crate) fn evicted(&self, key: TileKey) -> Result<Keys, AllocError>
         requires { is_some self.now.queue ≡ true }
@@ -229,7 +229,7 @@ impl TileKeys {
         Ok(())
     }
 
-    /// A worker starts the next key, and these keys are given up for it. Takes no memory.
+    /// A worker starts the next key, and these keys are evicted for it. Takes no memory.
     pub(crate) fn start(&mut self, worker: u32, key: TileKey, evicted: &Keys)
         requires { StartsNow self.old worker key evicted.now }
         ensures { (s : ScriptModel) (workers : ℕ) (h : List Entry) (actor : ℕ) → worker < workers → Holds s workers h self.old → Legal s workers (start actor worker key evicted.now ∷ h) → Holds s workers (start actor worker key evicted.now ∷ h) self.new }

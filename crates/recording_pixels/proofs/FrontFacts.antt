@@ -3,7 +3,7 @@ use Rattle.std.proofs.Common.{◌≡◌, ℕ, zero, suc, ◌+◌, ◌<◌, ◌==
 use Rattle.std.specs.Prelude.{option_and_then}
 use Rattle.std.specs.Bool.{Decides}
 use Rattle.pixel.specs.Colours.{Parts}
-use Rattle.model_history.specs.Recordings.{joined, image_head, image_row, image}
+use Rattle.model_history.specs.Recordings.{joined_to, image_head, image_row, image}
 use Rattle.model_history.proofs.BoolFacts.{same_number, other_number, is_same}
 use Rattle.recording_pixels.specs.inner.Behind.{behind, behind_each, pixel_text, row_text}
 
@@ -47,10 +47,10 @@ stops f n w xs r lt e b =
     let less : suc n < suc w = omega (arith, lt) in
     sym (none_stays f (suc n) w xs less (ap (option_and_then (behind (f n))) e ∙ b))
 
-pub joined_behind : (n : ℕ) (f : ℕ → List ℕ) (xs : List ℕ) → behind_each n f xs ≡ behind (joined n f) xs
-unfolding joined
+pub joined_behind : (n : ℕ) (f : ℕ → List ℕ) (xs : List ℕ) → behind_each n f xs ≡ behind (joined_to n f) xs
+unfolding joined_to
 joined_behind zero f xs = refl
-joined_behind (suc n) f xs = ap (option_and_then (behind (f n))) (joined_behind n f xs) ∙ sym (behind_append (joined n f) (f n) xs)
+joined_behind (suc n) f xs = ap (option_and_then (behind (f n))) (joined_behind n f xs) ∙ sym (behind_append (joined_to n f) (f n) xs)
 
 -- a front and what stands behind it are the bytes
 
@@ -117,10 +117,10 @@ pub row_behind : (pixel : ℕ → ℕ → Parts) (w y : ℕ) (xs : List ℕ) →
 unfolding image_row
 row_behind pixel w y xs = joined_behind w (pixel_text pixel y) xs
 
-pub rows_behind : (pixel : ℕ → ℕ → Parts) (w h : ℕ) (xs : List ℕ) → behind_each h (row_text pixel w) xs ≡ behind (joined h (row_text pixel w)) xs
+pub rows_behind : (pixel : ℕ → ℕ → Parts) (w h : ℕ) (xs : List ℕ) → behind_each h (row_text pixel w) xs ≡ behind (joined_to h (row_text pixel w)) xs
 rows_behind pixel w h xs = joined_behind h (row_text pixel w) xs
 
-pub image_is : (pixel : ℕ → ℕ → Parts) (w h : ℕ) → image pixel w h ≡ image_head w h ++ joined h (row_text pixel w)
+pub image_is : (pixel : ℕ → ℕ → Parts) (w h : ℕ) → image pixel w h ≡ image_head w h ++ joined_to h (row_text pixel w)
 unfolding image
 image_is pixel w h = refl
 

@@ -11,7 +11,7 @@ use Rattle.geom.specs.Covers.{covers}
 use Rattle.pixel.specs.Colours.{clear}
 use Rattle.page_properties.specs.Placement.{minus}
 use Rattle.page_display_list.specs.Content.{content}
-use Rattle.page_layers.specs.Paintings.{Placed, has_place, colour_there, shown}
+use Rattle.page_layers.specs.Paintings.{Placed, has_place, colour_there, placed_colour}
 use Rattle.page_layers.specs.TreePainting.{place_at}
 
 -- of keys by rising row those of one row stand behind those of smaller rows, and before those of greater ones
@@ -70,8 +70,8 @@ column_in_row (k ∷ ks) column row = go (k.y == row) (column_in_row ks column r
 
 -- a layer shows the same where keys of the same places are missing
 pub same_places : (tile : ℕ) (l : Placed) (ks : List TileKey) → ((place : Place) → has_place l.missing place ≡ has_place ks place)
-    → (x y : ℤ) → shown tile x y l ≡ shown tile x y (record { area = l.area; by = l.by; colour = l.colour; items = l.items; missing = ks })
-unfolding shown colour_there
+    → (x y : ℤ) → placed_colour tile x y l ≡ placed_colour tile x y (record { area = l.area; by = l.by; colour = l.colour; items = l.items; missing = ks })
+unfolding placed_colour colour_there
 same_places tile l ks same x y =
     let q : Point = minus (record { x = x; y = y }) l.by in
     ap (λ (b : Bool). cond (covers l.area x y) (cond b l.colour (content l.items q.x q.y)) clear) (same (place_at tile q))

@@ -7,14 +7,14 @@ use Rattle.geom.specs.declared.rect.Point.{Point}
 use Rattle.geom.specs.declared.tile.TileKey.{TileKey}
 use Rattle.pixel.specs.Colours.{Parts}
 use Rattle.pixel.specs.Rows.{pixel}
-use Rattle.pixel.specs.Surfaces.{EachPixel, holds, within}
+use Rattle.pixel.specs.Surfaces.{EachPixel, holds, within_rows}
 use Rattle.page_layers.specs.Paintings.{Placed, has_place}
 use Rattle.recording_pixels.specs.inner.Sheets.{patched}
 use Rattle.recording_pixels.proofs.KeyRows.{column_in_row}
 
 -- pixels of a row that get a colour
 pub filled_there : (k n width : ℕ) (c : Parts) (old new : List ℕ) → k + n ≤ width
-    → EachPixel width 1 (within (record { x = k; y = 0; w = n; h = 1 }) 1 (λ x y below. c)) old new
+    → EachPixel width 1 (within_rows (record { x = k; y = 0; w = n; h = 1 }) 1 (λ x y below. c)) old new
     → (j : ℕ) → k ≤ j → j < k + n → pixel new j ≡ c
 filled_there k n width c old new inside each j low high =
     let same : 0 * width + j ≡ j = omega arith in
@@ -22,7 +22,7 @@ filled_there k n width c old new inside each j low high =
     ap (pixel new) (sym same) ∙ each j 0 (omega (arith, inside, high)) (omega arith) ∙ ap (λ (b : Bool). cond b c (pixel old (0 * width + j))) here
 
 pub filled_elsewhere : (k n width : ℕ) (c : Parts) (old new : List ℕ)
-    → EachPixel width 1 (within (record { x = k; y = 0; w = n; h = 1 }) 1 (λ x y below. c)) old new
+    → EachPixel width 1 (within_rows (record { x = k; y = 0; w = n; h = 1 }) 1 (λ x y below. c)) old new
     → (j : ℕ) → j < width → (j < k) ⊎ (k + n ≤ j) → pixel new j ≡ pixel old j
 filled_elsewhere k n width c old new each j lt other =
     let same : 0 * width + j ≡ j = omega arith in

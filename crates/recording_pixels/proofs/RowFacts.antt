@@ -7,14 +7,14 @@ use Rattle.geom.specs.declared.rect.Rect.{Rect}
 use Rattle.geom.specs.Covers.{covers}
 use Rattle.pixel.specs.Colours.{blend, clear}
 use Rattle.pixel.specs.Rows.{pixel}
-use Rattle.pixel.specs.Surfaces.{EachPixel, holds, within}
+use Rattle.pixel.specs.Surfaces.{EachPixel, holds, within_rows}
 use Rattle.pixel.specs.declared.surface.Area.{Area}
 use Rattle.pixel.proofs.Blends.{clear_shows}
 use Rattle.page_properties.specs.Placement.{minus}
 use Rattle.page_display_list.specs.Content.{content, IsRaster}
 use Rattle.page_display_list.specs.Shared.{IsOutside, IsShared}
-use Rattle.page_display_list.specs.declared.part.Part.{Part}
-use Rattle.page_layers.specs.Paintings.{Placed, colour_there, shown}
+use Rattle.page_display_list.specs.declared.covered_area.CoveredArea.{CoveredArea}
+use Rattle.page_layers.specs.Paintings.{Placed, colour_there, placed_colour}
 use Rattle.recording_pixels.specs.inner.Sheets.{patched}
 
 -- what the items of a layer show in a row of it
@@ -41,8 +41,8 @@ at_row r x y b e =
 
 -- a layer that lies nowhere in the row
 pub nothing_laid : (tile : ℕ) (l : Placed) (width y : ℕ) (row : List ℕ) → IsOutside l.area (record { x = pos 0; y = pos y; w = pos width; h = pos 1 })
-    → (x : ℕ) → x < width → pixel row x ≡ blend (pixel row x) (shown tile (pos x) (pos y) l)
-unfolding shown
+    → (x : ℕ) → x < width → pixel row x ≡ blend (pixel row x) (placed_colour tile (pos x) (pos y) l)
+unfolding placed_colour
 nothing_laid tile l width y row outside x lt =
     let out : covers l.area (pos x) (pos y) ≡ false = at_row l.area x y false (outside x 0 lt (omega arith)) in
     sym (ap (λ (b : Bool). blend (pixel row x) (cond b (colour_there tile l (minus (record { x = pos x; y = pos y }) l.by)) clear)) out ∙ clear_shows (pixel row x))
@@ -61,13 +61,13 @@ first_row y w k =
     ap (λ (n : ℕ). n * w + (k + 0)) none ∙ omega arith
 
 -- a layer that is laid over its columns of the row
-pub laid : (tile : ℕ) (l : Placed) (width y : ℕ) (part : Part) (from : Point) (row columns new : List ℕ)
+pub laid : (tile : ℕ) (l : Placed) (width y : ℕ) (part : CoveredArea) (from : Point) (row columns new : List ℕ)
     → IsShared l.area (record { x = pos 0; y = pos y; w = pos width; h = pos 1 }) part
     → from ≡ minus (record { x = pos part.at.x; y = pos y }) l.by
     → ((k : ℕ) → k < part.at.w → pixel columns k ≡ colour_there tile l (record { x = from.x +ℤ pos k; y = from.y }))
-    → EachPixel width 1 (within part.at part.at.h (λ x z below. blend below (pixel columns ((z - part.at.y + 0) * part.at.w + (x - part.at.x + 0))))) row new
-    → (x : ℕ) → x < width → pixel new x ≡ blend (pixel row x) (shown tile (pos x) (pos y) l)
-unfolding shown
+    → EachPixel width 1 (within_rows part.at part.at.h (λ x z below. blend below (pixel columns ((z - part.at.y + 0) * part.at.w + (x - part.at.x + 0))))) row new
+    → (x : ℕ) → x < width → pixel new x ≡ blend (pixel row x) (placed_colour tile (pos x) (pos y) l)
+unfolding placed_colour
 laid tile l width y part from row columns new shared from-is each-column each x lt =
     let same : 0 * width + x ≡ x = omega arith in
     let covered : covers l.area (pos x) (pos y) ≡ holds part.at x 0 = at_row l.area x y (holds part.at x 0) (shared.points x 0 lt (omega arith)) in

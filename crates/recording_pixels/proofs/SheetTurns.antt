@@ -12,8 +12,8 @@ use Rattle.page_layers.specs.declared.paint.Group.{Group}
 use Rattle.page_layers.specs.Layers.{PageLayer}
 use Rattle.page_layers.specs.Pages.{Page}
 use Rattle.page_layers.specs.Painting.{Items, folded, items_at}
-use Rattle.page_layers.specs.Paintings.{Shows, shown}
-use Rattle.page_layers.specs.TreePainting.{groups_in, opacity_in, colour_at, paint}
+use Rattle.page_layers.specs.Paintings.{ReadyShows, placed_colour}
+use Rattle.page_layers.specs.TreePainting.{groups_in, opacity_in, layer_colour_at, paint}
 use Rattle.page_layers.specs.inner.Runs.{lies_in}
 use Rattle.page_layers.proofs.PaintSteps.{first_here, drop_past, group_step, layer_step, run_some}
 use Rattle.page_layers.proofs.SampleColours.{same_items}
@@ -63,7 +63,7 @@ module _ (colour_of : SheetModel → Parts) where
       ∙ sym (layer_step effects_of colour_of opacity depth rest first tail colour is (drop_past (λ (x : Group). x.effect) depth first.groups past))
 
 -- sheets that are laid over a background show the page that they are of
-pub painted : (p : Page) (offset : ℕ → Point) (missing : List TileKey) (tile : ℕ) (ss : List SheetModel) (background result : Parts) (x y : ℤ) → Shows p offset missing (ready tile ss)
+pub painted : (p : Page) (offset : ℕ → Point) (missing : List TileKey) (tile : ℕ) (ss : List SheetModel) (background result : Parts) (x y : ℤ) → ReadyShows p offset missing (ready tile ss)
     → ((opacity : ℕ → ℕ) → HaveOpacities opacity ss → result ≡ folded opacity (items_at effects_of (colour_in tile x y) 0 ss) background)
     → result ≡ paint p offset missing background x y
 unfolding paint
@@ -72,10 +72,10 @@ painted p offset missing tile ss background result x y shows is =
     let have : HaveOpacities opacity ss = opacities opacity ss shows.opacities in
     let groups : map effects_of ss ≡ map (λ (l : PageLayer). groups_in p.props.effects l.effect) p.layers =
     sym (map-map (λ (gs : List Group). map (λ (g : Group). g.effect) gs) (λ (s : SheetModel). s.groups) ss) ∙ shows.groups in
-    let colours : map (colour_in tile x y) ss ≡ map (colour_at p offset missing x y) p.layers =
-    sym (map-map (shown tile x y) (λ (s : SheetModel). s.placed) ss) ∙ shows.colours x y in
+    let colours : map (colour_in tile x y) ss ≡ map (layer_colour_at p offset missing x y) p.layers =
+    sym (map-map (placed_colour tile x y) (λ (s : SheetModel). s.placed) ss) ∙ shows.colours x y in
     is opacity have
-    ∙ ap (λ (items : Items). folded opacity items background) (same_items effects_of (colour_in tile x y) (λ (l : PageLayer). groups_in p.props.effects l.effect) (colour_at p offset missing x y) 0 ss p.layers groups colours)
+    ∙ ap (λ (items : Items). folded opacity items background) (same_items effects_of (colour_in tile x y) (λ (l : PageLayer). groups_in p.props.effects l.effect) (layer_colour_at p offset missing x y) 0 ss p.layers groups colours)
   where
     opacities : (opacity : ℕ → ℕ) (ss : List SheetModel) → All (λ (gs : List Group). All (λ (g : Group). opacity g.effect ≡ g.opacity) gs) (map (λ (s : SheetModel). s.groups) ss) → HaveOpacities opacity ss
     opacities opacity ss all k d lt =

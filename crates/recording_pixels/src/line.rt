@@ -12,7 +12,7 @@ ghost use Rattle.recording_pixels.specs.inner.Sheets.{colour_in};
 use crate::missing::draw_missing;
 use crate::sheet::Sheet;
 use geom::{Point, Rect};
-use page_display_list::{Part, shared_part};
+use page_display_list::{CoveredArea, shared_part};
 use pixel::image_over_area;
 
 // One row of points, from a point on.
@@ -89,7 +89,7 @@ fn lay_part(
     tile: u32,
     width: usize,
     y: u32,
-    part: Part,
+    part: CoveredArea,
     row: &mut [u8],
     line: &mut [u8],
     spare: &mut [u8],

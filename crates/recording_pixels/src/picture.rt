@@ -7,7 +7,7 @@ ghost use Rattle.geom.specs.declared.tile.TileKey.{TileKey as Key};
 ghost use Rattle.pixel.specs.Rows.{pixel, ArePremultiplied};
 ghost use Rattle.page_properties.specs.OffsetMap.{offset_at, AreOffsets};
 ghost use Rattle.page_layers.specs.Pages.{Page};
-ghost use Rattle.page_layers.specs.Paintings.{Shows};
+ghost use Rattle.page_layers.specs.Paintings.{ReadyShows};
 ghost use Rattle.model_history.specs.Recordings.{rgb, image, image_head};
 ghost use Rattle.recording_pixels.specs.inner.Behind.{behind_each, pixel_of, row_text};
 ghost use Rattle.recording_pixels.specs.inner.Sheets.{ready};
@@ -56,7 +56,7 @@ fn paint_row(
     requires size { length row.old ≡ 4 * w }
     requires line { 4 * w ≤ length line.old }
     requires room { 4 * w ≤ length spare.old }
-    ensures pixels { OnOk result ((p : Page) (offset : ℕ → Point) (missing : List Key) → Shows p offset missing (ready tile sheets.now) →
+    ensures pixels { OnOk result ((p : Page) (offset : ℕ → Point) (missing : List Key) → ReadyShows p offset missing (ready tile sheets.now) →
         (x : ℕ) → x < w → pixel row.new x ≡ pixel_of p offset missing background x y) }
     ensures premultiplied { ArePremultiplied row.new }
 {
@@ -85,7 +85,7 @@ fn behind_rows<'a>(
     requires size { length row.old ≡ 4 * w }
     requires line { 4 * w ≤ length line.old }
     requires room { 4 * w ≤ length spare.old }
-    ensures { IfOk result (λ rest. (p : Page) (offset : ℕ → Point) (missing : List Key) → Shows p offset missing (ready tile sheets.now) →
+    ensures { IfOk result (λ rest. (p : Page) (offset : ℕ → Point) (missing : List Key) → ReadyShows p offset missing (ready tile sheets.now) →
         option_copied rest ≡ behind_each h (row_text (pixel_of p offset missing background) w) bytes.now) }
 {
     let mut rest = bytes;
@@ -113,7 +113,7 @@ fn behind_pixels<'a>(
     requires cut { 1 ≤ tile }
     requires width { w ≤ 2048 }
     requires height { h ≤ 2048 }
-    ensures { IfOk result (λ rest. (p : Page) (offset : ℕ → Point) (missing : List Key) → Shows p offset missing (ready tile sheets.now) →
+    ensures { IfOk result (λ rest. (p : Page) (offset : ℕ → Point) (missing : List Key) → ReadyShows p offset missing (ready tile sheets.now) →
         option_copied rest ≡ behind_each h (row_text (pixel_of p offset missing background) w) bytes.now) }
 {
     let width = w as usize;
@@ -150,7 +150,7 @@ fn holds_image(
     requires width { w ≤ 2048 }
     requires height { h ≤ 2048 }
     requires head { head.now ≡ image_head w h }
-    ensures { IfOk result (λ yes. (p : Page) (offset : ℕ → Point) (missing : List Key) → Shows p offset missing (ready tile sheets.now) →
+    ensures { IfOk result (λ yes. (p : Page) (offset : ℕ → Point) (missing : List Key) → ReadyShows p offset missing (ready tile sheets.now) →
         Decides yes (bytes.now ≡ image (pixel_of p offset missing background) w h)) }
 {
     let Some(pixels) = behind_front(head, bytes) else {

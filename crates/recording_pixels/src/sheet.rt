@@ -5,12 +5,12 @@ ghost use Rattle.std.specs.List.Sorted.{IsNonDecreasingBy};
 ghost use Rattle.geom.specs.declared.tile.Place.{Place};
 ghost use Rattle.geom.specs.Covers.{covers, IsSound};
 ghost use Rattle.geom.specs.Gaps.{shifted};
-ghost use Rattle.geom.specs.Sides.{IsSide};
+ghost use Rattle.geom.specs.Sides.{IsLayerSide};
 ghost use Rattle.page_properties.specs.OffsetMap.{offset_at, AreOffsets};
 ghost use Rattle.page_properties.specs.Placement.{IsWithin};
 ghost use Rattle.page_layers.specs.Layers.{parts_of};
-ghost use Rattle.page_layers.specs.TreePainting.{colour_at, lets_through, groups_in, opacity_in};
-ghost use Rattle.page_layers.specs.Paintings.{Shows, has_place};
+ghost use Rattle.page_layers.specs.TreePainting.{layer_colour_at, lets_through, groups_in, opacity_in};
+ghost use Rattle.page_layers.specs.Paintings.{ReadyShows, has_place};
 ghost use Rattle.recording_pixels.specs.inner.Sheets.{effects_of, colour_in, ready, HaveOpacities, IsSheetOf};
 
 use geom::{Point, Rect, TileKey};
@@ -121,8 +121,8 @@ fn sheet_of(
     layer: &Layer,
 ) -> Result<Sheet, AllocError>
     requires offsets { AreOffsets (offset_at offsets.now) }
-    requires wide { IsSide layer.now.w }
-    requires tall { IsSide layer.now.h }
+    requires wide { IsLayerSide layer.now.w }
+    requires tall { IsLayerSide layer.now.h }
     ensures { IfOk result (λ s. IsSheetOf tree.now (offset_at offsets.now) missing.now (parts_of layer.now) s) }
 {
     let props = tree.props();
@@ -152,8 +152,8 @@ fn sheets_in(
     layers: &[Layer],
 ) -> Result<Vec<Sheet>, AllocError>
     requires offsets { AreOffsets (offset_at offsets.now) }
-    requires sizes { All (λ l. IsSide l.w × IsSide l.h) layers.now }
-    ensures colours { IfOk result (λ sheets. (x y : ℤ) → map (colour_in tree.now.view.tile x y) sheets.items ≡ map (λ l. colour_at tree.now (offset_at offsets.now) missing.now x y (parts_of l)) layers.now) }
+    requires sizes { All (λ l. IsLayerSide l.w × IsLayerSide l.h) layers.now }
+    ensures colours { IfOk result (λ sheets. (x y : ℤ) → map (colour_in tree.now.view.tile x y) sheets.items ≡ map (λ l. layer_colour_at tree.now (offset_at offsets.now) missing.now x y (parts_of l)) layers.now) }
     ensures groups { IfOk result (λ sheets. map effects_of sheets.items ≡ map (λ l. groups_in tree.now.props.effects l.effect) layers.now) }
     ensures opacities { IfOk result (λ sheets. HaveOpacities (opacity_in tree.now.props.effects) sheets.items) }
 {
@@ -172,7 +172,7 @@ pub(crate) fn sheets_of(
     missing: &[TileKey],
 ) -> Result<Vec<Sheet>, AllocError>
     requires { AreOffsets (offset_at offsets.now) }
-    ensures { IfOk result (λ sheets. Shows tree.now (offset_at offsets.now) missing.now (ready tree.now.view.tile sheets.items)) }
+    ensures { IfOk result (λ sheets. ReadyShows tree.now (offset_at offsets.now) missing.now (ready tree.now.view.tile sheets.items)) }
 {
     tree.is_page();
     let sheets = sheets_in(alloc, tree, offsets, missing, tree.layers())?;

@@ -10,16 +10,16 @@ use Rattle.model_history.specs.declared.event.Event.TheVariants as event
 use Rattle.model_history.specs.declared.history.Entry.{Entry}
 use Rattle.model_history.specs.Texts.{event_line}
 use Rattle.model_history.specs.Recordings.{image_head}
-use Rattle.recording_text.specs.Fits.{Fits}
+use Rattle.recording_text.specs.Fits.{FitsEvent}
 use Rattle.recording_text.specs.Lines.{event_at}
 use Rattle.recording_text.specs.Images.{image_length}
 use Rattle.recording_text.proofs.ReadLines.{event_again, event_exact}
 use Rattle.recording_text.proofs.EventFits.{event_fits}
 use Rattle.recording_text.proofs.ImageLaws.{length_again, length_exact}
 use Rattle.recording_reader.specs.declared.cursor.ImageSpan.{ImageSpan}
-use Rattle.recording_reader.specs.declared.part.Part.{Part}
-use Rattle.recording_reader.specs.BadParts.{MayStand, LacksEvent, LacksImage, IsBadPart, AreFront, shown_behind, BreaksAt}
-use Rattle.recording_reader.specs.Pieces.{Piece, piece_text, ArePieces, entry_of, is_end, shown_after, image_of}
+use Rattle.recording_reader.specs.declared.part.RecordingPart.{RecordingPart}
+use Rattle.recording_reader.specs.BadParts.{MayBeRecorded, LacksEvent, LacksImage, IsBadPart, AreFront, shown_behind, BreaksAt}
+use Rattle.recording_reader.specs.Pieces.{Piece, piece_text, ArePieces, entry_of, is_end, shown_after, image_span_of}
 use Rattle.recording_reader.specs.Views.{ViewTable, view_at}
 use Rattle.recording_reader.specs.inner.Parts.{◌>>=◌, or_bad, line_length, with_image, bare, is_nil, at_end, part_of, part_at, images_in, Body, no_more, behind, led, body}
 use Rattle.recording_reader.proofs.BodySteps.{part_none, body_bad, drop_past}
@@ -37,7 +37,7 @@ only_stop : (xs : List ℕ) (a : ℕ) → event_at xs ≡ Some (event.Stop a) �
 only_stop xs a is = λ e rest fits may text.
     let there : event_at xs ≡ Some e = ap event_at text ∙ event_again e rest fits in
     let one : event.Stop a ≡ e = cc (is, there) in
-    subst MayStand (sym one) may
+    subst MayBeRecorded (sym one) may
 
 no_image : (v : View) (xs : List ℕ) → image_length v.w v.h xs ≡ None → LacksImage v xs
 no_image v xs none = λ image rest is text.
@@ -46,24 +46,24 @@ no_image v xs none = λ image rest is text.
     absurd (cc (none, there))
 
 -- the part of a draw, by the length of its image
-abbrev imaged : Event → Option ℕ → Result Part ℕ
+abbrev imaged : Event → Option ℕ → Result RecordingPart ℕ
 imaged e o = do
   n ← or_bad (line_length e) o
   Ok (record { event = e; size = line_length e + n; image = Some (line_length e) })
 
-drawn_bad_in : (o : Option ℕ) (v : View) (xs : List ℕ) (i : ℕ) (ms : List TileKey) (place : ℕ) → image_length v.w v.h (drop (line_length (event.Draw i ms)) xs) ≡ o → xs ≡ event_line (event.Draw i ms) ++ drop (line_length (event.Draw i ms)) xs → Fits (event.Draw i ms)
+drawn_bad_in : (o : Option ℕ) (v : View) (xs : List ℕ) (i : ℕ) (ms : List TileKey) (place : ℕ) → image_length v.w v.h (drop (line_length (event.Draw i ms)) xs) ≡ o → xs ≡ event_line (event.Draw i ms) ++ drop (line_length (event.Draw i ms)) xs → FitsEvent (event.Draw i ms)
     → imaged (event.Draw i ms) o ≡ Err place → IsBadPart v xs place
 drawn_bad_in None v xs i ms place there line fits is =
     let at : line_length (event.Draw i ms) ≡ place = cc (is) in
     inr (inl (i, ms, drop (line_length (event.Draw i ms)) xs, fits, line, no_image v (drop (line_length (event.Draw i ms)) xs) there, sym at))
 drawn_bad_in (Some n) v xs i ms place there line fits is = absurd (cc (is))
 
-drawn_bad : (v : View) (xs : List ℕ) (i : ℕ) (ms : List TileKey) (place : ℕ) → xs ≡ event_line (event.Draw i ms) ++ drop (line_length (event.Draw i ms)) xs → Fits (event.Draw i ms) → with_image v xs (event.Draw i ms) ≡ Err place → IsBadPart v xs place
+drawn_bad : (v : View) (xs : List ℕ) (i : ℕ) (ms : List TileKey) (place : ℕ) → xs ≡ event_line (event.Draw i ms) ++ drop (line_length (event.Draw i ms)) xs → FitsEvent (event.Draw i ms) → with_image v xs (event.Draw i ms) ≡ Err place → IsBadPart v xs place
 unfolding with_image
 drawn_bad v xs i ms place line fits is = drawn_bad_in (image_length v.w v.h (drop (line_length (event.Draw i ms)) xs)) v xs i ms place refl line fits is
 
 -- the part of the end, by what stands behind its line
-abbrev ended : List ℕ → Result Part ℕ
+abbrev ended : List ℕ → Result RecordingPart ℕ
 ended ys = if is_nil ys then Ok (bare event.End) else Err (line_length event.End)
 
 ended_bad_in : (ys : List ℕ) (v : View) (xs : List ℕ) (place : ℕ) → drop (line_length event.End) xs ≡ ys → xs ≡ event_line event.End ++ drop (line_length event.End) xs → ended ys ≡ Err place → IsBadPart v xs place
@@ -84,7 +84,7 @@ read_bad v xs event.End place there is = ended_bad v xs place (event_exact xs ev
 read_bad v xs e place there is = absurd (cc (is))
 
 -- the part that an event's line begins, where there is one
-abbrev begun : View → List ℕ → Option Event → Result Part ℕ
+abbrev begun : View → List ℕ → Option Event → Result RecordingPart ℕ
 begun v xs o = do
   e ← or_bad 0 o
   part_of v xs e
@@ -124,7 +124,7 @@ ended_again xs rest c left = rw left refl
 line_left : (xs rest : List ℕ) (e : Event) → xs ≡ event_line e ++ rest → drop (line_length e) xs ≡ rest
 line_left xs rest e text = ap (drop (line_length e)) text ∙ drop-append_seam (event_line e) rest
 
-read_again : (v : View) (xs rest : List ℕ) (e : Event) (r : Result Part ℕ) → Fits e → xs ≡ event_line e ++ rest → part_of v xs e ≡ r → part_at v xs ≡ r
+read_again : (v : View) (xs rest : List ℕ) (e : Event) (r : Result RecordingPart ℕ) → FitsEvent e → xs ≡ event_line e ++ rest → part_of v xs e ≡ r → part_at v xs ≡ r
 unfolding part_at
 read_again v xs rest e r fits text is =
     let there : event_at xs ≡ Some e = ap event_at text ∙ event_again e rest fits in
@@ -163,7 +163,7 @@ behind_err : (es : List Entry) (ms : List ImageSpan) (r : Result Body ℕ) (plac
 behind_err es ms (Ok q) place is = absurd (cc (is))
 behind_err es ms (Err at) place is = is
 
-led_on : (b : Bool) (t : ViewTable) (shown : Option ℕ) (index at : ℕ) (xs : List ℕ) (p : Part) (image : List ℕ) (next : Result Body ℕ) (place : ℕ) → is_end p.event ≡ b → PartTells (view_at t shown) xs p image
+led_on : (b : Bool) (t : ViewTable) (shown : Option ℕ) (index at : ℕ) (xs : List ℕ) (p : RecordingPart) (image : List ℕ) (next : Result Body ℕ) (place : ℕ) → is_end p.event ≡ b → PartTells (view_at t shown) xs p image
     → behind (entry_of p.event ∷ []) (images_in index at p.size p.image) (if b then no_more else next) ≡ Err place
     → (next ≡ Err place → Breaks t (shown_after shown p.event) (at + p.size) (drop p.size xs) place)
     → Breaks t shown at xs place
@@ -182,7 +182,7 @@ led_on false t shown index at xs p image next place more tells is rest =
     let from : place ≡ at + (p.size + b.0) = omega (arith, b.2) in
     (p.size + b.0, (piece_of p image ∷ b.1.0, b.1.1, b.1.2, (tells.piece, more, b.1.3), text, b.1.5, there), from)
 
-led_in : (pr : Result Part ℕ) (t : ViewTable) (shown : Option ℕ) (index at c : ℕ) (xs : List ℕ) (place : ℕ) → part_at (view_at t shown) (c ∷ xs) ≡ pr
+led_in : (pr : Result RecordingPart ℕ) (t : ViewTable) (shown : Option ℕ) (index at c : ℕ) (xs : List ℕ) (place : ℕ) → part_at (view_at t shown) (c ∷ xs) ≡ pr
     → led shown index at pr (λ now size. body xs t now (index + 1) (at + size) (size - 1)) ≡ Err place
     → ((now : Option ℕ) (i a k q : ℕ) → body xs t now i a k ≡ Err q → Breaks t now a (drop k xs) q)
     → Breaks t shown at (c ∷ xs) place
@@ -223,8 +223,8 @@ breaks_again t shown index at (p ∷ ps) rest n are bad =
     let there : (at + length (piece_text p)) + (length (flat_map piece_text ps) + n) ≡ at + (length (piece_text p ++ flat_map piece_text ps) + n) = omega (arith, long) in
     ap (λ (xs : List ℕ). body xs t shown index at 0) (append_assoc (piece_text p) (flat_map piece_text ps) rest)
     ∙ piece_step t shown index at p (flat_map piece_text ps ++ rest) are.0 (λ last. absurd (cc (last, are.1)))
-    ∙ ap (λ (b : Bool). behind (entry_of p.event ∷ []) (image_of index at p.event p.image) (if b then no_more else body (flat_map piece_text ps ++ rest) t (shown_after shown p.event) (index + 1) (at + length (piece_text p)) 0)) are.1
-    ∙ ap (behind (entry_of p.event ∷ []) (image_of index at p.event p.image)) (breaks_again t (shown_after shown p.event) (index + 1) (at + length (piece_text p)) ps rest n are.2 bad)
+    ∙ ap (λ (b : Bool). behind (entry_of p.event ∷ []) (image_span_of index at p.event p.image) (if b then no_more else body (flat_map piece_text ps ++ rest) t (shown_after shown p.event) (index + 1) (at + length (piece_text p)) 0)) are.1
+    ∙ ap (behind (entry_of p.event ∷ []) (image_span_of index at p.event p.image)) (breaks_again t (shown_after shown p.event) (index + 1) (at + length (piece_text p)) ps rest n are.2 bad)
     ∙ ap (λ (k : ℕ). Err k) there
 
 -- pieces to the end break nowhere

@@ -7,8 +7,8 @@ use Rattle.recording_reader.specs.declared.body.Body.{Body as BodyRead}
 use Rattle.recording_reader.specs.declared.cursor.ImageSpan.{ImageSpan}
 use Rattle.recording_reader.specs.BadParts.{StopsAt}
 use Rattle.recording_reader.specs.Bodies.{ReadsBody, FindsImages}
-use Rattle.recording_reader.specs.Pieces.{piece_text, images}
-use Rattle.recording_reader.specs.Places.{place_of}
+use Rattle.recording_reader.specs.Pieces.{piece_text, image_spans}
+use Rattle.recording_reader.specs.Places.{image_place_of}
 use Rattle.recording_reader.specs.Spans.{span_bytes, AreWithin}
 use Rattle.recording_reader.specs.Views.{ViewTable}
 use Rattle.recording_reader.specs.Taking.{start_at}
@@ -21,14 +21,14 @@ use Rattle.recording_reader.proofs.SpanRuns.{images_stand}
 pub body_reads : (bytes : List ℕ) (t : ViewTable) (start : ℕ) (b : BodyRead) → WalksBody (read_from bytes t (start_at start)) (Ok b) → ReadsBody bytes t start (Ok b)
 body_reads bytes t start b walked =
     let a = body_exact (drop start bytes) t None 0 start 0 (record { entries = b.events.entries; images = walked.0 }) walked.2 in
-    (a.0, (a.1.pieces, a.1.text), a.1.entries, sym walked.1 ∙ ap (map place_of) a.1.images)
+    (a.0, (a.1.pieces, a.1.text), a.1.entries, sym walked.1 ∙ ap (map image_place_of) a.1.images)
 
 pub spans_read : {V : Type 0} (spans : V → List ImageSpan) (bytes : List ℕ) (t : ViewTable) (start : ℕ) (v : V) → start ≤ length bytes → WalksSpans spans (read_from bytes t (start_at start)) (Ok v) → FindsImages spans bytes t start (Ok v)
 spans_read spans bytes t start v within walked =
     let a = body_exact (drop start bytes) t None 0 start 0 (record { entries = walked.0; images = spans v }) walked.1 in
     let whole : bytes ≡ take start bytes ++ flat_map piece_text a.0 = sym (take-append-drop start bytes) ∙ ap (λ (x : List ℕ). take start bytes ++ x) a.1.text in
     let there = images_stand bytes (take start bytes) t a.0 a.1.pieces whole in
-    let at : spans v ≡ images 0 (length (take start bytes)) a.0 = a.1.images ∙ ap (λ (n : ℕ). images 0 n a.0) (sym (length-take-le start bytes within)) in
+    let at : spans v ≡ image_spans 0 (length (take start bytes)) a.0 = a.1.images ∙ ap (λ (n : ℕ). image_spans 0 n a.0) (sym (length-take-le start bytes within)) in
     (a.0, (a.1.pieces, a.1.text), ap (flat_map (span_bytes bytes)) at ∙ there.0, subst (AreWithin (length bytes)) (sym at) there.1)
 
 pub body_stops : (bytes : List ℕ) (t : ViewTable) (start place : ℕ) → read_from bytes t (start_at start) ≡ Err place → StopsAt bytes t start place

@@ -4,7 +4,7 @@ use Rattle.std.specs.Prelude.{Result, Ok, Err, if◌then◌else◌, option_to_li
 use Rattle.model_history.specs.declared.history.Entry.{Entry}
 use Rattle.recording_reader.specs.declared.cursor.Cursor.{Cursor}
 use Rattle.recording_reader.specs.declared.cursor.ImageSpan.{ImageSpan}
-use Rattle.recording_reader.specs.declared.cursor.Step.{Step}
+use Rattle.recording_reader.specs.declared.cursor.EventSpan.{EventSpan}
 use Rattle.recording_reader.specs.Views.{ViewTable}
 use Rattle.recording_reader.specs.inner.Parts.{Body, no_more, behind, read_from}
 use Rattle.recording_reader.specs.Pieces.{entry_of, is_end}
@@ -22,7 +22,7 @@ behind_all es ms =
     ∙ ap (λ (ys : List ImageSpan). Ok (record { entries = es; images = ys })) (append-nil ms)
 
 -- a part more is read
-pub goes_on : (bytes : List ℕ) (t : ViewTable) (old new : Cursor) (step : Step) (es : List Entry) (ms : List ImageSpan) (all : Result Body ℕ)
+pub goes_on : (bytes : List ℕ) (t : ViewTable) (old new : Cursor) (step : EventSpan) (es : List Entry) (ms : List ImageSpan) (all : Result Body ℕ)
     → behind es ms (read_from bytes t old) ≡ all → Steps bytes t old new (Ok step) → is_end step.event ≡ false
     → behind (es ++ (entry_of step.event ∷ [])) (ms ++ option_to_list step.image) (read_from bytes t new) ≡ all
 goes_on bytes t old new step es ms all so one more =
@@ -31,7 +31,7 @@ goes_on bytes t old new step es ms all so one more =
     sym (behind_both es (entry_of step.event ∷ []) ms (option_to_list step.image) (read_from bytes t new)) ∙ ap (behind es ms) (sym next) ∙ so
 
 -- the end is read
-pub comes_to_end : (bytes : List ℕ) (t : ViewTable) (old new : Cursor) (step : Step) (es : List Entry) (ms : List ImageSpan) (all : Result Body ℕ)
+pub comes_to_end : (bytes : List ℕ) (t : ViewTable) (old new : Cursor) (step : EventSpan) (es : List Entry) (ms : List ImageSpan) (all : Result Body ℕ)
     → behind es ms (read_from bytes t old) ≡ all → Steps bytes t old new (Ok step) → is_end step.event ≡ true
     → Ok (record { entries = es ++ (entry_of step.event ∷ []); images = ms ++ option_to_list step.image }) ≡ all
 comes_to_end bytes t old new step es ms all so one last =

@@ -8,13 +8,13 @@ use Rattle.model_history.specs.declared.event.Event.{Event}
 use Rattle.model_history.specs.declared.event.Event.TheVariants as event
 use Rattle.model_history.specs.Recordings.{image_head}
 use Rattle.model_history.specs.Texts.{event_line}
-use Rattle.recording_text.specs.Fits.{Fits}
+use Rattle.recording_text.specs.Fits.{FitsEvent}
 use Rattle.recording_text.specs.Lines.{event_at}
 use Rattle.recording_text.proofs.ReadLines.{event_again}
 use Rattle.recording_reader.specs.Pieces.{Piece, piece_text, HasImage, IsPiece, ArePieces, is_end, shown_after}
 use Rattle.recording_reader.specs.Views.{ViewTable, view_at}
 
-one_event : (p q : Piece) (xs ys : List ℕ) → Fits p.event → Fits q.event → piece_text p ++ xs ≡ piece_text q ++ ys → p.event ≡ q.event
+one_event : (p q : Piece) (xs ys : List ℕ) → FitsEvent p.event → FitsEvent q.event → piece_text p ++ xs ≡ piece_text q ++ ys → p.event ≡ q.event
 one_event p q xs ys one two same =
     let a : event_at (piece_text p ++ xs) ≡ Some p.event = ap event_at (append_assoc (event_line p.event) p.image xs) ∙ event_again p.event (p.image ++ xs) one in
     let b : event_at (piece_text q ++ ys) ≡ Some q.event = ap event_at (append_assoc (event_line q.event) q.image ys) ∙ event_again q.event (q.image ++ ys) two in

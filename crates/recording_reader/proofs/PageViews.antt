@@ -5,14 +5,14 @@ use Rattle.page_layers.specs.declared.command.Command.{Command}
 use Rattle.page_layers.specs.declared.command.Command.TheVariants as command
 use Rattle.page_layers.specs.declared.moves.Move.{Move}
 use Rattle.page_layers.specs.declared.view.View.{View}
-use Rattle.page_layers.specs.Effects.{after}
+use Rattle.page_layers.specs.Effects.{page_after_command}
 use Rattle.page_layers.specs.Pages.{Page}
 use Rattle.model_history.specs.declared.history.Entry.{Entry}
-use Rattle.model_history.specs.Frames.{pulled, commanded, commands_of, page, pulls_of, active, active_page, up_to}
+use Rattle.model_history.specs.Frames.{page_after_pulls, commanded, commands_of, page, pulls_of, active, active_page, up_to}
 use Rattle.model_history.specs.Scripts.{ScriptModel}
 use Rattle.recording_reader.specs.Views.{view_after, view_through, views_through, first_view, views_of, view_at}
 
-after_view : (p : Page) (c : Command) → (after p c).view ≡ view_after p.view c
+after_view : (p : Page) (c : Command) → (page_after_command p c).view ≡ view_after p.view c
 after_view p (command.AddTransform id parent x y scroller) = refl
 after_view p (command.SetTransform id x y) = refl
 after_view p (command.AddClip id parent transform rect) = refl
@@ -35,9 +35,9 @@ after_view p (command.SetView w h tile) = refl
 
 commanded_view : (cs : List Command) (p : Page) → (commanded cs p).view ≡ view_through p.view cs
 commanded_view [] p = refl
-commanded_view (c ∷ cs) p = commanded_view cs (after p c) ∙ ap (λ (v : View). view_through v cs) (after_view p c)
+commanded_view (c ∷ cs) p = commanded_view cs (page_after_command p c) ∙ ap (λ (v : View). view_through v cs) (after_view p c)
 
-pulled_view : (ms : List Move) (p : Page) → (pulled ms p).view ≡ p.view
+pulled_view : (ms : List Move) (p : Page) → (page_after_pulls ms p).view ≡ p.view
 pulled_view [] p = refl
 pulled_view (m ∷ ms) p = pulled_view ms _
 
@@ -60,7 +60,7 @@ views_at v first (f ∷ fs) (suc k) small = views_at (view_through v f) first fs
 page_view : (s : ScriptModel) (ps : ℕ → List Move) (k : ℕ) → suc k ≤ suc (length s.main) → (page s ps k).view ≡ turned (first_view s) s.main k
 page_view s ps zero few = refl
 page_view s ps (suc k) few =
-    commanded_view (commands_of s k) (pulled (ps k) (page s ps k))
+    commanded_view (commands_of s k) (page_after_pulls (ps k) (page s ps k))
     ∙ ap (λ (v : View). view_through v (commands_of s k)) (pulled_view (ps k) (page s ps k) ∙ page_view s ps k (omega arith))
     ∙ sym (turned_more (first_view s) s.main k (omega arith))
 

@@ -8,18 +8,18 @@ use Rattle.model_history.specs.declared.event.Event.TheVariants as event
 use Rattle.model_history.specs.Texts.{event_line}
 use Rattle.model_history.specs.Recordings.{image_head}
 use Rattle.geom.specs.declared.tile.TileKey.{TileKey}
-use Rattle.recording_text.specs.Fits.{Fits}
+use Rattle.recording_text.specs.Fits.{FitsEvent}
 use Rattle.recording_text.specs.Lines.{event_at}
 use Rattle.recording_text.specs.Images.{image_length}
 use Rattle.recording_text.proofs.ReadLines.{event_again, event_exact}
 use Rattle.recording_text.proofs.EventFits.{event_fits}
 use Rattle.recording_text.proofs.ImageLaws.{length_again, length_exact}
-use Rattle.recording_reader.specs.declared.part.Part.{Part}
+use Rattle.recording_reader.specs.declared.part.RecordingPart.{RecordingPart}
 use Rattle.recording_reader.specs.inner.Parts.{◌>>=◌, or_bad, line_length, with_image, bare, is_nil, at_end, part_of, part_at, images_in}
-use Rattle.recording_reader.specs.Pieces.{Piece, piece_text, IsImage, HasImage, IsPiece, image_of, is_end}
+use Rattle.recording_reader.specs.Pieces.{Piece, piece_text, IsImage, HasImage, IsPiece, image_span_of, is_end}
 
 -- the part of an event with these bytes behind its line
-abbrev pub whole_part : Event → List ℕ → Part
+abbrev pub whole_part : Event → List ℕ → RecordingPart
 whole_part (event.Draw input missing) image = record { event = event.Draw input missing; size = line_length (event.Draw input missing) + length image; image = Some (line_length (event.Draw input missing)) }
 whole_part e image = bare e
 
@@ -64,7 +64,7 @@ part_size v (event.Draw i ms) image has = sym (length-append (event_line (event.
 part_size v (event.Stop a) image has = absurd has
 part_size v e image has = ap length (sym (append-nil (event_line e)) ∙ ap (λ (x : List ℕ). event_line e ++ x) (sym has))
 
-pub part_images : (index at : ℕ) (e : Event) (image : List ℕ) → images_in index at (whole_part e image).size (whole_part e image).image ≡ image_of index at e image
+pub part_images : (index at : ℕ) (e : Event) (image : List ℕ) → images_in index at (whole_part e image).size (whole_part e image).image ≡ image_span_of index at e image
 unfolding bare
 part_images index at (event.Draw i ms) image =
     let long : (line_length (event.Draw i ms) + length image) - line_length (event.Draw i ms) ≡ length image = omega arith in
@@ -72,7 +72,7 @@ part_images index at (event.Draw i ms) image =
 part_images index at e image = refl
 
 -- what a part that was read says of the bytes
-pub record PartTells (v : View) (xs : List ℕ) (p : Part) (image : List ℕ) : Type 0 where
+pub record PartTells (v : View) (xs : List ℕ) (p : RecordingPart) (image : List ℕ) : Type 0 where
   pub piece : IsPiece v (record { event = p.event; image = image })
   pub text : xs ≡ (event_line p.event ++ image) ++ drop p.size xs
   pub is : p ≡ whole_part p.event image
@@ -94,11 +94,11 @@ split_text a b xs more r n first second long =
     let rest : drop n xs ≡ r = ap (λ (k : ℕ). drop k xs) size ∙ ap (drop (length (a ++ b))) whole ∙ drop-append_seam (a ++ b) r in
     whole ∙ ap (λ (y : List ℕ). (a ++ b) ++ y) (sym rest)
 
-abbrev Told : View → List ℕ → Part → Type 0
+abbrev Told : View → List ℕ → RecordingPart → Type 0
 Told v xs p = (image : List ℕ) × PartTells v xs p image
 
 -- a draw and its image
-from_drawn : (v : View) (xs : List ℕ) (i : ℕ) (ms : List TileKey) (p : Part) → xs ≡ event_line (event.Draw i ms) ++ drop (line_length (event.Draw i ms)) xs → Fits (event.Draw i ms) → with_image v xs (event.Draw i ms) ≡ Ok p → Told v xs p
+from_drawn : (v : View) (xs : List ℕ) (i : ℕ) (ms : List TileKey) (p : RecordingPart) → xs ≡ event_line (event.Draw i ms) ++ drop (line_length (event.Draw i ms)) xs → FitsEvent (event.Draw i ms) → with_image v xs (event.Draw i ms) ≡ Ok p → Told v xs p
 unfolding with_image
 from_drawn v xs i ms p line fits is =
     let e : Event = event.Draw i ms in
@@ -106,7 +106,7 @@ from_drawn v xs i ms p line fits is =
     let there = or_bad_ok (line_length (event.Draw i ms)) (image_length v.w v.h (drop (line_length (event.Draw i ms)) xs)) a.0 a.1 in
     let image = length_exact v.w v.h (drop (line_length (event.Draw i ms)) xs) a.0 there in
     let one : record { event = event.Draw i ms; size = line_length (event.Draw i ms) + a.0; image = Some (line_length (event.Draw i ms)) } ≡ p = cc (a.2) in
-    subst (λ (q : Part). Told v xs q) one (
+    subst (λ (q : RecordingPart). Told v xs q) one (
       image_head v.w v.h ++ image.0,
       record {
         piece = record { fits = fits; image = (image.0, image.1.0, refl) };
@@ -117,15 +117,15 @@ from_drawn v xs i ms p line fits is =
     )
 
 -- what a part is read as
-abbrev IsRead : Result Part ℕ → Part → Type 0
+abbrev IsRead : Result RecordingPart ℕ → RecordingPart → Type 0
 IsRead r p = r ≡ Ok p
 
 -- an event that is its line alone
-from_bare : (v : View) (xs : List ℕ) (e : Event) (p : Part) → xs ≡ event_line e ++ drop (line_length e) xs → Fits e → HasImage v e [] → bare e ≡ whole_part e [] → (is_end e ≡ true → drop (line_length e) xs ≡ []) → IsRead (Ok (bare e)) p → Told v xs p
+from_bare : (v : View) (xs : List ℕ) (e : Event) (p : RecordingPart) → xs ≡ event_line e ++ drop (line_length e) xs → FitsEvent e → HasImage v e [] → bare e ≡ whole_part e [] → (is_end e ≡ true → drop (line_length e) xs ≡ []) → IsRead (Ok (bare e)) p → Told v xs p
 unfolding bare
 from_bare v xs e p line fits has whole last is =
     let one : bare e ≡ p = cc (is) in
-    subst (λ (q : Part). Told v xs q) one (
+    subst (λ (q : RecordingPart). Told v xs q) one (
       [],
       record {
         piece = record { fits = fits; image = has };
@@ -139,15 +139,15 @@ nothing_left : (xs : List ℕ) → is_nil xs ≡ true → xs ≡ []
 nothing_left [] is = refl
 nothing_left (x ∷ xs) is = absurd (cc (is))
 
-ended_in : (b : Bool) (v : View) (xs : List ℕ) (p : Part) → is_nil (drop (line_length event.End) xs) ≡ b → xs ≡ event_line event.End ++ drop (line_length event.End) xs → IsRead (if b then Ok (bare event.End) else Err (line_length event.End)) p → Told v xs p
+ended_in : (b : Bool) (v : View) (xs : List ℕ) (p : RecordingPart) → is_nil (drop (line_length event.End) xs) ≡ b → xs ≡ event_line event.End ++ drop (line_length event.End) xs → IsRead (if b then Ok (bare event.End) else Err (line_length event.End)) p → Told v xs p
 ended_in true v xs p none line is = from_bare v xs event.End p line tt refl refl (λ _. nothing_left (drop (line_length event.End) xs) none) is
 ended_in false v xs p none line is = absurd (cc (is))
 
-from_end : (v : View) (xs : List ℕ) (p : Part) → xs ≡ event_line event.End ++ drop (line_length event.End) xs → at_end xs event.End ≡ Ok p → Told v xs p
+from_end : (v : View) (xs : List ℕ) (p : RecordingPart) → xs ≡ event_line event.End ++ drop (line_length event.End) xs → at_end xs event.End ≡ Ok p → Told v xs p
 unfolding at_end
 from_end v xs p line is = ended_in (is_nil (drop (line_length event.End) xs)) v xs p refl line is
 
-from_part : (v : View) (xs : List ℕ) (e : Event) (p : Part) → xs ≡ event_line e ++ drop (line_length e) xs → Fits e → part_of v xs e ≡ Ok p → Told v xs p
+from_part : (v : View) (xs : List ℕ) (e : Event) (p : RecordingPart) → xs ≡ event_line e ++ drop (line_length e) xs → FitsEvent e → part_of v xs e ≡ Ok p → Told v xs p
 unfolding part_of
 from_part v xs (event.Draw i ms) p line fits is = from_drawn v xs i ms p line fits is
 from_part v xs (event.Stop a) p line fits is = absurd (cc (is))
@@ -155,7 +155,7 @@ from_part v xs event.End p line fits is = from_end v xs p line is
 from_part v xs e p line fits is = from_bare v xs e p line fits refl refl (λ last. absurd (cc (last))) is
 
 -- a part that was read is the part of a piece at the front
-pub part_exact : (v : View) (xs : List ℕ) (p : Part) → part_at v xs ≡ Ok p → (image : List ℕ) × PartTells v xs p image
+pub part_exact : (v : View) (xs : List ℕ) (p : RecordingPart) → part_at v xs ≡ Ok p → (image : List ℕ) × PartTells v xs p image
 unfolding part_at
 part_exact v xs p is =
     let a = bind_ok (or_bad 0 (event_at xs)) (part_of v xs) p is in

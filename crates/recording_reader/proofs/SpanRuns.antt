@@ -10,7 +10,7 @@ use Rattle.model_history.specs.declared.event.Event.TheVariants as event
 use Rattle.model_history.specs.Texts.{event_line}
 use Rattle.recording_reader.specs.declared.cursor.ImageSpan.{ImageSpan}
 use Rattle.recording_reader.specs.Views.{ViewTable, view_at}
-use Rattle.recording_reader.specs.Pieces.{Piece, piece_text, HasImage, ArePieces, image_of, images, images_text, is_end, shown_after}
+use Rattle.recording_reader.specs.Pieces.{Piece, piece_text, HasImage, ArePieces, image_span_of, image_spans, images_text, is_end, shown_after}
 use Rattle.recording_reader.specs.Spans.{span_bytes, AreWithin}
 
 -- each piece has the image that its event wants, in some size
@@ -40,7 +40,7 @@ drawn_stands bytes front line image rest index text =
     let some : length (image ++ rest) ≡ length image + length rest = length-append image rest in
     (append-nil _ ∙ one, (omega (arith, at, long, some), tt))
 
-pub image_stands : (v : View) (e : Event) (bytes front image rest : List ℕ) (index : ℕ) → HasImage v e image → bytes ≡ front ++ ((event_line e ++ image) ++ rest) → Stands bytes (image_of index (length front) e image) image
+pub image_stands : (v : View) (e : Event) (bytes front image rest : List ℕ) (index : ℕ) → HasImage v e image → bytes ≡ front ++ ((event_line e ++ image) ++ rest) → Stands bytes (image_span_of index (length front) e image) image
 image_stands v (event.Draw i ms) bytes front image rest index has text = drawn_stands bytes front (event_line (event.Draw i ms)) image rest index text
 image_stands v (event.Stop a) bytes front image rest index has text = absurd has
 image_stands v e bytes front image rest index has text = (sym has, tt)
@@ -50,18 +50,18 @@ within_both n [] ns first second = second
 within_both n (m ∷ ms) ns first second = (first.0, within_both n ms ns first.1 second)
 
 -- the images of pieces that stand behind a front
-stand : (bytes front : List ℕ) (index : ℕ) (ps : List Piece) → AllHave ps → bytes ≡ front ++ flat_map piece_text ps → Stands bytes (images index (length front) ps) (images_text ps)
+stand : (bytes front : List ℕ) (index : ℕ) (ps : List Piece) → AllHave ps → bytes ≡ front ++ flat_map piece_text ps → Stands bytes (image_spans index (length front) ps) (images_text ps)
 stand bytes front index [] have text = (refl, tt)
 stand bytes front index (p ∷ ps) have text =
     let first = image_stands have.0.0 p.event bytes front p.image (flat_map piece_text ps) index have.0.1 text in
     let at : length front + length (piece_text p) ≡ length (front ++ piece_text p) = sym (length-append front (piece_text p)) in
     let later = stand bytes (front ++ piece_text p) (index + 1) ps have.1 (text ∙ sym (append_assoc front (piece_text p) (flat_map piece_text ps))) in
-    let rest : Stands bytes (images (index + 1) (length front + length (piece_text p)) ps) (images_text ps) = subst (λ (n : ℕ). Stands bytes (images (index + 1) n ps) (images_text ps)) (sym at) later in (
-      flat_map-append (span_bytes bytes) (image_of index (length front) p.event p.image) (images (index + 1) (length front + length (piece_text p)) ps)
-          ∙ ap (λ (x : List ℕ). x ++ flat_map (span_bytes bytes) (images (index + 1) (length front + length (piece_text p)) ps)) first.0 ∙ ap (λ (x : List ℕ). p.image ++ x) rest.0,
-      within_both (length bytes) (image_of index (length front) p.event p.image) (images (index + 1) (length front + length (piece_text p)) ps) first.1 rest.1,
+    let rest : Stands bytes (image_spans (index + 1) (length front + length (piece_text p)) ps) (images_text ps) = subst (λ (n : ℕ). Stands bytes (image_spans (index + 1) n ps) (images_text ps)) (sym at) later in (
+      flat_map-append (span_bytes bytes) (image_span_of index (length front) p.event p.image) (image_spans (index + 1) (length front + length (piece_text p)) ps)
+          ∙ ap (λ (x : List ℕ). x ++ flat_map (span_bytes bytes) (image_spans (index + 1) (length front + length (piece_text p)) ps)) first.0 ∙ ap (λ (x : List ℕ). p.image ++ x) rest.0,
+      within_both (length bytes) (image_span_of index (length front) p.event p.image) (image_spans (index + 1) (length front + length (piece_text p)) ps) first.1 rest.1,
     )
 
 pub images_stand : (bytes front : List ℕ) (t : ViewTable) (ps : List Piece) → ArePieces t None ps → bytes ≡ front ++ flat_map piece_text ps
-    → (flat_map (span_bytes bytes) (images 0 (length front) ps) ≡ images_text ps) × AreWithin (length bytes) (images 0 (length front) ps)
+    → (flat_map (span_bytes bytes) (image_spans 0 (length front) ps) ≡ images_text ps) × AreWithin (length bytes) (image_spans 0 (length front) ps)
 images_stand bytes front t ps are text = stand bytes front 0 ps (all_have t None ps are) text

@@ -5,18 +5,18 @@ use Rattle.page_layers.specs.declared.view.View.{View}
 use Rattle.model_history.specs.declared.event.Event.{Event}
 use Rattle.model_history.specs.declared.event.Event.TheVariants as event
 use Rattle.model_history.specs.Texts.{event_line}
-use Rattle.recording_text.specs.Fits.{Fits}
+use Rattle.recording_text.specs.Fits.{FitsEvent}
 use Rattle.recording_reader.specs.Pieces.{Piece, piece_text, IsImage, IsPiece, is_end, shown_after}
 use Rattle.recording_reader.specs.Views.{ViewTable, view_at}
 
 -- a stop stands in no recording
-abbrev pub MayStand : Event → Type 0
-MayStand (event.Stop actor) = ⊥
-MayStand _ = ⊤
+abbrev pub MayBeRecorded : Event → Type 0
+MayBeRecorded (event.Stop actor) = ⊥
+MayBeRecorded _ = ⊤
 
 -- the bytes begin with no line of an event that may stand in a recording
 abbrev pub LacksEvent : List ℕ → Type 0
-LacksEvent xs = (e : Event) (rest : List ℕ) → Fits e → MayStand e → xs ≡ event_line e ++ rest → ⊥
+LacksEvent xs = (e : Event) (rest : List ℕ) → FitsEvent e → MayBeRecorded e → xs ≡ event_line e ++ rest → ⊥
 
 -- they begin with no image of the size of this view
 abbrev pub LacksImage : View → List ℕ → Type 0
@@ -25,7 +25,7 @@ LacksImage v xs = (image rest : List ℕ) → IsImage v image → xs ≡ image +
 -- they begin with the line of a draw, and behind it no image stands
 abbrev pub IsBadDraw : View → List ℕ → ℕ → Type 0
 IsBadDraw v xs place =
-    (input : ℕ) × (missing : List TileKey) × (rest : List ℕ) × Fits (event.Draw input missing) × (xs ≡ event_line (event.Draw input missing) ++ rest) × LacksImage v rest × (place ≡ length (event_line (event.Draw input missing)))
+    (input : ℕ) × (missing : List TileKey) × (rest : List ℕ) × FitsEvent (event.Draw input missing) × (xs ≡ event_line (event.Draw input missing) ++ rest) × LacksImage v rest × (place ≡ length (event_line (event.Draw input missing)))
 
 -- they begin with the line of the end, and behind it more stands
 abbrev pub IsBadEnd : List ℕ → ℕ → Type 0

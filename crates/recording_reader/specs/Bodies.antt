@@ -3,8 +3,8 @@ use Rattle.std.specs.Prelude.{◌≡◌, ℕ, List, drop, length, map, flat_map,
 use Rattle.recording_reader.specs.declared.body.Body.{Body}
 use Rattle.recording_reader.specs.declared.cursor.ImageSpan.{ImageSpan}
 use Rattle.recording_reader.specs.BadParts.{StopsAt}
-use Rattle.recording_reader.specs.Pieces.{Piece, piece_text, ArePieces, entries, images, images_text}
-use Rattle.recording_reader.specs.Places.{place_of}
+use Rattle.recording_reader.specs.Pieces.{Piece, piece_text, ArePieces, entries, image_spans, images_text}
+use Rattle.recording_reader.specs.Places.{image_place_of}
 use Rattle.recording_reader.specs.Spans.{span_bytes, AreWithin}
 use Rattle.recording_reader.specs.Views.{ViewTable}
 
@@ -15,7 +15,7 @@ ArePiecesFrom bytes t start ps = ArePieces t None ps × (drop start bytes ≡ fl
 -- what stands behind so many bytes is pieces with these entries, whose images stand at these places; or it stops here
 abbrev pub ReadsBody : List ℕ → ViewTable → ℕ → Result Body ℕ → Type 0
 ReadsBody bytes t start (Ok b) =
-    (ps : List Piece) × ArePiecesFrom bytes t start ps × (b.events.entries ≡ entries ps) × (b.images.items ≡ map place_of (images 0 start ps))
+    (ps : List Piece) × ArePiecesFrom bytes t start ps × (b.events.entries ≡ entries ps) × (b.images.items ≡ map image_place_of (image_spans 0 start ps))
 ReadsBody bytes t start (Err place) = StopsAt bytes t start place
 
 -- it is pieces, and these are their images, one behind the other; or it stops here

@@ -7,7 +7,7 @@ use Rattle.model_history.specs.declared.history.Entry.{Entry}
 use Rattle.model_history.specs.EventFields.{actor_of}
 use Rattle.model_history.specs.Recordings.{image_head}
 use Rattle.model_history.specs.Texts.{event_line}
-use Rattle.recording_text.specs.Fits.{Fits}
+use Rattle.recording_text.specs.Fits.{FitsEvent}
 use Rattle.recording_text.specs.Images.{picture_size}
 use Rattle.recording_reader.specs.declared.cursor.ImageSpan.{ImageSpan}
 use Rattle.recording_reader.specs.Views.{ViewTable, view_at}
@@ -49,7 +49,7 @@ HasImage v (event.Stop actor) image = ⊥
 HasImage v _ image = image ≡ []
 
 pub record IsPiece (v : View) (p : Piece) : Type 0 where
-  pub fits : Fits p.event
+  pub fits : FitsEvent p.event
   pub image : HasImage v p.event p.image
 
 -- pieces of a recording with these views, where this frame was activated last: each image has the size of the view at its place, and the end stands last and nowhere else
@@ -66,11 +66,11 @@ abbrev pub images_text : List Piece → List ℕ
 images_text ps = flat_map (λ p. p.image) ps
 
 -- where the image of a piece stands that begins here
-abbrev pub image_of : ℕ → ℕ → Event → List ℕ → List ImageSpan
-image_of index at (event.Draw input missing) image = record { event = index; at = at + length (event_line (event.Draw input missing)); size = length image } ∷ []
-image_of index at _ image = []
+abbrev pub image_span_of : ℕ → ℕ → Event → List ℕ → List ImageSpan
+image_span_of index at (event.Draw input missing) image = record { event = index; at = at + length (event_line (event.Draw input missing)); size = length image } ∷ []
+image_span_of index at _ image = []
 
 -- where the images of these pieces stand, the first of which begins here
-abbrev pub images : ℕ → ℕ → List Piece → List ImageSpan
-images index at [] = []
-images index at (p ∷ ps) = image_of index at p.event p.image ++ images (index + 1) (at + length (piece_text p)) ps
+abbrev pub image_spans : ℕ → ℕ → List Piece → List ImageSpan
+image_spans index at [] = []
+image_spans index at (p ∷ ps) = image_span_of index at p.event p.image ++ image_spans (index + 1) (at + length (piece_text p)) ps

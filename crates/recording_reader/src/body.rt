@@ -3,12 +3,12 @@
 ghost use Rattle.std.specs.Prelude.{◌≡◌, ℕ, ◌+◌, ◌<◌, ◌≤◌, ◌^◌, List, length, map, Result, OnOk, IfOk, OnErr, option_to_list, ◌∷◌, ◌++◌, []};
 ghost use Rattle.recording_reader.specs.Pieces.{is_end as is_end_of, entry_of as entry_is};
 ghost use Rattle.recording_reader.specs.inner.Parts.{read_from};
-ghost use Rattle.recording_reader.specs.Places.{place_of};
+ghost use Rattle.recording_reader.specs.Places.{image_place_of};
 ghost use Rattle.recording_reader.specs.Taking.{start_at};
 ghost use Rattle.recording_reader.specs.Bodies.{ReadsBody, FindsImages};
 ghost use Rattle.recording_reader.specs.inner.Walks.{WalksBody, WalksSpans};
 
-use crate::cursor::{Cursor, ImageSpan, Step, take_part};
+use crate::cursor::{Cursor, ImageSpan, EventSpan, take_part};
 use crate::part::entry_of;
 use crate::place::ImagePlace;
 use crate::views::ImageViews;
@@ -34,7 +34,7 @@ fn is_end(event: &Event) -> bool
 
 // Adds the place of an image, where there is one.
 fn push_place(images: &mut Vec<ImagePlace>, image: Option<ImageSpan>) -> Result<(), AllocError>
-    ensures { OnOk result (images.new.items ≡ images.old.items ++ map place_of (option_to_list image)) }
+    ensures { OnOk result (images.new.items ≡ images.old.items ++ map image_place_of (option_to_list image)) }
 {
     if let Some(span) = image {
         images.push(ImagePlace {
@@ -56,7 +56,7 @@ fn push_span(images: &mut Vec<ImageSpan>, image: Option<ImageSpan>) -> Result<()
 }
 
 // Adds where the image of a step stands, where it has one. Answers whether the step is the end.
-fn keep_image(images: &mut Vec<ImageSpan>, step: Step) -> Result<bool, AllocError>
+fn keep_image(images: &mut Vec<ImageSpan>, step: EventSpan) -> Result<bool, AllocError>
     ensures image { OnOk result (images.new.items ≡ images.old.items ++ option_to_list step.image) }
     ensures last { IfOk result (λ last. last ≡ is_end_of step.event) }
 {

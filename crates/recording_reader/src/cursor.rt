@@ -6,9 +6,9 @@ ghost use Rattle.recording_reader.specs.inner.Parts as parts;
 ghost use Rattle.recording_reader.specs.Views.{view_at};
 ghost use Rattle.recording_reader.specs.inner.Within.{IsWithin};
 ghost use Rattle.recording_reader.specs.inner.Steps.{Steps, Moves};
-ghost use Rattle.recording_reader.specs.Taking.{IsAmong, Takes, Advances, start_at};
+ghost use Rattle.recording_reader.specs.Taking.{IsAmong, TakesNext, Advances, start_at};
 
-use crate::part::{Part, part_at};
+use crate::part::{RecordingPart, part_at};
 use crate::views::ImageViews;
 use model_history::Event;
 use recording_text::Scratch;
@@ -51,7 +51,7 @@ pub struct ImageSpan {
 
 /// An event of a recording, and where its image stands.
 #[derive(Drop)]
-pub struct Step {
+pub struct EventSpan {
     /// The event.
     pub event: Event,
     /// The image behind a draw.
@@ -85,7 +85,7 @@ fn span_of(cursor: &Cursor, size: usize, front: Option<usize>) -> Option<ImageSp
 }
 
 // Goes on behind a part.
-fn pass(cursor: &mut Cursor, part: Part) -> Step
+fn pass(cursor: &mut Cursor, part: RecordingPart) -> EventSpan
     requires long { cursor.old.at + part.size < 2 ^ 32 }
     requires few { cursor.old.index < 2 ^ 32 }
     requires within { parts.Begins part.image part.size }
@@ -95,7 +95,7 @@ fn pass(cursor: &mut Cursor, part: Part) -> Step
     cursor.at += part.size;
     cursor.index += 1;
     cursor.shown = shown_after(cursor.shown, &part.event);
-    Step {
+    EventSpan {
         event: part.event,
         image,
     }
@@ -107,7 +107,7 @@ fn part_from(
     views: &ImageViews,
     cursor: &Cursor,
     scratch: &mut Scratch,
-) -> Result<Result<Part, usize>, AllocError>
+) -> Result<Result<RecordingPart, usize>, AllocError>
     requires { cursor.now.at ≤ length bytes.now }
     ensures part { IfOk result (λ part. part ≡ parts.part_at (view_at views.now cursor.now.shown) (drop cursor.now.at bytes.now)) }
     ensures within { IfOk result (λ part. IsWithin (length (drop cursor.now.at bytes.now)) part) }
@@ -122,11 +122,11 @@ pub(crate) fn take_part(
     views: &ImageViews,
     cursor: &mut Cursor,
     scratch: &mut Scratch,
-) -> Result<Result<Step, usize>, AllocError>
+) -> Result<Result<EventSpan, usize>, AllocError>
     requires long { length bytes.now < 2 ^ 32 }
     requires within { IsAmong bytes.now cursor.old }
     ensures step { IfOk result (λ step. Steps bytes.now views.now cursor.old cursor.new step) }
-    ensures takes { IfOk result (λ step. Takes bytes.now views.now cursor.old cursor.new step) }
+    ensures takes { IfOk result (λ step. TakesNext bytes.now views.now cursor.old cursor.new step) }
     ensures advances { IfOk result (λ step. Advances bytes.now cursor.old cursor.new step) }
 {
     let part = part_from(bytes, views, cursor, scratch)?;
@@ -144,10 +144,10 @@ pub fn take_piece(
     views: &ImageViews,
     cursor: &mut Cursor,
     scratch: &mut Scratch,
-) -> Result<Result<Step, usize>, AllocError>
+) -> Result<Result<EventSpan, usize>, AllocError>
     requires long { length bytes.now < 2 ^ 32 }
     requires within { IsAmong bytes.now cursor.old }
-    ensures takes { IfOk result (λ step. Takes bytes.now views.now cursor.old cursor.new step) }
+    ensures takes { IfOk result (λ step. TakesNext bytes.now views.now cursor.old cursor.new step) }
     ensures advances { IfOk result (λ step. Advances bytes.now cursor.old cursor.new step) }
 {
     take_part(bytes, views, cursor, scratch)

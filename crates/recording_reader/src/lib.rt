@@ -12,7 +12,7 @@ mod place;
 mod views;
 
 pub use body::{Body, find_images, read_body};
-pub use cursor::{Cursor, ImageSpan, Step, take_piece};
+pub use cursor::{Cursor, ImageSpan, EventSpan, take_piece};
 pub use part::entry_of;
 pub use place::ImagePlace;
 pub use views::ImageViews;

@@ -15,7 +15,7 @@ use std::alloc::AllocError;
 
 /// A part of a recording.
 #[derive(Drop)]
-pub struct Part {
+pub struct RecordingPart {
     /// The event of the line.
     pub event: Event,
     /// How many bytes the part has, the image among them.
@@ -34,7 +34,7 @@ fn behind(bytes: &[u8], count: usize) -> &[u8]
 
 // A draw with the image behind its line.
 #[tactic(auto, unfolding(crate::specs::inner::Parts::with_image))]
-fn with_image(view: View, bytes: &[u8], event: Event, line: usize) -> Result<Part, usize>
+fn with_image(view: View, bytes: &[u8], event: Event, line: usize) -> Result<RecordingPart, usize>
     requires size { line ≡ parts.line_length event }
     requires some { 0 < line }
     requires within { line ≤ length bytes.now }
@@ -42,7 +42,7 @@ fn with_image(view: View, bytes: &[u8], event: Event, line: usize) -> Result<Par
     ensures within { IsWithin (length bytes.now) result }
 {
     match image_length(behind(bytes, line), view.w, view.h) {
-        Some(image) => Ok(Part {
+        Some(image) => Ok(RecordingPart {
             event,
             size: line + image,
             image: Some(line),
@@ -53,11 +53,11 @@ fn with_image(view: View, bytes: &[u8], event: Event, line: usize) -> Result<Par
 
 // A part that is a line alone.
 #[tactic(auto, unfolding(crate::specs::inner::Parts::bare))]
-fn bare(event: Event, line: usize) -> Part
+fn bare(event: Event, line: usize) -> RecordingPart
     requires { line ≡ parts.line_length event }
     ensures { result ≡ parts.bare event }
 {
-    Part {
+    RecordingPart {
         event,
         size: line,
         image: None,
@@ -66,7 +66,7 @@ fn bare(event: Event, line: usize) -> Part
 
 // The end of a recording.
 #[tactic(auto, unfolding(crate::specs::inner::Parts::at_end, crate::specs::inner::Parts::bare))]
-fn at_end(bytes: &[u8], line: usize) -> Result<Part, usize>
+fn at_end(bytes: &[u8], line: usize) -> Result<RecordingPart, usize>
     requires size { line ≡ parts.line_length Event.End }
     requires some { 0 < line }
     requires within { line ≤ length bytes.now }
@@ -82,7 +82,7 @@ fn at_end(bytes: &[u8], line: usize) -> Result<Part, usize>
 
 // The part that an event's line begins.
 #[tactic(auto, unfolding(crate::specs::inner::Parts::part_of, crate::specs::inner::Parts::bare))]
-fn part_of(view: View, bytes: &[u8], event: Event, line: usize) -> Result<Part, usize>
+fn part_of(view: View, bytes: &[u8], event: Event, line: usize) -> Result<RecordingPart, usize>
     requires size { line ≡ parts.line_length event }
     requires some { 0 < line }
     requires within { line ≤ length bytes.now }
@@ -106,7 +106,7 @@ pub fn part_at(
     view: View,
     bytes: &[u8],
     scratch: &mut Scratch,
-) -> Result<Result<Part, usize>, AllocError>
+) -> Result<Result<RecordingPart, usize>, AllocError>
     ensures part { IfOk result (λ part. part ≡ parts.part_at view bytes.now) }
     ensures within { IfOk result (λ part. IsWithin (length bytes.now) part) }
 {

@@ -2,6 +2,6 @@
 use Rattle.std.specs.Prelude.{ℕ, ◌+◌, List, [], ◌∷◌}
 
 -- the sum of some bytes
-abbrev pub total : List ℕ → ℕ
-total [] = 0
-total (b ∷ bs) = b + total bs
+abbrev pub byte_sum : List ℕ → ℕ
+byte_sum [] = 0
+byte_sum (b ∷ bs) = b + byte_sum bs

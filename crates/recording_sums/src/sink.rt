@@ -1,7 +1,7 @@
 //! The sink.
 
 ghost use Rattle.std.specs.Prelude.{◌≡◌, ◌++◌, ◌%◌, ◌^◌, [], length, IfOk, MatchResult};
-ghost use Rattle.recording_sums.specs.Sums.{total};
+ghost use Rattle.recording_sums.specs.Sums.{byte_sum};
 
 use crate::sums::sum_behind;
 use player_io::{PutFault, Sink};
@@ -30,13 +30,13 @@ impl Model for SumSink {
     ghost use Rattle.std.specs.Prelude.{◌≡◌, ◌%◌, ◌^◌, length};
     ghost use Rattle.rtrb.specs.Ring.{sent};
     ghost use Rattle.recording_sums.specs.Put.{Put, joined};
-    ghost use Rattle.recording_sums.specs.Sums.{total};
+    ghost use Rattle.recording_sums.specs.Sums.{byte_sum};
 
     ghost Value = { Put };
 
     ghost view = { λ s. record { held = joined (sent s.producer); refused = s.refused } };
 
-    ghost invariant = { λ s. (s.bytes ≡ length (joined (sent s.producer))) × (s.sum ≡ total (joined (sent s.producer)) % 2 ^ 64) };
+    ghost invariant = { λ s. (s.bytes ≡ length (joined (sent s.producer))) × (s.sum ≡ byte_sum (joined (sent s.producer)) % 2 ^ 64) };
 }
 
 impl SumSink {
@@ -86,7 +86,7 @@ impl SumSink {
 
     /// The sum of all bytes that were put, modulo 2^64.
     pub fn sum(&self) -> u64
-        ensures { result ≡ total self.now.held % 2 ^ 64 }
+        ensures { result ≡ byte_sum self.now.held % 2 ^ 64 }
     {
         self.sum
     }

@@ -1,11 +1,11 @@
 //! Bytes, summed up.
 
 ghost use Rattle.std.specs.Prelude.{◌≡◌, ℕ, ◌+◌, ◌%◌, ◌^◌};
-ghost use Rattle.recording_sums.specs.Sums.{total};
+ghost use Rattle.recording_sums.specs.Sums.{byte_sum};
 
 /// A sum with that of some bytes, modulo 2^64.
 pub(crate) fn sum_behind(before: u64, bytes: &[u8]) -> u64
-    ensures { result ≡ (before + total bytes.now) % 2 ^ 64 }
+    ensures { result ≡ (before + byte_sum bytes.now) % 2 ^ 64 }
 {
     let mut sum = before;
     let mut rest = bytes;

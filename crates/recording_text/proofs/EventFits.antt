@@ -15,9 +15,9 @@ use Rattle.geom.specs.declared.rect.Point.{Point}
 use Rattle.recording_text.specs.declared.guess.Hit.{Hit}
 use Rattle.recording_text.specs.declared.word.Word.{Word}
 use Rattle.recording_text.specs.declared.word.Word.TheVariants as word
-use Rattle.recording_text.specs.Fits.{FitsKey, FitKeys, FitsMove, FitMoves, Fits}
-use Rattle.recording_text.specs.Numbers.{◌>>=◌, before, signed, numbers, u32_of, i32_of, key_of, key_in, keys_of, move_of, move_in, moves_of}
-use Rattle.recording_text.specs.Guesses.{guess, guess_of, is_plain, with_numbers, event_of, single_of, plain_of, number_of, send_of, activate_of, scroll_of, hit_in, rest_in, turned, wheel_of, start_of, done_of, draw_of, word_at, head}
+use Rattle.recording_text.specs.Fits.{FitsKey, FitKeys, FitsMove, FitMoves, FitsEvent}
+use Rattle.recording_text.specs.Numbers.{◌>>=◌, before, signed, numbers, u32_of, i32_of, key_from, key_in, keys_from, move_from, move_in, moves_of}
+use Rattle.recording_text.specs.Guesses.{guess, guess_of, has_plain_dash, event_with_numbers, event_of, single_of, plain_of, number_of, send_of, activate_of, scroll_of, hit_in, rest_in, turned, wheel_of, start_of, done_of, draw_of, word_at, head}
 use Rattle.recording_text.specs.Lines.{checked, event_at}
 use Rattle.recording_text.proofs.Binds.{bind_some, either_way}
 
@@ -70,8 +70,8 @@ i32_in false b z y low high is = absurd (cc (is))
 i32_fits : (z y : ℤ) → i32_of z ≡ Some y → FitsSigned w32 y
 i32_fits z y is = i32_in (int_le (negsuc 2147483647) z) (int_le z (pos 2147483647)) z y refl refl is
 
-key_of_fits : (layer x y stamp : ℤ) (k : TileKey) → key_of layer x y stamp ≡ Some k → FitsKey k
-unfolding key_of
+key_of_fits : (layer x y stamp : ℤ) (k : TileKey) → key_from layer x y stamp ≡ Some k → FitsKey k
+unfolding key_from
 key_of_fits layer x y stamp k is =
     let a = bind_some (u32_of layer) _ k is in
     let b = bind_some (u32_of x) _ k a.2 in
@@ -94,16 +94,16 @@ keys_before None p ks is first rest = absurd (cc (is))
 keys_before (Some k) None ks is first rest = absurd (cc (is))
 keys_before (Some k) (Some ls) ks is first rest = let one : k ∷ ls ≡ ks = cc (is) in subst FitKeys one (first k refl, rest ls refl)
 
-keys_fit : (zs : List ℤ) (ks : List TileKey) → keys_of zs ≡ Some ks → FitKeys ks
-unfolding keys_of
+keys_fit : (zs : List ℤ) (ks : List TileKey) → keys_from zs ≡ Some ks → FitKeys ks
+unfolding keys_from
 keys_fit [] ks is = let one : [] ≡ ks = cc (is) in subst FitKeys one tt
 keys_fit (a ∷ []) ks is = absurd (cc (is))
 keys_fit (a ∷ b ∷ []) ks is = absurd (cc (is))
 keys_fit (a ∷ b ∷ c ∷ []) ks is = absurd (cc (is))
-keys_fit (a ∷ b ∷ c ∷ d ∷ r) ks is = keys_before (key_of a b c d) (keys_of r) ks is (λ k there. key_of_fits a b c d k there) (λ rest there. keys_fit r rest there)
+keys_fit (a ∷ b ∷ c ∷ d ∷ r) ks is = keys_before (key_from a b c d) (keys_from r) ks is (λ k there. key_of_fits a b c d k there) (λ rest there. keys_fit r rest there)
 
-move_of_fits : (s x y : ℤ) (m : Move) → FitsSigned w64 x → FitsSigned w64 y → move_of s x y ≡ Some m → FitsMove m
-unfolding move_of
+move_of_fits : (s x y : ℤ) (m : Move) → FitsSigned w64 x → FitsSigned w64 y → move_from s x y ≡ Some m → FitsMove m
+unfolding move_from
 move_of_fits s x y m across down is =
     let a = bind_some (u32_of s) _ m is in
     let one : record { scroller = a.0; dx = x; dy = y } ≡ m = cc (a.2) in
@@ -119,32 +119,32 @@ unfolding moves_of
 moves_fit [] ms fits is = let one : [] ≡ ms = cc (is) in subst FitMoves one tt
 moves_fit (a ∷ []) ms fits is = absurd (cc (is))
 moves_fit (a ∷ b ∷ []) ms fits is = absurd (cc (is))
-moves_fit (a ∷ b ∷ c ∷ r) ms fits is = moves_before (move_of a b c) (moves_of r) ms is (λ m there. move_of_fits a b c m fits.1.0 fits.1.1.0 there) (λ rest there. moves_fit r rest fits.1.1.1 there)
+moves_fit (a ∷ b ∷ c ∷ r) ms fits is = moves_before (move_from a b c) (moves_of r) ms is (λ m there. move_of_fits a b c m fits.1.0 fits.1.1.0 there) (λ rest there. moves_fit r rest fits.1.1.1 there)
 
 fit_drop : (n : ℕ) (zs : List ℤ) → AllFit zs → AllFit (drop n zs)
 fit_drop zero zs fits = fits
 fit_drop (suc n) [] fits = tt
 fit_drop (suc n) (z ∷ zs) fits = fit_drop n zs fits.1
 
-send_fits : (zs : List ℤ) (e : Event) → AllFit zs → send_of zs ≡ Some e → Fits e
+send_fits : (zs : List ℤ) (e : Event) → AllFit zs → send_of zs ≡ Some e → FitsEvent e
 unfolding send_of
 send_fits [] e fits is = absurd (cc (is))
 send_fits (n ∷ r) e fits is =
     let a = bind_some (u32_of n) _ e is in
     let b = bind_some (moves_of r) _ e a.2 in
     let one : event.Send a.0 b.0 ≡ e = cc (b.2) in
-    subst Fits one (u32_fits n a.0 a.1, moves_fit r b.0 fits.1 b.1)
+    subst FitsEvent one (u32_fits n a.0 a.1, moves_fit r b.0 fits.1 b.1)
 
-activate_fits : (zs : List ℤ) (e : Event) → AllFit zs → activate_of zs ≡ Some e → Fits e
+activate_fits : (zs : List ℤ) (e : Event) → AllFit zs → activate_of zs ≡ Some e → FitsEvent e
 unfolding activate_of
 activate_fits [] e fits is = absurd (cc (is))
 activate_fits (n ∷ r) e fits is =
     let a = bind_some (u32_of n) _ e is in
     let b = bind_some (moves_of r) _ e a.2 in
     let one : event.Activate a.0 b.0 ≡ e = cc (b.2) in
-    subst Fits one (u32_fits n a.0 a.1, moves_fit r b.0 fits.1 b.1)
+    subst FitsEvent one (u32_fits n a.0 a.1, moves_fit r b.0 fits.1 b.1)
 
-scroll_fits : (zs : List ℤ) (e : Event) → scroll_of zs ≡ Some e → Fits e
+scroll_fits : (zs : List ℤ) (e : Event) → scroll_of zs ≡ Some e → FitsEvent e
 unfolding scroll_of
 scroll_fits [] e is = absurd (cc (is))
 scroll_fits (n ∷ []) e is = absurd (cc (is))
@@ -154,7 +154,7 @@ scroll_fits (n ∷ x ∷ y ∷ []) e is =
     let b = bind_some (i32_of x) _ e a.2 in
     let c = bind_some (i32_of y) _ e b.2 in
     let one : event.Scroll a.0 b.0 c.0 ≡ e = cc (c.2) in
-    subst Fits one (u32_fits n a.0 a.1, i32_fits x b.0 b.1, i32_fits y c.0 c.1)
+    subst FitsEvent one (u32_fits n a.0 a.1, i32_fits x b.0 b.1, i32_fits y c.0 c.1)
 scroll_fits (n ∷ x ∷ y ∷ z ∷ r) e is = absurd (cc (is))
 
 abbrev FitsHit : Hit → Type 0
@@ -185,7 +185,7 @@ rest_fits (x ∷ y ∷ []) p is =
     subst FitsRest one (i32_fits x a.0 a.1, i32_fits y b.0 b.1)
 rest_fits (x ∷ y ∷ z ∷ r) p is = absurd (cc (is))
 
-wheel_fits : (zs : List ℤ) (e : Event) → AllFit zs → wheel_of zs ≡ Some e → Fits e
+wheel_fits : (zs : List ℤ) (e : Event) → AllFit zs → wheel_of zs ≡ Some e → FitsEvent e
 unfolding wheel_of
 wheel_fits zs e fits is =
     let a = bind_some (hit_in (take 2 zs)) _ e is in
@@ -194,51 +194,51 @@ wheel_fits zs e fits is =
     let one : turned a.0 b.0 d.0 ≡ e = cc (d.2) in
     let hit = hit_fits (take 2 zs) a.0 a.1 in
     let rest = rest_fits (take 2 (drop 2 zs)) b.0 b.1 in
-    subst Fits one (hit.0, hit.1, rest.0, rest.1, moves_fit (drop 4 zs) d.0 (fit_drop 4 zs fits) d.1)
+    subst FitsEvent one (hit.0, hit.1, rest.0, rest.1, moves_fit (drop 4 zs) d.0 (fit_drop 4 zs fits) d.1)
 
-start_fits : (zs : List ℤ) (e : Event) → start_of zs ≡ Some e → Fits e
+start_fits : (zs : List ℤ) (e : Event) → start_of zs ≡ Some e → FitsEvent e
 unfolding start_of
 start_fits [] e is = absurd (cc (is))
 start_fits (n ∷ r) e is =
     let a = bind_some (u32_of n) _ e is in
     let b = bind_some (key_in (take 4 r)) _ e a.2 in
-    let c = bind_some (keys_of (drop 4 r)) _ e b.2 in
+    let c = bind_some (keys_from (drop 4 r)) _ e b.2 in
     let one : event.Start a.0 b.0 c.0 ≡ e = cc (c.2) in
-    subst Fits one (u32_fits n a.0 a.1, key_in_fits (take 4 r) b.0 b.1, keys_fit (drop 4 r) c.0 c.1)
+    subst FitsEvent one (u32_fits n a.0 a.1, key_in_fits (take 4 r) b.0 b.1, keys_fit (drop 4 r) c.0 c.1)
 
-done_fits : (zs : List ℤ) (e : Event) → done_of zs ≡ Some e → Fits e
+done_fits : (zs : List ℤ) (e : Event) → done_of zs ≡ Some e → FitsEvent e
 unfolding done_of
 done_fits [] e is = absurd (cc (is))
 done_fits (n ∷ r) e is =
     let a = bind_some (u32_of n) _ e is in
     let b = bind_some (key_in r) _ e a.2 in
     let one : event.DoneTile a.0 b.0 ≡ e = cc (b.2) in
-    subst Fits one (u32_fits n a.0 a.1, key_in_fits r b.0 b.1)
+    subst FitsEvent one (u32_fits n a.0 a.1, key_in_fits r b.0 b.1)
 
-draw_fits : (zs : List ℤ) (e : Event) → draw_of zs ≡ Some e → Fits e
+draw_fits : (zs : List ℤ) (e : Event) → draw_of zs ≡ Some e → FitsEvent e
 unfolding draw_of
 draw_fits [] e is = absurd (cc (is))
 draw_fits (n ∷ r) e is =
     let a = bind_some (u32_of n) _ e is in
-    let b = bind_some (keys_of r) _ e a.2 in
+    let b = bind_some (keys_from r) _ e a.2 in
     let one : event.Draw a.0 b.0 ≡ e = cc (b.2) in
-    subst Fits one (u32_fits n a.0 a.1, keys_fit r b.0 b.1)
+    subst FitsEvent one (u32_fits n a.0 a.1, keys_fit r b.0 b.1)
 
 number_fits : (zs : List ℤ) (n : ℕ) → number_of zs ≡ Some n → n < 2 ^ 32
 number_fits [] n is = absurd (cc (is))
 number_fits (z ∷ []) n is = u32_fits z n is
 number_fits (z ∷ y ∷ r) n is = absurd (cc (is))
 
-plain_fits : (w : Word) (n : ℕ) (e : Event) → n < 2 ^ 32 → plain_of w n ≡ Some e → Fits e
+plain_fits : (w : Word) (n : ℕ) (e : Event) → n < 2 ^ 32 → plain_of w n ≡ Some e → FitsEvent e
 unfolding plain_of
-plain_fits word.Begin n e few is = let one : event.Begin n ≡ e = cc (is) in subst Fits one few
-plain_fits word.Ready n e few is = let one : event.Ready n ≡ e = cc (is) in subst Fits one few
-plain_fits word.Abort n e few is = let one : event.Abort n ≡ e = cc (is) in subst Fits one few
-plain_fits word.Commit n e few is = let one : event.Commit n ≡ e = cc (is) in subst Fits one few
-plain_fits word.Skip n e few is = let one : event.Skip n ≡ e = cc (is) in subst Fits one few
-plain_fits word.Await n e few is = let one : event.Await n ≡ e = cc (is) in subst Fits one few
-plain_fits word.Settle n e few is = let one : event.Settle n ≡ e = cc (is) in subst Fits one few
-plain_fits word.Stop n e few is = let one : event.Stop n ≡ e = cc (is) in subst Fits one few
+plain_fits word.Begin n e few is = let one : event.Begin n ≡ e = cc (is) in subst FitsEvent one few
+plain_fits word.Ready n e few is = let one : event.Ready n ≡ e = cc (is) in subst FitsEvent one few
+plain_fits word.Abort n e few is = let one : event.Abort n ≡ e = cc (is) in subst FitsEvent one few
+plain_fits word.Commit n e few is = let one : event.Commit n ≡ e = cc (is) in subst FitsEvent one few
+plain_fits word.Skip n e few is = let one : event.Skip n ≡ e = cc (is) in subst FitsEvent one few
+plain_fits word.Await n e few is = let one : event.Await n ≡ e = cc (is) in subst FitsEvent one few
+plain_fits word.Settle n e few is = let one : event.Settle n ≡ e = cc (is) in subst FitsEvent one few
+plain_fits word.Stop n e few is = let one : event.Stop n ≡ e = cc (is) in subst FitsEvent one few
 plain_fits word.Send n e few is = absurd (cc (is))
 plain_fits word.Activate n e few is = absurd (cc (is))
 plain_fits word.Scroll n e few is = absurd (cc (is))
@@ -250,10 +250,10 @@ plain_fits word.NoDraw n e few is = absurd (cc (is))
 plain_fits word.Finish n e few is = absurd (cc (is))
 plain_fits word.End n e few is = absurd (cc (is))
 
-single_fits : (w : Word) (zs : List ℤ) (e : Event) → single_of w zs ≡ Some e → Fits e
+single_fits : (w : Word) (zs : List ℤ) (e : Event) → single_of w zs ≡ Some e → FitsEvent e
 single_fits w zs e is = let a = bind_some (number_of zs) _ e is in plain_fits w a.0 e (number_fits zs a.0 a.1) a.2
 
-event_of_fits : (w : Word) (zs : List ℤ) (e : Event) → AllFit zs → event_of w zs ≡ Some e → Fits e
+event_of_fits : (w : Word) (zs : List ℤ) (e : Event) → AllFit zs → event_of w zs ≡ Some e → FitsEvent e
 unfolding event_of
 event_of_fits word.Send zs e fits is = send_fits zs e fits is
 event_of_fits word.Activate zs e fits is = activate_fits zs e fits is
@@ -264,17 +264,17 @@ event_of_fits word.Done zs e fits is = done_fits zs e is
 event_of_fits word.Draw zs e fits is = draw_fits zs e is
 event_of_fits w zs e fits is = single_fits w zs e is
 
-with_numbers_fits : (w : Word) (xs : List ℕ) (e : Event) → with_numbers w xs ≡ Some e → Fits e
+with_numbers_fits : (w : Word) (xs : List ℕ) (e : Event) → event_with_numbers w xs ≡ Some e → FitsEvent e
 with_numbers_fits w xs e is =
     let a = bind_some (numbers false 0 (drop (head w) xs)) _ e is in
     event_of_fits w a.0 e (numbers_fit false 0 (drop (head w) xs) a.0 a.1) a.2
 
-guess_of_fits : (w : Word) (xs : List ℕ) (e : Event) → guess_of xs w ≡ Some e → Fits e
+guess_of_fits : (w : Word) (xs : List ℕ) (e : Event) → guess_of xs w ≡ Some e → FitsEvent e
 unfolding guess_of
-guess_of_fits word.Begin xs e is = either_way (is_plain xs) _ _ (Some e) is (λ plain. let one : event.BeginPlain ≡ e = cc (plain) in subst Fits one tt) (λ more. with_numbers_fits word.Begin xs e more)
-guess_of_fits word.NoDraw xs e is = let one : event.NoDraw ≡ e = cc (is) in subst Fits one tt
-guess_of_fits word.Finish xs e is = let one : event.Finish ≡ e = cc (is) in subst Fits one tt
-guess_of_fits word.End xs e is = let one : event.End ≡ e = cc (is) in subst Fits one tt
+guess_of_fits word.Begin xs e is = either_way (has_plain_dash xs) _ _ (Some e) is (λ plain. let one : event.BeginPlain ≡ e = cc (plain) in subst FitsEvent one tt) (λ more. with_numbers_fits word.Begin xs e more)
+guess_of_fits word.NoDraw xs e is = let one : event.NoDraw ≡ e = cc (is) in subst FitsEvent one tt
+guess_of_fits word.Finish xs e is = let one : event.Finish ≡ e = cc (is) in subst FitsEvent one tt
+guess_of_fits word.End xs e is = let one : event.End ≡ e = cc (is) in subst FitsEvent one tt
 guess_of_fits w xs e is = with_numbers_fits w xs e is
 
 checked_same : (xs : List ℕ) (f e : Event) → checked xs f ≡ Some e → f ≡ e
@@ -282,9 +282,9 @@ unfolding checked
 checked_same xs f e is = either_way (starts_with nat_eq xs (event_line f)) _ _ (Some e) is (λ same. cc (same)) (λ none. absurd (cc (none)))
 
 -- the numbers of an event that was read fit
-pub event_fits : (xs : List ℕ) (e : Event) → event_at xs ≡ Some e → Fits e
+pub event_fits : (xs : List ℕ) (e : Event) → event_at xs ≡ Some e → FitsEvent e
 unfolding event_at guess
 event_fits xs e is =
     let f = bind_some (guess xs) (checked xs) e is in
     let w = bind_some (word_at xs) (guess_of xs) f.0 f.1 in
-    subst Fits (checked_same xs f.0 e f.2) (guess_of_fits w.0 xs f.0 w.2)
+    subst FitsEvent (checked_same xs f.0 e f.2) (guess_of_fits w.0 xs f.0 w.2)

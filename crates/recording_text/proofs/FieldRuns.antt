@@ -9,7 +9,7 @@ use Rattle.geom.specs.declared.tile.TileKey.{TileKey}
 use Rattle.page_layers.specs.declared.moves.Move.{Move}
 use Rattle.model_history.specs.Texts.{Field, field, field_text, fields_text, key_fields, move_fields}
 use Rattle.recording_text.specs.Fits.{FitsKey, FitKeys, FitsMove, FitMoves}
-use Rattle.recording_text.specs.Numbers.{numbers, before, u32_of, i32_of, key_of, key_in, keys_of, move_of, moves_of}
+use Rattle.recording_text.specs.Numbers.{numbers, before, u32_of, i32_of, key_from, key_in, keys_from, move_from, moves_of}
 use Rattle.recording_text.proofs.DigitRuns.{number, at_separator, at_newline, IsSeparator, is_negative, size_of}
 
 -- the number of a field
@@ -54,12 +54,12 @@ i32_again z fits =
 
 -- a key
 pub key_again : (k : TileKey) → FitsKey k → key_in (pos k.layer ∷ pos k.x ∷ pos k.y ∷ pos k.stamp ∷ []) ≡ Some k
-unfolding key_of key_in
+unfolding key_from key_in
 key_again k fits = rw (u32_again k.layer fits.0) (rw (u32_again k.x fits.1) (rw (u32_again k.y fits.2) (rw (u32_again k.stamp fits.3) refl)))
 
 -- keys
-pub keys_again : (ks : List TileKey) → FitKeys ks → keys_of (map number_in (flat_map key_fields ks)) ≡ Some ks
-unfolding keys_of key_in
+pub keys_again : (ks : List TileKey) → FitKeys ks → keys_from (map number_in (flat_map key_fields ks)) ≡ Some ks
+unfolding keys_from key_in
 keys_again [] fits = refl
 keys_again (k ∷ ks) fits = rw (key_again k fits.0) (rw (keys_again ks fits.1) refl)
 
@@ -69,8 +69,8 @@ keys_read (k ∷ ks) fits =
     ((refl, refl, refl), wide k.layer fits.0.0, ((refl, refl, refl), wide k.x fits.0.1, ((refl, refl, refl), wide k.y fits.0.2, ((refl, refl, refl), wide k.stamp fits.0.3, keys_read ks fits.1))))
 
 -- a move
-pub move_again : (m : Move) → FitsMove m → move_of (pos m.scroller) m.dx m.dy ≡ Some m
-unfolding move_of
+pub move_again : (m : Move) → FitsMove m → move_from (pos m.scroller) m.dx m.dy ≡ Some m
+unfolding move_from
 move_again m fits = rw (u32_again m.scroller fits.0) refl
 
 -- moves

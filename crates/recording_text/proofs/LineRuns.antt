@@ -7,8 +7,8 @@ use Rattle.model_history.specs.declared.event.Event.{Event}
 use Rattle.model_history.specs.declared.event.Event.TheVariants as event
 use Rattle.model_history.specs.Texts.{event_line, event_text, pair_fields, key_fields, move_fields, spaced}
 use Rattle.std.specs.List.{flat_map}
-use Rattle.recording_text.specs.Fits.{Fits}
-use Rattle.recording_text.specs.Guesses.{hit_in, rest_in, is_plain, guess, guess_of, word_at, word_by, word_a, word_s, word_d, head, event_of, plain_of, send_of, activate_of, scroll_of, wheel_of, start_of, done_of, draw_of}
+use Rattle.recording_text.specs.Fits.{FitsEvent}
+use Rattle.recording_text.specs.Guesses.{hit_in, rest_in, has_plain_dash, guess, guess_of, word_at, word_by, word_a, word_s, word_d, head, event_of, plain_of, send_of, activate_of, scroll_of, wheel_of, start_of, done_of, draw_of}
 use Rattle.recording_text.proofs.FieldRuns.{body, wide, wide_signed, u32_again, i32_again, key_again, keys_again, keys_read, moves_again, moves_read}
 
 -- the text of a number begins with a byte other than `-`
@@ -18,11 +18,11 @@ begins_plain n few = decimal_by_steps (λ m ds. (c : ℕ) × (rest : List ℕ) �
     (λ m ds l h. (h.0, h.1 ++ ((48 + m % 10) ∷ []), ap (λ (z : List ℕ). z ++ ((48 + m % 10) ∷ [])) h.2, h.3))
     n (omega arith)
 
-no_dash : (n : ℕ) (r : List ℕ) → n < 2 ^ 32 → is_plain (98 ∷ 101 ∷ 103 ∷ 105 ∷ 110 ∷ 32 ∷ (((decimal n ++ []) ++ (10 ∷ [])) ++ r)) ≡ false
+no_dash : (n : ℕ) (r : List ℕ) → n < 2 ^ 32 → has_plain_dash (98 ∷ 101 ∷ 103 ∷ 105 ∷ 110 ∷ 32 ∷ (((decimal n ++ []) ++ (10 ∷ [])) ++ r)) ≡ false
 no_dash n r few = let first = begins_plain n few in
-    ap (λ (ds : List ℕ). is_plain (98 ∷ 101 ∷ 103 ∷ 105 ∷ 110 ∷ 32 ∷ (((ds ++ []) ++ (10 ∷ [])) ++ r))) first.2 ∙ first.3
+    ap (λ (ds : List ℕ). has_plain_dash (98 ∷ 101 ∷ 103 ∷ 105 ∷ 110 ∷ 32 ∷ (((ds ++ []) ++ (10 ∷ [])) ++ r))) first.2 ∙ first.3
 
-pub guess_again : (e : Event) (r : List ℕ) → Fits e → guess (event_line e ++ r) ≡ Some e
+pub guess_again : (e : Event) (r : List ℕ) → FitsEvent e → guess (event_line e ++ r) ≡ Some e
 unfolding hit_in rest_in guess guess_of word_at word_by word_a word_s word_d head event_of plain_of send_of activate_of scroll_of wheel_of start_of done_of draw_of event_line event_text
 guess_again (event.Begin i) r h = rw (no_dash i r h) (rw (body (pos i) [] r (wide i h) tt) (rw (u32_again i h) refl))
 guess_again event.BeginPlain r h = refl

@@ -7,7 +7,7 @@ use Rattle.std.specs.List.{starts_with}
 use Rattle.std.proofs.lemmas.Slice.Eq.{starts_is}
 use Rattle.model_history.specs.declared.event.Event.{Event}
 use Rattle.model_history.specs.Texts.{event_line}
-use Rattle.recording_text.specs.Fits.{Fits}
+use Rattle.recording_text.specs.Fits.{FitsEvent}
 use Rattle.recording_text.specs.Numbers.{◌>>=◌}
 use Rattle.recording_text.specs.Guesses.{guess}
 use Rattle.recording_text.specs.Lines.{checked, event_at, ReadsLine}
@@ -28,12 +28,12 @@ unfolding checked
 checked_again e rest = rw (starts_again (event_line e) rest) refl
 
 -- the line of an event, with anything behind it, begins with that event's line
-pub event_again : (e : Event) (rest : List ℕ) → Fits e → event_at (event_line e ++ rest) ≡ Some e
+pub event_again : (e : Event) (rest : List ℕ) → FitsEvent e → event_at (event_line e ++ rest) ≡ Some e
 unfolding event_at
 event_again e rest fits = rw (guess_again e rest fits) (checked_again e rest)
 
 -- two events that fit and have the same line are one
-pub line_injective : (e f : Event) → Fits e → Fits f → event_line e ≡ event_line f → e ≡ f
+pub line_injective : (e f : Event) → FitsEvent e → FitsEvent f → event_line e ≡ event_line f → e ≡ f
 line_injective e f fits fit same =
     let first = event_again e [] fits in
     let second = event_again f [] fit in

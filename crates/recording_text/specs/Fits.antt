@@ -23,24 +23,24 @@ FitMoves [] = Unit {0}
 FitMoves (m ∷ ms) = FitsMove m × FitMoves ms
 
 -- an event
-abbrev pub Fits : Event → Type 0
-Fits (event.Begin input) = input < 2 ^ 32
-Fits event.BeginPlain = Unit {0}
-Fits (event.Send frame pulls) = (frame < 2 ^ 32) × FitMoves pulls
-Fits (event.Ready frame) = frame < 2 ^ 32
-Fits (event.Abort frame) = frame < 2 ^ 32
-Fits (event.Commit frame) = frame < 2 ^ 32
-Fits (event.Activate frame clamps) = (frame < 2 ^ 32) × FitMoves clamps
-Fits (event.Scroll input dx dy) = (input < 2 ^ 32) × FitsSigned w32 dx × FitsSigned w32 dy
-Fits (event.Wheel input target rest_x rest_y moves) =
+abbrev pub FitsEvent : Event → Type 0
+FitsEvent (event.Begin input) = input < 2 ^ 32
+FitsEvent event.BeginPlain = Unit {0}
+FitsEvent (event.Send frame pulls) = (frame < 2 ^ 32) × FitMoves pulls
+FitsEvent (event.Ready frame) = frame < 2 ^ 32
+FitsEvent (event.Abort frame) = frame < 2 ^ 32
+FitsEvent (event.Commit frame) = frame < 2 ^ 32
+FitsEvent (event.Activate frame clamps) = (frame < 2 ^ 32) × FitMoves clamps
+FitsEvent (event.Scroll input dx dy) = (input < 2 ^ 32) × FitsSigned w32 dx × FitsSigned w32 dy
+FitsEvent (event.Wheel input target rest_x rest_y moves) =
     (input < 2 ^ 32) × (target < 2 ^ 32) × FitsSigned w32 rest_x × FitsSigned w32 rest_y × FitMoves moves
-Fits (event.Start worker key evicted) = (worker < 2 ^ 32) × FitsKey key × FitKeys evicted
-Fits (event.DoneTile worker key) = (worker < 2 ^ 32) × FitsKey key
-Fits (event.Draw input missing) = (input < 2 ^ 32) × FitKeys missing
-Fits (event.Skip input) = input < 2 ^ 32
-Fits event.NoDraw = Unit {0}
-Fits event.Finish = Unit {0}
-Fits (event.Await input) = input < 2 ^ 32
-Fits (event.Settle input) = input < 2 ^ 32
-Fits event.End = Unit {0}
-Fits (event.Stop actor) = actor < 2 ^ 32
+FitsEvent (event.Start worker key evicted) = (worker < 2 ^ 32) × FitsKey key × FitKeys evicted
+FitsEvent (event.DoneTile worker key) = (worker < 2 ^ 32) × FitsKey key
+FitsEvent (event.Draw input missing) = (input < 2 ^ 32) × FitKeys missing
+FitsEvent (event.Skip input) = input < 2 ^ 32
+FitsEvent event.NoDraw = Unit {0}
+FitsEvent event.Finish = Unit {0}
+FitsEvent (event.Await input) = input < 2 ^ 32
+FitsEvent (event.Settle input) = input < 2 ^ 32
+FitsEvent event.End = Unit {0}
+FitsEvent (event.Stop actor) = actor < 2 ^ 32

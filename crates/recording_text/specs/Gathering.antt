@@ -9,6 +9,6 @@ Gathers (Some ns) old false new = ⊥
 Gathers None old true new = ⊥
 
 -- a list before others
-abbrev pub after : {A : Type 0} → List A → Option (List A) → Option (List A)
-after xs (Some ys) = Some (xs ++ ys)
-after xs None = None
+abbrev pub prefixed_by : {A : Type 0} → List A → Option (List A) → Option (List A)
+prefixed_by xs (Some ys) = Some (xs ++ ys)
+prefixed_by xs None = None

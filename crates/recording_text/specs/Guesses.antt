@@ -9,7 +9,7 @@ use Rattle.geom.specs.declared.rect.Point.{Point}
 use Rattle.recording_text.specs.declared.guess.Hit.{Hit}
 use Rattle.recording_text.specs.declared.word.Word.{Word}
 use Rattle.recording_text.specs.declared.word.Word.TheVariants as word
-use Rattle.recording_text.specs.Numbers.{◌>>=◌, numbers, u32_of, i32_of, key_in, keys_of, moves_of}
+use Rattle.recording_text.specs.Numbers.{◌>>=◌, numbers, u32_of, i32_of, key_in, keys_from, moves_of}
 
 -- by the third byte: the words that begin with `a`, with `s`, with `d`
 unfoldable pub word_a : ℕ → Option Word
@@ -127,7 +127,7 @@ start_of [] = None
 start_of (n ∷ rest) = do
   worker ← u32_of n
   key ← key_in (take 4 rest)
-  evicted ← keys_of (drop 4 rest)
+  evicted ← keys_from (drop 4 rest)
   Some (event.Start worker key evicted)
 
 unfoldable pub done_of : List ℤ → Option Event
@@ -141,7 +141,7 @@ unfoldable pub draw_of : List ℤ → Option Event
 draw_of [] = None
 draw_of (n ∷ rest) = do
   input ← u32_of n
-  missing ← keys_of rest
+  missing ← keys_from rest
   Some (event.Draw input missing)
 
 -- the event of one number that a word begins
@@ -173,23 +173,23 @@ event_of word.Done ns = done_of ns
 event_of word.Draw ns = draw_of ns
 event_of w ns = single_of w ns
 
-abbrev pub with_numbers : Word → List ℕ → Option Event
-with_numbers w xs = do
+abbrev pub event_with_numbers : Word → List ℕ → Option Event
+event_with_numbers w xs = do
   ns ← numbers false 0 (drop (head w) xs)
   event_of w ns
 
 -- a `-` stands where the number behind `begin` would
-abbrev pub is_plain : List ℕ → Bool
-is_plain (a ∷ b ∷ c ∷ d ∷ e ∷ f ∷ dash ∷ rest) = dash == 45
-is_plain _ = false
+abbrev pub has_plain_dash : List ℕ → Bool
+has_plain_dash (a ∷ b ∷ c ∷ d ∷ e ∷ f ∷ dash ∷ rest) = dash == 45
+has_plain_dash _ = false
 
 -- the event that a line beginning with this word can be
 unfoldable pub guess_of : List ℕ → Word → Option Event
-guess_of xs word.Begin = if is_plain xs then Some event.BeginPlain else with_numbers word.Begin xs
+guess_of xs word.Begin = if has_plain_dash xs then Some event.BeginPlain else event_with_numbers word.Begin xs
 guess_of xs word.NoDraw = Some event.NoDraw
 guess_of xs word.Finish = Some event.Finish
 guess_of xs word.End = Some event.End
-guess_of xs w = with_numbers w xs
+guess_of xs w = event_with_numbers w xs
 
 -- the event that the line at the front of these bytes can be
 unfoldable pub guess : List ℕ → Option Event

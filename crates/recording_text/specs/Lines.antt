@@ -3,7 +3,7 @@ use Rattle.std.specs.Prelude.{◌≡◌, ℕ, nat_eq, ◌<◌, ◌≤◌, if◌t
 use Rattle.std.specs.List.{starts_with}
 use Rattle.model_history.specs.declared.event.Event.{Event}
 use Rattle.model_history.specs.Texts.{event_line}
-use Rattle.recording_text.specs.Fits.{Fits}
+use Rattle.recording_text.specs.Fits.{FitsEvent}
 use Rattle.recording_text.specs.Numbers.{◌>>=◌}
 use Rattle.recording_text.specs.Guesses.{guess}
 
@@ -19,4 +19,4 @@ event_at xs = do
 
 -- the line is read: it is that of the event that comes back, whose numbers fit; and where it is the line of such an event, that one comes back
 abbrev pub ReadsLine : List ℕ → Option Event → Type 0
-ReadsLine line read = IfSome read (λ e. Fits e × (line ≡ event_line e)) × ((e : Event) → Fits e → line ≡ event_line e → read ≡ Some e)
+ReadsLine line read = IfSome read (λ e. FitsEvent e × (line ≡ event_line e)) × ((e : Event) → FitsEvent e → line ≡ event_line e → read ≡ Some e)

@@ -39,8 +39,8 @@ abbrev pub i32_of : ℤ → Option ℤ
 i32_of z = if int_le (negsuc 2147483647) z && int_le z (pos 2147483647) then Some z else None
 
 -- four numbers as a key
-unfoldable pub key_of : ℤ → ℤ → ℤ → ℤ → Option TileKey
-key_of layer x y stamp = do
+unfoldable pub key_from : ℤ → ℤ → ℤ → ℤ → Option TileKey
+key_from layer x y stamp = do
   l ← u32_of layer
   column ← u32_of x
   row ← u32_of y
@@ -48,27 +48,27 @@ key_of layer x y stamp = do
   Some (record { layer = l; x = column; y = row; stamp = s })
 
 unfoldable pub key_in : List ℤ → Option TileKey
-key_in (layer ∷ x ∷ y ∷ stamp ∷ []) = key_of layer x y stamp
+key_in (layer ∷ x ∷ y ∷ stamp ∷ []) = key_from layer x y stamp
 key_in _ = None
 
 -- keys of four numbers each
-unfoldable pub keys_of : List ℤ → Option (List TileKey)
-keys_of [] = Some []
-keys_of (layer ∷ x ∷ y ∷ stamp ∷ rest) = before (key_of layer x y stamp) (keys_of rest)
-keys_of _ = None
+unfoldable pub keys_from : List ℤ → Option (List TileKey)
+keys_from [] = Some []
+keys_from (layer ∷ x ∷ y ∷ stamp ∷ rest) = before (key_from layer x y stamp) (keys_from rest)
+keys_from _ = None
 
 -- three numbers as a move
-unfoldable pub move_of : ℤ → ℤ → ℤ → Option Move
-move_of scroller dx dy = do
+unfoldable pub move_from : ℤ → ℤ → ℤ → Option Move
+move_from scroller dx dy = do
   s ← u32_of scroller
   Some (record { scroller = s; dx = dx; dy = dy })
 
 unfoldable pub move_in : List ℤ → Option Move
-move_in (scroller ∷ dx ∷ dy ∷ []) = move_of scroller dx dy
+move_in (scroller ∷ dx ∷ dy ∷ []) = move_from scroller dx dy
 move_in _ = None
 
 -- moves of three numbers each
 unfoldable pub moves_of : List ℤ → Option (List Move)
 moves_of [] = Some []
-moves_of (scroller ∷ dx ∷ dy ∷ rest) = before (move_of scroller dx dy) (moves_of rest)
+moves_of (scroller ∷ dx ∷ dy ∷ rest) = before (move_from scroller dx dy) (moves_of rest)
 moves_of _ = None

@@ -246,7 +246,7 @@ fn with_numbers(
     word: Word,
     scratch: &mut Scratch,
 ) -> Result<Option<Event>, AllocError>
-    ensures { IfOk result (λ event. event ≡ guesses.with_numbers word bytes.now) }
+    ensures { IfOk result (λ event. event ≡ guesses.event_with_numbers word bytes.now) }
 {
     scratch.numbers.clear();
     if !read_numbers(behind(bytes, word.head()), &mut scratch.numbers)? {
@@ -257,7 +257,7 @@ fn with_numbers(
 
 /// Whether a number begins with `-`, behind `begin`.
 fn is_plain(bytes: &[u8]) -> bool
-    ensures { result ≡ guesses.is_plain bytes.now }
+    ensures { result ≡ guesses.has_plain_dash bytes.now }
 {
     match bytes {
         [_, _, _, _, _, _, dash, ..] => *dash == b'-',

@@ -92,9 +92,9 @@ pub fn behind(numbers: &[i64], count: usize) -> &[i64]
 }
 
 /// Four numbers as a key.
-#[tactic(auto, unfolding(crate::specs::Numbers::key_of))]
+#[tactic(auto, unfolding(crate::specs::Numbers::key_from))]
 fn key_of(layer: i64, x: i64, y: i64, stamp: i64) -> Option<TileKey>
-    ensures { result ≡ spec.key_of layer x y stamp }
+    ensures { result ≡ spec.key_from layer x y stamp }
 {
     let layer = to_u32(layer)?;
     let x = to_u32(x)?;
@@ -117,7 +117,7 @@ pub fn to_key(numbers: &[i64]) -> Option<TileKey>
 /// Keys of four numbers each.
 #[tactic(auto, using(crate::proofs::ListSteps::keys_more, crate::proofs::ListSteps::keys_none, crate::proofs::ListSteps::keys_end))]
 pub fn to_keys(alloc: Global, numbers: &[i64]) -> Result<Option<Keys>, AllocError>
-    ensures { IfOk result (λ keys. keys ≡ spec.keys_of numbers.now) }
+    ensures { IfOk result (λ keys. keys ≡ spec.keys_from numbers.now) }
 {
     let mut keys = Keys::new(alloc);
     let mut rest = numbers;
@@ -134,7 +134,7 @@ pub fn to_keys(alloc: Global, numbers: &[i64]) -> Result<Option<Keys>, AllocErro
 }
 
 /// Numbers as a move; None where they are not three that fit.
-#[tactic(auto, unfolding(crate::specs::Numbers::move_in, crate::specs::Numbers::move_of))]
+#[tactic(auto, unfolding(crate::specs::Numbers::move_in, crate::specs::Numbers::move_from))]
 fn to_move(numbers: &[i64]) -> Option<Move>
     ensures { result ≡ spec.move_in numbers.now }
 {

@@ -15,13 +15,13 @@ use Rattle.model_history.specs.declared.event.Event.TheVariants as event
 use Rattle.model_history.specs.declared.history.Entry.{Entry}
 use Rattle.model_history.specs.Scripts.{ScriptModel}
 use Rattle.model_history.specs.Frames.{active_page}
-use Rattle.model_history.specs.Tiles.{missing}
+use Rattle.model_history.specs.Tiles.{missing_visible}
 use Rattle.model_history.specs.Legal.{Legal, Next}
-use Rattle.model_history.specs.Recordings.{image, shown, shown_image, image_behind, piece, pieces}
+use Rattle.model_history.specs.Recordings.{image, screen_colour, shown_image, image_behind, piece, pieces}
 use Rattle.model_history.specs.Texts.{event_line}
 use Rattle.model_history.proofs.DueFacts.{at_draw}
 use Rattle.impl_core.specs.Replies.{IsPicture}
-use Rattle.proxy_single_thread.specs.Singles.{Adds, AreScenes}
+use Rattle.proxy_single_thread.specs.Singles.{AddsScene, AreScenes}
 use Rattle.recording_writer.specs.inner.Scenes.{scene_image, scene_of, left_behind, image_if, Comes, AllCome}
 use Rattle.recording_writer.proofs.Places.{first_behind, newest_before}
 use Rattle.recording_writer.proofs.QuietEvents.{quiet_stays}
@@ -35,14 +35,14 @@ inside s h x y across down =
     both_of (within (pos 0) (pos w) (pos x)) (within (pos 0) (pos t) (pos y)) (within_natural 0 w x (omega arith) (omega (arith, across))) (within_natural 0 t y (omega arith) (omega (arith, down)))
 
 -- the image of the picture of a past is the image of what the screen shows
-picture_image : (s : ScriptModel) (h : List Entry) (scene : SceneView) → IsPicture s h scene → scene_image scene ≡ shown_image s h (missing s h)
+picture_image : (s : ScriptModel) (h : List Entry) (scene : SceneView) → IsPicture s h scene → scene_image scene ≡ shown_image s h (missing_visible s h)
 unfolding scene_image shown_image
 picture_image s h scene is =
     let w : ℕ = (active_page s h).view.w in
     let t : ℕ = (active_page s h).view.h in
     ap (λ (n : ℕ). image (λ x y. scene_pixel scene (pos x) (pos y)) n scene.h) is.width
     ∙ ap (λ (n : ℕ). image (λ x y. scene_pixel scene (pos x) (pos y)) w n) is.height
-    ∙ image_alike w t (λ x y. scene_pixel scene (pos x) (pos y)) (shown s h (missing s h)) (λ x y across down. is.pixels (pos x) (pos y) (inside s h x y across down))
+    ∙ image_alike w t (λ x y. scene_pixel scene (pos x) (pos y)) (screen_colour s h (missing_visible s h)) (λ x y across down. is.pixels (pos x) (pos y) (inside s h x y across down))
 
 -- a draw that may come has the image of its picture behind its line
 pub draw_image : (s : ScriptModel) (n : ℕ) (h : List Entry) (a i : ℕ) (lacks : List TileKey) (scene : SceneView) → Next s n h (record { actor = a; event = event.Draw i lacks }) → IsPicture s h scene
@@ -59,7 +59,7 @@ record Added (s : ScriptModel) (h : List Entry) (e : Event) (rest : List SceneVi
   left : left_behind e here ≡ back
 
 added : (s : ScriptModel) (n : ℕ) (h : List Entry) (a : ℕ) (e : Event) (rest : List SceneView → Type 0) (scenes back : List SceneView)
-    → Next s n h (record { actor = a; event = e }) → Adds s h e rest scenes → Added s h e rest scenes back
+    → Next s n h (record { actor = a; event = e }) → AddsScene s h e rest scenes → Added s h e rest scenes back
 added s n h a (event.Draw i lacks) rest scenes back next ends = record {
   front = ends.front;
   here = ends.scene ∷ back;

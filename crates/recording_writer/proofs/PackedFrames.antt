@@ -8,8 +8,8 @@ use Rattle.pixel.specs.Colours.{Parts}
 use Rattle.recording_rgb.specs.Packing.{IsRgb, IsRunPacked}
 use Rattle.viz_render.specs.Frames.{FrameView, frame_pixel}
 use Rattle.viz_painter.specs.Painters.{has_row, IsKeptOutside}
-use Rattle.viz_painter.specs.declared.rows.Rows.{Rows}
-use Rattle.model_history.specs.Recordings.{joined, rgb, image_head, image_row, image}
+use Rattle.viz_painter.specs.declared.frame_rows.FrameRows.{FrameRows}
+use Rattle.model_history.specs.Recordings.{joined_to, rgb, image_head, image_row, image}
 use Rattle.recording_writer.specs.inner.Packed.{IsPacked, IsPackedOutside}
 use Rattle.recording_writer.proofs.Rows.{row_end}
 
@@ -39,12 +39,12 @@ prefix_more packed c k fit is =
 
 -- the pixels of a row behind the rows before
 row_prefix : (f : FrameView) (packed : List ℕ) (y x : ℕ) → IsPacked f packed → y < f.h → x ≤ f.w
-    → take (3 * (y * f.w)) packed ≡ joined y (image_row (frame_pixel f) f.w)
-    → take (3 * (y * f.w + x)) packed ≡ joined y (image_row (frame_pixel f) f.w) ++ joined x (λ (i : ℕ). rgb (frame_pixel f i y))
-unfolding joined
+    → take (3 * (y * f.w)) packed ≡ joined_to y (image_row (frame_pixel f) f.w)
+    → take (3 * (y * f.w + x)) packed ≡ joined_to y (image_row (frame_pixel f) f.w) ++ joined_to x (λ (i : ℕ). rgb (frame_pixel f i y))
+unfolding joined_to
 row_prefix f packed y zero is down across before =
     let none : 3 * (y * f.w + 0) ≡ 3 * (y * f.w) = omega arith in
-    ap (λ (n : ℕ). take n packed) none ∙ before ∙ sym (append-nil (joined y (image_row (frame_pixel f) f.w)))
+    ap (λ (n : ℕ). take n packed) none ∙ before ∙ sym (append-nil (joined_to y (image_row (frame_pixel f) f.w)))
 row_prefix f packed y (suc x) is down across before =
     let next : 3 * (y * f.w + suc x) ≡ 3 * (y * f.w + x + 1) = omega arith in
     let end = row_end f.w f.h y down in
@@ -52,12 +52,12 @@ row_prefix f packed y (suc x) is down across before =
     ap (λ (n : ℕ). take n packed) next
     ∙ prefix_more packed (frame_pixel f x y) (y * f.w + x) (omega arith) (is.pixels x y (omega arith) down)
     ∙ ap (λ (xs : List ℕ). xs ++ rgb (frame_pixel f x y)) (row_prefix f packed y x is down (omega arith) before)
-    ∙ append_assoc (joined y (image_row (frame_pixel f) f.w)) (joined x (λ (i : ℕ). rgb (frame_pixel f i y))) (rgb (frame_pixel f x y))
+    ∙ append_assoc (joined_to y (image_row (frame_pixel f) f.w)) (joined_to x (λ (i : ℕ). rgb (frame_pixel f i y))) (rgb (frame_pixel f x y))
 
 -- the first rows
 rows_prefix : (f : FrameView) (packed : List ℕ) (y : ℕ) → IsPacked f packed → y ≤ f.h
-    → take (3 * (y * f.w)) packed ≡ joined y (image_row (frame_pixel f) f.w)
-unfolding joined image_row
+    → take (3 * (y * f.w)) packed ≡ joined_to y (image_row (frame_pixel f) f.w)
+unfolding joined_to image_row
 rows_prefix f packed zero is down =
     let none : 3 * (0 * f.w) ≡ 0 = omega arith in
     ap (λ (n : ℕ). take n packed) none
@@ -98,14 +98,14 @@ row_before a b w lt =
     let one : (a + 1) * w ≡ a * w + w = grind arith in
     omega (arith, rows, one)
 
-above_rows : (rows : Rows) (y : ℕ) → y < rows.top → has_row rows y ≡ false
+above_rows : (rows : FrameRows) (y : ℕ) → y < rows.top → has_row rows y ≡ false
 above_rows rows y lt = grind (arith, nat_tests)
 
-below_rows : (rows : Rows) (y : ℕ) → rows.bottom ≤ y → has_row rows y ≡ false
+below_rows : (rows : FrameRows) (y : ℕ) → rows.bottom ≤ y → has_row rows y ≡ false
 below_rows rows y le = grind (arith, nat_tests)
 
 -- the rows from one to before another were packed, and those outside of them were packed before
-rows_packed : (rows : Rows) (top bottom : ℕ) (f : FrameView) (old new : List ℕ) → top ≤ rows.top → ((y : ℕ) → y < f.h → bottom ≤ y → rows.bottom ≤ y)
+rows_packed : (rows : FrameRows) (top bottom : ℕ) (f : FrameView) (old new : List ℕ) → top ≤ rows.top → ((y : ℕ) → y < f.h → bottom ≤ y → rows.bottom ≤ y)
     → length new ≡ length old → IsPackedOutside rows f old → IsRunPacked (top * f.w) (bottom * f.w) f.bytes old new → IsPacked f new
 rows_packed rows top bottom f old new first last same others run = record {
   size = same ∙ others.size;
@@ -131,7 +131,7 @@ rows_packed rows top bottom f old new first last same others run = record {
 }
 
 -- the same, where the places of the first row and of the one behind the last were computed
-pub run_of_rows : (rows : Rows) (top bottom from to w v : ℕ) (bytes : List ℕ) (f : FrameView) (old new : List ℕ) → from ≡ top * w → w ≡ f.w → to ≡ bottom * v → v ≡ f.w
+pub run_of_rows : (rows : FrameRows) (top bottom from to w v : ℕ) (bytes : List ℕ) (f : FrameView) (old new : List ℕ) → from ≡ top * w → w ≡ f.w → to ≡ bottom * v → v ≡ f.w
     → bytes ≡ f.bytes → top ≤ rows.top → ((y : ℕ) → y < f.h → bottom ≤ y → rows.bottom ≤ y) → length new ≡ length old → IsPackedOutside rows f old
     → IsRunPacked from to bytes old new → IsPacked f new
 run_of_rows rows top bottom from to w v bytes f old new first wide last wide_too is low high same others run =
@@ -150,7 +150,7 @@ rows_fit bottom to v f last wide low =
     omega (arith, end, rows, turned)
 
 -- what was packed of a frame still is outside of the rows that changed
-pub still_packed : (rows : Rows) (old new : FrameView) (packed : List ℕ) → IsPacked old packed → IsKeptOutside rows old new → new.w ≡ old.w → new.h ≡ old.h
+pub still_packed : (rows : FrameRows) (old new : FrameView) (packed : List ℕ) → IsPacked old packed → IsKeptOutside rows old new → new.w ≡ old.w → new.h ≡ old.h
     → IsPackedOutside rows new packed
 still_packed rows old new packed is kept wide tall = record {
   size = is.size ∙ ap (λ (w : ℕ). 3 * (w * old.h)) (sym wide) ∙ ap (λ (h : ℕ). 3 * (new.w * h)) (sym tall);
@@ -160,12 +160,12 @@ still_packed rows old new packed is kept wide tall = record {
 }
 
 -- no row lies outside of all rows of a frame
-pub outside_all : (rows : Rows) (f : FrameView) (packed : List ℕ) → rows.top ≡ 0 → rows.bottom ≡ f.h → length packed ≡ 3 * (f.w * f.h)
+pub outside_all : (rows : FrameRows) (f : FrameView) (packed : List ℕ) → rows.top ≡ 0 → rows.bottom ≡ f.h → length packed ≡ 3 * (f.w * f.h)
     → IsPackedOutside rows f packed
 outside_all rows f packed first last size = record {
   size = size;
   pixels = λ x y xw yh off. absurd (all_in rows f.h y first last yh off);
 }
   where
-    all_in : (rows : Rows) (h y : ℕ) → rows.top ≡ 0 → rows.bottom ≡ h → y < h → has_row rows y ≡ false → ⊥
+    all_in : (rows : FrameRows) (h y : ℕ) → rows.top ≡ 0 → rows.bottom ≡ h → y < h → has_row rows y ≡ false → ⊥
     all_in rows h y first last lt off = grind (arith, nat_tests)

@@ -10,7 +10,7 @@ use recording_text::push_image_head;
 use std::alloc::{AllocError, Global};
 use std::marker::Sync;
 use std::thread::Threads;
-use viz_painter::Rows;
+use viz_painter::FrameRows;
 use viz_render::Frame;
 
 // Where a row of a picture of width `w` begins.
@@ -21,7 +21,7 @@ fn start_of(row: u32, w: u32) -> usize
 }
 
 // Packs some rows of a frame, of which the others are packed already.
-fn pack_rows<R: Threads + Sync>(rt: &R, packed: &mut [u8], frame: &Frame, rows: Rows, parts: usize)
+fn pack_rows<R: Threads + Sync>(rt: &R, packed: &mut [u8], frame: &Frame, rows: FrameRows, parts: usize)
     requires { IsPackedOutside rows frame.now packed.old }
     ensures { IsPacked frame.now packed.new }
 {
@@ -37,7 +37,7 @@ fn pack_all<R: Threads + Sync>(rt: &R, packed: &mut [u8], frame: &Frame, parts: 
     requires { length packed.old ≡ 3 * (frame.now.w * frame.now.h) }
     ensures { IsPacked frame.now packed.new }
 {
-    let rows = Rows {
+    let rows = FrameRows {
         top: 0,
         bottom: frame.h(),
     };
@@ -108,7 +108,7 @@ pub(crate) fn repack<R: Threads + Sync>(
     rt: &R,
     packed: &mut Vec<u8>,
     frame: &Frame,
-    changed: Rows,
+    changed: FrameRows,
     size: (u32, u32),
     parts: usize,
 ) -> Result<(), AllocError>

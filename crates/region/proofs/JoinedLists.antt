@@ -7,25 +7,25 @@ use Rattle.region.specs.declared.change.LayerChange.{LayerChange}
 use Rattle.std.proofs.lemmas.Bool.Decides.{nat_tests}
 use Rattle.region.specs.Laws.{EachLayerOnce}
 use Rattle.region.specs.Points.{covered}
-use Rattle.region.specs.Lists.{AllAbove, AllBelow, IsRising, IsAboveLast, StartsAbove, change_of, is_listed, is_listed_whole, has_changed, IsJoined, AreJoined, without}
+use Rattle.region.specs.Lists.{AreChangesAbove, AllBelow, IsRising, IsAboveLast, StartsAbove, change_of, is_listed, is_listed_whole, has_changed, IsJoined, AreJoined, without_layer}
 use Rattle.region.proofs.Covering.{or-false, or_assoc}
 
 -- the order
 
-above_trans : (m n : ℕ) (cs : List LayerChange) → m < n → AllAbove n cs → AllAbove m cs
+above_trans : (m n : ℕ) (cs : List LayerChange) → m < n → AreChangesAbove n cs → AreChangesAbove m cs
 above_trans m n [] h a = tt
 above_trans m n (c ∷ cs) h a = let k = a.0 in (omega arith, above_trans m n cs h a.1)
 
 -- one more element in the middle of a list that is above a number
-above_insert : (n : ℕ) (xs ys : List LayerChange) (d : LayerChange) → n < d.layer → AllAbove n (xs ++ ys) → AllAbove n (xs ++ d ∷ ys)
+above_insert : (n : ℕ) (xs ys : List LayerChange) (d : LayerChange) → n < d.layer → AreChangesAbove n (xs ++ ys) → AreChangesAbove n (xs ++ d ∷ ys)
 above_insert n [] ys d h a = (h, a)
 above_insert n (x ∷ xs) ys d h a = (a.0, above_insert n xs ys d h a.1)
 
-pub rising_insert : (xs ys : List LayerChange) (d : LayerChange) → IsRising (xs ++ ys) → AllBelow d.layer xs → AllAbove d.layer ys → IsRising (xs ++ d ∷ ys)
+pub rising_insert : (xs ys : List LayerChange) (d : LayerChange) → IsRising (xs ++ ys) → AllBelow d.layer xs → AreChangesAbove d.layer ys → IsRising (xs ++ d ∷ ys)
 rising_insert [] ys d r b a = (a, r)
 rising_insert (x ∷ xs) ys d r b a = (above_insert x.layer xs ys d b.0 r.0, rising_insert xs ys d r.1 b.1 a)
 
-above_replace : (n : ℕ) (xs ys : List LayerChange) (c d : LayerChange) → d.layer ≡ c.layer → AllAbove n (xs ++ c ∷ ys) → AllAbove n (xs ++ d ∷ ys)
+above_replace : (n : ℕ) (xs ys : List LayerChange) (c d : LayerChange) → d.layer ≡ c.layer → AreChangesAbove n (xs ++ c ∷ ys) → AreChangesAbove n (xs ++ d ∷ ys)
 above_replace n [] ys c d e a = (rw e a.0, a.1)
 above_replace n (x ∷ xs) ys c d e a = (a.0, above_replace n xs ys c d e a.1)
 
@@ -53,21 +53,21 @@ pub below_push : (n : ℕ) (cs : List LayerChange) (d : LayerChange) → AllBelo
 below_push n [] d b h = (h, tt)
 below_push n (c ∷ cs) d b h = (b.0, below_push n cs d b.1 h)
 
-above_filter_by : (n : ℕ) (c : LayerChange) (cs : List LayerChange) (t : Bool) → n < c.layer → AllAbove n cs → AllAbove n (cond t (c ∷ cs) cs)
+above_filter_by : (n : ℕ) (c : LayerChange) (cs : List LayerChange) (t : Bool) → n < c.layer → AreChangesAbove n cs → AreChangesAbove n (cond t (c ∷ cs) cs)
 above_filter_by n c cs true h a = (h, a)
 above_filter_by n c cs false h a = a
 
-above_filter : (n m : ℕ) (cs : List LayerChange) → AllAbove n cs → AllAbove n (without m cs)
+above_filter : (n m : ℕ) (cs : List LayerChange) → AreChangesAbove n cs → AreChangesAbove n (without_layer m cs)
 above_filter n m [] a = tt
-above_filter n m (c ∷ cs) a = above_filter_by n c (without m cs) (not (nat_eq c.layer m)) a.0 (above_filter n m cs a.1)
+above_filter n m (c ∷ cs) a = above_filter_by n c (without_layer m cs) (not (nat_eq c.layer m)) a.0 (above_filter n m cs a.1)
 
-rising_filter_by : (c : LayerChange) (cs : List LayerChange) (t : Bool) → AllAbove c.layer cs → IsRising cs → IsRising (cond t (c ∷ cs) cs)
+rising_filter_by : (c : LayerChange) (cs : List LayerChange) (t : Bool) → AreChangesAbove c.layer cs → IsRising cs → IsRising (cond t (c ∷ cs) cs)
 rising_filter_by c cs true a r = (a, r)
 rising_filter_by c cs false a r = r
 
-pub rising_without : (m : ℕ) (cs : List LayerChange) → IsRising cs → IsRising (without m cs)
+pub rising_without : (m : ℕ) (cs : List LayerChange) → IsRising cs → IsRising (without_layer m cs)
 rising_without m [] r = tt
-rising_without m (c ∷ cs) r = rising_filter_by c (without m cs) (not (nat_eq c.layer m)) (above_filter c.layer m cs r.0) (rising_without m cs r.1)
+rising_without m (c ∷ cs) r = rising_filter_by c (without_layer m cs) (not (nat_eq c.layer m)) (above_filter c.layer m cs r.0) (rising_without m cs r.1)
 
 -- two lists made into one
 
@@ -185,7 +185,7 @@ rising_set cs i z f lt e r =
 pub joined_at : (cs : List LayerChange) (i : ℕ) (d : LayerChange) → AreJoined cs (d ∷ []) (take i cs ++ d ∷ drop i cs)
 joined_at cs i d = subst (λ vs. AreJoined vs (d ∷ []) (take i cs ++ d ∷ drop i cs)) (take-append-drop i cs) (joined_insert (take i cs) (drop i cs) d)
 
-above_start : (n : ℕ) (cs : List LayerChange) → StartsAbove n cs → IsRising cs → AllAbove n cs
+above_start : (n : ℕ) (cs : List LayerChange) → StartsAbove n cs → IsRising cs → AreChangesAbove n cs
 above_start n [] h r = tt
 above_start n (c ∷ cs) h r = (h, above_trans n c.layer cs h r.0)
 
@@ -228,7 +228,7 @@ rising_place r cs i c d f lt e j k rise = rising_set cs i c f lt (same_layer r c
 
 -- each layer once
 
-above_at : (n : ℕ) (cs : List LayerChange) (i : ℕ) (c : LayerChange) → AllAbove n cs → slice_get cs i ≡ Some c → n < c.layer
+above_at : (n : ℕ) (cs : List LayerChange) (i : ℕ) (c : LayerChange) → AreChangesAbove n cs → slice_get cs i ≡ Some c → n < c.layer
 above_at n [] i c a h = cc
 above_at n (d ∷ ds) zero c a h = let e : d ≡ c = cc in subst (λ (z : LayerChange). n < z.layer) e a.0
 above_at n (d ∷ ds) (suc i) c a h = above_at n ds i c a.1 h

@@ -9,9 +9,9 @@ pub record Changed : Type 0 where
   pub retiled : Bool
 
 -- each layer of the list is above this one
-abbrev pub AllAbove : ℕ → List LayerChange → Type 0
-AllAbove n [] = Unit {0}
-AllAbove n (c ∷ cs) = (n < c.layer) × AllAbove n cs
+abbrev pub AreChangesAbove : ℕ → List LayerChange → Type 0
+AreChangesAbove n [] = Unit {0}
+AreChangesAbove n (c ∷ cs) = (n < c.layer) × AreChangesAbove n cs
 
 -- each layer of the list is below this one
 abbrev pub AllBelow : ℕ → List LayerChange → Type 0
@@ -26,7 +26,7 @@ StartsAbove n (c ∷ cs) = n < c.layer
 -- the numbers of the layers rise
 abbrev pub IsRising : List LayerChange → Type 0
 IsRising [] = Unit {0}
-IsRising (c ∷ cs) = AllAbove c.layer cs × IsRising cs
+IsRising (c ∷ cs) = AreChangesAbove c.layer cs × IsRising cs
 
 -- this layer is above the last one of the list, if there is one
 abbrev pub IsAboveLast : List LayerChange → ℕ → Type 0
@@ -67,5 +67,5 @@ pub record AreJoined (before later after : List LayerChange) : Type 0 where
   pub points : (n : ℕ) (x y : ℤ) → has_changed after n x y ≡ (has_changed before n x y || has_changed later n x y)
 
 -- the list without a layer
-abbrev pub without : ℕ → List LayerChange → List LayerChange
-without n = filter (λ c. not (nat_eq c.layer n))
+abbrev pub without_layer : ℕ → List LayerChange → List LayerChange
+without_layer n = filter (λ c. not (nat_eq c.layer n))

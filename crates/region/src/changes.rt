@@ -2,7 +2,7 @@
 
 ghost use Rattle.std.specs.Prelude.{◌≡◌, Bool, true, false, ◌||◌, OnOk, OnErr, IfOk, IfErr, is_ok, if◌then◌else◌, [], ◌∷◌, ◌++◌, length, slice_get};
 ghost use Rattle.std.specs.Option.{option_copied};
-ghost use Rattle.region.specs.Lists.{Changed, IsRising, IsAboveLast, AreJoined, without};
+ghost use Rattle.region.specs.Lists.{Changed, IsRising, IsAboveLast, AreJoined, without_layer};
 
 use crate::change::LayerChange;
 use crate::joining::{copy_of, join_lists, push_change, remove_layer};
@@ -103,7 +103,7 @@ impl Changes {
 
     /// Takes `layer` out of the list. The others stay.
     pub fn forget(&mut self, layer: u32)
-        ensures { self.new ≡ record self.old { list = without layer self.old.list } }
+        ensures { self.new ≡ record self.old { list = without_layer layer self.old.list } }
     {
         remove_layer(&mut self.list, layer);
     }

@@ -1,7 +1,7 @@
 //! Lists of changes made into one.
 
 ghost use Rattle.std.specs.Prelude.{◌≡◌, ◌<◌, ◌≤◌, length, slice_get, OnOk, OnErr, IfOk, IfErr, IfSome, is_ok, if◌then◌else◌, [], ◌∷◌, ◌++◌, take, drop};
-ghost use Rattle.region.specs.Lists.{IsRising, IsAboveLast, AreJoined, AllBelow, StartsAbove, without};
+ghost use Rattle.region.specs.Lists.{IsRising, IsAboveLast, AreJoined, AllBelow, StartsAbove, without_layer};
 
 use crate::change::LayerChange;
 use std::alloc::{AllocError, Global};
@@ -134,7 +134,7 @@ pub(crate) fn push_change(
 /// Takes the layer out of the list.
 pub(crate) fn remove_layer(list: &mut Vec<LayerChange>, layer: u32)
     requires { IsRising list.old.items }
-    ensures list { list.new.items ≡ without layer list.old.items }
+    ensures list { list.new.items ≡ without_layer layer list.old.items }
     ensures rising { IsRising list.new.items }
 {
     list.retain(|change| change.layer != layer);

@@ -7,7 +7,7 @@ use Rattle.serde_json.specs.Data.{Data, array, Items}
 use Rattle.serde_json.specs.Events.{items_len}
 use Rattle.serde_json.specs.View.{items_of}
 use Rattle.script_fields.specs.Hex.{digit_value, digit_of, byte_of, if_colour, colour_of_six, colour_of_eight, six_digits}
-use Rattle.script_fields.specs.Forms.{within, number_form, int_within, int_form, opaque_form, colour_form, count_of, corner_at, corners_of, rect_form, side_at, first_sides, sides_form, list_form}
+use Rattle.script_fields.specs.Forms.{if_within, number_form, int_within, int_form, opaque_form, colour_form, count_of, corner_at, corners_of, rect_form, side_at, first_sides, sides_form, list_form}
 use Rattle.script_fields.specs.Values.{number_data, int_data, opaque_data, colour_data, rect_data, sides_data}
 
 pub left : (a b : Bool) → (a && b) ≡ true → a ≡ true
@@ -69,7 +69,7 @@ opaque_again c h =
     opaque_parts c.r c.g c.b c.a e (left _ _ h)
 
 pub number_again : (low high n : ℕ) → (nat_le low n && nat_le n high) ≡ true → number_form low high (number_data n) ≡ Some n
-unfolding number_form within number_data
+unfolding number_form if_within number_data
 number_again low high n h = rw h refl
 
 pub int_again : (low : ℤ) (high : ℕ) (z : ℤ) → high < 2 ^ 63 → (int_le low z && int_le z (pos high)) ≡ true

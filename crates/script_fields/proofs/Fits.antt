@@ -7,7 +7,7 @@ use Rattle.serde_json.specs.Find.{get, as_str, as_number, as_u64, as_i64, as_arr
 use Rattle.script_fields.specs.declared.forms.Sides.{Sides}
 use Rattle.script_fields.specs.Faults.{◌>>=◌, or_fault}
 use Rattle.script_fields.specs.Hex.{byte_of, if_colour, colour_of_six, colour_of_eight}
-use Rattle.script_fields.specs.Forms.{within, number_form, int_within, int_form, opaque_form, colour_form, is_count, count_of, corner_at, corners_of, rect_form, side_at, first_sides, sides_form, if_short, list_form}
+use Rattle.script_fields.specs.Forms.{if_within, number_form, int_within, int_form, opaque_form, colour_form, is_count, count_of, corner_at, corners_of, rect_form, side_at, first_sides, sides_form, if_short, list_form}
 use Rattle.script_fields.specs.Fields.{field_at, number_at, whole_at, int_at, signed_at, opaque_at, colour_at, rect_at, sides_at, list_at}
 use Rattle.script_fields.proofs.Again.{is_signed, is_rect, both}
 
@@ -39,8 +39,8 @@ field_ok : {A : Type 0} (form : Data → Option A) (key : List ℕ) (field : ℕ
     → ((e : Data) → IfSome (form e) P) → IfOk (field_at form key field d) P
 field_ok form key field d P h = or_fault_ok field _ P (then_some (get key d) form P h)
 
-within_fits : (low high n : ℕ) → IfSome (within low high n) (λ m. (nat_le low m && nat_le m high) ≡ true)
-unfolding within
+within_fits : (low high n : ℕ) → IfSome (if_within low high n) (λ m. (nat_le low m && nat_le m high) ≡ true)
+unfolding if_within
 within_fits low high n = elim (nat_le low n && nat_le n high) as (λ b. (nat_le low n && nat_le n high) ≡ b → IfSome (if b then Some n else None) (λ m. (nat_le low m && nat_le m high) ≡ true)) [ true ↦ λ e. e | false ↦ λ e. tt ] refl
 
 int_within_fits : (low high z : ℤ) → IfSome (int_within low high z) (λ m. (int_le low m && int_le m high) ≡ true)
@@ -49,7 +49,7 @@ int_within_fits low high z = elim (int_le low z && int_le z high) as (λ b. (int
 
 number_form_fits : (low high : ℕ) (d : Data) → IfSome (number_form low high d) (λ n. (nat_le low n && nat_le n high) ≡ true)
 unfolding number_form
-number_form_fits low high d = then_some (option_and_then as_u64 (as_number d)) (within low high) _ (λ n. within_fits low high n)
+number_form_fits low high d = then_some (option_and_then as_u64 (as_number d)) (if_within low high) _ (λ n. within_fits low high n)
 
 int_form_fits : (low high : ℤ) (d : Data) → IfSome (int_form low high d) (λ z. (int_le low z && int_le z high) ≡ true)
 unfolding int_form

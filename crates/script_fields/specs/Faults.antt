@@ -20,9 +20,9 @@ or_fault field (Some x) = Ok x
 or_fault field None = Err (fault field)
 
 -- the value as contracts see it, or the same fault
-abbrev pub seen : {A B E : Type 0} → (A → B) → Result A E → Result B E
-seen f (Ok x) = Ok (f x)
-seen f (Err e) = Err e
+abbrev pub viewed_or_fault : {A B E : Type 0} → (A → B) → Result A E → Result B E
+viewed_or_fault f (Ok x) = Ok (f x)
+viewed_or_fault f (Err e) = Err e
 
 -- what a reader that takes memory tells of a value that has this reading: the reading, unless memory was wanting
 abbrev pub Gives : {X Y : Type 0} → (X → Y) → Result X Trouble → Result Y FieldFault → Type 0

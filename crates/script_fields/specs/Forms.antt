@@ -9,8 +9,8 @@ use Rattle.script_fields.specs.declared.forms.Sides.{Sides}
 use Rattle.script_fields.specs.Hex.{bytes_of, colour_of_six, colour_of_eight}
 
 -- the number, if it is from `low` to `high`
-unfoldable pub within : ℕ → ℕ → ℕ → Option ℕ
-within low high n = if nat_le low n && nat_le n high then Some n else None
+unfoldable pub if_within : ℕ → ℕ → ℕ → Option ℕ
+if_within low high n = if nat_le low n && nat_le n high then Some n else None
 
 -- the signed number, if it is from `low` to `high`
 unfoldable pub int_within : ℤ → ℤ → ℤ → Option ℤ
@@ -18,7 +18,7 @@ int_within low high z = if int_le low z && int_le z high then Some z else None
 
 -- a whole number from `low` to `high`
 unfoldable pub number_form : ℕ → ℕ → Data → Option ℕ
-number_form low high d = option_and_then (within low high) (option_and_then as_u64 (as_number d))
+number_form low high d = option_and_then (if_within low high) (option_and_then as_u64 (as_number d))
 
 -- a whole number from `low` to `high`, which may be below 0
 unfoldable pub int_form : ℤ → ℤ → Data → Option ℤ

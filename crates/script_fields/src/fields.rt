@@ -3,8 +3,8 @@
 ghost use Rattle.std.specs.Prelude.{◌≡◌, ◌≤◌, Result, IfOk, length};
 ghost use Rattle.serde_json.specs.Find.{as_object};
 ghost use Rattle.serde_json.specs.View.{view, items_view};
-ghost use Rattle.script_fields.specs.Faults.{seen};
-ghost use Rattle.script_fields.specs.Fields.{number_at, whole_at, int_at, signed_at, opaque_at, colour_at, rect_at, sides_at, list_at, object_at, member_count, no_more};
+ghost use Rattle.script_fields.specs.Faults.{viewed_or_fault};
+ghost use Rattle.script_fields.specs.Fields.{number_at, whole_at, int_at, signed_at, opaque_at, colour_at, rect_at, sides_at, list_at, object_at, member_count, no_more_members};
 
 use crate::fault::FieldFault;
 use crate::forms::{self, Sides};
@@ -102,7 +102,7 @@ pub fn list<'a>(
     most: usize,
     field: u32,
 ) -> Result<&'a [Value], FieldFault>
-    ensures value { seen (λ s. items_view s.now) result ≡ list_at key.now most field (view object.now) }
+    ensures value { viewed_or_fault (λ s. items_view s.now) result ≡ list_at key.now most field (view object.now) }
     ensures few { IfOk result (λ s. length s.now ≤ most) }
 {
     match object.get(key) {
@@ -136,9 +136,9 @@ fn member_count(value: &Value) -> usize
 
 /// A fault of field 99 where an object in which this many fields were found has a further one: it has
 /// each name once, so more members than fields.
-#[tactic(auto, unfolding(crate::specs::Fields::no_more))]
+#[tactic(auto, unfolding(crate::specs::Fields::no_more_members))]
 pub fn no_more(object: &Value, fields: usize) -> Result<(), FieldFault>
-    ensures { result ≡ no_more fields (view object.now) }
+    ensures { result ≡ no_more_members fields (view object.now) }
 {
     if member_count(object) <= fields {
         Ok(())

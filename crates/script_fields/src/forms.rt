@@ -2,16 +2,16 @@
 
 ghost use Rattle.std.specs.Prelude.{◌≡◌, ◌≤◌, option_map, IfSome, length};
 ghost use Rattle.serde_json.specs.View.{view, items_view};
-ghost use Rattle.script_fields.specs.Forms.{within, number_form, int_within, int_form, opaque_form, colour_form, count_of, corner_at, corners_of, rect_form, side_at, first_sides, sides_form, list_form};
+ghost use Rattle.script_fields.specs.Forms.{if_within, number_form, int_within, int_form, opaque_form, colour_form, count_of, corner_at, corners_of, rect_form, side_at, first_sides, sides_form, list_form};
 
 use crate::hex;
 use geom::Rect;
 use pixel::Colour;
 use serde_json::Value;
 
-#[tactic(auto, unfolding(crate::specs::Forms::within))]
+#[tactic(auto, unfolding(crate::specs::Forms::if_within))]
 fn number_within(n: u64, low: u32, high: u32) -> Option<u32>
-    ensures { result ≡ within low high n }
+    ensures { result ≡ if_within low high n }
 {
     if low as u64 <= n && n <= high as u64 {
         Some(n as u32)

@@ -10,21 +10,21 @@ use Rattle.page_properties.specs.declared.nodes.EffectNode.{EffectNode}
 use Rattle.page_properties.specs.Nesting.{AreNested, lies_in}
 use Rattle.page_display_list.specs.declared.item.Item.{Item}
 use Rattle.page_display_list.specs.declared.item.Item.TheVariants as item
-use Rattle.page_display_list.specs.Content.{rect_of}
+use Rattle.page_display_list.specs.Content.{rect_of_item}
 use Rattle.page_layers.specs.declared.command.Command.{Command}
 use Rattle.page_layers.specs.declared.command.Command.TheVariants as command
 use Rattle.page_layers.specs.declared.fault.EditFault.{EditFault}
 use Rattle.page_layers.specs.declared.fault.EditFault.TheVariants as fault
-use Rattle.page_layers.specs.Tests.{◌>>=◌, require, in_range, is_id, is_size}
+use Rattle.page_layers.specs.Tests.{◌>>=◌, require, check_range, is_id, is_size}
 use Rattle.page_layers.specs.Scrolls.{origin, clamped}
 use Rattle.page_layers.specs.Pages.{Page}
-use Rattle.page_layers.specs.Refusals.{takes, is_offset, is_clip_rect, is_item_rect, is_scroll_range, is_scroll, add_scroller_test, add_transform_test, add_clip_test, add_effect_test, add_layer_test, insert_item_test, replace_item_test, scroll_by_test, test_of}
-use Rattle.page_layers.specs.Effects.{after}
+use Rattle.page_layers.specs.Refusals.{takes, is_offset, is_clip_rect, is_item_rect, is_scroll_range, check_scroll, add_scroller_test, add_transform_test, add_clip_test, add_effect_test, add_layer_test, insert_item_test, replace_item_test, scroll_by_test, test_of}
+use Rattle.page_layers.specs.Effects.{page_after_command}
 use Rattle.page_layers.specs.Outcomes.{Accepts}
 use Rattle.model_history.specs.Accepted.{TakesAll, TakesFrames}
 use Rattle.model_history.specs.Frames.{commanded}
 use Rattle.script_generator.specs.Draws.{after_draws, drawn}
-use Rattle.script_generator.specs.Generated.{rect, opaque, drawn_item, page_commands, inserts, later_frame, later_frames, is_empty, frame_draws, frames}
+use Rattle.script_generator.specs.Generated.{rect, opaque, drawn_item, page_commands, inserts, later_frame, later_frames, is_empty_frame, frame_draws, frames}
 use Rattle.script_generator.proofs.Ranges.{below}
 
 -- two layers stand together whatever their effects are
@@ -68,19 +68,19 @@ is_le : (a b : ℕ) → a ≤ b → nat_le a b ≡ true
 is_le a b l = grind (arith, nat_tests)
 
 -- a number within its ends passes
-within : (n low high : ℕ) → low ≤ n → n ≤ high → in_range (pos n) (pos low) (pos high) ≡ Ok tt
-unfolding in_range
+within : (n low high : ℕ) → low ≤ n → n ≤ high → check_range (pos n) (pos low) (pos high) ≡ Ok tt
+unfolding check_range
 within n low high l h = let p = not_above low n l in let q = not_above n high h in λ i. cond (p i) (Err (fault.OutOfRange (pos n) (pos low))) (cond (q i) (Err (fault.OutOfRange (pos n) (pos high))) (Ok tt))
 
 -- a natural number passes a lower end below 0
-above_zero : (n below high : ℕ) → n ≤ high → in_range (pos n) (negsuc below) (pos high) ≡ Ok tt
-unfolding in_range
+above_zero : (n below high : ℕ) → n ≤ high → check_range (pos n) (negsuc below) (pos high) ≡ Ok tt
+unfolding check_range
 above_zero n below high h = let q = not_above n high h in λ i. cond (q i) (Err (fault.OutOfRange (pos n) (pos high))) (Ok tt)
 
 then : (r q : Result ⊤ EditFault) → r ≡ Ok tt → q ≡ Ok tt → (r >>= (λ _. q)) ≡ Ok tt
 then r q p t = λ i. p i >>= (λ _. t i)
 
-item_rect : (x : ℕ) → is_item_rect (rect_of (drawn_item x)) ≡ Ok tt
+item_rect : (x : ℕ) → is_item_rect (rect_of_item (drawn_item x)) ≡ Ok tt
 unfolding is_item_rect drawn_item
 item_rect x =
     let a = below x 0 240 (omega arith) in
@@ -106,16 +106,16 @@ unfolding replace_item_test
 replace_passes xs v x at e l = then _ _ (needs (nat_lt at (length xs)) _ (is_below at (length xs) (omega (arith, e, l)))) (item_rect x)
 
 scroll_passes : (xs : List Item) (v : Point) (d : ℕ) → d < 40 → test_of (page_with xs v) (command.ScrollBy 1 (pos 0) (pos d)) ≡ Ok tt
-unfolding scroll_by_test is_scroll in_range
+unfolding scroll_by_test check_scroll check_range
 scroll_passes xs v d l = let q = not_above d 1048576 (omega (arith, l)) in λ i. cond (q i) (Err (fault.OutOfRange (pos d) (pos 1048576))) (Ok tt)
 
 -- ---- main frame 0
 
-accepted : (p : Page) (c : Command) → test_of p c ≡ Ok tt → length (map (λ l. l.effect) (after p c).layers) ≤ 2 → Accepts p c
-accepted p c t l = record { passes = t; together = short_nested (after p c).props.effects (map (λ l. l.effect) (after p c).layers) l }
+accepted : (p : Page) (c : Command) → test_of p c ≡ Ok tt → length (map (λ l. l.effect) (page_after_command p c).layers) ≤ 2 → Accepts p c
+accepted p c t l = record { passes = t; together = short_nested (page_after_command p c).props.effects (map (λ l. l.effect) (page_after_command p c).layers) l }
 
 takes_page : (cs : List Command) → TakesAll (page_with [] origin) cs → TakesAll first_page (page_commands ++ cs)
-unfolding add_scroller_test add_transform_test add_clip_test add_effect_test add_layer_test insert_item_test takes is_offset is_clip_rect is_item_rect is_scroll_range is_id is_size in_range
+unfolding add_scroller_test add_transform_test add_clip_test add_effect_test add_layer_test insert_item_test takes is_offset is_clip_rect is_item_rect is_scroll_range is_id is_size check_range
 takes_page cs t = (
   accepted _ _ refl (omega arith),
   (
@@ -159,7 +159,7 @@ after_inserts x at (suc n) xs v e =
 kept_page : (k x : ℕ) (xs : List Item) (v : Point) → length xs ≡ 200
     → TakesAll (page_with xs v) (later_frame k x) × ((ys : List Item) × (w : Point) × (commanded (later_frame k x) (page_with xs v) ≡ page_with ys w) × (length ys ≡ 200))
 unfolding later_frame
-kept_page k x xs v e = by_kind (is_empty k) (k % 2 == 1)
+kept_page k x xs v e = by_kind (is_empty_frame k) (k % 2 == 1)
   where
     by_kind : (b c : Bool) → TakesAll (page_with xs v) (cond b [] (cond c (command.ReplaceItem 1 (drawn x 0 200) (drawn_item (after_draws x 1)) ∷ []) (command.ScrollBy 1 (pos 0) (pos (drawn x 0 40)) ∷ [])))
         × ((ys : List Item) × (w : Point) × (commanded (cond b [] (cond c (command.ReplaceItem 1 (drawn x 0 200) (drawn_item (after_draws x 1)) ∷ []) (command.ScrollBy 1 (pos 0) (pos (drawn x 0 40)) ∷ []))) (page_with xs v) ≡ page_with ys w) × (length ys ≡ 200))

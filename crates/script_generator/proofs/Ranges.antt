@@ -12,7 +12,7 @@ use Rattle.model_history.specs.declared.input.Input.TheVariants as input
 use Rattle.model_history.specs.Ranges.{is_u32, is_signed, is_amount, item_in_range, command_in_range, input_in_range, draw_count, is_in_ranges, are_short}
 use Rattle.model_history.proofs.BoolFacts.{and_left}
 use Rattle.script_generator.specs.Draws.{after_draws, given, drawn}
-use Rattle.script_generator.specs.Generated.{drawn_item, page_commands, inserts, later_frame, later_frames, is_empty, frame_draws, after_frames, drawn_input, input_draws, drawn_inputs, frames, script_after}
+use Rattle.script_generator.specs.Generated.{drawn_item, page_commands, inserts, later_frame, later_frames, is_empty_frame, frame_draws, after_frames, drawn_input, input_draws, drawn_inputs, frames, script_after}
 
 is_le : (a b : ℕ) → a ≤ b → nat_le a b ≡ true
 is_le a b l = grind (arith, nat_tests)
@@ -61,7 +61,7 @@ inserts_fit x at (suc n) l =
 
 later_fits : (k x : ℕ) → list_all (command_in_range 1) (later_frame k x) ≡ true
 unfolding later_frame
-later_fits k x = by_kind (is_empty k) (k % 2 == 1)
+later_fits k x = by_kind (is_empty_frame k) (k % 2 == 1)
   where
     at_fits : is_u32 (drawn x 0 200) ≡ true
     at_fits = let l = below x 0 200 (omega arith) in fits (drawn x 0 200) (omega (arith, l))
@@ -162,7 +162,7 @@ is_short frame = are_short (frame ∷ [])
 
 one_short : (k x : ℕ) → is_short (later_frame k x) ≡ true
 unfolding later_frame
-one_short k x = by_kind (is_empty k) (k % 2 == 1)
+one_short k x = by_kind (is_empty_frame k) (k % 2 == 1)
   where
     by_kind : (b c : Bool) → is_short (cond b [] (cond c (command.ReplaceItem 1 (drawn x 0 200) (drawn_item (after_draws x 1)) ∷ []) (command.ScrollBy 1 (pos 0) (pos (drawn x 0 40)) ∷ []))) ≡ true
     by_kind true c = refl

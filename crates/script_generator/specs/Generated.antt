@@ -61,18 +61,18 @@ abbrev pub first_frame : ℕ → List Command
 first_frame x = page_commands ++ inserts x 0 200
 
 -- each fifth of the later main frames is empty
-abbrev pub is_empty : ℕ → Bool
-is_empty k = k % 5 == 0
+abbrev pub is_empty_frame : ℕ → Bool
+is_empty_frame k = k % 5 == 0
 
 -- a later main frame: of those that are not empty the odd ones replace an item of layer 1, the even ones scroll
 unfoldable pub later_frame : ℕ → ℕ → List Command
 later_frame k x =
-    cond (is_empty k) []
+    cond (is_empty_frame k) []
     (cond (k % 2 == 1) (command.ReplaceItem 1 (drawn x 0 200) (drawn_item (after_draws x 1)) ∷ []) (command.ScrollBy 1 (pos 0) (pos (drawn x 0 40)) ∷ []))
 
 -- how many draws it takes
 abbrev pub frame_draws : ℕ → ℕ
-frame_draws k = cond (is_empty k) 0 (cond (k % 2 == 1) 8 1)
+frame_draws k = cond (is_empty_frame k) 0 (cond (k % 2 == 1) 8 1)
 
 -- so many later frames from number k on
 unfoldable pub later_frames : ℕ → ℕ → ℕ → List (List Command)

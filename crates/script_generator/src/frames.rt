@@ -167,7 +167,7 @@ fn first_frame(alloc: Global, draws: &mut Draws) -> Result<Vec<Command>, AllocEr
 // The command of a later main frame, which has one.
 #[tactic(auto, unfolding(crate::specs::Draws::after_draws, crate::specs::Generated::later_frame))]
 fn later_command(number: u32, draws: &mut Draws) -> Command
-    requires { spec.is_empty number ≡ false }
+    requires { spec.is_empty_frame number ≡ false }
     ensures kept { draws.new.kept ≡ after_draws draws.old.kept (spec.frame_draws number) }
     ensures value { spec.later_frame number draws.old.kept ≡ result ∷ [] }
 {

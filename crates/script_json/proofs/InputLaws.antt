@@ -9,7 +9,7 @@ use Rattle.model_history.specs.declared.input.Input.{Input}
 use Rattle.model_history.specs.declared.input.Input.TheVariants.{Scroll, Wheel, Draw, Await, Settle}
 use Rattle.model_history.specs.Ranges.{in_range, is_u32, is_amount, input_in_range, draw_count}
 use Rattle.script_fields.specs.Faults.{fault, or_fault}
-use Rattle.script_fields.specs.Fields.{object_at, no_more, number_at, int_at}
+use Rattle.script_fields.specs.Fields.{object_at, no_more_members, number_at, int_at}
 use Rattle.script_fields.proofs.Again.{left, right, both, number_again, int_again}
 use Rattle.script_fields.proofs.Fits.{then_ok, then_any, or_fault_ok, number_fits, int_fits}
 use Rattle.script_json.specs.declared.fault.ShapeFault.{ShapeFault}
@@ -24,7 +24,7 @@ use Rattle.script_json.proofs.CommandLaws.{placed_ok}
 
 scroll_again : (frames draws scroller : ℕ) (dx dy : ℤ) → input_in_range frames (Scroll scroller dx dy) ≡ true
     → input_at frames draws (scroll_data scroller dx dy) ≡ Ok (Scroll scroller dx dy)
-unfolding input_at object_at input_op_at input_named scroll_at scroll_data no_more number_at amount_at int_at
+unfolding input_at object_at input_op_at input_named scroll_at scroll_data no_more_members number_at amount_at int_at
 scroll_again frames draws scroller dx dy all =
     let h0 = left _ _ (left _ _ all) in
     let h1 = right _ _ (left _ _ all) in
@@ -35,7 +35,7 @@ scroll_again frames draws scroller dx dy all =
 
 wheel_again : (frames draws x y : ℕ) (dx dy : ℤ) → input_in_range frames (Wheel x y dx dy) ≡ true
     → input_at frames draws (wheel_data x y dx dy) ≡ Ok (Wheel x y dx dy)
-unfolding input_at object_at input_op_at input_named wheel_at wheel_data no_more number_at amount_at int_at
+unfolding input_at object_at input_op_at input_named wheel_at wheel_data no_more_members number_at amount_at int_at
 wheel_again frames draws x y dx dy all =
     let h0 = left _ _ (left _ _ (left _ _ all)) in
     let h1 = right _ _ (left _ _ (left _ _ all)) in
@@ -47,21 +47,21 @@ wheel_again frames draws x y dx dy all =
     (rw (int_again (negsuc 1048575) 1048576 dy (lit< tt) h3) refl)))
 
 draw_again : (frames draws : ℕ) → draws < 4096 → input_at frames draws draw_data ≡ Ok Draw
-unfolding input_at object_at input_op_at input_named draw_at draw_data no_more
+unfolding input_at object_at input_op_at input_named draw_at draw_data no_more_members
 draw_again frames draws few =
     let e : nat_lt draws 4096 ≡ true = grind (arith, nat_tests) in
     rw e refl
 
 await_again : (frames draws frame : ℕ) → input_in_range frames (Await frame) ≡ true
     → input_at frames draws (await_data frame) ≡ Ok (Await frame)
-unfolding input_at object_at input_op_at input_named await_at await_data no_more number_at frame_number
+unfolding input_at object_at input_op_at input_named await_at await_data no_more_members number_at frame_number
 await_again frames draws frame all =
     let h0 = left (is_u32 frame) (nat_lt frame frames) all in
     let h1 : nat_lt frame frames ≡ true = right (is_u32 frame) (nat_lt frame frames) all in
     rw (number_again 0 4294967295 frame h0) (rw h1 refl)
 
 settle_again : (frames draws : ℕ) → input_at frames draws settle_data ≡ Ok Settle
-unfolding input_at object_at input_op_at input_named settle_at settle_data no_more
+unfolding input_at object_at input_op_at input_named settle_at settle_data no_more_members
 settle_again frames draws = refl
 
 pub inputs_again : (frames draws index : ℕ) (xs : List Input) → list_all (input_in_range frames) xs ≡ true → draws + draw_count xs ≤ 4096
@@ -106,7 +106,7 @@ scroll_fits frames draws d few =
     then_ok (number_at (codes "scroller") 1 65535 1 d) _ (λ n. in_range 1 65535 n ≡ true) _ (number_fits (codes "scroller") 1 65535 1 d) (λ scroller h0.
     then_ok (amount_at (codes "dx") 2 d) _ (λ z. is_amount z ≡ true) _ (amount_fits (codes "dx") 2 d) (λ dx h1.
     then_ok (amount_at (codes "dy") 3 d) _ (λ z. is_amount z ≡ true) _ (amount_fits (codes "dy") 3 d) (λ dy h2.
-    then_any (no_more 4 d) _ _ (λ u. record { in_range = both _ _ (both _ _ h0 h1) h2; few = few }))))
+    then_any (no_more_members 4 d) _ _ (λ u. record { in_range = both _ _ (both _ _ h0 h1) h2; few = few }))))
 
 wheel_fits : (frames draws : ℕ) (d : Data) → draws ≤ 4096 → IfOk (wheel_at d) (Fits frames draws)
 unfolding wheel_at
@@ -115,7 +115,7 @@ wheel_fits frames draws d few =
     then_ok (number_at (codes "y") 0 2047 2 d) _ (λ n. in_range 0 2047 n ≡ true) _ (number_fits (codes "y") 0 2047 2 d) (λ y h1.
     then_ok (amount_at (codes "dx") 3 d) _ (λ z. is_amount z ≡ true) _ (amount_fits (codes "dx") 3 d) (λ dx h2.
     then_ok (amount_at (codes "dy") 4 d) _ (λ z. is_amount z ≡ true) _ (amount_fits (codes "dy") 4 d) (λ dy h3.
-    then_any (no_more 5 d) _ _ (λ u. record { in_range = both _ _ (both _ _ (both _ _ h0 h1) h2) h3; few = few })))))
+    then_any (no_more_members 5 d) _ _ (λ u. record { in_range = both _ _ (both _ _ (both _ _ h0 h1) h2) h3; few = few })))))
 
 room_fits : (draws : ℕ) → IfOk (room_for_draw draws) (λ u. nat_lt draws 4096 ≡ true)
 room_fits draws =
@@ -126,7 +126,7 @@ draw_fits : (frames draws : ℕ) (d : Data) → IfOk (draw_at draws d) (Fits fra
 unfolding draw_at
 draw_fits frames draws d =
     then_ok (room_for_draw draws) _ (λ u. nat_lt draws 4096 ≡ true) _ (room_fits draws) (λ u h.
-    then_any (no_more 1 d) _ _ (λ v. record { in_range = refl; few = grind (arith, nat_tests) }))
+    then_any (no_more_members 1 d) _ _ (λ v. record { in_range = refl; few = grind (arith, nat_tests) }))
 
 frame_number_fits : (frames n : ℕ) → IfSome (frame_number frames n) (λ m. (m ≡ n) × (nat_lt m frames ≡ true))
 unfolding frame_number
@@ -139,11 +139,11 @@ unfolding await_at
 await_fits frames draws d few =
     then_ok (number_at (codes "frame") 0 4294967295 1 d) _ (λ n. is_u32 n ≡ true) _ (number_fits (codes "frame") 0 4294967295 1 d) (λ n h0.
     then_ok (or_fault 1 (frame_number frames n)) _ (λ m. (m ≡ n) × (nat_lt m frames ≡ true)) _ (or_fault_ok 1 (frame_number frames n) (λ m. (m ≡ n) × (nat_lt m frames ≡ true)) (frame_number_fits frames n)) (λ m h1.
-    then_any (no_more 2 d) _ _ (λ u. record { in_range = both _ _ (rw h1.0 h0) h1.1; few = few })))
+    then_any (no_more_members 2 d) _ _ (λ u. record { in_range = both _ _ (rw h1.0 h0) h1.1; few = few })))
 
 settle_fits : (frames draws : ℕ) (d : Data) → draws ≤ 4096 → IfOk (settle_at d) (Fits frames draws)
 unfolding settle_at
-settle_fits frames draws d few = then_any (no_more 1 d) _ _ (λ u. record { in_range = refl; few = few })
+settle_fits frames draws d few = then_any (no_more_members 1 d) _ _ (λ u. record { in_range = refl; few = few })
 
 input_fields_fits : (frames draws : ℕ) (o : InputOp) (d : Data) → draws ≤ 4096 → IfOk (input_fields_at frames draws o d) (Fits frames draws)
 input_fields_fits frames draws op.Scroll d few = scroll_fits frames draws d few

@@ -10,7 +10,7 @@ use Rattle.page_layers.specs.declared.command.Command.TheVariants.{InsertItem, R
 use Rattle.model_history.specs.Ranges.{command_in_range, item_in_range, is_u32, is_rect, is_picture, are_pixels}
 use Rattle.script_fields.specs.Hex.{bytes_of, bytes_digits}
 use Rattle.script_fields.specs.Forms.{colour_form, bytes_form}
-use Rattle.script_fields.specs.Fields.{object_at, no_more, number_at, whole_at, rect_at}
+use Rattle.script_fields.specs.Fields.{object_at, no_more_members, number_at, whole_at, rect_at}
 use Rattle.script_fields.specs.Values.{bytes_data}
 use Rattle.script_fields.proofs.Again.{left, right, both, byte_again, colour_bytes, number_again, rect_again, colour_again}
 use Rattle.script_fields.proofs.Fits.{then_ok, then_any, then_some, map_some, or_fault_ok, whole_fits, rect_fits, colour_form_fits}
@@ -42,7 +42,7 @@ pixels_again rect bytes h = rw (bytes_again bytes (picture_pixels rect bytes h))
 pub insert_rect_again : (version layer place : ℕ) (rect : Rect) (colour : Parts)
     → (is_u32 layer && is_u32 place && (is_rect rect && is_colour colour)) ≡ true
     → command_at version (rect_item_data (codes "insert_item") layer place rect colour) ≡ Ok (InsertItem layer place (item.Rect rect colour))
-unfolding command_at object_at op_at op_named layer_op_named insert_item_at rect_item_data no_more number_at whole_at rect_at paint_at
+unfolding command_at object_at op_at op_named layer_op_named insert_item_at rect_item_data no_more_members number_at whole_at rect_at paint_at
 insert_rect_again version layer place rect colour all =
     let h0 = left _ _ (left _ _ all) in
     let h1 = right _ _ (left _ _ all) in
@@ -57,7 +57,7 @@ insert_rect_again version layer place rect colour all =
 pub insert_bitmap_again : (version layer place : ℕ) (picture : BitmapModel)
     → (is_u32 layer && is_u32 place && (is_rect picture.rect && is_picture picture.rect picture.pixels)) ≡ true
     → command_at version (bitmap_data (codes "insert_item") layer place picture) ≡ Ok (InsertItem layer place (item.Bitmap picture))
-unfolding command_at object_at op_at op_named layer_op_named insert_item_at bitmap_data no_more number_at whole_at rect_at paint_at
+unfolding command_at object_at op_at op_named layer_op_named insert_item_at bitmap_data no_more_members number_at whole_at rect_at paint_at
 insert_bitmap_again version layer place picture all =
     let h0 = left _ _ (left _ _ all) in
     let h1 = right _ _ (left _ _ all) in
@@ -72,7 +72,7 @@ insert_bitmap_again version layer place picture all =
 pub replace_rect_again : (version layer place : ℕ) (rect : Rect) (colour : Parts)
     → (is_u32 layer && is_u32 place && (is_rect rect && is_colour colour)) ≡ true
     → command_at version (rect_item_data (codes "replace_item") layer place rect colour) ≡ Ok (ReplaceItem layer place (item.Rect rect colour))
-unfolding command_at object_at op_at op_named layer_op_named replace_item_at rect_item_data no_more number_at whole_at rect_at paint_at
+unfolding command_at object_at op_at op_named layer_op_named replace_item_at rect_item_data no_more_members number_at whole_at rect_at paint_at
 replace_rect_again version layer place rect colour all =
     let h0 = left _ _ (left _ _ all) in
     let h1 = right _ _ (left _ _ all) in
@@ -87,7 +87,7 @@ replace_rect_again version layer place rect colour all =
 pub replace_bitmap_again : (version layer place : ℕ) (picture : BitmapModel)
     → (is_u32 layer && is_u32 place && (is_rect picture.rect && is_picture picture.rect picture.pixels)) ≡ true
     → command_at version (bitmap_data (codes "replace_item") layer place picture) ≡ Ok (ReplaceItem layer place (item.Bitmap picture))
-unfolding command_at object_at op_at op_named layer_op_named replace_item_at bitmap_data no_more number_at whole_at rect_at paint_at
+unfolding command_at object_at op_at op_named layer_op_named replace_item_at bitmap_data no_more_members number_at whole_at rect_at paint_at
 replace_bitmap_again version layer place picture all =
     let h0 = left _ _ (left _ _ all) in
     let h1 = right _ _ (left _ _ all) in
@@ -128,7 +128,7 @@ insert_item_fits version d =
     then_ok (whole_at (codes "at") 2 d) _ (λ x. is_u32 x ≡ true) _ (whole_fits (codes "at") 2 d) (λ place h1.
     then_ok (rect_at (codes "rect") 3 d) _ (λ x. is_rect x ≡ true) _ (rect_fits (codes "rect") 3 d) (λ rect h2.
     then_ok (paint_at rect 4 d) _ (λ i. item_in_range i ≡ true) _ (paint_fits rect 4 d h2) (λ i h3.
-    then_any (no_more 5 d) _ _ (λ u. both _ _ (both _ _ h0 h1) h3)))))
+    then_any (no_more_members 5 d) _ _ (λ u. both _ _ (both _ _ h0 h1) h3)))))
 
 pub replace_item_fits : (version : ℕ) (d : Data) → IfOk (replace_item_at d) (λ c. command_in_range version c ≡ true)
 unfolding replace_item_at
@@ -137,4 +137,4 @@ replace_item_fits version d =
     then_ok (whole_at (codes "at") 2 d) _ (λ x. is_u32 x ≡ true) _ (whole_fits (codes "at") 2 d) (λ place h1.
     then_ok (rect_at (codes "rect") 3 d) _ (λ x. is_rect x ≡ true) _ (rect_fits (codes "rect") 3 d) (λ rect h2.
     then_ok (paint_at rect 4 d) _ (λ i. item_in_range i ≡ true) _ (paint_fits rect 4 d h2) (λ i h3.
-    then_any (no_more 5 d) _ _ (λ u. both _ _ (both _ _ h0 h1) h3)))))
+    then_any (no_more_members 5 d) _ _ (λ u. both _ _ (both _ _ h0 h1) h3)))))

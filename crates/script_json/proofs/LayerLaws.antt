@@ -4,7 +4,7 @@ use Rattle.serde_json.specs.Data.{Data}
 use Rattle.pixel.specs.Colours.{Parts, is_colour}
 use Rattle.page_layers.specs.declared.command.Command.TheVariants.{AddLayer, RemoveLayer, ResizeLayer, SetColour, RemoveItem, MoveLayer, SetView}
 use Rattle.model_history.specs.Ranges.{command_in_range, is_u32}
-use Rattle.script_fields.specs.Fields.{object_at, no_more, colour_at, number_at, whole_at}
+use Rattle.script_fields.specs.Fields.{object_at, no_more_members, colour_at, number_at, whole_at}
 use Rattle.script_fields.proofs.Again.{left, right, both, colour_again, number_again}
 use Rattle.script_fields.proofs.Fits.{then_ok, then_any, colour_fits, whole_fits}
 use Rattle.script_json.specs.Ops.{op_at, op_named, layer_op_named}
@@ -14,7 +14,7 @@ use Rattle.script_json.specs.LayerValues.{add_layer_data, remove_layer_data, res
 
 pub add_layer_again : (version : ℕ) (id : ℕ) (at : ℕ) (transform : ℕ) (clip : ℕ) (effect : ℕ) (w : ℕ) (h : ℕ) (colour : Parts) → command_in_range version (AddLayer id at transform clip effect w h colour) ≡ true
     → command_at version (add_layer_data id at transform clip effect w h colour) ≡ Ok (AddLayer id at transform clip effect w h colour)
-unfolding command_at object_at op_at op_named layer_op_named add_layer_at add_layer_data no_more colour_at number_at whole_at
+unfolding command_at object_at op_at op_named layer_op_named add_layer_at add_layer_data no_more_members colour_at number_at whole_at
 add_layer_again version id at transform clip effect w h colour all =
     let h0 = left _ _ (left _ _ (left _ _ (left _ _ (left _ _ (left _ _ (left _ _ all)))))) in
     let h1 = right _ _ (left _ _ (left _ _ (left _ _ (left _ _ (left _ _ (left _ _ all)))))) in
@@ -44,11 +44,11 @@ add_layer_fits version d =
     then_ok (whole_at (codes "w") 6 d) _ (λ x. is_u32 x ≡ true) _ (whole_fits (codes "w") 6 d) (λ w h5.
     then_ok (whole_at (codes "h") 7 d) _ (λ x. is_u32 x ≡ true) _ (whole_fits (codes "h") 7 d) (λ h h6.
     then_ok (colour_at (codes "colour") 8 d) _ (λ x. is_colour x ≡ true) _ (colour_fits (codes "colour") 8 d) (λ colour h7.
-    then_any (no_more 9 d) _ _ (λ u. (both _ _ (both _ _ (both _ _ (both _ _ (both _ _ (both _ _ (both _ _ h0 h1) h2) h3) h4) h5) h6) h7))))))))))
+    then_any (no_more_members 9 d) _ _ (λ u. (both _ _ (both _ _ (both _ _ (both _ _ (both _ _ (both _ _ (both _ _ h0 h1) h2) h3) h4) h5) h6) h7))))))))))
 
 pub remove_layer_again : (version : ℕ) (id : ℕ) → command_in_range version (RemoveLayer id) ≡ true
     → command_at version (remove_layer_data id) ≡ Ok (RemoveLayer id)
-unfolding command_at object_at op_at op_named layer_op_named remove_layer_at remove_layer_data no_more number_at whole_at
+unfolding command_at object_at op_at op_named layer_op_named remove_layer_at remove_layer_data no_more_members number_at whole_at
 remove_layer_again version id all =
     rw (number_again 0 4294967295 id all) refl
 
@@ -56,11 +56,11 @@ pub remove_layer_fits : (version : ℕ) → (d : Data) → IfOk (remove_layer_at
 unfolding remove_layer_at
 remove_layer_fits version d =
     then_ok (whole_at (codes "id") 1 d) _ (λ x. is_u32 x ≡ true) _ (whole_fits (codes "id") 1 d) (λ id h0.
-    then_any (no_more 2 d) _ _ (λ u. h0))
+    then_any (no_more_members 2 d) _ _ (λ u. h0))
 
 pub resize_layer_again : (version : ℕ) (id : ℕ) (w : ℕ) (h : ℕ) → command_in_range version (ResizeLayer id w h) ≡ true
     → command_at version (resize_layer_data id w h) ≡ Ok (ResizeLayer id w h)
-unfolding command_at object_at op_at op_named layer_op_named resize_layer_at resize_layer_data no_more number_at whole_at
+unfolding command_at object_at op_at op_named layer_op_named resize_layer_at resize_layer_data no_more_members number_at whole_at
 resize_layer_again version id w h all =
     let h0 = left _ _ (left _ _ all) in
     let h1 = right _ _ (left _ _ all) in
@@ -75,11 +75,11 @@ resize_layer_fits version d =
     then_ok (whole_at (codes "id") 1 d) _ (λ x. is_u32 x ≡ true) _ (whole_fits (codes "id") 1 d) (λ id h0.
     then_ok (whole_at (codes "w") 2 d) _ (λ x. is_u32 x ≡ true) _ (whole_fits (codes "w") 2 d) (λ w h1.
     then_ok (whole_at (codes "h") 3 d) _ (λ x. is_u32 x ≡ true) _ (whole_fits (codes "h") 3 d) (λ h h2.
-    then_any (no_more 4 d) _ _ (λ u. (both _ _ (both _ _ h0 h1) h2)))))
+    then_any (no_more_members 4 d) _ _ (λ u. (both _ _ (both _ _ h0 h1) h2)))))
 
 pub set_colour_again : (version : ℕ) (id : ℕ) (colour : Parts) → command_in_range version (SetColour id colour) ≡ true
     → command_at version (set_colour_data id colour) ≡ Ok (SetColour id colour)
-unfolding command_at object_at op_at op_named layer_op_named set_colour_at set_colour_data no_more colour_at number_at whole_at
+unfolding command_at object_at op_at op_named layer_op_named set_colour_at set_colour_data no_more_members colour_at number_at whole_at
 set_colour_again version id colour all =
     let h0 = left _ _ all in
     let h1 = right _ _ all in
@@ -91,11 +91,11 @@ unfolding set_colour_at
 set_colour_fits version d =
     then_ok (whole_at (codes "id") 1 d) _ (λ x. is_u32 x ≡ true) _ (whole_fits (codes "id") 1 d) (λ id h0.
     then_ok (colour_at (codes "colour") 2 d) _ (λ x. is_colour x ≡ true) _ (colour_fits (codes "colour") 2 d) (λ colour h1.
-    then_any (no_more 3 d) _ _ (λ u. (both _ _ h0 h1))))
+    then_any (no_more_members 3 d) _ _ (λ u. (both _ _ h0 h1))))
 
 pub remove_item_again : (version : ℕ) (layer : ℕ) (at : ℕ) → command_in_range version (RemoveItem layer at) ≡ true
     → command_at version (remove_item_data layer at) ≡ Ok (RemoveItem layer at)
-unfolding command_at object_at op_at op_named layer_op_named remove_item_at remove_item_data no_more number_at whole_at
+unfolding command_at object_at op_at op_named layer_op_named remove_item_at remove_item_data no_more_members number_at whole_at
 remove_item_again version layer at all =
     let h0 = left _ _ all in
     let h1 = right _ _ all in
@@ -107,11 +107,11 @@ unfolding remove_item_at
 remove_item_fits version d =
     then_ok (whole_at (codes "layer") 1 d) _ (λ x. is_u32 x ≡ true) _ (whole_fits (codes "layer") 1 d) (λ layer h0.
     then_ok (whole_at (codes "at") 2 d) _ (λ x. is_u32 x ≡ true) _ (whole_fits (codes "at") 2 d) (λ at h1.
-    then_any (no_more 3 d) _ _ (λ u. (both _ _ h0 h1))))
+    then_any (no_more_members 3 d) _ _ (λ u. (both _ _ h0 h1))))
 
 pub move_layer_again : (version : ℕ) (id : ℕ) (at : ℕ) → command_in_range version (MoveLayer id at) ≡ true
     → command_at version (move_layer_data id at) ≡ Ok (MoveLayer id at)
-unfolding command_at object_at op_at op_named layer_op_named move_layer_at move_layer_data no_more number_at whole_at
+unfolding command_at object_at op_at op_named layer_op_named move_layer_at move_layer_data no_more_members number_at whole_at
 move_layer_again version id at all =
     let h0 = left _ _ all in
     let h1 = right _ _ all in
@@ -123,11 +123,11 @@ unfolding move_layer_at
 move_layer_fits version d =
     then_ok (whole_at (codes "id") 1 d) _ (λ x. is_u32 x ≡ true) _ (whole_fits (codes "id") 1 d) (λ id h0.
     then_ok (whole_at (codes "at") 2 d) _ (λ x. is_u32 x ≡ true) _ (whole_fits (codes "at") 2 d) (λ at h1.
-    then_any (no_more 3 d) _ _ (λ u. (both _ _ h0 h1))))
+    then_any (no_more_members 3 d) _ _ (λ u. (both _ _ h0 h1))))
 
 pub set_view_again : (version : ℕ) (w : ℕ) (h : ℕ) (tile : ℕ) → command_in_range version (SetView w h tile) ≡ true
     → command_at version (set_view_data w h tile) ≡ Ok (SetView w h tile)
-unfolding command_at object_at op_at op_named layer_op_named set_view_at set_view_data no_more number_at whole_at
+unfolding command_at object_at op_at op_named layer_op_named set_view_at set_view_data no_more_members number_at whole_at
 set_view_again version w h tile all =
     let h0 = right _ _ (left _ _ (left _ _ all)) in
     let h1 = right _ _ (left _ _ all) in
@@ -145,4 +145,4 @@ set_view_fits version is_two d =
     then_ok (whole_at (codes "w") 1 d) _ (λ x. is_u32 x ≡ true) _ (whole_fits (codes "w") 1 d) (λ w h0.
     then_ok (whole_at (codes "h") 2 d) _ (λ x. is_u32 x ≡ true) _ (whole_fits (codes "h") 2 d) (λ h h1.
     then_ok (whole_at (codes "tile") 3 d) _ (λ x. is_u32 x ≡ true) _ (whole_fits (codes "tile") 3 d) (λ tile h2.
-    then_any (no_more 4 d) _ _ (λ u. (both _ _ (both _ _ (both _ _ is_two h0) h1) h2)))))
+    then_any (no_more_members 4 d) _ _ (λ u. (both _ _ (both _ _ (both _ _ is_two h0) h1) h2)))))

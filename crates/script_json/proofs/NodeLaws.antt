@@ -4,7 +4,7 @@ use Rattle.serde_json.specs.Data.{Data}
 use Rattle.geom.specs.declared.rect.Rect.{Rect}
 use Rattle.page_layers.specs.declared.command.Command.TheVariants.{AddTransform, SetTransform, AddClip, SetClip, AddEffect, SetOpacity, AddScroller, SetRange, ScrollBy, ScrollTo}
 use Rattle.model_history.specs.Ranges.{command_in_range, is_rect, is_signed, is_u32}
-use Rattle.script_fields.specs.Fields.{object_at, no_more, int_at, number_at, rect_at, signed_at, whole_at}
+use Rattle.script_fields.specs.Fields.{object_at, no_more_members, int_at, number_at, rect_at, signed_at, whole_at}
 use Rattle.script_fields.proofs.Again.{left, right, both, number_again, rect_again, signed_again}
 use Rattle.script_fields.proofs.Fits.{then_ok, then_any, rect_fits, signed_fits, whole_fits}
 use Rattle.script_json.specs.Ops.{op_at, op_named}
@@ -14,7 +14,7 @@ use Rattle.script_json.specs.NodeValues.{add_transform_data, set_transform_data,
 
 pub add_transform_again : (version : ℕ) (id : ℕ) (parent : ℕ) (x : ℤ) (y : ℤ) (scroller : ℕ) → command_in_range version (AddTransform id parent x y scroller) ≡ true
     → command_at version (add_transform_data id parent x y scroller) ≡ Ok (AddTransform id parent x y scroller)
-unfolding command_at object_at op_at op_named add_transform_at add_transform_data no_more int_at number_at signed_at whole_at
+unfolding command_at object_at op_at op_named add_transform_at add_transform_data no_more_members int_at number_at signed_at whole_at
 add_transform_again version id parent x y scroller all =
     let h0 = left _ _ (left _ _ (left _ _ (left _ _ all))) in
     let h1 = right _ _ (left _ _ (left _ _ (left _ _ all))) in
@@ -35,11 +35,11 @@ add_transform_fits version d =
     then_ok (signed_at (codes "x") 3 d) _ (λ x. is_signed x ≡ true) _ (signed_fits (codes "x") 3 d) (λ x h2.
     then_ok (signed_at (codes "y") 4 d) _ (λ x. is_signed x ≡ true) _ (signed_fits (codes "y") 4 d) (λ y h3.
     then_ok (whole_at (codes "scroller") 5 d) _ (λ x. is_u32 x ≡ true) _ (whole_fits (codes "scroller") 5 d) (λ scroller h4.
-    then_any (no_more 6 d) _ _ (λ u. (both _ _ (both _ _ (both _ _ (both _ _ h0 h1) h2) h3) h4)))))))
+    then_any (no_more_members 6 d) _ _ (λ u. (both _ _ (both _ _ (both _ _ (both _ _ h0 h1) h2) h3) h4)))))))
 
 pub set_transform_again : (version : ℕ) (id : ℕ) (x : ℤ) (y : ℤ) → command_in_range version (SetTransform id x y) ≡ true
     → command_at version (set_transform_data id x y) ≡ Ok (SetTransform id x y)
-unfolding command_at object_at op_at op_named set_transform_at set_transform_data no_more int_at number_at signed_at whole_at
+unfolding command_at object_at op_at op_named set_transform_at set_transform_data no_more_members int_at number_at signed_at whole_at
 set_transform_again version id x y all =
     let h0 = left _ _ (left _ _ all) in
     let h1 = right _ _ (left _ _ all) in
@@ -54,11 +54,11 @@ set_transform_fits version d =
     then_ok (whole_at (codes "id") 1 d) _ (λ x. is_u32 x ≡ true) _ (whole_fits (codes "id") 1 d) (λ id h0.
     then_ok (signed_at (codes "x") 2 d) _ (λ x. is_signed x ≡ true) _ (signed_fits (codes "x") 2 d) (λ x h1.
     then_ok (signed_at (codes "y") 3 d) _ (λ x. is_signed x ≡ true) _ (signed_fits (codes "y") 3 d) (λ y h2.
-    then_any (no_more 4 d) _ _ (λ u. (both _ _ (both _ _ h0 h1) h2)))))
+    then_any (no_more_members 4 d) _ _ (λ u. (both _ _ (both _ _ h0 h1) h2)))))
 
 pub add_clip_again : (version : ℕ) (id : ℕ) (parent : ℕ) (transform : ℕ) (rect : Rect) → command_in_range version (AddClip id parent transform rect) ≡ true
     → command_at version (add_clip_data id parent transform rect) ≡ Ok (AddClip id parent transform rect)
-unfolding command_at object_at op_at op_named add_clip_at add_clip_data no_more number_at rect_at whole_at
+unfolding command_at object_at op_at op_named add_clip_at add_clip_data no_more_members number_at rect_at whole_at
 add_clip_again version id parent transform rect all =
     let h0 = left _ _ (left _ _ (left _ _ all)) in
     let h1 = right _ _ (left _ _ (left _ _ all)) in
@@ -76,11 +76,11 @@ add_clip_fits version d =
     then_ok (whole_at (codes "parent") 2 d) _ (λ x. is_u32 x ≡ true) _ (whole_fits (codes "parent") 2 d) (λ parent h1.
     then_ok (whole_at (codes "transform") 3 d) _ (λ x. is_u32 x ≡ true) _ (whole_fits (codes "transform") 3 d) (λ transform h2.
     then_ok (rect_at (codes "rect") 4 d) _ (λ x. is_rect x ≡ true) _ (rect_fits (codes "rect") 4 d) (λ rect h3.
-    then_any (no_more 5 d) _ _ (λ u. (both _ _ (both _ _ (both _ _ h0 h1) h2) h3))))))
+    then_any (no_more_members 5 d) _ _ (λ u. (both _ _ (both _ _ (both _ _ h0 h1) h2) h3))))))
 
 pub set_clip_again : (version : ℕ) (id : ℕ) (rect : Rect) → command_in_range version (SetClip id rect) ≡ true
     → command_at version (set_clip_data id rect) ≡ Ok (SetClip id rect)
-unfolding command_at object_at op_at op_named set_clip_at set_clip_data no_more number_at rect_at whole_at
+unfolding command_at object_at op_at op_named set_clip_at set_clip_data no_more_members number_at rect_at whole_at
 set_clip_again version id rect all =
     let h0 = left _ _ all in
     let h1 = right _ _ all in
@@ -92,11 +92,11 @@ unfolding set_clip_at
 set_clip_fits version d =
     then_ok (whole_at (codes "id") 1 d) _ (λ x. is_u32 x ≡ true) _ (whole_fits (codes "id") 1 d) (λ id h0.
     then_ok (rect_at (codes "rect") 2 d) _ (λ x. is_rect x ≡ true) _ (rect_fits (codes "rect") 2 d) (λ rect h1.
-    then_any (no_more 3 d) _ _ (λ u. (both _ _ h0 h1))))
+    then_any (no_more_members 3 d) _ _ (λ u. (both _ _ h0 h1))))
 
 pub add_effect_again : (version : ℕ) (id : ℕ) (parent : ℕ) (opacity : ℕ) → command_in_range version (AddEffect id parent opacity) ≡ true
     → command_at version (add_effect_data id parent opacity) ≡ Ok (AddEffect id parent opacity)
-unfolding command_at object_at op_at op_named add_effect_at add_effect_data no_more number_at whole_at
+unfolding command_at object_at op_at op_named add_effect_at add_effect_data no_more_members number_at whole_at
 add_effect_again version id parent opacity all =
     let h0 = left _ _ (left _ _ all) in
     let h1 = right _ _ (left _ _ all) in
@@ -111,11 +111,11 @@ add_effect_fits version d =
     then_ok (whole_at (codes "id") 1 d) _ (λ x. is_u32 x ≡ true) _ (whole_fits (codes "id") 1 d) (λ id h0.
     then_ok (whole_at (codes "parent") 2 d) _ (λ x. is_u32 x ≡ true) _ (whole_fits (codes "parent") 2 d) (λ parent h1.
     then_ok (whole_at (codes "opacity") 3 d) _ (λ x. is_u32 x ≡ true) _ (whole_fits (codes "opacity") 3 d) (λ opacity h2.
-    then_any (no_more 4 d) _ _ (λ u. (both _ _ (both _ _ h0 h1) h2)))))
+    then_any (no_more_members 4 d) _ _ (λ u. (both _ _ (both _ _ h0 h1) h2)))))
 
 pub set_opacity_again : (version : ℕ) (id : ℕ) (opacity : ℕ) → command_in_range version (SetOpacity id opacity) ≡ true
     → command_at version (set_opacity_data id opacity) ≡ Ok (SetOpacity id opacity)
-unfolding command_at object_at op_at op_named set_opacity_at set_opacity_data no_more number_at whole_at
+unfolding command_at object_at op_at op_named set_opacity_at set_opacity_data no_more_members number_at whole_at
 set_opacity_again version id opacity all =
     let h0 = left _ _ all in
     let h1 = right _ _ all in
@@ -127,11 +127,11 @@ unfolding set_opacity_at
 set_opacity_fits version d =
     then_ok (whole_at (codes "id") 1 d) _ (λ x. is_u32 x ≡ true) _ (whole_fits (codes "id") 1 d) (λ id h0.
     then_ok (whole_at (codes "opacity") 2 d) _ (λ x. is_u32 x ≡ true) _ (whole_fits (codes "opacity") 2 d) (λ opacity h1.
-    then_any (no_more 3 d) _ _ (λ u. (both _ _ h0 h1))))
+    then_any (no_more_members 3 d) _ _ (λ u. (both _ _ h0 h1))))
 
 pub add_scroller_again : (version : ℕ) (id : ℕ) (parent : ℕ) (max_x : ℕ) (max_y : ℕ) → command_in_range version (AddScroller id parent max_x max_y) ≡ true
     → command_at version (add_scroller_data id parent max_x max_y) ≡ Ok (AddScroller id parent max_x max_y)
-unfolding command_at object_at op_at op_named add_scroller_at add_scroller_data no_more number_at whole_at
+unfolding command_at object_at op_at op_named add_scroller_at add_scroller_data no_more_members number_at whole_at
 add_scroller_again version id parent max_x max_y all =
     let h0 = left _ _ (left _ _ (left _ _ all)) in
     let h1 = right _ _ (left _ _ (left _ _ all)) in
@@ -149,11 +149,11 @@ add_scroller_fits version d =
     then_ok (whole_at (codes "parent") 2 d) _ (λ x. is_u32 x ≡ true) _ (whole_fits (codes "parent") 2 d) (λ parent h1.
     then_ok (whole_at (codes "max_x") 3 d) _ (λ x. is_u32 x ≡ true) _ (whole_fits (codes "max_x") 3 d) (λ max_x h2.
     then_ok (whole_at (codes "max_y") 4 d) _ (λ x. is_u32 x ≡ true) _ (whole_fits (codes "max_y") 4 d) (λ max_y h3.
-    then_any (no_more 5 d) _ _ (λ u. (both _ _ (both _ _ (both _ _ h0 h1) h2) h3))))))
+    then_any (no_more_members 5 d) _ _ (λ u. (both _ _ (both _ _ (both _ _ h0 h1) h2) h3))))))
 
 pub set_range_again : (version : ℕ) (id : ℕ) (max_x : ℕ) (max_y : ℕ) → command_in_range version (SetRange id max_x max_y) ≡ true
     → command_at version (set_range_data id max_x max_y) ≡ Ok (SetRange id max_x max_y)
-unfolding command_at object_at op_at op_named set_range_at set_range_data no_more number_at whole_at
+unfolding command_at object_at op_at op_named set_range_at set_range_data no_more_members number_at whole_at
 set_range_again version id max_x max_y all =
     let h0 = left _ _ (left _ _ all) in
     let h1 = right _ _ (left _ _ all) in
@@ -168,11 +168,11 @@ set_range_fits version d =
     then_ok (whole_at (codes "id") 1 d) _ (λ x. is_u32 x ≡ true) _ (whole_fits (codes "id") 1 d) (λ id h0.
     then_ok (whole_at (codes "max_x") 2 d) _ (λ x. is_u32 x ≡ true) _ (whole_fits (codes "max_x") 2 d) (λ max_x h1.
     then_ok (whole_at (codes "max_y") 3 d) _ (λ x. is_u32 x ≡ true) _ (whole_fits (codes "max_y") 3 d) (λ max_y h2.
-    then_any (no_more 4 d) _ _ (λ u. (both _ _ (both _ _ h0 h1) h2)))))
+    then_any (no_more_members 4 d) _ _ (λ u. (both _ _ (both _ _ h0 h1) h2)))))
 
 pub scroll_by_again : (version : ℕ) (id : ℕ) (dx : ℤ) (dy : ℤ) → command_in_range version (ScrollBy id dx dy) ≡ true
     → command_at version (scroll_by_data id dx dy) ≡ Ok (ScrollBy id dx dy)
-unfolding command_at object_at op_at op_named scroll_by_at scroll_by_data no_more int_at number_at signed_at whole_at
+unfolding command_at object_at op_at op_named scroll_by_at scroll_by_data no_more_members int_at number_at signed_at whole_at
 scroll_by_again version id dx dy all =
     let h0 = left _ _ (left _ _ all) in
     let h1 = right _ _ (left _ _ all) in
@@ -187,11 +187,11 @@ scroll_by_fits version d =
     then_ok (whole_at (codes "id") 1 d) _ (λ x. is_u32 x ≡ true) _ (whole_fits (codes "id") 1 d) (λ id h0.
     then_ok (signed_at (codes "dx") 2 d) _ (λ x. is_signed x ≡ true) _ (signed_fits (codes "dx") 2 d) (λ dx h1.
     then_ok (signed_at (codes "dy") 3 d) _ (λ x. is_signed x ≡ true) _ (signed_fits (codes "dy") 3 d) (λ dy h2.
-    then_any (no_more 4 d) _ _ (λ u. (both _ _ (both _ _ h0 h1) h2)))))
+    then_any (no_more_members 4 d) _ _ (λ u. (both _ _ (both _ _ h0 h1) h2)))))
 
 pub scroll_to_again : (version : ℕ) (id : ℕ) (x : ℕ) (y : ℕ) → command_in_range version (ScrollTo id x y) ≡ true
     → command_at version (scroll_to_data id x y) ≡ Ok (ScrollTo id x y)
-unfolding command_at object_at op_at op_named scroll_to_at scroll_to_data no_more number_at whole_at
+unfolding command_at object_at op_at op_named scroll_to_at scroll_to_data no_more_members number_at whole_at
 scroll_to_again version id x y all =
     let h0 = left _ _ (left _ _ all) in
     let h1 = right _ _ (left _ _ all) in
@@ -206,4 +206,4 @@ scroll_to_fits version d =
     then_ok (whole_at (codes "id") 1 d) _ (λ x. is_u32 x ≡ true) _ (whole_fits (codes "id") 1 d) (λ id h0.
     then_ok (whole_at (codes "x") 2 d) _ (λ x. is_u32 x ≡ true) _ (whole_fits (codes "x") 2 d) (λ x h1.
     then_ok (whole_at (codes "y") 3 d) _ (λ x. is_u32 x ≡ true) _ (whole_fits (codes "y") 3 d) (λ y h2.
-    then_any (no_more 4 d) _ _ (λ u. (both _ _ (both _ _ h0 h1) h2)))))
+    then_any (no_more_members 4 d) _ _ (λ u. (both _ _ (both _ _ h0 h1) h2)))))

@@ -5,7 +5,7 @@ use Rattle.pixel.specs.Colours.{is_colour}
 use Rattle.pixel.specs.Rows.{pixel, alpha_place, ArePremultiplied}
 use Rattle.geom.specs.declared.rect.Rect.{Rect}
 use Rattle.page_display_list.specs.Bitmaps.{IsBitmap, near, byte_count}
-use Rattle.page_display_list.specs.Causes.{CauseOf}
+use Rattle.page_display_list.specs.Causes.{IsBitmapCause}
 use Rattle.page_display_list.specs.declared.bitmap.BitmapCause.{BitmapCause}
 use Rattle.page_display_list.specs.declared.bitmap.BitmapCause.TheVariants.{Side, Length, Pixel}
 use Rattle.model_history.specs.Ranges.{are_pixels, is_picture}
@@ -70,7 +70,7 @@ unfolding is_picture
 picture_is rect bytes fits h =
     both _ _ (both _ _ h.sides (eq-eqb _ _ h.size)) (right_pixels bytes (near rect.w * near rect.h) h.size fits h.premultiplied)
 
-pub picture_is_not : (rect : Rect) (bytes : List ℕ) (cause : BitmapCause) → CauseOf rect bytes cause → is_picture rect bytes ≡ false
+pub picture_is_not : (rect : Rect) (bytes : List ℕ) (cause : BitmapCause) → IsBitmapCause rect bytes cause → is_picture rect bytes ≡ false
 unfolding is_picture
 picture_is_not rect bytes Side h = first_false _ _ (first_false _ _ h)
 picture_is_not rect bytes (Length given wanted) h =

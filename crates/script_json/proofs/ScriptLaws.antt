@@ -13,7 +13,7 @@ use Rattle.page_layers.specs.declared.command.Command.{Command}
 use Rattle.model_history.specs.declared.input.Input.{Input}
 use Rattle.model_history.specs.Scripts.{ScriptModel}
 use Rattle.model_history.specs.Ranges.{in_range, longest_side, command_in_range, input_in_range, draw_count, head_in_range, main_in_range, inputs_in_range, is_in_ranges}
-use Rattle.script_fields.specs.Fields.{object_at, no_more, number_at, sides_at, opaque_at, list_at}
+use Rattle.script_fields.specs.Fields.{object_at, no_more_members, number_at, sides_at, opaque_at, list_at}
 use Rattle.script_fields.proofs.Again.{left, right, both, number_again, opaque_again, sides_again, list_again, items_len-items_of}
 use Rattle.script_fields.proofs.Fits.{then_ok, then_any, SidesFit, number_fits, opaque_fits, sides_fits, list_fits}
 use Rattle.script_json.specs.declared.fault.ShapeFault.{ShapeFault}
@@ -24,7 +24,7 @@ use Rattle.script_json.specs.CommandReading.{frames_at}
 use Rattle.script_json.specs.CommandValues.{frame_data}
 use Rattle.script_json.specs.InputReading.{inputs_at}
 use Rattle.script_json.specs.InputValues.{input_data}
-use Rattle.script_json.specs.Reading.{priority_named, priority_at, head_at, Lists, lists_at, parts_at}
+use Rattle.script_json.specs.Reading.{priority_named, priority_at, head_at, ScriptLists, lists_at, parts_at}
 use Rattle.script_json.specs.ScriptValue.{priority_name, main_data, inputs_data, parts_data}
 use Rattle.script_json.proofs.CommandLaws.{placed_ok, frames_again, frames_fits}
 use Rattle.script_json.proofs.InputLaws.{inputs_again, AllFit, inputs_fits}
@@ -81,7 +81,7 @@ head_again s h8 =
     (rw (priority_again s.priority) refl))))))))
 
 -- the lists of a script as values
-lists_of : ScriptModel → Lists
+lists_of : ScriptModel → ScriptLists
 lists_of s = record { main = items_of (map frame_data s.main); inputs = items_of (map input_data s.inputs) }
 
 short : {X : Type 0} (f : X → Data) (xs : List X) (most : ℕ) → nat_le (length xs) most ≡ true → nat_le (items_len (items_of (map f xs))) most ≡ true
@@ -89,7 +89,7 @@ short f xs most h = ap (λ (n : ℕ). nat_le n most) (items_len-items_of (map f 
 
 lists_again : (s : ScriptModel) → nat_le (length s.main) 4096 ≡ true → nat_le (length s.inputs) 65536 ≡ true
     → lists_at (parts_data s) ≡ Ok (lists_of s)
-unfolding lists_of lists_at parts_data list_at no_more main_data inputs_data
+unfolding lists_of lists_at parts_data list_at no_more_members main_data inputs_data
 lists_again s few short_inputs =
     rw (list_again 4096 (items_of (map frame_data s.main)) (short frame_data s.main 4096 few))
     (rw (list_again 65536 (items_of (map input_data s.inputs)) (short input_data s.inputs 65536 short_inputs)) refl)
@@ -146,7 +146,7 @@ head_fits d =
     both _ _ (both _ _ (both _ _ (both _ _ (both _ _ (both _ _ (both _ _ (both _ _ h0 h1.w) h1.h) h2) h3) h4) h5) h6) h7))))))))))
 
 -- at most so many values
-record Short (l : Lists) : Type 0 where
+record Short (l : ScriptLists) : Type 0 where
   main : nat_le (items_len l.main) 4096 ≡ true
   inputs : nat_le (items_len l.inputs) 65536 ≡ true
 
@@ -155,7 +155,7 @@ unfolding lists_at
 lists_fit d =
     then_ok (list_at (codes "main") 4096 10 d) _ (λ ds. nat_le (items_len ds) 4096 ≡ true) _ (list_fits (codes "main") 4096 10 d) (λ main h0.
     then_ok (list_at (codes "inputs") 65536 11 d) _ (λ ds. nat_le (items_len ds) 65536 ≡ true) _ (list_fits (codes "inputs") 65536 11 d) (λ inputs h1.
-    then_any (no_more 11 d) _ _ (λ u. record { main = h0; inputs = h1 })))
+    then_any (no_more_members 11 d) _ _ (λ u. record { main = h0; inputs = h1 })))
 
 main_is : (version n : ℕ) (main : List (List Command)) → nat_le n 4096 ≡ true → length main ≡ n → list_all (list_all (command_in_range version)) main ≡ true
     → main_in_range version main ≡ true

@@ -17,7 +17,7 @@ before_rest (Ok x) (Ok xs) = Ok (x ∷ xs)
 before_rest (Ok x) (Err e) = Err e
 
 -- what a reader that takes memory tells of a part of a script that has this reading
-abbrev pub Gives : {X Y : Type 0} → (X → Y) → Result X Stop → Result Y ShapeFault → Type 0
-Gives view (Ok x) reading = reading ≡ Ok (view x)
-Gives view (Err (stop.Fault f)) reading = reading ≡ Err f
-Gives view (Err (stop.Memory e)) reading = ⊤
+abbrev pub GivesPart : {X Y : Type 0} → (X → Y) → Result X Stop → Result Y ShapeFault → Type 0
+GivesPart view (Ok x) reading = reading ≡ Ok (view x)
+GivesPart view (Err (stop.Fault f)) reading = reading ≡ Err f
+GivesPart view (Err (stop.Memory e)) reading = ⊤

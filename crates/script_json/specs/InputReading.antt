@@ -8,7 +8,7 @@ use Rattle.model_history.specs.declared.input.Input.{Input}
 use Rattle.model_history.specs.declared.input.Input.TheVariants.{Scroll, Wheel, Draw, Await, Settle}
 use Rattle.script_fields.specs.declared.fault.FieldFault.{FieldFault}
 use Rattle.script_fields.specs.Faults.{◌>>=◌, fault, or_fault}
-use Rattle.script_fields.specs.Fields.{number_at, int_at, object_at, no_more}
+use Rattle.script_fields.specs.Fields.{number_at, int_at, object_at, no_more_members}
 use Rattle.script_json.specs.declared.fault.ShapeFault.{ShapeFault}
 use Rattle.script_json.specs.declared.op.InputOp.{InputOp}
 use Rattle.script_json.specs.declared.op.InputOp.TheVariants as op
@@ -37,7 +37,7 @@ scroll_at d = do
   scroller ← number_at (codes "scroller") 1 max_id 1 d
   dx ← amount_at (codes "dx") 2 d
   dy ← amount_at (codes "dy") 3 d
-  _ ← no_more 4 d
+  _ ← no_more_members 4 d
   Ok (Scroll scroller dx dy)
 
 -- `wheel`
@@ -47,7 +47,7 @@ wheel_at d = do
   y ← number_at (codes "y") 0 2047 2 d
   dx ← amount_at (codes "dx") 3 d
   dy ← amount_at (codes "dy") 4 d
-  _ ← no_more 5 d
+  _ ← no_more_members 5 d
   Ok (Wheel x y dx dy)
 
 -- one draw too many is a fault of field 0
@@ -58,7 +58,7 @@ room_for_draw draws = if nat_lt draws max_draws then Ok tt else Err (fault 0)
 unfoldable pub draw_at : ℕ → Data → Result Input FieldFault
 draw_at draws d = do
   _ ← room_for_draw draws
-  _ ← no_more 1 d
+  _ ← no_more_members 1 d
   Ok Draw
 
 -- the number of one of so many main frames
@@ -70,13 +70,13 @@ unfoldable pub await_at : ℕ → Data → Result Input FieldFault
 await_at frames d = do
   frame ← number_at (codes "frame") 0 4294967295 1 d
   awaited ← or_fault 1 (frame_number frames frame)
-  _ ← no_more 2 d
+  _ ← no_more_members 2 d
   Ok (Await awaited)
 
 -- `settle`
 unfoldable pub settle_at : Data → Result Input FieldFault
 settle_at d = do
-  _ ← no_more 1 d
+  _ ← no_more_members 1 d
   Ok Settle
 
 -- the fields of an input with this name, after so many draws, in a script of so many main frames

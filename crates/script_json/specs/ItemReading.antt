@@ -11,7 +11,7 @@ use Rattle.model_history.specs.Ranges.{is_picture}
 use Rattle.script_fields.specs.declared.fault.FieldFault.{FieldFault}
 use Rattle.script_fields.specs.Faults.{◌>>=◌, or_fault}
 use Rattle.script_fields.specs.Forms.{colour_form, bytes_form}
-use Rattle.script_fields.specs.Fields.{rect_at, whole_at, no_more}
+use Rattle.script_fields.specs.Fields.{rect_at, whole_at, no_more_members}
 
 -- the bitmap of these bytes, if they are the pixels of the rect
 abbrev pub if_picture : Rect → List ℕ → Option Item
@@ -39,7 +39,7 @@ insert_item_at d = do
   place ← whole_at (codes "at") 2 d
   rect ← rect_at (codes "rect") 3 d
   painted ← paint_at rect 4 d
-  _ ← no_more 5 d
+  _ ← no_more_members 5 d
   Ok (InsertItem layer place painted)
 
 -- `replace_item`
@@ -49,5 +49,5 @@ replace_item_at d = do
   place ← whole_at (codes "at") 2 d
   rect ← rect_at (codes "rect") 3 d
   painted ← paint_at rect 4 d
-  _ ← no_more 5 d
+  _ ← no_more_members 5 d
   Ok (ReplaceItem layer place painted)

@@ -5,7 +5,7 @@ use Rattle.page_layers.specs.declared.command.Command.{Command}
 use Rattle.page_layers.specs.declared.command.Command.TheVariants.{AddLayer, RemoveLayer, ResizeLayer, SetColour, RemoveItem, MoveLayer, SetView}
 use Rattle.script_fields.specs.declared.fault.FieldFault.{FieldFault}
 use Rattle.script_fields.specs.Faults.{◌>>=◌}
-use Rattle.script_fields.specs.Fields.{colour_at, whole_at, no_more}
+use Rattle.script_fields.specs.Fields.{colour_at, whole_at, no_more_members}
 
 -- `add_layer`
 unfoldable pub add_layer_at : Data → Result Command FieldFault
@@ -18,14 +18,14 @@ add_layer_at d = do
   w ← whole_at (codes "w") 6 d
   h ← whole_at (codes "h") 7 d
   colour ← colour_at (codes "colour") 8 d
-  _ ← no_more 9 d
+  _ ← no_more_members 9 d
   Ok (AddLayer id at transform clip effect w h colour)
 
 -- `remove_layer`
 unfoldable pub remove_layer_at : Data → Result Command FieldFault
 remove_layer_at d = do
   id ← whole_at (codes "id") 1 d
-  _ ← no_more 2 d
+  _ ← no_more_members 2 d
   Ok (RemoveLayer id)
 
 -- `resize_layer`
@@ -34,7 +34,7 @@ resize_layer_at d = do
   id ← whole_at (codes "id") 1 d
   w ← whole_at (codes "w") 2 d
   h ← whole_at (codes "h") 3 d
-  _ ← no_more 4 d
+  _ ← no_more_members 4 d
   Ok (ResizeLayer id w h)
 
 -- `set_colour`
@@ -42,7 +42,7 @@ unfoldable pub set_colour_at : Data → Result Command FieldFault
 set_colour_at d = do
   id ← whole_at (codes "id") 1 d
   colour ← colour_at (codes "colour") 2 d
-  _ ← no_more 3 d
+  _ ← no_more_members 3 d
   Ok (SetColour id colour)
 
 -- `remove_item`
@@ -50,7 +50,7 @@ unfoldable pub remove_item_at : Data → Result Command FieldFault
 remove_item_at d = do
   layer ← whole_at (codes "layer") 1 d
   at ← whole_at (codes "at") 2 d
-  _ ← no_more 3 d
+  _ ← no_more_members 3 d
   Ok (RemoveItem layer at)
 
 -- `move_layer`
@@ -58,7 +58,7 @@ unfoldable pub move_layer_at : Data → Result Command FieldFault
 move_layer_at d = do
   id ← whole_at (codes "id") 1 d
   at ← whole_at (codes "at") 2 d
-  _ ← no_more 3 d
+  _ ← no_more_members 3 d
   Ok (MoveLayer id at)
 
 -- `set_view`
@@ -67,5 +67,5 @@ set_view_at d = do
   w ← whole_at (codes "w") 1 d
   h ← whole_at (codes "h") 2 d
   tile ← whole_at (codes "tile") 3 d
-  _ ← no_more 4 d
+  _ ← no_more_members 4 d
   Ok (SetView w h tile)

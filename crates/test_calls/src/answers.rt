@@ -1,7 +1,7 @@
 //! The lines of the table, and what they ask.
 
 use crate::answer::Answer;
-use crate::fault::LineFault;
+use crate::fault::CallLineFault;
 use crate::frames::frames;
 use crate::missing::missing;
 use crate::texts::{page_of, script_text};
@@ -13,7 +13,7 @@ use test_table::{Table, Tally};
 
 /// What was read of the table so far.
 #[derive(Drop)]
-pub struct Answers {
+pub struct CallTable {
     alloc: Global,
     /// The text of the script that stands above.
     script: String,
@@ -29,7 +29,7 @@ fn ask_of(
     kind: &str,
     question: &str,
     answer: &mut Answer,
-) -> Result<(), LineFault> {
+) -> Result<(), CallLineFault> {
     match kind {
         "changes" => pages::changes(alloc, page, question, answer),
         "pulls" => pages::pulls(page, question, answer),
@@ -40,14 +40,14 @@ fn ask_of(
             pages::view(page, answer);
             Ok(())
         }
-        _ => Err(LineFault::NoForm),
+        _ => Err(CallLineFault::NoForm),
     }
 }
 
-impl Answers {
+impl CallTable {
     /// Nothing was read.
-    pub fn new(alloc: Global) -> Answers {
-        Answers {
+    pub fn new(alloc: Global) -> CallTable {
+        CallTable {
             alloc,
             script: String::new(alloc),
             count: 0,
@@ -56,13 +56,13 @@ impl Answers {
     }
 
     /// Answers a question about the page of the script above.
-    fn ask_page(&self, kind: &str, question: &str, answer: &mut Answer) -> Result<(), LineFault> {
+    fn ask_page(&self, kind: &str, question: &str, answer: &mut Answer) -> Result<(), CallLineFault> {
         let mut page = page_of(self.alloc, self.script.as_str())?;
         ask_of(self.alloc, &mut page, kind, question, answer)
     }
 
     /// Answers a question.
-    fn ask(&self, kind: &str, question: &str, answer: &mut Answer) -> Result<(), LineFault> {
+    fn ask(&self, kind: &str, question: &str, answer: &mut Answer) -> Result<(), CallLineFault> {
         let script = self.script.as_str();
         match kind {
             "frames" => frames(self.alloc, script, question, answer),
@@ -81,7 +81,7 @@ impl Answers {
         line: usize,
         answer: &Answer,
         wanted: &str,
-    ) -> Result<(), LineFault> {
+    ) -> Result<(), CallLineFault> {
         let told = answer.text()?;
         if told != wanted {
             let _ = rt.println(format_args!("line {line}: {told} for {wanted}"));
@@ -98,21 +98,21 @@ impl Answers {
         line: usize,
         kind: &str,
         value: &str,
-    ) -> Result<(), LineFault> {
-        let (question, wanted) = value.split_once("=> ").ok_or(LineFault::NoForm)?;
+    ) -> Result<(), CallLineFault> {
+        let (question, wanted) = value.split_once("=> ").ok_or(CallLineFault::NoForm)?;
         let mut answer = Answer::new(self.alloc);
         self.ask(kind, question.trim_end(), &mut answer)?;
         self.compare(rt, line, &answer, wanted)
     }
 }
 
-impl<R: Print> Table<R> for Answers {
-    type Fault = LineFault;
+impl<R: Print> Table<R> for CallTable {
+    type Fault = CallLineFault;
 
-    fn take(&mut self, rt: &R, line: usize, text: &str) -> Result<(), LineFault> {
+    fn take(&mut self, rt: &R, line: usize, text: &str) -> Result<(), CallLineFault> {
         let (key, value) = match text.strip_suffix(':') {
             Some(key) => (key, ""),
-            None => text.split_once(": ").ok_or(LineFault::NoForm)?,
+            None => text.split_once(": ").ok_or(CallLineFault::NoForm)?,
         };
         match key {
             "script" => self.script = value.to_string(self.alloc)?,
@@ -122,7 +122,7 @@ impl<R: Print> Table<R> for Answers {
         Ok(())
     }
 
-    fn end(&mut self, rt: &R) -> Result<(), LineFault> {
+    fn end(&mut self, rt: &R) -> Result<(), CallLineFault> {
         let _ = rt;
         Ok(())
     }

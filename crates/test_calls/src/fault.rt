@@ -5,7 +5,7 @@ use thiserror::Error;
 
 /// Why a line of the table can't be read.
 #[derive(Clone, Copy, Debug, Error)]
-pub enum LineFault {
+pub enum CallLineFault {
     /// There was no memory.
     #[error("memory ran out")]
     Memory(AllocError),
@@ -23,8 +23,8 @@ pub enum LineFault {
     Refused,
 }
 
-impl From<AllocError> for LineFault {
-    fn from(error: AllocError) -> LineFault {
-        LineFault::Memory(error)
+impl From<AllocError> for CallLineFault {
+    fn from(error: AllocError) -> CallLineFault {
+        CallLineFault::Memory(error)
     }
 }

@@ -5,7 +5,7 @@ ghost use Rattle.model_scroll_values.specs.Bounds.{IsBoundedNumber};
 ghost use Rattle.model_history.specs.Ended.{AreBounded};
 
 use crate::answer::Answer;
-use crate::fault::LineFault;
+use crate::fault::CallLineFault;
 use crate::numbers::pull_of;
 use crate::texts::script_of;
 use main_host::{MainEnd, MainHost};
@@ -53,13 +53,13 @@ fn end_next(
     frames: usize,
     by: &str,
     answer: &mut Answer,
-) -> Result<(), LineFault>
+) -> Result<(), CallLineFault>
     requires { frames ≡ length host.old.script.main }
     ensures { host.new.script ≡ host.old.script }
 {
     let by = pull_of(by)?;
     if host.next_frame() as usize >= frames {
-        return Err(LineFault::Refused);
+        return Err(CallLineFault::Refused);
     }
     let pulls = pulls_of(alloc, by)?;
     let end = host.begin(&pulls)?;
@@ -68,12 +68,12 @@ fn end_next(
 }
 
 /// The main side of a script.
-fn host_of(alloc: Global, script: Script) -> Result<MainHost, LineFault>
+fn host_of(alloc: Global, script: Script) -> Result<MainHost, CallLineFault>
     ensures { IfOk result (λ host. host.script ≡ script) }
 {
     match Arc::new(alloc, script) {
         Ok(shared) => Ok(MainHost::new(alloc, shared)),
-        Err(_) => Err(LineFault::Memory(AllocError)),
+        Err(_) => Err(CallLineFault::Memory(AllocError)),
     }
 }
 
@@ -84,7 +84,7 @@ fn end_all(
     frames: usize,
     pulls: &str,
     answer: &mut Answer,
-) -> Result<(), LineFault>
+) -> Result<(), CallLineFault>
     requires { frames ≡ length host.old.script.main }
 {
     for by in pulls.split("; ") {
@@ -100,7 +100,7 @@ pub fn frames(
     text: &str,
     pulls: &str,
     answer: &mut Answer,
-) -> Result<(), LineFault> {
+) -> Result<(), CallLineFault> {
     let script = script_of(alloc, text)?;
     let frames = script.main().len();
     let mut host = host_of(alloc, script)?;

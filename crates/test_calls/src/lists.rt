@@ -1,27 +1,27 @@
 //! What is asked of lists of moves and of histories.
 
 use crate::answer::Answer;
-use crate::fault::LineFault;
+use crate::fault::CallLineFault;
 use crate::numbers::{move_of, numbers, whole};
 use model_history::{Entry, Event, History, Moves, Sends};
 use std::alloc::{AllocError, Global};
 
 /// Adds the moves of a text.
-fn add_moves(moves: &mut Moves, text: &str) -> Result<(), LineFault> {
+fn add_moves(moves: &mut Moves, text: &str) -> Result<(), CallLineFault> {
     for one in text.split("; ") {
         if moves.push(move_of(one)?).is_err() {
-            return Err(LineFault::Memory(AllocError));
+            return Err(CallLineFault::Memory(AllocError));
         }
     }
     Ok(())
 }
 
 /// Adds a copy of these moves to the sends.
-fn add_copy(sends: &mut Sends, moves: &Moves) -> Result<(), LineFault> {
+fn add_copy(sends: &mut Sends, moves: &Moves) -> Result<(), CallLineFault> {
     let copy = moves.copy()?;
     match sends.push(copy) {
         Ok(()) => Ok(()),
-        Err((refused, _)) => Err(LineFault::Memory(refused)),
+        Err((refused, _)) => Err(CallLineFault::Memory(refused)),
     }
 }
 
@@ -40,7 +40,7 @@ fn say_moves(moves: &Moves, answer: &mut Answer) {
 }
 
 /// Says how many lists a copy of these sends has, and what its first list has.
-fn say_sends(sends: &Sends, answer: &mut Answer) -> Result<(), LineFault> {
+fn say_sends(sends: &Sends, answer: &mut Answer) -> Result<(), CallLineFault> {
     let copy = sends.copy()?;
     answer.say_count("lists", copy.len());
     if let Some(moves) = copy.at(0) {
@@ -51,7 +51,7 @@ fn say_sends(sends: &Sends, answer: &mut Answer) -> Result<(), LineFault> {
 
 /// Says how many moves a copy of a copied list has, the first of them, and whether there is one behind the
 /// last.
-pub fn moves(alloc: Global, text: &str, answer: &mut Answer) -> Result<(), LineFault> {
+pub fn moves(alloc: Global, text: &str, answer: &mut Answer) -> Result<(), CallLineFault> {
     let mut moves = Moves::new(alloc);
     add_moves(&mut moves, text)?;
     let mut sends = Sends::new(alloc);
@@ -68,15 +68,15 @@ fn entry_of(actor: u32) -> Entry {
 }
 
 /// Adds an entry of actor 0.
-fn add_first(history: &mut History) -> Result<(), LineFault> {
+fn add_first(history: &mut History) -> Result<(), CallLineFault> {
     match history.push(entry_of(0)) {
         Ok(()) => Ok(()),
-        Err((refused, _)) => Err(LineFault::Memory(refused)),
+        Err((refused, _)) => Err(CallLineFault::Memory(refused)),
     }
 }
 
 /// Adds an entry of this actor in a place that is reserved before.
-fn add_reserved(history: &mut History, actor: &str) -> Result<(), LineFault> {
+fn add_reserved(history: &mut History, actor: &str) -> Result<(), CallLineFault> {
     let [actor] = numbers::<1>(actor)?;
     let actor = whole(actor)?;
     history.reserve(1)?;
@@ -85,7 +85,7 @@ fn add_reserved(history: &mut History, actor: &str) -> Result<(), LineFault> {
 }
 
 /// Adds an entry of actor 0 and one of each of these actors.
-fn add_entries(history: &mut History, actors: &str) -> Result<(), LineFault> {
+fn add_entries(history: &mut History, actors: &str) -> Result<(), CallLineFault> {
     add_first(history)?;
     for actor in actors.split("; ") {
         add_reserved(history, actor)?;
@@ -105,7 +105,7 @@ fn say_entries(history: &History, answer: &mut Answer) {
 
 /// Says how many entries a history has with one of actor 0 and one of each of these, the actor of the last
 /// one, and whether there is one behind it.
-pub fn entries(alloc: Global, actors: &str, answer: &mut Answer) -> Result<(), LineFault> {
+pub fn entries(alloc: Global, actors: &str, answer: &mut Answer) -> Result<(), CallLineFault> {
     let mut history = History::new(alloc);
     add_entries(&mut history, actors)?;
     say_entries(&history, answer);

@@ -35,10 +35,10 @@ mod numbers;
 mod pages;
 mod texts;
 
-use crate::answers::Answers;
+use crate::answers::CallTable;
 use std::process::ExitCode;
 use test_table::check_table;
 
 fn main(rt: HostRuntime) -> ExitCode {
-    check_table(&rt, &mut Answers::new(rt.alloc()))
+    check_table(&rt, &mut CallTable::new(rt.alloc()))
 }

@@ -1,10 +1,10 @@
 //! What is asked of points with tiles missing.
 
 ghost use Rattle.std.specs.Prelude.{IsTrue, IfSome};
-ghost use Rattle.page_layers.specs.Paintings.{IsOnScreen};
+ghost use Rattle.page_layers.specs.Paintings.{IsScreenPoint};
 
 use crate::answer::Answer;
-use crate::fault::LineFault;
+use crate::fault::CallLineFault;
 use crate::numbers::{numbers, whole};
 use geom::{Keys, Point, TileKey};
 use page_layers::{LayerTree, main_offsets, paint_at};
@@ -12,7 +12,7 @@ use pixel::Colour;
 use std::alloc::{AllocError, Global};
 
 /// A key, as `1 0 2 0`: the layer, the column, the row and the stamp.
-fn key_of(text: &str) -> Result<TileKey, LineFault> {
+fn key_of(text: &str) -> Result<TileKey, CallLineFault> {
     let [layer, x, y, stamp] = numbers::<4>(text)?;
     let (layer, x) = (whole(layer)?, whole(x)?);
     let (y, stamp) = (whole(y)?, whole(stamp)?);
@@ -20,10 +20,10 @@ fn key_of(text: &str) -> Result<TileKey, LineFault> {
 }
 
 /// Adds the keys of a text.
-fn add_keys(keys: &mut Keys, text: &str) -> Result<(), LineFault> {
+fn add_keys(keys: &mut Keys, text: &str) -> Result<(), CallLineFault> {
     for one in text.split("; ") {
         if keys.push(key_of(one)?).is_err() {
-            return Err(LineFault::Memory(AllocError));
+            return Err(CallLineFault::Memory(AllocError));
         }
     }
     Ok(())
@@ -31,7 +31,7 @@ fn add_keys(keys: &mut Keys, text: &str) -> Result<(), LineFault> {
 
 /// Whether a point is one of the largest screen.
 fn is_on_screen(x: i32, y: i32) -> bool
-    ensures { IsTrue result → IsOnScreen x y }
+    ensures { IsTrue result → IsScreenPoint x y }
 {
     let across = 0 <= x && x < 2048;
     let down = 0 <= y && y < 2048;
@@ -40,7 +40,7 @@ fn is_on_screen(x: i32, y: i32) -> bool
 
 /// A point of the largest screen.
 fn on_screen(x: i64, y: i64) -> Option<Point>
-    ensures { IfSome result (λ p. IsOnScreen p.x p.y) }
+    ensures { IfSome result (λ p. IsScreenPoint p.x p.y) }
 {
     let (Ok(x), Ok(y)) = (i32::try_from(x), i32::try_from(y)) else {
         return None;
@@ -58,9 +58,9 @@ fn say_pixel(
     missing: &[TileKey],
     at: &str,
     answer: &mut Answer,
-) -> Result<(), LineFault> {
+) -> Result<(), CallLineFault> {
     let [x, y] = numbers::<2>(at)?;
-    let at = on_screen(x, y).ok_or(LineFault::NoNumber)?;
+    let at = on_screen(x, y).ok_or(CallLineFault::NoNumber)?;
     let offsets = main_offsets(alloc, tree)?;
     let black = Colour::new(0, 0, 0, 255).unwrap_or(Colour::CLEAR);
     let colour = paint_at(alloc, tree, &offsets, missing, black, at.x, at.y)?;
@@ -75,7 +75,7 @@ fn say_pixels(
     missing: &[TileKey],
     points: &str,
     answer: &mut Answer,
-) -> Result<(), LineFault> {
+) -> Result<(), CallLineFault> {
     for at in points.split("; ") {
         say_pixel(alloc, tree, missing, at, answer)?;
     }
@@ -88,8 +88,8 @@ pub fn missing(
     tree: &LayerTree,
     question: &str,
     answer: &mut Answer,
-) -> Result<(), LineFault> {
-    let (keys, points) = question.split_once(" | ").ok_or(LineFault::NoForm)?;
+) -> Result<(), CallLineFault> {
+    let (keys, points) = question.split_once(" | ").ok_or(CallLineFault::NoForm)?;
     let mut missing = Keys::new(alloc);
     add_keys(&mut missing, keys)?;
     say_pixels(alloc, tree, missing.as_slice(), points, answer)

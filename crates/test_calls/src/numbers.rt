@@ -3,29 +3,29 @@
 ghost use Rattle.std.specs.Prelude.{IsTrue, IfOk};
 ghost use Rattle.model_scroll_values.specs.Bounds.{IsBoundedNumber};
 
-use crate::fault::LineFault;
+use crate::fault::CallLineFault;
 use page_layers::Move;
 
 /// Both parts of a pull lie below this bound in absolute value.
 const PULL_BOUND: i64 = 549755813888;
 
 /// The numbers of a text, with blanks between. There have to be exactly so many.
-pub fn numbers<const N: usize>(text: &str) -> Result<[i64; N], LineFault> {
+pub fn numbers<const N: usize>(text: &str) -> Result<[i64; N], CallLineFault> {
     let mut words = text.split_whitespace();
     let mut all = [0; N];
     for number in &mut all {
-        let word = words.next().ok_or(LineFault::NoNumber)?;
-        *number = word.parse::<i64>().map_err(|_| LineFault::NoNumber)?;
+        let word = words.next().ok_or(CallLineFault::NoNumber)?;
+        *number = word.parse::<i64>().map_err(|_| CallLineFault::NoNumber)?;
     }
     match words.next() {
         None => Ok(all),
-        Some(_) => Err(LineFault::NoNumber),
+        Some(_) => Err(CallLineFault::NoNumber),
     }
 }
 
 /// A number that is not negative.
-pub fn whole(number: i64) -> Result<u32, LineFault> {
-    u32::try_from(number).map_err(|_| LineFault::NoNumber)
+pub fn whole(number: i64) -> Result<u32, CallLineFault> {
+    u32::try_from(number).map_err(|_| CallLineFault::NoNumber)
 }
 
 /// Whether a part of a pull is within its bound.
@@ -36,14 +36,14 @@ fn is_bounded(part: i64) -> bool
 }
 
 /// A move, as `1 10 -4`: the scroller, and how far across and down.
-pub fn move_of(text: &str) -> Result<Move, LineFault> {
+pub fn move_of(text: &str) -> Result<Move, CallLineFault> {
     let [scroller, dx, dy] = numbers::<3>(text)?;
     let scroller = whole(scroller)?;
     Ok(Move { scroller, dx, dy })
 }
 
 /// A pull of scroller 1, as `10 -4`.
-pub fn pull_of(text: &str) -> Result<Move, LineFault>
+pub fn pull_of(text: &str) -> Result<Move, CallLineFault>
     ensures { IfOk result (λ m. IsBoundedNumber m.dx × IsBoundedNumber m.dy) }
 {
     let [dx, dy] = numbers::<2>(text)?;
@@ -56,5 +56,5 @@ pub fn pull_of(text: &str) -> Result<Move, LineFault>
             dy,
         });
     }
-    Err(LineFault::NoNumber)
+    Err(CallLineFault::NoNumber)
 }

@@ -3,7 +3,7 @@
 ghost use Rattle.model_scroll_values.specs.Bounds.{IsBoundedNumber};
 
 use crate::answer::Answer;
-use crate::fault::LineFault;
+use crate::fault::CallLineFault;
 use crate::numbers::pull_of;
 use crate::texts::commands_of;
 use page_layers::{Command, EditError, Layer, LayerTree, Move};
@@ -18,14 +18,14 @@ pub fn view(tree: &LayerTree, answer: &mut Answer) {
 }
 
 /// Applies a command, and says what it changes.
-fn apply(tree: &mut LayerTree, command: &Command, answer: &mut Answer) -> Result<(), LineFault> {
+fn apply(tree: &mut LayerTree, command: &Command, answer: &mut Answer) -> Result<(), CallLineFault> {
     match tree.apply(command) {
         Ok(changes) => {
             answer.say_changes(&changes);
             Ok(())
         }
-        Err(EditError::Refused(_)) => Err(LineFault::Refused),
-        Err(_) => Err(LineFault::Memory(AllocError)),
+        Err(EditError::Refused(_)) => Err(CallLineFault::Refused),
+        Err(_) => Err(CallLineFault::Memory(AllocError)),
     }
 }
 
@@ -34,7 +34,7 @@ fn apply_all(
     tree: &mut LayerTree,
     commands: &[Command],
     answer: &mut Answer,
-) -> Result<(), LineFault> {
+) -> Result<(), CallLineFault> {
     for command in commands {
         apply(tree, command, answer)?;
     }
@@ -47,25 +47,25 @@ pub fn changes(
     tree: &mut LayerTree,
     commands: &str,
     answer: &mut Answer,
-) -> Result<(), LineFault> {
+) -> Result<(), CallLineFault> {
     let commands = commands_of(alloc, commands)?;
     apply_all(tree, commands.as_slice(), answer)
 }
 
 /// Pulls scroller 1, where the page has it, and says how far.
-fn pull(tree: &mut LayerTree, by: Move, answer: &mut Answer) -> Result<(), LineFault>
+fn pull(tree: &mut LayerTree, by: Move, answer: &mut Answer) -> Result<(), CallLineFault>
     requires across { IsBoundedNumber by.dx }
     requires down { IsBoundedNumber by.dy }
 {
     if tree.props().scroller(1).is_none() {
-        return Err(LineFault::Refused);
+        return Err(CallLineFault::Refused);
     }
     answer.say_point("moved", tree.pull(1, by.dx, by.dy));
     Ok(())
 }
 
 /// Says how far each pull moves scroller 1 of a page, and where it and scroller 2 stand then.
-pub fn pulls(tree: &mut LayerTree, pulls: &str, answer: &mut Answer) -> Result<(), LineFault> {
+pub fn pulls(tree: &mut LayerTree, pulls: &str, answer: &mut Answer) -> Result<(), CallLineFault> {
     for by in pulls.split("; ") {
         pull(tree, pull_of(by)?, answer)?;
     }
@@ -100,7 +100,7 @@ pub fn copy(
     tree: &mut LayerTree,
     later: &str,
     answer: &mut Answer,
-) -> Result<(), LineFault> {
+) -> Result<(), CallLineFault> {
     let copy = tree.copy()?;
     let changed = changes(alloc, tree, later, answer);
     say_layers("copy", &copy, answer);
@@ -129,7 +129,7 @@ fn say_scrollers(props: &PropertyTrees, answer: &mut Answer) {
 }
 
 /// Says what the scrollers of a copy of a page are, by their ids.
-pub fn scrollers(tree: &LayerTree, answer: &mut Answer) -> Result<(), LineFault> {
+pub fn scrollers(tree: &LayerTree, answer: &mut Answer) -> Result<(), CallLineFault> {
     let props = tree.props().copy()?;
     say_scrollers(&props, answer);
     Ok(())

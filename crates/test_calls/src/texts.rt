@@ -1,7 +1,7 @@
 //! Scripts and commands out of their texts, and what is asked of the texts.
 
 use crate::answer::Answer;
-use crate::fault::LineFault;
+use crate::fault::CallLineFault;
 use model_history::Script;
 use page_layers::{Command, LayerTree};
 use script_json::{TextFault, print_parts, read_parts, read_script};
@@ -15,42 +15,42 @@ pub fn script_text(alloc: Global, commands: &str) -> Result<String, AllocError> 
 }
 
 /// The script of a text.
-pub fn script_of(alloc: Global, text: &str) -> Result<Script, LineFault> {
+pub fn script_of(alloc: Global, text: &str) -> Result<Script, CallLineFault> {
     match read_script(alloc, text.as_bytes()) {
         Ok(script) => Ok(script),
-        Err(_) => Err(LineFault::NoScript),
+        Err(_) => Err(CallLineFault::NoScript),
     }
 }
 
 /// The page of a script after all its main frames.
-pub fn page_of(alloc: Global, text: &str) -> Result<LayerTree, LineFault> {
+pub fn page_of(alloc: Global, text: &str) -> Result<LayerTree, CallLineFault> {
     let script = script_of(alloc, text)?;
     Ok(script.page(alloc)?)
 }
 
 /// The commands of the last main frame of a script's text.
-fn last_frame(alloc: Global, text: &str) -> Result<Vec<Command>, LineFault> {
+fn last_frame(alloc: Global, text: &str) -> Result<Vec<Command>, CallLineFault> {
     match read_parts(alloc, text.as_bytes()) {
-        Ok(mut parts) => parts.main.pop().ok_or(LineFault::NoScript),
-        Err(_) => Err(LineFault::NoScript),
+        Ok(mut parts) => parts.main.pop().ok_or(CallLineFault::NoScript),
+        Err(_) => Err(CallLineFault::NoScript),
     }
 }
 
 /// The commands of a text with commas between.
-pub fn commands_of(alloc: Global, commands: &str) -> Result<Vec<Command>, LineFault> {
+pub fn commands_of(alloc: Global, commands: &str) -> Result<Vec<Command>, CallLineFault> {
     let text = script_text(alloc, commands)?;
     last_frame(alloc, text.as_str())
 }
 
 /// Says what the fault of a text is.
-fn say_fault(alloc: Global, fault: TextFault, answer: &mut Answer) -> Result<(), LineFault> {
+fn say_fault(alloc: Global, fault: TextFault, answer: &mut Answer) -> Result<(), CallLineFault> {
     let text = format!(in alloc; "{fault}")?;
     answer.say(text.as_str(), &[]);
     Ok(())
 }
 
 /// The fault of a text.
-pub fn reads(alloc: Global, text: &str, answer: &mut Answer) -> Result<(), LineFault> {
+pub fn reads(alloc: Global, text: &str, answer: &mut Answer) -> Result<(), CallLineFault> {
     match read_script(alloc, text.as_bytes()) {
         Ok(_) => answer.say("a script", &[]),
         Err(fault) => say_fault(alloc, fault, answer)?,
@@ -59,9 +59,9 @@ pub fn reads(alloc: Global, text: &str, answer: &mut Answer) -> Result<(), LineF
 }
 
 /// Whether the canonical text of a script is the text itself.
-pub fn prints(alloc: Global, text: &str, answer: &mut Answer) -> Result<(), LineFault> {
+pub fn prints(alloc: Global, text: &str, answer: &mut Answer) -> Result<(), CallLineFault> {
     let Ok(parts) = read_parts(alloc, text.as_bytes()) else {
-        return Err(LineFault::NoScript);
+        return Err(CallLineFault::NoScript);
     };
     let again = print_parts(alloc, &parts)?;
     if again.as_slice() == text.as_bytes() {

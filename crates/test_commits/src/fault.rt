@@ -5,7 +5,7 @@ use thiserror::Error;
 
 /// Why a line of the table can't be read.
 #[derive(Clone, Copy, Debug, Error)]
-pub enum RowFault {
+pub enum CommitRowFault {
     /// There was no memory.
     #[error("memory ran out")]
     Memory(AllocError),
@@ -29,8 +29,8 @@ pub enum RowFault {
     NotNext,
 }
 
-impl From<AllocError> for RowFault {
-    fn from(error: AllocError) -> RowFault {
-        RowFault::Memory(error)
+impl From<AllocError> for CommitRowFault {
+    fn from(error: AllocError) -> CommitRowFault {
+        CommitRowFault::Memory(error)
     }
 }

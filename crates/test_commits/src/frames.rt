@@ -1,6 +1,6 @@
 //! The main frames of a script.
 
-use crate::fault::RowFault;
+use crate::fault::CommitRowFault;
 use crate::next_tree::NextTree;
 use main_host::{MainEnd, MainHost};
 use model_history::{Moves, Script};
@@ -19,9 +19,9 @@ pub struct Frames {
 
 impl Model for Frames {
     ghost use Rattle.std.specs.Prelude.{◌≡◌, length};
-    ghost use Rattle.main_host.specs.Hosts.{HostModel};
+    ghost use Rattle.main_host.specs.Hosts.{MainHostModel};
 
-    ghost Value = { HostModel };
+    ghost Value = { MainHostModel };
 
     ghost view = { λ f. f.host };
 
@@ -43,26 +43,26 @@ impl Frames {
     }
 
     // Ends the next main frame.
-    fn end_next(&mut self) -> Result<MainEnd, RowFault> {
+    fn end_next(&mut self) -> Result<MainEnd, CommitRowFault> {
         if self.host.next_frame() as usize >= self.count {
-            return Err(RowFault::NoFrame);
+            return Err(CommitRowFault::NoFrame);
         }
         Ok(self.host.begin(&Moves::new(self.alloc))?)
     }
 
     /// Ends the next main frame, which changes nothing.
-    pub fn abort(&mut self) -> Result<(), RowFault> {
+    pub fn abort(&mut self) -> Result<(), CommitRowFault> {
         match self.end_next()? {
             MainEnd::Abort { .. } => Ok(()),
-            MainEnd::Ready(_) => Err(RowFault::OtherEnd),
+            MainEnd::Ready(_) => Err(CommitRowFault::OtherEnd),
         }
     }
 
     /// Ends the next main frame, which is committed.
-    pub fn commit(&mut self) -> Result<NextTree, RowFault> {
+    pub fn commit(&mut self) -> Result<NextTree, CommitRowFault> {
         match self.end_next()? {
             MainEnd::Ready(commit) => Ok(NextTree::of_commit(commit)),
-            MainEnd::Abort { .. } => Err(RowFault::OtherEnd),
+            MainEnd::Abort { .. } => Err(CommitRowFault::OtherEnd),
         }
     }
 }

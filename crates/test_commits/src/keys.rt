@@ -1,6 +1,6 @@
 //! The keys of a tree, as the table writes them.
 
-ghost use Rattle.geom.specs.Sides.{IsSide};
+ghost use Rattle.geom.specs.Sides.{IsLayerSide};
 ghost use Rattle.geom.specs.Covers.{IsSound};
 
 use geom::{Rect, TileKey};
@@ -12,8 +12,8 @@ use tile_visible::by_id;
 
 // All of a layer.
 fn whole_of(layer: &Layer) -> Rect
-    requires wide { IsSide layer.now.w }
-    requires tall { IsSide layer.now.h }
+    requires wide { IsLayerSide layer.now.w }
+    requires tall { IsLayerSide layer.now.h }
     ensures { IsSound result }
 {
     Rect {
@@ -26,8 +26,8 @@ fn whole_of(layer: &Layer) -> Rect
 
 // Adds the keys of a layer.
 fn add_keys(keys: &mut Vec<TileKey>, layer: &Layer, tiling: &Tiling) -> Result<(), AllocError>
-    requires wide { IsSide layer.now.w }
-    requires tall { IsSide layer.now.h }
+    requires wide { IsLayerSide layer.now.w }
+    requires tall { IsLayerSide layer.now.h }
 {
     let added = tiling.covering(layer.id, whole_of(layer))?;
     keys.extend_from_slice(added.as_slice())?;

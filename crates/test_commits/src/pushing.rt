@@ -3,7 +3,7 @@
 ghost use Rattle.std.specs.Prelude.{◌≡◌, None, IfOk, IsSome};
 ghost use Rattle.impl_trees.specs.Trees.{MayFollow};
 
-use crate::fault::RowFault;
+use crate::fault::CommitRowFault;
 use crate::frames::Frames;
 use crate::next_tree::NextTree;
 use impl_trees::may_push;
@@ -21,32 +21,32 @@ pub struct Pushing {
 }
 
 // Makes a tree the pending one, which it may be.
-fn push(trees: &mut Trees, next: NextTree) -> Result<(), RowFault>
+fn push(trees: &mut Trees, next: NextTree) -> Result<(), CommitRowFault>
     requires free { trees.old.pending ≡ None }
     requires follows { MayFollow trees.old.active next.tree next.changes }
 {
     match trees.push(next.tree, next.changes, next.frame) {
         Ok(()) => Ok(()),
-        Err((full, _, _)) => Err(RowFault::Memory(full)),
+        Err((full, _, _)) => Err(CommitRowFault::Memory(full)),
     }
 }
 
 // Makes a tree the pending one.
-fn push_tree(trees: &mut Trees, next: NextTree) -> Result<(), RowFault> {
+fn push_tree(trees: &mut Trees, next: NextTree) -> Result<(), CommitRowFault> {
     if may_push(trees, &next.tree, &next.changes) {
         push(trees, next)
     } else {
-        Err(RowFault::NotNext)
+        Err(CommitRowFault::NotNext)
     }
 }
 
 // A copy of the pending tree, which is there.
-fn copy_of_pending(trees: &Trees) -> Result<NextTree, RowFault>
+fn copy_of_pending(trees: &Trees) -> Result<NextTree, CommitRowFault>
     ensures { IfOk result (λ _. IsSome trees.now.pending) }
 {
     match trees.pending() {
         Some(pending) => Ok(NextTree::of_pushed(pending)?),
-        None => Err(RowFault::OtherTrees),
+        None => Err(CommitRowFault::OtherTrees),
     }
 }
 
@@ -61,35 +61,35 @@ impl Pushing {
     }
 
     /// Ends the next main frame, which changes nothing.
-    pub fn abort(&mut self) -> Result<(), RowFault> {
+    pub fn abort(&mut self) -> Result<(), CommitRowFault> {
         self.frames.abort()
     }
 
     /// Ends the next main frame, which is committed, and makes its tree the pending one.
-    pub fn push(&mut self) -> Result<(), RowFault> {
+    pub fn push(&mut self) -> Result<(), CommitRowFault> {
         let next = self.frames.commit()?;
         push_tree(&mut self.trees, next)
     }
 
     /// Takes the pending tree back.
-    pub fn take_back(&mut self) -> Result<(), RowFault> {
+    pub fn take_back(&mut self) -> Result<(), CommitRowFault> {
         self.taken = Some(copy_of_pending(&self.trees)?);
         self.trees.take_back();
         Ok(())
     }
 
     /// Makes the tree that was taken back the pending one again.
-    pub fn push_again(&mut self) -> Result<(), RowFault> {
+    pub fn push_again(&mut self) -> Result<(), CommitRowFault> {
         match self.taken.take() {
             Some(taken) => push_tree(&mut self.trees, taken),
-            None => Err(RowFault::OtherTrees),
+            None => Err(CommitRowFault::OtherTrees),
         }
     }
 
     /// Makes the pending tree the active one.
-    pub fn activate(&mut self) -> Result<(), RowFault> {
+    pub fn activate(&mut self) -> Result<(), CommitRowFault> {
         if self.trees.pending().is_none() {
-            return Err(RowFault::OtherTrees);
+            return Err(CommitRowFault::OtherTrees);
         }
         self.trees.activate();
         Ok(())

@@ -1,6 +1,6 @@
 //! The lines of the table.
 
-use crate::fault::RowFault;
+use crate::fault::CommitRowFault;
 use crate::keys::{told_keys, told_sum};
 use crate::pushing::Pushing;
 use script_json::read_script;
@@ -22,25 +22,25 @@ pub struct Pushes {
 }
 
 // The answer to a question about the trees.
-fn told(alloc: Global, pushing: &Pushing, question: &str) -> Result<String, RowFault> {
+fn told(alloc: Global, pushing: &Pushing, question: &str) -> Result<String, CommitRowFault> {
     match question {
         "pending" => Ok(told_keys(alloc, pushing.pending())?),
         "active" => Ok(told_keys(alloc, pushing.active())?),
         "pending sum" => Ok(told_sum(alloc, pushing.pending())?),
         "active sum" => Ok(told_sum(alloc, pushing.active())?),
-        _ => Err(RowFault::NoForm),
+        _ => Err(CommitRowFault::NoForm),
     }
 }
 
 // Does what a line without an answer says.
-fn step(pushing: &mut Pushing, word: &str) -> Result<(), RowFault> {
+fn step(pushing: &mut Pushing, word: &str) -> Result<(), CommitRowFault> {
     match word {
         "abort" => pushing.abort(),
         "push" => pushing.push(),
         "activate" => pushing.activate(),
         "back" => pushing.take_back(),
         "again" => pushing.push_again(),
-        _ => Err(RowFault::NoForm),
+        _ => Err(CommitRowFault::NoForm),
     }
 }
 
@@ -57,9 +57,9 @@ impl Pushes {
     }
 
     /// Takes a line with a script.
-    fn take_script(&mut self, text: &str) -> Result<(), RowFault> {
+    fn take_script(&mut self, text: &str) -> Result<(), CommitRowFault> {
         let Ok(script) = read_script(self.alloc, text.as_bytes()) else {
-            return Err(RowFault::NoScript);
+            return Err(CommitRowFault::NoScript);
         };
         self.pushing = Some(Pushing::new(self.alloc, script)?);
         self.scripts = self.scripts.saturating_add(1);
@@ -73,9 +73,9 @@ impl Pushes {
         line: usize,
         question: &str,
         wanted: &str,
-    ) -> Result<(), RowFault> {
+    ) -> Result<(), CommitRowFault> {
         let Some(pushing) = &self.pushing else {
-            return Err(RowFault::NoFrame);
+            return Err(CommitRowFault::NoFrame);
         };
         let told = told(self.alloc, pushing, question)?;
         if told.as_str() != wanted {
@@ -88,18 +88,18 @@ impl Pushes {
     }
 
     /// Takes a line that says what is done.
-    fn take_step(&mut self, word: &str) -> Result<(), RowFault> {
+    fn take_step(&mut self, word: &str) -> Result<(), CommitRowFault> {
         match &mut self.pushing {
             Some(pushing) => step(pushing, word),
-            None => Err(RowFault::NoFrame),
+            None => Err(CommitRowFault::NoFrame),
         }
     }
 }
 
 impl<R: Print> Table<R> for Pushes {
-    type Fault = RowFault;
+    type Fault = CommitRowFault;
 
-    fn take(&mut self, rt: &R, line: usize, text: &str) -> Result<(), RowFault> {
+    fn take(&mut self, rt: &R, line: usize, text: &str) -> Result<(), CommitRowFault> {
         match text.split_once(": ") {
             Some(("script", script)) => self.take_script(script),
             Some((question, wanted)) => self.take_question(rt, line, question, wanted),
@@ -107,7 +107,7 @@ impl<R: Print> Table<R> for Pushes {
         }
     }
 
-    fn end(&mut self, rt: &R) -> Result<(), RowFault> {
+    fn end(&mut self, rt: &R) -> Result<(), CommitRowFault> {
         let _ = rt;
         Ok(())
     }

@@ -6,25 +6,25 @@ use Rattle.std.proofs.lemmas.List.Elements.{All-set}
 use Rattle.geom.specs.declared.rect.Point.{Point}
 use Rattle.geom.specs.declared.tile.TileKey.{TileKey}
 use Rattle.page_layers.specs.Pages.{Page}
-use Rattle.viz_quads.specs.declared.shown.Shown.{Shown}
-use Rattle.viz_quads.specs.Shown.{tile_of, MayStand, AreRight}
+use Rattle.viz_quads.specs.declared.shown_tile.ShownTile.{ShownTile}
+use Rattle.viz_quads.specs.ShownTiles.{tile_of, ImageMayStand, AreShownTiles}
 
 -- a tile without its image
-abbrev pub without : Shown → Shown
+abbrev pub without : ShownTile → ShownTile
 without s = record s { image = None }
 
-same_keys : (ts : List Shown) (i : ℕ) (d : Shown)
+same_keys : (ts : List ShownTile) (i : ℕ) (d : ShownTile)
     → map (λ t. t.key) (map tile_of (slice_set ts i (without (slice_index_or ts i d)))) ≡ map (λ t. t.key) (map tile_of ts)
 same_keys [] i d = refl
 same_keys (t ∷ ts) zero d = refl
 same_keys (t ∷ ts) (suc i) d = ap (λ (keys : List TileKey). t.key ∷ keys) (same_keys ts i d)
 
-pub right_without : (ts : List Shown) (i : ℕ) (d : Shown) (p : Page) (offset : ℕ → Point) → AreRight p offset (map tile_of ts)
-    → AreRight p offset (map tile_of (slice_set ts i (without (slice_index_or ts i d))))
+pub right_without : (ts : List ShownTile) (i : ℕ) (d : ShownTile) (p : Page) (offset : ℕ → Point) → AreShownTiles p offset (map tile_of ts)
+    → AreShownTiles p offset (map tile_of (slice_set ts i (without (slice_index_or ts i d))))
 right_without ts i d p offset right =
     let s = without (slice_index_or ts i d) in
     record {
       stamp = right.stamp;
       keys = same_keys ts i d ∙ right.keys;
-      images = subst (All (MayStand p)) (sym (map-set tile_of ts i s)) (All-set (MayStand p) (map tile_of ts) i (tile_of s) tt right.images);
+      images = subst (All (ImageMayStand p)) (sym (map-set tile_of ts i s)) (All-set (ImageMayStand p) (map tile_of ts) i (tile_of s) tt right.images);
     }

@@ -2,7 +2,7 @@
 
 use crate::answer::Answer;
 use crate::asks;
-use crate::fault::LineFault;
+use crate::fault::DamageLineFault;
 use crate::pages::scene_of_script;
 use crate::parts::{image_of, scene_of_text};
 use crate::words::{numbers, whole};
@@ -16,7 +16,7 @@ use viz_scene::Scene;
 
 /// What was read of the table so far.
 #[derive(Drop)]
-pub struct Answers {
+pub struct DamageTable {
     alloc: Global,
     /// The images of the table.
     images: Vec<Arc<TileImage>>,
@@ -31,10 +31,10 @@ pub struct Answers {
     tally: Tally,
 }
 
-impl Answers {
+impl DamageTable {
     /// Nothing was read.
-    pub fn new(alloc: Global) -> Answers {
-        Answers {
+    pub fn new(alloc: Global) -> DamageTable {
+        DamageTable {
             alloc,
             images: Vec::new(alloc),
             script: String::new(alloc),
@@ -46,16 +46,16 @@ impl Answers {
     }
 
     /// The scene of a line.
-    fn scene_of_line(&self, line: &str) -> Result<Scene, LineFault> {
+    fn scene_of_line(&self, line: &str) -> Result<Scene, DamageLineFault> {
         match line.split_once(": ") {
             Some(("scene", text)) => scene_of_text(self.alloc, self.images.as_slice(), text),
             Some(("page", text)) => scene_of_script(self.alloc, self.script.as_str(), text),
-            _ => Err(LineFault::NoScene),
+            _ => Err(DamageLineFault::NoScene),
         }
     }
 
     /// Shows both scenes and the old one again.
-    fn show_both(&self, answer: &mut Answer) -> Result<(), LineFault> {
+    fn show_both(&self, answer: &mut Answer) -> Result<(), DamageLineFault> {
         let mut painter = Painter::new(self.alloc, 1, 1)?;
         let old = self.scene_of_line(self.old.as_str())?;
         asks::show(&mut painter, old, answer)?;
@@ -68,7 +68,7 @@ impl Answers {
     }
 
     /// Answers a question about the change from the old scene to the new one.
-    fn ask_change(&self, kind: &str, answer: &mut Answer) -> Result<(), LineFault> {
+    fn ask_change(&self, kind: &str, answer: &mut Answer) -> Result<(), DamageLineFault> {
         let old = self.scene_of_line(self.old.as_str())?;
         let new = self.scene_of_line(self.new.as_str())?;
         match kind {
@@ -79,16 +79,16 @@ impl Answers {
     }
 
     /// Says the colour of the image of a number.
-    fn ask_colour(&self, question: &str, answer: &mut Answer) -> Result<(), LineFault> {
+    fn ask_colour(&self, question: &str, answer: &mut Answer) -> Result<(), DamageLineFault> {
         let [number] = numbers::<1>(question)?;
         let place = whole(number)? as usize;
-        let image = self.images.get(place).ok_or(LineFault::NoNumber)?;
+        let image = self.images.get(place).ok_or(DamageLineFault::NoNumber)?;
         asks::colour(image, answer);
         Ok(())
     }
 
     /// Answers a question.
-    fn ask(&self, kind: &str, question: &str, answer: &mut Answer) -> Result<(), LineFault> {
+    fn ask(&self, kind: &str, question: &str, answer: &mut Answer) -> Result<(), DamageLineFault> {
         match kind {
             "damage" => self.ask_change(kind, answer),
             "painted" => self.ask_change(kind, answer),
@@ -99,7 +99,7 @@ impl Answers {
                 let new = self.scene_of_line(self.new.as_str())?;
                 asks::culled(self.alloc, &new, answer)
             }
-            _ => Err(LineFault::NoForm),
+            _ => Err(DamageLineFault::NoForm),
         }
     }
 
@@ -110,7 +110,7 @@ impl Answers {
         line: usize,
         answer: &Answer,
         wanted: &str,
-    ) -> Result<(), LineFault> {
+    ) -> Result<(), DamageLineFault> {
         let told = answer.text()?;
         if told != wanted {
             let _ = rt.println(format_args!("line {line}: {told} for {wanted}"));
@@ -127,33 +127,33 @@ impl Answers {
         line: usize,
         kind: &str,
         value: &str,
-    ) -> Result<(), LineFault> {
-        let (question, wanted) = value.split_once("=> ").ok_or(LineFault::NoForm)?;
+    ) -> Result<(), DamageLineFault> {
+        let (question, wanted) = value.split_once("=> ").ok_or(DamageLineFault::NoForm)?;
         let mut answer = Answer::new(self.alloc);
         self.ask(kind, question.trim_end(), &mut answer)?;
         self.compare(rt, line, &answer, wanted)
     }
 
     /// Takes a line with a scene, which is the new one.
-    fn take_scene(&mut self, text: &str) -> Result<(), LineFault> {
+    fn take_scene(&mut self, text: &str) -> Result<(), DamageLineFault> {
         let line = text.to_string(self.alloc)?;
         self.old = std::mem::replace(&mut self.new, line);
         Ok(())
     }
 
     /// Takes a line with an image.
-    fn take_image(&mut self, text: &str) -> Result<(), LineFault> {
+    fn take_image(&mut self, text: &str) -> Result<(), DamageLineFault> {
         let image = image_of(self.alloc, text)?;
         self.images.push(image).map_err(AllocError::from)?;
         Ok(())
     }
 }
 
-impl<R: Print> Table<R> for Answers {
-    type Fault = LineFault;
+impl<R: Print> Table<R> for DamageTable {
+    type Fault = DamageLineFault;
 
-    fn take(&mut self, rt: &R, line: usize, text: &str) -> Result<(), LineFault> {
-        let (key, value) = text.split_once(": ").ok_or(LineFault::NoForm)?;
+    fn take(&mut self, rt: &R, line: usize, text: &str) -> Result<(), DamageLineFault> {
+        let (key, value) = text.split_once(": ").ok_or(DamageLineFault::NoForm)?;
         match key {
             "image" => self.take_image(value)?,
             "scene" => self.take_scene(text)?,
@@ -164,7 +164,7 @@ impl<R: Print> Table<R> for Answers {
         Ok(())
     }
 
-    fn end(&mut self, rt: &R) -> Result<(), LineFault> {
+    fn end(&mut self, rt: &R) -> Result<(), DamageLineFault> {
         let _ = rt;
         Ok(())
     }

@@ -3,7 +3,7 @@
 ghost use Rattle.std.specs.Prelude.{◌≡◌, IsTrue};
 
 use crate::answer::Answer;
-use crate::fault::LineFault;
+use crate::fault::DamageLineFault;
 use crate::pictures::{differing, drawn, point_count, say_pixels};
 use std::alloc::Global;
 use tile_raster::TileImage;
@@ -27,9 +27,9 @@ pub fn damage(
     old: &Scene,
     new: &Scene,
     answer: &mut Answer,
-) -> Result<(), LineFault> {
+) -> Result<(), DamageLineFault> {
     if !are_of_one_size(old, new) {
-        return Err(LineFault::OtherSize);
+        return Err(DamageLineFault::OtherSize);
     }
     let region = damage_of(alloc, old, new)?;
     for rect in region.rects() {
@@ -48,7 +48,7 @@ pub fn painted(
     old: &Scene,
     new: &Scene,
     answer: &mut Answer,
-) -> Result<(), LineFault> {
+) -> Result<(), DamageLineFault> {
     let before = cull(alloc, old)?;
     let after = cull(alloc, new)?;
     damage(alloc, &before, &after, answer)
@@ -60,9 +60,9 @@ pub fn redrawn(
     old: &Scene,
     new: &Scene,
     answer: &mut Answer,
-) -> Result<(), LineFault> {
+) -> Result<(), DamageLineFault> {
     if !are_of_one_size(old, new) {
-        return Err(LineFault::OtherSize);
+        return Err(DamageLineFault::OtherSize);
     }
     let mut frame = drawn(alloc, old)?;
     let region = damage_of(alloc, old, new)?;
@@ -72,7 +72,7 @@ pub fn redrawn(
 }
 
 /// Shows a scene, and says its picture.
-pub fn show(painter: &mut Painter, scene: Scene, answer: &mut Answer) -> Result<(), LineFault> {
+pub fn show(painter: &mut Painter, scene: Scene, answer: &mut Answer) -> Result<(), DamageLineFault> {
     painter.paint(scene)?;
     say_pixels(answer, painter.frame().bytes());
     Ok(())
@@ -93,7 +93,7 @@ fn say_quad(quad: &Quad, answer: &mut Answer) {
 }
 
 /// Says the quads of a scene that are not hidden.
-pub fn culled(alloc: Global, scene: &Scene, answer: &mut Answer) -> Result<(), LineFault> {
+pub fn culled(alloc: Global, scene: &Scene, answer: &mut Answer) -> Result<(), DamageLineFault> {
     let culled = cull(alloc, scene)?;
     for pass in culled.passes() {
         answer.say("pass", &[]);

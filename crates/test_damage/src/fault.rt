@@ -5,7 +5,7 @@ use thiserror::Error;
 
 /// Why a line of the table can't be read.
 #[derive(Clone, Copy, Debug, Error)]
-pub enum LineFault {
+pub enum DamageLineFault {
     /// There was no memory.
     #[error("memory ran out")]
     Memory(AllocError),
@@ -26,8 +26,8 @@ pub enum LineFault {
     OtherSize,
 }
 
-impl From<AllocError> for LineFault {
-    fn from(error: AllocError) -> LineFault {
-        LineFault::Memory(error)
+impl From<AllocError> for DamageLineFault {
+    fn from(error: AllocError) -> DamageLineFault {
+        DamageLineFault::Memory(error)
     }
 }

@@ -37,10 +37,10 @@ mod parts;
 mod pictures;
 mod words;
 
-use crate::answers::Answers;
+use crate::answers::DamageTable;
 use std::process::ExitCode;
 use test_table::check_table;
 
 fn main(rt: HostRuntime) -> ExitCode {
-    check_table(&rt, &mut Answers::new(rt.alloc()))
+    check_table(&rt, &mut DamageTable::new(rt.alloc()))
 }

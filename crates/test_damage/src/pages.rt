@@ -4,29 +4,29 @@ ghost use Rattle.std.specs.Prelude.{◌<◌, ℕ, IfOk, length, map, OnOk};
 ghost use Rattle.geom.specs.declared.rect.Point.{Point};
 ghost use Rattle.page_properties.specs.OffsetMap.{offset_at, AreOffsets};
 ghost use Rattle.page_layers.specs.Pages.{Page};
-ghost use Rattle.viz_quads.specs.Shown.{tile_of, AreRight};
+ghost use Rattle.viz_quads.specs.ShownTiles.{tile_of, AreShownTiles};
 
-use crate::fault::LineFault;
+use crate::fault::DamageLineFault;
 use crate::words::{numbers, whole};
 use page_layers::{LayerTree, main_offsets};
 use page_properties::Offsets;
 use pixel::Colour;
 use script_json::read_script;
 use std::alloc::{AllocError, Global};
-use viz_quads::{Shown, make_all, quads_of};
+use viz_quads::{ShownTile, make_all, quads_of};
 use viz_scene::Scene;
 
 // takes the image of a tile away
-fn take_image(tiles: &mut Vec<Shown>, place: usize)
+fn take_image(tiles: &mut Vec<ShownTile>, place: usize)
     requires { place < length tiles.old.items }
-    ensures { (p : Page) (offset : ℕ → Point) → AreRight p offset (map tile_of tiles.old.items) → AreRight p offset (map tile_of tiles.new.items) }
+    ensures { (p : Page) (offset : ℕ → Point) → AreShownTiles p offset (map tile_of tiles.old.items) → AreShownTiles p offset (map tile_of tiles.new.items) }
 {
     tiles[place].image = None;
 }
 
 // takes the image of the tile of a number away, where a text is one
-fn take_named(tiles: &mut Vec<Shown>, text: &str) -> Result<(), LineFault>
-    ensures { OnOk result ((p : Page) (offset : ℕ → Point) → AreRight p offset (map tile_of tiles.old.items) → AreRight p offset (map tile_of tiles.new.items)) }
+fn take_named(tiles: &mut Vec<ShownTile>, text: &str) -> Result<(), DamageLineFault>
+    ensures { OnOk result ((p : Page) (offset : ℕ → Point) → AreShownTiles p offset (map tile_of tiles.old.items) → AreShownTiles p offset (map tile_of tiles.new.items)) }
 {
     if text == "none" {
         return Ok(());
@@ -34,7 +34,7 @@ fn take_named(tiles: &mut Vec<Shown>, text: &str) -> Result<(), LineFault>
     let [place] = numbers::<1>(text)?;
     let place = whole(place)? as usize;
     if place >= tiles.len() {
-        return Err(LineFault::NoPage);
+        return Err(DamageLineFault::NoPage);
     }
     take_image(tiles, place);
     Ok(())
@@ -46,9 +46,9 @@ fn tiles_of(
     tree: &LayerTree,
     offsets: &Offsets,
     missing: &str,
-) -> Result<Vec<Shown>, LineFault>
+) -> Result<Vec<ShownTile>, DamageLineFault>
     requires { AreOffsets (offset_at offsets.now) }
-    ensures { IfOk result (λ tiles. AreRight tree.now (offset_at offsets.now) (map tile_of tiles.items)) }
+    ensures { IfOk result (λ tiles. AreShownTiles tree.now (offset_at offsets.now) (map tile_of tiles.items)) }
 {
     let mut tiles = make_all(alloc, tree, offsets)?;
     take_named(&mut tiles, missing)?;
@@ -69,7 +69,7 @@ fn scene_of_page(
     tree: &LayerTree,
     background: Colour,
     missing: &str,
-) -> Result<Scene, LineFault> {
+) -> Result<Scene, DamageLineFault> {
     let view = tree.view();
     let offsets = offsets_of(alloc, tree)?;
     let tiles = tiles_of(alloc, tree, &offsets, missing)?;
@@ -88,9 +88,9 @@ fn scene_of_page(
 
 /// The scene of the page of a script after all its main frames, whose scrollers stand at their main values, and
 /// where the tile of a number is missing; the text is the number or `none`.
-pub fn scene_of_script(alloc: Global, script: &str, missing: &str) -> Result<Scene, LineFault> {
+pub fn scene_of_script(alloc: Global, script: &str, missing: &str) -> Result<Scene, DamageLineFault> {
     let Ok(script) = read_script(alloc, script.as_bytes()) else {
-        return Err(LineFault::NoPage);
+        return Err(DamageLineFault::NoPage);
     };
     let background = script.background();
     let page = script.page(alloc)?;

@@ -3,39 +3,39 @@
 ghost use Rattle.std.specs.Prelude.{IfOk, IsTrue};
 ghost use Rattle.geom.specs.Covers.{IsSound, IsSpan};
 
-use crate::fault::LineFault;
+use crate::fault::DamageLineFault;
 use geom::{Point, Rect};
 use pixel::Colour;
 
 /// The numbers of a text, with blanks between. There have to be exactly so many.
-pub fn numbers<const N: usize>(text: &str) -> Result<[i32; N], LineFault> {
+pub fn numbers<const N: usize>(text: &str) -> Result<[i32; N], DamageLineFault> {
     let mut words = text.split_whitespace();
     let mut all = [0; N];
     for number in &mut all {
-        let word = words.next().ok_or(LineFault::NoNumber)?;
-        *number = word.parse::<i32>().map_err(|_| LineFault::NoNumber)?;
+        let word = words.next().ok_or(DamageLineFault::NoNumber)?;
+        *number = word.parse::<i32>().map_err(|_| DamageLineFault::NoNumber)?;
     }
     match words.next() {
         None => Ok(all),
-        Some(_) => Err(LineFault::NoNumber),
+        Some(_) => Err(DamageLineFault::NoNumber),
     }
 }
 
 /// A number that is not negative.
-pub fn whole(number: i32) -> Result<u32, LineFault> {
-    u32::try_from(number).map_err(|_| LineFault::NoNumber)
+pub fn whole(number: i32) -> Result<u32, DamageLineFault> {
+    u32::try_from(number).map_err(|_| DamageLineFault::NoNumber)
 }
 
 /// A number up to 255.
-pub fn byte(number: i32) -> Result<u8, LineFault> {
-    u8::try_from(number).map_err(|_| LineFault::NoNumber)
+pub fn byte(number: i32) -> Result<u8, DamageLineFault> {
+    u8::try_from(number).map_err(|_| DamageLineFault::NoNumber)
 }
 
 /// A colour of its red, green, blue and alpha.
-pub fn colour([r, g, b, a]: [i32; 4]) -> Result<Colour, LineFault> {
+pub fn colour([r, g, b, a]: [i32; 4]) -> Result<Colour, DamageLineFault> {
     let (r, g) = (byte(r)?, byte(g)?);
     let (b, a) = (byte(b)?, byte(a)?);
-    Colour::new(r, g, b, a).ok_or(LineFault::NoNumber)
+    Colour::new(r, g, b, a).ok_or(DamageLineFault::NoNumber)
 }
 
 // whether a number is at most 2048 in absolute value
@@ -53,7 +53,7 @@ fn is_span(at: i32, len: i32) -> bool
 }
 
 /// A rect near the screen, with sides from 0 to 2048 pixels.
-pub fn rect(numbers: [i32; 4]) -> Result<Rect, LineFault>
+pub fn rect(numbers: [i32; 4]) -> Result<Rect, DamageLineFault>
     ensures { IfOk result IsSound }
 {
     let [x, y, w, h] = numbers;
@@ -62,13 +62,13 @@ pub fn rect(numbers: [i32; 4]) -> Result<Rect, LineFault>
     if across && down {
         return Ok(Rect { x, y, w, h });
     }
-    Err(LineFault::NoNumber)
+    Err(DamageLineFault::NoNumber)
 }
 
 /// A point near the screen.
-pub fn point([x, y]: [i32; 2]) -> Result<Point, LineFault> {
+pub fn point([x, y]: [i32; 2]) -> Result<Point, DamageLineFault> {
     if is_near(x) && is_near(y) {
         return Ok(Point { x, y });
     }
-    Err(LineFault::NoNumber)
+    Err(DamageLineFault::NoNumber)
 }

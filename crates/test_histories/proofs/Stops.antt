@@ -13,8 +13,8 @@ use Rattle.model_history.specs.Due.{due}
 use Rattle.model_history.specs.Legal.{is_open, can, Next, Legal}
 use Rattle.impl_log.specs.Runs.{Run, past, with_entry, Entered}
 use Rattle.proxy_single_thread.specs.Singles.{HasKind}
-use Rattle.recording_judge.specs.Judging.{Enters}
-use Rattle.test_histories.specs.Walks.{StopsAt, Takes}
+use Rattle.recording_judge.specs.Judging.{JudgesEntry}
+use Rattle.test_histories.specs.Walks.{WalkStopsAt, WalkTakes}
 
 -- ---- an entry that may come
 
@@ -77,7 +77,7 @@ newest_at (y ∷ before) x (suc n) is = newest_at before x n (omega (arith, is))
 
 -- what was entered tells whether the entry was
 pub taken : (old new : Run) (e : Entry) (b : Bool) → Entered old (kind_of e.event) e.actor new
-    → ((before : List Entry) (newest : Entry) → new.entries ≡ before ++ newest ∷ [] → Decides b (newest.event ≡ e.event)) → Takes old e new b
+    → ((before : List Entry) (newest : Entry) → new.entries ≡ before ++ newest ∷ [] → Decides b (newest.event ≡ e.event)) → WalkTakes old e new b
 taken old new e true entered tells =
     let same = (tells old.entries (record { actor = e.actor; event = entered.event }) (ap (λ (r : Run). r.entries) entered.is_entered)).0 refl in
     subst (λ (x : Event). new ≡ with_entry old e.actor x) same entered.is_entered
@@ -86,7 +86,7 @@ taken old new e false entered tells = λ next.
     absurd (cc ((tells old.entries (record { actor = e.actor; event = entered.event }) (ap (λ (r : Run). r.entries) entered.is_entered)).1 same))
 
 -- what a judge says of an entry tells whether the entry may come
-pub judged : (old new : Run) (e : Entry) (b : Bool) → Enters old e new b → Takes old e new b
+pub judged : (old new : Run) (e : Entry) (b : Bool) → JudgesEntry old e new b → WalkTakes old e new b
 judged old new e true enters = enters.1
 judged old new e false enters = enters.0
 
@@ -94,7 +94,7 @@ judged old new e false enters = enters.0
 
 -- the entries before a place were taken, and the one there may not come
 pub stops_here : (s : ScriptModel) (n : ℕ) (r new : Run) (entries : List Entry) (place : ℕ) (e : Entry) (b : Bool) → r.script ≡ s → r.workers ≡ n → place < length entries → e ≡ get_or entries place e → r.entries ≡ take place entries
-    → Legal r.script r.workers (past r) → Takes r e new b → b ≡ false → StopsAt s n entries place
+    → Legal r.script r.workers (past r) → WalkTakes r e new b → b ≡ false → WalkStopsAt s n entries place
 stops_here s n r new entries place e true script workers lt is taken legal stops none = absurd (cc (none))
 stops_here s n r new entries place e false script workers lt is taken legal stops none = record {
   before = r.entries;

@@ -1,6 +1,6 @@
 //! What a compositor tells between two entries of a history.
 
-use crate::fault::LineFault;
+use crate::fault::HistoryLineFault;
 use geom::TileKey;
 use impl_core::Core;
 use model_scroll_values::Synced;
@@ -43,15 +43,15 @@ fn values_text(alloc: Global, core: &Core, scroller: u32) -> Result<String, Allo
 
 /// What a compositor answers to `upcoming MOST`, `values SCROLLER` or `used`. An error is want of memory, or a
 /// question that is none of them.
-pub fn answer(alloc: Global, run: &mut SingleThread, question: &str) -> Result<String, LineFault> {
+pub fn answer(alloc: Global, run: &mut SingleThread, question: &str) -> Result<String, HistoryLineFault> {
     if question == "used" {
         return Ok(format!(in alloc; " {}", run.core().used())?);
     }
-    let (word, number) = question.split_once(' ').ok_or(LineFault::NoForm)?;
-    let number = number.parse::<u32>().map_err(|_| LineFault::NoForm)?;
+    let (word, number) = question.split_once(' ').ok_or(HistoryLineFault::NoForm)?;
+    let number = number.parse::<u32>().map_err(|_| HistoryLineFault::NoForm)?;
     match word {
         "upcoming" => Ok(upcoming_text(alloc, run, number)?),
         "values" => Ok(values_text(alloc, run.core(), number)?),
-        _ => Err(LineFault::NoForm),
+        _ => Err(HistoryLineFault::NoForm),
     }
 }

@@ -5,7 +5,7 @@ use thiserror::Error;
 
 /// Why a line of the table can't be read.
 #[derive(Clone, Copy, Debug, Error)]
-pub enum LineFault {
+pub enum HistoryLineFault {
     /// There was no memory.
     #[error("memory ran out")]
     Memory(AllocError),
@@ -32,8 +32,8 @@ pub enum LineFault {
     Stopped,
 }
 
-impl From<AllocError> for LineFault {
-    fn from(error: AllocError) -> LineFault {
-        LineFault::Memory(error)
+impl From<AllocError> for HistoryLineFault {
+    fn from(error: AllocError) -> HistoryLineFault {
+        HistoryLineFault::Memory(error)
     }
 }

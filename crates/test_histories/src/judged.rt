@@ -3,7 +3,7 @@
 ghost use Rattle.std.specs.Prelude.{◌≡◌, ◌≤◌, [], IfOk};
 ghost use Rattle.test_histories.specs.Walks.{EndsAt};
 
-use crate::fault::LineFault;
+use crate::fault::HistoryLineFault;
 use model_history::{Entry, Script};
 use recording_judge::Judge;
 use std::alloc::{AllocError, Global};
@@ -34,13 +34,13 @@ pub fn judged_at(
     script: Arc<Script>,
     workers: u32,
     entries: &[Entry],
-) -> Result<Option<usize>, LineFault>
+) -> Result<Option<usize>, HistoryLineFault>
     ensures { IfOk result (λ place. EndsAt script.value workers entries.now place) }
 {
     if workers < 1 || workers > 16 {
-        return Err(LineFault::NoWorkers);
+        return Err(HistoryLineFault::NoWorkers);
     }
-    let mut judge = Judge::new(alloc, script, workers).map_err(LineFault::Memory)?;
-    let place = refused_in(&mut judge, entries).map_err(LineFault::Memory)?;
+    let mut judge = Judge::new(alloc, script, workers).map_err(HistoryLineFault::Memory)?;
+    let place = refused_in(&mut judge, entries).map_err(HistoryLineFault::Memory)?;
     Ok(place)
 }

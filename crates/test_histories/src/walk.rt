@@ -6,10 +6,10 @@ ghost use Rattle.model_history.specs.declared.history.Entry.{Entry};
 ghost use Rattle.model_history.specs.Legal.{Legal};
 ghost use Rattle.impl_log.specs.Runs.{new_run, past};
 ghost use Rattle.proxy_single_thread.specs.Singles.{HasKind};
-ghost use Rattle.test_histories.specs.Walks.{EndsAt, Takes};
+ghost use Rattle.test_histories.specs.Walks.{EndsAt, WalkTakes};
 
 use crate::asked::answer;
-use crate::fault::LineFault;
+use crate::fault::HistoryLineFault;
 use impl_log::kind_of;
 use model_history::{Entry, Event, History, Script};
 use model_lockstep::EnterFault;
@@ -48,7 +48,7 @@ fn is_newest(history: &History, event: &Event) -> bool
 
 // Asks for the event of an entry's kind and actor, and answers whether that is the entry's.
 fn takes(run: &mut SingleThread, entry: &Entry) -> Result<bool, AllocError>
-    ensures { IfOk result (λ yes. Takes run.old.run entry.now run.new.run yes) }
+    ensures { IfOk result (λ yes. WalkTakes run.old.run entry.now run.new.run yes) }
 {
     let kind = kind_of(&entry.event);
     if !has_kind(kind, entry.actor, run.workers()) {
@@ -69,7 +69,7 @@ fn is_legal(run: &SingleThread)
 }
 
 // The place of the first entry that a run does not take; None where it takes them all.
-fn stops_in(run: &mut SingleThread, entries: &[Entry]) -> Result<Option<usize>, LineFault>
+fn stops_in(run: &mut SingleThread, entries: &[Entry]) -> Result<Option<usize>, HistoryLineFault>
     requires { run.old.run.entries ≡ [] }
     ensures { IfOk result (λ place. EndsAt run.old.run.script run.old.run.workers entries.now place) }
 {
@@ -78,7 +78,7 @@ fn stops_in(run: &mut SingleThread, entries: &[Entry]) -> Result<Option<usize>, 
         match takes(run, &entries[place]) {
             Ok(true) => {}
             Ok(false) => return Ok(Some(place)),
-            Err(refused) => return Err(LineFault::Memory(refused)),
+            Err(refused) => return Err(HistoryLineFault::Memory(refused)),
         }
     }
     is_legal(run);
@@ -91,7 +91,7 @@ fn give_up(run: SingleThread) {
 }
 
 // The same, and gives the run up.
-fn walk_through(run: SingleThread, entries: &[Entry]) -> Result<Option<usize>, LineFault>
+fn walk_through(run: SingleThread, entries: &[Entry]) -> Result<Option<usize>, HistoryLineFault>
     requires { run.run.entries ≡ [] }
     ensures { IfOk result (λ place. EndsAt run.run.script run.run.workers entries.now place) }
 {
@@ -102,13 +102,13 @@ fn walk_through(run: SingleThread, entries: &[Entry]) -> Result<Option<usize>, L
 }
 
 // A run that has not begun, for 1 to 16 workers.
-fn begin(alloc: Global, script: Arc<Script>, workers: u32) -> Result<SingleThread, LineFault>
+fn begin(alloc: Global, script: Arc<Script>, workers: u32) -> Result<SingleThread, HistoryLineFault>
     ensures { IfOk result (λ run. run.run ≡ new_run script.value workers) }
 {
     if workers < 1 || workers > 16 {
-        return Err(LineFault::NoWorkers);
+        return Err(HistoryLineFault::NoWorkers);
     }
-    SingleThread::new(alloc, script, workers).map_err(LineFault::Memory)
+    SingleThread::new(alloc, script, workers).map_err(HistoryLineFault::Memory)
 }
 
 /// The place of the first entry of a history that may not come after those before it, in a run with 1 to 16
@@ -119,7 +119,7 @@ pub fn stops_at(
     script: Arc<Script>,
     workers: u32,
     entries: &[Entry],
-) -> Result<Option<usize>, LineFault>
+) -> Result<Option<usize>, HistoryLineFault>
     ensures { IfOk result (λ place. EndsAt script.value workers entries.now place) }
 {
     let run = begin(alloc, script, workers)?;
@@ -134,11 +134,11 @@ pub fn asked_after(
     workers: u32,
     entries: &[Entry],
     question: &str,
-) -> Result<String, LineFault> {
+) -> Result<String, HistoryLineFault> {
     let mut run = begin(alloc, script, workers)?;
     let told = match stops_in(&mut run, entries) {
         Ok(None) => answer(alloc, &mut run, question),
-        Ok(Some(_)) => Err(LineFault::Stopped),
+        Ok(Some(_)) => Err(HistoryLineFault::Stopped),
         Err(fault) => Err(fault),
     };
     give_up(run);

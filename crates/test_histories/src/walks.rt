@@ -1,6 +1,6 @@
 //! The lines of the table, one after another.
 
-use crate::fault::LineFault;
+use crate::fault::HistoryLineFault;
 use crate::judged::judged_at;
 use crate::lines::{changed, entries};
 use crate::walk::{asked_after, stops_at};
@@ -73,9 +73,9 @@ impl Walks {
         line: usize,
         lines: &str,
         wanted: Option<usize>,
-    ) -> Result<(), LineFault> {
+    ) -> Result<(), HistoryLineFault> {
         let Some(script) = &self.script else {
-            return Err(LineFault::NothingAbove);
+            return Err(HistoryLineFault::NothingAbove);
         };
         let (walked, judged) = (Arc::try_clone(script)?, Arc::try_clone(script)?);
         let entries = entries(self.alloc, lines)?;
@@ -88,7 +88,7 @@ impl Walks {
     }
 
     /// Takes a line with a script.
-    fn take_script(&mut self, text: &str) -> Result<(), LineFault> {
+    fn take_script(&mut self, text: &str) -> Result<(), HistoryLineFault> {
         match read_script(self.alloc, text.as_bytes()) {
             Ok(script) => match Arc::new(self.alloc, script) {
                 Ok(script) => {
@@ -97,17 +97,17 @@ impl Walks {
                     self.workers = 1;
                     Ok(())
                 }
-                Err(full) => Err(LineFault::Memory(full.into())),
+                Err(full) => Err(HistoryLineFault::Memory(full.into())),
             },
-            Err(_) => Err(LineFault::NoScript),
+            Err(_) => Err(HistoryLineFault::NoScript),
         }
     }
 
     /// Takes a line with a number of workers.
-    fn take_workers(&mut self, text: &str) -> Result<(), LineFault> {
-        let workers = text.parse::<u32>().map_err(|_| LineFault::NoForm)?;
+    fn take_workers(&mut self, text: &str) -> Result<(), HistoryLineFault> {
+        let workers = text.parse::<u32>().map_err(|_| HistoryLineFault::NoForm)?;
         if workers < 1 || workers > 16 {
-            return Err(LineFault::NoWorkers);
+            return Err(HistoryLineFault::NoWorkers);
         }
         self.workers = workers;
         self.history = None;
@@ -121,7 +121,7 @@ impl Walks {
         line: usize,
         title: &str,
         lines: &str,
-    ) -> Result<(), LineFault> {
+    ) -> Result<(), HistoryLineFault> {
         self.is_left_out = !self.titles.has(title);
         if self.is_left_out {
             return Ok(());
@@ -132,13 +132,13 @@ impl Walks {
     }
 
     /// Takes a line with a change of the history above: `OLD => NEW | N WHAT`.
-    fn take_change<R: Print>(&mut self, rt: &R, line: usize, row: &str) -> Result<(), LineFault> {
-        let (change, end) = row.rsplit_once(" | ").ok_or(LineFault::NoForm)?;
-        let (old, new) = change.split_once(" => ").ok_or(LineFault::NoForm)?;
-        let (place, _) = end.split_once(' ').ok_or(LineFault::NoForm)?;
-        let place = place.parse::<usize>().map_err(|_| LineFault::NoForm)?;
+    fn take_change<R: Print>(&mut self, rt: &R, line: usize, row: &str) -> Result<(), HistoryLineFault> {
+        let (change, end) = row.rsplit_once(" | ").ok_or(HistoryLineFault::NoForm)?;
+        let (old, new) = change.split_once(" => ").ok_or(HistoryLineFault::NoForm)?;
+        let (place, _) = end.split_once(' ').ok_or(HistoryLineFault::NoForm)?;
+        let place = place.parse::<usize>().map_err(|_| HistoryLineFault::NoForm)?;
         let Some(history) = &self.history else {
-            return Err(LineFault::NothingAbove);
+            return Err(HistoryLineFault::NothingAbove);
         };
         let lines = changed(self.alloc, history.as_str(), old, new)?;
         self.changed = self.changed.saturating_add(1);
@@ -146,16 +146,16 @@ impl Walks {
     }
 
     /// Takes a line with a question that is asked inside of the history above: `N QUESTION: ANSWER`.
-    fn take_question<R: Print>(&mut self, rt: &R, line: usize, row: &str) -> Result<(), LineFault> {
-        let (asked, wanted) = row.split_once(':').ok_or(LineFault::NoForm)?;
-        let (count, question) = asked.split_once(' ').ok_or(LineFault::NoForm)?;
-        let count = count.parse::<usize>().map_err(|_| LineFault::NoForm)?;
+    fn take_question<R: Print>(&mut self, rt: &R, line: usize, row: &str) -> Result<(), HistoryLineFault> {
+        let (asked, wanted) = row.split_once(':').ok_or(HistoryLineFault::NoForm)?;
+        let (count, question) = asked.split_once(' ').ok_or(HistoryLineFault::NoForm)?;
+        let count = count.parse::<usize>().map_err(|_| HistoryLineFault::NoForm)?;
         let (Some(script), Some(history)) = (&self.script, &self.history) else {
-            return Err(LineFault::NothingAbove);
+            return Err(HistoryLineFault::NothingAbove);
         };
         let script = Arc::try_clone(script)?;
         let entries = entries(self.alloc, history.as_str())?;
-        let before = entries.as_slice().get(..count).ok_or(LineFault::NoForm)?;
+        let before = entries.as_slice().get(..count).ok_or(HistoryLineFault::NoForm)?;
         let told = asked_after(self.alloc, script, self.workers, before, question)?;
         if told.as_str() != wanted {
             let _ = rt.println(format_args!("line {line}:{told} for{wanted}"));
@@ -167,9 +167,9 @@ impl Walks {
 }
 
 impl<R: Print> Table<R> for Walks {
-    type Fault = LineFault;
+    type Fault = HistoryLineFault;
 
-    fn take(&mut self, rt: &R, line: usize, text: &str) -> Result<(), LineFault> {
+    fn take(&mut self, rt: &R, line: usize, text: &str) -> Result<(), HistoryLineFault> {
         if self.is_left_out && text.starts_with("    ") {
             return Ok(());
         }
@@ -179,18 +179,18 @@ impl<R: Print> Table<R> for Walks {
         if let Some(row) = text.strip_prefix("    ") {
             return self.take_change(rt, line, row);
         }
-        let (key, value) = text.split_once(": ").ok_or(LineFault::NoForm)?;
+        let (key, value) = text.split_once(": ").ok_or(HistoryLineFault::NoForm)?;
         if let Some(title) = key.strip_prefix("history ") {
             return self.take_history(rt, line, title, value);
         }
         match key {
             "script" => self.take_script(value),
             "workers" => self.take_workers(value),
-            _ => Err(LineFault::NoForm),
+            _ => Err(HistoryLineFault::NoForm),
         }
     }
 
-    fn end(&mut self, rt: &R) -> Result<(), LineFault> {
+    fn end(&mut self, rt: &R) -> Result<(), HistoryLineFault> {
         let _ = rt;
         Ok(())
     }

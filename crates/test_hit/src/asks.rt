@@ -4,9 +4,9 @@ ghost use Rattle.std.specs.Prelude.{◌≡◌, IsTrue, IfOk};
 ghost use Rattle.page_properties.specs.OffsetMap.{offset_at, AreOffsets};
 ghost use Rattle.page_hit_test.specs.Wheels.{IsAmount, AreWithinRanges};
 
-use crate::fault::RowFault;
+use crate::fault::HitRowFault;
 use geom::Point;
-use page_hit_test::{Part, Wheel, main_values_are_within_ranges};
+use page_hit_test::{WheelPart, Wheel, main_values_are_within_ranges};
 use page_layers::{LayerTree, main_offsets};
 use page_properties::Offsets;
 use std::alloc::{AllocError, Global};
@@ -40,18 +40,18 @@ fn offsets_of(alloc: Global, tree: &LayerTree) -> Result<Offsets, AllocError>
 }
 
 // What a wheel of so much at a point does.
-fn wheel(alloc: Global, tree: &LayerTree, at: Point, asked: Point) -> Result<Wheel, RowFault> {
+fn wheel(alloc: Global, tree: &LayerTree, at: Point, asked: Point) -> Result<Wheel, HitRowFault> {
     let across = is_amount(asked.x);
     let down = is_amount(asked.y);
     if !across || !down {
-        return Err(RowFault::TooFar);
+        return Err(HitRowFault::TooFar);
     }
     let offsets = offsets_of(alloc, tree)?;
     Ok(page_hit_test::wheel_parts(alloc, tree, &offsets, at, asked)?)
 }
 
 // A part of a wheel: the scroller, and how far it moves.
-fn part_text(alloc: Global, part: &Part) -> Result<String, AllocError> {
+fn part_text(alloc: Global, part: &WheelPart) -> Result<String, AllocError> {
     format!(in alloc; " {}:{},{}", part.scroller, part.by.x, part.by.y)
 }
 
@@ -84,7 +84,7 @@ fn chain_text(alloc: Global, chain: &[u32]) -> Result<String, AllocError> {
 }
 
 /// The answer to a question, as the table writes it.
-pub fn answer(alloc: Global, tree: &LayerTree, question: Question) -> Result<String, RowFault> {
+pub fn answer(alloc: Global, tree: &LayerTree, question: Question) -> Result<String, HitRowFault> {
     match question {
         Question::Target(at) => {
             let offsets = offsets_of(alloc, tree)?;

@@ -5,7 +5,7 @@ use thiserror::Error;
 
 /// Why a line of the table can't be read.
 #[derive(Clone, Copy, Debug, Error)]
-pub enum RowFault {
+pub enum HitRowFault {
     /// There was no memory.
     #[error("memory ran out")]
     Memory(AllocError),
@@ -23,8 +23,8 @@ pub enum RowFault {
     TooFar,
 }
 
-impl From<AllocError> for RowFault {
-    fn from(error: AllocError) -> RowFault {
-        RowFault::Memory(error)
+impl From<AllocError> for HitRowFault {
+    fn from(error: AllocError) -> HitRowFault {
+        HitRowFault::Memory(error)
     }
 }

@@ -1,7 +1,7 @@
 //! The lines of the table, one after another.
 
 use crate::asks::{Question, answer};
-use crate::fault::RowFault;
+use crate::fault::HitRowFault;
 use geom::Point;
 use page_layers::LayerTree;
 use script_json::read_script;
@@ -24,22 +24,22 @@ pub(crate) struct Questions {
 }
 
 /// A whole number of a line.
-fn number(word: Option<&str>) -> Result<i32, RowFault> {
-    let word = word.ok_or(RowFault::NoForm)?;
-    word.parse::<i32>().map_err(|_| RowFault::NoForm)
+fn number(word: Option<&str>) -> Result<i32, HitRowFault> {
+    let word = word.ok_or(HitRowFault::NoForm)?;
+    word.parse::<i32>().map_err(|_| HitRowFault::NoForm)
 }
 
 /// Two numbers of a line.
-fn point(x: Option<&str>, y: Option<&str>) -> Result<Point, RowFault> {
+fn point(x: Option<&str>, y: Option<&str>) -> Result<Point, HitRowFault> {
     let x = number(x)?;
     let y = number(y)?;
     Ok(Point { x, y })
 }
 
 /// The id of a layer.
-fn id(word: Option<&str>) -> Result<u32, RowFault> {
-    let word = word.ok_or(RowFault::NoForm)?;
-    word.parse::<u32>().map_err(|_| RowFault::NoForm)
+fn id(word: Option<&str>) -> Result<u32, HitRowFault> {
+    let word = word.ok_or(HitRowFault::NoForm)?;
+    word.parse::<u32>().map_err(|_| HitRowFault::NoForm)
 }
 
 /// Whether a question has as many words as its kind has, and no more.
@@ -57,7 +57,7 @@ fn has_its_words(text: &str) -> bool {
 }
 
 /// The question of a line: `target X Y`, `chain LAYER` or `wheel X Y DX DY`.
-fn question(text: &str) -> Result<Question, RowFault> {
+fn question(text: &str) -> Result<Question, HitRowFault> {
     let mut words = text.split(' ');
     match words.next() {
         Some("target") => Ok(Question::Target(point(words.next(), words.next())?)),
@@ -67,7 +67,7 @@ fn question(text: &str) -> Result<Question, RowFault> {
             let asked = point(words.next(), words.next())?;
             Ok(Question::Wheel { at, asked })
         }
-        _ => Err(RowFault::NoForm),
+        _ => Err(HitRowFault::NoForm),
     }
 }
 
@@ -84,9 +84,9 @@ impl Questions {
     }
 
     /// Takes a line with a script, whose page after all its main frames is asked about.
-    fn take_script(&mut self, text: &str) -> Result<(), RowFault> {
+    fn take_script(&mut self, text: &str) -> Result<(), HitRowFault> {
         let Ok(script) = read_script(self.alloc, text.as_bytes()) else {
-            return Err(RowFault::NoScript);
+            return Err(HitRowFault::NoScript);
         };
         self.page = Some(script.page(self.alloc)?);
         self.pages = self.pages.saturating_add(1);
@@ -94,13 +94,13 @@ impl Questions {
     }
 
     /// Takes a line with a question and its answer, and tells where another one came.
-    fn take_question(&mut self, rt: &HostRuntime, line: usize, text: &str) -> Result<(), RowFault> {
-        let (asked, wanted) = text.split_once(" => ").ok_or(RowFault::NoForm)?;
+    fn take_question(&mut self, rt: &HostRuntime, line: usize, text: &str) -> Result<(), HitRowFault> {
+        let (asked, wanted) = text.split_once(" => ").ok_or(HitRowFault::NoForm)?;
         let Some(page) = &self.page else {
-            return Err(RowFault::NothingAbove);
+            return Err(HitRowFault::NothingAbove);
         };
         if !has_its_words(asked) {
-            return Err(RowFault::NoForm);
+            return Err(HitRowFault::NoForm);
         }
         let told = answer(self.alloc, page, question(asked)?)?;
         self.count = self.count.saturating_add(1);
@@ -113,16 +113,16 @@ impl Questions {
 }
 
 impl Table<HostRuntime> for Questions {
-    type Fault = RowFault;
+    type Fault = HitRowFault;
 
-    fn take(&mut self, rt: &HostRuntime, line: usize, text: &str) -> Result<(), RowFault> {
+    fn take(&mut self, rt: &HostRuntime, line: usize, text: &str) -> Result<(), HitRowFault> {
         match text.strip_prefix("script: ") {
             Some(script) => self.take_script(script),
             None => self.take_question(rt, line, text),
         }
     }
 
-    fn end(&mut self, rt: &HostRuntime) -> Result<(), RowFault> {
+    fn end(&mut self, rt: &HostRuntime) -> Result<(), HitRowFault> {
         let _ = rt;
         Ok(())
     }

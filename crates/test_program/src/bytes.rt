@@ -1,23 +1,23 @@
 //! Bytes and pictures as the table writes them.
 
-use crate::fault::RowFault;
+use crate::fault::ProgramRowFault;
 use crate::numbers::number_32;
 use std::alloc::Global;
 
 /// The bytes of hexadecimal digits, in groups with blanks between.
-pub fn bytes_of(alloc: Global, text: &str) -> Result<Vec<u8>, RowFault> {
+pub fn bytes_of(alloc: Global, text: &str) -> Result<Vec<u8>, ProgramRowFault> {
     let mut bytes = Vec::new(alloc);
     for group in text.split_whitespace() {
         match hex::decode(alloc, group) {
             Ok(more) => bytes.extend_from_slice(more.as_slice())?,
-            Err(_) => return Err(RowFault::NoHex),
+            Err(_) => return Err(ProgramRowFault::NoHex),
         }
     }
     Ok(bytes)
 }
 
 /// The bytes of a picture's pixels: six digits a pixel, `N*COLOUR` for so many of a colour.
-fn pixels_of(alloc: Global, text: &str) -> Result<Vec<u8>, RowFault> {
+fn pixels_of(alloc: Global, text: &str) -> Result<Vec<u8>, ProgramRowFault> {
     let mut pixels = Vec::new(alloc);
     for group in text.split_whitespace() {
         let (count, colour) = group.split_once('*').unwrap_or(("1", group));
@@ -30,14 +30,14 @@ fn pixels_of(alloc: Global, text: &str) -> Result<Vec<u8>, RowFault> {
 }
 
 /// The image of a picture: its width, its height, and the colours of its pixels.
-pub fn image_of(alloc: Global, text: &str) -> Result<Vec<u8>, RowFault> {
-    let (width, rest) = text.split_once(' ').ok_or(RowFault::NoImage)?;
-    let (height, colours) = rest.split_once(' ').ok_or(RowFault::NoImage)?;
+pub fn image_of(alloc: Global, text: &str) -> Result<Vec<u8>, ProgramRowFault> {
+    let (width, rest) = text.split_once(' ').ok_or(ProgramRowFault::NoImage)?;
+    let (height, colours) = rest.split_once(' ').ok_or(ProgramRowFault::NoImage)?;
     let across = u64::from(number_32(width)?);
     let down = u64::from(number_32(height)?);
     let pixels = pixels_of(alloc, colours)?;
     if pixels.len() as u64 != across.saturating_mul(down).saturating_mul(3) {
-        return Err(RowFault::NoImage);
+        return Err(ProgramRowFault::NoImage);
     }
     let head = format!(in alloc; "P6\n{across} {down}\n255\n")?;
     let mut image = Vec::from_slice(alloc, head.as_bytes())?;
@@ -46,14 +46,14 @@ pub fn image_of(alloc: Global, text: &str) -> Result<Vec<u8>, RowFault> {
 }
 
 /// The bytes with one part, which stands in them once, changed.
-pub fn changed(alloc: Global, bytes: &[u8], old: &[u8], new: &[u8]) -> Result<Vec<u8>, RowFault> {
-    let at = place_of(bytes, old).ok_or(RowFault::NotOnce)?;
+pub fn changed(alloc: Global, bytes: &[u8], old: &[u8], new: &[u8]) -> Result<Vec<u8>, ProgramRowFault> {
+    let at = place_of(bytes, old).ok_or(ProgramRowFault::NotOnce)?;
     let (before, rest) = bytes.split_at(at.min(bytes.len()));
     let Some(after) = rest.strip_prefix(old) else {
-        return Err(RowFault::NotOnce);
+        return Err(ProgramRowFault::NotOnce);
     };
     if place_of(after, old).is_some() {
-        return Err(RowFault::NotOnce);
+        return Err(ProgramRowFault::NotOnce);
     }
     let mut whole = Vec::from_slice(alloc, before)?;
     whole.extend_from_slice(new)?;

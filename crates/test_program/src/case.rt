@@ -1,7 +1,7 @@
 //! A case of the table.
 
 use crate::bytes::{bytes_of, changed};
-use crate::fault::RowFault;
+use crate::fault::ProgramRowFault;
 use crate::names::Names;
 use crate::numbers::{Numbers, number, number_32, status};
 use crate::output::Output;
@@ -9,7 +9,7 @@ use std::alloc::{AllocError, Global};
 
 /// What goes wrong around the runs of a case. There is one run for each number.
 #[derive(Clone, Copy)]
-pub enum Trouble {
+pub enum InjectedFault {
     /// Nothing.
     Nothing,
     /// The read of this number fails, counted from 0.
@@ -34,7 +34,7 @@ pub struct Case {
     pub input: Option<Vec<u8>>,
     /// The most bytes of one read.
     pub step: u32,
-    pub trouble: Trouble,
+    pub trouble: InjectedFault,
     /// The numbers of its runs.
     pub numbers: Numbers,
     /// The most bytes of the notes, where there is a limit.
@@ -67,7 +67,7 @@ impl Case {
             words: words_of(alloc, "step 1")?,
             input: None,
             step: 4096,
-            trouble: Trouble::Nothing,
+            trouble: InjectedFault::Nothing,
             numbers: Numbers::ZERO,
             notes_room: None,
             status: 0,
@@ -78,22 +78,22 @@ impl Case {
     }
 
     /// Sets the trouble and its numbers.
-    fn set_trouble(&mut self, trouble: Trouble, value: &str) -> Result<(), RowFault> {
+    fn set_trouble(&mut self, trouble: InjectedFault, value: &str) -> Result<(), ProgramRowFault> {
         self.numbers = Numbers::of_text(value)?;
         self.trouble = trouble;
         Ok(())
     }
 
     /// Sets the input to a text.
-    pub fn set_input(&mut self, text: &str) -> Result<(), RowFault> {
+    pub fn set_input(&mut self, text: &str) -> Result<(), ProgramRowFault> {
         self.input = Some(Vec::from_slice(self.alloc, text.as_bytes())?);
         Ok(())
     }
 
     /// Changes a part of the input, which stands in it once.
-    fn change_bytes(&mut self, old: &[u8], new: &[u8]) -> Result<(), RowFault> {
+    fn change_bytes(&mut self, old: &[u8], new: &[u8]) -> Result<(), ProgramRowFault> {
         let Some(input) = &self.input else {
-            return Err(RowFault::NoInput);
+            return Err(ProgramRowFault::NoInput);
         };
         let input = changed(self.alloc, input.as_slice(), old, new)?;
         self.input = Some(input);
@@ -101,24 +101,24 @@ impl Case {
     }
 
     /// Changes the input as `OLD => NEW` says.
-    pub fn change(&mut self, names: &Names, value: &str) -> Result<(), RowFault> {
-        let (old, new) = value.split_once(" => ").ok_or(RowFault::NoChange)?;
+    pub fn change(&mut self, names: &Names, value: &str) -> Result<(), ProgramRowFault> {
+        let (old, new) = value.split_once(" => ").ok_or(ProgramRowFault::NoChange)?;
         let old = names.built(old)?;
         let new = names.built(new)?;
         self.change_bytes(old.as_bytes(), new.as_bytes())
     }
 
     /// Changes the input as `OLD => NEW` says, both in hexadecimal digits.
-    fn change_hex(&mut self, value: &str) -> Result<(), RowFault> {
-        let (old, new) = value.split_once(" => ").ok_or(RowFault::NoChange)?;
+    fn change_hex(&mut self, value: &str) -> Result<(), ProgramRowFault> {
+        let (old, new) = value.split_once(" => ").ok_or(ProgramRowFault::NoChange)?;
         let old = bytes_of(self.alloc, old)?;
         let new = bytes_of(self.alloc, new)?;
         self.change_bytes(old.as_slice(), new.as_slice())
     }
 
     /// Sets how the run ends: `0 LENGTH SUM` of its output, or `STATUS NOTE` with the line in the notes.
-    pub fn set_end(&mut self, text: &str) -> Result<(), RowFault> {
-        let (number, rest) = text.split_once(' ').ok_or(RowFault::NoChange)?;
+    pub fn set_end(&mut self, text: &str) -> Result<(), ProgramRowFault> {
+        let (number, rest) = text.split_once(' ').ok_or(ProgramRowFault::NoChange)?;
         self.status = status(number)?;
         if self.status == 0 {
             return self.output.set_sum(rest);
@@ -128,7 +128,7 @@ impl Case {
     }
 
     /// Takes a line of the table that says how the run is made.
-    fn take_setting(&mut self, names: &Names, key: &str, value: &str) -> Result<(), RowFault> {
+    fn take_setting(&mut self, names: &Names, key: &str, value: &str) -> Result<(), ProgramRowFault> {
         match key {
             "words" => self.words = words_of(self.alloc, value)?,
             "input" => {
@@ -139,20 +139,20 @@ impl Case {
             "input file" => self.input = Some(names.file(value)?),
             "change" => self.change(names, value)?,
             "change hex" => self.change_hex(value)?,
-            "cut" => self.set_trouble(Trouble::Cut, value)?,
+            "cut" => self.set_trouble(InjectedFault::Cut, value)?,
             "step" => self.step = number_32(value)?,
-            "room" => self.set_trouble(Trouble::Room, value)?,
-            "reads fail" => self.set_trouble(Trouble::ReadFails, value)?,
-            "puts fail" => self.set_trouble(Trouble::PutFails, value)?,
+            "room" => self.set_trouble(InjectedFault::Room, value)?,
+            "reads fail" => self.set_trouble(InjectedFault::ReadFails, value)?,
+            "puts fail" => self.set_trouble(InjectedFault::PutFails, value)?,
             "notes room" => self.notes_room = Some(number(value)?),
             "legal recording" => self.recording = true,
-            _ => return Err(RowFault::UnknownKey),
+            _ => return Err(ProgramRowFault::UnknownKey),
         }
         Ok(())
     }
 
     /// Takes a line of the table.
-    pub fn take(&mut self, names: &Names, key: &str, value: &str) -> Result<(), RowFault> {
+    pub fn take(&mut self, names: &Names, key: &str, value: &str) -> Result<(), ProgramRowFault> {
         match key {
             "status" => self.status = status(value)?,
             "note" => self.note = Some(value.to_string(self.alloc)?),

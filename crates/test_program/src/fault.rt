@@ -5,7 +5,7 @@ use thiserror::Error;
 
 /// Why a line of the table can't be read.
 #[derive(Clone, Copy, Debug, Error)]
-pub enum RowFault {
+pub enum ProgramRowFault {
     /// There was no memory.
     #[error("memory ran out")]
     Memory(AllocError),
@@ -50,8 +50,8 @@ pub enum RowFault {
     NoImage,
 }
 
-impl From<AllocError> for RowFault {
-    fn from(error: AllocError) -> RowFault {
-        RowFault::Memory(error)
+impl From<AllocError> for ProgramRowFault {
+    fn from(error: AllocError) -> ProgramRowFault {
+        ProgramRowFault::Memory(error)
     }
 }

@@ -41,13 +41,13 @@ mod output;
 mod play;
 mod table;
 
-use crate::table::{Tally, play_table};
+use crate::table::{ProgramTally, play_table};
 use std::io;
 use std::process::ExitCode;
 use test_table::Titles;
 
 /// Tells how many cases there were, and which were wrong.
-fn tell(rt: &HostRuntime, tally: &Tally) -> io::Result<bool> {
+fn tell(rt: &HostRuntime, tally: &ProgramTally) -> io::Result<bool> {
     println!(rt; "{} cases, {} runs", tally.cases, tally.runs)?;
     if let Some(line) = tally.first_wrong {
         eprintln!(rt;

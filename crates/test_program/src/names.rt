@@ -1,7 +1,7 @@
 //! The texts and files that a table names, and values that are built of the texts.
 
 use crate::bytes::image_of;
-use crate::fault::RowFault;
+use crate::fault::ProgramRowFault;
 use crate::numbers::{Numbers, number};
 use std::alloc::{AllocError, Global};
 
@@ -68,7 +68,7 @@ impl Names {
     }
 
     /// Adds the text that a value says.
-    pub fn add_text(&mut self, name: &str, value: &str) -> Result<(), RowFault> {
+    pub fn add_text(&mut self, name: &str, value: &str) -> Result<(), ProgramRowFault> {
         let text = self.built(value)?;
         let name = name.to_string(self.alloc)?;
         self.texts
@@ -89,15 +89,15 @@ impl Names {
     }
 
     /// The value with the text of each `<NAME>` in its place.
-    fn filled(&self, value: &str) -> Result<String, RowFault> {
+    fn filled(&self, value: &str) -> Result<String, ProgramRowFault> {
         let mut whole = String::new(self.alloc);
         for (i, piece) in value.split('<').enumerate() {
             if i == 0 {
                 whole.push_str(piece)?;
                 continue;
             }
-            let (name, rest) = piece.split_once('>').ok_or(RowFault::UnknownText)?;
-            let text = self.named(name).ok_or(RowFault::UnknownText)?;
+            let (name, rest) = piece.split_once('>').ok_or(ProgramRowFault::UnknownText)?;
+            let text = self.named(name).ok_or(ProgramRowFault::UnknownText)?;
             whole.push_str(text)?;
             whole.push_str(rest)?;
         }
@@ -105,7 +105,7 @@ impl Names {
     }
 
     /// The text that a value says.
-    pub fn built(&self, value: &str) -> Result<String, RowFault> {
+    pub fn built(&self, value: &str) -> Result<String, ProgramRowFault> {
         if let Some(count) = value.strip_suffix(" blanks") {
             let count = number(count)?;
             return Ok(" ".repeat(self.alloc, count as usize)?);
@@ -120,7 +120,7 @@ impl Names {
     }
 
     /// Begins a file of this name.
-    pub fn begin_file(&mut self, name: &str) -> Result<(), RowFault> {
+    pub fn begin_file(&mut self, name: &str) -> Result<(), ProgramRowFault> {
         let name = name.to_string(self.alloc)?;
         let bytes = Vec::new(self.alloc);
         self.files
@@ -130,35 +130,35 @@ impl Names {
     }
 
     /// These bytes come next in the file that was begun last.
-    fn add(&mut self, bytes: &[u8]) -> Result<(), RowFault> {
+    fn add(&mut self, bytes: &[u8]) -> Result<(), ProgramRowFault> {
         let Some(file) = self.files.last_mut() else {
-            return Err(RowFault::NoFile);
+            return Err(ProgramRowFault::NoFile);
         };
         Ok(file.bytes.extend_from_slice(bytes)?)
     }
 
     /// A line comes next in the file that was begun last.
-    pub fn add_line(&mut self, value: &str) -> Result<(), RowFault> {
+    pub fn add_line(&mut self, value: &str) -> Result<(), ProgramRowFault> {
         let line = self.built(value)?;
         self.add(line.as_bytes())?;
         self.add(b"\n")
     }
 
     /// A picture comes next in it.
-    pub fn add_image(&mut self, value: &str) -> Result<(), RowFault> {
+    pub fn add_image(&mut self, value: &str) -> Result<(), ProgramRowFault> {
         let image = image_of(self.alloc, value)?;
         self.add(image.as_slice())
     }
 
     /// The bytes of the file of this name that was begun last.
-    pub fn file(&self, name: &str) -> Result<Vec<u8>, RowFault> {
+    pub fn file(&self, name: &str) -> Result<Vec<u8>, ProgramRowFault> {
         let mut found = None;
         for one in self.files.iter() {
             if one.name.as_str() == name {
                 found = Some(one.bytes.as_slice());
             }
         }
-        let bytes = found.ok_or(RowFault::UnknownFile)?;
+        let bytes = found.ok_or(ProgramRowFault::UnknownFile)?;
         Ok(Vec::from_slice(self.alloc, bytes)?)
     }
 }

@@ -1,6 +1,6 @@
 //! Numbers and ranges of numbers as the table writes them.
 
-use crate::fault::RowFault;
+use crate::fault::ProgramRowFault;
 
 /// The numbers from `start` on and below `end`.
 #[derive(Clone, Copy)]
@@ -14,7 +14,7 @@ impl Numbers {
     pub const ZERO: Numbers = Numbers { start: 0, end: 1 };
 
     /// `A..B`, or one number alone.
-    pub fn of_text(text: &str) -> Result<Numbers, RowFault> {
+    pub fn of_text(text: &str) -> Result<Numbers, ProgramRowFault> {
         match text.split_once("..") {
             Some((start, end)) => Ok(Numbers {
                 start: number(start)?,
@@ -32,16 +32,16 @@ impl Numbers {
 }
 
 /// A number in digits.
-pub fn number(text: &str) -> Result<u64, RowFault> {
-    text.parse::<u64>().map_err(|_| RowFault::NoNumber)
+pub fn number(text: &str) -> Result<u64, ProgramRowFault> {
+    text.parse::<u64>().map_err(|_| ProgramRowFault::NoNumber)
 }
 
 /// A number of 32 bits in digits.
-pub fn number_32(text: &str) -> Result<u32, RowFault> {
-    text.parse::<u32>().map_err(|_| RowFault::NoNumber)
+pub fn number_32(text: &str) -> Result<u32, ProgramRowFault> {
+    text.parse::<u32>().map_err(|_| ProgramRowFault::NoNumber)
 }
 
 /// A status.
-pub fn status(text: &str) -> Result<u8, RowFault> {
-    text.parse::<u8>().map_err(|_| RowFault::NoNumber)
+pub fn status(text: &str) -> Result<u8, ProgramRowFault> {
+    text.parse::<u8>().map_err(|_| ProgramRowFault::NoNumber)
 }

@@ -1,7 +1,7 @@
 //! What a case says of the output.
 
 use crate::bytes::{bytes_of, image_of};
-use crate::fault::RowFault;
+use crate::fault::ProgramRowFault;
 use crate::numbers::number;
 use std::alloc::{AllocError, Global};
 
@@ -63,7 +63,7 @@ impl Output {
     }
 
     /// This line comes next; before the first, `...` stands for anything.
-    pub fn add_line(&mut self, line: &str) -> Result<(), RowFault> {
+    pub fn add_line(&mut self, line: &str) -> Result<(), ProgramRowFault> {
         if line == "..." && self.extent == Extent::Unsaid {
             self.extent = Extent::End;
             return Ok(());
@@ -74,22 +74,22 @@ impl Output {
     }
 
     /// These bytes come next, in hexadecimal digits.
-    pub fn add_hex(&mut self, alloc: Global, text: &str) -> Result<(), RowFault> {
+    pub fn add_hex(&mut self, alloc: Global, text: &str) -> Result<(), ProgramRowFault> {
         let bytes = bytes_of(alloc, text)?;
         Ok(self.add(bytes.as_slice())?)
     }
 
     /// A picture comes next: its width, its height, and the colours of its pixels.
-    pub fn add_image(&mut self, alloc: Global, text: &str) -> Result<(), RowFault> {
+    pub fn add_image(&mut self, alloc: Global, text: &str) -> Result<(), ProgramRowFault> {
         let image = image_of(alloc, text)?;
         Ok(self.add(image.as_slice())?)
     }
 
     /// The output has this length and this sum: `N SUM`, the sum in hexadecimal digits.
-    pub fn set_sum(&mut self, text: &str) -> Result<(), RowFault> {
-        let (length, sum) = text.split_once(' ').ok_or(RowFault::NoNumber)?;
+    pub fn set_sum(&mut self, text: &str) -> Result<(), ProgramRowFault> {
+        let (length, sum) = text.split_once(' ').ok_or(ProgramRowFault::NoNumber)?;
         let length = number(length)?;
-        let sum = u64::from_str_radix(sum, 16).map_err(|_| RowFault::NoNumber)?;
+        let sum = u64::from_str_radix(sum, 16).map_err(|_| ProgramRowFault::NoNumber)?;
         self.extent = Extent::Sum { length, sum };
         Ok(())
     }

@@ -1,6 +1,6 @@
 //! One run of a case.
 
-use crate::case::{Case, Trouble};
+use crate::case::{Case, InjectedFault};
 use crate::output::Short;
 use player_io::{MemSink, MemSource, OpenGate};
 use player_run::{Outcome, run};
@@ -11,7 +11,7 @@ use std::thread::Threads;
 
 /// What a run left behind.
 #[derive(Drop)]
-pub struct Played {
+pub struct RunOutput {
     outcome: Outcome,
     // the output, or its pictures where the case asks for a legal recording
     out: MemSink,
@@ -42,7 +42,7 @@ fn failing(alloc: Global, call: Option<u64>) -> Result<Vec<u64>, AllocError> {
 /// The bytes that the source of the run of this number holds.
 fn given<'a>(case: &Case, input: &'a [u8], number: u64) -> &'a [u8] {
     match case.trouble {
-        Trouble::Cut => &input[..input.len().min(number as usize)],
+        InjectedFault::Cut => &input[..input.len().min(number as usize)],
         _ => input,
     }
 }
@@ -55,7 +55,7 @@ fn source_of(
     number: u64,
 ) -> Result<MemSource, AllocError> {
     let fails = match case.trouble {
-        Trouble::ReadFails => Some(number),
+        InjectedFault::ReadFails => Some(number),
         _ => None,
     };
     let bytes = Vec::from_slice(alloc, given(case, input, number))?;
@@ -65,8 +65,8 @@ fn source_of(
 /// The sink of the run of this number.
 fn sink_of(alloc: Global, case: &Case, number: u64) -> Result<MemSink, AllocError> {
     Ok(match case.trouble {
-        Trouble::Room => MemSink::new(alloc, number, Vec::new(alloc)),
-        Trouble::PutFails => MemSink::new(alloc, u64::MAX, failing(alloc, Some(number))?),
+        InjectedFault::Room => MemSink::new(alloc, number, Vec::new(alloc)),
+        InjectedFault::PutFails => MemSink::new(alloc, u64::MAX, failing(alloc, Some(number))?),
         _ => MemSink::endless(alloc),
     })
 }
@@ -124,7 +124,7 @@ pub fn play<R: Threads + Wait + Sync>(
     case: &Case,
     input: &[u8],
     number: u64,
-) -> Result<Played, AllocError> {
+) -> Result<RunOutput, AllocError> {
     let mut source = source_of(alloc, case, input, number)?;
     let mut out = sink_of(alloc, case, number)?;
     let mut notes = notes_of(alloc, case);
@@ -144,7 +144,7 @@ pub fn play<R: Threads + Wait + Sync>(
             None => accepted = false,
         }
     }
-    Ok(Played {
+    Ok(RunOutput {
         outcome,
         out,
         notes,
@@ -155,8 +155,8 @@ pub fn play<R: Threads + Wait + Sync>(
 /// What cuts the output of the run of this number.
 fn short_of(case: &Case, number: u64) -> Short {
     match case.trouble {
-        Trouble::Room => Short::Room(number),
-        Trouble::PutFails => Short::Put,
+        InjectedFault::Room => Short::Room(number),
+        InjectedFault::PutFails => Short::Put,
         _ => Short::Never,
     }
 }
@@ -173,7 +173,7 @@ fn holds_line(held: &[u8], line: Option<&str>, room: Option<u64>) -> bool {
     }
 }
 
-impl Played {
+impl RunOutput {
     /// What of the run of this number is not as the case says.
     pub fn difference(&self, case: &Case, number: u64) -> Option<Difference> {
         let status = self.outcome.status();
@@ -194,7 +194,7 @@ impl Played {
     }
 }
 
-impl fmt::Display for Played {
+impl fmt::Display for RunOutput {
     fn fmt<W: fmt::Write>(&self, f: &mut fmt::Formatter<W>) -> fmt::Result {
         let status = self.outcome.status();
         let notes = str::from_utf8(self.notes.bytes()).unwrap_or("not text");

@@ -1,7 +1,7 @@
 //! The lines of the table, one after another.
 
 use crate::case::Case;
-use crate::fault::RowFault;
+use crate::fault::ProgramRowFault;
 use crate::names::Names;
 use crate::play::play;
 use std::alloc::Global;
@@ -11,7 +11,7 @@ use test_table::Titles;
 
 /// What was counted.
 #[derive(Clone, Copy)]
-pub struct Tally {
+pub struct ProgramTally {
     pub cases: usize,
     pub runs: u64,
     /// How many cases are wrong.
@@ -22,7 +22,7 @@ pub struct Tally {
 
 /// What was read of the table so far.
 #[derive(Drop)]
-struct Table {
+struct ProgramTable {
     alloc: Global,
     /// Which cases are played.
     titles: Titles,
@@ -31,12 +31,12 @@ struct Table {
     base: Option<String>,
     /// The case whose lines are being read.
     case: Option<Case>,
-    tally: Tally,
+    tally: ProgramTally,
 }
 
-impl Tally {
+impl ProgramTally {
     /// Nothing was counted.
-    const NONE: Tally = Tally {
+    const NONE: ProgramTally = ProgramTally {
         cases: 0,
         runs: 0,
         wrong: 0,
@@ -57,13 +57,13 @@ fn play_case<R: Threads + Wait + Sync + Print>(
     rt: &R,
     alloc: Global,
     case: &Case,
-    tally: &mut Tally,
-) -> Result<bool, RowFault> {
+    tally: &mut ProgramTally,
+) -> Result<bool, ProgramRowFault> {
     let Some(input) = &case.input else {
-        return Err(RowFault::NoInput);
+        return Err(ProgramRowFault::NoInput);
     };
     if case.status == 0 && !case.output.is_said() {
-        return Err(RowFault::NoOutput);
+        return Err(ProgramRowFault::NoOutput);
     }
     for number in case.numbers.start..case.numbers.end {
         let played = play(rt, alloc, case, input.as_slice(), number)?;
@@ -80,9 +80,9 @@ fn play_case<R: Threads + Wait + Sync + Print>(
     Ok(true)
 }
 
-impl Table {
+impl ProgramTable {
     /// Plays the case whose lines were read.
-    fn close<R: Threads + Wait + Sync + Print>(&mut self, rt: &R) -> Result<(), RowFault> {
+    fn close<R: Threads + Wait + Sync + Print>(&mut self, rt: &R) -> Result<(), ProgramRowFault> {
         let Some(case) = self.case.take() else {
             return Ok(());
         };
@@ -102,12 +102,12 @@ impl Table {
         rt: &R,
         line: usize,
         row: &str,
-    ) -> Result<(), RowFault> {
+    ) -> Result<(), ProgramRowFault> {
         self.close(rt)?;
-        let (change, end) = row.rsplit_once(" | ").ok_or(RowFault::NoChange)?;
+        let (change, end) = row.rsplit_once(" | ").ok_or(ProgramRowFault::NoChange)?;
         let change = change.trim_end();
         let Some(base) = &self.base else {
-            return Err(RowFault::NoCase);
+            return Err(ProgramRowFault::NoCase);
         };
         let mut case = Case::new(self.alloc, line, change)?;
         case.set_input(base.as_str())?;
@@ -124,7 +124,7 @@ impl Table {
         line: usize,
         key: &str,
         value: &str,
-    ) -> Result<(), RowFault> {
+    ) -> Result<(), ProgramRowFault> {
         if let Some(name) = key.strip_prefix("text ") {
             return self.names.add_text(name, value);
         }
@@ -145,7 +145,7 @@ impl Table {
             }
             _ => match &mut self.case {
                 Some(case) => case.take(&self.names, key, value)?,
-                None => return Err(RowFault::NoCase),
+                None => return Err(ProgramRowFault::NoCase),
             },
         }
         Ok(())
@@ -157,7 +157,7 @@ impl Table {
         rt: &R,
         line: usize,
         text: &str,
-    ) -> Result<(), RowFault> {
+    ) -> Result<(), ProgramRowFault> {
         if text.is_empty() || text.starts_with('#') {
             return Ok(());
         }
@@ -169,7 +169,7 @@ impl Table {
         }
         match text.strip_suffix(':') {
             Some(key) => self.take_key(rt, line, key, ""),
-            None => Err(RowFault::NoKey),
+            None => Err(ProgramRowFault::NoKey),
         }
     }
 }
@@ -180,14 +180,14 @@ pub fn play_table<R: Threads + Wait + Sync + Print>(
     alloc: Global,
     titles: Titles,
     text: &str,
-) -> Result<Tally, (usize, RowFault)> {
-    let mut table = Table {
+) -> Result<ProgramTally, (usize, ProgramRowFault)> {
+    let mut table = ProgramTable {
         alloc,
         titles,
         names: Names::new(alloc),
         base: None,
         case: None,
-        tally: Tally::NONE,
+        tally: ProgramTally::NONE,
     };
     let mut last = 0usize;
     for (index, line) in text.lines().enumerate() {

@@ -1,7 +1,7 @@
 -- What the tests of keys tell.
 use Rattle.std.proofs.Common.{◌≡◌, ◌⊎◌, inl, inr, Bool, true, false, ◌||◌, List, [], ◌∷◌, ◌++◌, map, refl, sym, ◌∙◌, subst}
 use Rattle.geom.specs.declared.tile.TileKey.{TileKey}
-use Rattle.geom.specs.KeyLists.{same_key, has_key, AreDistinct}
+use Rattle.geom.specs.KeyLists.{same_key, has_key, AreDistinctKeys}
 use Rattle.geom.proofs.KeyLists.{one_key, same_from}
 use Rattle.tile_priority.specs.Ordered.{In, SameMembers}
 use Rattle.tile_priority.specs.Choice.{Choice}
@@ -24,15 +24,15 @@ neither_right : (a b : Bool) → (a || b) ≡ false → b ≡ false
 neither_right true b h = absurd cc
 neither_right false b h = h
 
-left_distinct : (xs ys : List TileKey) → AreDistinct (xs ++ ys) → AreDistinct xs
+left_distinct : (xs ys : List TileKey) → AreDistinctKeys (xs ++ ys) → AreDistinctKeys xs
 left_distinct [] ys d = tt
 left_distinct (x ∷ xs) ys d = (neither_left (has_key xs x) (has_key ys x) (sym (has_append xs ys x) ∙ d.0), left_distinct xs ys d.1)
 
-right_distinct : (xs ys : List TileKey) → AreDistinct (xs ++ ys) → AreDistinct ys
+right_distinct : (xs ys : List TileKey) → AreDistinctKeys (xs ++ ys) → AreDistinctKeys ys
 right_distinct [] ys d = d
 right_distinct (x ∷ xs) ys d = right_distinct xs ys d.1
 
-are_apart : (xs ys : List TileKey) (q : TileKey) → AreDistinct (xs ++ ys) → has_key xs q ≡ true → has_key ys q ≡ false
+are_apart : (xs ys : List TileKey) (q : TileKey) → AreDistinctKeys (xs ++ ys) → has_key xs q ≡ true → has_key ys q ≡ false
 are_apart [] ys q d h = absurd cc
 are_apart (x ∷ xs) ys q d h = by_test (same_key x q) refl h (are_apart xs ys q d.1)
   where
@@ -40,7 +40,7 @@ are_apart (x ∷ xs) ys q d h = by_test (same_key x q) refl h (are_apart xs ys q
     by_test true e h f = subst (λ k. has_key ys k ≡ false) (one_key x q e) (neither_right (has_key xs x) (has_key ys x) (sym (has_append xs ys x) ∙ d.0))
     by_test false e h f = f h
 
-pub each_once : (c : Choice) → AreDistinct (all_keys c) → EachKeyOnce c.wanted c.ready
+pub each_once : (c : Choice) → AreDistinctKeys (all_keys c) → EachKeyOnce c.wanted c.ready
 each_once c d = record {
   wanted_once = left_distinct (map rank_key c.wanted) (map tile_key c.ready) d;
   ready_once = right_distinct (map rank_key c.wanted) (map tile_key c.ready) d;

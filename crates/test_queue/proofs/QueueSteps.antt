@@ -7,7 +7,7 @@ use Rattle.tile_priority.specs.declared.rank.Rank.{Rank}
 use Rattle.tile_priority.specs.Tiles.{Tile}
 use Rattle.tile_priority.specs.Ordered.{In}
 use Rattle.tile_priority.specs.Choice.{Choice}
-use Rattle.tile_priority.specs.Alike.{Alike, started, finished}
+use Rattle.tile_priority.specs.Alike.{Alike, choice_after_start, finished}
 use Rattle.tile_priority.proofs.InOrder.{same_map}
 use Rattle.tile_priority.proofs.StayAlike.{alike_stay}
 use Rattle.tile_queue.specs.Queues.{rank_key, tile_key, IsNew, AreEvictedFor, MayStartWith}
@@ -41,8 +41,8 @@ new_too c d a q n = record {
   not_ready = none_same _ _ (same_map tile_key c.ready d.ready a.ready) q n.not_ready;
 }
 
-pub start_stays : (after c d next : Choice) (q : TileKey) (ks : List TileKey) → Alike c d → Alike after (started c q ks) → next ≡ started d q ks → Alike after next
-start_stays after c d next q ks a h e = subst (Alike after) (sym e) (alike_stay.through after (started c q ks) (started d q ks) h (alike_stay.started c d q ks a))
+pub start_stays : (after c d next : Choice) (q : TileKey) (ks : List TileKey) → Alike c d → Alike after (choice_after_start c q ks) → next ≡ choice_after_start d q ks → Alike after next
+start_stays after c d next q ks a h e = subst (Alike after) (sym e) (alike_stay.through after (choice_after_start c q ks) (choice_after_start d q ks) h (alike_stay.started c d q ks a))
 
 pub finish_stays : (after c d next : Choice) (tile : Option Tile) → Alike c d → Alike after (finished c tile) → next ≡ finished d tile → Alike after next
 finish_stays after c d next tile a h e = subst (Alike after) (sym e) (alike_stay.through after (finished c tile) (finished d tile) h (alike_stay.finished c d tile a))

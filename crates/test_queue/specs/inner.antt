@@ -1,1 +1,1 @@
-pub mod Victims
+pub mod Evictables

@@ -3,6 +3,6 @@
 
 mod plain;
 mod steps;
-mod victims;
+mod evictables;
 
 pub use plain::PlainChoice;

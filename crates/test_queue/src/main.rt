@@ -7,10 +7,10 @@
 //! | Line | What it says |
 //! |---|---|
 //! | `queue BUDGET IN_FLIGHT wanted RANK .. ready TILE ..` | the queue stands for these |
-//! | `start KEY` | the key starts, and what is given up for it is given up |
+//! | `start KEY` | the key starts, and what is evicted for it is evicted |
 //! | `finish TILE`, `finish -` | a tile in flight is made; it is ready, or needed no more |
 //! | `first => KEY` | the key that starts first; `-` where none may |
-//! | `evicted KEY => KEY ..` | what is given up for it, the worst first; `-` where nothing is |
+//! | `evicted KEY => KEY ..` | what is evicted for it, the worst first; `-` where nothing is |
 //! | `steps SEED COUNT` | the given number of random steps of another queue |
 //!
 //! After each step the queue's answers are compared with the definitions' too. Another answer than that of
@@ -30,7 +30,7 @@ mod queues;
 mod table;
 
 use crate::queues::{LOOKS, Order, queue_times, try_steps};
-use crate::table::Answers;
+use crate::table::QueueTable;
 use std::process::ExitCode;
 use std::{env, io};
 use test_table::check_table;
@@ -109,7 +109,7 @@ fn run(rt: &HostRuntime, words: &[String]) -> io::Result<bool> {
 fn run_or_check(rt: &HostRuntime) -> io::Result<ExitCode> {
     let words: Vec<String> = env::args(rt)?.skip(1).collect(rt.alloc())?;
     if words.is_empty() {
-        return Ok(check_table(rt, &mut Answers::new(rt.alloc())));
+        return Ok(check_table(rt, &mut QueueTable::new(rt.alloc())));
     }
     let good = run(rt, words.as_slice())?;
     Ok(ExitCode::from(if good { 0 } else { 1 }))

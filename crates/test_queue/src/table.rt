@@ -18,17 +18,17 @@ const NO_KEY: TileKey = TileKey {
 
 /// What was read of the table so far.
 #[derive(Drop)]
-pub(crate) struct Answers {
+pub(crate) struct QueueTable {
     queue: CheckedQueue,
     /// How many answers and steps there were.
     count: usize,
     tally: Tally,
 }
 
-impl Answers {
+impl QueueTable {
     /// Nothing was read.
-    pub(crate) fn new(alloc: Global) -> Answers {
-        Answers {
+    pub(crate) fn new(alloc: Global) -> QueueTable {
+        QueueTable {
             queue: CheckedQueue::new(alloc),
             count: 0,
             tally: Tally::NONE,
@@ -85,7 +85,7 @@ impl Answers {
     }
 }
 
-impl Table<HostRuntime> for Answers {
+impl Table<HostRuntime> for QueueTable {
     type Fault = StepFault;
 
     fn take(&mut self, rt: &HostRuntime, line: usize, text: &str) -> Result<(), StepFault> {

@@ -13,9 +13,9 @@ use Rattle.std.proofs.lemmas.List.Elements.{All-push, All-from_recursion}
 use Rattle.atomic_table.specs.Table.{State, Me, Joins, Final, Seen}
 use Rattle.atomic_table.specs.Seated.{TableId}
 use Rattle.atomic_table.proofs.Lists.{set_else}
-use Rattle.thread_lock.specs.declared.board.View.{View}
+use Rattle.thread_lock.specs.declared.board.PassView.{PassView}
 use Rattle.thread_lock.specs.declared.board.Old.{Old}
-use Rattle.thread_lock.specs.Lists.{own, times, one_if}
+use Rattle.thread_lock.specs.Lists.{entries_by, times, one_if}
 use Rattle.thread_lock.specs.Turns.{OldOk, Knows, Kept, numbers_of}
 use Rattle.thread_lock.specs.PassModels.{PassModel, pass_of, old_of, Rests, IsToldBy, HasAllActors}
 use Rattle.thread_lock.specs.inner.Steps.{old_at, absorbed, spent_view}
@@ -30,16 +30,16 @@ module _ {M E : Type 0} where
   one_more (q ∷ qs) p olds = ap (λ (os : List (Old M E)). old_of q ∷ os) (one_more qs p olds)
 
   -- a pass with what another knows of numbers and has taken in
-  abbrev with : View M E → View M E → View M E
+  abbrev with : PassView M E → PassView M E → PassView M E
   with a b = record a { known = b.known; olds = b.olds }
 
   -- taking in a pass changes nothing else
-  pub same_pass : (first v w next : View M E) → v ≡ record first { known = v.known; olds = v.olds } → next ≡ absorbed v w → next ≡ record first { known = next.known; olds = next.olds }
-  same_pass first v w next was took = (took ∙ sym (ap (with v) took)) ∙ ap (λ (z : View M E). with z next) was
+  pub same_pass : (first v w next : PassView M E) → v ≡ record first { known = v.known; olds = v.olds } → next ≡ absorbed v w → next ≡ record first { known = next.known; olds = next.olds }
+  same_pass first v w next was took = (took ∙ sym (ap (with v) took)) ∙ ap (λ (z : PassView M E). with z next) was
 
 module _ {M E T : Type 0} (stem_of : T → M) (history_of : T → List (ℕ × E)) where
   abbrev V : Type 0
-  V = View M E
+  V = PassView M E
 
   abbrev St : Type 0
   St = State (Option T) V
@@ -137,15 +137,15 @@ module _ {M E T : Type 0} (stem_of : T → M) (history_of : T → List (ℕ × E
   record Told (x : T) (o : Old M E) : Type 0 where
     pub stem : o.stem ≡ Some (stem_of x)
     pub seen : IsPrefix o.seen (history_of x)
-    pub mine : o.mine ≡ own o.number (history_of x)
+    pub mine : o.mine ≡ entries_by o.number (history_of x)
 
   -- what the last state tells the pass that took in all others
   record Ended (v : V) (x : T) : Type 0 where
     pub stem : v.stem ≡ Some (stem_of x)
     pub seen : IsPrefix v.seen (history_of x)
-    pub mine : (n : ℕ) → v.number ≡ Some n → v.mine ≡ own n (history_of x)
+    pub mine : (n : ℕ) → v.number ≡ Some n → v.mine ≡ entries_by n (history_of x)
     pub olds : AllByRecursion (Told x) v.olds
-    pub all : (k : ℕ) → own k (history_of x) ≢ [] → 0 < times k (numbers_of v)
+    pub all : (k : ℕ) → entries_by k (history_of x) ≢ [] → 0 < times k (numbers_of v)
 
   told_olds : (stem : M) (log : List (ℕ × E)) (made : ℕ) (owner : ℕ → ℕ) (seat : ℕ) (x : T) → stem_of x ≡ stem → history_of x ≡ log → (olds : List (Old M E)) → AllByRecursion (OldOk stem log made owner seat) olds → AllByRecursion (Told x) olds
   told_olds stem log made owner seat x same whole [] all = tt
@@ -153,7 +153,7 @@ module _ {M E T : Type 0} (stem_of : T → M) (history_of : T → List (ℕ × E
     record {
       stem = t.begun ∙ ap (λ (z : M). Some z) (sym same);
       seen = subst (IsPrefix o.seen) (sym whole) t.behind;
-      mine = t.whole ∙ ap (own o.number) (sym whole);
+      mine = t.whole ∙ ap (entries_by o.number) (sym whole);
     },
     told_olds stem log made owner seat x same whole os all.1,
   )
@@ -167,9 +167,9 @@ module _ {M E T : Type 0} (stem_of : T → M) (history_of : T → List (ℕ × E
     record {
       stem = live ∙ ap (λ (z : M). Some z) (l.0 ∙ sym found.3);
       seen = subst (IsPrefix v.seen) (sym found.2) l.3;
-      mine = λ n e. (k.numbered n e).2 ∙ ap (own n) (sym found.2);
+      mine = λ n e. (k.numbered n e).2 ∙ ap (entries_by n) (sym found.2);
       olds = told_olds r.stem r.log r.made r.owner id x found.3 found.2 v.olds k.kept;
-      all = λ a some_entry. dite (dec_le r.made a) (λ high. absurd (some_entry (ap (own a) found.2 ∙ r.unused a high))) (λ low. there a (omega arith));
+      all = λ a some_entry. dite (dec_le r.made a) (λ high. absurd (some_entry (ap (entries_by a) found.2 ∙ r.unused a high))) (λ low. there a (omega arith));
     },
   )
     where

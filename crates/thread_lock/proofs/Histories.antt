@@ -3,16 +3,16 @@ use Rattle.std.proofs.Common.{◌≡◌, ◌≢◌, ℕ, Bool, cond, List, [], �
 use Rattle.std.proofs.lemmas.List.{append-nil}
 use Rattle.std.proofs.lemmas.List.Elements.{filter-append}
 use mathlib.Core.List.{IsPrefix}
-use Rattle.thread_lock.specs.Lists.{own}
+use Rattle.thread_lock.specs.Lists.{entries_by}
 
 module _ {E : Type 0} where
   -- an entry of the actor comes behind its own
-  pub own_here : (n : ℕ) (e : E) (log : List (ℕ × E)) → own n (log ++ (n, e) ∷ []) ≡ own n log ++ (n, e) ∷ []
-  own_here n e log = filter-append _ log ((n, e) ∷ []) ∙ ap (λ (b : Bool). own n log ++ cond b ((n, e) ∷ []) []) (eq-eqb n n refl)
+  pub own_here : (n : ℕ) (e : E) (log : List (ℕ × E)) → entries_by n (log ++ (n, e) ∷ []) ≡ entries_by n log ++ (n, e) ∷ []
+  own_here n e log = filter-append _ log ((n, e) ∷ []) ∙ ap (λ (b : Bool). entries_by n log ++ cond b ((n, e) ∷ []) []) (eq-eqb n n refl)
 
   -- an entry of another leaves the actor's own
-  pub own_else : (k n : ℕ) (e : E) (log : List (ℕ × E)) → n ≢ k → own k (log ++ (n, e) ∷ []) ≡ own k log
-  own_else k n e log other = filter-append _ log ((n, e) ∷ []) ∙ (ap (λ (b : Bool). own k log ++ cond b ((n, e) ∷ []) []) (ne_eqb n k other) ∙ append-nil (own k log))
+  pub own_else : (k n : ℕ) (e : E) (log : List (ℕ × E)) → n ≢ k → entries_by k (log ++ (n, e) ∷ []) ≡ entries_by k log
+  own_else k n e log other = filter-append _ log ((n, e) ∷ []) ∙ (ap (λ (b : Bool). entries_by k log ++ cond b ((n, e) ∷ []) []) (ne_eqb n k other) ∙ append-nil (entries_by k log))
 
 module _ {A : Type 0} where
   -- where a history began, the longer history began

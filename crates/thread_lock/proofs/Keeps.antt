@@ -11,9 +11,9 @@ use prog.Atomic.{either}
 use Rattle.std.specs.List.{AllByRecursion}
 use Rattle.atomic_table.specs.Table.{State, step, keeps, takes, gives, stepped, Allows, Splits, opening}
 use Rattle.atomic_table.proofs.Lists.{set_again, at_snoc, at_longer}
-use Rattle.thread_lock.specs.declared.board.View.{View}
+use Rattle.thread_lock.specs.declared.board.PassView.{PassView}
 use Rattle.thread_lock.specs.declared.board.Old.{Old}
-use Rattle.thread_lock.specs.Lists.{own, gained, times}
+use Rattle.thread_lock.specs.Lists.{entries_by, gained, times}
 use Rattle.thread_lock.specs.Turns.{OldOk, Knows, Kept, opening_view, numbers_of}
 use Rattle.thread_lock.specs.inner.Steps.{Who, sees, gains, tried, stamped, released, drawn, learned, newcomer}
 use Rattle.thread_lock.proofs.Histories.{own_here, own_else, prefix_more, prefix_same}
@@ -22,7 +22,7 @@ use Rattle.thread_lock.proofs.Counts.{one_at_most}
 
 module _ {M E T : Type 0} (stem_of : T → M) (history_of : T → List (ℕ × E)) where
   abbrev V : Type 0
-  V = View M E
+  V = PassView M E
 
   abbrev St : Type 0
   St = State (Option T) V
@@ -138,7 +138,7 @@ module _ {M E T : Type 0} (stem_of : T → M) (history_of : T → List (ℕ × E
             refl,
             subst (IsPrefix me.0.seen) (sym whole) l.3,
             live ∙ ap (λ (z : M). Some z) (l.0 ∙ sym found.3),
-            λ a e. (k.numbered a e).2 ∙ ap (own a) (sym whole),
+            λ a e. (k.numbered a e).2 ∙ ap (entries_by a) (sym whole),
           )),
           (λ not. absurd (not hit)),
         ),
@@ -166,10 +166,10 @@ module _ {M E T : Type 0} (stem_of : T → M) (history_of : T → List (ℕ × E
       let log : List (ℕ × E) = r.log ++ (n, e) ∷ [] in
       let w : V = gains (history_of x) me.0 in
       let whole : history_of x ≡ log = more ∙ ap (λ (l : List (ℕ × E)). l ++ (n, e) ∷ []) h.2 in
-      let made_it : w.mine ≡ own n log =
+      let made_it : w.mine ≡ entries_by n log =
       ap (λ (l : List (ℕ × E)). me.0.mine ++ gained me.0.seen l) more ∙ (ap (λ (l : List (ℕ × E)). me.0.mine ++ l) (drop-append_seam me.0.seen ((n, e) ∷ []))
       ∙ (ap (λ (l : List (ℕ × E)). l ++ (n, e) ∷ []) mine.2 ∙ sym (own_here n e r.log))) in
-      let others : (a : ℕ) → a ≢ n → own a r.log ≡ own a log = λ a other. sym (own_else a n e r.log (λ q. other (sym q))) in (
+      let others : (a : ℕ) → a ≢ n → entries_by a r.log ≡ entries_by a log = λ a other. sym (own_else a n e r.log (λ q. other (sym q))) in (
         w,
         keeps,
         tt,
@@ -190,7 +190,7 @@ module _ {M E T : Type 0} (stem_of : T → M) (history_of : T → List (ℕ × E
           each = seats (Knows r.stem r.most log r.turn r.made r.holder r.owner) s.views id w
               record {
                 live = λ a q. let t = k.live a q in (t.0, t.1, t.2, prefix_same (history_of x) log whole);
-                numbered = λ a q. let t = k.numbered a q in let same : a ≡ n = cc (q, number) in (t.0, t.1, made_it ∙ ap (λ (b : ℕ). own b log) (sym same));
+                numbered = λ a q. let t = k.numbered a q in let same : a ≡ n = cc (q, number) in (t.0, t.1, made_it ∙ ap (λ (b : ℕ). entries_by b log) (sym same));
                 bare = λ q. absurd (cc (q, number));
                 holding = λ _. (h.0, h.1, whole, h.3);
                 kept = subst (AllByRecursion (OldOk r.stem log r.made r.owner id)) (sym fresh) tt;

@@ -5,7 +5,7 @@ use mathlib.Core.Option.{some, some-injective, some-ne-none}
 use native.Mathlib.Decide.{ℕ_discrete}
 use lib.ListN.{get_elem?}
 use Rattle.atomic_table.proofs.Lists.{at_set, set_else}
-use Rattle.thread_lock.specs.declared.board.View.{View}
+use Rattle.thread_lock.specs.declared.board.PassView.{PassView}
 use Rattle.std.specs.Option.{IsSome}
 use Rattle.thread_lock.specs.Turns.{Holds}
 
@@ -57,12 +57,12 @@ module _ {A : Type 0} where
 
 module _ {M E : Type 0} where
   -- the holder is still there
-  pub someone_stays : (views : List (View M E)) (holder id : ℕ) (v w : View M E) → get_elem? views id ≡ some v → (v.holds ≡ true → w.holds ≡ true) → Holds views holder → Holds (set views id w) holder
+  pub someone_stays : (views : List (PassView M E)) (holder id : ℕ) (v w : PassView M E) → get_elem? views id ≡ some v → (v.holds ≡ true → w.holds ≡ true) → Holds views holder → Holds (set views id w) holder
   someone_stays views holder id v w at same t = dite (ℕ_discrete holder id)
       (λ e. (
         w,
         ap (λ (j : ℕ). get_elem? (set views id w) j) e ∙ set_there views id v w at,
-        same (subst (λ (u : View M E). u.holds ≡ true) (some-injective t.0 v (sym t.1 ∙ (ap (λ (j : ℕ). get_elem? views j) e ∙ at))) t.2),
+        same (subst (λ (u : PassView M E). u.holds ≡ true) (some-injective t.0 v (sym t.1 ∙ (ap (λ (j : ℕ). get_elem? views j) e ∙ at))) t.2),
       ))
       (λ other. (t.0, set_else views id holder w other ∙ t.1, t.2))
 

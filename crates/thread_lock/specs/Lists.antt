@@ -2,8 +2,8 @@
 use Rattle.std.specs.Prelude.{ℕ, ◌+◌, ◌==◌, Bool, true, false, List, [], ◌∷◌, length, filter, drop}
 
 -- the entries of one actor, in order
-abbrev pub own : {E : Type 0} → ℕ → List (ℕ × E) → List (ℕ × E)
-own n log = filter (λ e. e.0 == n) log
+abbrev pub entries_by : {E : Type 0} → ℕ → List (ℕ × E) → List (ℕ × E)
+entries_by n log = filter (λ e. e.0 == n) log
 
 -- what the history has beyond what was seen of it
 abbrev pub gained : {E : Type 0} → List (ℕ × E) → List (ℕ × E) → List (ℕ × E)

@@ -3,9 +3,9 @@ use Rattle.std.specs.Prelude.{◌≡◌, ◌≢◌, ℕ, true, false, List, [], 
 use mathlib.Core.List.{IsPrefix}
 use Rattle.atomic_table.specs.Table.{Me}
 use Rattle.atomic_table.specs.Seated.{TableId}
-use Rattle.thread_lock.specs.declared.board.View.{View}
+use Rattle.thread_lock.specs.declared.board.PassView.{PassView}
 use Rattle.thread_lock.specs.declared.board.Old.{Old}
-use Rattle.thread_lock.specs.Lists.{own}
+use Rattle.thread_lock.specs.Lists.{entries_by}
 
 -- Which lock it is, and how many passes it was made for
 pub record Lock : Type 0 where
@@ -40,7 +40,7 @@ pub record Hold (T M E : Type 0) : Type 0 where
 
 module _ {M E : Type 0} where
   -- what contracts see of a pass with this lock, number and view
-  abbrev pub pass_of : TableId → ℕ → View M E → PassModel M E
+  abbrev pub pass_of : TableId → ℕ → PassView M E → PassModel M E
   pass_of lock actor v = record { lock = lock; actor = actor; stem = v.stem; most = v.most; seen = v.seen; mine = v.mine; taken = v.taken; busy = v.busy; known = v.known }
 
   -- what is kept of a pass that another takes in
@@ -49,7 +49,7 @@ module _ {M E : Type 0} where
 
   -- each entry has the number of one of the passes
   abbrev pub HasAllActors : List (ℕ × E) → List (PassModel M E) → Type 0
-  HasAllActors history passes = (actor : ℕ) → own actor history ≢ [] → Contains (map (λ p. p.actor) passes) actor
+  HasAllActors history passes = (actor : ℕ) → entries_by actor history ≢ [] → Contains (map (λ p. p.actor) passes) actor
 
 -- the pass is the lock's
 abbrev pub IsOf : {M E : Type 0} → Lock → PassModel M E → Type 0
@@ -57,10 +57,10 @@ IsOf lock p = (p.lock ≡ lock.id) × (p.most ≡ lock.most)
 
 -- what a pass knows is so of the value: the stem is the value's, what it saw is where the value's history began, and what it made is all that the history has of its number
 abbrev pub IsToldBy : {M E T : Type 0} → (T → M) → (T → List (ℕ × E)) → T → PassModel M E → Type 0
-IsToldBy stem_of history_of x p = (p.stem ≡ Some (stem_of x)) × IsPrefix p.seen (history_of x) × (p.mine ≡ own p.actor (history_of x))
+IsToldBy stem_of history_of x p = (p.stem ≡ Some (stem_of x)) × IsPrefix p.seen (history_of x) × (p.mine ≡ entries_by p.actor (history_of x))
 
 -- What is true of the seat of a pass that does not hold the turn
-pub record Rests {T M E : Type 0} (actor most : ℕ) (me : Me (Option T) (View M E)) : Type 0 where
+pub record Rests {T M E : Type 0} (actor most : ℕ) (me : Me (Option T) (PassView M E)) : Type 0 where
   -- the pass has its number
   pub number : me.0.number ≡ Some actor
   -- it knows how many passes the lock was made for
@@ -75,7 +75,7 @@ pub record Rests {T M E : Type 0} (actor most : ℕ) (me : Me (Option T) (View M
   pub fresh : me.0.olds ≡ []
 
 -- What is true of the seat of a pass that holds the turn, with the value taken out of the slot
-pub record Takes {T M E : Type 0} (actor most : ℕ) (me : Me (Option T) (View M E)) : Type 0 where
+pub record Takes {T M E : Type 0} (actor most : ℕ) (me : Me (Option T) (PassView M E)) : Type 0 where
   -- the pass has its number
   pub number : me.0.number ≡ Some actor
   -- it knows how many passes the lock was made for
@@ -90,10 +90,10 @@ pub record Takes {T M E : Type 0} (actor most : ℕ) (me : Me (Option T) (View M
   pub fresh : me.0.olds ≡ []
 
 -- What is true of the value that the holder took, by what it saw and made
-pub record Fits {T M E : Type 0} (stem_of : T → M) (history_of : T → List (ℕ × E)) (actor : ℕ) (v : View M E) (x : T) : Type 0 where
+pub record Fits {T M E : Type 0} (stem_of : T → M) (history_of : T → List (ℕ × E)) (actor : ℕ) (v : PassView M E) (x : T) : Type 0 where
   -- the value began with the stem that the pass knows
   pub stem : v.stem ≡ Some (stem_of x)
   -- the pass saw the value's history
   pub seen : v.seen ≡ history_of x
   -- what the pass made is all that the history has of its number
-  pub mine : v.mine ≡ own actor (history_of x)
+  pub mine : v.mine ≡ entries_by actor (history_of x)

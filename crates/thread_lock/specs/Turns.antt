@@ -4,18 +4,18 @@ use mathlib.Core.Option.{some, none}
 use mathlib.Core.List.{IsPrefix}
 use lib.ListN.{get_elem?}
 use Rattle.atomic_table.specs.Table.{State}
-use Rattle.thread_lock.specs.declared.board.View.{View}
+use Rattle.thread_lock.specs.declared.board.PassView.{PassView}
 use Rattle.thread_lock.specs.declared.board.Old.{Old}
 use Rattle.std.specs.List.{AllByRecursion}
-use Rattle.thread_lock.specs.Lists.{own, times}
+use Rattle.thread_lock.specs.Lists.{entries_by, times}
 
 module _ {M E : Type 0} where
   -- the first pass, before its first turn: it has number 0, and one number was given
-  abbrev pub opening_view : M → ℕ → View M E
+  abbrev pub opening_view : M → ℕ → PassView M E
   opening_view stem most = record { stem = Some stem; number = Some 0; most = most; seen = []; mine = []; holds = false; taken = 0; busy = 0; known = 1; olds = [] }
 
   -- the number of a pass, and those of the passes that it took in
-  abbrev pub numbers_of : View M E → List ℕ
+  abbrev pub numbers_of : PassView M E → List ℕ
   numbers_of v = option_to_list v.number ++ map (λ o. o.number) v.olds
 
   -- What is true of a pass that another took in, by the log, the owners of the numbers, and the seat that took it in
@@ -28,14 +28,14 @@ module _ {M E : Type 0} where
     -- what it saw is where the history began
     pub behind : IsPrefix o.seen log
     -- what it made is all that the history has of its number
-    pub whole : o.mine ≡ own o.number log
+    pub whole : o.mine ≡ entries_by o.number log
 
   -- What is true of one pass, by the log, the count of numbers given, the holder's seat, the owners of the numbers, and its seat
-  pub record Knows (stem : M) (most : ℕ) (log : List (ℕ × E)) (turn made holder : ℕ) (owner : ℕ → ℕ) (seat : ℕ) (v : View M E) : Type 0 where
+  pub record Knows (stem : M) (most : ℕ) (log : List (ℕ × E)) (turn made holder : ℕ) (owner : ℕ → ℕ) (seat : ℕ) (v : PassView M E) : Type 0 where
     -- a pass that is not spent has the value's stem and the lock's `most`; no more numbers are known than were given; what it saw is where the history began
     pub live : (m : M) → v.stem ≡ Some m → (m ≡ stem) × (v.most ≡ most) × (v.known ≤ made) × IsPrefix v.seen log
     -- a number was given, and belongs to the pass's seat; what the pass made is all that the history has of its number
-    pub numbered : (n : ℕ) → v.number ≡ Some n → (n < made) × (owner n ≡ seat) × (v.mine ≡ own n log)
+    pub numbered : (n : ℕ) → v.number ≡ Some n → (n < made) × (owner n ≡ seat) × (v.mine ≡ entries_by n log)
     -- without a number it made nothing
     pub bare : v.number ≡ None → v.mine ≡ []
     -- the holder is one pass, with a number, while the turn is taken; it saw the whole history
@@ -46,12 +46,12 @@ module _ {M E : Type 0} where
     pub once : (k : ℕ) → times k (numbers_of v) ≤ 1
 
   -- the pass at this seat holds the turn
-  abbrev pub Holds : List (View M E) → ℕ → Type 0
-  Holds views seat = (v : View M E) × (get_elem? views seat ≡ some v) × (v.holds ≡ true)
+  abbrev pub Holds : List (PassView M E) → ℕ → Type 0
+  Holds views seat = (v : PassView M E) × (get_elem? views seat ≡ some v) × (v.holds ≡ true)
 
 -- The rule, by what a value has as its stem and its history
 module _ {M E T : Type 0} (stem_of : T → M) (history_of : T → List (ℕ × E)) where
-  pub record Kept (s : State (Option T) (View M E)) : Type 0 where
+  pub record Kept (s : State (Option T) (PassView M E)) : Type 0 where
     -- the history
     pub log : List (ℕ × E)
     -- what the value began with
@@ -73,10 +73,10 @@ module _ {M E T : Type 0} (stem_of : T → M) (history_of : T → List (ℕ × E
     -- no more numbers are given than the lock was made for
     pub fits : made ≤ most
     -- no entry has a number that was not given
-    pub unused : (n : ℕ) → made ≤ n → own n log ≡ []
+    pub unused : (n : ℕ) → made ≤ n → entries_by n log ≡ []
     -- while the turn is free, the value is at home; its history is the log, and its stem the stem
     pub free : turn ≡ 0 → (x : T) × (s.homes ≡ some (Some x) ∷ []) × (history_of x ≡ log) × (stem_of x ≡ stem)
     -- while the turn is taken, the slot is out, and one pass is the holder
     pub out : turn ≡ 1 → (s.homes ≡ none ∷ []) × Holds s.views holder
     -- what is true of each pass
-    pub each : (seat : ℕ) (v : View M E) → get_elem? s.views seat ≡ some v → Knows stem most log turn made holder owner seat v
+    pub each : (seat : ℕ) (v : PassView M E) → get_elem? s.views seat ≡ some v → Knows stem most log turn made holder owner seat v

@@ -24,7 +24,7 @@ pub struct Old<M, E> {
 }
 
 /// What a pass knows, in proofs alone: no value of it is made.
-pub struct View<M, E> {
+pub struct PassView<M, E> {
     /// What the value began with, or `None` where the pass is spent.
     pub stem: Option<M>,
     /// The actor's number, or `None` where the pass has drawn none.
@@ -53,7 +53,7 @@ pub type Key<T> = (Snapshot<T>, u32);
 /// The rule of the lock's table.
 pub struct Law;
 
-impl<T: Turn> TableRule<Option<T>, View<T::Stem, T::Entry>, Key<T>> for Law {
+impl<T: Turn> TableRule<Option<T>, PassView<T::Stem, T::Entry>, Key<T>> for Law {
     ghost use Rattle.thread_lock.specs.Turns.{Kept, opening_view};
 
     ghost holds = { λ _. Kept T.stem T.history };
@@ -63,10 +63,10 @@ impl<T: Turn> TableRule<Option<T>, View<T::Stem, T::Entry>, Key<T>> for Law {
 
 pub(crate) type Board<T> = Table<
     Option<T>,
-    View<<T as Turn>::Stem, <T as Turn>::Entry>,
+    PassView<<T as Turn>::Stem, <T as Turn>::Entry>,
     Key<T>,
     Law,
     Global,
 >;
 
-pub(crate) type Place<T> = Seat<Option<T>, View<<T as Turn>::Stem, <T as Turn>::Entry>>;
+pub(crate) type PassSeat<T> = Seat<Option<T>, PassView<<T as Turn>::Stem, <T as Turn>::Entry>>;

@@ -2,7 +2,7 @@
 ghost use Rattle.std.specs.Prelude.{◌≡◌, ◌+◌, ◌<◌, ◌≤◌, [], ◌∷◌, ◌++◌, length, map, vec_len, All, IfOk, IfErr};
 ghost use Rattle.thread_lock.specs.PassModels.{old_of, IsOf, IsToldBy, HasAllActors};
 
-use crate::board::{Board, Place};
+use crate::board::{Board, PassSeat};
 use crate::lock::TurnLock;
 use crate::pass::Pass;
 use crate::plays::TakeIn;
@@ -69,7 +69,7 @@ fn reunite<T: Turn>(table: Board<T>, others: Vec<Pass<T>>, last: Pass<T>) -> T
 }
 
 // The seat takes in those of all passes.
-fn join_all<T: Turn>(table: &Board<T>, place: &mut Place<T>, passes: Vec<Pass<T>>)
+fn join_all<T: Turn>(table: &Board<T>, place: &mut PassSeat<T>, passes: Vec<Pass<T>>)
     requires table { (place.old.table_id ≡ table.now.shared.table_id) × (table.now.shared.table_id.words ≡ 3) }
     requires passes { All (λ pass. pass.lock ≡ table.now.shared.table_id) passes.items }
     ensures table { (place.new.table_id ≡ place.old.table_id) × (place.new.id ≡ place.old.id) × (place.new.me.1 ≡ place.old.me.1) }

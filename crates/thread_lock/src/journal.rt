@@ -2,7 +2,7 @@
 //! A journal has a title, its stem, and numbers that actors wrote down, its entries.
 ghost use Rattle.std.specs.Prelude.{◌≡◌, ◌≢◌, ℕ, [], ◌∷◌, ◌++◌, length, Some, IfOk, OnOk, OnErr};
 ghost use mathlib.Core.List.{IsPrefix};
-ghost use Rattle.thread_lock.specs.Lists.{own};
+ghost use Rattle.thread_lock.specs.Lists.{entries_by};
 ghost use Rattle.thread_lock.specs.Journals.{notes_of};
 
 use crate::lock::TurnLock;
@@ -131,9 +131,9 @@ pub fn write_both<R: Threads + Wait + Sync>(
 ) -> Result<Journal, AllocError>
     requires lock { (one.lock ≡ lock.id) × (two.lock ≡ lock.id) × (one.most ≡ lock.most) × (two.most ≡ lock.most) × (lock.most ≡ 2) }
     requires fresh { (one.mine ≡ []) × (two.mine ≡ []) }
-    ensures first { IfOk result (λ journal. own one.actor journal.notes ≡ notes_of one.actor first.now) }
-    ensures second { IfOk result (λ journal. own two.actor journal.notes ≡ notes_of two.actor second.now) }
-    ensures nothing_else { IfOk result (λ journal. (actor : ℕ) → actor ≢ one.actor → actor ≢ two.actor → own actor journal.notes ≡ []) }
+    ensures first { IfOk result (λ journal. entries_by one.actor journal.notes ≡ notes_of one.actor first.now) }
+    ensures second { IfOk result (λ journal. entries_by two.actor journal.notes ≡ notes_of two.actor second.now) }
+    ensures nothing_else { IfOk result (λ journal. (actor : ℕ) → actor ≢ one.actor → actor ≢ two.actor → entries_by actor journal.notes ≡ []) }
     ensures title { IfOk result (λ journal. one.stem ≡ Some journal.title) }
 {
     let shared = &lock;

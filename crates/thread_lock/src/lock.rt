@@ -3,9 +3,9 @@ ghost use Rattle.std.specs.Prelude.{◌≡◌, ◌+◌, ◌<◌, ◌≤◌, [], 
 ghost use mathlib.Core.List.{IsPrefix};
 ghost use Rattle.thread_lock.specs.inner.Steps.{Took, Missed};
 
-use crate::board::{Board, MADE, Place, TURN};
-use crate::pass::{Busy, Held, Pass, SplitFault};
-use crate::plays::{Cut, Draw, Learn, Try};
+use crate::board::{Board, MADE, PassSeat, TURN};
+use crate::pass::{Busy, HeldTurn, Pass, SplitFault};
+use crate::plays::{SplitOff, Draw, Learn, Try};
 use crate::turn::Turn;
 use atomic_table::Table;
 use std::alloc::{AllocError, AllocFailed, Global};
@@ -100,7 +100,7 @@ impl<T: Turn> TurnLock<T> {
         if given >= pass.most as u64 {
             return Some(Err(SplitFault::Full));
         }
-        let mut place = self.table.shared.split_seat::<Cut>(&mut pass.place);
+        let mut place = self.table.shared.split_seat::<SplitOff>(&mut pass.place);
         let found = self
             .table
             .shared
@@ -116,7 +116,7 @@ impl<T: Turn> TurnLock<T> {
     }
 
     /// Takes the turn if it is free, by one exchange. Otherwise the pass comes back, and counts that.
-    pub fn try_enter(&self, pass: Pass<T>) -> Result<Held<T>, Busy<T>>
+    pub fn try_enter(&self, pass: Pass<T>) -> Result<HeldTurn<T>, Busy<T>>
         requires { pass.lock ≡ self.now.id }
         ensures entered { IfOk result (λ held. held.pass ≡ record pass { seen = T.history held.value; taken = pass.taken + 1 }) }
         ensures seen { IfOk result (λ held. IsPrefix pass.seen (T.history held.value)) }
@@ -132,7 +132,7 @@ impl<T: Turn> TurnLock<T> {
             return Err(Busy { pass });
         }
         let value = self.table.shared.exchange(&mut place, 0, None).unwrap();
-        Ok(Held {
+        Ok(HeldTurn {
             place,
             actor,
             most,
@@ -141,7 +141,7 @@ impl<T: Turn> TurnLock<T> {
     }
 
     // One exchange on the turn, and whether it took the turn.
-    fn knock(&self, place: &mut Place<T>) -> bool
+    fn knock(&self, place: &mut PassSeat<T>) -> bool
         requires table { place.old.table_id ≡ self.now.id }
         requires pass { IsSome place.old.me.0.stem × IsSome place.old.me.0.number }
         ensures table { place.new.table_id ≡ place.old.table_id }
@@ -151,7 +151,7 @@ impl<T: Turn> TurnLock<T> {
     }
 
     /// Takes the turn. It waits while another pass holds it.
-    pub fn enter<R: Wait>(&self, rt: &R, pass: Pass<T>) -> Held<T>
+    pub fn enter<R: Wait>(&self, rt: &R, pass: Pass<T>) -> HeldTurn<T>
         requires { pass.lock ≡ self.now.id }
         ensures entered { result.pass ≡ record pass { seen = T.history result.value; taken = pass.taken + 1; busy = result.pass.busy } }
         ensures seen { IsPrefix pass.seen (T.history result.value) }

@@ -1,9 +1,9 @@
 //! The passes, through which actors know what they saw and did.
 ghost use Rattle.std.specs.Prelude.{◌≡◌, ◌⊎◌, ◌+◌, [], ◌∷◌, ◌++◌, Some};
-ghost use Rattle.thread_lock.specs.Lists.{own, gained};
+ghost use Rattle.thread_lock.specs.Lists.{entries_by, gained};
 ghost use Rattle.thread_lock.specs.inner.Steps.{gains, Brings};
 
-use crate::board::{Board, COUNT, Place, TURN};
+use crate::board::{Board, COUNT, PassSeat, TURN};
 use crate::lock::TurnLock;
 use crate::plays::{Release, Stamp};
 use crate::turn::Turn;
@@ -12,7 +12,7 @@ use std::marker::Model;
 /// A pass that does not hold the turn.
 #[derive(Drop)]
 pub struct Pass<T: Turn> {
-    pub(crate) place: Place<T>,
+    pub(crate) place: PassSeat<T>,
     pub(crate) actor: u32,
     pub(crate) most: u32,
 }
@@ -28,14 +28,14 @@ impl<T: Turn> Model for Pass<T> {
 }
 
 /// A pass that holds the turn, with the value. It is not `Drop`: end it by `take`.
-pub struct Held<T: Turn> {
-    pub(crate) place: Place<T>,
+pub struct HeldTurn<T: Turn> {
+    pub(crate) place: PassSeat<T>,
     pub(crate) actor: u32,
     pub(crate) most: u32,
     pub(crate) value: T,
 }
 
-impl<T: Turn> Model for Held<T> {
+impl<T: Turn> Model for HeldTurn<T> {
     ghost use Rattle.thread_lock.specs.PassModels.{Hold, pass_of, Takes, Fits};
 
     ghost Value = { Hold T T.Stem T.Entry };
@@ -47,7 +47,7 @@ impl<T: Turn> Model for Held<T> {
 
 /// A pass that holds the turn while the caller has the value. It is not `Drop`: end it by `put`.
 pub struct Empty<T: Turn> {
-    pub(crate) place: Place<T>,
+    pub(crate) place: PassSeat<T>,
     pub(crate) actor: u32,
     pub(crate) most: u32,
     pub(crate) count: u64,
@@ -85,7 +85,7 @@ impl<T: Turn> Pass<T> {
     }
 }
 
-impl<T: Turn> Held<T> {
+impl<T: Turn> HeldTurn<T> {
     /// The number of the actor that holds the turn.
     pub fn actor(&self) -> u32
         ensures { result ≡ self.now.pass.actor }
@@ -97,7 +97,7 @@ impl<T: Turn> Held<T> {
     pub fn value(&self) -> &T
         ensures value { result.now ≡ self.now.value }
         ensures seen { T.history result.now ≡ self.now.pass.seen }
-        ensures mine { own self.now.pass.actor (T.history result.now) ≡ self.now.pass.mine }
+        ensures mine { entries_by self.now.pass.actor (T.history result.now) ≡ self.now.pass.mine }
         ensures stem { self.now.pass.stem ≡ Some (T.stem result.now) }
     {
         &self.value
@@ -108,10 +108,10 @@ impl<T: Turn> Held<T> {
         ensures value { result.0 ≡ self.value }
         ensures place { result.1 ≡ self.pass }
         ensures seen { T.history result.0 ≡ self.pass.seen }
-        ensures mine { own self.pass.actor (T.history result.0) ≡ self.pass.mine }
+        ensures mine { entries_by self.pass.actor (T.history result.0) ≡ self.pass.mine }
         ensures stem { self.pass.stem ≡ Some (T.stem result.0) }
     {
-        let Held {
+        let HeldTurn {
             place,
             actor,
             most,
@@ -156,7 +156,7 @@ impl<T: Turn> Empty<T> {
 }
 
 // Counts the entry that the holder made, if it made one.
-fn stamp<T: Turn>(table: &Board<T>, place: &mut Place<T>, count: u64, entries: u64)
+fn stamp<T: Turn>(table: &Board<T>, place: &mut PassSeat<T>, count: u64, entries: u64)
     requires table { (place.old.table_id ≡ table.now.shared.table_id) × (table.now.shared.table_id.words ≡ 3) }
     requires value { Brings T.history count entries place.old.me }
     ensures table { place.new.table_id ≡ place.old.table_id }

@@ -1,7 +1,7 @@
 ghost use Rattle.std.specs.Prelude.{◌≡◌, ◌<◌, [], All, vec_len};
 ghost use Rattle.thread_lock.specs.PassModels.{IsOf};
 
-use crate::{Held, Journal, Pass, SplitFault, TurnLock, write_all, write_both, write_note};
+use crate::{HeldTurn, Journal, Pass, SplitFault, TurnLock, write_all, write_both, write_note};
 use std::alloc::{AllocError, Global};
 use std::process::Abort;
 use std::sync::Wait;
@@ -55,7 +55,7 @@ fn split_all<R: Abort + Wait>(
 }
 
 // The value goes back as it was.
-fn leave(lock: &Lock, held: Held<Journal>) -> Slip
+fn leave(lock: &Lock, held: HeldTurn<Journal>) -> Slip
     requires { held.pass.lock ≡ lock.now.id }
 {
     let (journal, empty) = held.take();

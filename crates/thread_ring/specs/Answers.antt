@@ -23,8 +23,8 @@ FaultRose Fault old new = Rose old new
 FaultRose Memory old new = ⊤
 
 -- one step on: from any earlier state, what the sink had gained by the first answer it has gained by the second, and the bytes besides
-abbrev pub Adds : Presented → Presented → Option (List ℕ) → Option (List ℕ) → List ℕ → Type 0
-Adds before after old new bytes = (first : Option (List ℕ)) (done : List ℕ) → Gained before first old done → Gained after first new (done ++ bytes)
+abbrev pub AddsBytes : Presented → Presented → Option (List ℕ) → Option (List ℕ) → List ℕ → Type 0
+AddsBytes before after old new bytes = (first : Option (List ℕ)) (done : List ℕ) → Gained before first old done → Gained after first new (done ++ bytes)
 
 -- one step on: from any earlier count, a fault that had its cause has it still, and a new fault has one
 abbrev pub Blames : Presented → Presented → ℕ → ℕ → Type 0

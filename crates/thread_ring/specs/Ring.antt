@@ -15,8 +15,8 @@ abbrev pub whole : RingSink → List ℕ
 whole s = joined (sent s.producer) ++ joined s.kept.items
 
 -- all bytes that the presenter took out of the ring
-abbrev pub taken : Presenter → List ℕ
-taken p = joined (received p.consumer)
+abbrev pub bytes_taken : Presenter → List ℕ
+bytes_taken p = joined (received p.consumer)
 
 -- the pieces that were put, one by one
 abbrev pub pieces_of : RingSink → List (List ℕ)

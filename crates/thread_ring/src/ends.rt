@@ -1,7 +1,7 @@
 //! The two ends of a ring.
 ghost use Rattle.std.specs.Prelude.{◌≡◌, [], IfOk};
 ghost use Rattle.rtrb.specs.Ring.{producer_capacity};
-ghost use Rattle.thread_ring.specs.Ring.{OneRing, pieces_of, taken, whole};
+ghost use Rattle.thread_ring.specs.Ring.{OneRing, pieces_of, bytes_taken, whole};
 
 use rtrb::{Consumer, Producer, RingBuffer};
 use std::alloc::{AllocError, Global};
@@ -56,7 +56,7 @@ pub struct Label {
 /// was taken out of it, and its end mark is not raised.
 pub fn ring(alloc: Global) -> Result<(RingSink, Presenter), AllocError>
     ensures pair { IfOk result (λ r. OneRing r.0 r.1) }
-    ensures empty { IfOk result (λ r. (whole r.0 ≡ []) × (pieces_of r.0 ≡ []) × (taken r.1 ≡ [])) }
+    ensures empty { IfOk result (λ r. (whole r.0 ≡ []) × (pieces_of r.0 ≡ []) × (bytes_taken r.1 ≡ [])) }
     ensures places { IfOk result (λ r. (producer_capacity r.0.producer ≡ 3) × (r.0.refused ≡ 0)) }
 {
     let (producer, consumer) = RingBuffer::new(alloc, PLACES)?;

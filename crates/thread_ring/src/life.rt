@@ -1,6 +1,6 @@
 //! The whole life of a ring, for a list of pieces.
 ghost use Rattle.std.specs.Prelude.{ℕ, List, [], Option, ◌≡◌, ◌≤◌, ◌++◌};
-ghost use Rattle.thread_ring.specs.Ring.{OneRing, SameSink, joined, taken, whole};
+ghost use Rattle.thread_ring.specs.Ring.{OneRing, SameSink, joined, bytes_taken, whole};
 ghost use Rattle.thread_ring.specs.Answers.{Blames, FaultRose, Filled, Gained, answer_for_all};
 
 use crate::ends::{Presented, Presenter, RingSink, ring};
@@ -38,7 +38,7 @@ pub fn present_from<R: Threads + Wait + Sync, K: Sink + Send>(
 
 /// What both threads left.
 #[derive(Drop)]
-struct Ran {
+struct RingRun {
     sink: RingSink,
     presenter: Presenter,
     /// What `serve` answered.
@@ -54,12 +54,12 @@ fn run<R: Threads + Wait + Sync, K: Sink + Send>(
     sink: RingSink,
     presenter: Presenter,
     out: &mut K,
-) -> Ran
+) -> RingRun
     requires ring { OneRing sink presenter }
-    requires empty { (whole sink ≡ []) × (taken presenter ≡ []) }
+    requires empty { (whole sink ≡ []) × (bytes_taken presenter ≡ []) }
     ensures ring { OneRing result.sink result.presenter }
     ensures put { Filled result.put [] (whole result.sink) (joined pieces.now) }
-    ensures bytes { Gained result.served (K.held out.old) (K.held out.new) (taken result.presenter) }
+    ensures bytes { Gained result.served (K.held out.old) (K.held out.new) (bytes_taken result.presenter) }
     ensures faults { K.faults out.old ≤ K.faults out.new }
     ensures cause { FaultRose result.served (K.faults out.old) (K.faults out.new) }
     ensures place { K.place out.new ≡ K.place out.old }
@@ -71,7 +71,7 @@ fn run<R: Threads + Wait + Sync, K: Sink + Send>(
         &mut || presenter.serve(rt, out),
         &mut || fill(pieces, &mut sink),
     );
-    Ran {
+    RingRun {
         sink,
         presenter,
         served,
@@ -80,9 +80,9 @@ fn run<R: Threads + Wait + Sync, K: Sink + Send>(
 }
 
 /// Puts what is left into `out`, and answers for all the pieces.
-fn settle<K: Sink>(ran: Ran, out: &mut K) -> Presented
+fn settle<K: Sink>(ran: RingRun, out: &mut K) -> Presented
     requires { OneRing ran.sink ran.presenter }
-    ensures bytes { (first : Option (List ℕ)) (bytes : List ℕ) → Filled ran.put [] (whole ran.sink) bytes → Gained ran.served first (K.held out.old) (taken ran.presenter) → Gained result first (K.held out.new) bytes }
+    ensures bytes { (first : Option (List ℕ)) (bytes : List ℕ) → Filled ran.put [] (whole ran.sink) bytes → Gained ran.served first (K.held out.old) (bytes_taken ran.presenter) → Gained result first (K.held out.new) bytes }
     ensures cause { Blames ran.served result (K.faults out.old) (K.faults out.new) }
     ensures place { K.place out.new ≡ K.place out.old }
 {

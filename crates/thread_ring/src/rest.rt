@@ -1,8 +1,8 @@
 //! What is left once both ends are in one thread.
 ghost use Rattle.std.specs.Prelude.{ℕ, List, Option, ◌≡◌, ◌≤◌, length};
 ghost use Rattle.rtrb.specs.Ring.{known_items};
-ghost use Rattle.thread_ring.specs.Ring.{OneRing, joined, taken, whole};
-ghost use Rattle.thread_ring.specs.Answers.{Adds, Blames, Gained, Stops};
+ghost use Rattle.thread_ring.specs.Ring.{OneRing, joined, bytes_taken, whole};
+ghost use Rattle.thread_ring.specs.Answers.{AddsBytes, Blames, Gained, Stops};
 
 use crate::ends::{Presented, Presenter, RingSink};
 use crate::serving::present;
@@ -24,7 +24,7 @@ pub fn finish<K: Sink>(
     out: &mut K,
 ) -> Presented
     requires { OneRing sink presenter }
-    ensures bytes { (first : Option (List ℕ)) → Gained served first (K.held out.old) (taken presenter) → Gained result first (K.held out.new) (whole sink) }
+    ensures bytes { (first : Option (List ℕ)) → Gained served first (K.held out.old) (bytes_taken presenter) → Gained result first (K.held out.new) (whole sink) }
     ensures faults { K.faults out.old ≤ K.faults out.new }
     ensures refusals { K.refusals out.old ≤ K.refusals out.new }
     ensures stops { Stops served result out.old out.new }
@@ -50,7 +50,7 @@ fn empty<K: Sink>(
     out: &mut K,
 ) -> Presented
     requires { count ≡ length (known_items consumer.old) }
-    ensures adds { Adds served result (K.held out.old) (K.held out.new) (joined (known_items consumer.old)) }
+    ensures adds { AddsBytes served result (K.held out.old) (K.held out.new) (joined (known_items consumer.old)) }
     ensures faults { K.faults out.old ≤ K.faults out.new }
     ensures refusals { K.refusals out.old ≤ K.refusals out.new }
     ensures stops { Stops served result out.old out.new }
@@ -67,7 +67,7 @@ fn empty<K: Sink>(
 
 /// Puts the pieces, in order.
 fn put_all<K: Sink>(pieces: &[Vec<u8>], served: Presented, out: &mut K) -> Presented
-    ensures adds { Adds served result (K.held out.old) (K.held out.new) (joined pieces.now) }
+    ensures adds { AddsBytes served result (K.held out.old) (K.held out.new) (joined pieces.now) }
     ensures faults { K.faults out.old ≤ K.faults out.new }
     ensures refusals { K.refusals out.old ≤ K.refusals out.new }
     ensures stops { Stops served result out.old out.new }

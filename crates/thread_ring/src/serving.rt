@@ -1,7 +1,7 @@
 //! Handing the pieces of a ring on.
 ghost use Rattle.std.specs.Prelude.{◌≡◌, ◌≤◌};
-ghost use Rattle.thread_ring.specs.Ring.{SamePresenter, taken};
-ghost use Rattle.thread_ring.specs.Answers.{Adds, Blames, FaultRose, Served, Stops};
+ghost use Rattle.thread_ring.specs.Ring.{SamePresenter, bytes_taken};
+ghost use Rattle.thread_ring.specs.Answers.{AddsBytes, Blames, FaultRose, Served, Stops};
 
 use crate::ends::{Presented, Presenter};
 use player_io::{PutFault, Sink};
@@ -9,7 +9,7 @@ use std::sync::Wait;
 
 /// Puts one piece, unless an earlier one was refused, and answers for both.
 pub(crate) fn present<K: Sink>(state: Presented, piece: &[u8], out: &mut K) -> Presented
-    ensures adds { Adds state result (K.held out.old) (K.held out.new) piece.now }
+    ensures adds { AddsBytes state result (K.held out.old) (K.held out.new) piece.now }
     ensures faults { K.faults out.old ≤ K.faults out.new }
     ensures refusals { K.refusals out.old ≤ K.refusals out.new }
     ensures stops { Stops state result out.old out.new }
@@ -37,7 +37,7 @@ impl Presenter {
     /// `out` found none. In both `out` gained a front of the pieces that were taken.
     pub fn serve<K: Sink>(&mut self, rt: &impl Wait, out: &mut K) -> Presented
         ensures ring { SamePresenter self.old self.new }
-        ensures bytes { Served result (K.held out.old) (K.held out.new) (taken self.old) (taken self.new) }
+        ensures bytes { Served result (K.held out.old) (K.held out.new) (bytes_taken self.old) (bytes_taken self.new) }
         ensures faults { K.faults out.old ≤ K.faults out.new }
         ensures refusals { K.refusals out.old ≤ K.refusals out.new }
         ensures cause { FaultRose result (K.faults out.old) (K.faults out.new) }

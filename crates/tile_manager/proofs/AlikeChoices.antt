@@ -3,7 +3,7 @@ use Rattle.std.proofs.Common.{◌≡◌, List, map, ◌∙◌, ap}
 use Rattle.geom.specs.declared.tile.TileKey.{TileKey}
 use Rattle.tile_priority.specs.Ranks.{rank_cmp}
 use Rattle.tile_priority.specs.Ordered.{in_order}
-use Rattle.tile_priority.specs.Choice.{Choice, victim_key}
+use Rattle.tile_priority.specs.Choice.{Choice, evictable_key}
 use Rattle.tile_priority.specs.Alike.{Alike}
 use Rattle.tile_priority.proofs.InOrder.{in_order_order, in_order_members, orders_fix, same_trans, same_sym}
 use Rattle.tile_priority.proofs.Choosing.{order_is_free}
@@ -18,4 +18,4 @@ same_wanted c d alike =
     (same_trans c.wanted d.wanted (in_order rank_cmp d.wanted) alike.wanted (same_sym (in_order rank_cmp d.wanted) d.wanted (in_order_members rank_cmp rank_order d.wanted))))
 
 pub same_evicted : (c d : Choice) (q : TileKey) (ks : List TileKey) → Alike c d → AreEvictedFor c q ks → AreEvictedFor d q ks
-same_evicted c d q ks alike given = λ r i e. given r (alike.wanted.back r i) e ∙ ap (map victim_key) (order_is_free.evicted c d r (alike_stay.same_choice c d alike))
+same_evicted c d q ks alike given = λ r i e. given r (alike.wanted.back r i) e ∙ ap (map evictable_key) (order_is_free.evicted c d r (alike_stay.same_choice c d alike))

@@ -1,4 +1,4 @@
--- How many of the ready tiles may be given up, and the best of some ranks.
+-- How many of the ready tiles may be evicted, and the best of some ranks.
 use Rattle.std.proofs.Common.{◌≡◌, inl, inr, ℕ, suc, ◌+◌, ◌<◌, Bool, true, false, cond, not, ◌&&◌, ◌||◌, Option, Some, None, List, [], ◌∷◌, ◌++◌, length, get_or, take, map, filter, refl, sym, ◌∙◌, ap, subst, arith, append-nil}
 use Rattle.std.specs.List.{find}
 use Rattle.std.specs.FinMap as fin
@@ -7,7 +7,7 @@ use Rattle.std.specs.declared.cmp.Ordering.TheVariants.{Less, Equal, Greater}
 use Rattle.std.proofs.lemmas.List.{length-map}
 use Rattle.std.proofs.lemmas.List.Elements.{filter_more}
 use Rattle.geom.specs.declared.tile.TileKey.{TileKey}
-use Rattle.geom.specs.KeyLists.{same_key, has_key, AreDistinct}
+use Rattle.geom.specs.KeyLists.{same_key, has_key, AreDistinctKeys}
 use Rattle.geom.proofs.KeyLists.{one_key}
 use Rattle.tile_priority.specs.declared.rank.Bin.{Bin}
 use Rattle.tile_priority.specs.declared.rank.Rank.{Rank}
@@ -15,7 +15,7 @@ use Rattle.tile_priority.specs.Ranks.{at_order, rank_cmp, least}
 use Rattle.tile_priority.specs.Ordered.{In, SameMembers, with_member, in_order}
 use Rattle.tile_priority.specs.Laws.{IsOrder}
 use Rattle.tile_priority.specs.Tiles.{Tile}
-use Rattle.tile_priority.specs.Choice.{victim_of, victim_key, victim_by, gives_way, is_worse, worst_cmp, worst_first, least_of}
+use Rattle.tile_priority.specs.Choice.{evictable_of, evictable_key, evictable_by, gives_way, is_worse, worst_cmp, worst_first, least_of}
 use Rattle.tile_priority.specs.Alike.{is_of}
 use Rattle.tile_priority.proofs.InOrder.{in_map, in_order_members, orders_fix}
 use Rattle.tile_priority.proofs.Members.{in_append, in_append_left, in_append_right}
@@ -85,15 +85,15 @@ absent p q (r ∷ rs) e = by_tests (p r) (same_key r.key q) refl e (absent p q r
     by_tests true false t e f = ap (λ b. b || has_key (map rank_key (filter p rs)) q) t ∙ f e
     by_tests false false t e f = f e
 
-once_filter : (p : Rank → Bool) (rs : List Rank) → AreDistinct (map rank_key rs) → AreDistinct (map rank_key (filter p rs))
+once_filter : (p : Rank → Bool) (rs : List Rank) → AreDistinctKeys (map rank_key rs) → AreDistinctKeys (map rank_key (filter p rs))
 once_filter p [] once = tt
 once_filter p (r ∷ rs) once = by_test (p r) (once_filter p rs once.1)
   where
-    by_test : (b : Bool) → AreDistinct (map rank_key (filter p rs)) → AreDistinct (map rank_key (cond b (r ∷ filter p rs) (filter p rs)))
+    by_test : (b : Bool) → AreDistinctKeys (map rank_key (filter p rs)) → AreDistinctKeys (map rank_key (cond b (r ∷ filter p rs) (filter p rs)))
     by_test true rest = (absent p r.key rs once.0, rest)
     by_test false rest = rest
 
-has_passing : (p : Rank → Bool) (rs : List Rank) (q : TileKey) → AreDistinct (map rank_key rs) → has_key (map rank_key (filter p rs)) q ≡ passes p (find (is_of q) rs)
+has_passing : (p : Rank → Bool) (rs : List Rank) (q : TileKey) → AreDistinctKeys (map rank_key rs) → has_key (map rank_key (filter p rs)) q ≡ passes p (find (is_of q) rs)
 has_passing p [] q once = refl
 has_passing p (r ∷ rs) q once = by_tests (p r) (same_key r.key q) refl refl (has_passing p rs q once.1)
   where
@@ -127,7 +127,7 @@ swapped false true false = refl
 swapped false false true = refl
 swapped false false false = refl
 
-module _ (store : Store) (pins : List TileKey) (rs : List Rank) (once : AreDistinct (map rank_key rs)) (b : Bin) where
+module _ (store : Store) (pins : List TileKey) (rs : List Rank) (once : AreDistinctKeys (map rank_key rs)) (b : Bin) where
   abbrev keys : List TileKey
   keys = fin.keys store.ready
 
@@ -155,8 +155,8 @@ module _ (store : Store) (pins : List TileKey) (rs : List Rank) (once : AreDisti
   ways_count = ap length (filter_map_test (tile_among rs pins) (gives_way b) keys) ∙ length-map (filter (λ q. gives_way b (tile_among rs pins q)) keys) (tile_among rs pins)
 
   -- all that are not pinned are those that give way and those that stay
-  pub victims_count : length (filter (unpinned pins) keys) ≡ length (filter (gives_way b) (map (tile_among rs pins) keys)) + length (filter (stays_for store pins b) rs)
-  victims_count =
+  pub evictables_count : length (filter (unpinned pins) keys) ≡ length (filter (gives_way b) (map (tile_among rs pins) keys)) + length (filter (stays_for store pins b) rs)
+  evictables_count =
       let w = ways_count in
       let t = staying_count in
       split_count (unpinned pins) (gives rs b) keys ∙ (λ i. sym w i + sym t i)
@@ -181,25 +181,25 @@ module _ {X : Type 0} (R : X → X → Ordering) (order : IsOrder R) where
   all_in_order [] once = refl
   all_in_order (x ∷ xs) once = new_member x (in_order R xs) (λ i. once.0 ((in_order_members R order xs).there x i)) ∙ ap suc (all_in_order xs once.1)
 
--- victims of distinct keys
+-- evictable tiles of distinct keys
 
-victim_keys : (q : TileKey) (rs : List Rank) (o : Option Rank) → IsRankAmong rs q o → victim_key (victim_by q o) ≡ q
-victim_keys q rs None f = refl
-victim_keys q rs (Some r) f = f.1
+evictable_keys : (q : TileKey) (rs : List Rank) (o : Option Rank) → IsRankAmong rs q o → evictable_key (evictable_by q o) ≡ q
+evictable_keys q rs None f = refl
+evictable_keys q rs (Some r) f = f.1
 
 module _ (pins : List TileKey) (rs : List Rank) where
-  key_of : (q : TileKey) → victim_key (victim_of (tile_among rs pins q)) ≡ q
-  key_of q = victim_keys q rs (find (is_of q) rs) (find_among q rs)
+  key_of : (q : TileKey) → evictable_key (evictable_of (tile_among rs pins q)) ≡ q
+  key_of q = evictable_keys q rs (find (is_of q) rs) (find_among q rs)
 
-  victims_once : (ks : List TileKey) → AreDistinct ks → EachOnce worst_cmp worst_order (map victim_of (map (tile_among rs pins) ks))
-  victims_once [] once = tt
-  victims_once (k ∷ ks) once = (
+  evictables_once : (ks : List TileKey) → AreDistinctKeys ks → EachOnce worst_cmp worst_order (map evictable_of (map (tile_among rs pins) ks))
+  evictables_once [] once = tt
+  evictables_once (k ∷ ks) once = (
     λ i.
-        let (t, j, e) = in_map victim_of (victim_of (tile_among rs pins k)) (map (tile_among rs pins) ks) i in
+        let (t, j, e) = in_map evictable_of (evictable_of (tile_among rs pins k)) (map (tile_among rs pins) ks) i in
         let (q, l, is) = in_map (tile_among rs pins) t ks j in
-        let same : q ≡ k = sym (key_of q) ∙ (ap (λ (z : Tile). victim_key (victim_of z)) is ∙ (ap victim_key e ∙ key_of k)) in
+        let same : q ≡ k = sym (key_of q) ∙ (ap (λ (z : Tile). evictable_key (evictable_of z)) is ∙ (ap evictable_key e ∙ key_of k)) in
         not_both (has_key ks k) (subst (λ z. has_key ks z ≡ true) same (has_in ks q l)) once.0,
-    victims_once ks once.1,
+    evictables_once ks once.1,
   )
 
 pub worst_count : (store : Store) (pins : List TileKey) (r : Ranked) (q : Rank) → length (worst_first (choice_among store pins r) q) ≡ length (filter (gives_way q.bin) (choice_among store pins r).ready)
@@ -208,6 +208,6 @@ worst_count store pins r q =
     let tiles : List Tile = map (tile_among r.ranks pins) (fin.keys store.ready) in
     let kept : List TileKey = filter (λ k. gives_way q.bin (tile_among r.ranks pins k)) (fin.keys store.ready) in
     let are : filter (gives_way q.bin) tiles ≡ map (tile_among r.ranks pins) kept = filter_map_test (tile_among r.ranks pins) (gives_way q.bin) (fin.keys store.ready) in
-    all_in_order worst_cmp worst_order (map victim_of (filter (gives_way q.bin) tiles))
-    (subst (λ ts. EachOnce worst_cmp worst_order (map victim_of ts)) (sym are) (victims_once pins r.ranks kept (distinct_filter (λ k. gives_way q.bin (tile_among r.ranks pins k)) (fin.keys store.ready) (keys_once store))))
-    ∙ length-map (filter (gives_way q.bin) tiles) victim_of
+    all_in_order worst_cmp worst_order (map evictable_of (filter (gives_way q.bin) tiles))
+    (subst (λ ts. EachOnce worst_cmp worst_order (map evictable_of ts)) (sym are) (evictables_once pins r.ranks kept (distinct_filter (λ k. gives_way q.bin (tile_among r.ranks pins k)) (fin.keys store.ready) (keys_once store))))
+    ∙ length-map (filter (gives_way q.bin) tiles) evictable_of

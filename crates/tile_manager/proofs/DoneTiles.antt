@@ -22,7 +22,7 @@ use Rattle.tile_store.proofs.StoreWords.{image_of-done_with, is_in_flight-done_w
 use Rattle.model_history.specs.declared.history.Entry.{Entry}
 use Rattle.model_history.specs.Scripts.{ScriptModel}
 use Rattle.model_history.specs.Legal.{Legal}
-use Rattle.model_history.specs.Tiles.{live_keys, made, in_flight, ready}
+use Rattle.model_history.specs.Tiles.{live_keys, made_so_far, in_flight, ready}
 use Rattle.model_history.specs.Ranking.{choice, rank, is_unmade, ready_tile}
 use Rattle.model_history.proofs.BoolFacts.{not_both, is_false, and_right, not_true}
 use Rattle.model_history.proofs.KeyFacts.{has_in, in_has, has_without}
@@ -30,7 +30,7 @@ use Rattle.model_history.proofs.Pins.{ready_made}
 use Rattle.model_history.proofs.RankFacts.{rank_key as key_ranked, key_of_rank}
 use Rattle.model_history.proofs.TileCourse.{tile_course}
 use Rattle.model_steps.specs.Events.{done}
-use Rattle.model_steps.specs.ShownKeys.{Shows}
+use Rattle.model_steps.specs.ShownKeys.{KeyShows}
 use Rattle.model_steps.proofs.Dones.{flies, ready_done, done_live, done_dead}
 use Rattle.tile_manager.specs.declared.outlook.Outlook.{Outlook}
 use Rattle.tile_manager.specs.declared.outlook.Outlook.TheVariants as outlook
@@ -67,7 +67,7 @@ module _ (s : ScriptModel) (n : ℕ) (h : List Entry) (a w : ℕ) (i : Image) (l
         let (u, j, e) = in_map tile_key key queue.ready (in_has (map tile_key queue.ready) key t) in
         let (k, l, v) = in_map (ready_tile s h) u (ready s h) (same_now.ready.there u j) in
         let is : k ≡ key = ap (λ (z : Tile). z.key) v ∙ e in
-        not_both (has_key (made h) key) (ready_made s h key (ap (has_key (ready s h)) (sym is) ∙ has_in (ready s h) k l)) ((tile_course s n h legal.0).apart key flying))
+        not_both (has_key (made_so_far h) key) (ready_made s h key (ap (has_key (ready s h)) (sym is) ∙ has_in (ready s h) k l)) ((tile_course s n h legal.0).apart key flying))
 
     pub is_new : IsNew queue key
     is_new = record { not_wanted = not_wanted; not_ready = not_ready }
@@ -109,7 +109,7 @@ module _ (s : ScriptModel) (n : ℕ) (h : List Entry) (a w : ℕ) (i : Image) (l
 
   -- after it
 
-  module _ (shows : Shows s key i.rect i.list) where
+  module _ (shows : KeyShows s key i.rect i.list) where
     abbrev stored : Bool → ℕ → Store
     stored live spare = stores.done_with m.store i live spare
 
@@ -119,14 +119,14 @@ module _ (s : ScriptModel) (n : ℕ) (h : List Entry) (a w : ℕ) (i : Image) (l
         ∙ (some_put (eq_by_cmp key_cmp k key) i (image_of m.store k) ∙ (λ j. sym (same_ties key k) j || holds.ready k j))
     ready_then false spare k = ap is_some (image_of-done_with m.store spare k i false) ∙ holds.ready k
 
-    put_image : (b : Bool) (k : TileKey) (j : Image) → eq_by_cmp key_cmp k key ≡ b → cond b (Some i) (image_of m.store k) ≡ Some j → (j.key ≡ k) × Shows s k j.rect j.list
+    put_image : (b : Bool) (k : TileKey) (j : Image) → eq_by_cmp key_cmp k key ≡ b → cond b (Some i) (image_of m.store k) ≡ Some j → (j.key ≡ k) × KeyShows s k j.rect j.list
     put_image true k j t e =
         let is : key ≡ k = one_key key k (same_ties key k ∙ t) in
         let same : i ≡ j = cc in
-        subst (λ (z : Image). (z.key ≡ k) × Shows s k z.rect z.list) same (is, subst (λ q. Shows s q i.rect i.list) is shows)
+        subst (λ (z : Image). (z.key ≡ k) × KeyShows s k z.rect z.list) same (is, subst (λ q. KeyShows s q i.rect i.list) is shows)
     put_image false k j t e = holds.images k j e
 
-    images_then : (live : Bool) (spare : ℕ) (k : TileKey) (j : Image) → image_of (stored live spare) k ≡ Some j → (j.key ≡ k) × Shows s k j.rect j.list
+    images_then : (live : Bool) (spare : ℕ) (k : TileKey) (j : Image) → image_of (stored live spare) k ≡ Some j → (j.key ≡ k) × KeyShows s k j.rect j.list
     images_then true spare k j e = put_image (eq_by_cmp key_cmp k key) k j refl (sym (image_of-done_with m.store spare k i true) ∙ e)
     images_then false spare k j e = holds.images k j (sym (image_of-done_with m.store spare k i false) ∙ e)
 

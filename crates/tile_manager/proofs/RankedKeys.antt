@@ -3,7 +3,7 @@ use Rattle.std.proofs.Common.{◌≡◌, inl, inr, Bool, true, false, cond, Opti
 use Rattle.std.specs.List.{find}
 use Rattle.std.specs.List.Sorted.{IsPermutation}
 use Rattle.geom.specs.declared.tile.TileKey.{TileKey}
-use Rattle.geom.specs.KeyLists.{same_key, has_key, AreDistinct}
+use Rattle.geom.specs.KeyLists.{same_key, has_key, AreDistinctKeys}
 use Rattle.geom.proofs.KeyLists.{one_key, same_from}
 use Rattle.tile_priority.specs.declared.rank.Rank.{Rank}
 use Rattle.tile_priority.specs.declared.rank.Side.{Side}
@@ -37,7 +37,7 @@ other_key q r x xs apart i e = is_false (same_key x.key q) (λ t.
     let is : r.key ≡ x.key = e ∙ sym (one_key x.key q t) in
     not_both (has_key (map rank_key xs) x.key) (subst (λ k. has_key (map rank_key xs) k ≡ true) is (has_in (map rank_key xs) r.key (map_in rank_key r xs i))) apart)
 
-find_one : (q : TileKey) (r : Rank) (rs : List Rank) → AreDistinct (map rank_key rs) → In r rs → r.key ≡ q → find (is_of q) rs ≡ Some r
+find_one : (q : TileKey) (r : Rank) (rs : List Rank) → AreDistinctKeys (map rank_key rs) → In r rs → r.key ≡ q → find (is_of q) rs ≡ Some r
 find_one q r [] once i e = absurd i
 find_one q r (x ∷ xs) once (inl is) e = ap (λ b. cond b (Some x) (find (is_of q) xs)) (same_from x.key q (ap rank_key (sym is) ∙ e)) ∙ ap Some (sym is)
 find_one q r (x ∷ xs) once (inr i) e = ap (λ b. cond b (Some x) (find (is_of q) xs)) (other_key q r x xs once.0 i e) ∙ find_one q r xs once.1 i e
@@ -64,7 +64,7 @@ find_among q (x ∷ xs) = by_test (same_key x.key q) refl (find_among q xs)
     by_test false t found = later (find (is_of q) xs) t found
 
 -- ranks with the same members have it too
-pub among : (rs ms : List Rank) → SameMembers rs ms → AreDistinct (map rank_key ms) → (q : TileKey) (o : Option Rank) → IsRankAmong rs q o → o ≡ find (is_of q) ms
+pub among : (rs ms : List Rank) → SameMembers rs ms → AreDistinctKeys (map rank_key ms) → (q : TileKey) (o : Option Rank) → IsRankAmong rs q o → o ≡ find (is_of q) ms
 among rs ms same once q (Some r) found = sym (find_one q r ms once (same.there r found.0) found.1)
 among rs ms same once q None none = sym (find_none q ms (λ r i e. none r (same.back r i) e))
 

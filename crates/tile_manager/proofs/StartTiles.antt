@@ -3,7 +3,7 @@ use Rattle.std.proofs.Common.{ℕ, ◌≤◌, not, ◌&&◌, ◌||◌, is_some, 
 use Rattle.geom.specs.declared.tile.TileKey.{TileKey}
 use Rattle.geom.specs.KeyLists.{has_key}
 use Rattle.geom.proofs.KeyLists.{same_ties}
-use Rattle.tile_priority.specs.Choice.{Choice, victim_key}
+use Rattle.tile_priority.specs.Choice.{Choice, evictable_key}
 use Rattle.tile_priority.specs.Alike.{Alike}
 use Rattle.tile_priority.specs.Alike as alike
 use Rattle.tile_priority.proofs.Choosing.{first_is_one, order_is_free}
@@ -43,13 +43,13 @@ module _ (s : ScriptModel) (n : ℕ) (h : List Entry) (a w : ℕ) (q : TileKey) 
       rank = d.rank;
       wanted = alike_now.wanted.back d.rank (first_is_one.there (choice s h) d.rank d.is_first).wanted;
       key = sym d.key;
-      evicted = d.gives_up ∙ ap (map victim_key) (sym (order_is_free.evicted queue (choice s h) d.rank (alike_stay.same_choice queue (choice s h) alike_now)));
+      evicted = d.evictions ∙ ap (map evictable_key) (sym (order_is_free.evicted queue (choice s h) d.rank (alike_stay.same_choice queue (choice s h) alike_now)));
     }
 
-    pub queue_then : (next : Choice) → Alike next (alike.started queue q ks) → Alike next (choice s (start a w q ks ∷ h))
+    pub queue_then : (next : Choice) → Alike next (alike.choice_after_start queue q ks) → Alike next (choice s (start a w q ks ∷ h))
     queue_then next same =
-        alike_stay.through next (alike.started queue q ks) (choice s (start a w q ks ∷ h)) same
-        (alike_stay.through (alike.started queue q ks) (alike.started (choice s h) q ks) (choice s (start a w q ks ∷ h))
+        alike_stay.through next (alike.choice_after_start queue q ks) (choice s (start a w q ks ∷ h)) same
+        (alike_stay.through (alike.choice_after_start queue q ks) (alike.choice_after_start (choice s h) q ks) (choice s (start a w q ks ∷ h))
         (alike_stay.started queue (choice s h) q ks alike_now) (start_alike s n h a w q ks legal))
 
   pub may_start_next : MayStartNext m.outlook q ks

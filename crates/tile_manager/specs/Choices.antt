@@ -21,8 +21,8 @@ abbrev pub rank_among : List Rank → TileKey → Option Rank
 rank_among rs q = find (is_of q) rs
 
 -- the key is neither ready nor being made
-abbrev pub is_missing : Store → TileKey → Bool
-is_missing store q = not (is_ready store q) && not (is_in_flight store q)
+abbrev pub store_lacks : Store → TileKey → Bool
+store_lacks store q = not (is_ready store q) && not (is_in_flight store q)
 
 -- a ready key with its rank, and whether it must stay
 abbrev pub tile_among : List Rank → List TileKey → TileKey → Tile
@@ -31,7 +31,7 @@ tile_among rs pins q = record { key = q; rank = rank_among rs q; pinned = has_ke
 -- what there is to choose from where these are the ranks of all keys that have one, and these keys are pinned: the ranks of the missing keys are wanted, and what the store has is ready
 abbrev pub choice_among : Store → List TileKey → Ranked → Choice
 choice_among store pins r = record {
-  wanted = filter (λ k. is_missing store k.key) r.ranks;
+  wanted = filter (λ k. store_lacks store k.key) r.ranks;
   ready = map (tile_among r.ranks pins) (fin.keys store.ready);
   in_flight = set.len store.in_flight;
   budget = r.budget;

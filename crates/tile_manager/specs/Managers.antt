@@ -16,7 +16,7 @@ use Rattle.model_history.specs.Legal.{Legal}
 use Rattle.model_history.specs.Tiles.{live_keys, in_flight, ready, pinned}
 use Rattle.model_history.specs.Ranking.{choice, rank, ready_tile}
 use Rattle.model_steps.specs.Events.{start, done}
-use Rattle.model_steps.specs.ShownKeys.{Shows}
+use Rattle.model_steps.specs.ShownKeys.{KeyShows}
 use Rattle.tile_manager.specs.Choices.{Ranked, choice_among}
 use Rattle.tile_manager.specs.declared.outlook.Outlook.{Outlook}
 use Rattle.tile_manager.specs.declared.outlook.Outlook.TheVariants as outlook
@@ -62,28 +62,28 @@ Foresees (outlook.Ranks ranks) c live = AreRanks ranks live c.budget
 Foresees outlook.Unseen c live = ⊤
 
 -- nothing to choose from
-abbrev pub nothing : Choice
-nothing = record { wanted = []; ready = []; in_flight = 0; budget = 0 }
+abbrev pub empty_choice : Choice
+empty_choice = record { wanted = []; ready = []; in_flight = 0; budget = 0 }
 
 -- what there is to choose from by an outlook, a store and pinned keys
 abbrev pub foreseen : Store → List TileKey → Outlook → Choice
 foreseen store pins (outlook.Queue queue) = queue
 foreseen store pins (outlook.Ranks ranks) = choice_among store pins ranks
-foreseen store pins outlook.Unseen = nothing
+foreseen store pins outlook.Unseen = empty_choice
 
 -- the manager has an image that shows it for each of the ready keys, these keys in flight and pinned, and a queue for this choice, or the ranks of the live keys of which it is to be made, where it was looked
 pub record HoldsTiles (s : ScriptModel) (m : Managed) (made flying pins : List TileKey) (c : Choice) (live : List Rank) : Type 0 where
   pub ready : (q : TileKey) → is_ready m.store q ≡ has_key made q
   pub in_flight : (q : TileKey) → is_in_flight m.store q ≡ has_key flying q
   pub pinned : (q : TileKey) → has_key m.pinned q ≡ has_key pins q
-  pub images : (q : TileKey) (i : Image) → image_of m.store q ≡ Some i → (i.key ≡ q) × Shows s q i.rect i.list
+  pub images : (q : TileKey) (i : Image) → image_of m.store q ≡ Some i → (i.key ≡ q) × KeyShows s q i.rect i.list
   pub outlook : Foresees m.outlook c live
 
 -- it stands for the tiles of a run of the script after this past
 abbrev pub Manages : ScriptModel → List Entry → Managed → Type 0
 Manages s h m = HoldsTiles s m (ready s h) (in_flight h) (pinned s h) (choice s h) (live_ranks s h)
 
--- the manager stands for a run in which a worker may start the key now, for which these keys are given up
+-- the manager stands for a run in which a worker may start the key now, for which these keys are evicted
 pub record StartsNow (m : Managed) (q : TileKey) (evicted : List TileKey) : Type 0 where
   pub script : ScriptModel
   pub workers : ℕ

@@ -3,7 +3,7 @@
 ghost use Rattle.std.specs.Prelude.{◌≡◌, ℕ, ◌≤◌, true, false, List, [], ◌∷◌, Some, take, option_map, IfOk, OnOk, OnErr};
 ghost use Rattle.std.specs.List.{list_all};
 ghost use Rattle.geom.specs.declared.tile.TileKey.{TileKey as Key};
-ghost use Rattle.geom.specs.KeyLists.{has_key, AreDistinct};
+ghost use Rattle.geom.specs.KeyLists.{has_key, AreDistinctKeys};
 ghost use Rattle.geom.specs.KeyOrder.{key_cmp};
 ghost use Rattle.tile_priority.specs.declared.rank.Rank.{Rank as Ranking};
 ghost use Rattle.tile_priority.specs.Ranks.{rank_cmp};
@@ -15,10 +15,10 @@ ghost use Rattle.model_history.specs.declared.history.Entry.{Entry};
 ghost use Rattle.model_history.specs.Scripts.{ScriptModel};
 ghost use Rattle.model_history.specs.Accepted.{IsAccepted};
 ghost use Rattle.model_history.specs.Legal.{Legal};
-ghost use Rattle.model_history.specs.Tiles.{pending_tree, keys_of, used, ready, required, are_ready};
-ghost use Rattle.model_history.specs.Ranking.{first, evicted_for, wanted};
+ghost use Rattle.model_history.specs.Tiles.{pending_tree, keys_of, tiles_used, ready, required, are_ready};
+ghost use Rattle.model_history.specs.Ranking.{rank_to_start, evicted_for, wanted};
 ghost use Rattle.model_steps.specs.Events.{start, done, activate};
-ghost use Rattle.model_steps.specs.ShownKeys.{Shows};
+ghost use Rattle.model_steps.specs.ShownKeys.{KeyShows};
 ghost use Rattle.tile_manager.specs.Managers.{Manages, StartsNow, DoneNow, HaveSameTiles, AreRanksAt, is_seen, tile_made};
 
 use crate::outlook::Outlook;
@@ -34,7 +34,7 @@ use tile_raster::TileImage;
 use tile_store::TileStore;
 
 /// The tiles of a run: the ready keys with their images, the keys in flight, the pinned keys, and what tells the
-/// next tile and what is given up for it: the raster queue, or the ranks of which it is to be made.
+/// next tile and what is evicted for it: the raster queue, or the ranks of which it is to be made.
 ///
 /// Contracts say for which runs it stands, by the script and the past: `Manages`.
 #[derive(Drop)]
@@ -120,15 +120,15 @@ impl TileManager {
     /// The key that starts next; None exactly where none may start.
     pub fn next_start(&self) -> Option<TileKey>
         requires { is_seen self.now.outlook ≡ true }
-        ensures { (s : ScriptModel) (workers : ℕ) (h : List Entry) → Legal s workers h → Manages s h self.now → result ≡ option_map rank_key (first s h) }
+        ensures { (s : ScriptModel) (workers : ℕ) (h : List Entry) → Legal s workers h → Manages s h self.now → result ≡ option_map rank_key (rank_to_start s h) }
     {
         self.outlook.first(&self.store, &self.pins)
     }
 
-    /// The keys that are given up for the next one, the worst first. An error is want of memory.
+    /// The keys that are evicted for the next one, the worst first. An error is want of memory.
     pub fn evicted(&self, key: TileKey) -> Result<Keys, AllocError>
         requires { is_seen self.now.outlook ≡ true }
-        ensures { (s : ScriptModel) (workers : ℕ) (h : List Entry) (r : Ranking) → Legal s workers h → Manages s h self.now → first s h ≡ Some r → r.key ≡ key → IfOk result (λ keys. keys ≡ evicted_for s h r) }
+        ensures { (s : ScriptModel) (workers : ℕ) (h : List Entry) (r : Ranking) → Legal s workers h → Manages s h self.now → rank_to_start s h ≡ Some r → r.key ≡ key → IfOk result (λ keys. keys ≡ evicted_for s h r) }
     {
         self.outlook.evicted(&self.store, &self.pins, key)
     }
@@ -150,7 +150,7 @@ impl TileManager {
         self.store.ready_near(near, key)
     }
 
-    /// Whether the key is not to be given up.
+    /// Whether the key is not to be evicted.
     pub fn pinned(&self, key: TileKey) -> bool
         ensures { result ≡ has_key self.now.pinned key }
     {
@@ -167,7 +167,7 @@ impl TileManager {
     /// The keys that have an image, each once, in key order. An error is want of memory.
     pub fn ready_keys(&self) -> Result<Keys, AllocError>
         ensures order { IfOk result (λ keys. IsInOrder key_cmp keys) }
-        ensures once { IfOk result (λ keys. AreDistinct keys) }
+        ensures once { IfOk result (λ keys. AreDistinctKeys keys) }
         ensures keys { IfOk result (λ keys. (q : Key) → has_key keys q ≡ is_ready self.now.store q) }
     {
         self.store.ready_keys()
@@ -175,7 +175,7 @@ impl TileManager {
 
     /// How many keys are ready or being made.
     pub fn used(&self) -> u32
-        ensures { (s : ScriptModel) (workers : ℕ) (h : List Entry) → Legal s workers h → Manages s h self.now → result ≡ used s h }
+        ensures { (s : ScriptModel) (workers : ℕ) (h : List Entry) → Legal s workers h → Manages s h self.now → result ≡ tiles_used s h }
     {
         self.store.used()
     }
@@ -190,7 +190,7 @@ impl TileManager {
         self.store.reserve()
     }
 
-    /// A worker starts the next key, and its evicted keys are given up for it. There must be room. Takes no
+    /// A worker starts the next key, and its evicted keys are dropped. There must be room. Takes no
     /// memory.
     #[tactic(auto, using(crate::proofs::SeenOutlooks::started_seen))]
     pub fn start(&mut self, key: TileKey, evicted: &Keys)
@@ -208,7 +208,7 @@ impl TileManager {
     #[tactic(auto, using(crate::proofs::SeenOutlooks::finished_seen))]
     pub fn done(&mut self, image: Arc<TileImage>, tile: Option<ReadyTile>)
         requires { DoneNow self.old image.value tile }
-        ensures tiles { (s : ScriptModel) (workers : ℕ) (h : List Entry) (actor w : ℕ) → Manages s h self.old → Legal s workers (done actor w image.value.key ∷ h) → tile ≡ tile_made s h image.value.key → Shows s image.value.key image.value.rect image.value.list → Manages s (done actor w image.value.key ∷ h) self.new }
+        ensures tiles { (s : ScriptModel) (workers : ℕ) (h : List Entry) (actor w : ℕ) → Manages s h self.old → Legal s workers (done actor w image.value.key ∷ h) → tile ≡ tile_made s h image.value.key → KeyShows s image.value.key image.value.rect image.value.list → Manages s (done actor w image.value.key ∷ h) self.new }
         ensures seen { is_seen self.new.outlook ≡ is_seen self.old.outlook }
     {
         self.store.done(image, tile.is_some());

@@ -16,7 +16,7 @@ use tile_priority::{Rank, ReadyTile};
 use tile_queue::RasterQueue;
 use tile_store::TileStore;
 
-/// What tells the next tile, and what is given up for it.
+/// What tells the next tile, and what is evicted for it.
 pub(crate) enum Outlook {
     /// a queue
     Queue(RasterQueue),
@@ -68,7 +68,7 @@ impl Outlook {
         }
     }
 
-    /// The keys that are given up for a wanted one, the worst first. An error is want of memory.
+    /// The keys that are evicted for a wanted one, the worst first. An error is want of memory.
     pub(crate) fn evicted(
         &self,
         store: &TileStore,
@@ -102,7 +102,7 @@ impl Outlook {
         }
     }
 
-    /// A key starts, and its evicted keys are given up for it. The ranks stay. Takes no memory.
+    /// A key starts, and its evicted keys are dropped. The ranks stay. Takes no memory.
     pub(crate) fn start(&mut self, key: TileKey, evicted: &Keys)
         requires { MayStartNext self.old key evicted.now }
         ensures { HasStarted self.old key evicted.now self.new }

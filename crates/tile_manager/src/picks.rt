@@ -7,7 +7,7 @@ ghost use Rattle.std.specs.Prelude.{◌≡◌, ◌≤◌, ◌<◌, ℕ, List, tr
 ghost use Rattle.std.specs.declared.cmp.Ordering.TheVariants.{Less, Greater};
 ghost use Rattle.std.specs.List.Sorted.{IsSorted, IsSortedByKey, IsPermutation};
 ghost use Rattle.geom.specs.declared.tile.TileKey.{TileKey as Key};
-ghost use Rattle.geom.specs.KeyLists.{has_key, AreDistinct};
+ghost use Rattle.geom.specs.KeyLists.{has_key, AreDistinctKeys};
 ghost use Rattle.geom.specs.KeyOrder.{key_cmp};
 ghost use Rattle.tile_priority.specs.declared.rank.Rank.{Rank as Ranking};
 ghost use Rattle.tile_priority.specs.Ordered.{SameMembers};
@@ -175,7 +175,7 @@ fn rank_at(ranks: &[Rank], key: TileKey, place: Option<usize>) -> Option<Rank>
 // pinned. `near` is set to the place behind the rank, or where it would stand.
 fn ready_tile(ranks: &[Rank], near: &mut usize, key: TileKey, pinned: bool) -> ReadyTile
     requires { IsSortedByKey rank_key key_cmp ranks.now }
-    ensures { (rs : List Ranking) → AreDistinct (map rank_key rs) → SameMembers ranks.now rs → result ≡ record { key = key; rank = rank_among rs key; pinned = pinned } }
+    ensures { (rs : List Ranking) → AreDistinctKeys (map rank_key rs) → SameMembers ranks.now rs → result ≡ record { key = key; rank = rank_among rs key; pinned = pinned } }
 {
     if !is_at(ranks, *near, key) {
         *near = passed(ranks, *near, key);
@@ -197,7 +197,7 @@ pub(crate) fn ready_tiles(
     pins: &Pins,
 ) -> Result<Vec<ReadyTile>, AllocError>
     requires { IsSortedByKey rank_key key_cmp ranks.now }
-    ensures { IfOk result (λ ready. (rs : List Ranking) → AreDistinct (map rank_key rs) → SameMembers ranks.now rs → ready.items ≡ map (tile_among rs pins.now) keys.now) }
+    ensures { IfOk result (λ ready. (rs : List Ranking) → AreDistinctKeys (map rank_key rs) → SameMembers ranks.now rs → ready.items ≡ map (tile_among rs pins.now) keys.now) }
 {
     let mut ready = Vec::with_capacity(alloc, keys.len())?;
     let mut rank_place = 0;

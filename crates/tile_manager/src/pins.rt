@@ -1,4 +1,4 @@
-//! Keys that are not to be given up.
+//! Keys that are not to be evicted.
 
 ghost use Rattle.std.specs.Prelude.{◌≡◌, [], IfOk};
 ghost use Rattle.geom.specs.declared.tile.TileKey.{TileKey as Key};
@@ -9,7 +9,7 @@ use geom::{Keys, TileKey};
 use std::alloc::{AllocError, Global};
 use std::marker::Model;
 
-/// Keys that are not to be given up, in their order.
+/// Keys that are not to be evicted, in their order.
 #[derive(Drop)]
 pub struct Pins {
     keys: Vec<TileKey>,

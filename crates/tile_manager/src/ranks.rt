@@ -6,7 +6,7 @@
 
 ghost use Rattle.std.specs.Prelude.{◌≡◌, ◌+◌, ◌-◌, cond, map, filter, length, take, Some, option_map, IfOk};
 ghost use Rattle.std.specs.FinSet as set;
-ghost use Rattle.geom.specs.KeyLists.{AreDistinct};
+ghost use Rattle.geom.specs.KeyLists.{AreDistinctKeys};
 ghost use Rattle.tile_priority.specs.declared.rank.Rank.{Rank as Ranking};
 ghost use Rattle.tile_priority.specs.Ranks.{rank_cmp};
 ghost use Rattle.tile_priority.specs.Ordered.{in_order};
@@ -15,7 +15,7 @@ ghost use Rattle.tile_priority.specs.Choice as choosing;
 ghost use Rattle.tile_priority.specs.Choice.{gives_way, used, least_of};
 ghost use Rattle.tile_priority.specs.Alike.{Alike};
 ghost use Rattle.tile_queue.specs.Queues.{rank_key, AreEvictedFor};
-ghost use Rattle.tile_manager.specs.Choices.{is_missing, choice_among};
+ghost use Rattle.tile_manager.specs.Choices.{store_lacks, choice_among};
 
 use crate::picks::{in_key_order, is_made_now, missing, ready_tiles};
 use crate::pins::Pins;
@@ -36,7 +36,7 @@ pub struct Ranks {
 
 impl Model for Ranks {
     ghost use Rattle.std.specs.Prelude.{map};
-    ghost use Rattle.geom.specs.KeyLists.{AreDistinct};
+    ghost use Rattle.geom.specs.KeyLists.{AreDistinctKeys};
     ghost use Rattle.tile_queue.specs.Queues.{rank_key};
     ghost use Rattle.tile_manager.specs.Choices.{Ranked};
 
@@ -44,7 +44,7 @@ impl Model for Ranks {
 
     ghost view = { λ r. record { ranks = r.ranks.items; budget = r.budget } };
 
-    ghost invariant = { λ r. AreDistinct (map rank_key r.ranks.items) };
+    ghost invariant = { λ r. AreDistinctKeys (map rank_key r.ranks.items) };
 }
 
 // How many keys are being made.
@@ -57,13 +57,13 @@ fn in_flight(store: &TileStore) -> u32
 // Whether a key is neither ready, which is looked for at `near` first, nor being made, of which there are so many.
 fn is_missing(store: &TileStore, near: &mut usize, in_flight: u32, key: TileKey) -> bool
     requires { in_flight ≡ set.len store.now.in_flight }
-    ensures { result ≡ is_missing store.now key }
+    ensures { result ≡ store_lacks store.now key }
 {
     let is_ready = store.ready_near(near, key).is_some();
     !is_ready && !is_made_now(store, in_flight, key)
 }
 
-// The better of a rank, where its key is missing, and another. `near` and `in_flight` are as in `is_missing`.
+// The better of a rank, where its key is missing, and another. `near` and `in_flight` are as in `store_lacks`.
 fn better(
     store: &TileStore,
     near: &mut usize,
@@ -72,7 +72,7 @@ fn better(
     other: Option<Rank>,
 ) -> Option<Rank>
     requires { in_flight ≡ set.len store.now.in_flight }
-    ensures { result ≡ cond (is_missing store.now rank.key) (ranks.least (Some rank) other) other }
+    ensures { result ≡ cond (store_lacks store.now rank.key) (ranks.least (Some rank) other) other }
 {
     if is_missing(store, near, in_flight, rank.key) {
         least(Some(rank), other)
@@ -84,7 +84,7 @@ fn better(
 // The best of the ranks whose keys are neither ready nor being made. They stand nearly in the order of their
 // keys, so that most are found or missed without a search.
 fn best_missing(store: &TileStore, ranks: &[Rank]) -> Option<Rank>
-    ensures { result ≡ least_of (filter (λ r. is_missing store.now r.key) ranks.now) }
+    ensures { result ≡ least_of (filter (λ r. store_lacks store.now r.key) ranks.now) }
 {
     let in_flight = in_flight(store);
     let mut near = 0;
@@ -98,7 +98,7 @@ fn best_missing(store: &TileStore, ranks: &[Rank]) -> Option<Rank>
 impl Ranks {
     /// These ranks, no two of which are of one key, for a run with this budget.
     pub fn new(ranks: Vec<Rank>, budget: u32) -> Ranks
-        requires { AreDistinct (map rank_key ranks.items) }
+        requires { AreDistinctKeys (map rank_key ranks.items) }
         ensures { result ≡ record { ranks = ranks.items; budget = budget } }
     {
         Ranks { ranks, budget }
@@ -126,7 +126,7 @@ impl Ranks {
         Ok(queue)
     }
 
-    /// The key that starts next, where these tiles are there and these keys are not to be given up; None exactly
+    /// The key that starts next, where these tiles are there and these keys are not to be evicted; None exactly
     /// where none may start. Takes no memory.
     pub(crate) fn first(&self, store: &TileStore, pins: &Pins) -> Option<TileKey>
         ensures { result ≡ option_map rank_key (choosing.first (choice_among store.now pins.now self.now)) }
@@ -141,7 +141,7 @@ impl Ranks {
         }
     }
 
-    /// The keys that are given up for a missing one, the worst first. An error is want of memory.
+    /// The keys that are evicted for a missing one, the worst first. An error is want of memory.
     pub(crate) fn evicted(
         &self,
         store: &TileStore,
@@ -176,8 +176,8 @@ impl Ranks {
         (store.used() as usize + 1).saturating_sub(self.budget as usize)
     }
 
-    // How many of the ready tiles may be given up for a tile of this bin.
-    fn victims(&self, store: &TileStore, pins: &Pins, bin: Bin) -> usize
+    // How many of the ready tiles may be evicted for a tile of this bin.
+    fn evictables(&self, store: &TileStore, pins: &Pins, bin: Bin) -> usize
         ensures { result ≡ length (filter (gives_way bin) (choice_among store.now pins.now self.now).ready) }
     {
         unpinned(store, pins) - staying(store, pins, self.ranks.as_slice(), bin)
@@ -190,7 +190,7 @@ impl Ranks {
         match bin {
             Bin::Now => true,
             Bin::Soon | Bin::Eventually => {
-                self.over_budget(store, pins) <= self.victims(store, pins, bin)
+                self.over_budget(store, pins) <= self.evictables(store, pins, bin)
             }
         }
     }

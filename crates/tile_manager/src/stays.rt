@@ -1,4 +1,4 @@
-//! How many of the ready tiles may be given up, without a list of them.
+//! How many of the ready tiles may be evicted, without a list of them.
 
 ghost use Rattle.std.specs.Prelude.{◌≡◌, not, ◌&&◌, filter, length};
 ghost use Rattle.std.specs.FinMap as fin;

@@ -1,7 +1,7 @@
 -- A queue that is made of the trees and the tiles of a past stands for its choice.
 use Rattle.std.proofs.Common.{◌≡◌, ℕ, Bool, true, false, not, ◌&&◌, List, [], ◌∷◌, length, map, filter, filter_map, refl, sym, ◌∙◌, ap, subst}
 use Rattle.geom.specs.declared.tile.TileKey.{TileKey}
-use Rattle.geom.specs.KeyLists.{has_key, AreDistinct}
+use Rattle.geom.specs.KeyLists.{has_key, AreDistinctKeys}
 use Rattle.tile_priority.specs.declared.rank.Rank.{Rank}
 use Rattle.tile_priority.specs.Tiles.{Tile}
 use Rattle.tile_priority.specs.Ordered.{In, SameMembers}
@@ -15,7 +15,7 @@ use Rattle.tile_store.specs.Stores.{Store, is_in_flight}
 use Rattle.model_history.specs.declared.history.Entry.{Entry}
 use Rattle.model_history.specs.Scripts.{ScriptModel}
 use Rattle.model_history.specs.Legal.{Legal}
-use Rattle.model_history.specs.Tiles.{active_tree, pending_tree, live_keys, made, in_flight, ready, pinned}
+use Rattle.model_history.specs.Tiles.{active_tree, pending_tree, live_keys, made_so_far, in_flight, ready, pinned}
 use Rattle.model_history.specs.Ranking.{rank, is_unmade, wanted, choice}
 use Rattle.model_history.proofs.BoolFacts.{not_both, is_false, and_right}
 use Rattle.model_history.proofs.KeyFacts.{has_filter, distinct_filter}
@@ -74,25 +74,25 @@ module _ (s : ScriptModel) (n : ℕ) (h : List Entry) (store : Store) (kept pins
     rebuilt_for =
         let made_ready : Alike (record { wanted = missing_ranks store kept rs; ready = map (tile_in_both s (active_tree s h) (pending_tree s h) (pinned s h)) kept; in_flight = length (in_flight h); budget = s.budget }) (choice s h) =
         rebuilt_alike s (active_tree s h) (pending_tree s h) (ready s h) (in_flight h) (pinned s h) kept (missing_ranks store kept rs) (record { there = wanted_there; back = wanted_back }) tiles.once
-        (distinct_filter (has_key (live_keys s h)) (made h) (tile_course s n h legal).made_once) tiles.ready in
+        (distinct_filter (has_key (live_keys s h)) (made_so_far h) (tile_course s n h legal).made_once) tiles.ready in
         subst (λ c. Alike c (choice s h))
         (λ i. record { wanted = missing_ranks store kept rs; ready = map (sym (same_pins s h pins tiles.pinned) i) kept; in_flight = sym tiles.as_many i; budget = s.budget })
         made_ready
 
-  pub each_once : (rs : List Rank) → AreDistinct (map rank_key rs) → EachKeyOnce (missing_ranks store kept rs) (map (tile_in_both s (active_tree s h) (pending_tree s h) pins) kept)
+  pub each_once : (rs : List Rank) → AreDistinctKeys (map rank_key rs) → EachKeyOnce (missing_ranks store kept rs) (map (tile_in_both s (active_tree s h) (pending_tree s h) pins) kept)
   each_once rs once =
       let w : map rank_key (missing_ranks store kept rs) ≡ filter (is_missing store kept) (map rank_key rs) = keys_of_missing store kept rs in
       let t : map tile_key (map (tile_in_both s (active_tree s h) (pending_tree s h) pins) kept) ≡ kept = keys_of_tiles (tile_in_both s (active_tree s h) (pending_tree s h) pins) kept (λ q. refl) in
       record {
-        wanted_once = subst AreDistinct (sym w) (distinct_filter (is_missing store kept) (map rank_key rs) once);
-        ready_once = subst AreDistinct (sym t) tiles.once;
+        wanted_once = subst AreDistinctKeys (sym w) (distinct_filter (is_missing store kept) (map rank_key rs) once);
+        ready_once = subst AreDistinctKeys (sym t) tiles.once;
         apart = λ q g.
             let m : is_missing store kept q ≡ true = and_right (has_key (map rank_key rs) q) (is_missing store kept q) (sym (has_filter (is_missing store kept) (map rank_key rs) q) ∙ (ap (λ ks. has_key ks q) (sym w) ∙ g)) in
             ap (λ ks. has_key ks q) t ∙ is_false (has_key kept q) (λ r. not_both (is_missing store kept q) m (ready_there q r));
       }
 
   -- the same, of lists that are these
-  pub each_key_once : (rs ws : List Rank) (ts : List Tile) → ws ≡ missing_ranks store kept rs → ts ≡ map (tile_in_both s (active_tree s h) (pending_tree s h) pins) kept → AreDistinct (map rank_key rs) → EachKeyOnce ws ts
+  pub each_key_once : (rs ws : List Rank) (ts : List Tile) → ws ≡ missing_ranks store kept rs → ts ≡ map (tile_in_both s (active_tree s h) (pending_tree s h) pins) kept → AreDistinctKeys (map rank_key rs) → EachKeyOnce ws ts
   each_key_once rs ws ts w t once = subst (λ (xs : List Rank). EachKeyOnce xs ts) (sym w) (subst (λ (xs : List Tile). EachKeyOnce (missing_ranks store kept rs) xs) (sym t) (each_once rs once))
 
   pub stands_for : (rs ws : List Rank) (ts : List Tile) (budget : ℕ) (queue : Choice) → SameMembers rs (filter_map (rank s h) (live_keys s h)) → ws ≡ missing_ranks store kept rs

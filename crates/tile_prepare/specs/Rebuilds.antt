@@ -31,7 +31,7 @@ pub record RanksNow (s : ScriptModel) (active pending : Option SeenTreeModel) : 
   pub seen_pending : IsSeenWhere (pending_tree s past) pending
 
 -- the manager stands for a past of a run, after which a commit may be activated now, whose tree is this and needs these keys
-pub record ActivatesNow (s : ScriptModel) (pending : SeenTreeModel) (needed : List TileKey) (m : Managed) : Type 0 where
+pub record PreparedActivates (s : ScriptModel) (pending : SeenTreeModel) (needed : List TileKey) (m : Managed) : Type 0 where
   pub workers : ℕ
   pub past : List Entry
   pub actor : ℕ

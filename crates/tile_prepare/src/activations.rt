@@ -10,7 +10,7 @@ ghost use Rattle.model_history.specs.Tiles as model;
 ghost use Rattle.model_steps.specs.Events.{activate};
 ghost use Rattle.tile_ranks.specs.SeenTrees.{IsSeenTree};
 ghost use Rattle.tile_manager.specs.Managers.{Manages};
-ghost use Rattle.tile_prepare.specs.Rebuilds.{ActivatesNow, AreForActivation};
+ghost use Rattle.tile_prepare.specs.Rebuilds.{PreparedActivates, AreForActivation};
 
 use crate::live::kept_live;
 use crate::rebuild::reranked;
@@ -23,7 +23,7 @@ use tile_ranks::SeenTree;
 /// What `TileManager::activate` takes.
 #[derive(Drop)]
 pub struct Activation {
-    /// the keys that are not to be given up then
+    /// the keys that are not to be evicted then
     pub pins: Pins,
     /// the ready keys that stay
     pub live: Keys,
@@ -41,7 +41,7 @@ pub fn activation_of(
     required: &Keys,
     manager: &TileManager,
 ) -> Result<Activation, AllocError>
-    requires { ActivatesNow script.now pending.now required.now manager.now }
+    requires { PreparedActivates script.now pending.now required.now manager.now }
     ensures { IfOk result (λ all. (s : ScriptModel) (workers : ℕ) (h : List Entry) (actor k : ℕ) (clamps : List Move) → Legal s workers (activate actor k clamps ∷ h) → script.now ≡ s → Manages s h manager.now → IsSeenTree (pending_tree s h) pending.now → required.now ≡ model.required s h → AreForActivation s h actor k clamps all.pins all.live all.ranks) }
 {
     script.is_accepted();

@@ -3,7 +3,7 @@
 ghost use Rattle.std.specs.Prelude.{◌≡◌, ◌&&◌, IfOk};
 ghost use Rattle.std.specs.List.Sorted.{IsSorted};
 ghost use Rattle.geom.specs.declared.tile.TileKey.{TileKey as Key};
-ghost use Rattle.geom.specs.KeyLists.{has_key, AreDistinct};
+ghost use Rattle.geom.specs.KeyLists.{has_key, AreDistinctKeys};
 ghost use Rattle.geom.specs.KeyOrder.{key_cmp};
 ghost use Rattle.tile_store.specs.Stores.{is_ready};
 ghost use Rattle.model_history.specs.Tiles.{Tree, keys_of};
@@ -20,7 +20,7 @@ pub(crate) fn kept_live(
     manager: &TileManager,
     tree: &SeenTree<'_>,
 ) -> Result<Keys, AllocError>
-    ensures once { IfOk result (λ live. (t : Tree) → IsSeenTree t tree.now → AreDistinct live) }
+    ensures once { IfOk result (λ live. (t : Tree) → IsSeenTree t tree.now → AreDistinctKeys live) }
     ensures order { IfOk result (λ live. (t : Tree) → IsSeenTree t tree.now → IsSorted key_cmp live) }
     ensures keys { IfOk result (λ live. (t : Tree) → IsSeenTree t tree.now → (q : Key) → has_key live q ≡ (is_ready manager.now.store q && has_key (keys_of t) q)) }
 {

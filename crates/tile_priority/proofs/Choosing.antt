@@ -12,7 +12,7 @@ use Rattle.tile_priority.specs.declared.rank.Rank.{Rank}
 use Rattle.tile_priority.specs.Ranks.{rank_cmp}
 use Rattle.tile_priority.specs.Tiles.{Tile, IsRankOfKey}
 use Rattle.tile_priority.specs.Ordered.{In, SameMembers}
-use Rattle.tile_priority.specs.Choice.{Choice, used, Victim, victim_key, victim_by, victim_of, gives_way, is_worse, victims, worst_cmp, IsWorstFirst, worst_first, is_enough, is_now, may_start, IsFirst, NoneStarts, first, least_of, IsEvicted, evicted, SameChoice, NoKeyTwice}
+use Rattle.tile_priority.specs.Choice.{Choice, used, Evictable, evictable_key, evictable_by, evictable_of, gives_way, is_worse, evictables, worst_cmp, IsWorstFirst, worst_first, is_enough, is_now, may_start, IsFirst, NoneStarts, first, least_of, IsEvicted, evicted, SameChoice, NoKeyTwice}
 use Rattle.tile_priority.specs.Laws.{WorstFirstIsOne, FirstIsOne, EvictedAreOne, EvictedGiveWay, VisibleStart, OrderIsFree}
 use Rattle.tile_priority.proofs.InOrder.{in_order_order, in_order_members, same_list, in_filter, filter_in, in_map, same_filter, same_map, same_trans, same_sym, flips}
 use Rattle.tile_priority.proofs.Members.{in_append_left, same_itself}
@@ -22,19 +22,19 @@ use Rattle.tile_priority.proofs.RankOrders.{rank_order, worst_order, IsLeastOf, 
 
 worst_first_there : (c : Choice) (q : Rank) → IsWorstFirst c q (worst_first c q)
 unfolding worst_first
-worst_first_there c q = record { order = in_order_order worst_cmp worst_order (victims c q); members = in_order_members worst_cmp worst_order (victims c q) }
+worst_first_there c q = record { order = in_order_order worst_cmp worst_order (evictables c q); members = in_order_members worst_cmp worst_order (evictables c q) }
 
 -- two worst-first lists of one choice, or of two with the same ready tiles, are one
-worst_first_alike : (c d : Choice) (q : Rank) (us vs : List Victim) → SameMembers (victims c q) (victims d q)
+worst_first_alike : (c d : Choice) (q : Rank) (us vs : List Evictable) → SameMembers (evictables c q) (evictables d q)
     → IsWorstFirst c q us → IsWorstFirst d q vs → us ≡ vs
 worst_first_alike c d q us vs s a b =
     same_list worst_cmp worst_order us vs a.order b.order
-    (same_trans us (victims c q) vs a.members (same_trans (victims c q) (victims d q) vs s (same_sym vs (victims d q) b.members)))
+    (same_trans us (evictables c q) vs a.members (same_trans (evictables c q) (evictables d q) vs s (same_sym vs (evictables d q) b.members)))
 
 pub worst_first_is_one : WorstFirstIsOne
 worst_first_is_one = record {
   there = worst_first_there;
-  only = λ c q vs a. worst_first_alike c c q vs (worst_first c q) (same_itself (victims c q)) a (worst_first_there c q);
+  only = λ c q vs a. worst_first_alike c c q vs (worst_first c q) (same_itself (evictables c q)) a (worst_first_there c q);
 }
 
 -- the first rank
@@ -109,7 +109,7 @@ not_over u b n f = not_over_by (nat_le n (u - b)) refl
         let e : nat_le (u - (u - b)) b ≡ false = f (u - b) k in
         absurd (grind (arith, nat_tests))
 
-front_of : (c : Choice) (k : ℕ) (ws : List Victim) (t : Bool) → nat_le k (length ws) ≡ t → k ≡ (used c + 1) - c.budget
+front_of : (c : Choice) (k : ℕ) (ws : List Evictable) (t : Bool) → nat_le k (length ws) ≡ t → k ≡ (used c + 1) - c.budget
     → (is_enough c (length (take k ws)) ≡ true) ⊎ (drop k ws ≡ [])
 front_of c k ws true h e = inl (as_many (used c + 1) c.budget (length (take k ws)) (let l : length (take k ws) ≡ min k (length ws) = length-take k ws in grind (arith, nat_tests)))
 front_of c k ws false h e = inr (drop_all k ws (grind (arith, nat_tests)))
@@ -118,7 +118,7 @@ evicted_there : (c : Choice) (q : Rank) → IsEvicted c q (evicted c q)
 unfolding evicted
 evicted_there c q =
     let k : ℕ = (used c + 1) - c.budget in
-    let ws : List Victim = worst_first c q in
+    let ws : List Evictable = worst_first c q in
     record {
       rest = drop k ws;
       front = take-append-drop k ws;
@@ -133,11 +133,11 @@ only_by k es rest ws e le (inr r) =
     let w : es ≡ ws = sym (append-nil es) ∙ (ap (λ r. es ++ r) (sym r) ∙ e) in
     rw (sym w) (sym (take_all k es le))
 
-enough_by : (c : Choice) (n : ℕ) (rest : List Victim) → (is_enough c n ≡ true) ⊎ (rest ≡ []) → ((used c + 1) - c.budget ≤ n) ⊎ (rest ≡ [])
+enough_by : (c : Choice) (n : ℕ) (rest : List Evictable) → (is_enough c n ≡ true) ⊎ (rest ≡ []) → ((used c + 1) - c.budget ≤ n) ⊎ (rest ≡ [])
 enough_by c n rest (inl e) = inl (at_least (used c + 1) c.budget n e)
 enough_by c n rest (inr r) = inr r
 
-evicted_only : (c : Choice) (q : Rank) (es : List Victim) → IsEvicted c q es → es ≡ evicted c q
+evicted_only : (c : Choice) (q : Rank) (es : List Evictable) → IsEvicted c q es → es ≡ evicted c q
 unfolding evicted
 evicted_only c q es a =
     only_by ((used c + 1) - c.budget) es a.rest (worst_first c q) a.front
@@ -151,12 +151,12 @@ evicted_are_one = record { there = evicted_there; only = evicted_only }
 in_take : {X : Type 0} (x : X) (n : ℕ) (xs : List X) → In x (take n xs) → In x xs
 in_take x n xs i = subst (In x) (take-append-drop n xs) (in_append_left x (take n xs) (drop n xs) i)
 
-evicted_ready : (c : Choice) (q : Rank) (e : Victim) → In e (evicted c q)
-    → (t : Tile) × In t c.ready × (victim_of t ≡ e) × (gives_way q.bin t ≡ true)
+evicted_ready : (c : Choice) (q : Rank) (e : Evictable) → In e (evicted c q)
+    → (t : Tile) × In t c.ready × (evictable_of t ≡ e) × (gives_way q.bin t ≡ true)
 unfolding evicted
 evicted_ready c q e i =
     let w : In e (worst_first c q) = in_take e ((used c + 1) - c.budget) (worst_first c q) i in
-    let (t, j, k) = in_map victim_of e (filter (gives_way q.bin) c.ready) ((worst_first_there c q).members.there e w) in
+    let (t, j, k) = in_map evictable_of e (filter (gives_way q.bin) c.ready) ((worst_first_there c q).members.there e w) in
     let f = in_filter (gives_way q.bin) t c.ready j in
     (t, f.0, k, f.1)
 
@@ -167,20 +167,20 @@ same_tile t u (x ∷ xs) n (inl a) (inr j) e = absurd (n.0 u j (sym e ∙ ap (λ
 same_tile t u (x ∷ xs) n (inr i) (inl b) e = absurd (n.0 t i (e ∙ ap (λ (z : Tile). z.key) b))
 same_tile t u (x ∷ xs) n (inr i) (inr j) e = same_tile t u xs n.1 i j e
 
-key_of_victim : (k : TileKey) (r : Option Rank) → IsRankOfKey k r → victim_key (victim_by k r) ≡ k
-key_of_victim k None h = refl
-key_of_victim k (Some r) h = h
+key_of_evictable : (k : TileKey) (r : Option Rank) → IsRankOfKey k r → evictable_key (evictable_by k r) ≡ k
+key_of_evictable k None h = refl
+key_of_evictable k (Some r) h = h
 
 not_pinned_by : (a b : Bool) → not a && b ≡ true → a ≡ true → ⊥
 not_pinned_by true b h e = cc
 not_pinned_by false b h e = cc
 
-evicted_pinned : (c : Choice) (q : Rank) (e : Victim) (t : Tile)
+evicted_pinned : (c : Choice) (q : Rank) (e : Evictable) (t : Tile)
     → ((u : Tile) → In u c.ready → IsRankOfKey u.key u.rank) → NoKeyTwice c.ready
-    → In e (evicted c q) → In t c.ready → t.pinned ≡ true → victim_key e ≡ t.key → ⊥
+    → In e (evicted c q) → In t c.ready → t.pinned ≡ true → evictable_key e ≡ t.key → ⊥
 evicted_pinned c q e t right once i j p k =
     let (u, l, v, g) = evicted_ready c q e i in
-    let key : u.key ≡ t.key = sym (key_of_victim u.key u.rank (right u l)) ∙ (ap victim_key v ∙ k) in
+    let key : u.key ≡ t.key = sym (key_of_evictable u.key u.rank (right u l)) ∙ (ap evictable_key v ∙ k) in
     let same : u ≡ t = same_tile u t c.ready once l j key in
     not_pinned_by u.pinned (is_worse u.rank q.bin) g (ap (λ (z : Tile). z.pinned) same ∙ p)
 
@@ -208,11 +208,11 @@ visible_start = record { may = now_starts; goes_first = λ c q i e. goes_first_b
 
 -- the order of the lists
 
-same_victims : (c d : Choice) (q : Rank) → SameChoice c d → SameMembers (victims c q) (victims d q)
-same_victims c d q s = same_map victim_of (filter (gives_way q.bin) c.ready) (filter (gives_way q.bin) d.ready) (same_filter (gives_way q.bin) c.ready d.ready s.ready)
+same_evictables : (c d : Choice) (q : Rank) → SameChoice c d → SameMembers (evictables c q) (evictables d q)
+same_evictables c d q s = same_map evictable_of (filter (gives_way q.bin) c.ready) (filter (gives_way q.bin) d.ready) (same_filter (gives_way q.bin) c.ready d.ready s.ready)
 
 same_worst_first : (c d : Choice) (q : Rank) → SameChoice c d → worst_first c q ≡ worst_first d q
-same_worst_first c d q s = worst_first_alike c d q (worst_first c q) (worst_first d q) (same_victims c d q s) (worst_first_there c q) (worst_first_there d q)
+same_worst_first c d q s = worst_first_alike c d q (worst_first c q) (worst_first d q) (same_evictables c d q s) (worst_first_there c q) (worst_first_there d q)
 
 same_used : (c d : Choice) → SameChoice c d → used c ≡ used d
 same_used c d s = let a = s.as_many in let b = s.in_flight in cc

@@ -10,7 +10,7 @@ use Rattle.tile_priority.specs.declared.rank.Rank.{Rank}
 use Rattle.tile_priority.specs.Ranks.{bin_number, rank_cmp}
 use Rattle.tile_priority.specs.Tiles.{Tile}
 use Rattle.tile_priority.specs.Ordered.{In, IsInOrder}
-use Rattle.tile_priority.specs.Choice.{Choice, Victim, victim_of, gives_way, is_worse, victims, worst_cmp, worst_first, is_enough, is_now, may_start, first, least_of}
+use Rattle.tile_priority.specs.Choice.{Choice, Evictable, evictable_of, gives_way, is_worse, evictables, worst_cmp, worst_first, is_enough, is_now, may_start, first, least_of}
 use Rattle.tile_priority.specs.Laws.{IsOrder, LeastIsFirst}
 use Rattle.tile_priority.proofs.InOrder.{before_all_at, not_itself, in_filter, filter_in, in_map, map_in}
 use Rattle.tile_priority.proofs.RankOrders.{worst_order, IsLeastOf, least_of_is}
@@ -46,7 +46,7 @@ no_longer {X} R o (x ∷ xs) (y ∷ ys) a b f =
         let s : length (x ∷ xs) ≤ length ys = wholes (λ z i. past_head R o y z ys (later (before_all_at R y x ys b.0 j) z i) (f z i)) in
         omega arith
 
--- victims
+-- evictable tiles
 
 worse_too : (a b : Bin) (r : Option Rank) → bin_number a ≤ bin_number b → is_worse r b ≡ true → is_worse r a ≡ true
 worse_too a b None h t = refl
@@ -59,18 +59,18 @@ and_over false b c f h = h
 gives_way_too : (a b : Bin) (t : Tile) → bin_number a ≤ bin_number b → gives_way b t ≡ true → gives_way a t ≡ true
 gives_way_too a b t h = and_over (not t.pinned) (is_worse t.rank b) (is_worse t.rank a) (worse_too a b t.rank h)
 
-victim_too : (c : Choice) (p q : Rank) → bin_number p.bin ≤ bin_number q.bin → (v : Victim) → In v (victims c q) → In v (victims c p)
-victim_too c p q h v i =
-    let (t, j, e) = in_map victim_of v (filter (gives_way q.bin) c.ready) i in
+evictable_too : (c : Choice) (p q : Rank) → bin_number p.bin ≤ bin_number q.bin → (v : Evictable) → In v (evictables c q) → In v (evictables c p)
+evictable_too c p q h v i =
+    let (t, j, e) = in_map evictable_of v (filter (gives_way q.bin) c.ready) i in
     let k = in_filter (gives_way q.bin) t c.ready j in
-    subst (λ z. In z (victims c p)) e (map_in victim_of t (filter (gives_way p.bin) c.ready) (filter_in (gives_way p.bin) t c.ready k.0 (gives_way_too p.bin q.bin t h k.1)))
+    subst (λ z. In z (evictables c p)) e (map_in evictable_of t (filter (gives_way p.bin) c.ready) (filter_in (gives_way p.bin) t c.ready k.0 (gives_way_too p.bin q.bin t h k.1)))
 
 no_fewer : (c : Choice) (p q : Rank) → bin_number p.bin ≤ bin_number q.bin → length (worst_first c q) ≤ length (worst_first c p)
 no_fewer c p q h =
     let a = worst_first_is_one.there c p in
     let b = worst_first_is_one.there c q in
     no_longer worst_cmp worst_order (worst_first c q) (worst_first c p) b.order a.order
-    (λ v i. a.members.back v (victim_too c p q h v (b.members.there v i)))
+    (λ v i. a.members.back v (evictable_too c p q h v (b.members.there v i)))
 
 -- the least rank
 
@@ -136,4 +136,4 @@ none_first c e =
     first_is_one.none_only c (λ p i. absurd (f p i))
 
 pub least_is_first : LeastIsFirst
-least_is_first = record { no_fewer_victims = no_fewer; least = least_first; none = none_first }
+least_is_first = record { no_fewer_evictables = no_fewer; least = least_first; none = none_first }

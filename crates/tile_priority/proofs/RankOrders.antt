@@ -1,4 +1,4 @@
--- Keys, ranks and victims are totally ordered.
+-- Keys, ranks and evictable tiles are totally ordered.
 use Rattle.std.proofs.Common.{◌≡◌, inl, inr, Option, Some, None, List, [], ◌∷◌, refl, sym, ◌∙◌, ap}
 use Rattle.std.specs.declared.cmp.Ordering.{Ordering}
 use Rattle.std.specs.Ordering.{ordering_reverse, nat_cmp}
@@ -12,7 +12,7 @@ use Rattle.tile_priority.specs.declared.rank.Bin.{Bin}
 use Rattle.tile_priority.specs.declared.rank.Bin.TheVariants as bin
 use Rattle.tile_priority.specs.declared.rank.Rank.{Rank}
 use Rattle.tile_priority.specs.Ranks.{bin_number, bin_cmp, rank_cmp, at_order, least}
-use Rattle.tile_priority.specs.Choice.{Victim, unranked, ranked, worst_cmp, least_of}
+use Rattle.tile_priority.specs.Choice.{Evictable, unranked, ranked, worst_cmp, least_of}
 use Rattle.tile_priority.specs.Ordered.{In, IsLeast}
 use Rattle.tile_priority.specs.Laws.{IsOrder}
 use Rattle.tile_priority.proofs.InOrder.{not_both, not_itself, flips}
@@ -48,19 +48,19 @@ rank_ties r s h =
 pub rank_order : IsOrder rank_cmp
 rank_order = record { total = rank_total; ties_are_equal = rank_ties }
 
-worst_ties : (u v : Victim) → worst_cmp u v ≡ Equal → u ≡ v
+worst_ties : (u v : Evictable) → worst_cmp u v ≡ Equal → u ≡ v
 worst_ties (unranked k) (unranked l) h = ap unranked (sym (key_ties l k h))
 worst_ties (unranked k) (ranked s) h = cc
 worst_ties (ranked r) (unranked l) h = cc
 worst_ties (ranked r) (ranked s) h = ap ranked (sym (rank_ties s r h))
 
-worst_antisymm : (u v : Victim) → worst_cmp u v ≡ ordering_reverse (worst_cmp v u)
+worst_antisymm : (u v : Evictable) → worst_cmp u v ≡ ordering_reverse (worst_cmp v u)
 worst_antisymm (unranked k) (unranked l) = key_total.antisymm l k
 worst_antisymm (unranked k) (ranked s) = refl
 worst_antisymm (ranked r) (unranked l) = refl
 worst_antisymm (ranked r) (ranked s) = rank_total.antisymm s r
 
-worst_trans : (u v w : Victim) → worst_cmp u v ≡ Less → worst_cmp v w ≡ Less → worst_cmp u w ≡ Less
+worst_trans : (u v w : Evictable) → worst_cmp u v ≡ Less → worst_cmp v w ≡ Less → worst_cmp u w ≡ Less
 worst_trans (unranked k) (unranked l) (unranked m) g h = key_total.trans m l k h g
 worst_trans (unranked k) (unranked l) (ranked s) g h = refl
 worst_trans (unranked k) (ranked r) (unranked m) g h = cc

@@ -4,7 +4,7 @@ use Rattle.std.specs.Prelude.{filter_map}
 use Rattle.geom.specs.declared.tile.TileKey.{TileKey}
 use Rattle.tile_priority.specs.Tiles.{Tile}
 use Rattle.tile_priority.specs.Choice.{Choice, SameChoice}
-use Rattle.tile_priority.specs.Alike.{AsMany, Alike, is_of, is_among, tile_rank, started, finished}
+use Rattle.tile_priority.specs.Alike.{AsMany, Alike, is_of, is_among, tile_rank, choice_after_start, finished}
 use Rattle.tile_priority.specs.Laws.{AlikeStay}
 use Rattle.tile_priority.proofs.InOrder.{same_filter, same_trans, same_sym}
 use Rattle.tile_priority.proofs.Members.{same_itself, same_append, same_filter_map}
@@ -66,7 +66,7 @@ alike_through c d e a b = record {
   budget = a.budget ∙ b.budget;
 }
 
-started_alike : (c d : Choice) (q : TileKey) (evicted : List TileKey) → Alike c d → Alike (started c q evicted) (started d q evicted)
+started_alike : (c d : Choice) (q : TileKey) (evicted : List TileKey) → Alike c d → Alike (choice_after_start c q evicted) (choice_after_start d q evicted)
 started_alike c d q evicted a = record {
   wanted =
       same_append (filter (λ r. not (is_of q r)) c.wanted) (filter_map tile_rank (filter (is_among evicted) c.ready))

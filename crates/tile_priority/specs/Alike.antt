@@ -31,9 +31,9 @@ is_among ks t = has_key ks t.key
 abbrev pub tile_rank : Tile → Option Rank
 tile_rank t = t.rank
 
--- the choice once a key is started and these keys are given up for it: it is wanted no more, they are ready no more and wanted again where they have a rank, and one tile more is in flight
-abbrev pub started : Choice → TileKey → List TileKey → Choice
-started c q evicted = record {
+-- the choice once a key is started and these keys are evicted for it: it is wanted no more, they are ready no more and wanted again where they have a rank, and one tile more is in flight
+abbrev pub choice_after_start : Choice → TileKey → List TileKey → Choice
+choice_after_start c q evicted = record {
   wanted = filter (λ r. not (is_of q r)) c.wanted ++ filter_map tile_rank (filter (is_among evicted) c.ready);
   ready = filter (λ t. not (is_among evicted t)) c.ready;
   in_flight = c.in_flight + 1;

@@ -1,4 +1,4 @@
--- Which tile is made next, and which ready tiles are given up for it.
+-- Which tile is made next, and which ready tiles are evicted for it.
 use Rattle.std.specs.Prelude.{◌≡◌, ◌⊎◌, ◌<◌, ℕ, ◌+◌, ◌-◌, nat_lt, nat_le, Bool, true, false, ◌&&◌, ◌||◌, not, Option, Some, None, List, [], ◌∷◌, ◌++◌, length, take, map, filter}
 use Rattle.std.specs.declared.cmp.Ordering.{Ordering}
 use Rattle.std.specs.declared.cmp.Ordering.TheVariants.{Less, Greater}
@@ -26,54 +26,54 @@ pub record Choice : Type 0 where
 abbrev pub used : Choice → ℕ
 used c = length c.ready + c.in_flight
 
--- a ready tile that may be given up, by what orders it: its key where it has no rank, else its rank
-pub data Victim : Type 0 where
-  unranked : TileKey → Victim
-  ranked : Rank → Victim
+-- a ready tile that may be evicted, by what orders it: its key where it has no rank, else its rank
+pub data Evictable : Type 0 where
+  unranked : TileKey → Evictable
+  ranked : Rank → Evictable
 
--- the victim's key
-abbrev pub victim_key : Victim → TileKey
-victim_key (unranked k) = k
-victim_key (ranked r) = r.key
+-- the evictable tile's key
+abbrev pub evictable_key : Evictable → TileKey
+evictable_key (unranked k) = k
+evictable_key (ranked r) = r.key
 
-abbrev pub victim_by : TileKey → Option Rank → Victim
-victim_by k None = unranked k
-victim_by k (Some r) = ranked r
+abbrev pub evictable_by : TileKey → Option Rank → Evictable
+evictable_by k None = unranked k
+evictable_by k (Some r) = ranked r
 
--- the ready tile as a victim
-abbrev pub victim_of : Tile → Victim
-victim_of t = victim_by t.key t.rank
+-- the ready tile as an evictable one
+abbrev pub evictable_of : Tile → Evictable
+evictable_of t = evictable_by t.key t.rank
 
 -- no rank, or a rank of a worse bin
 abbrev pub is_worse : Option Rank → Bin → Bool
 is_worse None b = true
 is_worse (Some r) b = nat_lt (bin_number b) (bin_number r.bin)
 
--- the ready tile may be given up for a tile of this bin: it is not pinned, and its bin is worse, or it has none
+-- the ready tile may be evicted for a tile of this bin: it is not pinned, and its bin is worse, or it has none
 abbrev pub gives_way : Bin → Tile → Bool
 gives_way b t = not t.pinned && is_worse t.rank b
 
--- the victims for a rank
-abbrev pub victims : Choice → Rank → List Victim
-victims c q = map victim_of (filter (gives_way q.bin) c.ready)
+-- the evictable tiles for a rank
+abbrev pub evictables : Choice → Rank → List Evictable
+evictables c q = map evictable_of (filter (gives_way q.bin) c.ready)
 
 -- the worst first: those without a rank by falling key, then the others by falling rank
-abbrev pub worst_cmp : Victim → Victim → Ordering
+abbrev pub worst_cmp : Evictable → Evictable → Ordering
 worst_cmp (unranked k) (unranked l) = key_cmp l k
 worst_cmp (unranked k) (ranked s) = Less
 worst_cmp (ranked r) (unranked l) = Greater
 worst_cmp (ranked r) (ranked s) = rank_cmp s r
 
--- the list of the victims for q, the worst first
-pub record IsWorstFirst (c : Choice) (q : Rank) (vs : List Victim) : Type 0 where
+-- the list of the evictable tiles for q, the worst first
+pub record IsWorstFirst (c : Choice) (q : Rank) (vs : List Evictable) : Type 0 where
   pub order : IsInOrder worst_cmp vs
-  pub members : SameMembers vs (victims c q)
+  pub members : SameMembers vs (evictables c q)
 
 -- that list
-unfoldable pub worst_first : Choice → Rank → List Victim
-worst_first c q = in_order worst_cmp (victims c q)
+unfoldable pub worst_first : Choice → Rank → List Evictable
+worst_first c q = in_order worst_cmp (evictables c q)
 
--- giving up this many tiles makes room for one more
+-- evicting this many tiles makes room for one more
 abbrev pub is_enough : Choice → ℕ → Bool
 is_enough c n = nat_le ((used c + 1) - n) c.budget
 
@@ -81,7 +81,7 @@ abbrev pub is_now : Bin → Bool
 is_now bin.Now = true
 is_now _ = false
 
--- a wanted tile may start: it is visible, or giving up all of its victims makes room
+-- a wanted tile may start: it is visible, or evicting all that it may makes room
 unfoldable pub may_start : Choice → Rank → Bool
 may_start c q = is_now q.bin || is_enough c (length (worst_first c q))
 
@@ -104,16 +104,16 @@ least_of (r ∷ rs) = least (Some r) (least_of rs)
 unfoldable pub first : Choice → Option Rank
 first c = least_of (filter (may_start c) c.wanted)
 
--- what is given up for q: the shortest front of the worst-first list that is enough, or the whole list
+-- what is evicted for q: the shortest front of the worst-first list that is enough, or the whole list
 -- where no front is enough
-pub record IsEvicted (c : Choice) (q : Rank) (es : List Victim) : Type 0 where
-  pub rest : List Victim
+pub record IsEvicted (c : Choice) (q : Rank) (es : List Evictable) : Type 0 where
+  pub rest : List Evictable
   pub front : es ++ rest ≡ worst_first c q
   pub none_shorter : (n : ℕ) → n < length es → is_enough c n ≡ false
   pub enough_or_all : (is_enough c (length es) ≡ true) ⊎ (rest ≡ [])
 
 -- as many as there would be over the budget
-unfoldable pub evicted : Choice → Rank → List Victim
+unfoldable pub evicted : Choice → Rank → List Evictable
 evicted c q = take ((used c + 1) - c.budget) (worst_first c q)
 
 -- the same choice, with its lists in other orders

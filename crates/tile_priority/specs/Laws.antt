@@ -9,8 +9,8 @@ use Rattle.tile_priority.specs.Ordered.{In, SameMembers, IsInOrder, IsLeast}
 use Rattle.geom.specs.declared.tile.TileKey.{TileKey}
 use Rattle.tile_priority.specs.Ranks.{bin_number}
 use Rattle.tile_priority.specs.Tiles.{Tile, IsRankOfKey}
-use Rattle.tile_priority.specs.Choice.{Choice, Victim, victim_of, victim_key, gives_way, IsWorstFirst, worst_first, may_start, IsFirst, NoneStarts, least_of, first, IsEvicted, evicted, SameChoice, NoKeyTwice}
-use Rattle.tile_priority.specs.Alike.{Alike, started, finished}
+use Rattle.tile_priority.specs.Choice.{Choice, Evictable, evictable_of, evictable_key, gives_way, IsWorstFirst, worst_first, may_start, IsFirst, NoneStarts, least_of, first, IsEvicted, evicted, SameChoice, NoKeyTwice}
+use Rattle.tile_priority.specs.Alike.{Alike, choice_after_start, finished}
 
 -- a total order in which only equal values tie
 pub record IsOrder {X : Type 0} (R : X → X → Ordering) : Type 0 where
@@ -25,7 +25,7 @@ pub record OrdersFix {X : Type 0} (R : X → X → Ordering) : Type 0 where
 -- the worst-first list is there, and no other list is one
 pub record WorstFirstIsOne : Type 0 where
   pub there : (c : Choice) (q : Rank) → IsWorstFirst c q (worst_first c q)
-  pub only : (c : Choice) (q : Rank) (vs : List Victim) → IsWorstFirst c q vs → vs ≡ worst_first c q
+  pub only : (c : Choice) (q : Rank) (vs : List Evictable) → IsWorstFirst c q vs → vs ≡ worst_first c q
 
 -- the first rank is what its definition says, and it is the only one
 pub record FirstIsOne : Type 0 where
@@ -37,16 +37,16 @@ pub record FirstIsOne : Type 0 where
 -- the evicted are what their definition says, and no other list is
 pub record EvictedAreOne : Type 0 where
   pub there : (c : Choice) (q : Rank) → IsEvicted c q (evicted c q)
-  pub only : (c : Choice) (q : Rank) (es : List Victim) → IsEvicted c q es → es ≡ evicted c q
+  pub only : (c : Choice) (q : Rank) (es : List Evictable) → IsEvicted c q es → es ≡ evicted c q
 
 -- the evicted come from ready tiles that are not pinned and whose bin is worse, or that have none
 pub record EvictedGiveWay : Type 0 where
-  pub ready : (c : Choice) (q : Rank) (e : Victim) → In e (evicted c q)
-      → (t : Tile) × In t c.ready × (victim_of t ≡ e) × (gives_way q.bin t ≡ true)
+  pub ready : (c : Choice) (q : Rank) (e : Evictable) → In e (evicted c q)
+      → (t : Tile) × In t c.ready × (evictable_of t ≡ e) × (gives_way q.bin t ≡ true)
   -- so no pinned tile's key is among them, where each key stands once
-  pub pinned : (c : Choice) (q : Rank) (e : Victim) (t : Tile)
+  pub pinned : (c : Choice) (q : Rank) (e : Evictable) (t : Tile)
       → ((u : Tile) → In u c.ready → IsRankOfKey u.key u.rank) → NoKeyTwice c.ready
-      → In e (evicted c q) → In t c.ready → t.pinned ≡ true → victim_key e ≡ t.key → ⊥
+      → In e (evicted c q) → In t c.ready → t.pinned ≡ true → evictable_key e ≡ t.key → ⊥
 
 -- a visible tile may always start, so where one is wanted a visible one is the first
 pub record VisibleStart : Type 0 where
@@ -61,9 +61,9 @@ pub record OrderIsFree : Type 0 where
   pub first : (c d : Choice) → SameChoice c d → first c ≡ first d
   pub evicted : (c d : Choice) (q : Rank) → SameChoice c d → evicted c q ≡ evicted d q
 
--- a rank of a better bin has no fewer victims; so the first rank is the least wanted one, where that one may start, and else there is none
+-- a rank of a better bin has no fewer evictable tiles; so the first rank is the least wanted one, where that one may start, and else there is none
 pub record LeastIsFirst : Type 0 where
-  pub no_fewer_victims : (c : Choice) (p q : Rank) → bin_number p.bin ≤ bin_number q.bin → length (worst_first c q) ≤ length (worst_first c p)
+  pub no_fewer_evictables : (c : Choice) (p q : Rank) → bin_number p.bin ≤ bin_number q.bin → length (worst_first c q) ≤ length (worst_first c p)
   pub least : (c : Choice) (q : Rank) → least_of c.wanted ≡ Some q → first c ≡ cond (may_start c q) (Some q) None
   pub none : (c : Choice) → least_of c.wanted ≡ None → first c ≡ None
 
@@ -73,5 +73,5 @@ pub record AlikeStay : Type 0 where
   pub itself : (c : Choice) → Alike c c
   pub back : (c d : Choice) → Alike c d → Alike d c
   pub through : (c d e : Choice) → Alike c d → Alike d e → Alike c e
-  pub started : (c d : Choice) (q : TileKey) (evicted : List TileKey) → Alike c d → Alike (started c q evicted) (started d q evicted)
+  pub started : (c d : Choice) (q : TileKey) (evicted : List TileKey) → Alike c d → Alike (choice_after_start c q evicted) (choice_after_start d q evicted)
   pub finished : (c d : Choice) (tile : Option Tile) → Alike c d → Alike (finished c tile) (finished d tile)

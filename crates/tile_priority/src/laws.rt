@@ -5,15 +5,15 @@ ghost use Rattle.tile_priority.specs.Ranks.{rank_cmp};
 ghost use Rattle.tile_priority.specs.Choice.{worst_cmp};
 ghost use Rattle.tile_priority.specs.Laws.{IsOrder, OrdersFix, WorstFirstIsOne, FirstIsOne, EvictedAreOne, EvictedGiveWay, VisibleStart, OrderIsFree, LeastIsFirst, AlikeStay};
 
-/// Keys, ranks and what may be given up are each totally ordered, and only equal ones tie. So the least
+/// Keys, ranks and what may be evicted are each totally ordered, and only equal ones tie. So the least
 /// of a list is one, and two lists in order with the same members are one list.
 pub fn orders_are_total()
     ensures keys { IsOrder key_cmp }
     ensures ranks { IsOrder rank_cmp }
-    ensures victims { IsOrder worst_cmp }
+    ensures evictables { IsOrder worst_cmp }
     ensures one_key { OrdersFix key_cmp }
     ensures one_rank { OrdersFix rank_cmp }
-    ensures one_victim { OrdersFix worst_cmp }
+    ensures one_evictable { OrdersFix worst_cmp }
 {}
 
 /// There is one worst-first list.
@@ -32,7 +32,7 @@ pub fn evicted_keys_are_a_front()
     ensures { EvictedAreOne }
 {}
 
-/// A pinned tile is never given up.
+/// A pinned tile is never evicted.
 pub fn pinned_tiles_stay()
     ensures { EvictedGiveWay }
 {}
@@ -47,7 +47,7 @@ pub fn order_of_lists_is_free()
     ensures { OrderIsFree }
 {}
 
-/// A rank of a better bin has no fewer victims. So the rank that starts first is the least wanted one,
+/// A rank of a better bin has no fewer evictable tiles. So the rank that starts first is the least wanted one,
 /// where that one may start; where it may not, none may.
 pub fn the_least_wanted_is_first()
     ensures { LeastIsFirst }

@@ -12,7 +12,7 @@ pub struct ReadyTile {
     pub key: TileKey,
     /// its rank; None where it has no bin in either tree
     pub rank: Option<Rank>,
-    /// the tile was required when the active tree was activated, so it is never given up
+    /// the tile was required when the active tree was activated, so it is never evicted
     pub pinned: bool,
 }
 

@@ -7,9 +7,9 @@ use Rattle.std.proofs.lemmas.List.{length-map}
 use Rattle.std.proofs.lemmas.List.Sums.{position_or_len_is}
 use Rattle.std.proofs.lemmas.List.Sorted.{IsPermutation-refl}
 use Rattle.tile_priority.specs.Tiles.{Tile}
-use Rattle.tile_queue.specs.declared.victim.Victim.{Victim}
+use Rattle.tile_queue.specs.declared.evictable.Evictable.{Evictable}
 use Rattle.tile_queue.specs.inner.Orders.{stays}
-use Rattle.tile_queue.specs.inner.Victims.{tile_of}
+use Rattle.tile_queue.specs.inner.Evictables.{tile_of}
 use Rattle.tile_queue.proofs.Places.{passes_first}
 
 -- a list is its own other order
@@ -25,7 +25,7 @@ few_pass p (x ∷ xs) = by_test (p x) (few_pass p xs)
     by_test true l = omega arith
     by_test false l = omega arith
 
-pub length_kept : (ready : List Tile) (vs : List Victim) → map tile_of vs ≡ filter (λ t. not (stays t)) ready → length vs ≤ length ready
+pub length_kept : (ready : List Tile) (vs : List Evictable) → map tile_of vs ≡ filter (λ t. not (stays t)) ready → length vs ≤ length ready
 length_kept ready vs e =
     let a : length (map tile_of vs) ≡ length (filter (λ t. not (stays t)) ready) = ap length e in
     let b = length-map vs tile_of in

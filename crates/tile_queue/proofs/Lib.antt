@@ -3,8 +3,8 @@ pub mod Times
 pub mod Sorted
 pub mod RoomFor
 pub mod Forgotten
-pub mod VictimOrders
-pub mod GiveUp
+pub mod EvictionOrders
+pub mod Evicting
 pub mod Picking
 pub mod Changes
 pub mod NewChoice

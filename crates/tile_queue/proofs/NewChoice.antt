@@ -11,15 +11,15 @@ use Rattle.tile_priority.specs.Ranks.{rank_cmp}
 use Rattle.tile_priority.specs.Tiles.{Tile}
 use Rattle.tile_priority.specs.Ordered.{IsInOrder}
 use Rattle.tile_priority.specs.Alike.{Alike}
-use Rattle.tile_queue.specs.declared.victim.Victim.{Victim}
+use Rattle.tile_queue.specs.declared.evictable.Evictable.{Evictable}
 use Rattle.tile_queue.specs.Queues.{rank_key, tile_key, EachKeyOnce}
 use Rattle.tile_queue.specs.inner.Orders.{times, standing, keys, stays, IsQueue, choice_of}
-use Rattle.tile_queue.specs.inner.Victims.{tile_of, key_of, victim_cmp}
+use Rattle.tile_queue.specs.inner.Evictables.{tile_of, key_of, eviction_cmp}
 use Rattle.tile_queue.proofs.Times.{times_append, times_none, times_distinct, times_permutation}
 use Rattle.tile_queue.proofs.Sorted.{permutation_members, permutation_many}
 use Rattle.tile_queue.proofs.Picking.{keys_of_tiles}
 
-module _ (ranks wanted : List Rank) (ready staying : List Tile) (vs : List Victim) (same : IsPermutation ranks wanted) (kept : staying ≡ filter stays ready) (others : IsPermutation (filter (λ t. not (stays t)) ready) (map tile_of vs)) where
+module _ (ranks wanted : List Rank) (ready staying : List Tile) (vs : List Evictable) (same : IsPermutation ranks wanted) (kept : staying ≡ filter stays ready) (others : IsPermutation (filter (λ t. not (stays t)) ready) (map tile_of vs)) where
   all_ready : IsPermutation ready (staying ++ map tile_of vs)
   all_ready =
       IsPermutation-trans ready (filter stays ready ++ filter (λ t. not (stays t)) ready) (staying ++ map tile_of vs)
@@ -56,7 +56,7 @@ module _ (ranks wanted : List Rank) (ready staying : List Tile) (vs : List Victi
       apart true h = let x = times_distinct q (map rank_key ranks) o.wanted_once in let y = times_none q (map tile_key ready) (o.apart q h) in omega arith
       apart false h = let x = times_none q (map rank_key ranks) h in let y = times_distinct q (map tile_key ready) o.ready_once in omega arith
 
-  pub new_queue : (f a b d : ℕ) → EachKeyOnce ranks ready → IsInOrder rank_cmp wanted → IsInOrder victim_cmp vs
+  pub new_queue : (f a b d : ℕ) → EachKeyOnce ranks ready → IsInOrder rank_cmp wanted → IsInOrder eviction_cmp vs
       → length ranks + (length ready + f) ≤ a → length ranks + (length ready + f) ≤ b → length ranks + (length ready + f) ≤ d → length ranks + (length ready + f) < 2 ^ 62
       → IsQueue wanted staying vs f a b d
   new_queue f a b d o ow ov la lb ld few =
@@ -68,7 +68,7 @@ module _ (ranks wanted : List Rank) (ready staying : List Tile) (vs : List Victi
         once = new_once o;
         fits_ranks = omega arith;
         fits_kept = omega arith;
-        fits_victims = omega arith;
+        fits_evictables = omega arith;
         few = omega arith;
       }
 

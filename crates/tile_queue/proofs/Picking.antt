@@ -13,51 +13,51 @@ use Rattle.tile_priority.specs.declared.rank.Rank.{Rank}
 use Rattle.tile_priority.specs.Ranks.{bin_number, rank_cmp}
 use Rattle.tile_priority.specs.Tiles.{Tile}
 use Rattle.tile_priority.specs.Ordered.{SameMembers, BeforeAll, IsInOrder}
-use Rattle.tile_priority.specs.Choice.{Choice, used, victim_of, victim_key, gives_way, is_worse, is_enough, is_now, worst_cmp, worst_first, victims, may_start, first, NoneStarts, evicted}
+use Rattle.tile_priority.specs.Choice.{Choice, used, evictable_of, evictable_key, gives_way, is_worse, is_enough, is_now, worst_cmp, worst_first, evictables, may_start, first, NoneStarts, evicted}
 use Rattle.tile_priority.specs.Choice as choosing
 use Rattle.tile_priority.proofs.Members.{same_itself}
 use Rattle.tile_priority.proofs.Choosing.{worst_first_is_one, first_is_one}
 use Rattle.tile_priority.proofs.LeastFirst.{least_is_first}
-use Rattle.tile_queue.specs.declared.victim.Victim.{Victim}
-use Rattle.tile_queue.specs.declared.victim.Victim.TheVariants.{Unranked, Ranked}
+use Rattle.tile_queue.specs.declared.evictable.Evictable.{Evictable}
+use Rattle.tile_queue.specs.declared.evictable.Evictable.TheVariants.{Unranked, Ranked}
 use Rattle.tile_queue.specs.Queues.{tile_key}
 use Rattle.tile_queue.specs.inner.Orders.{is_visible, stays, choice_of}
-use Rattle.tile_queue.specs.inner.Victims.{given, tile_of, key_of, victim_cmp, is_worse_than}
+use Rattle.tile_queue.specs.inner.Evictables.{given, tile_of, key_of, eviction_cmp, is_worse_than}
 use Rattle.tile_queue.proofs.Places.{order_filter, least_is_head}
 
--- a victim's parts
+-- an evictable tile's parts
 
-pub key_of_tile : (v : Victim) → tile_key (tile_of v) ≡ key_of v
+pub key_of_tile : (v : Evictable) → tile_key (tile_of v) ≡ key_of v
 key_of_tile (Unranked k) = refl
 key_of_tile (Ranked r) = refl
 
-pub keys_of_tiles : (vs : List Victim) → map tile_key (map tile_of vs) ≡ map key_of vs
+pub keys_of_tiles : (vs : List Evictable) → map tile_key (map tile_of vs) ≡ map key_of vs
 keys_of_tiles [] = refl
 keys_of_tiles (v ∷ vs) = λ i. key_of_tile v i ∷ keys_of_tiles vs i
 
-given_tile : (v : Victim) → victim_of (tile_of v) ≡ given v
+given_tile : (v : Evictable) → evictable_of (tile_of v) ≡ given v
 given_tile (Unranked k) = refl
 given_tile (Ranked r) = refl
 
-given_tiles : (vs : List Victim) → map victim_of (map tile_of vs) ≡ map given vs
+given_tiles : (vs : List Evictable) → map evictable_of (map tile_of vs) ≡ map given vs
 given_tiles [] = refl
 given_tiles (v ∷ vs) = λ i. given_tile v i ∷ given_tiles vs i
 
-given_key : (v : Victim) → victim_key (given v) ≡ key_of v
+given_key : (v : Evictable) → evictable_key (given v) ≡ key_of v
 given_key (Unranked k) = refl
 given_key (Ranked r) = refl
 
-pub given_keys : (vs : List Victim) → map victim_key (map given vs) ≡ map key_of vs
+pub given_keys : (vs : List Evictable) → map evictable_key (map given vs) ≡ map key_of vs
 given_keys [] = refl
 given_keys (v ∷ vs) = λ i. given_key v i ∷ given_keys vs i
 
-way_of_tile : (b : Bin) (v : Victim) → gives_way b (tile_of v) ≡ is_worse_than b v
+way_of_tile : (b : Bin) (v : Evictable) → gives_way b (tile_of v) ≡ is_worse_than b v
 way_of_tile b (Unranked k) = refl
 way_of_tile b (Ranked r) = refl
 
 -- those that give way
 
-filter_tiles : (b : Bin) (vs : List Victim) → filter (gives_way b) (map tile_of vs) ≡ map tile_of (filter (is_worse_than b) vs)
+filter_tiles : (b : Bin) (vs : List Evictable) → filter (gives_way b) (map tile_of vs) ≡ map tile_of (filter (is_worse_than b) vs)
 filter_tiles b [] = refl
 filter_tiles b (v ∷ vs) =
     ap (λ t. cond t (tile_of v ∷ filter (gives_way b) (map tile_of vs)) (filter (gives_way b) (map tile_of vs))) (way_of_tile b v)
@@ -68,9 +68,9 @@ filter_tiles b (v ∷ vs) =
     by_test true e = ap (λ ts. tile_of v ∷ ts) e
     by_test false e = e
 
-staying_are_no_victims : (b : Bin) (ts : List Tile) → list_all stays ts ≡ true → filter (gives_way b) ts ≡ []
-staying_are_no_victims b [] h = refl
-staying_are_no_victims b (t ∷ ts) h = by_pin t.pinned t.rank h (staying_are_no_victims b ts)
+staying_are_no_evictables : (b : Bin) (ts : List Tile) → list_all stays ts ≡ true → filter (gives_way b) ts ≡ []
+staying_are_no_evictables b [] h = refl
+staying_are_no_evictables b (t ∷ ts) h = by_pin t.pinned t.rank h (staying_are_no_evictables b ts)
   where
     never_below : (n : ℕ) → nat_lt n 0 ≡ false
     never_below n = by_test (nat_lt n 0) refl
@@ -90,31 +90,31 @@ staying_are_no_victims b (t ∷ ts) h = by_pin t.pinned t.rank h (staying_are_no
         by_bin bin.Soon h = absurd cc
         by_bin bin.Eventually h = absurd cc
 
-order_given : (vs : List Victim) → IsInOrder victim_cmp vs → IsInOrder worst_cmp (map given vs)
+order_given : (vs : List Evictable) → IsInOrder eviction_cmp vs → IsInOrder worst_cmp (map given vs)
 order_given [] o = tt
 order_given (v ∷ vs) o = (before v vs o.0, order_given vs o.1)
   where
-    before : (v : Victim) (vs : List Victim) → BeforeAll victim_cmp v vs → BeforeAll worst_cmp (given v) (map given vs)
+    before : (v : Evictable) (vs : List Evictable) → BeforeAll eviction_cmp v vs → BeforeAll worst_cmp (given v) (map given vs)
     before v [] b = tt
     before v (u ∷ us) b = (b.0, before v us b.1)
 
-module _ (wanted : List Rank) (staying : List Tile) (vs : List Victim) (in_flight budget : ℕ) (all_stay : list_all stays staying ≡ true) (order : IsInOrder victim_cmp vs) where
+module _ (wanted : List Rank) (staying : List Tile) (vs : List Evictable) (in_flight budget : ℕ) (all_stay : list_all stays staying ≡ true) (order : IsInOrder eviction_cmp vs) where
   abbrev c : Choice
   c = choice_of wanted staying vs in_flight budget
 
-  victims_are : (q : Rank) → victims c q ≡ map given (filter (is_worse_than q.bin) vs)
-  victims_are q =
-      ap (map victim_of) (filter-append (gives_way q.bin) staying (map tile_of vs))
-      ∙ ap (λ ts. map victim_of (ts ++ filter (gives_way q.bin) (map tile_of vs))) (staying_are_no_victims q.bin staying all_stay)
-      ∙ ap (map victim_of) (filter_tiles q.bin vs)
+  evictables_are : (q : Rank) → evictables c q ≡ map given (filter (is_worse_than q.bin) vs)
+  evictables_are q =
+      ap (map evictable_of) (filter-append (gives_way q.bin) staying (map tile_of vs))
+      ∙ ap (λ ts. map evictable_of (ts ++ filter (gives_way q.bin) (map tile_of vs))) (staying_are_no_evictables q.bin staying all_stay)
+      ∙ ap (map evictable_of) (filter_tiles q.bin vs)
       ∙ given_tiles (filter (is_worse_than q.bin) vs)
 
   pub worst_is : (q : Rank) → worst_first c q ≡ map given (filter (is_worse_than q.bin) vs)
   worst_is q =
-      let ws : List choosing.Victim = map given (filter (is_worse_than q.bin) vs) in
+      let ws : List choosing.Evictable = map given (filter (is_worse_than q.bin) vs) in
       sym (worst_first_is_one.only c q ws (record {
-        order = order_given (filter (is_worse_than q.bin) vs) (order_filter victim_cmp (is_worse_than q.bin) vs order);
-        members = subst (λ us. SameMembers ws us) (sym (victims_are q)) (same_itself ws);
+        order = order_given (filter (is_worse_than q.bin) vs) (order_filter eviction_cmp (is_worse_than q.bin) vs order);
+        members = subst (λ us. SameMembers ws us) (sym (evictables_are q)) (same_itself ws);
       }))
 
   pub count_is : (b : Bin) (n : ℕ) → take n vs ≡ filter (is_worse_than b) vs → n ≤ length vs → (q : Rank) → q.bin ≡ b → n ≡ length (worst_first c q)
@@ -125,7 +125,7 @@ module _ (wanted : List Rank) (staying : List Tile) (vs : List Victim) (in_fligh
       let t : length (take n vs) ≡ length (filter (is_worse_than b) vs) = ap length those in
       omega (arith, clamps)
 
-  -- the evicted are the first of the victims, as many as give way and are over the budget
+  -- the evicted are the first of the evictable tiles, as many as give way and are over the budget
   pub evicted_is : (q : Rank) (n over : ℕ) → take n vs ≡ filter (is_worse_than q.bin) vs → over ≡ (used c + 1) - budget → evicted c q ≡ map given (take (min over n) vs)
   unfolding evicted
   evicted_is q n over those e =
@@ -134,11 +134,11 @@ module _ (wanted : List Rank) (staying : List Tile) (vs : List Victim) (in_fligh
       ∙ take-map given over (take n vs)
       ∙ ap (map given) (take_take over n vs)
     where
-      take_none : (k : ℕ) → take {A = Victim} k [] ≡ []
+      take_none : (k : ℕ) → take {A = Evictable} k [] ≡ []
       take_none zero = refl
       take_none (suc k) = refl
 
-      take_take : (m n : ℕ) (us : List Victim) → take m (take n us) ≡ take (min m n) us
+      take_take : (m n : ℕ) (us : List Evictable) → take m (take n us) ≡ take (min m n) us
       take_take zero n us = let e : min 0 n ≡ 0 = omega (arith, clamps) in rw e refl
       take_take (suc m) zero us = let e : min (suc m) 0 ≡ 0 = omega (arith, clamps) in rw e refl
       take_take (suc m) (suc n) [] = sym (take_none (min (suc m) (suc n)))

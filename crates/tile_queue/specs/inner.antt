@@ -1,4 +1,4 @@
 pub mod Listing
-pub mod Victims
+pub mod Evictables
 pub mod Orders
 pub mod Waiting

@@ -1,4 +1,4 @@
-//! The raster queue: which tile is made next, and which ready tiles are given up for it.
+//! The raster queue: which tile is made next, and which ready tiles are evicted for it.
 //!
 //! It stands for a choice of `tile_priority`: the wanted ranks, the ready tiles, how many tiles are in
 //! flight and how many there may be. The definitions of that choice scan lists; the queue keeps them in
@@ -17,8 +17,8 @@ mod listed;
 mod parted;
 mod queue;
 mod ranked;
-mod victim;
-mod victims;
+mod evictable;
+mod evictables;
 mod wanted;
 mod words;
 

@@ -7,28 +7,28 @@ ghost use Rattle.tile_priority.specs.Ordered.{in_order};
 ghost use Rattle.tile_priority.specs.declared.rank.Rank.{Rank as Ranking};
 ghost use Rattle.tile_priority.specs.Choice.{first as first_rank, NoneStarts, used};
 ghost use Rattle.tile_priority.specs.Choice as choosing;
-ghost use Rattle.tile_priority.specs.Alike.{Alike, started, finished};
+ghost use Rattle.tile_priority.specs.Alike.{Alike, choice_after_start, finished};
 ghost use Rattle.tile_queue.specs.Queues.{rank_key, EachKeyOnce, IsNew, AreEvictedFor, MayStartWith};
 
 use crate::listed::Listed;
-use crate::victim::Victim;
-use crate::victims;
-use crate::victims::{count_up_to, give_up, has_for, keep, no_victims, staying, worst};
+use crate::evictable::Evictable;
+use crate::evictables;
+use crate::evictables::{count_up_to, evict, has_for, keep, no_evictables, staying, worst};
 use crate::wanted::Wanted;
 use geom::{Keys, TileKey};
 use std::alloc::{AllocError, Global};
 use std::marker::Model;
 use tile_priority::{Bin, Rank, ReadyTile};
 
-/// Which tile is made next, and which ready tiles are given up for it.
+/// Which tile is made next, and which ready tiles are evicted for it.
 #[derive(Drop)]
 pub struct RasterQueue {
     // The best first.
     wanted: Wanted,
-    // The ready tiles that are never given up: the pinned ones and the visible ones.
+    // The ready tiles that are never evicted: the pinned ones and the visible ones.
     staying: Vec<ReadyTile>,
     // All other ready tiles, the worst first.
-    victims: Listed<Victim>,
+    evictables: Listed<Evictable>,
     in_flight: usize,
     budget: u32,
     alloc: Global,
@@ -41,9 +41,9 @@ impl Model for RasterQueue {
 
     ghost Value = { Choice };
 
-    ghost view = { λ q. choice_of q.wanted.items q.staying.items q.victims.items q.in_flight q.budget };
+    ghost view = { λ q. choice_of q.wanted.items q.staying.items q.evictables.items q.in_flight q.budget };
 
-    ghost invariant = { λ q. IsQueue q.wanted.items q.staying.items q.victims.items q.in_flight q.wanted.room (vec_capacity q.staying) q.victims.room };
+    ghost invariant = { λ q. IsQueue q.wanted.items q.staying.items q.evictables.items q.in_flight q.wanted.room (vec_capacity q.staying) q.evictables.room };
 }
 
 impl RasterQueue {
@@ -54,7 +54,7 @@ impl RasterQueue {
         RasterQueue {
             wanted: Wanted::new(alloc),
             staying: Vec::new(alloc),
-            victims: no_victims(alloc),
+            evictables: no_evictables(alloc),
             in_flight: 0,
             budget: 0,
             alloc,
@@ -78,10 +78,10 @@ impl RasterQueue {
         let room = wanted.len() + ready.len() + in_flight as usize;
         let ranks = Wanted::of(self.alloc, wanted, room)?;
         let kept = staying(self.alloc, ready, room)?;
-        let others = victims::sorted(self.alloc, ready, room)?;
+        let others = evictables::sorted(self.alloc, ready, room)?;
         self.wanted = ranks;
         self.staying = kept;
-        self.victims = others;
+        self.evictables = others;
         self.in_flight = in_flight as usize;
         self.budget = budget;
         Ok(())
@@ -109,7 +109,7 @@ impl RasterQueue {
         self.wanted.best(self.alloc, most as usize)
     }
 
-    /// The keys that are given up for a wanted one, the worst first; none for a key that is not wanted. An
+    /// The keys that are evicted for a wanted one, the worst first; none for a key that is not wanted. An
     /// error is want of memory.
     pub fn evicted(&self, key: TileKey) -> Result<Keys, AllocError>
         ensures wanted { IfOk result (AreEvictedFor self.now key) }
@@ -118,20 +118,20 @@ impl RasterQueue {
         match self.wanted.rank_of(key) {
             None => Ok(Keys::new(self.alloc)),
             Some(rank) => {
-                let count = count_up_to(&self.victims, rank.bin, self.over_budget());
-                worst(self.alloc, &self.victims, count)
+                let count = count_up_to(&self.evictables, rank.bin, self.over_budget());
+                worst(self.alloc, &self.evictables, count)
             }
         }
     }
 
-    /// A wanted key starts, and its evicted keys are given up for it: it is wanted no more, they are ready
+    /// A wanted key starts, and its evicted keys are dropped: it is wanted no more, they are ready
     /// no more and wanted again where they have a rank, and one tile more is in flight. Takes no memory.
     pub fn started(&mut self, key: TileKey, evicted: &Keys)
         requires { MayStartWith self.old key evicted.now }
-        ensures { Alike self.new (started self.old key evicted.now) }
+        ensures { Alike self.new (choice_after_start self.old key evicted.now) }
     {
         self.wanted.forget(key);
-        give_up(&mut self.victims, &mut self.wanted, evicted.len());
+        evict(&mut self.evictables, &mut self.wanted, evicted.len());
         self.in_flight += 1;
     }
 
@@ -144,7 +144,7 @@ impl RasterQueue {
     {
         self.in_flight -= 1;
         if let Some(tile) = tile {
-            keep(&mut self.staying, &mut self.victims, tile);
+            keep(&mut self.staying, &mut self.evictables, tile);
         }
     }
 
@@ -152,7 +152,7 @@ impl RasterQueue {
     fn over_budget(&self) -> usize
         ensures { result ≡ (used self.now + 1) - self.now.budget }
     {
-        let used = self.staying.len() + self.victims.len() + self.in_flight;
+        let used = self.staying.len() + self.evictables.len() + self.in_flight;
         (used + 1).saturating_sub(self.budget as usize)
     }
 
@@ -162,7 +162,7 @@ impl RasterQueue {
     {
         match bin {
             Bin::Now => true,
-            Bin::Soon | Bin::Eventually => has_for(&self.victims, bin, self.over_budget()),
+            Bin::Soon | Bin::Eventually => has_for(&self.evictables, bin, self.over_budget()),
         }
     }
 }

@@ -11,10 +11,10 @@ use Rattle.geom.specs.declared.tile.Place.{Place}
 use Rattle.geom.specs.declared.tile.TileKey.{TileKey}
 use Rattle.geom.specs.Covers.{within, covers}
 use Rattle.geom.specs.declared.span.Span.{Span}
-use Rattle.geom.specs.Common.{common_span, rect_of_spans, common, nothing, meets}
+use Rattle.geom.specs.Common.{common_span, rect_of_spans, common, empty_rect, meets}
 use Rattle.geom.specs.Grids.{tiles, has, part_len, places}
-use Rattle.geom.specs.Sides.{Sides, IsSide}
-use Rattle.geom.specs.KeyLists.{same_key, has_key, AreDistinct}
+use Rattle.geom.specs.Sides.{Sides, IsLayerSide}
+use Rattle.geom.specs.KeyLists.{same_key, has_key, AreDistinctKeys}
 use Rattle.geom.proofs.Cuts.{starts_below}
 use Rattle.geom.proofs.Meets.{meet_points, points_meet}
 use Rattle.geom.proofs.Spans.{inside, is_within_of, both, both_of}
@@ -48,7 +48,7 @@ use Rattle.model_history.proofs.BoolFacts.{and_left, and_right, is_below, not_bo
 use Rattle.model_history.proofs.KeyFacts.{in_has}
 use Rattle.model_history.proofs.RankFacts.{tree_rank, key_of_rank}
 use Rattle.model_steps.specs.Choices.{rank_in_both}
-use Rattle.tile_ranks.specs.Areas.{IsNear}
+use Rattle.tile_ranks.specs.Areas.{IsSeenNear}
 use Rattle.tile_ranks.specs.SeenTrees.{SeenLayerModel, SeenTreeModel, IsLayerOf, AreLayersOf, IsSeenTree, IsSeenWhere}
 use Rattle.tile_ranks.specs.inner.Lists.{rank_where, ranks_where, or_better, better_on, alone, alone_on, ranks_both, tile_seen, layer_at, layer_has, rank_on_layer, IsNarrow, IsPageWhere}
 use Rattle.tile_ranks.proofs.VisibleKeys.{has_its_id}
@@ -90,7 +90,7 @@ narrow s p acc v = record {
 -- ---- tiles are seen well
 
 -- the part of a side that a tile takes is some pixels
-part_some : (side tile k : ℕ) → IsSide tile → k < tiles side tile → pos 0 <ℤ part_len side tile k
+part_some : (side tile k : ℕ) → IsLayerSide tile → k < tiles side tile → pos 0 <ℤ part_len side tile k
 unfolding part_len
 part_some side tile k t l = let b = starts_below side tile k t l in let o = t.low in some_of (min tile (side - k * tile)) (least_some tile (side - k * tile) o (omega (arith, b)))
   where
@@ -114,7 +114,7 @@ common_in b n c k p o e h = in_second b n c k (int_max b c) (int_min (b +ℤ n) 
     in_second b n c k s t true i j p h = let w = inside s (t -ℤ s) p h in is_within_of c k p (record { low = omega (arith, ints, clamps, i, w.low); high = omega (arith, ints, clamps, i, j, w.high) })
     in_second b n c k s t false i j p h = absurd h
 
-nothing_covered : (x y : ℤ) → covers nothing x y ≡ true → ⊥
+nothing_covered : (x y : ℤ) → covers empty_rect x y ≡ true → ⊥
 nothing_covered x y h = let k = both _ _ h in let w = inside (pos 0) (pos 0) x k.0 in absurd (omega (arith, ints, w.low, w.high))
 
 -- a point of the common part of two rects is one of the second
@@ -135,11 +135,11 @@ clip_inside r v (Some c) h =
     let (x, y, i, j) = meet_points r (common c v) h in
     points_meet r v (x, y, i, common_covered c v x y j)
 
-pub near_seen : (s : ScriptModel) (t : Tree) (l : PageLayer) → IsAccepted s → IsView t.page.view → IsSide l.w → IsSide l.h → (place : Place) → has (grid_of t.page l) place ≡ true → IsNear (borders s t.page) (seen t.page t.offset l place)
+pub near_seen : (s : ScriptModel) (t : Tree) (l : PageLayer) → IsAccepted s → IsView t.page.view → IsLayerSide l.w → IsLayerSide l.h → (place : Place) → has (grid_of t.page l) place ≡ true → IsSeenNear (borders s t.page) (seen t.page t.offset l place)
 near_seen s t l acc view w h place there =
     let low = view.tile_low in
     let high = view.tile_high in
-    let cut : IsSide t.page.view.tile = record { low = omega arith; high = omega arith } in
+    let cut : IsLayerSide t.page.view.tile = record { low = omega arith; high = omega arith } in
     let x = is_below place.x (tiles l.w t.page.view.tile) (and_left (nat_lt place.x (tiles l.w t.page.view.tile)) (nat_lt place.y (tiles l.h t.page.view.tile)) there) in
     let y = is_below place.y (tiles l.h t.page.view.tile) (and_right (nat_lt place.x (tiles l.w t.page.view.tile)) (nat_lt place.y (tiles l.h t.page.view.tile)) there) in
     record {
@@ -151,9 +151,9 @@ near_seen s t l acc view w h place there =
       borders = (has_borders s acc).ordered;
     }
 
-pub seen_well : (s : ScriptModel) (t : Tree) (l : PageLayer) (v : SeenLayerModel) → IsAccepted s → IsView t.page.view → IsSide l.w → IsSide l.h → IsLayerOf t l v → IsSeenWell (borders s t.page) v
+pub seen_well : (s : ScriptModel) (t : Tree) (l : PageLayer) (v : SeenLayerModel) → IsAccepted s → IsView t.page.view → IsLayerSide l.w → IsLayerSide l.h → IsLayerOf t l v → IsSeenWell (borders s t.page) v
 seen_well s t l v acc view w h is = record {
-  near = λ place there. subst (IsNear (borders s t.page)) (sym (tile_is t l v place is.seen)) (near_seen s t l acc view w h place (ap (λ (g : Sides). has g place) (sym is.seen.grid) ∙ there));
+  near = λ place there. subst (IsSeenNear (borders s t.page)) (sym (tile_is t l v place is.seen)) (near_seen s t l acc view w h place (ap (λ (g : Sides). has g place) (sym is.seen.grid) ∙ there));
 }
 
 -- the layer of a seen one
@@ -170,7 +170,7 @@ each_in P (y ∷ ys) x a (inl e) = subst P (sym e) a.0
 each_in P (y ∷ ys) x a (inr i) = each_in P ys x a.1 i
 
 -- layers with ids of their own are seen with ids of their own
-own_ids : (t : Tree) (b : Borders) (a : Side) (ls : List PageLayer) (vs : List SeenLayerModel) → sound.AreDistinct ls → AreLayersOf t ls vs → HaveOwnIds b a vs
+own_ids : (t : Tree) (b : Borders) (a : Side) (ls : List PageLayer) (vs : List SeenLayerModel) → sound.AreDistinctLayers ls → AreLayersOf t ls vs → HaveOwnIds b a vs
 own_ids t b a [] [] d o = tt
 own_ids t b a [] (v ∷ vs) d o = absurd o
 own_ids t b a (l ∷ ls) [] d o = absurd o
@@ -254,7 +254,7 @@ module _ (s : ScriptModel) (acc : IsAccepted s) (a : Side) (t : Tree) where
           let f = size_facts x.0.w x.0.h l.size in
           subst (λ (g : Page). IsSeenWell (borders s g) v) (sym is.page) (seen_well s t x.0 v acc pg.view f.0 f.1 x.2)
 
-  pub where_once : (o : Option SeenTreeModel) → IsSeenWhere t o → IsPageWhere o → AreDistinct (map (λ (r : Rank). r.key) (ranks_where s a o))
+  pub where_once : (o : Option SeenTreeModel) → IsSeenWhere t o → IsPageWhere o → AreDistinctKeys (map (λ (r : Rank). r.key) (ranks_where s a o))
   where_once None is p = tt
   where_once (Some z) is p = flat_once (borders s z.page) a z.layers (own_ids t (borders s z.page) a t.page.layers z.layers (tree_page z is p).distinct is.layers)
 
@@ -365,7 +365,7 @@ module _ (s : ScriptModel) (acc : IsAccepted s) (a p : Tree) (o w : Option SeenT
   one_better : (r : Rank) → (z : Rank) × (or_better s w r ≡ Some z) × (z.key ≡ r.key)
   one_better r = better_key r (rank_where s side.Pending w r.key) (subst (IsRankOfKey r.key) (sym (pending_is r.key)) (tree_rank s side.Pending p r.key))
 
-  alone_some : (rs : List Rank) → AreDistinct (map (λ (r : Rank). r.key) rs) → AreDistinct (map (λ (r : Rank). r.key) (filter_map (alone s o) rs))
+  alone_some : (rs : List Rank) → AreDistinctKeys (map (λ (r : Rank). r.key) rs) → AreDistinctKeys (map (λ (r : Rank). r.key) (filter_map (alone s o) rs))
   alone_some [] d = tt
   alone_some (r ∷ rs) d = by_rank (rank_where s side.Active o r.key) (alone_some rs d.1)
     where
@@ -377,14 +377,14 @@ module _ (s : ScriptModel) (acc : IsAccepted s) (a p : Tree) (o w : Option SeenT
           by_one None f = or_neither (same_key x.key q) (has_key (map (λ (y : Rank). y.key) (filter_map (alone s o) xs)) q) (or_left_false (same_key x.key q) (has_key (map (λ (y : Rank). y.key) xs) q) h) f
           by_one (Some v) f = f
 
-      by_rank : (v : Option Rank) → AreDistinct (map (λ (y : Rank). y.key) (filter_map (alone s o) rs)) → AreDistinct (map (λ (y : Rank). y.key) (cons_option (cond (is_some v) None (Some r)) (filter_map (alone s o) rs)))
+      by_rank : (v : Option Rank) → AreDistinctKeys (map (λ (y : Rank). y.key) (filter_map (alone s o) rs)) → AreDistinctKeys (map (λ (y : Rank). y.key) (cons_option (cond (is_some v) None (Some r)) (filter_map (alone s o) rs)))
       by_rank None rest = (fewer rs r.key d.0, rest)
       by_rank (Some v) rest = rest
 
-  pub ranked_once : AreDistinct (map (λ (r : Rank). r.key) (ranks_both s o w))
+  pub ranked_once : AreDistinctKeys (map (λ (r : Rank). r.key) (ranks_both s o w))
   ranked_once =
       once_append (borders s a.page) side.Active (filter_map (or_better s w) (ranks_where s side.Active o)) (filter_map (alone s o) (ranks_where s side.Pending w))
-      (subst (λ (ks : List TileKey). AreDistinct ks) (sym (same_keys (ranks_where s side.Active o) (λ r i. one_better r))) (where_once s acc side.Active a o left lp))
+      (subst (λ (ks : List TileKey). AreDistinctKeys ks) (sym (same_keys (ranks_where s side.Active o) (λ r i. one_better r))) (where_once s acc side.Active a o left lp))
       (alone_some (ranks_where s side.Pending w) (where_once s acc side.Pending p w right rp))
       (λ r z i j k.
       let (x, l, e) = in_filter_map (or_better s w) r (ranks_where s side.Active o) i in

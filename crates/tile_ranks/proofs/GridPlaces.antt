@@ -7,7 +7,7 @@ use Rattle.std.proofs.lemmas.Bool.Decides.{nat_tests}
 use Rattle.geom.specs.declared.rect.Rect.{Rect}
 use Rattle.geom.specs.declared.tile.Place.{Place}
 use Rattle.geom.specs.Common.{meets}
-use Rattle.geom.specs.Grids.{tiles, has, rect_of, place, row, places, places_touching}
+use Rattle.geom.specs.Grids.{tiles, has, rect_of_place, place, places_in_row, places, places_touching}
 use Rattle.geom.specs.Sides.{Sides}
 use Rattle.tile_priority.specs.Ordered.{In}
 use Rattle.tile_priority.proofs.InOrder.{in_filter, filter_in}
@@ -32,23 +32,23 @@ in_row y a (suc n) x l u = by_first (nat_lt a x) refl (λ p q. in_row y (a + 1) 
     by_first true e f = let k = is_below a x e in inr (f (omega (arith, k)) (omega (arith, u)))
     by_first false e f = inl (ap (place y) (not_above a x l e))
 
-rows_in : (g : Sides) (a n : ℕ) (p : Place) → In p (flat_map (row g) (range_with_len a n)) → (a ≤ p.y) × (p.y < a + n) × (p.x < tiles g.w g.tile)
+rows_in : (g : Sides) (a n : ℕ) (p : Place) → In p (flat_map (places_in_row g) (range_with_len a n)) → (a ≤ p.y) × (p.y < a + n) × (p.x < tiles g.w g.tile)
 rows_in g a zero p i = absurd i
-rows_in g a (suc n) p i = by_row (in_append p (row g a) (flat_map (row g) (range_with_len (a + 1) n)) i) (rows_in g (a + 1) n p)
+rows_in g a (suc n) p i = by_row (in_append p (places_in_row g a) (flat_map (places_in_row g) (range_with_len (a + 1) n)) i) (rows_in g (a + 1) n p)
   where
-    by_row : In p (row g a) ⊎ In p (flat_map (row g) (range_with_len (a + 1) n)) → (In p (flat_map (row g) (range_with_len (a + 1) n)) → (a + 1 ≤ p.y) × (p.y < a + 1 + n) × (p.x < tiles g.w g.tile)) → (a ≤ p.y) × (p.y < a + suc n) × (p.x < tiles g.w g.tile)
+    by_row : In p (places_in_row g a) ⊎ In p (flat_map (places_in_row g) (range_with_len (a + 1) n)) → (In p (flat_map (places_in_row g) (range_with_len (a + 1) n)) → (a + 1 ≤ p.y) × (p.y < a + 1 + n) × (p.x < tiles g.w g.tile)) → (a ≤ p.y) × (p.y < a + suc n) × (p.x < tiles g.w g.tile)
     by_row (inl j) f = let r = row_in a 0 (tiles g.w g.tile) p j in let e = r.0 in let u = r.2 in (omega arith, omega arith, omega arith)
     by_row (inr j) f = let r = f j in let l = r.0 in let u = r.1 in (omega arith, omega arith, r.2)
 
-in_rows : (g : Sides) (a n : ℕ) (p : Place) → a ≤ p.y → p.y < a + n → p.x < tiles g.w g.tile → In p (flat_map (row g) (range_with_len a n))
+in_rows : (g : Sides) (a n : ℕ) (p : Place) → a ≤ p.y → p.y < a + n → p.x < tiles g.w g.tile → In p (flat_map (places_in_row g) (range_with_len a n))
 in_rows g a zero p l u v = absurd (omega arith)
 in_rows g a (suc n) p l u v = by_row (nat_lt a p.y) refl (λ x y. in_rows g (a + 1) n p x y v)
   where
-    by_row : (b : Bool) → nat_lt a p.y ≡ b → (a + 1 ≤ p.y → p.y < (a + 1) + n → In p (flat_map (row g) (range_with_len (a + 1) n))) → In p (flat_map (row g) (range_with_len a (suc n)))
-    by_row true e f = let k = is_below a p.y e in in_append_right p (row g a) (flat_map (row g) (range_with_len (a + 1) n)) (f (omega (arith, k)) (omega (arith, u)))
+    by_row : (b : Bool) → nat_lt a p.y ≡ b → (a + 1 ≤ p.y → p.y < (a + 1) + n → In p (flat_map (places_in_row g) (range_with_len (a + 1) n))) → In p (flat_map (places_in_row g) (range_with_len a (suc n)))
+    by_row true e f = let k = is_below a p.y e in in_append_right p (places_in_row g a) (flat_map (places_in_row g) (range_with_len (a + 1) n)) (f (omega (arith, k)) (omega (arith, u)))
     by_row false e f =
         let same : p.y ≡ a = not_above a p.y l e in
-        in_append_left p (row g a) (flat_map (row g) (range_with_len (a + 1) n)) (subst (λ (y : ℕ). In (place p.y p.x) (row g y)) same (in_row p.y 0 (tiles g.w g.tile) p.x (omega arith) (omega (arith, v))))
+        in_append_left p (places_in_row g a) (flat_map (places_in_row g) (range_with_len (a + 1) n)) (subst (λ (y : ℕ). In (place p.y p.x) (places_in_row g y)) same (in_row p.y 0 (tiles g.w g.tile) p.x (omega arith) (omega (arith, v))))
 
 pub place_had : (g : Sides) (p : Place) → In p (places g) → has g p ≡ true
 place_had g p i =
@@ -63,13 +63,13 @@ place_in g p h =
     in_rows g 0 (tiles g.h g.tile) p (omega arith) (omega (arith, y)) x
 
 -- those that touch an area
-pub touching_had : (g : Sides) (area : Rect) (p : Place) → In p (places_touching g area) → (has g p ≡ true) × (meets (rect_of g p) area ≡ true)
+pub touching_had : (g : Sides) (area : Rect) (p : Place) → In p (places_touching g area) → (has g p ≡ true) × (meets (rect_of_place g p) area ≡ true)
 unfolding places_touching
-touching_had g area p i = let f = in_filter (λ q. meets (rect_of g q) area) p (places g) i in (place_had g p f.0, f.1)
+touching_had g area p i = let f = in_filter (λ q. meets (rect_of_place g q) area) p (places g) i in (place_had g p f.0, f.1)
 
-pub touching_in : (g : Sides) (area : Rect) (p : Place) → has g p ≡ true → meets (rect_of g p) area ≡ true → In p (places_touching g area)
+pub touching_in : (g : Sides) (area : Rect) (p : Place) → has g p ≡ true → meets (rect_of_place g p) area ≡ true → In p (places_touching g area)
 unfolding places_touching
-touching_in g area p h m = filter_in (λ q. meets (rect_of g q) area) p (places g) (place_in g p h) m
+touching_in g area p h m = filter_in (λ q. meets (rect_of_place g q) area) p (places g) (place_in g p h) m
 
 all_of : {X : Type 0} (P : X → Type 0) (xs : List X) → ((x : X) → In x xs → P x) → All P xs
 all_of P [] f = λ n d l. absurd (omega arith)
@@ -105,12 +105,12 @@ row_apart : (y a n : ℕ) → AreApart (map (place y) (range_with_len a n))
 row_apart y a zero = tt
 row_apart y a (suc n) = (λ i. let r = row_in y (a + 1) n (place y a) i in let l = r.1 in absurd (omega arith), row_apart y (a + 1) n)
 
-rows_apart : (g : Sides) (a n : ℕ) → AreApart (flat_map (row g) (range_with_len a n))
+rows_apart : (g : Sides) (a n : ℕ) → AreApart (flat_map (places_in_row g) (range_with_len a n))
 rows_apart g a zero = tt
 rows_apart g a (suc n) =
-    apart_append (row g a) (flat_map (row g) (range_with_len (a + 1) n)) (row_apart a 0 (tiles g.w g.tile)) (rows_apart g (a + 1) n)
+    apart_append (places_in_row g a) (flat_map (places_in_row g) (range_with_len (a + 1) n)) (row_apart a 0 (tiles g.w g.tile)) (rows_apart g (a + 1) n)
     (λ p i j. let r = row_in a 0 (tiles g.w g.tile) p i in let e = r.0 in let k = rows_in g (a + 1) n p j in let l = k.0 in absurd (omega arith))
 
 pub touching_apart : (g : Sides) (area : Rect) → AreApart (places_touching g area)
 unfolding places_touching
-touching_apart g area = apart_filter (λ p. meets (rect_of g p) area) (places g) (rows_apart g 0 (tiles g.h g.tile))
+touching_apart g area = apart_filter (λ p. meets (rect_of_place g p) area) (places g) (rows_apart g 0 (tiles g.h g.tile))

@@ -16,7 +16,7 @@ use Rattle.tile_priority.specs.declared.tile.Borders.{Borders}
 use Rattle.tile_priority.specs.declared.tile.Seen.{Seen}
 use Rattle.tile_priority.specs.Bins.{is_visible, bin_at, bin_of}
 use Rattle.model_history.proofs.BoolFacts.{and_right, not_both}
-use Rattle.tile_ranks.specs.Areas.{inflated, area_near, IsNear}
+use Rattle.tile_ranks.specs.Areas.{inflated, area_near, IsSeenNear}
 
 -- the gap from one number up to another, as a difference
 gap_is : (x y : ℤ) → pos (int_gap x y) ≡ int_max (y -ℤ x) (pos 0)
@@ -61,14 +61,14 @@ within_border b d x l e = by_soon (nat_le d b.soon) refl e
     by_soon true f e = let k : d ≤ b.soon = grind (arith, nat_tests) in omega (arith, k, l)
     by_soon false f e = by_late (nat_le d b.eventually) refl e
 
-pub bin_near : (b : Borders) (seen : Seen) (x : Bin) → IsNear b seen → bin_of b seen ≡ Some x → meets seen.screen (area_near b) ≡ true
+pub bin_near : (b : Borders) (seen : Seen) (x : Bin) → IsSeenNear b seen → bin_of b seen ≡ Some x → meets seen.screen (area_near b) ≡ true
 bin_near b seen x near e = by_visible (is_visible seen) refl e
   where
     by_visible : (t : Bool) → is_visible seen ≡ t → (if t then Some bin.Now else bin_at b (distance seen.screen b.viewport)) ≡ Some x → meets seen.screen (area_near b) ≡ true
     by_visible true v e = meets_more seen.screen b.viewport b.eventually (near.inside (and_right seen.draws (meets seen.screen seen.clip) v))
     by_visible false v e = distance_near seen.screen b.viewport b.eventually near.wide near.tall near.view_w near.view_h (within_border b (distance seen.screen b.viewport) x near.borders e)
 
-pub no_bin : (b : Borders) (seen : Seen) → IsNear b seen → meets seen.screen (area_near b) ≡ false → bin_of b seen ≡ None
+pub no_bin : (b : Borders) (seen : Seen) → IsSeenNear b seen → meets seen.screen (area_near b) ≡ false → bin_of b seen ≡ None
 no_bin b seen near away = by_bin (bin_of b seen) refl
   where
     by_bin : (o : Option Bin) → bin_of b seen ≡ o → bin_of b seen ≡ None

@@ -2,7 +2,7 @@
 use Rattle.std.proofs.Common.{◌≡◌, ◌⊎◌, inl, inr, ℕ, ◌==◌, Bool, true, false, cond, ◌&&◌, ◌||◌, Option, Some, None, List, [], ◌∷◌, find, refl, sym, ◌∙◌, ap, subst}
 use Rattle.geom.specs.declared.tile.Place.{Place}
 use Rattle.geom.specs.declared.tile.TileKey.{TileKey}
-use Rattle.geom.specs.Grids.{has, rect_of, places}
+use Rattle.geom.specs.Grids.{has, rect_of_place, places}
 use Rattle.geom.specs.Sides.{Sides}
 use Rattle.geom.specs.Gaps.{shifted}
 use Rattle.geom.specs.KeyLists.{has_key}
@@ -13,7 +13,7 @@ use Rattle.tile_priority.specs.Bins.{rank_of}
 use Rattle.tile_priority.specs.Ordered.{In}
 use Rattle.page_layers.specs.Layers.{PageLayer, has_id}
 use Rattle.page_layers.specs.Pages.{Page}
-use Rattle.page_layers.specs.Sound.{AreDistinct}
+use Rattle.page_layers.specs.Sound.{AreDistinctLayers}
 use Rattle.tile_visible.specs.Visible.{grid_of, seen}
 use Rattle.model_history.specs.Scripts.{ScriptModel}
 use Rattle.model_history.specs.Tiles.{Tree, keys_of}
@@ -100,17 +100,17 @@ has_on_is t q (Some l) None f = absurd f
 has_on_is t q (Some l) (Some v) f = layer_has_is t l v q f.0 f.1
 
 -- a tree has a key where the layer of its id has it
-pub has_found : (t : Tree) (w : Option SeenLayerModel) (q : TileKey) → AreDistinct t.page.layers → Found t q.layer (find (has_id q.layer) t.page.layers) w → has_on w q ≡ has_key (keys_of t) q
+pub has_found : (t : Tree) (w : Option SeenLayerModel) (q : TileKey) → AreDistinctLayers t.page.layers → Found t q.layer (find (has_id q.layer) t.page.layers) w → has_on w q ≡ has_key (keys_of t) q
 has_found t w q d f = has_on_is t q (find (has_id q.layer) t.page.layers) w f ∙ sym (key_of_page t.page t.stamp q d)
 
-pub has_is : (t : Tree) (r : SeenTreeModel) (q : TileKey) → AreDistinct t.page.layers → IsSeenTree t r → seen_has r.layers q ≡ has_key (keys_of t) q
+pub has_is : (t : Tree) (r : SeenTreeModel) (q : TileKey) → AreDistinctLayers t.page.layers → IsSeenTree t r → seen_has r.layers q ≡ has_key (keys_of t) q
 has_is t r q d is = has_found t (layer_at q.layer r.layers) q d (found t q.layer t.page.layers r.layers is.layers)
 
 -- ---- ranks
 
 -- a tile of the layer is seen as one of the page
 pub tile_is : (t : Tree) (l : PageLayer) (v : SeenLayerModel) (place : Place) → IsSeenIn t.page t.offset l v → tile_seen v place ≡ seen t.page t.offset l place
-tile_is t l v place is = λ i. record { screen = shifted (rect_of (is.grid i) place) (is.by i); clip = is.clip i; draws = is.draws i }
+tile_is t l v place is = λ i. record { screen = shifted (rect_of_place (is.grid i) place) (is.by i); clip = is.clip i; draws = is.draws i }
 
 rank_on_is : (s : ScriptModel) (a : Side) (t : Tree) (q : TileKey) (o : Option PageLayer) (w : Option SeenLayerModel) → Found t q.layer o w
     → rank_on_layer (borders s t.page) a w q ≡ cond (key_on t.page t.stamp q o) (rank_on s a t q o) None
@@ -122,14 +122,14 @@ rank_on_is s a t q (Some l) (Some v) f =
     ∙ ap (λ (z : Seen). cond (key_in t.page t.stamp q l) (rank_of (borders s t.page) a z q) None) (tile_is t l v (place_named q) f.0.seen)
 
 -- the rank of a key in a tree is the one that the layer of its id gives it
-pub rank_found : (s : ScriptModel) (a : Side) (t : Tree) (w : Option SeenLayerModel) (q : TileKey) → AreDistinct t.page.layers → Found t q.layer (find (has_id q.layer) t.page.layers) w
+pub rank_found : (s : ScriptModel) (a : Side) (t : Tree) (w : Option SeenLayerModel) (q : TileKey) → AreDistinctLayers t.page.layers → Found t q.layer (find (has_id q.layer) t.page.layers) w
     → rank_on_layer (borders s t.page) a w q ≡ rank_in s a t q
 unfolding rank_in
 rank_found s a t w q d f =
     rank_on_is s a t q (find (has_id q.layer) t.page.layers) w f
     ∙ ap (λ (b : Bool). cond b (rank_on s a t q (find (has_id q.layer) t.page.layers)) None) (sym (key_of_page t.page t.stamp q d))
 
-pub rank_is : (s : ScriptModel) (a : Side) (t : Tree) (r : SeenTreeModel) (q : TileKey) → AreDistinct t.page.layers → IsSeenTree t r → seen_rank (borders s r.page) a r.layers q ≡ rank_in s a t q
+pub rank_is : (s : ScriptModel) (a : Side) (t : Tree) (r : SeenTreeModel) (q : TileKey) → AreDistinctLayers t.page.layers → IsSeenTree t r → seen_rank (borders s r.page) a r.layers q ≡ rank_in s a t q
 rank_is s a t r q d is =
     ap (λ (p : Page). seen_rank (borders s p) a r.layers q) is.page
     ∙ rank_found s a t (layer_at q.layer r.layers) q d (found t q.layer t.page.layers r.layers is.layers)

@@ -10,8 +10,8 @@ use Rattle.geom.specs.declared.tile.Place.{Place}
 use Rattle.geom.specs.declared.tile.TileKey.{TileKey}
 use Rattle.geom.specs.Common.{spans_meet, meets}
 use Rattle.geom.specs.Gaps.{shifted}
-use Rattle.geom.specs.Grids.{has, rect_of, places_touching}
-use Rattle.geom.specs.KeyLists.{same_key, has_key, AreDistinct}
+use Rattle.geom.specs.Grids.{has, rect_of_place, places_touching}
+use Rattle.geom.specs.KeyLists.{same_key, has_key, AreDistinctKeys}
 use Rattle.geom.proofs.KeyLists.{one_key, same_from}
 use Rattle.tile_tiling.specs.Tiles.{stamp_at, key_of}
 use Rattle.tile_priority.specs.declared.rank.Bin.{Bin}
@@ -25,7 +25,7 @@ use Rattle.tile_priority.specs.Ordered.{In}
 use Rattle.tile_priority.proofs.Members.{in_append, in_append_left, in_append_right, in_filter_map, filter_map_in}
 use Rattle.model_history.specs.Ranking.{place_named}
 use Rattle.model_history.proofs.BoolFacts.{same_number, is_same, is_other, and_left, and_right, and_both, is_false, not_both}
-use Rattle.tile_ranks.specs.Areas.{area_near, IsNear}
+use Rattle.tile_ranks.specs.Areas.{area_near, IsSeenNear}
 use Rattle.tile_ranks.specs.SeenTrees.{SeenLayerModel}
 use Rattle.tile_ranks.specs.inner.Lists.{back, layer_at, layer_has, tile_seen, layer_rank, rank_on_layer, seen_rank, place_rank, near_ranks}
 use Rattle.tile_ranks.proofs.NoBin.{bin_near}
@@ -75,7 +75,7 @@ rank_has b a z q r e = by_bin (bin_of b z) e
 
 -- what is known of a seen layer: its tiles are some pixels, and its clip lies in the viewport
 pub record IsSeenWell (b : Borders) (v : SeenLayerModel) : Type 0 where
-  pub near : (place : Place) → has v.grid place ≡ true → IsNear b (tile_seen v place)
+  pub near : (place : Place) → has v.grid place ≡ true → IsSeenNear b (tile_seen v place)
 
 module _ (b : Borders) (a : Side) where
   -- a rank near the viewport is that of its key
@@ -99,9 +99,9 @@ module _ (b : Borders) (a : Side) where
           let stamp : stamp_at v.stamps (place_named q) ≡ q.stamp = same_number (stamp_at v.stamps (place_named q)) q.stamp (and_right (has v.grid (place_named q)) (stamp_at v.stamps (place_named q) == q.stamp) h) in
           let key : key_of v.stamps v.id (place_named q) ≡ q = λ i. record { layer = id i; x = q.x; y = q.y; stamp = stamp i } in
           let bin = bin_there b a (tile_seen v (place_named q)) q r e in
-          let meets_it : meets (shifted (rect_of v.grid (place_named q)) v.by) (area_near b) ≡ true = bin_near b (tile_seen v (place_named q)) bin.0 (well.near (place_named q) there) bin.1 in
+          let meets_it : meets (shifted (rect_of_place v.grid (place_named q)) v.by) (area_near b) ≡ true = bin_near b (tile_seen v (place_named q)) bin.0 (well.near (place_named q) there) bin.1 in
           filter_map_in (place_rank b a v) (place_named q) r (places_touching v.grid (shifted (area_near b) (back v.by)))
-          (touching_in v.grid (shifted (area_near b) (back v.by)) (place_named q) there (sym (meets_back (rect_of v.grid (place_named q)) (area_near b) v.by) ∙ meets_it))
+          (touching_in v.grid (shifted (area_near b) (back v.by)) (place_named q) there (sym (meets_back (rect_of_place v.grid (place_named q)) (area_near b) v.by) ∙ meets_it))
           (ap (rank_of b a (tile_seen v (place_named q))) key ∙ e)
 
   -- ---- the ranks of all layers
@@ -159,7 +159,7 @@ module _ (b : Borders) (a : Side) where
       by_first false e h f = let x = f h in (x.0, inr x.1, x.2)
 
   -- two lists of ranks whose keys are apart
-  pub once_append : (rs ss : List Rank) → AreDistinct (map rank_key rs) → AreDistinct (map rank_key ss) → ((r s : Rank) → In r rs → In s ss → r.key ≡ s.key → ⊥) → AreDistinct (map rank_key (rs ++ ss))
+  pub once_append : (rs ss : List Rank) → AreDistinctKeys (map rank_key rs) → AreDistinctKeys (map rank_key ss) → ((r s : Rank) → In r rs → In s ss → r.key ≡ s.key → ⊥) → AreDistinctKeys (map rank_key (rs ++ ss))
   once_append [] ss d e f = e
   once_append (r ∷ rs) ss d e f = (is_false (has_key (map rank_key (rs ++ ss)) r.key) (λ h. apart (key_among (rs ++ ss) r.key h)), once_append rs ss d.1 e (λ x y i j. f x y (inr i) j))
     where
@@ -183,11 +183,11 @@ module _ (b : Borders) (a : Side) where
           by_or (inr j) = f r z (inl refl) j (sym k)
 
   -- the ranks of one layer
-  places_once : (v : SeenLayerModel) (ps : List Place) → AreApart ps → AreDistinct (map rank_key (filter_map (place_rank b a v) ps))
+  places_once : (v : SeenLayerModel) (ps : List Place) → AreApart ps → AreDistinctKeys (map rank_key (filter_map (place_rank b a v) ps))
   places_once v [] d = tt
   places_once v (p ∷ ps) d = by_rank (place_rank b a v p) refl (places_once v ps d.1)
     where
-      by_rank : (o : Option Rank) → place_rank b a v p ≡ o → AreDistinct (map rank_key (filter_map (place_rank b a v) ps)) → AreDistinct (map rank_key (cons_option o (filter_map (place_rank b a v) ps)))
+      by_rank : (o : Option Rank) → place_rank b a v p ≡ o → AreDistinctKeys (map rank_key (filter_map (place_rank b a v) ps)) → AreDistinctKeys (map rank_key (cons_option o (filter_map (place_rank b a v) ps)))
       by_rank None e rest = rest
       by_rank (Some r) e rest = (is_false (has_key (map rank_key (filter_map (place_rank b a v) ps)) r.key) (λ h. twice (key_among (filter_map (place_rank b a v) ps) r.key h)), rest)
         where
@@ -200,7 +200,7 @@ module _ (b : Borders) (a : Side) where
               let place : o ≡ p = λ n. record { x = (same n).x; y = (same n).y } in
               d.0 (subst (λ (x : Place). In x ps) place j)
 
-  pub flat_once : (vs : List SeenLayerModel) → HaveOwnIds vs → AreDistinct (map rank_key (flat_map (near_ranks b a) vs))
+  pub flat_once : (vs : List SeenLayerModel) → HaveOwnIds vs → AreDistinctKeys (map rank_key (flat_map (near_ranks b a) vs))
   flat_once [] o = tt
   flat_once (v ∷ vs) o =
       once_append (near_ranks b a v) (flat_map (near_ranks b a) vs) (places_once v (places_touching v.grid (shifted (area_near b) (back v.by))) (touching_apart v.grid (shifted (area_near b) (back v.by)))) (flat_once vs o.1)

@@ -16,7 +16,7 @@ use Rattle.tile_priority.specs.Ordered.{In}
 use Rattle.page_layers.specs.Layers.{PageLayer, has_id, parts_of}
 use Rattle.page_layers.specs.Pages.{Page}
 use Rattle.page_layers.specs.Refusals.{has_layer}
-use Rattle.page_layers.specs.Sound.{AreDistinct}
+use Rattle.page_layers.specs.Sound.{AreDistinctLayers}
 use Rattle.tile_visible.specs.Visible.{grid_of, put_layer, by_id, key_at, visible_places, visible_keys}
 use Rattle.tile_visible.proofs.SeenPlaces.{none_seen, touched_seen}
 use Rattle.model_history.specs.Tiles.{Tree, visible_in}
@@ -119,7 +119,7 @@ has_its_id l (k ∷ ks) (inr i) = by_test (k.id == l.id) (has_its_id l ks i)
     by_test true r = refl
     by_test false r = r
 
-found_by_id : (l : PageLayer) (ls : List PageLayer) → AreDistinct ls → In l ls → find (has_id l.id) ls ≡ Some l
+found_by_id : (l : PageLayer) (ls : List PageLayer) → AreDistinctLayers ls → In l ls → find (has_id l.id) ls ≡ Some l
 found_by_id l [] d i = absurd i
 found_by_id l (k ∷ ks) d (inl e) =
     ap (λ (b : Bool). cond b (Some k) (find (has_id l.id) ks)) (is_same k.id l.id (ap (λ (z : PageLayer). z.id) (sym e))) ∙ ap Some (sym e)
@@ -168,7 +168,7 @@ visible_on_is t id l (Some k) (Some v) e f =
     some_same : {x y : PageLayer} → Some x ≡ Some y → x ≡ y
     some_same i = cc
 
-pub visible_is : (t : Tree) (r : SeenTreeModel) → AreDistinct t.page.layers → IsSeenTree t r → flat_map (visible_at r.layers) (by_id t.page.layers) ≡ visible_in t
+pub visible_is : (t : Tree) (r : SeenTreeModel) → AreDistinctLayers t.page.layers → IsSeenTree t r → flat_map (visible_at r.layers) (by_id t.page.layers) ≡ visible_in t
 unfolding visible_keys
 visible_is t r d is =
     flat_same (visible_at r.layers) (λ l. map (key_at t.stamp l.id) (visible_places t.page t.offset l)) (by_id t.page.layers)

@@ -14,7 +14,7 @@ abbrev pub area_near : Borders → Rect
 area_near b = inflated (b.eventually + 1) b.viewport
 
 -- a tile and its clip, which lies in the viewport; both sides of the tile are some pixels
-pub record IsNear (b : Borders) (seen : Seen) : Type 0 where
+pub record IsSeenNear (b : Borders) (seen : Seen) : Type 0 where
   pub wide : pos 0 <ℤ seen.screen.w
   pub tall : pos 0 <ℤ seen.screen.h
   pub inside : meets seen.screen seen.clip ≡ true → meets seen.screen b.viewport ≡ true

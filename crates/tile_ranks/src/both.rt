@@ -2,7 +2,7 @@
 
 ghost use Rattle.std.specs.Prelude.{◌≡◌, ◌++◌, filter_map, map, IfOk, option_copied};
 ghost use Rattle.geom.specs.Covers.{IsSound};
-ghost use Rattle.geom.specs.KeyLists.{has_key, AreDistinct};
+ghost use Rattle.geom.specs.KeyLists.{has_key, AreDistinctKeys};
 ghost use Rattle.tile_priority.specs.declared.rank.Rank.{Rank as RankModel};
 ghost use Rattle.tile_priority.specs.Ordered.{SameMembers};
 ghost use Rattle.model_history.specs.Tiles.{Tree, keys_of};
@@ -188,7 +188,7 @@ pub fn ranked(
     pending: Option<&SeenTree<'_>>,
 ) -> Result<Vec<Rank>, AllocError>
     ensures members { IfOk result (λ ranks. (a p : Tree) → IsSeenWhere a (option_copied active.entry) → IsSeenWhere p (option_copied pending.entry) → SameMembers ranks.items (filter_map (rank_in_both script.now a p) (keys_of a ++ keys_of p))) }
-    ensures once { IfOk result (λ ranks. (a p : Tree) → IsSeenWhere a (option_copied active.entry) → IsSeenWhere p (option_copied pending.entry) → AreDistinct (map (λ (r : RankModel). r.key) ranks.items)) }
+    ensures once { IfOk result (λ ranks. (a p : Tree) → IsSeenWhere a (option_copied active.entry) → IsSeenWhere p (option_copied pending.entry) → AreDistinctKeys (map (λ (r : RankModel). r.key) ranks.items)) }
 {
     script.is_accepted();
     is_page_where(active);

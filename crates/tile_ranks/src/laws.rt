@@ -16,12 +16,12 @@ ghost use Rattle.model_history.specs.Tiles.{Tree};
 ghost use Rattle.model_history.specs.Ranking.{borders, place_named, rank_in};
 ghost use Rattle.model_history.specs.Accepted.{IsAccepted};
 ghost use Rattle.page_layers.specs.Sound.{IsPage};
-ghost use Rattle.tile_ranks.specs.Areas.{area_near, IsNear};
+ghost use Rattle.tile_ranks.specs.Areas.{area_near, IsSeenNear};
 
 /// A tile that does not meet the area near the viewport has no bin: it is not visible, and it is further
 /// away than the eventually border.
 pub fn tiles_far_away_have_no_bin()
-    ensures { (b : Borders) (seen : Seen) → IsNear b seen → meets seen.screen (area_near b) ≡ false → bin_of b seen ≡ None }
+    ensures { (b : Borders) (seen : Seen) → IsSeenNear b seen → meets seen.screen (area_near b) ≡ false → bin_of b seen ≡ None }
 {}
 
 /// A key that has a rank in a tree names a place of one of its layers that meets the area near the

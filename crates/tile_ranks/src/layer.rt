@@ -6,7 +6,7 @@ ghost use Rattle.geom.specs.Covers.{IsSound};
 ghost use Rattle.geom.specs.Gaps.{shifted};
 ghost use Rattle.geom.specs.Grids as grids;
 ghost use Rattle.geom.specs.Grids.{places_touching};
-ghost use Rattle.geom.specs.Sides.{IsSide};
+ghost use Rattle.geom.specs.Sides.{IsLayerSide};
 ghost use Rattle.page_properties.specs.OffsetMap.{offset_at, AreOffsets};
 ghost use Rattle.page_properties.specs.Placement.{IsWithin};
 ghost use Rattle.page_layers.specs.Layers.{parts_of};
@@ -98,8 +98,8 @@ impl<'a> SeenLayer<'a> {
         tiling: &'a Tiling,
     ) -> SeenLayer<'a>
         requires offsets { AreOffsets (offset_at offsets.now) }
-        requires wide { IsSide layer.now.w }
-        requires tall { IsSide layer.now.h }
+        requires wide { IsLayerSide layer.now.w }
+        requires tall { IsLayerSide layer.now.h }
         requires cut { tiling.now.grid ≡ visible.grid_of page.now (parts_of layer.now) }
         ensures seen { IsSeenIn page.now (offset_at offsets.now) (parts_of layer.now) result }
         ensures stamps { result.stamps ≡ tiling.now }

@@ -8,7 +8,7 @@ use Rattle.pixel.specs.Colours.{Parts}
 use Rattle.page_display_list.specs.declared.Item.{Item}
 use Rattle.page_display_list.specs.Bitmaps.{near}
 use Rattle.page_display_list.specs.Content.{content}
-use Rattle.tile_raster.specs.Images.{Image, shown, IsOneColour, ShowAlike}
+use Rattle.tile_raster.specs.Images.{Image, list_colour, IsOneColour, ShowAlike}
 use Rattle.tile_raster.specs.inner.Bands.{AreKept}
 
 -- a count that is not negative
@@ -27,7 +27,7 @@ place_in at len p h =
     (omega (arith, ints), omega (arith, ints))
 
 -- lists that show the same in each column of each row show the same at each point
-alike : (r : Rect) (is js : List Item) → ((x y : ℕ) → x < near r.w → y < near r.h → shown is r x y ≡ shown js r x y) → ShowAlike r is js
+alike : (r : Rect) (is js : List Item) → ((x y : ℕ) → x < near r.w → y < near r.h → list_colour is r x y ≡ list_colour js r x y) → ShowAlike r is js
 alike r is js same x y h =
     let k = both _ _ h in
     let column = place_in r.x r.w x k.0 in

@@ -9,12 +9,12 @@ use Rattle.geom.proofs.Spans.{same_test}
 use Rattle.pixel.specs.declared.Area.{Area}
 use Rattle.pixel.specs.Colours.{Parts, blend}
 use Rattle.pixel.specs.Rows.{pixel}
-use Rattle.pixel.specs.Surfaces.{holds, within, EachPixel, IsInside}
+use Rattle.pixel.specs.Surfaces.{holds, within_rows, EachPixel, IsInside}
 use Rattle.page_display_list.specs.declared.Item.{Item}
 use Rattle.page_display_list.specs.declared.item.Item.TheVariants as kind
-use Rattle.page_display_list.specs.declared.Part.{Part}
+use Rattle.page_display_list.specs.declared.CoveredArea.{CoveredArea}
 use Rattle.page_display_list.specs.Bitmaps.{near, BitmapModel, bitmap_pixel}
-use Rattle.page_display_list.specs.Content.{rect_of, painted}
+use Rattle.page_display_list.specs.Content.{rect_of_item, painted}
 use Rattle.page_display_list.specs.Shared.{IsShared}
 use Rattle.tile_raster.specs.inner.Bands.{IsLevel, AreSteps, IsCount, place_of, kept_area}
 use Rattle.tile_raster.proofs.Places.{step_of, place_is, place_below, rise_to, rise_past, places_climb}
@@ -53,33 +53,33 @@ same_columns false c d e f h = refl
 
 -- an item covers a column of two level rows alike
 alike : (item : Item) (r : Rect) (y x : ℕ) → IsLevel item r y → x < near r.w
-    → covers (rect_of item) (r.x +ℤ pos x) (r.y +ℤ pos y) ≡ covers (rect_of item) (r.x +ℤ pos x) (r.y +ℤ pos (y + 1))
+    → covers (rect_of_item item) (r.x +ℤ pos x) (r.y +ℤ pos y) ≡ covers (rect_of_item item) (r.x +ℤ pos x) (r.y +ℤ pos (y + 1))
 alike (kind.Rect rect colour) r y x level lt = level x lt
 alike (kind.Bitmap picture) r y x level lt = let both = level x lt in both.0 ∙ sym both.1
 
 -- no row above the first of an area is level with it
-not_level_top : (item : Item) (r : Rect) (part : Part) (x t : ℕ) → IsShared (rect_of item) r part → x < near r.w → t + 1 < near r.h
+not_level_top : (item : Item) (r : Rect) (part : CoveredArea) (x t : ℕ) → IsShared (rect_of_item item) r part → x < near r.w → t + 1 < near r.h
     → part.at.x ≤ x → x < part.at.x + part.at.w → t + 1 ≡ part.at.y → 0 < part.at.h → IsLevel item r t → ⊥
 not_level_top item r part x t shared xw th left right top some level =
     let here = shared.points x (t + 1) xw th in
     let above = shared.points x t xw (omega arith) in
     let in_it = held part.at.x part.at.w part.at.y part.at.h x (t + 1) left right (omega arith) (omega arith) in
     let not_in = not_held_above part.at.x part.at.w part.at.y part.at.h x t (omega arith) in
-    true_is_false (covers (rect_of item) (r.x +ℤ pos x) (r.y +ℤ pos (t + 1))) (here ∙ in_it) (sym (alike item r t x level xw) ∙ above ∙ not_in)
+    true_is_false (covers (rect_of_item item) (r.x +ℤ pos x) (r.y +ℤ pos (t + 1))) (here ∙ in_it) (sym (alike item r t x level xw) ∙ above ∙ not_in)
 
 -- no row below the last is level with it
-not_level_end : (item : Item) (r : Rect) (part : Part) (x t : ℕ) → IsShared (rect_of item) r part → x < near r.w → t + 1 < near r.h
+not_level_end : (item : Item) (r : Rect) (part : CoveredArea) (x t : ℕ) → IsShared (rect_of_item item) r part → x < near r.w → t + 1 < near r.h
     → part.at.x ≤ x → x < part.at.x + part.at.w → t + 1 ≡ part.at.y + part.at.h → 0 < part.at.h → IsLevel item r t → ⊥
 not_level_end item r part x t shared xw th left right end some level =
     let here = shared.points x t xw (omega arith) in
     let below = shared.points x (t + 1) xw th in
     let in_it = held part.at.x part.at.w part.at.y part.at.h x t left right (omega arith) (omega arith) in
     let not_in = not_held_below part.at.x part.at.w part.at.y part.at.h x (t + 1) (omega arith) in
-    true_is_false (covers (rect_of item) (r.x +ℤ pos x) (r.y +ℤ pos t)) (here ∙ in_it) (alike item r t x level xw ∙ below ∙ not_in)
+    true_is_false (covers (rect_of_item item) (r.x +ℤ pos x) (r.y +ℤ pos t)) (here ∙ in_it) (alike item r t x level xw ∙ below ∙ not_in)
 
 -- the rows above an area have smaller places than its first
-above_top : (item : Item) (r : Rect) (part : Part) (places : List ℕ) (kept x y top : ℕ)
-    → AreSteps (IsLevel item r) (near r.h) places → IsCount places kept → IsShared (rect_of item) r part → x < near r.w
+above_top : (item : Item) (r : Rect) (part : CoveredArea) (places : List ℕ) (kept x y top : ℕ)
+    → AreSteps (IsLevel item r) (near r.h) places → IsCount places kept → IsShared (rect_of_item item) r part → x < near r.w
     → part.at.x ≤ x → x < part.at.x + part.at.w → 0 < part.at.h → top ≡ part.at.y → y < top
     → place_of places kept y < place_of places kept top
 above_top item r part places kept x y zero s last shared xw left right some e lt = absurd (omega arith)
@@ -92,8 +92,8 @@ above_top item r part places kept x y (suc t) s last shared xw left right some e
     subst (λ (n : ℕ). place_of places kept y < place_of places kept n) next up
 
 -- the rows of an area have smaller places than the row behind it
-before_end : (item : Item) (r : Rect) (part : Part) (places : List ℕ) (kept x y end : ℕ)
-    → AreSteps (IsLevel item r) (near r.h) places → IsCount places kept → IsShared (rect_of item) r part → x < near r.w
+before_end : (item : Item) (r : Rect) (part : CoveredArea) (places : List ℕ) (kept x y end : ℕ)
+    → AreSteps (IsLevel item r) (near r.h) places → IsCount places kept → IsShared (rect_of_item item) r part → x < near r.w
     → part.at.x ≤ x → x < part.at.x + part.at.w → 0 < part.at.h → end ≡ part.at.y + part.at.h → y < end
     → place_of places kept y < place_of places kept end
 before_end item r part places kept x y zero s last shared xw left right some e lt = absurd (omega arith)
@@ -106,8 +106,8 @@ before_end item r part places kept x y (suc t) s last shared xw left right some 
     subst (λ (n : ℕ). place_of places kept y < place_of places kept n) next up
 
 -- the rows that are kept of an area are those of its rows
-same_rows : (item : Item) (r : Rect) (part : Part) (places : List ℕ) (kept x y : ℕ)
-    → AreSteps (IsLevel item r) (near r.h) places → IsCount places kept → IsShared (rect_of item) r part → x < near r.w → y < near r.h
+same_rows : (item : Item) (r : Rect) (part : CoveredArea) (places : List ℕ) (kept x y : ℕ)
+    → AreSteps (IsLevel item r) (near r.h) places → IsCount places kept → IsShared (rect_of_item item) r part → x < near r.w → y < near r.h
     → part.at.x ≤ x → x < part.at.x + part.at.w → 0 < part.at.h
     → nat_le (place_of places kept part.at.y) (place_of places kept y) && nat_lt (place_of places kept y) (place_of places kept (part.at.y + part.at.h))
     ≡ nat_le part.at.y y && nat_lt y (part.at.y + part.at.h)
@@ -140,8 +140,8 @@ same_rows item r part places kept x y s last shared xw yh left right some =
 no_rows : (p q t y h : ℕ) → h ≡ 0 → nat_le p q && nat_lt q p ≡ nat_le t y && nat_lt y (t + h)
 no_rows p q t y h e = grind (arith, nat_tests)
 
-rows_or_none : (item : Item) (r : Rect) (part : Part) (places : List ℕ) (kept x y n : ℕ)
-    → AreSteps (IsLevel item r) (near r.h) places → IsCount places kept → IsShared (rect_of item) r part → x < near r.w → y < near r.h
+rows_or_none : (item : Item) (r : Rect) (part : CoveredArea) (places : List ℕ) (kept x y n : ℕ)
+    → AreSteps (IsLevel item r) (near r.h) places → IsCount places kept → IsShared (rect_of_item item) r part → x < near r.w → y < near r.h
     → n ≡ part.at.h → part.at.x ≤ x → x < part.at.x + part.at.w
     → nat_le (place_of places kept part.at.y) (place_of places kept y) && nat_lt (place_of places kept y) (place_of places kept (part.at.y + part.at.h))
     ≡ nat_le part.at.y y && nat_lt y (part.at.y + part.at.h)
@@ -155,9 +155,9 @@ rows_or_none item r part places kept x y (suc n) s last shared xw yh e left righ
 -- ---- what is drawn
 
 -- the area of the rows that are kept holds a pixel where the item covers it
-pub kept_holds : (item : Item) (r : Rect) (part : Part) (places : List ℕ) (kept x y : ℕ)
-    → AreSteps (IsLevel item r) (near r.h) places → IsCount places kept → IsShared (rect_of item) r part → x < near r.w → y < near r.h
-    → holds (kept_area part.at places kept) x (slice_index places y) ≡ covers (rect_of item) (r.x +ℤ pos x) (r.y +ℤ pos y)
+pub kept_holds : (item : Item) (r : Rect) (part : CoveredArea) (places : List ℕ) (kept x y : ℕ)
+    → AreSteps (IsLevel item r) (near r.h) places → IsCount places kept → IsShared (rect_of_item item) r part → x < near r.w → y < near r.h
+    → holds (kept_area part.at places kept) x (slice_index places y) ≡ covers (rect_of_item item) (r.x +ℤ pos x) (r.y +ℤ pos y)
 kept_holds item r part places kept x y s last shared xw yh =
     let a = part.at in
     let P = place_of places kept in
@@ -196,9 +196,9 @@ kept_height level rows width at places kept above height s last inside fit =
     omega (arith, few, fit)
 
 -- a rect of one colour
-pub colour_shown : (rect r : Rect) (part : Part) (c : Parts) (places old new : List ℕ) (kept : ℕ)
+pub colour_shown : (rect r : Rect) (part : CoveredArea) (c : Parts) (places old new : List ℕ) (kept : ℕ)
     → AreSteps (IsLevel (kind.Rect rect c) r) (near r.h) places → IsCount places kept → IsShared rect r part
-    → EachPixel (near r.w) kept (within (kept_area part.at places kept) (kept_area part.at places kept).h (λ x y below. blend below c)) old new
+    → EachPixel (near r.w) kept (within_rows (kept_area part.at places kept) (kept_area part.at places kept).h (λ x y below. blend below c)) old new
     → (x y : ℕ) → x < near r.w → y < near r.h
     → pixel new (slice_index places y * near r.w + x)
     ≡ painted (r.x +ℤ pos x) (r.y +ℤ pos y) (pixel old (slice_index places y * near r.w + x)) (kind.Rect rect c)
@@ -208,7 +208,7 @@ colour_shown rect r part c places old new kept s last shared each x y xw yh =
     ∙ ap (λ (b : Bool). cond b (blend before c) before) (kept_holds (kind.Rect rect c) r part places kept x y s last shared xw yh)
 
 -- the rows of a bitmap have places that follow one another
-picture_places : (p : BitmapModel) (r : Rect) (part : Part) (places : List ℕ) (kept x : ℕ)
+picture_places : (p : BitmapModel) (r : Rect) (part : CoveredArea) (places : List ℕ) (kept x : ℕ)
     → AreSteps (IsLevel (kind.Bitmap p) r) (near r.h) places → IsCount places kept → IsShared p.rect r part → x < near r.w
     → part.at.x ≤ x → x < part.at.x + part.at.w
     → (k : ℕ) → k < part.at.h → place_of places kept (part.at.y + k) ≡ place_of places kept part.at.y + k
@@ -247,7 +247,7 @@ where_true true c d below h = h refl
 where_true false c d below h = refl
 
 -- the pixel of a bitmap that is drawn at a place
-shown_pixel : (p : BitmapModel) (r : Rect) (part : Part) (places : List ℕ) (kept x y : ℕ)
+shown_pixel : (p : BitmapModel) (r : Rect) (part : CoveredArea) (places : List ℕ) (kept x y : ℕ)
     → AreSteps (IsLevel (kind.Bitmap p) r) (near r.h) places → IsCount places kept → IsShared p.rect r part → x < near r.w → y < near r.h
     → holds part.at x y ≡ true
     → pixel p.pixels ((slice_index places y - place_of places kept part.at.y + part.above) * near p.rect.w + (x - part.at.x + part.left))
@@ -268,10 +268,10 @@ shown_pixel p r part places kept x y s last shared xw yh h =
     ∙ ap (λ (n : ℕ). pixel p.pixels (near ((r.y +ℤ pos y) -ℤ p.rect.y) * near p.rect.w + n)) (sym (shared.column x left))
 
 -- a bitmap
-pub picture_shown : (p : BitmapModel) (r : Rect) (part : Part) (places old new : List ℕ) (kept : ℕ)
+pub picture_shown : (p : BitmapModel) (r : Rect) (part : CoveredArea) (places old new : List ℕ) (kept : ℕ)
     → AreSteps (IsLevel (kind.Bitmap p) r) (near r.h) places → IsCount places kept → IsShared p.rect r part
     → EachPixel (near r.w) kept
-    (within (kept_area part.at places kept) (kept_area part.at places kept).h
+    (within_rows (kept_area part.at places kept) (kept_area part.at places kept).h
     (λ x y below. blend below (pixel p.pixels ((y - place_of places kept part.at.y + part.above) * near p.rect.w + (x - part.at.x + part.left))))) old new
     → (x y : ℕ) → x < near r.w → y < near r.h
     → pixel new (slice_index places y * near r.w + x)

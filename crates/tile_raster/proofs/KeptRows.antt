@@ -9,7 +9,7 @@ use Rattle.pixel.specs.Colours.{Parts}
 use Rattle.pixel.specs.Rows.{pixel, ArePremultiplied}
 use Rattle.page_display_list.specs.declared.Item.{Item}
 use Rattle.page_display_list.specs.Bitmaps.{near}
-use Rattle.tile_raster.specs.Images.{shown, IsRow, HasTwoColours, row_bytes}
+use Rattle.tile_raster.specs.Images.{list_colour, IsRow, HasTwoColours, row_bytes}
 use Rattle.tile_raster.specs.Images.{AreSameRows}
 use Rattle.tile_raster.specs.inner.Bands.{AreKept, IsEnd}
 use Rattle.tile_raster.proofs.RowBytes.{pixel_part, part_premultiplied}
@@ -43,7 +43,7 @@ row_length w p bytes fit = simp (length-take, length-drop) (omega (arith, clamps
 -- the rows of the pixels that all items were drawn into
 pub rows_kept : (list : List Item) (r : Rect) (places bytes : List ℕ) (kept : ℕ) → length places ≡ near r.h
     → ((y : ℕ) → y < near r.h → slice_index places y < kept) → length bytes ≡ 4 * (near r.w * kept) → ArePremultiplied bytes
-    → ((x y : ℕ) → x < near r.w → y < near r.h → pixel bytes (slice_index places y * near r.w + x) ≡ shown list r x y)
+    → ((x y : ℕ) → x < near r.w → y < near r.h → pixel bytes (slice_index places y * near r.w + x) ≡ list_colour list r x y)
     → AreKept list r places bytes
 rows_kept list r places bytes kept count low size ready pixels = record {
   count = count;
@@ -65,10 +65,10 @@ rows_kept list r places bytes kept count low size ready pixels = record {
 
 -- the rows of one place show the colour of the first
 pub same_colour : (list : List Item) (r : Rect) (places bytes : List ℕ) (y end : ℕ) (c : Parts) → AreKept list r places bytes
-    → IsEnd places y end → ((x j : ℕ) → x < near r.w → j < y → shown list r x j ≡ c) → ((x : ℕ) → x < near r.w → shown list r x y ≡ c)
-    → (x j : ℕ) → x < near r.w → j < end → shown list r x j ≡ c
+    → IsEnd places y end → ((x j : ℕ) → x < near r.w → j < y → list_colour list r x j ≡ c) → ((x : ℕ) → x < near r.w → list_colour list r x y ≡ c)
+    → (x j : ℕ) → x < near r.w → j < end → list_colour list r x j ≡ c
 same_colour list r places bytes y end c kept stop before here x j low lt =
-    elim (cases_lt j y) as (λ _. shown list r x j ≡ c) [
+    elim (cases_lt j y) as (λ _. list_colour list r x j ≡ c) [
       | inl less ↦ before x j low less
       | inr from ↦
           let some = stop.some in

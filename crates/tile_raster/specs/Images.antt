@@ -16,18 +16,18 @@ pub record Image : Type 0 where
   pub list : List Item
 
 -- the colour at column x and row y of a rect
-abbrev pub shown : List Item → Rect → ℕ → ℕ → Parts
-shown list r x y = content list (r.x +ℤ pos x) (r.y +ℤ pos y)
+abbrev pub list_colour : List Item → Rect → ℕ → ℕ → Parts
+list_colour list r x y = content list (r.x +ℤ pos x) (r.y +ℤ pos y)
 
 -- these bytes are row y of what the list shows on the rect
 pub record IsRow (list : List Item) (r : Rect) (y : ℕ) (bytes : List ℕ) : Type 0 where
   pub size : length bytes ≡ 4 * near r.w
-  pub pixels : (x : ℕ) → x < near r.w → pixel bytes x ≡ shown list r x y
+  pub pixels : (x : ℕ) → x < near r.w → pixel bytes x ≡ list_colour list r x y
   pub premultiplied : ArePremultiplied bytes
 
 -- each pixel has this colour
 abbrev pub IsOneColour : List Item → Rect → Parts → Type 0
-IsOneColour list r c = (x y : ℕ) → x < near r.w → y < near r.h → shown list r x y ≡ c
+IsOneColour list r c = (x y : ℕ) → x < near r.w → y < near r.h → list_colour list r x y ≡ c
 
 -- two pixels differ
 pub record HasTwoColours (list : List Item) (r : Rect) : Type 0 where
@@ -37,7 +37,7 @@ pub record HasTwoColours (list : List Item) (r : Rect) : Type 0 where
   pub other_x : ℕ
   pub other_y : ℕ
   pub other_inside : (other_x < near r.w) × (other_y < near r.h)
-  pub differ : shown list r x y ≢ shown list r other_x other_y
+  pub differ : list_colour list r x y ≢ list_colour list r other_x other_y
 
 -- row y of bytes whose rows are w pixels long
 abbrev pub row_bytes : ℕ → ℕ → List ℕ → List ℕ
@@ -45,7 +45,7 @@ row_bytes w y bytes = take (4 * w) (drop (4 * (w * y)) bytes)
 
 -- rows y and z of what the list shows on the rect are equal
 abbrev pub AreSameRows : List Item → Rect → ℕ → ℕ → Type 0
-AreSameRows list r y z = (x : ℕ) → x < near r.w → shown list r x y ≡ shown list r x z
+AreSameRows list r y z = (x : ℕ) → x < near r.w → list_colour list r x y ≡ list_colour list r x z
 
 -- two lists of items show the same at each point of a rect
 abbrev pub ShowAlike : Rect → List Item → List Item → Type 0

@@ -4,14 +4,14 @@ ghost use Rattle.std.specs.Prelude.{◌≡◌, ◌≢◌, ℕ, ◌+◌, ◌-◌,
 ghost use Rattle.geom.specs.Covers.{IsSound};
 ghost use Rattle.pixel.specs.Colours.{blend, clear};
 ghost use Rattle.pixel.specs.Rows.{pixel, ArePremultiplied};
-ghost use Rattle.pixel.specs.Surfaces.{IsInside, EachPixel, within};
+ghost use Rattle.pixel.specs.Surfaces.{IsInside, EachPixel, within_rows};
 ghost use Rattle.page_display_list.specs.Bitmaps.{near, has_sides};
 ghost use Rattle.page_display_list.specs.Content.{painted, IsSoundItem};
 ghost use Rattle.tile_raster.specs.inner.Bands.{IsLevel, AreLevel, AreSteps, AreKept, IsCount, place_of, kept_area};
 
 use crate::pixels::width_of;
 use geom::Rect;
-use page_display_list::{Bitmap, DisplayList, Item, Part, shared_part};
+use page_display_list::{Bitmap, DisplayList, Item, CoveredArea, shared_part};
 use pixel::{Area, Colour, colour_over_area, fill_area, image_over_area};
 
 /// Draws what the list shows on the rect into the rows that are kept, which are transparent before.
@@ -80,7 +80,7 @@ fn draw_colour(
     requires size { length bytes.old ≡ 4 * (width * kept) }
     requires inside { IsInside at width kept }
     requires room { 4 * width ≤ length scratch.old }
-    ensures pixels { EachPixel width kept (within at at.h (λ x y below. blend below colour)) bytes.old bytes.new }
+    ensures pixels { EachPixel width kept (within_rows at at.h (λ x y below. blend below colour)) bytes.old bytes.new }
     ensures premultiplied { ArePremultiplied bytes.old → ArePremultiplied bytes.new }
 {
     if colour.a() == 255 {
@@ -91,13 +91,13 @@ fn draw_colour(
 }
 
 // lays the part of a bitmap that the picture shows over an area of rows
-fn draw_bitmap(bytes: &mut [u8], width: usize, kept: usize, at: Area, bitmap: &Bitmap, part: Part)
+fn draw_bitmap(bytes: &mut [u8], width: usize, kept: usize, at: Area, bitmap: &Bitmap, part: CoveredArea)
     requires size { length bytes.old ≡ 4 * (width * kept) }
     requires inside { IsInside at width kept }
     requires columns { part.left + at.w ≤ near bitmap.now.rect.w }
     requires rows { part.above + at.h ≤ near bitmap.now.rect.h }
     ensures pixels { EachPixel width kept
-        (within at at.h (λ x y below. blend below
+        (within_rows at at.h (λ x y below. blend below
         (pixel bitmap.now.pixels ((y - at.y + part.above) * near bitmap.now.rect.w + (x - at.x + part.left)))))
         bytes.old bytes.new }
     ensures premultiplied { ArePremultiplied bytes.old → ArePremultiplied bytes.new }

@@ -7,7 +7,7 @@ ghost use Rattle.tile_raster.specs.Images.{Image, IsRow, IsOneColour, HasTwoColo
 ghost use Rattle.tile_raster.specs.Images.{AreSameRows, ShowAlike};
 
 use crate::pixels::{is_same_colour, one_colour, row_at, width_of};
-use crate::rows::{Rows, are_same_rows, end_of, kept_rows};
+use crate::picture_rows::{PictureRows, are_same_rows, end_of, kept_rows};
 use geom::{Rect, TileKey};
 use page_display_list::DisplayList;
 use pixel::Colour;
@@ -24,7 +24,7 @@ pub struct TileImage {
     // the colour of all pixels, where they have one
     solid: Option<Colour>,
     // the rows, of which equal ones that follow one another are kept once
-    rows: Rows,
+    rows: PictureRows,
 }
 
 impl Model for TileImage {

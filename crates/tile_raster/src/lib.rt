@@ -11,7 +11,7 @@ mod draw;
 mod image;
 mod job;
 mod pixels;
-mod rows;
+mod picture_rows;
 #[cfg(test)]
 mod tests;
 

@@ -7,7 +7,7 @@ ghost use Rattle.page_display_list.specs.Bitmaps.{near};
 ghost use Rattle.tile_raster.specs.Images.{IsRow, row_bytes};
 ghost use Rattle.tile_raster.specs.inner.Bands.{AreKept, AreEnds, IsSolid};
 
-use crate::rows::{Rows, end_of};
+use crate::picture_rows::{PictureRows, end_of};
 use geom::Rect;
 use page_display_list::DisplayList;
 use pixel::{Colour, colour_at};
@@ -23,7 +23,7 @@ pub(crate) fn row_at(bytes: &[u8], width: usize, place: usize) -> &[u8]
 }
 
 /// The colour of all pixels of a picture; None where two differ, and the transparent colour where there is no pixel.
-pub(crate) fn one_colour(list: &DisplayList, rect: Rect, rows: &Rows) -> Option<Colour>
+pub(crate) fn one_colour(list: &DisplayList, rect: Rect, rows: &PictureRows) -> Option<Colour>
     requires sound { IsSound rect }
     requires kept { AreKept list.now rect rows.now.places.items rows.now.bytes.items }
     requires ends { AreEnds rows.now.places.items rows.now.ends.items }
@@ -45,7 +45,7 @@ pub(crate) fn one_colour(list: &DisplayList, rect: Rect, rows: &Rows) -> Option<
 }
 
 // row y of the picture that shows this list on this rect
-fn row_of<'a>(_list: &DisplayList, rect: Rect, rows: &'a Rows, y: usize) -> &'a [u8]
+fn row_of<'a>(_list: &DisplayList, rect: Rect, rows: &'a PictureRows, y: usize) -> &'a [u8]
     requires sound { IsSound rect }
     requires kept { AreKept _list.now rect rows.now.places.items rows.now.bytes.items }
     requires inside { y < near rect.h }

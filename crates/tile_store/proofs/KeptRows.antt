@@ -9,7 +9,7 @@ use Rattle.std.specs.FinMap.{find}
 use Rattle.slab.specs.Slab.{Slab, get, slab_len, Updates}
 use Rattle.geom.specs.declared.tile.TileKey.{TileKey}
 use Rattle.geom.specs.KeyOrder.{key_cmp}
-use Rattle.tile_store.specs.declared.held.Held.{Held}
+use Rattle.tile_store.specs.declared.held.KeyedPlace.{KeyedPlace}
 use Rattle.tile_store.specs.declared.held.Tile.{Tile}
 use Rattle.tile_store.specs.inner.Rows.{if_live}
 use Rattle.tile_store.specs.inner.TileTables.{shown, rows, After, Rises, AreKept, AreSame, is_made, stays, marked}
@@ -17,36 +17,36 @@ use Rattle.tile_store.proofs.KeyOrders.{tied}
 use Rattle.tile_store.proofs.HeldLists.{split_before, split_after, find_after}
 use Rattle.tile_store.proofs.SlabRows.{Away, away_before, away_after, image_at, kept_parts}
 
-pub same_itself : (g : ℕ → Option Tile) (hs : List Held) → AreSame g g hs
+pub same_itself : (g : ℕ → Option Tile) (hs : List KeyedPlace) → AreSame g g hs
 same_itself g [] = tt
 same_itself g (h ∷ hs) = (refl, same_itself g hs)
 
-same_append : (g new : ℕ → Option Tile) (front back : List Held) → AreSame g new front → AreSame g new back → AreSame g new (front ++ back)
+same_append : (g new : ℕ → Option Tile) (front back : List KeyedPlace) → AreSame g new front → AreSame g new back → AreSame g new (front ++ back)
 same_append g new [] back a b = b
 same_append g new (h ∷ front) back a b = (a.0, same_append g new front back a.1 b)
 
-either : (p : ℕ) (h : Held) (hs : List Held) (b : Bool) → h.place ≢ p → Away p hs → Away p (cond b (h ∷ hs) hs)
+either : (p : ℕ) (h : KeyedPlace) (hs : List KeyedPlace) (b : Bool) → h.place ≢ p → Away p hs → Away p (cond b (h ∷ hs) hs)
 either p h hs true n a = (n, a)
 either p h hs false n a = a
 
-away_filter : (p : ℕ) (test : Held → Bool) (hs : List Held) → Away p hs → Away p (filter test hs)
+away_filter : (p : ℕ) (test : KeyedPlace → Bool) (hs : List KeyedPlace) → Away p hs → Away p (filter test hs)
 away_filter p test [] a = tt
 away_filter p test (h ∷ hs) a = either p h (filter test hs) (test h) a.0 (away_filter p test hs a.1)
 
 -- a place is emptied that none of these keys has
-same_after : (g now new : ℕ → Option Tile) (p : ℕ) (hs : List Held) → ((q : ℕ) → q ≢ p → new q ≡ now q) → Away p hs → AreSame g now hs → AreSame g new hs
+same_after : (g now new : ℕ → Option Tile) (p : ℕ) (hs : List KeyedPlace) → ((q : ℕ) → q ≢ p → new q ≡ now q) → Away p hs → AreSame g now hs → AreSame g new hs
 same_after g now new p [] others a s = tt
 same_after g now new p (h ∷ hs) others a s = (others h.place a.0 ∙ s.0, same_after g now new p hs others a.1 s.1)
 
 -- how far the walk has come
-pub record Walked (first : Slab Tile) (held : List Held) (tiles : Slab Tile) (now : List Held) (front at : ℕ) : Type 0 where
+pub record Walked (first : Slab Tile) (held : List KeyedPlace) (tiles : Slab Tile) (now : List KeyedPlace) (front at : ℕ) : Type 0 where
   pub walk : FiltersInPlace (stays (get first)) held now front at
   pub done : AreSame (get first) (get tiles) (filter (stays (get first)) (take at held))
   pub rest : AreSame (get first) (get tiles) (drop at held)
   pub fewer : slab_len tiles ≤ slab_len first
   pub capacity : tiles.capacity ≡ first.capacity
 
-module _ (first tiles : Slab Tile) (held now : List Held) (front at : ℕ) (w : Walked first held tiles now front at) (lt : at < length now) (one : Held) (is : one ≡ get_or now at one) where
+module _ (first tiles : Slab Tile) (held now : List KeyedPlace) (front at : ℕ) (w : Walked first held tiles now front at) (lt : at < length now) (one : KeyedPlace) (is : one ≡ get_or now at one) where
   in_range : at < length held
   in_range = omega (arith, w.walk.long)
 
@@ -125,10 +125,10 @@ same_both false x = refl
 
 -- the walk leaves the live keys and those without an image
 module _ (g : ℕ → Option Tile) (live : TileKey → Bool) where
-  abbrev walked : List Held → List Held
+  abbrev walked : List KeyedPlace → List KeyedPlace
   walked hs = filter (stays g) (map (marked live) hs)
 
-  pub find_walked : (q : TileKey) (hs : List Held) → Rises hs → find key_cmp q (rows g (walked hs)) ≡ if_live (live q) (find key_cmp q (rows g hs))
+  pub find_walked : (q : TileKey) (hs : List KeyedPlace) → Rises hs → find key_cmp q (rows g (walked hs)) ≡ if_live (live q) (find key_cmp q (rows g hs))
   find_walked q [] r = nothing (live q)
   find_walked q (h ∷ hs) r =
       pushed (stays g (marked live h))

@@ -4,34 +4,34 @@ use Rattle.std.proofs.lemmas.List.{take-append-drop, map-append}
 use Rattle.std.specs.Ordering.{eq_by_cmp, is_eq}
 use Rattle.geom.specs.declared.tile.TileKey.{TileKey}
 use Rattle.geom.specs.KeyOrder.{key_cmp}
-use Rattle.tile_store.specs.declared.held.Held.{Held}
+use Rattle.tile_store.specs.declared.held.KeyedPlace.{KeyedPlace}
 use Rattle.tile_store.specs.inner.TileTables.{Before, After, Rises, StandsAt, IsGapFor, marked, marked_one, mark_of}
 use Rattle.tile_store.proofs.KeyOrders.{flips, tie}
 use Rattle.geom.specs.KeyLists.{has_key}
 use Rattle.geom.proofs.KeyLists.{has_key_more}
 
 -- another key keeps its mark
-alike : (k : TileKey) (live : Bool) (h : Held) → eq_by_cmp key_cmp h.key k ≡ false → marked_one k live h ≡ h
+alike : (k : TileKey) (live : Bool) (h : KeyedPlace) → eq_by_cmp key_cmp h.key k ≡ false → marked_one k live h ≡ h
 alike k live h e = let same : cond (eq_by_cmp key_cmp h.key k) live h.live ≡ h.live = ap (λ b. cond b live h.live) e in λ i. record h { live = same i }
 
-before_alike : (k : TileKey) (live : Bool) (hs : List Held) → Before k hs → map (marked_one k live) hs ≡ hs
+before_alike : (k : TileKey) (live : Bool) (hs : List KeyedPlace) → Before k hs → map (marked_one k live) hs ≡ hs
 before_alike k live [] b = refl
 before_alike k live (h ∷ hs) b = λ i. alike k live h (ap is_eq b.0) i ∷ before_alike k live hs b.1 i
 
-after_alike : (k : TileKey) (live : Bool) (hs : List Held) → After k hs → map (marked_one k live) hs ≡ hs
+after_alike : (k : TileKey) (live : Bool) (hs : List KeyedPlace) → After k hs → map (marked_one k live) hs ≡ hs
 after_alike k live [] a = refl
 after_alike k live (h ∷ hs) a = λ i. alike k live h (ap is_eq (flips k h.key a.0)) i ∷ after_alike k live hs a.1 i
 
-set_cut : (xs : List Held) (i : ℕ) (v : Held) → i < length xs → set xs i v ≡ take i xs ++ v ∷ drop (suc i) xs
+set_cut : (xs : List KeyedPlace) (i : ℕ) (v : KeyedPlace) → i < length xs → set xs i v ≡ take i xs ++ v ∷ drop (suc i) xs
 set_cut [] i v lt = absurd (omega arith)
 set_cut (x ∷ xs) zero v lt = refl
 set_cut (x ∷ xs) (suc i) v lt = ap (λ l. x ∷ l) (set_cut xs i v (omega arith))
 
 -- a mark at the index of a key
-pub mark_here : (held : List Held) (key : TileKey) (live : Bool) (at : ℕ) (here : StandsAt held key at) → set held at (record here.one { live = live }) ≡ map (marked_one key live) held
+pub mark_here : (held : List KeyedPlace) (key : TileKey) (live : Bool) (at : ℕ) (here : StandsAt held key at) → set held at (record here.one { live = live }) ≡ map (marked_one key live) held
 mark_here held key live at here =
-    let front : List Held = take at held in
-    let back : List Held = drop (suc at) held in
+    let front : List KeyedPlace = take at held in
+    let back : List KeyedPlace = drop (suc at) held in
     let one = here.one in
     let on : live ≡ cond (eq_by_cmp key_cmp one.key key) live one.live = sym (ap (λ b. cond b live one.live) (tie one.key key here.is_key)) in
     set_cut held at (record one { live = live }) here.in_range
@@ -40,7 +40,7 @@ mark_here held key live at here =
     ∙ ap (map (marked_one key live)) (ap (λ l. front ++ l) (sym here.here) ∙ take-append-drop at held)
 
 -- no mark for a key that is not there
-pub mark_nowhere : (held : List Held) (key : TileKey) (live : Bool) (at : ℕ) → IsGapFor held key at → held ≡ map (marked_one key live) held
+pub mark_nowhere : (held : List KeyedPlace) (key : TileKey) (live : Bool) (at : ℕ) → IsGapFor held key at → held ≡ map (marked_one key live) held
 mark_nowhere held key live at gap =
     sym (ap (map (marked_one key live)) (sym (take-append-drop at held))
     ∙ map-append (marked_one key live) (take at held) (drop at held)
@@ -48,11 +48,11 @@ mark_nowhere held key live at gap =
     ∙ take-append-drop at held)
 
 -- marks leave the keys in their order
-after_marked : (k : TileKey) (live : TileKey → Bool) (hs : List Held) → After k hs → After k (map (marked live) hs)
+after_marked : (k : TileKey) (live : TileKey → Bool) (hs : List KeyedPlace) → After k hs → After k (map (marked live) hs)
 after_marked k live [] a = tt
 after_marked k live (h ∷ hs) a = (a.0, after_marked k live hs a.1)
 
-pub rises_marked : (live : TileKey → Bool) (hs : List Held) → Rises hs → Rises (map (marked live) hs)
+pub rises_marked : (live : TileKey → Bool) (hs : List KeyedPlace) → Rises hs → Rises (map (marked live) hs)
 rises_marked live [] r = tt
 rises_marked live (h ∷ hs) r = (after_marked h.key live hs r.0, rises_marked live hs r.1)
 
@@ -63,7 +63,7 @@ named_more false true live = refl
 named_more false false live = refl
 
 -- one key more of the list
-pub marked_more : (keys : List TileKey) (live : Bool) (i : ℕ) (d : TileKey) (hs : List Held) → i < length keys
+pub marked_more : (keys : List TileKey) (live : Bool) (i : ℕ) (d : TileKey) (hs : List KeyedPlace) → i < length keys
     → map (marked_one (get_or keys i d) live) (map (marked (mark_of (take i keys) live)) hs) ≡ map (marked (mark_of (take (i + 1) keys) live)) hs
 marked_more keys live i d [] lt = refl
 marked_more keys live i d (h ∷ hs) lt =

@@ -9,7 +9,7 @@ use Rattle.std.specs.Cmp.{eq_by_cmp_equiv}
 use Rattle.geom.specs.declared.tile.TileKey.{TileKey}
 use Rattle.geom.specs.KeyOrder.{key_cmp}
 use Rattle.tile_raster.specs.Images.{Image}
-use Rattle.tile_store.specs.declared.held.Held.{Held}
+use Rattle.tile_store.specs.declared.held.KeyedPlace.{KeyedPlace}
 use Rattle.tile_store.specs.declared.held.Tile.{Tile}
 use Rattle.tile_store.specs.inner.TileTables.{shown, rows, Before, After, AreKept}
 use Rattle.geom.proofs.KeyOrders.{key_total, key_ties}
@@ -23,19 +23,19 @@ from_sorted_put k x es up = same_map key_total key_ties _ _ (λ q.
     ∙ sym (get-insert key_total (from_sorted es) k x q ∙ ap (cond (eq_by_cmp key_cmp q k) (Some x)) (get-from_sorted key_cmp es q up)))
 
 -- none of these keys has this place
-abbrev pub Away : ℕ → List Held → Type 0
+abbrev pub Away : ℕ → List KeyedPlace → Type 0
 Away p [] = Unit {0}
 Away p (h ∷ hs) = (h.place ≢ p) × Away p hs
 
-pub away_append : (p : ℕ) (front back : List Held) → Away p front → Away p back → Away p (front ++ back)
+pub away_append : (p : ℕ) (front back : List KeyedPlace) → Away p front → Away p back → Away p (front ++ back)
 away_append p [] back a b = b
 away_append p (h ∷ front) back a b = (a.0, away_append p front back a.1 b)
 
-pub kept_append : (g : ℕ → Option Tile) (front back : List Held) → AreKept g front → AreKept g back → AreKept g (front ++ back)
+pub kept_append : (g : ℕ → Option Tile) (front back : List KeyedPlace) → AreKept g front → AreKept g back → AreKept g (front ++ back)
 kept_append g [] back a b = b
 kept_append g (h ∷ front) back a b = (a.0, kept_append g front back a.1 b)
 
-pub kept_parts : (g : ℕ → Option Tile) (front back : List Held) → AreKept g (front ++ back) → AreKept g front × AreKept g back
+pub kept_parts : (g : ℕ → Option Tile) (front back : List KeyedPlace) → AreKept g (front ++ back) → AreKept g front × AreKept g back
 kept_parts g [] back k = (tt, k)
 kept_parts g (h ∷ front) back k = let later = kept_parts g front back k.1 in ((k.0, later.0), later.1)
 
@@ -44,33 +44,33 @@ abbrev key_at : (ℕ → Option Tile) → ℕ → Option TileKey
 key_at g p = option_map (λ t. t.key) (g p)
 
 -- an empty place is of no key, and a place is of one key
-pub away_vacant : (g : ℕ → Option Tile) (p : ℕ) (hs : List Held) → g p ≡ None → AreKept g hs → Away p hs
+pub away_vacant : (g : ℕ → Option Tile) (p : ℕ) (hs : List KeyedPlace) → g p ≡ None → AreKept g hs → Away p hs
 away_vacant g p [] v k = tt
 away_vacant g p (h ∷ hs) v k = (λ e. let n : key_at g p ≡ Some h.key = ap (key_at g) (sym e) ∙ k.0 in let m : key_at g p ≡ None = ap (option_map (λ t. t.key)) v in cc, away_vacant g p hs v k.1)
 
-pub away_before : (g : ℕ → Option Tile) (p : ℕ) (k : TileKey) (hs : List Held) → key_at g p ≡ Some k → Before k hs → AreKept g hs → Away p hs
+pub away_before : (g : ℕ → Option Tile) (p : ℕ) (k : TileKey) (hs : List KeyedPlace) → key_at g p ≡ Some k → Before k hs → AreKept g hs → Away p hs
 away_before g p k [] is b kept = tt
 away_before g p k (h ∷ hs) is b kept = (λ e. let n : key_at g p ≡ Some h.key = ap (key_at g) (sym e) ∙ kept.0 in apart h.key k b.0 (cc), away_before g p k hs is b.1 kept.1)
 
-pub away_after : (g : ℕ → Option Tile) (p : ℕ) (k : TileKey) (hs : List Held) → key_at g p ≡ Some k → After k hs → AreKept g hs → Away p hs
+pub away_after : (g : ℕ → Option Tile) (p : ℕ) (k : TileKey) (hs : List KeyedPlace) → key_at g p ≡ Some k → After k hs → AreKept g hs → Away p hs
 away_after g p k [] is a kept = tt
 away_after g p k (h ∷ hs) is a kept = (λ e. let n : key_at g p ≡ Some h.key = ap (key_at g) (sym e) ∙ kept.0 in apart k h.key a.0 (cc), away_after g p k hs is a.1 kept.1)
 
 -- the rows of keys that do not have the place at which the slab changes
 module _ (g new : ℕ → Option Tile) (p : ℕ) (others : (q : ℕ) → q ≢ p → new q ≡ g q) where
-  pub same_rows : (hs : List Held) → Away p hs → rows new hs ≡ rows g hs
+  pub same_rows : (hs : List KeyedPlace) → Away p hs → rows new hs ≡ rows g hs
   same_rows [] a = refl
   same_rows (h ∷ hs) a = λ i. (h.key, option_and_then shown (others h.place a.0 i)) ∷ same_rows hs a.1 i
 
-  pub same_kept : (hs : List Held) → Away p hs → AreKept g hs → AreKept new hs
+  pub same_kept : (hs : List KeyedPlace) → Away p hs → AreKept g hs → AreKept new hs
   same_kept [] a k = tt
   same_kept (h ∷ hs) a k = (ap (option_map (λ t. t.key)) (others h.place a.0) ∙ k.0, same_kept hs a.1 k.1)
 
 -- what a held key shows
-abbrev pub image_at : (ℕ → Option Tile) → Held → Option Image
+abbrev pub image_at : (ℕ → Option Tile) → KeyedPlace → Option Image
 image_at g h = option_and_then shown (g h.place)
 
-rows_cut : (g : ℕ → Option Tile) (front rest : List Held) → rows g (front ++ rest) ≡ rows g front ++ rows g rest
+rows_cut : (g : ℕ → Option Tile) (front rest : List KeyedPlace) → rows g (front ++ rest) ≡ rows g front ++ rows g rest
 rows_cut g front rest = map-append (row (image_at g)) front rest
 
 abbrev is_other : TileKey → TileKey → Bool
@@ -80,7 +80,7 @@ others_here : (k : TileKey) (x : Option Image) (rest : List (TileKey × Option I
 others_here k x rest = rw (ties_itself k) refl
 
 -- one key, and those before and behind it
-module _ (g new : ℕ → Option Tile) (front back : List Held) (one : Held) (others : (q : ℕ) → q ≢ one.place → new q ≡ g q)
+module _ (g new : ℕ → Option Tile) (front back : List KeyedPlace) (one : KeyedPlace) (others : (q : ℕ) → q ≢ one.place → new q ≡ g q)
     (before : Before one.key front) (after : After one.key back) where
   both_sides : Away one.place front → Away one.place back → (x : Option Image)
       → rows new front ++ (one.key, x) ∷ rows new back ≡ rows g front ++ (one.key, x) ∷ rows g back
@@ -149,12 +149,12 @@ module _ (g new : ℕ → Option Tile) (front back : List Held) (one : Held) (ot
       (same_kept g new one.place others back away.1 parts.1.1)
 
 -- a key that does not stand among these is not found
-pub found_gap : (g : ℕ → Option Tile) (k : TileKey) (front back : List Held) → Before k front → After k back → find key_cmp k (rows g (front ++ back)) ≡ None
+pub found_gap : (g : ℕ → Option Tile) (k : TileKey) (front back : List KeyedPlace) → Before k front → After k back → find key_cmp k (rows g (front ++ back)) ≡ None
 found_gap g k front back b a =
     ap (find key_cmp k) (rows_cut g front back) ∙ find_before (image_at g) k front (rows g back) b ∙ find_after (image_at g) k back a
 
 -- a key that stands among these is found with what it shows
-pub found_here : (g : ℕ → Option Tile) (front back : List Held) (one : Held) → Before one.key front
+pub found_here : (g : ℕ → Option Tile) (front back : List KeyedPlace) (one : KeyedPlace) → Before one.key front
     → find key_cmp one.key (rows g (front ++ one ∷ back)) ≡ Some (image_at g one)
 found_here g front back one b =
     ap (find key_cmp one.key) (rows_cut g front (one ∷ back)) ∙ find_before (image_at g) one.key front (rows g (one ∷ back)) b

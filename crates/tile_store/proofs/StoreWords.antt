@@ -10,7 +10,7 @@ use Rattle.geom.specs.declared.tile.TileKey.{TileKey}
 use Rattle.geom.specs.KeyOrder.{key_cmp}
 use Rattle.tile_raster.specs.Images.{Image}
 use Rattle.tile_store.specs.Stores.{Store, image_of, is_in_flight, started, done_with, kept}
-use Rattle.geom.specs.KeyLists.{has_key, AreDistinct}
+use Rattle.geom.specs.KeyLists.{has_key, AreDistinctKeys}
 use Rattle.geom.proofs.KeyOrders.{key_total, key_ties}
 use Rattle.geom.proofs.KeyLists.{same_ties, has_key_ties}
 use Rattle.tile_store.proofs.Parts.{second, first, find_below}
@@ -32,7 +32,7 @@ module _ (s : Store) (spare : ℕ) (q : TileKey) where
   pub image_of-kept : (live : List TileKey) → image_of (kept s live spare) q ≡ cond (has_key live q) (image_of s q) None
   image_of-kept live = get-retain_keys s.ready (has_key live) q (λ x t. ap (has_key live) (sym (key_ties q x t)))
 
-pub len-from_list : (ks : List TileKey) → AreDistinct ks → set.len (set.from_list {R = key_cmp} ks) ≡ length ks
+pub len-from_list : (ks : List TileKey) → AreDistinctKeys ks → set.len (set.from_list {R = key_cmp} ks) ≡ length ks
 len-from_list [] n = set.len-empty key_cmp
 len-from_list (k ∷ ks) n =
     let fresh : set.contains (set.from_list {R = key_cmp} ks) k ≡ false = contains-from_list key_total ks k ∙ sym (has_key_ties ks k) ∙ n.0 in
@@ -42,7 +42,7 @@ len-from_list (k ∷ ks) n =
     ∙ omega (arith, rest)
 
 -- a set has as many keys as a list that has the same keys, each once
-pub len_by_names : (t : set.FinSet key_cmp) (ks : List TileKey) → AreDistinct ks → ((q : TileKey) → set.contains t q ≡ has_key ks q) → set.len t ≡ length ks
+pub len_by_names : (t : set.FinSet key_cmp) (ks : List TileKey) → AreDistinctKeys ks → ((q : TileKey) → set.contains t q ≡ has_key ks q) → set.len t ≡ length ks
 len_by_names t ks once same =
     ap set.len (same_set key_total key_ties t (set.from_list ks) (λ q. same q ∙ has_key_ties ks q ∙ sym (contains-from_list key_total ks q))) ∙ len-from_list ks once
 
@@ -55,12 +55,12 @@ module _ {X : Type 0} where
       by_tie true e rest = cc
       by_tie false e rest = rest e
 
-  once_sorted : (es : List (TileKey × X)) → T (is_sorted key_cmp es) → AreDistinct (map (λ e. e.0) es)
+  once_sorted : (es : List (TileKey × X)) → T (is_sorted key_cmp es) → AreDistinctKeys (map (λ e. e.0) es)
   once_sorted [] h = tt
   once_sorted (e ∷ es) h = (found_keys e.0 es (find_below e.0 es (first _ _ h)), once_sorted es (second _ _ h))
 
   -- a map has as many keys as a list that has the same keys, each once
-  pub map_len_by_names : (m : fin.FinMap key_cmp X) (ks : List TileKey) → AreDistinct ks → ((q : TileKey) → fin.contains_key m q ≡ has_key ks q) → fin.len m ≡ length ks
+  pub map_len_by_names : (m : fin.FinMap key_cmp X) (ks : List TileKey) → AreDistinctKeys ks → ((q : TileKey) → fin.contains_key m q ≡ has_key ks q) → fin.len m ≡ length ks
   map_len_by_names m ks once same =
       let keys : List TileKey = map (λ e. e.0) (entries m) in
       let here : set.len (set.from_list {R = key_cmp} keys) ≡ length keys = len-from_list keys (once_sorted (entries m) (entries_sorted m)) in

@@ -11,7 +11,7 @@ use Rattle.slab.specs.Slab.{Slab, get, Updates}
 use Rattle.geom.specs.declared.tile.TileKey.{TileKey}
 use Rattle.geom.specs.KeyOrder.{key_cmp}
 use Rattle.tile_raster.specs.Images.{Image}
-use Rattle.tile_store.specs.declared.held.Held.{Held}
+use Rattle.tile_store.specs.declared.held.KeyedPlace.{KeyedPlace}
 use Rattle.tile_store.specs.declared.held.Tile.{Tile}
 use Rattle.tile_store.specs.inner.TileTables.{shown, rows, Before, After, Rises, AreKept, HasTileOf, StandsAt, IsGapFor, IsTileTable}
 use Rattle.geom.proofs.KeyOrders.{key_total, key_ties}
@@ -20,21 +20,21 @@ use Rattle.tile_store.proofs.HeldLists.{sorted_rows, rises_with, rises_without}
 use Rattle.tile_store.proofs.SlabRows.{from_sorted_put, from_sorted_drop, image_at, rows_put, kept_put, rows_set, kept_set, rows_drop, kept_drop, found_gap, found_here, kept_parts}
 
 -- the map of what is held
-abbrev pub held_map : Slab Tile → List Held → fin.FinMap key_cmp (Option Image)
+abbrev pub held_map : Slab Tile → List KeyedPlace → fin.FinMap key_cmp (Option Image)
 held_map tiles held = from_sorted (rows (get tiles) held)
 
 pub from_nothing : {X : Type 0} → from_sorted {X = X} {R = key_cmp} [] ≡ fin.empty
 from_nothing = same_map key_total key_ties _ _ (λ q. get-from_sorted key_cmp [] q tt ∙ sym (get-empty key_cmp q))
 
-pub sorted : (tiles : Slab Tile) (held : List Held) → Rises held → T (is_sorted key_cmp (rows (get tiles) held))
+pub sorted : (tiles : Slab Tile) (held : List KeyedPlace) → Rises held → T (is_sorted key_cmp (rows (get tiles) held))
 sorted tiles held r = sorted_rows (image_at (get tiles)) held r
 
-pub len_held : (tiles : Slab Tile) (held : List Held) → Rises held → fin.len (held_map tiles held) ≡ length held
+pub len_held : (tiles : Slab Tile) (held : List KeyedPlace) → Rises held → fin.len (held_map tiles held) ≡ length held
 len_held tiles held r =
     len-entries (held_map tiles held) ∙ ap length (entries-from_sorted key_cmp (rows (get tiles) held) (sorted tiles held r)) ∙ length-map held (λ h. (h.key, image_at (get tiles) h))
 
 -- what is found at an index, and at a gap
-pub found_at : (tiles : Slab Tile) (held : List Held) (key : TileKey) (at : ℕ) (here : StandsAt held key at) → Rises held
+pub found_at : (tiles : Slab Tile) (held : List KeyedPlace) (key : TileKey) (at : ℕ) (here : StandsAt held key at) → Rises held
     → fin.get (held_map tiles held) key ≡ Some (option_and_then shown (get tiles here.one.place))
 found_at tiles held key at here r =
     let whole : held ≡ take at held ++ here.one ∷ drop (suc at) held = sym (take-append-drop at held) ∙ ap (λ l. take at held ++ l) here.here in
@@ -44,20 +44,20 @@ found_at tiles held key at here r =
     ∙ ap (λ k. fin.find key_cmp k (rows (get tiles) (take at held ++ here.one ∷ drop (suc at) held))) (sym here.is_key)
     ∙ found_here (get tiles) (take at held) (drop (suc at) held) here.one before
 
-pub not_found : (tiles : Slab Tile) (held : List Held) (key : TileKey) (at : ℕ) → IsGapFor held key at → Rises held → fin.get (held_map tiles held) key ≡ None
+pub not_found : (tiles : Slab Tile) (held : List KeyedPlace) (key : TileKey) (at : ℕ) → IsGapFor held key at → Rises held → fin.get (held_map tiles held) key ≡ None
 not_found tiles held key at gap r =
     get-from_sorted key_cmp (rows (get tiles) held) key (sorted tiles held r)
     ∙ ap (λ l. fin.find key_cmp key (rows (get tiles) l)) (sym (take-append-drop at held))
     ∙ found_gap (get tiles) key (take at held) (drop at held) gap.before gap.after
 
 -- a key comes to an empty place
-pub put : (old new : Slab Tile) (held : List Held) (at : ℕ) (one : Held) (tile : Tile)
+pub put : (old new : Slab Tile) (held : List KeyedPlace) (at : ℕ) (one : KeyedPlace) (tile : Tile)
     → IsTileTable old held → IsGapFor held one.key at → length held < 4294967295
     → get old one.place ≡ None → Updates old new one.place (Some tile) → tile.key ≡ one.key
     → IsTileTable new (insert held at one) × (held_map new (insert held at one) ≡ fin.insert (held_map old held) one.key (shown tile))
 put old new held at one tile table gap few vacant up is_key =
-    let front : List Held = take at held in
-    let back : List Held = drop at held in
+    let front : List KeyedPlace = take at held in
+    let back : List KeyedPlace = drop at held in
     let whole : front ++ back ≡ held = take-append-drop at held in
     let rises = subst Rises (sym whole) table.rises in
     let kept = subst (AreKept (get old)) (sym whole) table.kept in
@@ -75,7 +75,7 @@ put old new held at one tile table gap few vacant up is_key =
           ∙ ap (λ x. fin.insert (held_map old held) one.key (option_and_then shown x)) up.changed,
     )
 
-module _ (old new : Slab Tile) (held : List Held) (key : TileKey) (at : ℕ) (table : IsTileTable old held) (here : StandsAt held key at) where
+module _ (old new : Slab Tile) (held : List KeyedPlace) (key : TileKey) (at : ℕ) (table : IsTileTable old held) (here : StandsAt held key at) where
   whole : take at held ++ here.one ∷ drop (suc at) held ≡ held
   whole = ap (λ l. take at held ++ l) (sym here.here) ∙ take-append-drop at held
 
@@ -95,8 +95,8 @@ module _ (old new : Slab Tile) (held : List Held) (key : TileKey) (at : ℕ) (ta
   pub set : (tile : Tile) → Updates old new here.one.place (Some tile) → tile.key ≡ key
       → IsTileTable new held × (held_map new held ≡ fin.insert (held_map old held) key (shown tile))
   set tile up is_key =
-      let front : List Held = take at held in
-      let back : List Held = drop (suc at) held in
+      let front : List KeyedPlace = take at held in
+      let back : List KeyedPlace = drop (suc at) held in
       let one = here.one in
       let named : option_map (λ (t : Tile). t.key) (get new one.place) ≡ Some one.key = ap (option_map (λ (t : Tile). t.key)) up.changed ∙ ap (λ k. Some k) (is_key ∙ sym here.is_key) in
       let list = rows_set (get old) (get new) front back one up.others before after kept in (
@@ -117,8 +117,8 @@ module _ (old new : Slab Tile) (held : List Held) (key : TileKey) (at : ℕ) (ta
   pub drop_one : Updates old new here.one.place None
       → IsTileTable new (remove held at) × (held_map new (remove held at) ≡ fin.remove (held_map old held) key)
   drop_one up =
-      let front : List Held = take at held in
-      let back : List Held = drop (suc at) held in
+      let front : List KeyedPlace = take at held in
+      let back : List KeyedPlace = drop (suc at) held in
       let one = here.one in
       let list = rows_drop (get old) (get new) front back one up.others before after kept in (
         record {
@@ -133,11 +133,11 @@ module _ (old new : Slab Tile) (held : List Held) (key : TileKey) (at : ℕ) (ta
       )
 
 -- the element at the index of a key
-pub one_is : (held : List Held) (key : TileKey) (at : ℕ) (here : StandsAt held key at) (d : Held) → get_or held at d ≡ here.one
+pub one_is : (held : List KeyedPlace) (key : TileKey) (at : ℕ) (here : StandsAt held key at) (d : KeyedPlace) → get_or held at d ≡ here.one
 one_is held key at here d = sym (get_or-drop at held 0 d ∙ ap (λ n. get_or held n d) (omega arith)) ∙ ap (λ l. get_or l 0 d) here.here
 
 -- its place has its tile
-pub tile_at : (tiles : Slab Tile) (held : List Held) (key : TileKey) (at : ℕ) → IsTileTable tiles held → (here : StandsAt held key at) → HasTileOf (get tiles) here.one.place key
+pub tile_at : (tiles : Slab Tile) (held : List KeyedPlace) (key : TileKey) (at : ℕ) → IsTileTable tiles held → (here : StandsAt held key at) → HasTileOf (get tiles) here.one.place key
 tile_at tiles held key at table here =
     let whole : held ≡ take at held ++ here.one ∷ drop (suc at) held = sym (take-append-drop at held) ∙ ap (λ l. take at held ++ l) here.here in
     (kept_parts (get tiles) (take at held) (here.one ∷ drop (suc at) held) (subst (AreKept (get tiles)) whole table.kept)).1.0 ∙ ap (λ k. Some k) here.is_key
@@ -151,7 +151,7 @@ gotten (Some y) None key is has = cc
 gotten (Some y) (Some z) key is has = let e : y.now ≡ z = cc in ap (λ t. Some (shown t)) e
 
 -- an insert that succeeds
-pub inserted : (b : Bool) (xs ys zs : List Held) → zs ≡ cond b xs ys → b ≡ true → zs ≡ xs
+pub inserted : (b : Bool) (xs ys zs : List KeyedPlace) → zs ≡ cond b xs ys → b ≡ true → zs ≡ xs
 inserted true xs ys zs is e = is
 inserted false xs ys zs is e = cc
 

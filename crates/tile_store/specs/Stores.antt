@@ -38,14 +38,14 @@ abbrev pub is_in_flight : Store → TileKey → Bool
 is_in_flight s k = set.contains s.in_flight k
 
 -- how many keys are ready or in flight
-abbrev pub used : Store → ℕ
-used s = map.len s.ready + set.len s.in_flight
+abbrev pub store_used : Store → ℕ
+store_used s = map.len s.ready + set.len s.in_flight
 
 -- no key is held
 abbrev pub empty_store : ℕ → Store
 empty_store spare = record { ready = map.empty; in_flight = set.empty; spare = spare }
 
--- the key may start where these keys are given up for it
+-- the key may start where these keys are evicted for it
 pub record MayStart (s : Store) (key : TileKey) (evicted : List TileKey) : Type 0 where
   pub room : 1 ≤ s.spare
   pub not_ready : is_ready s key ≡ false

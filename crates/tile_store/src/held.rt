@@ -13,7 +13,7 @@ pub(crate) struct Tile {
 
 /// A key and the place of its tile.
 #[derive(Clone, Copy)]
-pub(crate) struct Held {
+pub(crate) struct KeyedPlace {
     pub(crate) key: TileKey,
     /// the place in the slab
     pub(crate) place: usize,

@@ -2,7 +2,7 @@
 
 ghost use Rattle.std.specs.Prelude.{◌≡◌, ◌∷◌, [], IsNone, IfSome};
 
-use crate::held::{Held, Tile};
+use crate::held::{KeyedPlace, Tile};
 use crate::tiles::is_made;
 use geom::TileKey;
 use slab::Slab;
@@ -13,7 +13,7 @@ use std::marker::Model;
 /// Contracts see the keys that are left.
 #[derive(Drop)]
 pub struct ReadyKeys<'a> {
-    pub(crate) rest: &'a [Held],
+    pub(crate) rest: &'a [KeyedPlace],
     pub(crate) tiles: &'a Slab<Tile>,
 }
 

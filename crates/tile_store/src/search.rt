@@ -3,12 +3,12 @@
 ghost use Rattle.std.specs.Prelude.{◌≡◌, ◌≤◌, true, length, take, drop, IfOk, IfErr};
 ghost use Rattle.tile_store.specs.inner.TileTables.{Before, After, Rises, StandsAt, IsGapFor};
 
-use crate::held::Held;
+use crate::held::KeyedPlace;
 use geom::TileKey;
 use std::cmp::Ordering;
 
 /// The index of the key; an error is where it would go.
-pub(crate) fn search(held: &[Held], key: TileKey) -> Result<usize, usize>
+pub(crate) fn search(held: &[KeyedPlace], key: TileKey) -> Result<usize, usize>
     requires { Rises held.now }
     ensures found { IfOk result (StandsAt held.now key) }
     ensures absent { IfErr result (IsGapFor held.now key) }
@@ -17,7 +17,7 @@ pub(crate) fn search(held: &[Held], key: TileKey) -> Result<usize, usize>
 }
 
 // Whether the key stands at this index.
-fn is_at(held: &[Held], at: usize, key: TileKey) -> bool
+fn is_at(held: &[KeyedPlace], at: usize, key: TileKey) -> bool
     requires { Rises held.now }
     ensures { result ≡ true → StandsAt held.now key at }
 {
@@ -28,7 +28,7 @@ fn is_at(held: &[Held], at: usize, key: TileKey) -> bool
 }
 
 // Whether the keys before this index are below the key, which the last of them tells.
-fn are_below(held: &[Held], at: usize, key: TileKey) -> bool
+fn are_below(held: &[KeyedPlace], at: usize, key: TileKey) -> bool
     requires { Rises held.now }
     ensures bound { result ≡ true → at ≤ length held.now }
     ensures before { result ≡ true → Before key (take at held.now) }
@@ -43,7 +43,7 @@ fn are_below(held: &[Held], at: usize, key: TileKey) -> bool
 }
 
 // Whether the keys from this index on are above the key, which the first of them tells.
-fn are_above(held: &[Held], at: usize, key: TileKey) -> bool
+fn are_above(held: &[KeyedPlace], at: usize, key: TileKey) -> bool
     requires { Rises held.now }
     ensures { result ≡ true → After key (drop at held.now) }
 {
@@ -54,7 +54,7 @@ fn are_above(held: &[Held], at: usize, key: TileKey) -> bool
 }
 
 // Whether the key is seen to be missing: it would go to this index.
-fn is_gap(held: &[Held], at: usize, key: TileKey) -> bool
+fn is_gap(held: &[KeyedPlace], at: usize, key: TileKey) -> bool
     requires { Rises held.now }
     ensures { result ≡ true → IsGapFor held.now key at }
 {
@@ -62,7 +62,7 @@ fn is_gap(held: &[Held], at: usize, key: TileKey) -> bool
 }
 
 /// The same; a key that stands at index `near`, or would go there, is found without a search.
-pub(crate) fn search_near(held: &[Held], near: usize, key: TileKey) -> Result<usize, usize>
+pub(crate) fn search_near(held: &[KeyedPlace], near: usize, key: TileKey) -> Result<usize, usize>
     requires { Rises held.now }
     ensures found { IfOk result (StandsAt held.now key) }
     ensures absent { IfErr result (IsGapFor held.now key) }

@@ -2,7 +2,7 @@
 
 ghost use Rattle.std.specs.Prelude.{◌≡◌, ◌≤◌, ◌+◌, true, IfOk, OnOk, OnErr, option_map};
 ghost use Rattle.std.specs.FinMap as map;
-ghost use Rattle.tile_store.specs.Stores.{image_of, is_in_flight, used, empty_store, MayStart, started, done_with, kept};
+ghost use Rattle.tile_store.specs.Stores.{image_of, is_in_flight, store_used, empty_store, MayStart, started, done_with, kept};
 
 use crate::ready_keys::ReadyKeys;
 use crate::tile_table::TileTable;
@@ -141,7 +141,7 @@ impl TileStore {
 
     /// How many keys are ready or in flight.
     pub fn used(&self) -> u32
-        ensures { result ≡ used self.now }
+        ensures { result ≡ store_used self.now }
     {
         self.table.len()
     }

@@ -7,7 +7,7 @@ ghost use Rattle.geom.specs.KeyLists.{has_key};
 ghost use Rattle.tile_store.specs.inner.Rows.{ready_of, is_flying, if_live, if_not_named};
 ghost use Rattle.tile_store.specs.inner.TileTables.{shown, mark_of};
 
-use crate::held::{Held, Tile};
+use crate::held::{KeyedPlace, Tile};
 use crate::ready_keys::ReadyKeys;
 use crate::search::{search, search_near};
 use crate::tiles::{give, is_made};
@@ -30,7 +30,7 @@ const FEW: usize = 4;
 #[derive(Drop)]
 pub(crate) struct TileTable {
     // in the order of the keys
-    held: Vec<Held>,
+    held: Vec<KeyedPlace>,
     tiles: Slab<Tile>,
 }
 
@@ -125,7 +125,7 @@ impl TileTable {
     {
         if let Err(at) = search(&self.held, key) {
             let place = self.tiles.insert_reserved(Tile { key, image: None });
-            let one = Held {
+            let one = KeyedPlace {
                 key,
                 place,
                 live: false,

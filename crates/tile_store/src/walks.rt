@@ -4,14 +4,14 @@ ghost use Rattle.std.specs.Prelude.{◌≡◌, ◌≤◌, map, filter, take, len
 ghost use Rattle.slab.specs.Slab.{get, slab_len};
 ghost use Rattle.tile_store.specs.inner.TileTables.{Rises, AreKept, AreSame, marked, marked_one, mark_of, stays};
 
-use crate::held::{Held, Tile};
+use crate::held::{KeyedPlace, Tile};
 use crate::search::search_near;
 use crate::tiles::is_made;
 use geom::TileKey;
 use slab::Slab;
 
 /// Says of all keys alike whether they are live.
-fn mark_all(held: &mut [Held], live: bool)
+fn mark_all(held: &mut [KeyedPlace], live: bool)
     ensures { held.new ≡ map (marked (λ _. live)) held.old }
 {
     for one in held.iter_mut() {
@@ -21,7 +21,7 @@ fn mark_all(held: &mut [Held], live: bool)
 
 /// Says of this key whether it is live, where it is there. A key that stands at index `near` is found without a
 /// search, and `near` is then the index behind it.
-fn mark_one(held: &mut [Held], near: &mut usize, key: TileKey, live: bool)
+fn mark_one(held: &mut [KeyedPlace], near: &mut usize, key: TileKey, live: bool)
     requires { Rises held.old }
     ensures { held.new ≡ map (marked_one key live) held.old }
 {
@@ -33,7 +33,7 @@ fn mark_one(held: &mut [Held], near: &mut usize, key: TileKey, live: bool)
 
 /// Says of the keys of the list whether they are live, and of all others the opposite. Where the list stands in key
 /// order, most are found without a search.
-pub(crate) fn mark(held: &mut [Held], named: &[TileKey], live: bool)
+pub(crate) fn mark(held: &mut [KeyedPlace], named: &[TileKey], live: bool)
     requires { Rises held.old }
     ensures { held.new ≡ map (marked (mark_of named.now live)) held.old }
 {
@@ -45,7 +45,7 @@ pub(crate) fn mark(held: &mut [Held], named: &[TileKey], live: bool)
 }
 
 /// Whether the key is marked, or its image is being made.
-fn stays(tiles: &Slab<Tile>, one: Held) -> bool
+fn stays(tiles: &Slab<Tile>, one: KeyedPlace) -> bool
     ensures { result ≡ stays (get tiles.now) one }
 {
     one.live || !is_made(tiles, one.place)
@@ -53,7 +53,7 @@ fn stays(tiles: &Slab<Tile>, one: Held) -> bool
 
 /// Drops the tiles that have an image and whose keys are not marked; the other keys move to the front, and
 /// the answer is how many they are.
-pub(crate) fn drop_unmarked(held: &mut [Held], tiles: &mut Slab<Tile>) -> usize
+pub(crate) fn drop_unmarked(held: &mut [KeyedPlace], tiles: &mut Slab<Tile>) -> usize
     requires rises { Rises held.old }
     requires kept { AreKept (get tiles.old) held.old }
     ensures bound { result ≤ length held.new }

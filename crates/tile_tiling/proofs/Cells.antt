@@ -7,11 +7,11 @@ use Rattle.std.proofs.lemmas.List.{take_more, get_or-replicate, length-replicate
 use Rattle.std.proofs.lemmas.List.Folds.{list_any-append}
 use Rattle.geom.specs.declared.rect.Rect.{Rect}
 use Rattle.geom.specs.declared.tile.Place.{Place}
-use Rattle.geom.specs.declared.cut.Run.{Run}
-use Rattle.geom.specs.Common.{meets, nothing}
+use Rattle.geom.specs.declared.cut.IndexRange.{IndexRange}
+use Rattle.geom.specs.Common.{meets, empty_rect}
 use Rattle.geom.specs.Sides.{Sides}
-use Rattle.geom.specs.Grids.{has, tiles, rect_of}
-use Rattle.geom.specs.Runs.{IsMeeting}
+use Rattle.geom.specs.Grids.{has, tiles, rect_of_place}
+use Rattle.geom.specs.IndexRanges.{IsMeeting}
 use Rattle.geom.proofs.Spans.{same_test, both}
 use Rattle.geom.proofs.Meets.{meet_points, points_meet}
 use Rattle.region.specs.Points.{touched}
@@ -86,7 +86,7 @@ row_more old now from i stamp le lt w = record {
 
 -- rows of a block
 
-pub cells_none : (wide : ℕ) (xs : List ℕ) (columns : Run) (first stamp : ℕ) → WritesCells wide xs xs (λ x y. in_run columns x && (nat_le first y && nat_lt y first)) stamp
+pub cells_none : (wide : ℕ) (xs : List ℕ) (columns : IndexRange) (first stamp : ℕ) → WritesCells wide xs xs (λ x y. in_run columns x && (nat_le first y && nat_lt y first)) stamp
 cells_none wide xs columns first stamp = record { long = refl; each = λ x y lt. none x y }
   where
     none : (x y : ℕ) → get_or xs (y * wide + x) 0 ≡ cond (in_run columns x && (nat_le first y && nat_lt y first)) stamp (get_or xs (y * wide + x) 0)
@@ -108,7 +108,7 @@ one_row true first r y s o le = and_true (nat_eq y r) (cond (nat_le first y && n
     and_true true z = refl
     and_true false z = refl
 
-pub cells_more : (wide : ℕ) (old now new : List ℕ) (columns : Run) (first r stamp : ℕ) → first ≤ r → columns.end ≤ wide
+pub cells_more : (wide : ℕ) (old now new : List ℕ) (columns : IndexRange) (first r stamp : ℕ) → first ≤ r → columns.end ≤ wide
     → WritesCells wide old now (λ x y. in_run columns x && (nat_le first y && nat_lt y r)) stamp
     → WritesRow now new (r * wide + columns.first) (r * wide + columns.end) stamp
     → WritesCells wide old new (λ x y. in_run columns x && (nat_le first y && nat_lt y (r + 1))) stamp
@@ -135,8 +135,8 @@ places_of_cells g old new test of stamp same w = record {
 }
 
 -- the places that meet an area are those of its columns and rows
-pub meets_runs : (g : Sides) (area : Rect) (columns rows : Run) → IsMeeting g.w g.tile area.x area.w columns → IsMeeting g.h g.tile area.y area.h rows
-    → (p : Place) → meets (rect_of g p) area ≡ (in_run columns p.x && in_run rows p.y)
+pub meets_runs : (g : Sides) (area : Rect) (columns rows : IndexRange) → IsMeeting g.w g.tile area.x area.w columns → IsMeeting g.h g.tile area.y area.h rows
+    → (p : Place) → meets (rect_of_place g p) area ≡ (in_run columns p.x && in_run rows p.y)
 meets_runs g area columns rows a d p = λ i. a.meeting p.x i && d.meeting p.y i
 
 -- all places are those of all columns and rows
@@ -160,11 +160,11 @@ rows_fit g end wide n le e f =
     grind arith
 
 -- what a rect and a whole grid write
-pub rect_written : (g : Sides) (area : Rect) (columns rows : Run) (wide : ℕ) (old new : List ℕ) (stamp : ℕ) → wide ≡ tiles g.w g.tile
+pub rect_written : (g : Sides) (area : Rect) (columns rows : IndexRange) (wide : ℕ) (old new : List ℕ) (stamp : ℕ) → wide ≡ tiles g.w g.tile
     → IsMeeting g.w g.tile area.x area.w columns → IsMeeting g.h g.tile area.y area.h rows
-    → WritesCells wide old new (λ x y. in_run columns x && in_run rows y) stamp → WritesPlaces g old new (λ p. meets (rect_of g p) area) stamp
+    → WritesCells wide old new (λ x y. in_run columns x && in_run rows y) stamp → WritesPlaces g old new (λ p. meets (rect_of_place g p) area) stamp
 rect_written g area columns rows wide old new stamp e a d w =
-    places_of_cells g old new (λ x y. in_run columns x && in_run rows y) (λ p. meets (rect_of g p) area) stamp
+    places_of_cells g old new (λ x y. in_run columns x && in_run rows y) (λ p. meets (rect_of_place g p) area) stamp
     (λ p h. meets_runs g area columns rows a d p)
     (subst (λ n. WritesCells n old new (λ x y. in_run columns x && in_run rows y) stamp) e w)
 
@@ -184,14 +184,14 @@ written_alike g old new a b stamp same w = record {
 }
 
 pub whole_shows : (g : Sides) (old new : List ℕ) (c : LayerChange) (stamp : ℕ) → c.whole ≡ true
-    → WritesPlaces g old new (λ _. true) stamp → WritesPlaces g old new (λ p. shows_in c (rect_of g p)) stamp
+    → WritesPlaces g old new (λ _. true) stamp → WritesPlaces g old new (λ p. shows_in c (rect_of_place g p)) stamp
 whole_shows g old new c stamp e w =
-    written_alike g old new (λ _. true) (λ p. shows_in c (rect_of g p)) stamp (λ p. ap (λ b. b || touched c.region (rect_of g p)) (sym e)) w
+    written_alike g old new (λ _. true) (λ p. shows_in c (rect_of_place g p)) stamp (λ p. ap (λ b. b || touched c.region (rect_of_place g p)) (sym e)) w
 
 pub part_shows : (g : Sides) (old new : List ℕ) (c : LayerChange) (stamp : ℕ) → c.whole ≡ false
-    → WritesPlaces g old new (λ p. touched c.region (rect_of g p)) stamp → WritesPlaces g old new (λ p. shows_in c (rect_of g p)) stamp
+    → WritesPlaces g old new (λ p. touched c.region (rect_of_place g p)) stamp → WritesPlaces g old new (λ p. shows_in c (rect_of_place g p)) stamp
 part_shows g old new c stamp e w =
-    written_alike g old new (λ p. touched c.region (rect_of g p)) (λ p. shows_in c (rect_of g p)) stamp (λ p. ap (λ b. b || touched c.region (rect_of g p)) (sym e)) w
+    written_alike g old new (λ p. touched c.region (rect_of_place g p)) (λ p. shows_in c (rect_of_place g p)) stamp (λ p. ap (λ b. b || touched c.region (rect_of_place g p)) (sym e)) w
 
 -- one rect more
 
@@ -201,7 +201,7 @@ meets_turned r s =
     (λ h. let (x, y, p, q) = meet_points r s h in points_meet s r (x, y, q, p))
     (λ h. let (x, y, p, q) = meet_points s r h in points_meet r s (x, y, q, p))
 
-pub rects_none : (g : Sides) (xs : List ℕ) (stamp : ℕ) → WritesPlaces g xs xs (λ p. touched [] (rect_of g p)) stamp
+pub rects_none : (g : Sides) (xs : List ℕ) (stamp : ℕ) → WritesPlaces g xs xs (λ p. touched [] (rect_of_place g p)) stamp
 rects_none g xs stamp = record { long = refl; each = λ p h. refl }
 
 either : (a b : Bool) (s o : ℕ) → cond b s (cond a s o) ≡ cond (a || b) s o
@@ -210,27 +210,27 @@ either true false s o = refl
 either false true s o = refl
 either false false s o = refl
 
-touched_more : (rs : List Rect) (i : ℕ) (q : Rect) → i < length rs → touched (take (i + 1) rs) q ≡ (touched (take i rs) q || meets q (get_or rs i nothing))
+touched_more : (rs : List Rect) (i : ℕ) (q : Rect) → i < length rs → touched (take (i + 1) rs) q ≡ (touched (take i rs) q || meets q (get_or rs i empty_rect))
 touched_more rs i q lt =
-    ap (λ ws. touched ws q) (take_more rs i nothing lt)
-    ∙ (list_any-append (λ s. meets s q) (take i rs) (get_or rs i nothing ∷ [])
-    ∙ ap (λ b. touched (take i rs) q || b) (or_false (meets (get_or rs i nothing) q) ∙ meets_turned (get_or rs i nothing) q))
+    ap (λ ws. touched ws q) (take_more rs i empty_rect lt)
+    ∙ (list_any-append (λ s. meets s q) (take i rs) (get_or rs i empty_rect ∷ [])
+    ∙ ap (λ b. touched (take i rs) q || b) (or_false (meets (get_or rs i empty_rect) q) ∙ meets_turned (get_or rs i empty_rect) q))
   where
     or_false : (b : Bool) → (b || false) ≡ b
     or_false true = refl
     or_false false = refl
 
 pub rects_more : (g : Sides) (old now new : List ℕ) (rs : List Rect) (i stamp : ℕ) → i < length rs
-    → WritesPlaces g old now (λ p. touched (take i rs) (rect_of g p)) stamp
-    → WritesPlaces g now new (λ p. meets (rect_of g p) (get_or rs i nothing)) stamp
-    → WritesPlaces g old new (λ p. touched (take (i + 1) rs) (rect_of g p)) stamp
+    → WritesPlaces g old now (λ p. touched (take i rs) (rect_of_place g p)) stamp
+    → WritesPlaces g now new (λ p. meets (rect_of_place g p) (get_or rs i empty_rect)) stamp
+    → WritesPlaces g old new (λ p. touched (take (i + 1) rs) (rect_of_place g p)) stamp
 rects_more g old now new rs i stamp lt w v = record {
   long = v.long ∙ w.long;
   each = λ p h.
       v.each p h
-      ∙ (ap (λ o. cond (meets (rect_of g p) (get_or rs i nothing)) stamp o) (w.each p h)
-      ∙ (either (touched (take i rs) (rect_of g p)) (meets (rect_of g p) (get_or rs i nothing)) stamp (get_or old (index_of g p) 0)
-      ∙ ap (λ b. cond b stamp (get_or old (index_of g p) 0)) (sym (touched_more rs i (rect_of g p) lt))));
+      ∙ (ap (λ o. cond (meets (rect_of_place g p) (get_or rs i empty_rect)) stamp o) (w.each p h)
+      ∙ (either (touched (take i rs) (rect_of_place g p)) (meets (rect_of_place g p) (get_or rs i empty_rect)) stamp (get_or old (index_of g p) 0)
+      ∙ ap (λ b. cond b stamp (get_or old (index_of g p) 0)) (sym (touched_more rs i (rect_of_place g p) lt))));
 }
 
 -- one stamp for all

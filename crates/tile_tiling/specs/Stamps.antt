@@ -3,7 +3,7 @@ use Rattle.std.specs.Prelude.{◌≡◌, ℕ, Bool, true, false, ◌||◌, if◌
 use Rattle.geom.specs.declared.rect.Rect.{Rect}
 use Rattle.geom.specs.declared.tile.Place.{Place}
 use Rattle.geom.specs.Sides.{Sides}
-use Rattle.geom.specs.Grids.{has, rect_of}
+use Rattle.geom.specs.Grids.{has, rect_of_place}
 use Rattle.region.specs.declared.change.LayerChange.{LayerChange}
 use Rattle.region.specs.Lists.{Changed, change_of}
 use Rattle.tile_tiling.specs.Tiles.{Tiled, stamp_at, HasStamps, shows_in, IsCarried}
@@ -34,7 +34,7 @@ stamp_of layer place cs = last_that (changes_in layer place) cs
 
 -- the tiling has the stamps of this layer after these commits
 abbrev pub IsStamped : Tiled → Sides → ℕ → List Commit → Type 0
-IsStamped t g layer cs = (p : Place) → has g p ≡ true → Some (stamp_at t p) ≡ stamp_of layer (rect_of g p) cs
+IsStamped t g layer cs = (p : Place) → has g p ≡ true → Some (stamp_at t p) ≡ stamp_of layer (rect_of_place g p) cs
 
 -- a tiling with the stamps of some commits is stepped by one more
 pub record CarryStepsStamps : Type 0 where

@@ -4,7 +4,7 @@ use Rattle.geom.specs.declared.rect.Rect.{Rect}
 use Rattle.geom.specs.declared.tile.Place.{Place}
 use Rattle.geom.specs.declared.tile.TileKey.{TileKey}
 use Rattle.geom.specs.Sides.{Sides}
-use Rattle.geom.specs.Grids.{has, tiles, rect_of}
+use Rattle.geom.specs.Grids.{has, tiles, rect_of_place}
 use Rattle.region.specs.declared.change.LayerChange.{LayerChange}
 use Rattle.region.specs.Points.{touched}
 
@@ -42,4 +42,4 @@ shows_in c r = c.whole || touched c.region r
 -- the places in which the change shows have the stamp, the others keep theirs
 abbrev pub IsCarried : Tiled → LayerChange → ℕ → Tiled → Type 0
 IsCarried old c stamp new =
-    HasStamps new old.grid (λ p. if shows_in c (rect_of old.grid p) then stamp else stamp_at old p)
+    HasStamps new old.grid (λ p. if shows_in c (rect_of_place old.grid p) then stamp else stamp_at old p)

@@ -3,12 +3,12 @@
 ghost use Rattle.std.specs.Prelude.{◌≡◌, ◌<◌, ◌≤◌, ◌*◌, Bool, true, ◌&&◌, IfOk, All, if◌then◌else◌, length, map, replicate};
 ghost use Rattle.geom.specs.Covers.{IsSound};
 ghost use Rattle.geom.specs.Common.{meets};
-ghost use Rattle.geom.specs.Grids.{tiles, rect_of};
+ghost use Rattle.geom.specs.Grids.{tiles, rect_of_place};
 ghost use Rattle.region.specs.Points.{touched};
 ghost use Rattle.tile_tiling.specs.Tiles.{key_of, shows_in, IsWhole};
 ghost use Rattle.tile_tiling.specs.inner.Writes.{WritesPlaces, WritesCells, WritesRow, in_run};
 
-use geom::{Grid, Place, Rect, Run, TileKey};
+use geom::{Grid, Place, Rect, IndexRange, TileKey};
 use region::LayerChange;
 use std::alloc::{AllocError, Global};
 
@@ -54,7 +54,7 @@ pub(crate) fn keys_in(
 #[tactic(auto, using(crate::proofs::Cells::whole_shows, crate::proofs::Cells::part_shows))]
 pub(crate) fn stamp_change(stamps: &mut Vec<u32>, grid: Grid, change: &LayerChange, stamp: u32)
     requires { IsWhole grid stamps.old.items }
-    ensures { WritesPlaces grid stamps.old.items stamps.new.items (λ p. shows_in change.now (rect_of grid p)) stamp }
+    ensures { WritesPlaces grid stamps.old.items stamps.new.items (λ p. shows_in change.now (rect_of_place grid p)) stamp }
 {
     if change.whole {
         stamp_all(stamps, grid, stamp)
@@ -70,11 +70,11 @@ fn stamp_all(stamps: &mut Vec<u32>, grid: Grid, stamp: u32)
     ensures { WritesPlaces grid stamps.old.items stamps.new.items (λ _. true) stamp }
 {
     let wide = grid.columns();
-    let columns = Run {
+    let columns = IndexRange {
         first: 0,
         end: wide,
     };
-    let rows = Run {
+    let rows = IndexRange {
         first: 0,
         end: grid.rows(),
     };
@@ -85,7 +85,7 @@ fn stamp_all(stamps: &mut Vec<u32>, grid: Grid, stamp: u32)
 fn stamp_rects(stamps: &mut Vec<u32>, grid: Grid, rects: &[Rect], stamp: u32)
     requires whole { IsWhole grid stamps.old.items }
     requires sound { All IsSound rects.now }
-    ensures { WritesPlaces grid stamps.old.items stamps.new.items (λ p. touched rects.now (rect_of grid p)) stamp }
+    ensures { WritesPlaces grid stamps.old.items stamps.new.items (λ p. touched rects.now (rect_of_place grid p)) stamp }
 {
     for rect in rects {
         stamp_rect(stamps, grid, rect, stamp);
@@ -97,7 +97,7 @@ fn stamp_rects(stamps: &mut Vec<u32>, grid: Grid, rects: &[Rect], stamp: u32)
 fn stamp_rect(stamps: &mut Vec<u32>, grid: Grid, rect: &Rect, stamp: u32)
     requires whole { IsWhole grid stamps.old.items }
     requires sound { IsSound rect.now }
-    ensures { WritesPlaces grid stamps.old.items stamps.new.items (λ p. meets (rect_of grid p) rect.now) stamp }
+    ensures { WritesPlaces grid stamps.old.items stamps.new.items (λ p. meets (rect_of_place grid p) rect.now) stamp }
 {
     let columns = grid.columns_touching(*rect);
     let rows = grid.rows_touching(*rect);
@@ -106,7 +106,7 @@ fn stamp_rect(stamps: &mut Vec<u32>, grid: Grid, rect: &Rect, stamp: u32)
 
 // writes the stamp in these columns of these rows, where each row has `wide` stamps
 #[tactic(auto, using(crate::proofs::Cells::row_behind))]
-fn stamp_block(stamps: &mut Vec<u32>, wide: u32, columns: Run, rows: Run, stamp: u32)
+fn stamp_block(stamps: &mut Vec<u32>, wide: u32, columns: IndexRange, rows: IndexRange, stamp: u32)
     requires few { wide ≤ 16384 }
     requires in_row { columns.end ≤ wide }
     requires columns_ordered { columns.first ≤ columns.end }

@@ -10,7 +10,7 @@ use Rattle.geom.specs.declared.tile.Place.{Place}
 use Rattle.geom.specs.Common.{common_span, rect_of_spans, spans_meet, meets}
 use Rattle.geom.specs.Covers.{IsSound}
 use Rattle.geom.specs.Gaps.{shifted}
-use Rattle.geom.specs.Grids.{rect_of, places, places_touching}
+use Rattle.geom.specs.Grids.{rect_of_place, places, places_touching}
 use Rattle.page_properties.specs.Placement.{translation, clip_of, draws, IsWithin}
 use Rattle.page_layers.specs.declared.view.View.{View}
 use Rattle.page_layers.specs.Layers.{PageLayer}
@@ -104,8 +104,8 @@ filter_none {A} p none (x ∷ xs) = ap (λ (b : Bool). cond b (x ∷ filter p xs
 pub none_seen : (p : Page) (offset : ℕ → Point) (l : PageLayer) → draws p.props.effects l.effect ≡ false → visible_places p offset l ≡ []
 unfolding visible_places
 none_seen p offset l hidden =
-    filter_none (λ (place : Place). draws p.props.effects l.effect && meets (shifted (rect_of (grid_of p l) place) (translation offset p.props.transforms l.transform)) (cut_by (viewport p) (clip_of offset p.props.transforms p.props.clips l.clip)))
-    (λ place. ap (λ (b : Bool). b && meets (shifted (rect_of (grid_of p l) place) (translation offset p.props.transforms l.transform)) (cut_by (viewport p) (clip_of offset p.props.transforms p.props.clips l.clip))) hidden)
+    filter_none (λ (place : Place). draws p.props.effects l.effect && meets (shifted (rect_of_place (grid_of p l) place) (translation offset p.props.transforms l.transform)) (cut_by (viewport p) (clip_of offset p.props.transforms p.props.clips l.clip)))
+    (λ place. ap (λ (b : Bool). b && meets (shifted (rect_of_place (grid_of p l) place) (translation offset p.props.transforms l.transform)) (cut_by (viewport p) (clip_of offset p.props.transforms p.props.clips l.clip))) hidden)
     (places (grid_of p l))
 
 -- the places that the clip, moved back, touches
@@ -114,11 +114,11 @@ pub touched_seen : (p : Page) (offset : ℕ → Point) (l : PageLayer) (clip : R
     → places_touching (grid_of p l) (shifted clip (record { x = neg_ℤ by.x; y = neg_ℤ by.y })) ≡ visible_places p offset l
 unfolding visible_places places_touching
 touched_seen p offset l clip by drawn cut moved =
-    filter_alike (λ (place : Place). meets (rect_of (grid_of p l) place) (shifted clip (record { x = neg_ℤ by.x; y = neg_ℤ by.y })))
-    (λ (place : Place). draws p.props.effects l.effect && meets (shifted (rect_of (grid_of p l) place) (translation offset p.props.transforms l.transform)) (cut_by (viewport p) (clip_of offset p.props.transforms p.props.clips l.clip)))
+    filter_alike (λ (place : Place). meets (rect_of_place (grid_of p l) place) (shifted clip (record { x = neg_ℤ by.x; y = neg_ℤ by.y })))
+    (λ (place : Place). draws p.props.effects l.effect && meets (shifted (rect_of_place (grid_of p l) place) (translation offset p.props.transforms l.transform)) (cut_by (viewport p) (clip_of offset p.props.transforms p.props.clips l.clip)))
     (λ place.
-    sym (meets_back (rect_of (grid_of p l) place) clip by)
-    ∙ ap (λ (q : Point). meets (shifted (rect_of (grid_of p l) place) q) clip) moved
-    ∙ ap (λ (c : Rect). meets (shifted (rect_of (grid_of p l) place) (translation offset p.props.transforms l.transform)) c) cut
-    ∙ ap (λ (b : Bool). b && meets (shifted (rect_of (grid_of p l) place) (translation offset p.props.transforms l.transform)) (cut_by (viewport p) (clip_of offset p.props.transforms p.props.clips l.clip))) (sym drawn))
+    sym (meets_back (rect_of_place (grid_of p l) place) clip by)
+    ∙ ap (λ (q : Point). meets (shifted (rect_of_place (grid_of p l) place) q) clip) moved
+    ∙ ap (λ (c : Rect). meets (shifted (rect_of_place (grid_of p l) place) (translation offset p.props.transforms l.transform)) c) cut
+    ∙ ap (λ (b : Bool). b && meets (shifted (rect_of_place (grid_of p l) place) (translation offset p.props.transforms l.transform)) (cut_by (viewport p) (clip_of offset p.props.transforms p.props.clips l.clip))) (sym drawn))
     (places (grid_of p l))

@@ -6,7 +6,7 @@ use Rattle.geom.specs.declared.tile.Place.{Place}
 use Rattle.geom.specs.declared.tile.TileKey.{TileKey}
 use Rattle.geom.specs.Common.{common}
 use Rattle.geom.specs.Gaps.{shifted}
-use Rattle.geom.specs.Grids.{rect_of, places}
+use Rattle.geom.specs.Grids.{rect_of_place, places}
 use Rattle.geom.specs.Sides.{Sides}
 use Rattle.page_properties.specs.Placement.{translation, clip_of, draws}
 use Rattle.tile_priority.specs.declared.tile.Seen.{Seen}
@@ -24,7 +24,7 @@ grid_of p l = record { w = l.w; h = l.h; tile = p.view.tile }
 
 -- where a tile of a layer stands on the screen
 abbrev pub screen_rect : Page → (ℕ → Point) → PageLayer → Place → Rect
-screen_rect p offset l place = shifted (rect_of (grid_of p l) place) (translation offset p.props.transforms l.transform)
+screen_rect p offset l place = shifted (rect_of_place (grid_of p l) place) (translation offset p.props.transforms l.transform)
 
 -- a clip cut by a viewport; the root clip restricts nothing
 abbrev pub cut_by : Rect → Option Rect → Rect

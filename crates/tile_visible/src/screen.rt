@@ -3,8 +3,8 @@
 ghost use Rattle.std.specs.Prelude.{◌≡◌, ◌*◌, IsTrue, IfSome};
 ghost use Rattle.geom.specs.Covers.{IsSound};
 ghost use Rattle.geom.specs.Gaps.{shifted};
-ghost use Rattle.geom.specs.Grids.{has, rect_of};
-ghost use Rattle.geom.specs.Sides.{IsSide};
+ghost use Rattle.geom.specs.Grids.{has, rect_of_place};
+ghost use Rattle.geom.specs.Sides.{IsLayerSide};
 ghost use Rattle.page_properties.specs.OffsetMap.{offset_at, AreOffsets};
 ghost use Rattle.page_properties.specs.Placement.{clip_of, IsWithin};
 ghost use Rattle.page_layers.specs.Layers.{parts_of};
@@ -32,8 +32,8 @@ pub fn viewport(page: &LayerTree) -> Rect
 
 /// A layer cut into the tiles of its page. Both of its sides are 1 to 16384.
 pub fn grid_of(page: &LayerTree, layer: &Layer) -> Grid
-    requires wide { IsSide layer.now.w }
-    requires tall { IsSide layer.now.h }
+    requires wide { IsLayerSide layer.now.w }
+    requires tall { IsLayerSide layer.now.h }
     ensures { result ≡ spec.grid_of page.now (parts_of layer.now) }
 {
     page.is_page();
@@ -49,7 +49,7 @@ pub fn grid_of(page: &LayerTree, layer: &Layer) -> Grid
 pub fn moved_place(grid: Grid, place: Place, by: Point) -> Rect
     requires there { IsTrue (has grid place) }
     requires near { IsWithin (256 * 1114112) by }
-    ensures value { result ≡ shifted (rect_of grid place) by }
+    ensures value { result ≡ shifted (rect_of_place grid place) by }
     ensures sound { IsSound result }
 {
     grid.rect_of(place).shift(by)
@@ -58,8 +58,8 @@ pub fn moved_place(grid: Grid, place: Place, by: Point) -> Rect
 /// Where a tile of a layer stands on the screen.
 pub fn screen_rect(page: &LayerTree, offsets: &Offsets, layer: &Layer, place: Place) -> Rect
     requires offsets { AreOffsets (offset_at offsets.now) }
-    requires wide { IsSide layer.now.w }
-    requires tall { IsSide layer.now.h }
+    requires wide { IsLayerSide layer.now.w }
+    requires tall { IsLayerSide layer.now.h }
     requires there { IsTrue (has (spec.grid_of page.now (parts_of layer.now)) place) }
     ensures value { result ≡ spec.screen_rect page.now (offset_at offsets.now) (parts_of layer.now) place }
     ensures sound { IsSound result }
@@ -94,8 +94,8 @@ pub fn clip_in(page: &LayerTree, offsets: &Offsets, layer: &Layer) -> Rect
 /// How a tile of a layer is seen.
 pub fn seen(page: &LayerTree, offsets: &Offsets, layer: &Layer, place: Place) -> Seen
     requires offsets { AreOffsets (offset_at offsets.now) }
-    requires wide { IsSide layer.now.w }
-    requires tall { IsSide layer.now.h }
+    requires wide { IsLayerSide layer.now.w }
+    requires tall { IsLayerSide layer.now.h }
     requires there { IsTrue (has (spec.grid_of page.now (parts_of layer.now)) place) }
     ensures value { result ≡ spec.seen page.now (offset_at offsets.now) (parts_of layer.now) place }
     ensures screen { IsSound result.screen }

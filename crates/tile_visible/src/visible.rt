@@ -5,7 +5,7 @@ ghost use Rattle.std.specs.List.{prefix_len, flat_map};
 ghost use mir.Syntax.{w32};
 ghost use Rattle.geom.specs.Covers.{IsSound};
 ghost use Rattle.geom.specs.Gaps.{shifted};
-ghost use Rattle.geom.specs.Sides.{IsSide};
+ghost use Rattle.geom.specs.Sides.{IsLayerSide};
 ghost use Rattle.page_properties.specs.OffsetMap.{offset_at, AreOffsets};
 ghost use Rattle.page_properties.specs.Placement.{IsWithin};
 ghost use Rattle.page_layers.specs.Layers.{parts_of};
@@ -50,8 +50,8 @@ pub fn visible_places(
     layer: &Layer,
 ) -> Result<Vec<Place>, AllocError>
     requires offsets { AreOffsets (offset_at offsets.now) }
-    requires wide { IsSide layer.now.w }
-    requires tall { IsSide layer.now.h }
+    requires wide { IsLayerSide layer.now.w }
+    requires tall { IsLayerSide layer.now.h }
     ensures { IfOk result (λ places. places.items ≡ spec.visible_places tree.now (offset_at offsets.now) (parts_of layer.now)) }
 {
     tree.is_page();
@@ -92,7 +92,7 @@ fn keys_of(
     stamp: u32,
 ) -> Result<Keys, AllocError>
     requires offsets { AreOffsets (offset_at offsets.now) }
-    requires sizes { All (λ o. IsSide o.layer.now.w × IsSide o.layer.now.h) layers.now }
+    requires sizes { All (λ o. IsLayerSide o.layer.now.w × IsLayerSide o.layer.now.h) layers.now }
     ensures { IfOk result (λ keys. keys ≡ flat_map (λ l. map (spec.key_at (λ _ _. stamp) l.id) (spec.visible_places tree.now (offset_at offsets.now) l)) (map (λ o. parts_of o.layer.now) layers.now)) }
 {
     let mut keys = Keys::new(alloc);

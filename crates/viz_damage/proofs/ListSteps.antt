@@ -10,7 +10,7 @@ use Rattle.pixel.specs.Colours.{Parts}
 use Rattle.viz_scene.specs.declared.Quad.{Quad}
 use Rattle.viz_scene.specs.Views.{QuadView, quad_view, quads_view}
 use Rattle.viz_scene.specs.Pixels.{quad_over, quads_over}
-use Rattle.viz_scene.specs.Sound.{Fits}
+use Rattle.viz_scene.specs.Sound.{QuadFits}
 use Rattle.viz_scene.proofs.Steps.{quads_append}
 use Rattle.viz_damage.specs.inner.Areas.{HoldAll}
 use Rattle.viz_damage.specs.inner.Alike.{ActAlike, ActListsAlike, GoOnAlike, ActWithin, DifferWithin}
@@ -103,9 +103,9 @@ ends_joined reaches damage olds news n m alike d x y h passes clears below =
     ∙ ap (λ (c : Parts). quads_over passes x y c (quads_view (drop m news))) (d x y h passes clears below)
     ∙ sym (parted passes x y below news m)
 
-pub fit_front : (n : ℕ) (quads : List Quad) (k : ℕ) → All (Fits 2048 2048 n) (quads_view quads) → All (Fits 2048 2048 n) (quads_view (take k quads))
+pub fit_front : (n : ℕ) (quads : List Quad) (k : ℕ) → All (QuadFits 2048 2048 n) (quads_view quads) → All (QuadFits 2048 2048 n) (quads_view (take k quads))
 fit_front n quads k all =
-    subst (All (Fits 2048 2048 n)) (take-map quad_view k quads) (All-take (Fits 2048 2048 n) k (quads_view quads) all)
+    subst (All (QuadFits 2048 2048 n)) (take-map quad_view k quads) (All-take (QuadFits 2048 2048 n) k (quads_view quads) all)
 
 -- all quads
 pub differ_all : (reaches damage : List Rect) (olds news : List Quad) (i j : ℕ) → length olds ≡ i → length news ≡ j

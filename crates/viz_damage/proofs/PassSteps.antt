@@ -7,13 +7,13 @@ use Rattle.std.proofs.lemmas.List.Elements.{All-weaker, All-append}
 use Rattle.std.proofs.lemmas.Int.{ints}
 use Rattle.geom.specs.declared.Rect.{Rect}
 use Rattle.geom.specs.Covers.{covers}
-use Rattle.geom.specs.Common.{nothing}
+use Rattle.geom.specs.Common.{empty_rect}
 use Rattle.region.specs.Points.{covered}
 use Rattle.pixel.specs.Colours.{Parts, clear}
 use Rattle.viz_scene.specs.declared.RenderPass.{RenderPass}
 use Rattle.viz_scene.specs.Views.{QuadView, tiled, plain, grouped, quads_view, pass_view, passes_view, SceneView}
 use Rattle.viz_scene.specs.Pixels.{quads_over, passes_at, root_pixel, scene_pixel}
-use Rattle.viz_scene.specs.Sound.{IsIn, Fits, AreSound, IsSide}
+use Rattle.viz_scene.specs.Sound.{IsIn, QuadFits, AreSound, IsSceneSide}
 use Rattle.viz_scene.proofs.Steps.{passes_push, length-passes_at, sound_at}
 use Rattle.viz_damage.specs.Damage.{AreAlikeOutside, screen}
 use Rattle.viz_scene.specs.Areas.{IsOnScreen}
@@ -66,7 +66,7 @@ nowhere_else s t region whole x y seen out = absurd (clash (sym seen ∙ whole x
     clash e = cc
 
 -- a rect on a screen lies on the largest one
-on_screen : (w h : ℕ) (at : Rect) → IsSide w → IsSide h → IsIn w h at → IsOnScreen at
+on_screen : (w h : ℕ) (at : Rect) → IsSceneSide w → IsSceneSide h → IsIn w h at → IsOnScreen at
 on_screen w h at wide tall i = record {
   left = i.left;
   top = i.top;
@@ -77,25 +77,25 @@ on_screen w h at wide tall i = record {
 }
 
 -- what may stand in a scene may stand in one of the largest size
-fits_wide : (w h i : ℕ) (q : QuadView) → IsSide w → IsSide h → Fits w h i q → Fits 2048 2048 i q
+fits_wide : (w h i : ℕ) (q : QuadView) → IsSceneSide w → IsSceneSide h → QuadFits w h i q → QuadFits 2048 2048 i q
 fits_wide w h i (tiled image at from) wide tall f = (on_screen w h at wide tall f.0, f.1)
 fits_wide w h i (plain at colour) wide tall f = on_screen w h at wide tall f
 fits_wide w h i (grouped pass opacity) wide tall f = f
 
-pub sound_wide : (w h i : ℕ) (ps : List (List QuadView)) → IsSide w → IsSide h → AreSound w h i ps → AreSound 2048 2048 i ps
+pub sound_wide : (w h i : ℕ) (ps : List (List QuadView)) → IsSceneSide w → IsSceneSide h → AreSound w h i ps → AreSound 2048 2048 i ps
 sound_wide w h i [] wide tall s = tt
 sound_wide w h i (p ∷ ps) wide tall s =
-    (All-weaker (Fits w h i) (Fits 2048 2048 i) (λ q. fits_wide w h i q wide tall) p s.0, sound_wide w h (i + 1) ps wide tall s.1)
+    (All-weaker (QuadFits w h i) (QuadFits 2048 2048 i) (λ q. fits_wide w h i q wide tall) p s.0, sound_wide w h (i + 1) ps wide tall s.1)
 
 -- the quads of one pass
 pub pass_fits : (passes : List RenderPass) (i n : ℕ) (p : RenderPass) → AreSound 2048 2048 0 (passes_view passes) → i < length passes → p ≡ get_or passes i p → n ≡ i
-    → All (Fits 2048 2048 n) (quads_view p.quads.items)
+    → All (QuadFits 2048 2048 n) (quads_view p.quads.items)
 pass_fits passes i n p sound lt e f =
     let long : length (passes_view passes) ≡ length passes = length-map passes pass_view in
     let here : get_or (passes_view passes) i [] ≡ pass_view p = get_or-map pass_view passes i p [] lt ∙ ap pass_view (sym e) in
     let fits = sound_at 2048 2048 0 i (passes_view passes) sound (omega arith) in
     let plus : 0 + i ≡ n = omega arith in
-    subst (λ (k : ℕ). All (Fits 2048 2048 k) (quads_view p.quads.items)) plus (subst (All (Fits 2048 2048 (0 + i))) here fits)
+    subst (λ (k : ℕ). All (QuadFits 2048 2048 k) (quads_view p.quads.items)) plus (subst (All (QuadFits 2048 2048 (0 + i))) here fits)
 
 -- one more pass
 pub passes_more : (passes : List RenderPass) (i : ℕ) (p : RenderPass) → i < length passes → p ≡ get_or passes i p
@@ -120,7 +120,7 @@ clears_more x y reaches reach colours c count before here p out =
     elim (cases_lt p (length reaches)) as (λ _. slice_index_or (colours ++ c ∷ []) p clear ≡ clear) [
       | inl low ↦
           get_or_append_left colours (c ∷ []) clear p (omega arith)
-          ∙ before p (ap (λ (r : Rect). covers r x y) (sym (get_or_append_left reaches (reach ∷ []) nothing p low)) ∙ out)
+          ∙ before p (ap (λ (r : Rect). covers r x y) (sym (get_or_append_left reaches (reach ∷ []) empty_rect p low)) ∙ out)
       | inr high ↦ last (cases_lt (length reaches) p) high
     ]
   where
@@ -132,7 +132,7 @@ clears_more x y reaches reach colours c count before here p out =
         let e : length reaches ≡ p = omega arith in
         let f : length colours ≡ p = omega arith in
         get_or_push colours c clear p f
-        ∙ here (ap (λ (r : Rect). covers r x y) (sym (get_or_push reaches reach nothing p e)) ∙ out)
+        ∙ here (ap (λ (r : Rect). covers r x y) (sym (get_or_push reaches reach empty_rect p e)) ∙ out)
 
 pub compared_more : (old new : List RenderPass) (i : ℕ) (p q : RenderPass) (reaches damage more : List Rect) (reach : Rect)
     → i < length old → i < length new → p ≡ get_or old i p → q ≡ get_or new i q

@@ -7,18 +7,18 @@ use Rattle.std.proofs.lemmas.List.Sums.{fold_more}
 use Rattle.geom.specs.declared.Rect.{Rect}
 use Rattle.geom.specs.declared.Point.{Point}
 use Rattle.geom.specs.Covers.{covers, within}
-use Rattle.geom.specs.Common.{nothing, meets}
+use Rattle.geom.specs.Common.{empty_rect, meets}
 use Rattle.geom.proofs.Spans.{inside, is_within_of, both, both_of}
 use Rattle.geom.proofs.Meets.{points_meet}
 use Rattle.pixel.specs.Colours.{Parts, blend, scaled, clear, times_255}
 use Rattle.pixel.proofs.Blends.{clear_shows}
 use Rattle.page_display_list.specs.declared.Item.{Item}
-use Rattle.page_display_list.specs.Content.{painted, content, rect_of, colour_of}
+use Rattle.page_display_list.specs.Content.{painted, content, rect_of_item, colour_of}
 use Rattle.tile_raster.specs.Images.{Image, ShowAlike}
 use Rattle.viz_scene.specs.declared.Quad.{Quad}
 use Rattle.viz_scene.specs.Views.{QuadView, tiled, plain, grouped, quad_view, quads_view}
 use Rattle.viz_scene.specs.Pixels.{placed_pixel, quad_over, quads_over}
-use Rattle.viz_scene.specs.Sound.{IsTaken, Fits}
+use Rattle.viz_scene.specs.Sound.{IsTaken, QuadFits}
 use Rattle.viz_scene.proofs.Steps.{quads_append}
 use Rattle.viz_scene.specs.Areas.{Holds}
 use Rattle.viz_scene.proofs.RectSteps.{not_either}
@@ -30,10 +30,10 @@ pub same_rects : (a b : Rect) → a.x ≡ b.x → a.y ≡ b.y → a.w ≡ b.w �
 same_rects a b x y w h = λ i. record { x = x i; y = y i; w = w i; h = h i }
 
 -- an item outside a rect paints nothing there
-pub paints_nothing : (item : Item) (r : Rect) → meets (rect_of item) r ≡ false → PaintsNothing r item
+pub paints_nothing : (item : Item) (r : Rect) → meets (rect_of_item item) r ≡ false → PaintsNothing r item
 paints_nothing item r apart x y h below =
-    let out : covers (rect_of item) x y ≡ false =
-    not_either (meets (rect_of item) r) (covers (rect_of item) x y) (λ k. points_meet (rect_of item) r (x, y, k, h)) apart in
+    let out : covers (rect_of_item item) x y ≡ false =
+    not_either (meets (rect_of_item item) r) (covers (rect_of_item item) x y) (λ k. points_meet (rect_of_item item) r (x, y, k, h)) apart in
     ap (λ (t : Bool). cond t (blend below (colour_of item x y)) below) out
 
 -- one more item
@@ -76,9 +76,9 @@ tiles_alike i j at from t same passes x y below =
     same.pixels (i.rect.x +ℤ px) (i.rect.y +ℤ py) there ∙ ap (λ (r : Rect). content j.list (r.x +ℤ px) (r.y +ℤ py)) same.rect)
 
 pub same_tiles : (a b : QuadView) (i j first second : Image) (at place : Rect) (from start : Point) (n : ℕ) → a ≡ tiled i at from → b ≡ tiled j place start
-    → at ≡ place → from ≡ start → Fits 2048 2048 n a → first ≡ i → second ≡ j → AreSameImages first second → ActAlike a b
+    → at ≡ place → from ≡ start → QuadFits 2048 2048 n a → first ≡ i → second ≡ j → AreSameImages first second → ActAlike a b
 same_tiles a b i j first second at place from start n e f g h fits p q same passes x y below =
-    let taken : IsTaken i at from = (subst (Fits 2048 2048 n) e fits).1 in
+    let taken : IsTaken i at from = (subst (QuadFits 2048 2048 n) e fits).1 in
     let alike : AreSameImages i j = subst (λ (k : Image). AreSameImages k j) p (subst (AreSameImages first) q same) in
     ap (quad_over passes x y below) e
     ∙ tiles_alike i j at from taken alike passes x y below
@@ -105,18 +105,18 @@ faded_clear opacity = let e : times_255 0 opacity ≡ 0 = none opacity in λ i. 
 pub group_within : (reaches : List Rect) (pass opacity : ℕ) (r : Rect) → pass < length reaches → r ≡ get_or reaches pass r
     → ActWithin reaches (r ∷ []) (grouped pass opacity ∷ [])
 group_within reaches pass opacity r lt e x y h passes clears below =
-    let out : covers (slice_index_or reaches pass nothing) x y ≡ false =
-    ap (λ (s : Rect). covers s x y) (get_or_default reaches pass nothing r lt ∙ sym e) ∙ (neither (covers r x y) false h).0 in
+    let out : covers (slice_index_or reaches pass empty_rect) x y ≡ false =
+    ap (λ (s : Rect). covers s x y) (get_or_default reaches pass empty_rect r lt ∙ sym e) ∙ (neither (covers r x y) false h).0 in
     ap (λ (c : Parts). blend below (scaled c opacity)) (clears pass out) ∙ ap (blend below) (faded_clear opacity) ∙ clear_shows below
 
 -- a quad of a list
-pub fits_at : (n : ℕ) (quads : List Quad) (i : ℕ) (q : Quad) → All (Fits 2048 2048 n) (quads_view quads) → i < length quads → q ≡ get_or quads i q
-    → Fits 2048 2048 n (quad_view q)
+pub fits_at : (n : ℕ) (quads : List Quad) (i : ℕ) (q : Quad) → All (QuadFits 2048 2048 n) (quads_view quads) → i < length quads → q ≡ get_or quads i q
+    → QuadFits 2048 2048 n (quad_view q)
 fits_at n quads i q all lt e =
     let long : length (quads_view quads) ≡ length quads = length-map quads quad_view in
     let here : get_or (quads_view quads) i (quad_view q) ≡ quad_view q =
     get_or-map quad_view quads i q (quad_view q) lt ∙ ap quad_view (sym e) in
-    subst (Fits 2048 2048 n) here (all i (quad_view q) (omega arith))
+    subst (QuadFits 2048 2048 n) here (all i (quad_view q) (omega arith))
 
 -- one more quad
 pub view_more : (quads : List Quad) (i : ℕ) (q : Quad) → i < length quads → q ≡ get_or quads i q

@@ -2,7 +2,7 @@
 
 ghost use Rattle.std.specs.Prelude.{◌≡◌, ℕ, ◌+◌, ◌-◌, ◌<◌, ◌≤◌, ◌∷◌, All, length, take, drop, false, OnOk, IfOk, IsTrue};
 ghost use Rattle.viz_scene.specs.Views.{quads_view};
-ghost use Rattle.viz_scene.specs.Sound.{Fits};
+ghost use Rattle.viz_scene.specs.Sound.{QuadFits};
 ghost use Rattle.viz_scene.specs.Areas.{IsOnScreen};
 ghost use Rattle.viz_damage.specs.inner.Areas.{HoldAll};
 ghost use Rattle.viz_damage.specs.inner.Alike.{ActListsAlike, DifferWithin, GoOnAlike};
@@ -26,8 +26,8 @@ pub(crate) fn add_changes(
     reaches: &[Rect],
     damage: &mut Vec<Rect>,
 ) -> Result<(), AllocError>
-    requires old { All (Fits 2048 2048 (length reaches.now)) (quads_view old.now) }
-    requires new { All (Fits 2048 2048 (length reaches.now)) (quads_view new.now) }
+    requires old { All (QuadFits 2048 2048 (length reaches.now)) (quads_view old.now) }
+    requires new { All (QuadFits 2048 2048 (length reaches.now)) (quads_view new.now) }
     requires reaches { All IsOnScreen reaches.now }
     requires damage { All IsOnScreen damage.old.items }
     ensures changes { OnOk result (DifferWithin reaches.now damage.new.items (quads_view old.now) (quads_view new.now)) }
@@ -43,8 +43,8 @@ pub(crate) fn add_changes(
 
 // how many quads at the end of two lists act alike
 fn common_end(old: &[Quad], new: &[Quad], passes: usize) -> usize
-    requires old { All (Fits 2048 2048 passes) (quads_view old.now) }
-    requires new { All (Fits 2048 2048 passes) (quads_view new.now) }
+    requires old { All (QuadFits 2048 2048 passes) (quads_view old.now) }
+    requires new { All (QuadFits 2048 2048 passes) (quads_view new.now) }
     ensures old { result ≤ length old.now }
     ensures new { result ≤ length new.now }
     ensures alike { ActListsAlike (quads_view (drop (length old.now - result) old.now)) (quads_view (drop (length new.now - result) new.now)) }
@@ -68,8 +68,8 @@ fn add_front_changes(
     reaches: &[Rect],
     damage: &mut Vec<Rect>,
 ) -> Result<(), AllocError>
-    requires old { All (Fits 2048 2048 (length reaches.now)) (quads_view old.now) }
-    requires new { All (Fits 2048 2048 (length reaches.now)) (quads_view new.now) }
+    requires old { All (QuadFits 2048 2048 (length reaches.now)) (quads_view old.now) }
+    requires new { All (QuadFits 2048 2048 (length reaches.now)) (quads_view new.now) }
     requires reaches { All IsOnScreen reaches.now }
     requires damage { All IsOnScreen damage.old.items }
     ensures changes { OnOk result (DifferWithin reaches.now damage.new.items (quads_view old.now) (quads_view new.now)) }
@@ -104,9 +104,9 @@ fn add_step(
     reaches: &[Rect],
     damage: &mut Vec<Rect>,
 ) -> Result<Places, AllocError>
-    requires old { All (Fits 2048 2048 (length reaches.now)) (quads_view old.now) }
+    requires old { All (QuadFits 2048 2048 (length reaches.now)) (quads_view old.now) }
     requires i { i < length old.now }
-    requires new { All (Fits 2048 2048 (length reaches.now)) (quads_view new.now) }
+    requires new { All (QuadFits 2048 2048 (length reaches.now)) (quads_view new.now) }
     requires j { j < length new.now }
     requires reaches { All IsOnScreen reaches.now }
     requires damage { All IsOnScreen damage.old.items }
@@ -136,7 +136,7 @@ fn add_step(
 
 // how two lists go on from a place in each
 #[derive(Clone, Copy)]
-struct Step {
+struct ListStep {
     // the quads there act alike
     act_alike: bool,
     // how many quads of the old list are gone
@@ -147,8 +147,8 @@ struct Step {
 
 // how two lists go on: by one quad in each that acts alike, or by what has to go and to come until two quads
 // stand for one thing
-fn step_at(old: &[Quad], i: usize, new: &[Quad], j: usize, passes: usize) -> Step
-    requires old { All (Fits 2048 2048 passes) (quads_view old.now) }
+fn step_at(old: &[Quad], i: usize, new: &[Quad], j: usize, passes: usize) -> ListStep
+    requires old { All (QuadFits 2048 2048 passes) (quads_view old.now) }
     requires i { i < length old.now }
     requires j { j < length new.now }
     ensures alike { IsTrue result.act_alike → GoOnAlike (quads_view old.now) i (quads_view new.now) j }
@@ -157,7 +157,7 @@ fn step_at(old: &[Quad], i: usize, new: &[Quad], j: usize, passes: usize) -> Ste
     ensures some { 1 ≤ result.gone + result.come }
 {
     if act_alike(&old[i], &new[j], passes) {
-        return Step {
+        return ListStep {
             act_alike: true,
             gone: 1,
             come: 1,
@@ -175,7 +175,7 @@ fn most_ahead(a: &Quad, b: &Quad) -> usize {
 }
 
 // how many quads have to go and to come until two quads stand for one thing
-fn step_over(old: &[Quad], i: usize, new: &[Quad], j: usize) -> Step
+fn step_over(old: &[Quad], i: usize, new: &[Quad], j: usize) -> ListStep
     requires i { i < length old.now }
     requires j { j < length new.now }
     ensures change { result.act_alike ≡ false }
@@ -183,7 +183,7 @@ fn step_over(old: &[Quad], i: usize, new: &[Quad], j: usize) -> Step
     ensures come { j + result.come ≤ length new.now }
     ensures some { 1 ≤ result.gone + result.come }
 {
-    let changed = Step {
+    let changed = ListStep {
         act_alike: false,
         gone: 1,
         come: 1,
@@ -194,14 +194,14 @@ fn step_over(old: &[Quad], i: usize, new: &[Quad], j: usize) -> Step
     let most = most_ahead(&old[i], &new[j]);
     for ahead in 1..most {
         if ahead < old.len() - i && stand_for_one(&old[i + ahead], &new[j]) {
-            return Step {
+            return ListStep {
                 act_alike: false,
                 gone: ahead,
                 come: 0,
             };
         }
         if ahead < new.len() - j && stand_for_one(&old[i], &new[j + ahead]) {
-            return Step {
+            return ListStep {
                 act_alike: false,
                 gone: 0,
                 come: ahead,
@@ -219,7 +219,7 @@ fn add_areas(
     reaches: &[Rect],
     damage: &mut Vec<Rect>,
 ) -> Result<(), AllocError>
-    requires quads { All (Fits 2048 2048 (length reaches.now)) (quads_view quads.now) }
+    requires quads { All (QuadFits 2048 2048 (length reaches.now)) (quads_view quads.now) }
     requires count { start + count ≤ length quads.now }
     requires reaches { All IsOnScreen reaches.now }
     requires damage { All IsOnScreen damage.old.items }

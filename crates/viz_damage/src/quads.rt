@@ -2,7 +2,7 @@
 
 ghost use Rattle.std.specs.Prelude.{◌≡◌, ◌<◌, ◌∷◌, [], All, length, IsTrue};
 ghost use Rattle.viz_scene.specs.Views.{quad_view, quads_view};
-ghost use Rattle.viz_scene.specs.Sound.{Fits};
+ghost use Rattle.viz_scene.specs.Sound.{QuadFits};
 ghost use Rattle.viz_scene.specs.Areas.{IsOnScreen};
 ghost use Rattle.viz_damage.specs.inner.Alike.{AreSameImages, ActAlike, ActWithin};
 
@@ -15,7 +15,7 @@ use viz_scene::Quad;
 /// Whether two quads act alike: tiles and solids that lie on one rect and show the same there, or groups of
 /// one pass with one opacity.
 pub(crate) fn act_alike(a: &Quad, b: &Quad, passes: usize) -> bool
-    requires fits { Fits 2048 2048 passes (quad_view a.now) }
+    requires fits { QuadFits 2048 2048 passes (quad_view a.now) }
     ensures { IsTrue result → ActAlike (quad_view a.now) (quad_view b.now) }
 {
     match (a, b) {
@@ -70,7 +70,7 @@ pub(crate) fn stand_for_one(a: &Quad, b: &Quad) -> bool {
 
 /// The area that a quad acts on, where the passes have these reaches.
 pub(crate) fn area_of(quad: &Quad, reaches: &[Rect]) -> Rect
-    requires fits { Fits 2048 2048 (length reaches.now) (quad_view quad.now) }
+    requires fits { QuadFits 2048 2048 (length reaches.now) (quad_view quad.now) }
     requires reaches { All IsOnScreen reaches.now }
     ensures within { ActWithin reaches.now (result ∷ []) (quad_view quad.now ∷ []) }
     ensures inside { IsOnScreen result }
@@ -84,7 +84,7 @@ pub(crate) fn area_of(quad: &Quad, reaches: &[Rect]) -> Rect
 
 /// The reach of a pass: a rect that holds the areas that its quads act on.
 pub(crate) fn reach_of(quads: &[Quad], reaches: &[Rect]) -> Rect
-    requires fits { All (Fits 2048 2048 (length reaches.now)) (quads_view quads.now) }
+    requires fits { All (QuadFits 2048 2048 (length reaches.now)) (quads_view quads.now) }
     requires reaches { All IsOnScreen reaches.now }
     ensures within { ActWithin reaches.now (result ∷ []) (quads_view quads.now) }
     ensures inside { IsOnScreen result }

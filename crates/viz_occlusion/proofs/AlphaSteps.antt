@@ -10,13 +10,13 @@ use Rattle.pixel.specs.Colours.{Parts}
 use Rattle.pixel.specs.Rows.{pixel}
 use Rattle.page_display_list.specs.Content.{content}
 use Rattle.page_display_list.specs.Bitmaps.{near}
-use Rattle.tile_raster.specs.Images.{Image, IsOneColour, AreSameRows, shown}
+use Rattle.tile_raster.specs.Images.{Image, IsOneColour, AreSameRows, list_colour}
 use Rattle.viz_scene.specs.Views.{QuadView, tiled, plain}
 use Rattle.viz_scene.specs.Pixels.{placed_pixel}
 use Rattle.viz_scene.specs.Opaque.{IsOpaque}
 use Rattle.viz_scene.specs.Sound.{IsTaken}
 use Rattle.viz_scene.specs.Areas.{IsOnScreen}
-use Rattle.viz_occlusion.specs.declared.opaque.Part.{Part}
+use Rattle.viz_occlusion.specs.declared.opaque.ImagePart.{ImagePart}
 use Rattle.viz_occlusion.specs.inner.Cover.{IsOpaquePart, HasOtherAlpha, HidesNothing}
 
 -- a count that is not negative
@@ -48,7 +48,7 @@ place_inside from len end k low size fit lt =
 
 -- the pixel that lies on a point
 pub placed_shown : (image : Image) (at : Rect) (from : Point) (x y : ℤ) → IsTaken image at from → covers at x y ≡ true
-    → placed_pixel image at from x y ≡ shown image.list image.rect (near from.x + near (x -ℤ at.x)) (near from.y + near (y -ℤ at.y))
+    → placed_pixel image at from x y ≡ list_colour image.list image.rect (near from.x + near (x -ℤ at.x)) (near from.y + near (y -ℤ at.y))
 placed_shown image at from x y t h =
     let k = both _ _ h in
     let across = inside at.x at.w x k.0 in
@@ -57,13 +57,13 @@ placed_shown image at from x y t h =
     ∙ ap (content image.list (image.rect.x +ℤ pos (near from.x + near (x -ℤ at.x)))) (place_is image.rect.y from.y at.y y t.top down.low)
 
 -- the part that a rect shows
-pub record IsPartOf (at : Rect) (from : Point) (part : Part) : Type 0 where
+pub record IsPartOf (at : Rect) (from : Point) (part : ImagePart) : Type 0 where
   pub left : part.left ≡ near from.x
   pub top : part.top ≡ near from.y
   pub w : part.w ≡ near at.w
   pub h : part.h ≡ near at.h
 
-pub opaque_tile : (image : Image) (at : Rect) (from : Point) (part : Part) → IsTaken image at from → IsPartOf at from part → IsOpaquePart image part
+pub opaque_tile : (image : Image) (at : Rect) (from : Point) (part : ImagePart) → IsTaken image at from → IsPartOf at from part → IsOpaquePart image part
     → IsOpaque (tiled image at from)
 opaque_tile image at from part t is each x y h =
     let k = both _ _ h in
@@ -74,8 +74,8 @@ opaque_tile image at from part t is each x y h =
     let column : near (x -ℤ at.x) < part.w = let lt = place_below at.x at.w x k.0 in omega arith in
     let row : near (y -ℤ at.y) < part.h = let lt = place_below at.y at.h y k.1 in omega arith in
     ap (λ (c : Parts). c.a) (placed_shown image at from x y t h)
-    ∙ ap (λ (n : ℕ). (shown image.list image.rect (n + near (x -ℤ at.x)) (near from.y + near (y -ℤ at.y))).a) (sym left)
-    ∙ ap (λ (n : ℕ). (shown image.list image.rect (part.left + near (x -ℤ at.x)) (n + near (y -ℤ at.y))).a) (sym top)
+    ∙ ap (λ (n : ℕ). (list_colour image.list image.rect (n + near (x -ℤ at.x)) (near from.y + near (y -ℤ at.y))).a) (sym left)
+    ∙ ap (λ (n : ℕ). (list_colour image.list image.rect (part.left + near (x -ℤ at.x)) (n + near (y -ℤ at.y))).a) (sym top)
     ∙ each (near (x -ℤ at.x)) (near (y -ℤ at.y)) column row
 
 -- a point of a rect, counted from its corner
@@ -90,7 +90,7 @@ back at k = ap near (same at k)
     same : (at : ℤ) (k : ℕ) → (at +ℤ pos k) -ℤ at ≡ pos k
     same at k = omega (arith, ints)
 
-pub other_tile : (image : Image) (at : Rect) (from : Point) (part : Part) → IsOnScreen at → IsTaken image at from → IsPartOf at from part
+pub other_tile : (image : Image) (at : Rect) (from : Point) (part : ImagePart) → IsOnScreen at → IsTaken image at from → IsPartOf at from part
     → HasOtherAlpha image part → HidesNothing (tiled image at from)
 other_tile image at from part on t is other x y opaque lies =
     let left = is.left in
@@ -105,10 +105,10 @@ other_tile image at from part on t is other x y opaque lies =
     let py = at.y +ℤ pos other.y in
     let there = both_of _ _ (point_in at.x at.w other.x on.width column) (point_in at.y at.h other.y on.height row) in
     other.other
-    (ap (λ (n : ℕ). (shown image.list image.rect (n + other.x) (part.top + other.y)).a) left
-    ∙ ap (λ (n : ℕ). (shown image.list image.rect (near from.x + other.x) (n + other.y)).a) top
-    ∙ ap (λ (n : ℕ). (shown image.list image.rect (near from.x + n) (near from.y + other.y)).a) (sym (back at.x other.x))
-    ∙ ap (λ (n : ℕ). (shown image.list image.rect (near from.x + near (px -ℤ at.x)) (near from.y + n)).a) (sym (back at.y other.y))
+    (ap (λ (n : ℕ). (list_colour image.list image.rect (n + other.x) (part.top + other.y)).a) left
+    ∙ ap (λ (n : ℕ). (list_colour image.list image.rect (near from.x + other.x) (n + other.y)).a) top
+    ∙ ap (λ (n : ℕ). (list_colour image.list image.rect (near from.x + n) (near from.y + other.y)).a) (sym (back at.x other.x))
+    ∙ ap (λ (n : ℕ). (list_colour image.list image.rect (near from.x + near (px -ℤ at.x)) (near from.y + n)).a) (sym (back at.y other.y))
     ∙ ap (λ (c : Parts). c.a) (sym (placed_shown image at from px py t there))
     ∙ opaque px py there)
 
@@ -137,9 +137,9 @@ never true f t = cc
 never false f t = cc
 
 -- a pixel of a row of the part that has another alpha
-pub other_at : (image : Image) (part : Part) (bytes : List ℕ) (y k : ℕ) → y < part.h → part.left ≤ k → k < part.left + part.w
+pub other_at : (image : Image) (part : ImagePart) (bytes : List ℕ) (y k : ℕ) → y < part.h → part.left ≤ k → k < part.left + part.w
     → part.left + part.w ≤ near image.rect.w
-    → ((x : ℕ) → x < near image.rect.w → pixel bytes x ≡ shown image.list image.rect x (part.top + y))
+    → ((x : ℕ) → x < near image.rect.w → pixel bytes x ≡ list_colour image.list image.rect x (part.top + y))
     → ((pixel bytes k).a ≡ 255 → ⊥) → HasOtherAlpha image part
 other_at image part bytes y k down le lt fit pixels other =
     let column : k ≡ part.left + (k - part.left) = omega arith in
@@ -151,25 +151,25 @@ other_at image part bytes y k down le lt fit pixels other =
       other = λ e.
           other
           (ap (λ (c : Parts). c.a) (pixels k (omega arith))
-          ∙ ap (λ (n : ℕ). (shown image.list image.rect n (part.top + y)).a) column
+          ∙ ap (λ (n : ℕ). (list_colour image.list image.rect n (part.top + y)).a) column
           ∙ e);
     }
 
 -- rows that are equal to an opaque one
-pub rows_more : (image : Image) (part : Part) (bytes : List ℕ) (y n : ℕ) → part.left + part.w ≤ near image.rect.w
-    → ((x : ℕ) → x < near image.rect.w → pixel bytes x ≡ shown image.list image.rect x (part.top + y))
+pub rows_more : (image : Image) (part : ImagePart) (bytes : List ℕ) (y n : ℕ) → part.left + part.w ≤ near image.rect.w
+    → ((x : ℕ) → x < near image.rect.w → pixel bytes x ≡ list_colour image.list image.rect x (part.top + y))
     → ((k : ℕ) → part.left ≤ k → k < part.left + part.w → (pixel bytes k).a ≡ 255)
     → ((k : ℕ) → k < n → AreSameRows image.list image.rect (part.top + y) (part.top + y + k))
-    → ((x j : ℕ) → x < part.w → j < y → (shown image.list image.rect (part.left + x) (part.top + j)).a ≡ 255)
-    → (x j : ℕ) → x < part.w → j < y + n → (shown image.list image.rect (part.left + x) (part.top + j)).a ≡ 255
+    → ((x j : ℕ) → x < part.w → j < y → (list_colour image.list image.rect (part.left + x) (part.top + j)).a ≡ 255)
+    → (x j : ℕ) → x < part.w → j < y + n → (list_colour image.list image.rect (part.left + x) (part.top + j)).a ≡ 255
 rows_more image part bytes y n fit pixels alphas same above x j across down = by_side (cases_lt j y)
   where
-    by_side : (j < y) ⊎ (y ≤ j) → (shown image.list image.rect (part.left + x) (part.top + j)).a ≡ 255
+    by_side : (j < y) ⊎ (y ≤ j) → (list_colour image.list image.rect (part.left + x) (part.top + j)).a ≡ 255
     by_side (inl before) = above x j across before
     by_side (inr behind) =
         let row : part.top + j ≡ part.top + y + (j - y) = omega arith in
         let wide : part.left + x < near image.rect.w = omega arith in
-        ap (λ (m : ℕ). (shown image.list image.rect (part.left + x) m).a) row
+        ap (λ (m : ℕ). (list_colour image.list image.rect (part.left + x) m).a) row
         ∙ ap (λ (c : Parts). c.a) (sym (same (j - y) (omega arith) (part.left + x) wide))
         ∙ ap (λ (c : Parts). c.a) (sym (pixels (part.left + x) wide))
         ∙ alphas (part.left + x) (omega arith) (omega arith)

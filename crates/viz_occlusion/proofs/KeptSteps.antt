@@ -14,7 +14,7 @@ use Rattle.viz_scene.specs.declared.RenderPass.{RenderPass}
 use Rattle.viz_scene.specs.Views.{QuadView, tiled, plain, grouped, quad_view, quads_view, pass_view, passes_view, SceneView}
 use Rattle.viz_scene.specs.Pixels.{placed_pixel, quad_over, quads_over, passes_at, root_pixel, scene_pixel}
 use Rattle.viz_scene.specs.Opaque.{IsOpaque, LiesOn, IsCovered, IsHidden}
-use Rattle.viz_scene.specs.Sound.{IsIn, IsTaken, Fits, AreSound, IsSide, IsScene}
+use Rattle.viz_scene.specs.Sound.{IsIn, IsTaken, QuadFits, AreSound, IsSceneSide, IsScene}
 use Rattle.viz_scene.proofs.Hiding.{hidden_drops}
 use Rattle.viz_scene.proofs.Steps.{sound_at}
 use Rattle.std.proofs.lemmas.Int.{ints}
@@ -152,19 +152,19 @@ all_show (q ∷ qs) (r ∷ rs) fit (inr stays) passes x y below =
     ∙ all_show qs rs (tail_of IsFit q qs fit) stays.2 passes x y (quad_over passes x y below q)
 
 -- and fits as before
-kept_fits : (w h i : ℕ) (q r : QuadView) → Fits w h i q → IsKeptAs q r → Fits w h i r
-kept_fits w h i (tiled image at from) r f (inl same) = subst (Fits w h i) (sym same.1) f
-kept_fits w h i (tiled image at from) r f (inr one) = subst (Fits w h i) (sym one.2) f.0
-kept_fits w h i (plain at colour) r f same = subst (Fits w h i) (sym same) f
-kept_fits w h i (grouped pass opacity) r f same = subst (Fits w h i) (sym same) f
+kept_fits : (w h i : ℕ) (q r : QuadView) → QuadFits w h i q → IsKeptAs q r → QuadFits w h i r
+kept_fits w h i (tiled image at from) r f (inl same) = subst (QuadFits w h i) (sym same.1) f
+kept_fits w h i (tiled image at from) r f (inr one) = subst (QuadFits w h i) (sym one.2) f.0
+kept_fits w h i (plain at colour) r f same = subst (QuadFits w h i) (sym same) f
+kept_fits w h i (grouped pass opacity) r f same = subst (QuadFits w h i) (sym same) f
 
-all_fit : (w h i : ℕ) (qs rs : List QuadView) → All (Fits w h i) qs → AreKept qs rs → All (Fits w h i) rs
+all_fit : (w h i : ℕ) (qs rs : List QuadView) → All (QuadFits w h i) qs → AreKept qs rs → All (QuadFits w h i) rs
 all_fit w h i [] [] f k = f
 all_fit w h i [] (r ∷ rs) f k = absurd k
-all_fit w h i (q ∷ qs) [] f k = all_fit w h i qs [] (tail_of (Fits w h i) q qs f) k.1
-all_fit w h i (q ∷ qs) (r ∷ rs) f (inl gone) = all_fit w h i qs (r ∷ rs) (tail_of (Fits w h i) q qs f) gone.1
+all_fit w h i (q ∷ qs) [] f k = all_fit w h i qs [] (tail_of (QuadFits w h i) q qs f) k.1
+all_fit w h i (q ∷ qs) (r ∷ rs) f (inl gone) = all_fit w h i qs (r ∷ rs) (tail_of (QuadFits w h i) q qs f) gone.1
 all_fit w h i (q ∷ qs) (r ∷ rs) f (inr stays) =
-    both_of (Fits w h i) r rs (kept_fits w h i q r (head_of (Fits w h i) q qs f) stays.1) (all_fit w h i qs rs (tail_of (Fits w h i) q qs f) stays.2)
+    both_of (QuadFits w h i) r rs (kept_fits w h i q r (head_of (QuadFits w h i) q qs f) stays.1) (all_fit w h i qs rs (tail_of (QuadFits w h i) q qs f) stays.2)
 
 -- passes
 pub passes_fit : (w h i : ℕ) (ps rs : List (List QuadView)) → AreSound w h i ps → AreAllKept ps rs → AreSound w h i rs
@@ -179,10 +179,10 @@ as_many [] (r ∷ rs) k = absurd k
 as_many (p ∷ ps) [] k = absurd k
 as_many (p ∷ ps) (r ∷ rs) k = ap suc (as_many ps rs k.1)
 
-fit_in : (w h i : ℕ) → IsSide w → IsSide h → (q : QuadView) → Fits w h i q → IsFit q
+fit_in : (w h i : ℕ) → IsSceneSide w → IsSceneSide h → (q : QuadView) → QuadFits w h i q → IsFit q
 fit_in w h i wide tall (tiled image at from) f = (on_screen w h at wide tall f.0, f.1)
   where
-    on_screen : (w h : ℕ) (at : Rect) → IsSide w → IsSide h → IsIn w h at → IsOnScreen at
+    on_screen : (w h : ℕ) (at : Rect) → IsSceneSide w → IsSceneSide h → IsIn w h at → IsOnScreen at
     on_screen w h at wide tall i =
         record { left = i.left; top = i.top; width = i.width; height = i.height; right = omega (arith, ints); bottom = omega (arith, ints) }
 fit_in w h i wide tall (plain at colour) f =
@@ -190,11 +190,11 @@ fit_in w h i wide tall (plain at colour) f =
 fit_in w h i wide tall (grouped pass opacity) f = tt
 
 -- a pass over a colour, and the colours of the passes
-over_same : (w h i : ℕ) → IsSide w → IsSide h → (p r : List QuadView) → All (Fits w h i) p → AreKept p r → (passes : List Parts) (x y : ℤ) (below : Parts)
+over_same : (w h i : ℕ) → IsSceneSide w → IsSceneSide h → (p r : List QuadView) → All (QuadFits w h i) p → AreKept p r → (passes : List Parts) (x y : ℤ) (below : Parts)
     → quads_over passes x y below r ≡ quads_over passes x y below p
-over_same w h i wide tall p r f k = all_show p r (All-weaker (Fits w h i) IsFit (fit_in w h i wide tall) p f) k
+over_same w h i wide tall p r f k = all_show p r (All-weaker (QuadFits w h i) IsFit (fit_in w h i wide tall) p f) k
 
-same_root : (w h i : ℕ) → IsSide w → IsSide h → (x y : ℤ) (below : Parts) (before : List Parts) (ps rs : List (List QuadView)) → AreSound w h i ps
+same_root : (w h i : ℕ) → IsSceneSide w → IsSceneSide h → (x y : ℤ) (below : Parts) (before : List Parts) (ps rs : List (List QuadView)) → AreSound w h i ps
     → AreAllKept ps rs → root_pixel x y below before rs ≡ root_pixel x y below before ps
 same_root w h i wide tall x y below before [] [] s k = refl
 same_root w h i wide tall x y below before [] (r ∷ rs) s k = absurd k
@@ -231,7 +231,7 @@ pub scene_fits : (s : SceneView) → IsScene s → All (All IsFit) s.passes
 scene_fits s is k d lt =
     let fits = sound_at s.w s.h 0 k s.passes is.sound lt in
     let same : slice_index_or s.passes k [] ≡ slice_index_or s.passes k d = get_or_default s.passes k [] d lt in
-    subst (All IsFit) same (All-weaker (Fits s.w s.h (0 + k)) IsFit (fit_in s.w s.h (0 + k) is.wide is.tall) (slice_index_or s.passes k []) fits)
+    subst (All IsFit) same (All-weaker (QuadFits s.w s.h (0 + k)) IsFit (fit_in s.w s.h (0 + k) is.wide is.tall) (slice_index_or s.passes k []) fits)
 
 -- one pass more
 pub passes_kept : (ps rs : List (List QuadView)) (p r : List QuadView) → AreAllKept ps rs → AreKept p r → AreAllKept (ps ++ p ∷ []) (rs ++ r ∷ [])

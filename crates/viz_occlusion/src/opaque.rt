@@ -49,7 +49,7 @@ fn is_opaque_tile(image: &TileImage, at: Rect, from: Point) -> bool
 
 /// A part of an image: the columns from `left` and the rows from `top` on.
 #[derive(Clone, Copy)]
-pub(crate) struct Part {
+pub(crate) struct ImagePart {
     pub(crate) left: usize,
     pub(crate) top: usize,
     pub(crate) w: usize,
@@ -57,7 +57,7 @@ pub(crate) struct Part {
 }
 
 // the part of an image as large as a rect, from a pixel on
-fn part_of(at: Rect, from: Point) -> Part
+fn part_of(at: Rect, from: Point) -> ImagePart
     requires at { IsOnScreen at }
     requires left { pos 0 ≤ℤ from.x }
     requires top { pos 0 ≤ℤ from.y }
@@ -66,7 +66,7 @@ fn part_of(at: Rect, from: Point) -> Part
     ensures w { result.w ≡ near at.w }
     ensures h { result.h ≡ near at.h }
 {
-    Part {
+    ImagePart {
         left: count(from.x),
         top: count(from.y),
         w: count(at.w),
@@ -83,7 +83,7 @@ fn count(n: i32) -> usize
 }
 
 // whether a part of an image is opaque
-fn is_opaque_part(image: &TileImage, part: Part) -> bool
+fn is_opaque_part(image: &TileImage, part: ImagePart) -> bool
     requires across { part.left + part.w ≤ near image.now.rect.w }
     requires down { part.top + part.h ≤ near image.now.rect.h }
     requires far { part.top < 2 ^ 31 }

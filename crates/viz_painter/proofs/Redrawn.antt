@@ -20,7 +20,7 @@ use Rattle.viz_occlusion.specs.Culled.{IsCulled}
 use Rattle.viz_render.proofs.Hulls.{differs}
 use Rattle.viz_painter.specs.Painters.{ShowsWhole, HoldsCulled, IsKeptOutside, has_row}
 use Rattle.viz_painter.specs.inner.Helds.{HeldView, culled_of}
-use Rattle.viz_painter.specs.declared.rows.Rows.{Rows}
+use Rattle.viz_painter.specs.declared.frame_rows.FrameRows.{FrameRows}
 
 -- a pixel of the screen
 on_screen : (s : SceneView) (x y : ℕ) → x < s.w → y < s.h → covers (screen s) (pos x) (pos y) ≡ true
@@ -84,7 +84,7 @@ shown_whole s t f culled shown = record {
 }
 
 -- where a region was drawn, the rows outside of its rows are left
-pub kept_outside : (rows : Rows) (s : SceneView) (region : List Rect) (before after : FrameView)
+pub kept_outside : (rows : FrameRows) (s : SceneView) (region : List Rect) (before after : FrameView)
     → ((x : ℤ) (y : ℕ) → has_row rows y ≡ false → covered region x (pos y) ≡ false) → ShowsIn s region before after → IsKeptOutside rows before after
 kept_outside rows s region before after out drawn = record {
   pixels = λ x y xw yh off.
@@ -92,11 +92,11 @@ kept_outside rows s region before after out drawn = record {
 }
 
 -- a frame to which nothing was done
-pub same_kept : (rows : Rows) (f : FrameView) → IsKeptOutside rows f f
+pub same_kept : (rows : FrameRows) (f : FrameView) → IsKeptOutside rows f f
 same_kept rows f = record { pixels = λ x y xw yh off. refl }
 
 -- outside of all rows of a frame there is none
-pub all_kept : (rows : Rows) (before after : FrameView) → ((y : ℕ) → y < after.h → has_row rows y ≡ true) → IsKeptOutside rows before after
+pub all_kept : (rows : FrameRows) (before after : FrameView) → ((y : ℕ) → y < after.h → has_row rows y ≡ true) → IsKeptOutside rows before after
 all_kept rows before after each = record { pixels = λ x y xw yh off. absurd (differs _ off (each y yh)) }
 
 -- a scene that is held again

@@ -2,7 +2,7 @@
 
 ghost use Rattle.std.specs.Prelude.{OnOk};
 ghost use Rattle.std.specs.Thread.{IsSync};
-ghost use Rattle.viz_render.specs.Frames.{IsOfSize, Shows, ShowsIn};
+ghost use Rattle.viz_render.specs.Frames.{IsOfSize, FrameShows, ShowsIn};
 
 use region::Region;
 use std::alloc::AllocError;
@@ -21,7 +21,7 @@ pub(crate) trait Hands {
         requires can { can_draw self.now }
         requires size { IsOfSize scene.now.w scene.now.h frame.old }
         ensures size { IsOfSize scene.now.w scene.now.h frame.new }
-        ensures ok { OnOk result (Shows scene.now frame.new) };
+        ensures ok { OnOk result (FrameShows scene.now frame.new) };
 
     /// Draws the part of a scene that a region covers.
     fn draw_region(

@@ -11,11 +11,11 @@
 
 mod changes;
 mod hands;
-mod held;
+mod held_scene;
 mod painting;
 mod redrawing;
-mod rows;
+mod frame_rows;
 mod worth;
 
 pub use painting::Painter;
-pub use rows::Rows;
+pub use frame_rows::FrameRows;

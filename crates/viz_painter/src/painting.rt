@@ -1,15 +1,15 @@
 //! Painters.
 
 ghost use Rattle.std.specs.Prelude.{◌≡◌, None, IfOk, OnOk, OnErr};
-ghost use Rattle.viz_scene.specs.Sound.{IsSide};
+ghost use Rattle.viz_scene.specs.Sound.{IsSceneSide};
 ghost use Rattle.viz_render.specs.Frames.{IsOfSize, EachIs, black};
 ghost use Rattle.viz_painter.specs.Painters.{ShowsWhole, HoldsCulled, IsKeptOutside};
 
 use crate::changes::{all_rows, no_rows};
 use crate::hands::{Hands, ManyThreads, OneThread};
-use crate::held::{Held, is_held};
+use crate::held_scene::{HeldScene, is_held};
 use crate::redrawing::show_next;
-use crate::rows::Rows;
+use crate::frame_rows::FrameRows;
 use std::alloc::{AllocError, Global};
 use std::marker::{Model, Sync};
 use std::thread::Threads;
@@ -22,9 +22,9 @@ pub struct Painter {
     alloc: Global,
     frame: Frame,
     // the scene that the frame shows; None at first and after a refusal
-    held: Option<Held>,
+    held: Option<HeldScene>,
     // the rows that the last drawing may have changed
-    changed: Rows,
+    changed: FrameRows,
 }
 
 impl Model for Painter {
@@ -42,8 +42,8 @@ impl Painter {
     /// A painter that holds no scene. Its frame has these sides, 1 to 2048 pixels each, and is black and
     /// opaque. An error is want of memory.
     pub fn new(alloc: Global, w: u32, h: u32) -> Result<Painter, AllocError>
-        requires wide { IsSide w }
-        requires tall { IsSide h }
+        requires wide { IsSceneSide w }
+        requires tall { IsSceneSide h }
         ensures size { IfOk result (λ painter. IsOfSize w h painter.frame) }
         ensures pixels { IfOk result (λ painter. EachIs (λ x y. black) painter.frame) }
         ensures held { IfOk result (λ painter. painter.held ≡ None) }
@@ -67,7 +67,7 @@ impl Painter {
 
     /// The rows that the last `paint` may have changed: outside of them the frame's pixels are those
     /// before it. All rows where the whole was drawn or memory was refused.
-    pub fn changed_rows(&self) -> Rows
+    pub fn changed_rows(&self) -> FrameRows
         ensures { result ≡ self.now.changed }
     {
         self.changed

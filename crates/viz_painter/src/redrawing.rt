@@ -9,8 +9,8 @@ ghost use Rattle.viz_painter.specs.inner.Helds.{culled_of};
 
 use crate::changes::{all_rows, rows_of};
 use crate::hands::Hands;
-use crate::held::Held;
-use crate::rows::Rows;
+use crate::held_scene::HeldScene;
+use crate::frame_rows::FrameRows;
 use crate::worth::pays;
 use std::alloc::{AllocError, Global};
 use viz_damage::damage_of;
@@ -24,9 +24,9 @@ pub(crate) fn show_next<H: Hands>(
     hands: &H,
     alloc: Global,
     frame: &mut Frame,
-    held: Option<Held>,
+    held: Option<HeldScene>,
     scene: Scene,
-) -> Result<(Held, Rows), AllocError>
+) -> Result<(HeldScene, FrameRows), AllocError>
     requires can { H.can_draw hands.now }
     requires shown { IfSome (culled_of held) (λ old. ShowsWhole old frame.old) }
     ensures scene { IfOk result (λ next. next.0.scene ≡ scene) }
@@ -34,7 +34,7 @@ pub(crate) fn show_next<H: Hands>(
     ensures shown { IfOk result (λ next. ShowsWhole next.0.culled frame.new) }
     ensures kept { IfOk result (λ next. IsKeptOutside next.1 frame.old frame.new) }
 {
-    let next = Held::new(alloc, scene)?;
+    let next = HeldScene::new(alloc, scene)?;
     let changed = redraw(hands, alloc, frame, held, next.culled())?;
     Ok((next, changed))
 }
@@ -45,9 +45,9 @@ fn redraw<H: Hands>(
     hands: &H,
     alloc: Global,
     frame: &mut Frame,
-    held: Option<Held>,
+    held: Option<HeldScene>,
     scene: &Scene,
-) -> Result<Rows, AllocError>
+) -> Result<FrameRows, AllocError>
     requires can { H.can_draw hands.now }
     requires shown { IfSome (culled_of held) (λ old. ShowsWhole old frame.old) }
     ensures shown { OnOk result (ShowsWhole scene.now frame.new) }
@@ -76,7 +76,7 @@ fn draw_whole<H: Hands>(
     alloc: Global,
     frame: &mut Frame,
     scene: &Scene,
-) -> Result<Rows, AllocError>
+) -> Result<FrameRows, AllocError>
     requires { H.can_draw hands.now }
     ensures shown { OnOk result (ShowsWhole scene.now frame.new) }
     ensures kept { IfOk result (λ rows. IsKeptOutside rows frame.old frame.new) }
@@ -105,7 +105,7 @@ fn draw_change<H: Hands>(
     frame: &mut Frame,
     old: &Scene,
     scene: &Scene,
-) -> Result<Rows, AllocError>
+) -> Result<FrameRows, AllocError>
     requires can { H.can_draw hands.now }
     requires wide { old.now.w ≡ scene.now.w }
     requires tall { old.now.h ≡ scene.now.h }
@@ -127,7 +127,7 @@ fn draw_shift<H: Hands>(
     old: &Scene,
     scene: &Scene,
     shift: Shift,
-) -> Result<Rows, AllocError>
+) -> Result<FrameRows, AllocError>
     requires can { H.can_draw hands.now }
     requires wide { old.now.w ≡ scene.now.w }
     requires tall { old.now.h ≡ scene.now.h }
@@ -154,7 +154,7 @@ fn draw_damage<H: Hands>(
     frame: &mut Frame,
     old: &Scene,
     scene: &Scene,
-) -> Result<Rows, AllocError>
+) -> Result<FrameRows, AllocError>
     requires can { H.can_draw hands.now }
     requires wide { old.now.w ≡ scene.now.w }
     requires tall { old.now.h ≡ scene.now.h }

@@ -15,7 +15,7 @@ use Rattle.tile_raster.specs.Images.{Image, IsOneColour}
 use Rattle.viz_scene.specs.declared.quad.Quad.{Quad}
 use Rattle.viz_scene.specs.Views.{QuadView, tiled, plain, quad_view, quads_view}
 use Rattle.viz_scene.specs.Pixels.{placed_pixel, quads_over}
-use Rattle.viz_scene.specs.Sound.{IsIn, IsTaken, Fits}
+use Rattle.viz_scene.specs.Sound.{IsIn, IsTaken, QuadFits}
 use Rattle.viz_scene.proofs.Steps.{quads_append}
 use Rattle.viz_quads.specs.inner.Joins.{ActAs, IsBeside, IsBelow, AreOne}
 use Rattle.viz_quads.proofs.Lists.{all_front, all_back}
@@ -33,11 +33,11 @@ act_through ps qs rs a b = record {
 
 pub act_behind : (rs qs ss ps : List QuadView) → ActAs rs qs → ActAs ss ps → ActAs (rs ++ ss) (qs ++ ps)
 act_behind rs qs ss ps a b = record {
-  fit = λ w h i all. All-append (Fits w h i) rs ss (a.fit w h i (all_front (Fits w h i) qs ps all)) (b.fit w h i (all_back (Fits w h i) qs ps all));
+  fit = λ w h i all. All-append (QuadFits w h i) rs ss (a.fit w h i (all_front (QuadFits w h i) qs ps all)) (b.fit w h i (all_back (QuadFits w h i) qs ps all));
   shows = λ w h i all passes x y below.
       quads_append passes x y below rs ss
-      ∙ ap (λ (c : Parts). quads_over passes x y c ss) (a.shows w h i (all_front (Fits w h i) qs ps all) passes x y below)
-      ∙ b.shows w h i (all_back (Fits w h i) qs ps all) passes x y (quads_over passes x y below qs)
+      ∙ ap (λ (c : Parts). quads_over passes x y c ss) (a.shows w h i (all_front (QuadFits w h i) qs ps all) passes x y below)
+      ∙ b.shows w h i (all_back (QuadFits w h i) qs ps all) passes x y (quads_over passes x y below qs)
       ∙ sym (quads_append passes x y below qs ps);
 }
 
@@ -159,7 +159,7 @@ laid_once false false u below c e apart = ap (λ (b : Bool). cond b (blend below
 -- one rect of a colour acts as two of that colour
 pub act_joined : (r s t : Rect) (c d : Parts) → AreOne r s t → c ≡ d → ActAs (plain t c ∷ []) (plain r c ∷ plain s d ∷ [])
 act_joined r s t c d one same = record {
-  fit = λ w h i all. let (a, b) = in_two w h i all in All-cons (Fits w h i) (plain t c) [] (one_in r s t w h one a b) (All-nil (Fits w h i));
+  fit = λ w h i all. let (a, b) = in_two w h i all in All-cons (QuadFits w h i) (plain t c) [] (one_in r s t w h one a b) (All-nil (QuadFits w h i));
   shows = λ w h i all passes x y below.
       let (a, b) = in_two w h i all in
       let is = covered_one r s t w h one a b in
@@ -167,8 +167,8 @@ act_joined r s t c d one same = record {
       ∙ ap (λ (e : Parts). cond (covers s x y) (blend (cond (covers r x y) (blend below c) below) e) (cond (covers r x y) (blend below c) below)) same;
 }
   where
-    in_two : (w h i : ℕ) → All (Fits w h i) (plain r c ∷ plain s d ∷ []) → IsIn w h r × IsIn w h s
-    in_two w h i all = (All-head (Fits w h i) (plain r c) (plain s d ∷ []) all, All-head (Fits w h i) (plain s d) [] (All-tail (Fits w h i) (plain r c) (plain s d ∷ []) all))
+    in_two : (w h i : ℕ) → All (QuadFits w h i) (plain r c ∷ plain s d ∷ []) → IsIn w h r × IsIn w h s
+    in_two w h i all = (All-head (QuadFits w h i) (plain r c) (plain s d ∷ []) all, All-head (QuadFits w h i) (plain s d) [] (All-tail (QuadFits w h i) (plain r c) (plain s d ∷ []) all))
 
 -- ---- an image of one colour
 
@@ -205,8 +205,8 @@ one_placed image at from c x y one t h =
 -- a plain rect acts as a part of an image of its colour
 pub act_plain : (image : Image) (at : Rect) (from : Point) (c : Parts) → IsOneColour image.list image.rect c → ActAs (plain at c ∷ []) (tiled image at from ∷ [])
 act_plain image at from c one = record {
-  fit = λ w h i all. All-cons (Fits w h i) (plain at c) [] (All-head (Fits w h i) (tiled image at from) [] all).0 (All-nil (Fits w h i));
-  shows = λ w h i all passes x y below. where_covered (All-head (Fits w h i) (tiled image at from) [] all).1 x y below (covers at x y) refl;
+  fit = λ w h i all. All-cons (QuadFits w h i) (plain at c) [] (All-head (QuadFits w h i) (tiled image at from) [] all).0 (All-nil (QuadFits w h i));
+  shows = λ w h i all passes x y below. where_covered (All-head (QuadFits w h i) (tiled image at from) [] all).1 x y below (covers at x y) refl;
 }
   where
     where_covered : IsTaken image at from → (x y : ℤ) (below : Parts) (s : Bool) → covers at x y ≡ s → cond s (blend below c) below ≡ cond s (blend below (placed_pixel image at from x y)) below

@@ -2,7 +2,7 @@
 use Rattle.std.proofs.Common.{ℕ, ◌≡◌, ◌==◌, ◌⊎◌, inl, inr, Bool, true, false, cond, ◌||◌, List, [], ◌∷◌, refl, ap, sym, ◌∙◌, eqb-true, arith}
 use Rattle.std.specs.List.{list_any}
 use Rattle.pixel.specs.Colours.{Parts, blend, scaled, clear, times_255}
-use Rattle.page_layers.specs.Painting.{Items, none, layer, group, folded, inside, after, with_layer, items_at}
+use Rattle.page_layers.specs.Painting.{Items, none, layer, group, folded, inside, after_group, layer_before, items_at}
 
 module _ (opacity : ℕ → ℕ) where
   -- equal layers, and groups that are alike or of opacity 0
@@ -61,7 +61,7 @@ module _ (opacity : ℕ → ℕ) where
   alike_inside e (group f i r) none h = absurd h
   alike_inside e (group f i r) (layer d s) h = absurd h
 
-  alike_after : (e : ℕ) (i j : Items) → Alike i j → Alike (after e i) (after e j)
+  alike_after : (e : ℕ) (i j : Items) → Alike i j → Alike (after_group e i) (after_group e j)
   unfolding Alike
   alike_after e none none h = tt
   alike_after e (layer c r) (layer d s) h = h
@@ -80,7 +80,7 @@ module _ (opacity : ℕ → ℕ) where
   alike_after e (group f i r) (layer d s) h = absurd h
 
   -- one layer more: its colours are equal, or one of its groups has opacity 0
-  alike_layer : (gs : List ℕ) (c d : Parts) (i j : Items) → (c ≡ d) ⊎ (list_any (λ e. opacity e == 0) gs ≡ true) → Alike i j → Alike (with_layer gs c i) (with_layer gs d j)
+  alike_layer : (gs : List ℕ) (c d : Parts) (i j : Items) → (c ≡ d) ⊎ (list_any (λ e. opacity e == 0) gs ≡ true) → Alike i j → Alike (layer_before gs c i) (layer_before gs d j)
   unfolding Alike
   alike_layer [] c d i j (inl e) h = (e, h)
   alike_layer [] c d i j (inr e) h = absurd (cc)
@@ -90,11 +90,11 @@ module _ (opacity : ℕ → ℕ) where
       rest b is off (inl e) = inl e
       rest b is off (inr e) = inr (ap (λ (t : Bool). t || list_any (λ e. opacity e == 0) gs) (sym (is ∙ off)) ∙ e)
 
-      deeper : (Alike (inside g i) (inside g j) → Alike (with_layer gs c (inside g i)) (with_layer gs d (inside g j))) → Alike (inside g i) (inside g j) ⊎ (opacity g ≡ 0) → Alike (with_layer gs c (inside g i)) (with_layer gs d (inside g j)) ⊎ (opacity g ≡ 0)
+      deeper : (Alike (inside g i) (inside g j) → Alike (layer_before gs c (inside g i)) (layer_before gs d (inside g j))) → Alike (inside g i) (inside g j) ⊎ (opacity g ≡ 0) → Alike (layer_before gs c (inside g i)) (layer_before gs d (inside g j)) ⊎ (opacity g ≡ 0)
       deeper f (inl a) = inl (f a)
       deeper f (inr z) = inr z
 
-      in_group : (b : Bool) → (opacity g == 0) ≡ b → ((c ≡ d) ⊎ (list_any (λ e. opacity e == 0) gs ≡ true) → Alike (inside g i) (inside g j) → Alike (with_layer gs c (inside g i)) (with_layer gs d (inside g j))) → Alike (with_layer gs c (inside g i)) (with_layer gs d (inside g j)) ⊎ (opacity g ≡ 0)
+      in_group : (b : Bool) → (opacity g == 0) ≡ b → ((c ≡ d) ⊎ (list_any (λ e. opacity e == 0) gs ≡ true) → Alike (inside g i) (inside g j) → Alike (layer_before gs c (inside g i)) (layer_before gs d (inside g j))) → Alike (layer_before gs c (inside g i)) (layer_before gs d (inside g j)) ⊎ (opacity g ≡ 0)
       in_group true is f = inr (eqb-true (opacity g) 0 is)
       in_group false is f = deeper (f (rest false is refl same)) (alike_inside g i j h)
 

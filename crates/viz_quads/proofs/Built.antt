@@ -14,7 +14,7 @@ use Rattle.page_layers.specs.inner.Runs.{lies_in}
 use Rattle.page_layers.proofs.PaintSteps.{first_here, drop_past, group_step, layer_step, run_some}
 use Rattle.viz_scene.specs.Views.{QuadView, tiled, plain, grouped}
 use Rattle.viz_scene.specs.Pixels.{quad_over, quads_over, passes_at}
-use Rattle.viz_scene.specs.Sound.{Fits, AreSound}
+use Rattle.viz_scene.specs.Sound.{QuadFits, AreSound}
 use Rattle.viz_scene.proofs.Steps.{quads_append, passes_append, passes_push, length-passes_at, fits_later, sound_append}
 use Rattle.viz_quads.specs.declared.parts.LayerParts.{LayerParts}
 use Rattle.viz_quads.specs.inner.Passes.{groups_of, own_quads, own_colour, IsLayer, HaveOpacities, AreBuilt}
@@ -22,16 +22,16 @@ use Rattle.viz_quads.proofs.Lists.{index_front, index_last}
 
 -- ---- passes that are added behind do not change what quads show
 
-same_quad : (w h : ℕ) (x y : ℤ) (below : Parts) (before more : List Parts) (q : QuadView) → Fits w h (length before) q → quad_over (before ++ more) x y below q ≡ quad_over before x y below q
+same_quad : (w h : ℕ) (x y : ℤ) (below : Parts) (before more : List Parts) (q : QuadView) → QuadFits w h (length before) q → quad_over (before ++ more) x y below q ≡ quad_over before x y below q
 same_quad w h x y below before more (tiled image at from) f = refl
 same_quad w h x y below before more (plain at colour) f = refl
 same_quad w h x y below before more (grouped pass opacity) f = ap (λ (c : Parts). blend below (scaled c opacity)) (index_front before more pass clear f)
 
-same_quads : (w h : ℕ) (x y : ℤ) (below : Parts) (before more : List Parts) (qs : List QuadView) → All (Fits w h (length before)) qs → quads_over (before ++ more) x y below qs ≡ quads_over before x y below qs
+same_quads : (w h : ℕ) (x y : ℤ) (below : Parts) (before more : List Parts) (qs : List QuadView) → All (QuadFits w h (length before)) qs → quads_over (before ++ more) x y below qs ≡ quads_over before x y below qs
 same_quads w h x y below before more [] f = refl
 same_quads w h x y below before more (q ∷ qs) f =
-    ap (λ (c : Parts). quads_over (before ++ more) x y c qs) (same_quad w h x y below before more q (All-head (Fits w h (length before)) q qs f))
-    ∙ same_quads w h x y (quad_over before x y below q) before more qs (All-tail (Fits w h (length before)) q qs f)
+    ap (λ (c : Parts). quads_over (before ++ more) x y c qs) (same_quad w h x y below before more q (All-head (QuadFits w h (length before)) q qs f))
+    ∙ same_quads w h x y (quad_over before x y below q) before more qs (All-tail (QuadFits w h (length before)) q qs f)
 
 -- passes begin with those that were there
 passes_begin : (x y : ℤ) (before : List Parts) (ps : List (List QuadView)) → (added : List Parts) × (passes_at x y before ps ≡ before ++ added)
@@ -42,13 +42,13 @@ passes_begin x y before (p ∷ ps) =
     (c ∷ rest.0, rest.1 ∙ append_assoc before (c ∷ []) rest.0)
 
 -- quads that may stand behind some passes show the same with more passes behind those
-pub over_later : (w h : ℕ) (x y : ℤ) (below : Parts) (ps more : List (List QuadView)) (qs : List QuadView) → All (Fits w h (length ps)) qs
+pub over_later : (w h : ℕ) (x y : ℤ) (below : Parts) (ps more : List (List QuadView)) (qs : List QuadView) → All (QuadFits w h (length ps)) qs
     → quads_over (passes_at x y [] (ps ++ more)) x y below qs ≡ quads_over (passes_at x y [] ps) x y below qs
 over_later w h x y below ps more qs f =
     let later = passes_begin x y (passes_at x y [] ps) more in
     let count : length (passes_at x y [] ps) ≡ length ps = length-passes_at x y [] ps ∙ omega arith in
     ap (λ (cs : List Parts). quads_over cs x y below qs) (passes_append x y [] ps more ∙ later.1)
-    ∙ same_quads w h x y below (passes_at x y [] ps) later.0 qs (subst (λ (n : ℕ). All (Fits w h n) qs) (sym count) f)
+    ∙ same_quads w h x y below (passes_at x y [] ps) later.0 qs (subst (λ (n : ℕ). All (QuadFits w h n) qs) (sym count) f)
 
 -- ---- the state of the building
 
@@ -58,7 +58,7 @@ pub record Building (w h : ℕ) (view : Rect) (depth : ℕ) (layers rest : List 
   pub added : List (List QuadView)
   pub grown : new ≡ old ++ added
   pub sound : AreSound w h (length old) added
-  pub fit : All (Fits w h (length new)) quads
+  pub fit : All (QuadFits w h (length new)) quads
   pub painted : (opacity : ℕ → ℕ) → HaveOpacities opacity layers → HaveOpacities opacity rest
       × ((x y : ℤ) → covers view x y ≡ true → (below : Parts) → folded opacity (items_at groups_of (own_colour x y) depth rest) (quads_over (passes_at x y [] new) x y below quads) ≡ folded opacity (items_at groups_of (own_colour x y) depth layers) below)
 
@@ -68,7 +68,7 @@ begun w h view depth layers old all = record {
   added = [];
   grown = sym (append-nil old);
   sound = tt;
-  fit = All-nil (Fits w h (length old));
+  fit = All-nil (QuadFits w h (length old));
   painted = λ opacity have. (have, λ x y view below. refl);
 }
 
@@ -94,7 +94,7 @@ layer_turn w h view depth layers rest tail first old new quads more is past made
       added = b.added;
       grown = b.grown;
       sound = b.sound;
-      fit = All-same (Fits w h (length new)) more (quads ++ own_quads first) made (All-append (Fits w h (length new)) quads (own_quads first) b.fit (All-weaker (Fits w h 0) (Fits w h (length new)) (λ q f. fits_later w h 0 (length new) q (omega arith) f) (own_quads first) one.fit));
+      fit = All-same (QuadFits w h (length new)) more (quads ++ own_quads first) made (All-append (QuadFits w h (length new)) quads (own_quads first) b.fit (All-weaker (QuadFits w h 0) (QuadFits w h (length new)) (λ q f. fits_later w h 0 (length new) q (omega arith) f) (own_quads first) one.fit));
       painted = λ opacity have.
           let was = b.painted opacity have in (
             All-rest (λ l. All (λ g. opacity g.effect ≡ g.opacity) l.groups.items) first tail rest is was.0,
@@ -123,14 +123,14 @@ run_not_empty depth n rest tail first g is lt here len =
     omega (arith, len, some)
 
 -- passes of a group behind others, and the group itself
-group_sound : (w h : ℕ) (old new mid more : List (List QuadView)) (added inner_added : List (List QuadView)) (inner : List QuadView) → new ≡ old ++ added → mid ≡ new ++ inner_added → AreSound w h (length old) added → AreSound w h (length new) inner_added → All (Fits w h (length mid)) inner
+group_sound : (w h : ℕ) (old new mid more : List (List QuadView)) (added inner_added : List (List QuadView)) (inner : List QuadView) → new ≡ old ++ added → mid ≡ new ++ inner_added → AreSound w h (length old) added → AreSound w h (length new) inner_added → All (QuadFits w h (length mid)) inner
     → AreSound w h (length old) (added ++ (inner_added ++ inner ∷ []))
 group_sound w h old new mid more added inner_added inner grown mid_grown sound inner_sound fit =
     let n : length new ≡ length old + length added = ap length grown ∙ length-append old added in
     let m : length mid ≡ length new + length inner_added = ap length mid_grown ∙ length-append new inner_added in
     sound_append w h (length old) added (inner_added ++ inner ∷ []) sound
     (subst (λ (k : ℕ). AreSound w h k (inner_added ++ inner ∷ [])) n
-    (sound_append w h (length new) inner_added (inner ∷ []) inner_sound (subst (λ (k : ℕ). All (Fits w h k) inner) m fit, tt)))
+    (sound_append w h (length new) inner_added (inner ∷ []) inner_sound (subst (λ (k : ℕ). All (QuadFits w h k) inner) m fit, tt)))
 
 -- what the group's quad shows
 group_colour : (w h : ℕ) (view : Rect) (depth : ℕ) (run : List LayerParts) (new mid : List (List QuadView)) (inner : List QuadView) (opacity : ℕ → ℕ) (o : ℕ) (x y : ℤ) (below : Parts)
@@ -157,10 +157,10 @@ group_turn w h view depth n layers rest run after tail first g old new mid last 
       added = b.added ++ (built.added ++ inner ∷ []);
       grown = whole ∙ ap (λ (ps : List (List QuadView)). ps ++ (built.added ++ inner ∷ [])) b.grown ∙ append_assoc old b.added (built.added ++ inner ∷ []);
       sound = group_sound w h old new mid last b.added built.added inner b.grown built.grown b.sound built.sound built.fit;
-      fit = All-same (Fits w h (length last)) more (quads ++ grouped (length mid) g.opacity ∷ []) more_is
-          (All-append (Fits w h (length last)) quads (grouped (length mid) g.opacity ∷ [])
-          (All-weaker (Fits w h (length new)) (Fits w h (length last)) (λ q f. fits_later w h (length new) (length last) q long f) quads b.fit)
-          (All-cons (Fits w h (length last)) (grouped (length mid) g.opacity) [] longer (All-nil (Fits w h (length last)))));
+      fit = All-same (QuadFits w h (length last)) more (quads ++ grouped (length mid) g.opacity ∷ []) more_is
+          (All-append (QuadFits w h (length last)) quads (grouped (length mid) g.opacity ∷ [])
+          (All-weaker (QuadFits w h (length new)) (QuadFits w h (length last)) (λ q f. fits_later w h (length new) (length last) q long f) quads b.fit)
+          (All-cons (QuadFits w h (length last)) (grouped (length mid) g.opacity) [] longer (All-nil (QuadFits w h (length last)))));
       painted = λ opacity have.
           let was = b.painted opacity have in
           let p : LayerParts → Type 0 = λ l. All (λ (z : Group). opacity z.effect ≡ z.opacity) l.groups.items in

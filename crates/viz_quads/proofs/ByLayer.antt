@@ -11,8 +11,8 @@ use Rattle.geom.specs.declared.tile.TileKey.{TileKey}
 use Rattle.page_layers.specs.Layers.{PageLayer}
 use Rattle.page_layers.specs.Pages.{Page}
 use Rattle.tile_visible.specs.Visible.{put_layer, by_id, key_at, visible_places, visible_keys}
-use Rattle.viz_quads.specs.declared.shown.Shown.{Shown}
-use Rattle.viz_quads.specs.Shown.{tile_of, own_tiles, AreRight}
+use Rattle.viz_quads.specs.declared.shown_tile.ShownTile.{ShownTile}
+use Rattle.viz_quads.specs.ShownTiles.{tile_of, own_tiles, AreShownTiles}
 
 -- ---- numbers that rise
 
@@ -91,18 +91,18 @@ keys_rise p offset stamp = all_rise stamp (visible_places p offset) (by_id p.lay
 
 -- ---- tiles
 
-layers_same : (shown : List Shown) → map (λ s. s.key.layer) shown ≡ map (λ k. k.layer) (map (λ t. t.key) (map tile_of shown))
+layers_same : (shown : List ShownTile) → map (λ s. s.key.layer) shown ≡ map (λ k. k.layer) (map (λ t. t.key) (map tile_of shown))
 layers_same [] = refl
 layers_same (s ∷ ss) = ap (λ (ns : List ℕ). s.key.layer ∷ ns) (layers_same ss)
 
 -- the tiles that a page shows stand by rising layer
-pub tiles_rise : (p : Page) (offset : ℕ → Point) (shown : List Shown) → AreRight p offset (map tile_of shown) → IsNonDecreasingBy (λ s. s.key.layer) shown
+pub tiles_rise : (p : Page) (offset : ℕ → Point) (shown : List ShownTile) → AreShownTiles p offset (map tile_of shown) → IsNonDecreasingBy (λ s. s.key.layer) shown
 tiles_rise p offset shown right =
     non_decreasing (λ s. s.key.layer) shown
     (subst AreRising (sym (layers_same shown ∙ ap (map (λ k. k.layer)) right.keys)) (keys_rise p offset right.stamp))
 
 -- of tiles by rising layer those of one layer stand behind those of smaller ids, and before those of greater ones
-cut_out : (id : ℕ) (xs : List Shown) (i j : ℕ)
+cut_out : (id : ℕ) (xs : List ShownTile) (i j : ℕ)
     → IsPartitionPoint (λ s. nat_lt s.key.layer id ≡ true) (λ s. nat_lt s.key.layer id ≡ false) xs i → i ≤ length xs
     → IsPartitionPoint (λ s. nat_le s.key.layer id ≡ true) (λ s. nat_le s.key.layer id ≡ false) (drop i xs) j → j ≤ length (drop i xs)
     → take j (drop i xs) ≡ filter (λ s. s.key.layer == id) xs
@@ -118,27 +118,27 @@ cut_out id (x ∷ xs) zero (suc j) s h t g =
     let low : nat_lt x.key.layer id ≡ false = s.1 0 x (omega arith) (omega arith) in
     let high : nat_le x.key.layer id ≡ true = t.0 0 x (omega arith) (omega arith) in
     let same : x.key.layer == id ≡ true = grind (arith, nat_tests, low, high) in
-    rw same (ap (λ (ys : List Shown). x ∷ ys)
+    rw same (ap (λ (ys : List ShownTile). x ∷ ys)
     (cut_out id xs zero j ((λ k d l u. absurd (omega arith)), (λ k d l u. s.1 (suc k) d (omega arith) (omega arith))) (omega arith) ((λ k d l u. t.0 (suc k) d (omega arith) (omega arith)), (λ k d l u. t.1 (suc k) d (omega arith) (omega arith))) (omega arith)))
 cut_out id (x ∷ xs) (suc i) j s h t g =
     let low : nat_lt x.key.layer id ≡ true = s.0 0 x (omega arith) (omega arith) in
     let other : x.key.layer == id ≡ false = grind (arith, nat_tests, low) in
     rw other (cut_out id xs i j ((λ k d l u. s.0 (suc k) d (omega arith) (omega arith)), (λ k d l u. s.1 (suc k) d (omega arith) (omega arith))) (omega arith) t g)
 
-pub cut_twice : (id : ℕ) (xs rest own : List Shown) (i j : ℕ) → rest ≡ drop i xs → own ≡ take j rest
+pub cut_twice : (id : ℕ) (xs rest own : List ShownTile) (i j : ℕ) → rest ≡ drop i xs → own ≡ take j rest
     → IsPartitionPoint (λ s. nat_lt s.key.layer id ≡ true) (λ s. nat_lt s.key.layer id ≡ false) xs i → i ≤ length xs
     → IsPartitionPoint (λ s. nat_le s.key.layer id ≡ true) (λ s. nat_le s.key.layer id ≡ false) rest j → j ≤ length rest
     → own ≡ filter (λ s. s.key.layer == id) xs
 cut_twice id xs rest own i j e f s h t g =
-    f ∙ ap (λ (ys : List Shown). take j ys) e
-    ∙ cut_out id xs i j s h (subst (λ (ys : List Shown). IsPartitionPoint (λ s. nat_le s.key.layer id ≡ true) (λ s. nat_le s.key.layer id ≡ false) ys j) e t) (subst (λ (ys : List Shown). j ≤ length ys) e g)
+    f ∙ ap (λ (ys : List ShownTile). take j ys) e
+    ∙ cut_out id xs i j s h (subst (λ (ys : List ShownTile). IsPartitionPoint (λ s. nat_le s.key.layer id ≡ true) (λ s. nat_le s.key.layer id ≡ false) ys j) e t) (subst (λ (ys : List ShownTile). j ≤ length ys) e g)
 
 -- tiles behind some others stand by rising layer too
-pub rest_rises : (xs rest : List Shown) (i : ℕ) → rest ≡ drop i xs → IsNonDecreasingBy (λ s. s.key.layer) xs → IsNonDecreasingBy (λ s. s.key.layer) rest
-rest_rises xs rest i e r = subst (λ (ys : List Shown). IsNonDecreasingBy (λ s. s.key.layer) ys) (sym e) (IsNonDecreasingBy-drop (λ s. s.key.layer) i xs r)
+pub rest_rises : (xs rest : List ShownTile) (i : ℕ) → rest ≡ drop i xs → IsNonDecreasingBy (λ s. s.key.layer) xs → IsNonDecreasingBy (λ s. s.key.layer) rest
+rest_rises xs rest i e r = subst (λ (ys : List ShownTile). IsNonDecreasingBy (λ s. s.key.layer) ys) (sym e) (IsNonDecreasingBy-drop (λ s. s.key.layer) i xs r)
 
 -- the tiles of one layer, with their images
-pub own_shown : (id : ℕ) (shown : List Shown) → map tile_of (filter (λ s. s.key.layer == id) shown) ≡ own_tiles id (map tile_of shown)
+pub own_shown : (id : ℕ) (shown : List ShownTile) → map tile_of (filter (λ s. s.key.layer == id) shown) ≡ own_tiles id (map tile_of shown)
 own_shown id [] = refl
 own_shown id (s ∷ ss) = go (s.key.layer == id) (own_shown id ss)
   where
@@ -148,7 +148,7 @@ own_shown id (s ∷ ss) = go (s.key.layer == id) (own_shown id ss)
     go false rest = rest
 
 -- what holds of each tile of this layer holds of each that was looked up
-pub own_all : (P : Shown → Type 0) (id : ℕ) (shown own : List Shown) → own ≡ filter (λ s. s.key.layer == id) shown → All (λ s. s.key.layer ≡ id → P s) shown → All P own
+pub own_all : (P : ShownTile → Type 0) (id : ℕ) (shown own : List ShownTile) → own ≡ filter (λ s. s.key.layer == id) shown → All (λ s. s.key.layer ≡ id → P s) shown → All P own
 own_all P id shown own is each =
     All-same P own (filter (λ s. s.key.layer == id) shown) is
     (λ k d lt. All-filter (λ s. s.key.layer == id) (λ s. s.key.layer ≡ id → P s) shown each k d lt (eqb-true _ id (filter_passes (λ s. s.key.layer == id) shown k d lt)))

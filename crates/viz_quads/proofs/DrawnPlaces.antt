@@ -6,7 +6,7 @@ use Rattle.geom.specs.declared.rect.Rect.{Rect}
 use Rattle.geom.specs.declared.tile.Place.{Place}
 use Rattle.geom.specs.Common.{common, meets}
 use Rattle.geom.specs.Covers.{covers}
-use Rattle.geom.specs.Grids.{rect_of, places, bounds, place_of}
+use Rattle.geom.specs.Grids.{rect_of_place, places, bounds, place_of}
 use Rattle.geom.specs.Sides.{IsGrid}
 use Rattle.geom.proofs.Spans.{both, common_points}
 use Rattle.geom.proofs.Meets.{points_meet}
@@ -40,8 +40,8 @@ meets_at : (r s : Rect) (x y : ℤ) → covers (common r s) x y ≡ true → mee
 meets_at r s x y h = let k = both (covers r x y) (covers s x y) (sym (common_points r s x y) ∙ h) in points_meet r s (x, y, k.0, k.1)
 
 -- a place is drawn where the clip covers the point, and the place covers the point moved back
-pub drawn_at : (s : Spot) (q : Place) (x y : ℤ) → covers (drawn_part s q) x y ≡ covers (rect_of s.grid q) (x -ℤ s.by.x) (y -ℤ s.by.y) && covers s.clip x y
-drawn_at s q x y = common_points (screen_of s q) s.clip x y ∙ ap (λ (t : Bool). t && covers s.clip x y) (covers_back (rect_of s.grid q) s.by x y)
+pub drawn_at : (s : Spot) (q : Place) (x y : ℤ) → covers (drawn_part s q) x y ≡ covers (rect_of_place s.grid q) (x -ℤ s.by.x) (y -ℤ s.by.y) && covers s.clip x y
+drawn_at s q x y = common_points (screen_of s q) s.clip x y ∙ ap (λ (t : Bool). t && covers s.clip x y) (covers_back (rect_of_place s.grid q) s.by x y)
 
 -- at most one place of a grid is drawn at a point
 drawn_in : (s : Spot) → IsGrid s.grid → (x y : ℤ) → filter (λ q. covers (drawn_part s q) x y) (places s.grid)
@@ -59,10 +59,10 @@ drawn_in s is x y = go (covers s.clip x y) (covers (bounds s.grid) (x -ℤ s.by.
     and_false true = refl
     and_false false = refl
 
-    inside : covers s.clip x y ≡ true → filter (λ q. covers (drawn_part s q) x y) (places s.grid) ≡ filter (λ q. covers (rect_of s.grid q) (x -ℤ s.by.x) (y -ℤ s.by.y)) (places s.grid)
+    inside : covers s.clip x y ≡ true → filter (λ q. covers (drawn_part s q) x y) (places s.grid) ≡ filter (λ q. covers (rect_of_place s.grid q) (x -ℤ s.by.x) (y -ℤ s.by.y)) (places s.grid)
     inside h =
-        filter_agree (λ q. covers (drawn_part s q) x y) (λ q. covers (rect_of s.grid q) (x -ℤ s.by.x) (y -ℤ s.by.y))
-        (λ q. drawn_at s q x y ∙ ap (λ (t : Bool). covers (rect_of s.grid q) (x -ℤ s.by.x) (y -ℤ s.by.y) && t) h ∙ and_true (covers (rect_of s.grid q) (x -ℤ s.by.x) (y -ℤ s.by.y)))
+        filter_agree (λ q. covers (drawn_part s q) x y) (λ q. covers (rect_of_place s.grid q) (x -ℤ s.by.x) (y -ℤ s.by.y))
+        (λ q. drawn_at s q x y ∙ ap (λ (t : Bool). covers (rect_of_place s.grid q) (x -ℤ s.by.x) (y -ℤ s.by.y) && t) h ∙ and_true (covers (rect_of_place s.grid q) (x -ℤ s.by.x) (y -ℤ s.by.y)))
         (places s.grid)
 
     go : (c b : Bool) → covers s.clip x y ≡ c → covers (bounds s.grid) (x -ℤ s.by.x) (y -ℤ s.by.y) ≡ b → filter (λ q. covers (drawn_part s q) x y) (places s.grid) ≡ cond (c && b) one []
@@ -70,7 +70,7 @@ drawn_in s is x y = go (covers s.clip x y) (covers (bounds s.grid) (x -ℤ s.by.
     go true false e f = inside e ∙ covering_none s.grid is (x -ℤ s.by.x) (y -ℤ s.by.y) f
     go false b e f =
         filter_never (λ q. covers (drawn_part s q) x y)
-        (λ q. drawn_at s q x y ∙ ap (λ (t : Bool). covers (rect_of s.grid q) (x -ℤ s.by.x) (y -ℤ s.by.y) && t) e ∙ and_false (covers (rect_of s.grid q) (x -ℤ s.by.x) (y -ℤ s.by.y)))
+        (λ q. drawn_at s q x y ∙ ap (λ (t : Bool). covers (rect_of_place s.grid q) (x -ℤ s.by.x) (y -ℤ s.by.y) && t) e ∙ and_false (covers (rect_of_place s.grid q) (x -ℤ s.by.x) (y -ℤ s.by.y)))
         (places s.grid)
 
 -- inside the viewport the cut clip lets through what the clip does

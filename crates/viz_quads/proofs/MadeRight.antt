@@ -8,13 +8,13 @@ use Rattle.std.proofs.lemmas.List.Elements.{All-nil, All-cons, All-head, All-tai
 use Rattle.geom.specs.declared.rect.Point.{Point}
 use Rattle.geom.specs.declared.tile.Place.{Place}
 use Rattle.geom.specs.declared.tile.TileKey.{TileKey}
-use Rattle.geom.specs.Grids.{rect_of}
+use Rattle.geom.specs.Grids.{rect_of_place}
 use Rattle.page_layers.specs.Layers.{PageLayer, has_id}
 use Rattle.page_layers.specs.Pages.{Page}
-use Rattle.page_layers.specs.Sound.{AreDistinct}
+use Rattle.page_layers.specs.Sound.{AreDistinctLayers}
 use Rattle.tile_visible.specs.Visible.{grid_of, put_layer, by_id, key_at, visible_places, visible_keys}
-use Rattle.viz_quads.specs.Shown.{Tile, missing_keys, IsImageOf, MayStand, AreRight}
-use Rattle.viz_quads.specs.Made.{made, made_of, all_made}
+use Rattle.viz_quads.specs.ShownTiles.{PageTile, missing_keys, IsImageOf, ImageMayStand, AreShownTiles}
+use Rattle.viz_quads.specs.Made.{made_tile, made_of, all_made}
 use Rattle.viz_quads.proofs.Lists.{all_flat, always}
 use Rattle.viz_quads.proofs.PageTiles.{found_each}
 
@@ -35,38 +35,38 @@ all_by_id P (l ∷ ls) all = all_put P l (by_id ls) (All-head P l ls all) (all_b
 keys_made : (p : Page) (offset : ℕ → Point) (ls : List PageLayer) → map (λ t. t.key) (flat_map (made_of p offset) ls) ≡ flat_map (λ l. map (key_at (λ _ _. 0) l.id) (visible_places p offset l)) ls
 keys_made p offset [] = refl
 keys_made p offset (l ∷ ls) =
-    map-append (λ (t : Tile). t.key) (made_of p offset l) (flat_map (made_of p offset) ls)
-    ∙ ap (λ (ks : List TileKey). ks ++ map (λ (t : Tile). t.key) (flat_map (made_of p offset) ls)) (map-map (λ (t : Tile). t.key) (made p l) (visible_places p offset l))
+    map-append (λ (t : PageTile). t.key) (made_of p offset l) (flat_map (made_of p offset) ls)
+    ∙ ap (λ (ks : List TileKey). ks ++ map (λ (t : PageTile). t.key) (flat_map (made_of p offset) ls)) (map-map (λ (t : PageTile). t.key) (made_tile p l) (visible_places p offset l))
     ∙ ap (λ (ks : List TileKey). map (key_at (λ _ _. 0) l.id) (visible_places p offset l) ++ ks) (keys_made p offset ls)
 
 -- each image may stand for its tile
-image_stands : (p : Page) (l : PageLayer) (q : Place) → find (has_id l.id) p.layers ≡ Some l → MayStand p (made p l q)
+image_stands : (p : Page) (l : PageLayer) (q : Place) → find (has_id l.id) p.layers ≡ Some l → ImageMayStand p (made_tile p l q)
 image_stands p l q found k other =
     let same : l ≡ k = let e : Some l ≡ Some k = sym found ∙ other in cc in
-    subst (λ (m : PageLayer). IsImageOf p m q (record { key = key_at (λ _ _. 0) l.id q; rect = rect_of (grid_of p l) q; list = l.items })) same
+    subst (λ (m : PageLayer). IsImageOf p m q (record { key = key_at (λ _ _. 0) l.id q; rect = rect_of_place (grid_of p l) q; list = l.items })) same
     (record { rect = refl; pixels = λ x y in_rect. refl })
 
-none_lost : (p : Page) (l : PageLayer) (qs : List Place) → filter (λ t. is_none t.image) (map (made p l) qs) ≡ []
+none_lost : (p : Page) (l : PageLayer) (qs : List Place) → filter (λ t. is_none t.image) (map (made_tile p l) qs) ≡ []
 none_lost p l [] = refl
 none_lost p l (q ∷ qs) = none_lost p l qs
 
 none_lost_all : (p : Page) (offset : ℕ → Point) (ls : List PageLayer) → filter (λ t. is_none t.image) (flat_map (made_of p offset) ls) ≡ []
 none_lost_all p offset [] = refl
 none_lost_all p offset (l ∷ ls) =
-    filter-append (λ (t : Tile). is_none t.image) (made_of p offset l) (flat_map (made_of p offset) ls)
-    ∙ ap (λ (ts : List Tile). ts ++ filter (λ (t : Tile). is_none t.image) (flat_map (made_of p offset) ls)) (none_lost p l (visible_places p offset l))
+    filter-append (λ (t : PageTile). is_none t.image) (made_of p offset l) (flat_map (made_of p offset) ls)
+    ∙ ap (λ (ts : List PageTile). ts ++ filter (λ (t : PageTile). is_none t.image) (flat_map (made_of p offset) ls)) (none_lost p l (visible_places p offset l))
     ∙ none_lost_all p offset ls
 
-pub made_right : (p : Page) (offset : ℕ → Point) → AreDistinct p.layers → AreRight p offset (all_made p offset)
+pub made_right : (p : Page) (offset : ℕ → Point) → AreDistinctLayers p.layers → AreShownTiles p offset (all_made p offset)
 unfolding visible_keys
 made_right p offset distinct = record {
   stamp = λ _ _. 0;
   keys = keys_made p offset (by_id p.layers);
-  images = all_flat (MayStand p) (made_of p offset) (by_id p.layers)
-      (All-weaker (λ l. find (has_id l.id) p.layers ≡ Some l) (λ l. All (MayStand p) (made_of p offset l))
-      (λ l found. All-map (MayStand p) (made p l) (visible_places p offset l) (always (λ q. MayStand p (made p l q)) (λ q. image_stands p l q found) (visible_places p offset l)))
+  images = all_flat (ImageMayStand p) (made_of p offset) (by_id p.layers)
+      (All-weaker (λ l. find (has_id l.id) p.layers ≡ Some l) (λ l. All (ImageMayStand p) (made_of p offset l))
+      (λ l found. All-map (ImageMayStand p) (made_tile p l) (visible_places p offset l) (always (λ q. ImageMayStand p (made_tile p l q)) (λ q. image_stands p l q found) (visible_places p offset l)))
       (by_id p.layers) (all_by_id (λ l. find (has_id l.id) p.layers ≡ Some l) p.layers (found_each p.layers distinct)));
 }
 
 pub none_missing : (p : Page) (offset : ℕ → Point) → missing_keys (all_made p offset) ≡ []
-none_missing p offset = ap (map (λ (t : Tile). t.key)) (none_lost_all p offset (by_id p.layers))
+none_missing p offset = ap (map (λ (t : PageTile). t.key)) (none_lost_all p offset (by_id p.layers))

@@ -11,9 +11,9 @@ use Rattle.geom.specs.declared.tile.TileKey.{TileKey}
 use Rattle.page_layers.specs.Layers.{PageLayer, has_id}
 use Rattle.page_layers.specs.Pages.{Page}
 use Rattle.page_layers.specs.Refusals.{has_layer}
-use Rattle.page_layers.specs.Sound.{AreDistinct}
+use Rattle.page_layers.specs.Sound.{AreDistinctLayers}
 use Rattle.tile_visible.specs.Visible.{put_layer, by_id, key_at, visible_places, visible_keys}
-use Rattle.viz_quads.specs.Shown.{Tile, place_named, own_tiles}
+use Rattle.viz_quads.specs.ShownTiles.{PageTile, place_of_tile, own_tiles}
 
 -- ---- the places that keys of one layer name
 
@@ -23,14 +23,14 @@ place_in k = record { x = k.x; y = k.y }
 places_on : ℕ → List TileKey → List Place
 places_on id ks = map place_in (filter (λ k. k.layer == id) ks)
 
-own_keys : (id : ℕ) (ts : List Tile) → map place_named (own_tiles id ts) ≡ places_on id (map (λ t. t.key) ts)
+own_keys : (id : ℕ) (ts : List PageTile) → map place_of_tile (own_tiles id ts) ≡ places_on id (map (λ t. t.key) ts)
 unfolding places_on
 own_keys id [] = refl
 own_keys id (t ∷ ts) = go (t.key.layer == id) (own_keys id ts)
   where
-    go : (b : Bool) → map place_named (own_tiles id ts) ≡ places_on id (map (λ t. t.key) ts)
-        → map place_named (cond b (t ∷ own_tiles id ts) (own_tiles id ts)) ≡ map place_in (cond b (t.key ∷ filter (λ k. k.layer == id) (map (λ t. t.key) ts)) (filter (λ k. k.layer == id) (map (λ t. t.key) ts)))
-    go true rest = ap (λ (qs : List Place). place_named t ∷ qs) rest
+    go : (b : Bool) → map place_of_tile (own_tiles id ts) ≡ places_on id (map (λ t. t.key) ts)
+        → map place_of_tile (cond b (t ∷ own_tiles id ts) (own_tiles id ts)) ≡ map place_in (cond b (t.key ∷ filter (λ k. k.layer == id) (map (λ t. t.key) ts)) (filter (λ k. k.layer == id) (map (λ t. t.key) ts)))
+    go true rest = ap (λ (qs : List Place). place_of_tile t ∷ qs) rest
     go false rest = rest
 
 places_append : (id : ℕ) (ks js : List TileKey) → places_on id (ks ++ js) ≡ places_on id ks ++ places_on id js
@@ -84,7 +84,7 @@ module _ {B : Type 0} (g : PageLayer → List B) where
       go false e f rest = put_none k (by_id ks) (none k e) ∙ rest f
 
   -- of layers with ids of their own the one with this id gives all that is given
-  pub one_there : (id : ℕ) → ((k : PageLayer) → (k.id == id) ≡ false → g k ≡ []) → (ls : List PageLayer) → AreDistinct ls → (l : PageLayer) → find (has_id id) ls ≡ Some l → flat_map g (by_id ls) ≡ g l
+  pub one_there : (id : ℕ) → ((k : PageLayer) → (k.id == id) ≡ false → g k ≡ []) → (ls : List PageLayer) → AreDistinctLayers ls → (l : PageLayer) → find (has_id id) ls ≡ Some l → flat_map g (by_id ls) ≡ g l
   one_there id none [] d l h = absurd (cc)
   one_there id none (k ∷ ks) d l h = go (k.id == id) refl h (one_there id none ks d.1 l)
     where
@@ -109,8 +109,8 @@ flat_places p offset stamp id (l ∷ ls) =
     ∙ ap (λ (qs : List Place). qs ++ places_on id (flat_map (λ l. map (key_at stamp l.id) (visible_places p offset l)) ls)) (places_of_layer stamp id l.id (visible_places p offset l))
     ∙ ap (λ (qs : List Place). cond (l.id == id) (visible_places p offset l) [] ++ qs) (flat_places p offset stamp id ls)
 
-pub own_places : (p : Page) (offset : ℕ → Point) (stamp : ℕ → Place → ℕ) (ts : List Tile) (l : PageLayer) → map (λ t. t.key) ts ≡ visible_keys p offset stamp → AreDistinct p.layers
-    → find (has_id l.id) p.layers ≡ Some l → map place_named (own_tiles l.id ts) ≡ visible_places p offset l
+pub own_places : (p : Page) (offset : ℕ → Point) (stamp : ℕ → Place → ℕ) (ts : List PageTile) (l : PageLayer) → map (λ t. t.key) ts ≡ visible_keys p offset stamp → AreDistinctLayers p.layers
+    → find (has_id l.id) p.layers ≡ Some l → map place_of_tile (own_tiles l.id ts) ≡ visible_places p offset l
 unfolding visible_keys
 own_places p offset stamp ts l keys distinct found =
     own_keys l.id ts

@@ -6,7 +6,7 @@ use Rattle.geom.specs.declared.rect.Rect.{Rect}
 use Rattle.pixel.specs.Colours.{Parts, blend, clear}
 use Rattle.viz_scene.specs.Views.{QuadView}
 use Rattle.viz_scene.specs.Pixels.{quads_over}
-use Rattle.viz_scene.specs.Sound.{Fits}
+use Rattle.viz_scene.specs.Sound.{QuadFits}
 use Rattle.viz_quads.specs.declared.parts.LayerParts.{LayerParts}
 use Rattle.viz_quads.specs.inner.Joins.{ActAs}
 use Rattle.viz_quads.specs.inner.Passes.{own_quads, own_colour, ActAsOne, IsLayer, HaveQuads}
@@ -28,7 +28,7 @@ have_more g ls more l xs i x made lt is have acts =
 -- ---- quads that act as one
 
 abbrev pub IsOne : ℕ → ℕ → Rect → List QuadView → Type 0
-IsOne w h view qs = ActAsOne view qs × All (Fits w h 0) qs
+IsOne w h view qs = ActAsOne view qs × All (QuadFits w h 0) qs
 
 -- what acts as quads that act as one acts as one too
 layer_is : (w h : ℕ) (view : Rect) (qs : List QuadView) (l : LayerParts) → IsOne w h view qs → ActAs (own_quads l) qs → IsLayer w h view l

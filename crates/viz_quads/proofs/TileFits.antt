@@ -9,17 +9,17 @@ use Rattle.geom.specs.declared.rect.Rect.{Rect}
 use Rattle.geom.specs.declared.span.Span.{Span}
 use Rattle.geom.specs.declared.tile.Place.{Place}
 use Rattle.geom.specs.Common.{common_span, rect_of_spans, spans_meet, meets, common}
-use Rattle.geom.specs.Grids.{rect_of, places}
+use Rattle.geom.specs.Grids.{rect_of_place, places}
 use Rattle.geom.proofs.Spans.{both}
 use Rattle.page_properties.specs.Placement.{clip_of, draws}
 use Rattle.tile_raster.specs.Images.{Image}
 use Rattle.page_layers.specs.Layers.{PageLayer, has_id}
 use Rattle.page_layers.specs.Pages.{Page}
-use Rattle.page_layers.specs.Sound.{AreDistinct}
+use Rattle.page_layers.specs.Sound.{AreDistinctLayers}
 use Rattle.tile_visible.specs.Visible.{viewport, grid_of, cut_by, seen, visible_places}
 use Rattle.tile_priority.specs.Bins.{is_visible}
-use Rattle.viz_scene.specs.Sound.{IsIn, IsTaken, Fits}
-use Rattle.viz_quads.specs.Shown.{Tile, place_named, own_tiles, IsImageOf, MayStand, AreRight}
+use Rattle.viz_scene.specs.Sound.{IsIn, IsTaken, QuadFits}
+use Rattle.viz_quads.specs.ShownTiles.{PageTile, place_of_tile, own_tiles, IsImageOf, ImageMayStand, AreShownTiles}
 use Rattle.viz_quads.specs.inner.LayerQuads.{Spot, spot_of, screen_of, drawn_part, corner, quad_for, quad_of, layer_quads}
 use Rattle.viz_quads.proofs.OwnTiles.{own_places}
 
@@ -113,7 +113,7 @@ part_taken image r s c whole i same wide tall =
     }
 
 quad_fits : (p : Page) (offset : ℕ → Point) (l : PageLayer) (place : Place) (image : Option Image) → IfSome image (λ i. IsImageOf p l place i) → meets (screen_of (spot_of p offset l) place) (spot_of p offset l).clip ≡ true
-    → Fits p.view.w p.view.h 0 (quad_for image l.colour (drawn_part (spot_of p offset l) place) (screen_of (spot_of p offset l) place))
+    → QuadFits p.view.w p.view.h 0 (quad_for image l.colour (drawn_part (spot_of p offset l) place) (screen_of (spot_of p offset l) place))
 quad_fits p offset l place None is h =
     let s : Spot = spot_of p offset l in
     part_in p.view.w p.view.h (screen_of s place) s.clip (drawn_part s place) (common_in (screen_of s place) s.clip h) (cut_in p (clip_of offset p.props.transforms p.props.clips l.clip))
@@ -121,43 +121,43 @@ quad_fits p offset l place (Some image) is h =
     let s : Spot = spot_of p offset l in
     let i : LiesInBoth (screen_of s place) s.clip (drawn_part s place) = common_in (screen_of s place) s.clip h in (
       part_in p.view.w p.view.h (screen_of s place) s.clip (drawn_part s place) i (cut_in p (clip_of offset p.props.transforms p.props.clips l.clip)),
-      part_taken image (rect_of (grid_of p l) place) s.clip (drawn_part s place) (screen_of s place) i is.rect refl refl,
+      part_taken image (rect_of_place (grid_of p l) place) s.clip (drawn_part s place) (screen_of s place) i is.rect refl refl,
     )
 
 -- ---- what holds of the places that a layer shows holds of its tiles
 
-named_all : (P : Place → Type 0) (ts : List Tile) (qs : List Place) → map place_named ts ≡ qs → All P qs → All (λ t. P (place_named t)) ts
-named_all P ts qs is all = go ts (All-same P (map place_named ts) qs is all)
+named_all : (P : Place → Type 0) (ts : List PageTile) (qs : List Place) → map place_of_tile ts ≡ qs → All P qs → All (λ t. P (place_of_tile t)) ts
+named_all P ts qs is all = go ts (All-same P (map place_of_tile ts) qs is all)
   where
-    go : (us : List Tile) → All P (map place_named us) → All (λ t. P (place_named t)) us
-    go [] h = All-nil (λ t. P (place_named t))
-    go (u ∷ us) h = All-cons (λ t. P (place_named t)) u us (All-head P (place_named u) (map place_named us) h) (go us (All-tail P (place_named u) (map place_named us) h))
+    go : (us : List PageTile) → All P (map place_of_tile us) → All (λ t. P (place_of_tile t)) us
+    go [] h = All-nil (λ t. P (place_of_tile t))
+    go (u ∷ us) h = All-cons (λ t. P (place_of_tile t)) u us (All-head P (place_of_tile u) (map place_of_tile us) h) (go us (All-tail P (place_of_tile u) (map place_of_tile us) h))
 
 -- two facts of each element
 both_all : {A : Type 0} (P Q : A → Type 0) (xs : List A) → All P xs → All Q xs → All (λ x. P x × Q x) xs
 both_all P Q xs a b k d lt = (a k d lt, b k d lt)
 
-module _ (p : Page) (offset : ℕ → Point) (ts : List Tile) (l : PageLayer) (right : AreRight p offset ts) (distinct : AreDistinct p.layers) (found : find (has_id l.id) p.layers ≡ Some l) where
+module _ (p : Page) (offset : ℕ → Point) (ts : List PageTile) (l : PageLayer) (right : AreShownTiles p offset ts) (distinct : AreDistinctLayers p.layers) (found : find (has_id l.id) p.layers ≡ Some l) where
   visible_all : All (λ q. is_visible (seen p offset l q) ≡ true) (visible_places p offset l)
   unfolding visible_places
   visible_all = filter_passes (λ q. is_visible (seen p offset l q)) (places (grid_of p l))
 
-  own_all : All (λ t. is_visible (seen p offset l (place_named t)) ≡ true) (own_tiles l.id ts)
+  own_all : All (λ t. is_visible (seen p offset l (place_of_tile t)) ≡ true) (own_tiles l.id ts)
   own_all = named_all (λ q. is_visible (seen p offset l q) ≡ true) (own_tiles l.id ts) (visible_places p offset l) (own_places p offset right.stamp ts l right.keys distinct found) visible_all
 
-  tile_fits : (t : Tile) → (is_visible (seen p offset l (place_named t)) ≡ true) × (((t.key.layer == l.id) ≡ true) × MayStand p t) → Fits p.view.w p.view.h 0 (quad_of (spot_of p offset l) t)
+  tile_fits : (t : PageTile) → (is_visible (seen p offset l (place_of_tile t)) ≡ true) × (((t.key.layer == l.id) ≡ true) × ImageMayStand p t) → QuadFits p.view.w p.view.h 0 (quad_of (spot_of p offset l) t)
   tile_fits t h =
-      quad_fits p offset l (place_named t) t.image (image_of t.image h.1.1)
-      (both (draws p.props.effects l.effect) (meets (screen_of (spot_of p offset l) (place_named t)) (spot_of p offset l).clip) h.0).1
+      quad_fits p offset l (place_of_tile t) t.image (image_of t.image h.1.1)
+      (both (draws p.props.effects l.effect) (meets (screen_of (spot_of p offset l) (place_of_tile t)) (spot_of p offset l).clip) h.0).1
     where
-      image_of : (image : Option Image) → IfSome image (λ i. (k : PageLayer) → find (has_id t.key.layer) p.layers ≡ Some k → IsImageOf p k (place_named t) i) → IfSome image (λ i. IsImageOf p l (place_named t) i)
+      image_of : (image : Option Image) → IfSome image (λ i. (k : PageLayer) → find (has_id t.key.layer) p.layers ≡ Some k → IsImageOf p k (place_of_tile t) i) → IfSome image (λ i. IsImageOf p l (place_of_tile t) i)
       image_of None h = h
       image_of (Some i) f = f l (ap (λ (n : ℕ). find (has_id n) p.layers) (eqb-true t.key.layer l.id h.1.0) ∙ found)
 
   -- each quad of the layer may stand in any pass
-  pub layer_fits : All (Fits p.view.w p.view.h 0) (layer_quads p offset ts l)
+  pub layer_fits : All (QuadFits p.view.w p.view.h 0) (layer_quads p offset ts l)
   layer_fits =
-      All-map (Fits p.view.w p.view.h 0) (quad_of (spot_of p offset l)) (own_tiles l.id ts)
-      (All-weaker (λ t. (is_visible (seen p offset l (place_named t)) ≡ true) × (((t.key.layer == l.id) ≡ true) × MayStand p t)) (λ t. Fits p.view.w p.view.h 0 (quad_of (spot_of p offset l) t)) tile_fits (own_tiles l.id ts)
-      (both_all (λ t. is_visible (seen p offset l (place_named t)) ≡ true) (λ t. ((t.key.layer == l.id) ≡ true) × MayStand p t) (own_tiles l.id ts) own_all
-      (both_all (λ t. (t.key.layer == l.id) ≡ true) (MayStand p) (own_tiles l.id ts) (filter_passes (λ t. t.key.layer == l.id) ts) (All-filter (λ t. t.key.layer == l.id) (MayStand p) ts right.images))))
+      All-map (QuadFits p.view.w p.view.h 0) (quad_of (spot_of p offset l)) (own_tiles l.id ts)
+      (All-weaker (λ t. (is_visible (seen p offset l (place_of_tile t)) ≡ true) × (((t.key.layer == l.id) ≡ true) × ImageMayStand p t)) (λ t. QuadFits p.view.w p.view.h 0 (quad_of (spot_of p offset l) t)) tile_fits (own_tiles l.id ts)
+      (both_all (λ t. is_visible (seen p offset l (place_of_tile t)) ≡ true) (λ t. ((t.key.layer == l.id) ≡ true) × ImageMayStand p t) (own_tiles l.id ts) own_all
+      (both_all (λ t. (t.key.layer == l.id) ≡ true) (ImageMayStand p) (own_tiles l.id ts) (filter_passes (λ t. t.key.layer == l.id) ts) (All-filter (λ t. t.key.layer == l.id) (ImageMayStand p) ts right.images))))

@@ -15,7 +15,7 @@ use Rattle.page_layers.specs.Layers.{PageLayer, has_id}
 use Rattle.page_layers.specs.Pages.{Page, IsView}
 use Rattle.page_layers.specs.Sound.{IsPage}
 use Rattle.page_layers.specs.Painting.{Items, folded}
-use Rattle.page_layers.specs.TreePainting.{groups_in, opacity_in, colour_at, paint}
+use Rattle.page_layers.specs.TreePainting.{groups_in, opacity_in, layer_colour_at, paint}
 use Rattle.page_layers.proofs.SampleColours.{same_items}
 use Rattle.tile_visible.specs.Visible.{viewport, grid_of}
 use Rattle.viz_scene.specs.Views.{QuadView}
@@ -23,7 +23,7 @@ use Rattle.viz_scene.specs.Pixels.{quads_over, scene_pixel}
 use Rattle.viz_scene.specs.Sound.{AreSound, IsScene}
 use Rattle.viz_scene.proofs.Steps.{scene_last, sound_append}
 use Rattle.viz_quads.specs.declared.parts.LayerParts.{LayerParts}
-use Rattle.viz_quads.specs.Shown.{Tile, missing_keys, AreRight}
+use Rattle.viz_quads.specs.ShownTiles.{PageTile, missing_keys, AreShownTiles}
 use Rattle.viz_quads.specs.inner.LayerQuads.{layer_quads}
 use Rattle.viz_quads.specs.inner.Passes.{groups_of, own_colour, IsLayer, HaveQuads, HaveOpacities, AreBuilt}
 use Rattle.viz_quads.proofs.Lists.{both_all}
@@ -34,7 +34,7 @@ use Rattle.viz_quads.proofs.PageTiles.{found_each, grids_sound}
 use Rattle.viz_quads.proofs.Unseen.{unseen}
 use Rattle.viz_quads.proofs.Alike.{AreAlike, alike_painted}
 
-module _ (p : Page) (offset : ℕ → Point) (ts : List Tile) (page : IsPage p) (right : AreRight p offset ts) where
+module _ (p : Page) (offset : ℕ → Point) (ts : List PageTile) (page : IsPage p) (right : AreShownTiles p offset ts) where
   -- each layer is found by its id, and its grid is sound
   IsFound : PageLayer → Type 0
   IsFound l = (find (has_id l.id) p.layers ≡ Some l) × IsGrid (grid_of p l)
@@ -77,11 +77,11 @@ module _ (p : Page) (offset : ℕ → Point) (ts : List Tile) (page : IsPage p) 
   -- ---- a layer that is not drawn makes no difference
 
   alike_layers : (missing : List TileKey) (x y : ℤ) → AreEffects p.props.effects → (ls : List PageLayer)
-      → AreAlike (opacity_in p.props.effects) (λ l. groups_in p.props.effects l.effect) (shown_colour p offset missing x y) (colour_at p offset missing x y) ls
+      → AreAlike (opacity_in p.props.effects) (λ l. groups_in p.props.effects l.effect) (shown_colour p offset missing x y) (layer_colour_at p offset missing x y) ls
   alike_layers missing x y effects [] = tt
   alike_layers missing x y effects (l ∷ ls) = (one (draws p.props.effects l.effect) refl, alike_layers missing x y effects ls)
     where
-      one : (b : Bool) → draws p.props.effects l.effect ≡ b → (cond b (colour_at p offset missing x y l) clear ≡ colour_at p offset missing x y l) ⊎ (list_any (λ e. opacity_in p.props.effects e == 0) (groups_in p.props.effects l.effect) ≡ true)
+      one : (b : Bool) → draws p.props.effects l.effect ≡ b → (cond b (layer_colour_at p offset missing x y l) clear ≡ layer_colour_at p offset missing x y l) ⊎ (list_any (λ e. opacity_in p.props.effects e == 0) (groups_in p.props.effects l.effect) ≡ true)
       one true drawn = inl refl
       one false hidden = inr (unseen p.props.effects effects l.effect hidden)
 
@@ -99,7 +99,7 @@ module _ (p : Page) (offset : ℕ → Point) (ts : List Tile) (page : IsPage p) 
       ∙ built.painted (opacity_in p.props.effects) have x y seen background
       ∙ ap (λ (items : Items). folded (opacity_in p.props.effects) items background)
       (same_items groups_of (own_colour x y) (λ (l : PageLayer). groups_in p.props.effects l.effect) (shown_colour p offset (missing_keys ts) x y) 0 parts p.layers groups (own_colours parts x y quads seen))
-      ∙ alike_painted (opacity_in p.props.effects) (λ (l : PageLayer). groups_in p.props.effects l.effect) (shown_colour p offset (missing_keys ts) x y) (colour_at p offset (missing_keys ts) x y) p.layers background (alike_layers (missing_keys ts) x y effects p.layers)
+      ∙ alike_painted (opacity_in p.props.effects) (λ (l : PageLayer). groups_in p.props.effects l.effect) (shown_colour p offset (missing_keys ts) x y) (layer_colour_at p offset (missing_keys ts) x y) p.layers background (alike_layers (missing_keys ts) x y effects p.layers)
 
 -- the passes that were built, and the root, are those of a scene
 pub is_scene : (p : Page) (parts : List LayerParts) (passes : List (List QuadView)) (root : List QuadView) (background : Parts) → IsView p.view → AreBuilt p.view.w p.view.h (viewport p) 0 parts [] passes root

@@ -1,3 +1,3 @@
-pub mod Shown
+pub mod ShownTiles
 pub mod Made
 pub mod inner

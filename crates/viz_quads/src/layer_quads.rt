@@ -5,16 +5,16 @@ ghost use Rattle.std.specs.List.Sorted.{IsNonDecreasingBy};
 ghost use mir.Syntax.{w32};
 ghost use Rattle.geom.specs.Covers.{IsSound};
 ghost use Rattle.geom.specs.Grids.{has};
-ghost use Rattle.geom.specs.Sides.{IsSide};
+ghost use Rattle.geom.specs.Sides.{IsLayerSide};
 ghost use Rattle.page_properties.specs.OffsetMap.{offset_at, AreOffsets};
 ghost use Rattle.page_layers.specs.Layers.{parts_of};
 ghost use Rattle.viz_scene.specs.Views.{tiled, quad_view, quads_view};
-ghost use Rattle.viz_quads.specs.Shown.{tile_of, place_named};
+ghost use Rattle.viz_quads.specs.ShownTiles.{tile_of, place_of_tile};
 ghost use Rattle.viz_quads.specs.inner.Joins.{ActAs};
 ghost use Rattle.viz_quads.specs.inner.LayerQuads as spec;
 
 use crate::joining::add_quad;
-use crate::shown::Shown;
+use crate::shown_tile::ShownTile;
 use geom::{Grid, Place, Point, Rect};
 use page_layers::{Layer, LayerTree};
 use page_properties::Offsets;
@@ -56,8 +56,8 @@ impl Model for LayerSpot {
 /// sides of the layer are 1 to 16384.
 pub(crate) fn spot_of(tree: &LayerTree, offsets: &Offsets, layer: &Layer) -> LayerSpot
     requires offsets { AreOffsets (offset_at offsets.now) }
-    requires wide { IsSide layer.now.w }
-    requires tall { IsSide layer.now.h }
+    requires wide { IsLayerSide layer.now.w }
+    requires tall { IsLayerSide layer.now.h }
     ensures { result ≡ spec.spot_of tree.now (offset_at offsets.now) (parts_of layer.now) }
 {
     let by = tree.props().translation(layer.transform, offsets);
@@ -104,8 +104,8 @@ fn part_of(image: &Arc<TileImage>, at: Rect, from: Point) -> Result<Quad, AllocE
 
 // The part of a tile that is drawn, or the layer's colour there where the tile is missing.
 #[tactic(auto, using(crate::proofs::Acts::act_same))]
-fn quad_of(spot: &LayerSpot, shown: &Shown) -> Result<Quad, AllocError>
-    requires { IsTrue (has spot.now.grid (place_named (tile_of shown.now))) }
+fn quad_of(spot: &LayerSpot, shown: &ShownTile) -> Result<Quad, AllocError>
+    requires { IsTrue (has spot.now.grid (place_of_tile (tile_of shown.now))) }
     ensures { IfOk result (λ quad. ActAs (quad_view quad ∷ []) (spec.quad_of spot.now (tile_of shown.now) ∷ [])) }
 {
     let place = Place {
@@ -125,7 +125,7 @@ fn quad_of(spot: &LayerSpot, shown: &Shown) -> Result<Quad, AllocError>
 }
 
 // The tiles of the layer with this id.
-fn tiles_on(shown: &[Shown], id: u32) -> &[Shown]
+fn tiles_on(shown: &[ShownTile], id: u32) -> &[ShownTile]
     requires { IsNonDecreasingBy (λ s. s.key.layer) shown.now }
     ensures { result.now ≡ filter (λ s. s.key.layer == id) shown.now }
 {
@@ -135,8 +135,8 @@ fn tiles_on(shown: &[Shown], id: u32) -> &[Shown]
 }
 
 // Quads that show these tiles of one layer.
-fn quads_at(alloc: Global, spot: &LayerSpot, tiles: &[Shown]) -> Result<Vec<Quad>, AllocError>
-    requires { All (λ s. IsTrue (has spot.now.grid (place_named (tile_of s)))) tiles.now }
+fn quads_at(alloc: Global, spot: &LayerSpot, tiles: &[ShownTile]) -> Result<Vec<Quad>, AllocError>
+    requires { All (λ s. IsTrue (has spot.now.grid (place_of_tile (tile_of s)))) tiles.now }
     ensures { IfOk result (λ quads. ActAs (quads_view quads.items) (map (spec.quad_of spot.now) (map tile_of tiles.now))) }
 {
     let mut quads = Vec::new(alloc);
@@ -154,10 +154,10 @@ pub(crate) fn quads_on(
     alloc: Global,
     spot: &LayerSpot,
     id: u32,
-    shown: &[Shown],
+    shown: &[ShownTile],
 ) -> Result<Vec<Quad>, AllocError>
     requires order { IsNonDecreasingBy (λ s. s.key.layer) shown.now }
-    requires there { All (λ s. s.key.layer ≡ id → IsTrue (has spot.now.grid (place_named (tile_of s)))) shown.now }
+    requires there { All (λ s. s.key.layer ≡ id → IsTrue (has spot.now.grid (place_of_tile (tile_of s)))) shown.now }
     ensures { IfOk result (λ quads. ActAs (quads_view quads.items) (spec.quads_on spot.now id (map tile_of shown.now))) }
 {
     quads_at(alloc, spot, tiles_on(shown, id))

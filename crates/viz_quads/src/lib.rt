@@ -13,8 +13,8 @@ mod making;
 mod parts;
 mod passes;
 mod scene_of;
-mod shown;
+mod shown_tile;
 
 pub use making::make_all;
 pub use scene_of::quads_of;
-pub use shown::Shown;
+pub use shown_tile::ShownTile;

@@ -1,17 +1,17 @@
 //! The layers of a page, each with its groups and its own quads.
 
 ghost use Rattle.std.specs.Prelude.{◌≡◌, ◌≤◌, Some, find, map, length, All, IfOk};
-ghost use Rattle.geom.specs.Sides.{IsSide};
+ghost use Rattle.geom.specs.Sides.{IsLayerSide};
 ghost use Rattle.page_properties.specs.OffsetMap.{offset_at, AreOffsets};
 ghost use Rattle.page_layers.specs.Layers.{parts_of, has_id};
 ghost use Rattle.page_layers.specs.TreePainting.{groups_in, opacity_in};
-ghost use Rattle.viz_quads.specs.Shown.{tile_of, AreRight};
+ghost use Rattle.viz_quads.specs.ShownTiles.{tile_of, AreShownTiles};
 ghost use Rattle.viz_quads.specs.inner.Joins.{ActAs};
 ghost use Rattle.viz_quads.specs.inner.LayerQuads.{layer_quads};
 ghost use Rattle.viz_quads.specs.inner.Passes.{groups_of, own_quads, HaveQuads, HaveOpacities};
 
 use crate::layer_quads::{quads_on, spot_of};
-use crate::shown::Shown;
+use crate::shown_tile::ShownTile;
 use page_layers::{Group, Layer, LayerTree};
 use page_properties::Offsets;
 use std::alloc::{AllocError, Global};
@@ -31,13 +31,13 @@ fn parts_in(
     alloc: Global,
     tree: &LayerTree,
     offsets: &Offsets,
-    shown: &[Shown],
+    shown: &[ShownTile],
     layer: &Layer,
 ) -> Result<LayerParts, AllocError>
     requires offsets { AreOffsets (offset_at offsets.now) }
-    requires right { AreRight tree.now (offset_at offsets.now) (map tile_of shown.now) }
+    requires right { AreShownTiles tree.now (offset_at offsets.now) (map tile_of shown.now) }
     requires there { find (has_id layer.now.id) tree.now.layers ≡ Some (parts_of layer.now) }
-    requires sized { IsSide layer.now.w × IsSide layer.now.h }
+    requires sized { IsLayerSide layer.now.w × IsLayerSide layer.now.h }
     ensures groups { IfOk result (λ parts. groups_of parts ≡ groups_in tree.now.props.effects layer.now.effect) }
     ensures opacities { IfOk result (λ parts. All (λ g. opacity_in tree.now.props.effects g.effect ≡ g.opacity) parts.groups.items) }
     ensures few { IfOk result (λ parts. length parts.groups.items ≤ 256) }
@@ -58,10 +58,10 @@ pub(crate) fn layer_parts(
     alloc: Global,
     tree: &LayerTree,
     offsets: &Offsets,
-    shown: &[Shown],
+    shown: &[ShownTile],
 ) -> Result<Vec<LayerParts>, AllocError>
     requires offsets { AreOffsets (offset_at offsets.now) }
-    requires right { AreRight tree.now (offset_at offsets.now) (map tile_of shown.now) }
+    requires right { AreShownTiles tree.now (offset_at offsets.now) (map tile_of shown.now) }
     ensures groups { IfOk result (λ parts. map groups_of parts.items ≡ map (λ l. groups_in tree.now.props.effects l.effect) tree.now.layers) }
     ensures opacities { IfOk result (λ parts. HaveOpacities (opacity_in tree.now.props.effects) parts.items) }
     ensures few { IfOk result (λ parts. All (λ l. length l.groups.items ≤ 256) parts.items) }

@@ -6,11 +6,11 @@ ghost use Rattle.page_properties.specs.OffsetMap.{offset_at, AreOffsets};
 ghost use Rattle.page_layers.specs.TreePainting.{paint};
 ghost use Rattle.tile_visible.specs.Visible.{viewport};
 ghost use Rattle.viz_scene.specs.Pixels.{scene_pixel};
-ghost use Rattle.viz_quads.specs.Shown.{tile_of, missing_keys, AreRight};
+ghost use Rattle.viz_quads.specs.ShownTiles.{tile_of, missing_keys, AreShownTiles};
 
 use crate::parts::layer_parts;
 use crate::passes::quads_from;
-use crate::shown::Shown;
+use crate::shown_tile::ShownTile;
 use page_layers::LayerTree;
 use page_properties::Offsets;
 use pixel::Colour;
@@ -30,11 +30,11 @@ pub fn quads_of(
     h: u32,
     tile: u32,
     background: Colour,
-    shown: &[Shown],
+    shown: &[ShownTile],
 ) -> Result<Scene, AllocError>
     requires offsets { AreOffsets (offset_at offsets.now) }
     requires view { tree.now.view ≡ record { w = w; h = h; tile = tile } }
-    requires right { AreRight tree.now (offset_at offsets.now) (map tile_of shown.now) }
+    requires right { AreShownTiles tree.now (offset_at offsets.now) (map tile_of shown.now) }
     ensures width { IfOk result (λ scene. scene.w ≡ w) }
     ensures height { IfOk result (λ scene. scene.h ≡ h) }
     ensures pixels { IfOk result (λ scene. (x y : ℤ) → covers (viewport tree.now) x y ≡ true →

@@ -8,16 +8,16 @@ use Rattle.geom.specs.Covers.{covers, within as in_span}
 use Rattle.geom.proofs.Spans.{is_within_of, both_of}
 use Rattle.pixel.specs.Colours.{Parts}
 use Rattle.pixel.specs.Rows.{pixel}
-use Rattle.pixel.specs.Surfaces.{EachPixel, within, holds}
+use Rattle.pixel.specs.Surfaces.{EachPixel, within_rows, holds}
 use Rattle.pixel.specs.declared.surface.Area.{Area}
-use Rattle.page_display_list.specs.declared.Part.{Part}
+use Rattle.page_display_list.specs.declared.CoveredArea.{CoveredArea}
 use Rattle.page_display_list.specs.Shared.{IsShared, IsOutside}
 use Rattle.region.specs.Points.{covered}
 use Rattle.viz_scene.specs.Views.{SceneView}
 use Rattle.viz_scene.specs.Pixels.{scene_pixel}
 use Rattle.viz_render.specs.declared.strip.Band.{Band}
 use Rattle.viz_render.specs.inner.Bands.{IsBandDrawn}
-use Rattle.viz_render.specs.Frames.{FrameView, frame_pixel, EachIs, IsOfSize, Shows, ShowsIn}
+use Rattle.viz_render.specs.Frames.{FrameView, frame_pixel, EachIs, IsOfSize, FrameShows, ShowsIn}
 
 -- the rect of a screen
 abbrev pub screen : ℕ → ℕ → Rect
@@ -27,7 +27,7 @@ from_origin : (n : ℕ) → pos 0 +ℤ pos n ≡ pos n
 from_origin n = omega (arith, ints)
 
 -- the part of a screen that a rect covers, at a point
-rect_points : (w h : ℕ) (rect : Rect) (part : Part) (x y : ℕ) → IsShared rect (screen w h) part → x < w → y < h
+rect_points : (w h : ℕ) (rect : Rect) (part : CoveredArea) (x y : ℕ) → IsShared rect (screen w h) part → x < w → y < h
     → holds part.at x y ≡ covers rect (pos x) (pos y)
 rect_points w h rect part x y shared xw yh =
     sym (shared.points x y xw yh)
@@ -35,15 +35,15 @@ rect_points w h rect part x y shared xw yh =
 
 -- a band of all rows of a scene, of which an area was drawn
 pub whole_drawn : (s : SceneView) (band : Band) (at : Area) (old new : List ℕ) → band.top ≡ 0 → band.rows ≡ s.h → IsBandDrawn s band at old new
-    → EachPixel s.w s.h (within at at.h (λ x y below. scene_pixel s (pos x) (pos y))) old new
+    → EachPixel s.w s.h (within_rows at at.h (λ x y below. scene_pixel s (pos x) (pos y))) old new
 whole_drawn s band at old new top rows drawn x y xw yh =
     let row : band.top + y ≡ y = omega arith in
     drawn.pixels x y xw (omega arith)
     ∙ ap (λ (n : ℕ). cond (holds at x y) (scene_pixel s (pos x) (pos n)) (pixel old (y * s.w + x))) row
 
 -- the pixels of a scene, drawn where a rect lies on the screen
-pub rect_drawn : (s : SceneView) (f : FrameView) (rect : Rect) (part : Part) (new : List ℕ) → IsOfSize s.w s.h f → IsShared rect (screen s.w s.h) part
-    → EachPixel s.w s.h (within part.at part.at.h (λ x y below. scene_pixel s (pos x) (pos y))) f.bytes new
+pub rect_drawn : (s : SceneView) (f : FrameView) (rect : Rect) (part : CoveredArea) (new : List ℕ) → IsOfSize s.w s.h f → IsShared rect (screen s.w s.h) part
+    → EachPixel s.w s.h (within_rows part.at part.at.h (λ x y below. scene_pixel s (pos x) (pos y))) f.bytes new
     → EachIs (λ x y. cond (covers rect (pos x) (pos y)) (scene_pixel s (pos x) (pos y)) (frame_pixel f x y)) (record { w = f.w; h = f.h; bytes = new })
 rect_drawn s f rect part new same shared each x y xw yh =
     let wide = same.wide in
@@ -102,7 +102,7 @@ in_screen : (n p : ℕ) → p < n → in_span (pos 0) (pos n) (pos p) ≡ true
 in_screen n p lt = is_within_of (pos 0) (pos n) (pos p) (record { low = omega (arith, ints); high = omega (arith, ints) })
 
 pub screen_drawn : (s : SceneView) (old new : FrameView) → IsOfSize s.w s.h new
-    → EachIs (λ x y. cond (covers (screen s.w s.h) (pos x) (pos y)) (scene_pixel s (pos x) (pos y)) (frame_pixel old x y)) new → Shows s new
+    → EachIs (λ x y. cond (covers (screen s.w s.h) (pos x) (pos y)) (scene_pixel s (pos x) (pos y)) (frame_pixel old x y)) new → FrameShows s new
 screen_drawn s old new same drawn x y xw yh =
     let wide = same.wide in
     let tall = same.tall in

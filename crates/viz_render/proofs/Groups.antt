@@ -4,10 +4,10 @@ use Rattle.geom.specs.declared.Rect.{Rect}
 use Rattle.geom.specs.Covers.{covers}
 use Rattle.pixel.specs.Colours.{Parts, blend, scaled, clear, times_255}
 use Rattle.pixel.specs.Rows.{pixel}
-use Rattle.pixel.specs.Surfaces.{within, holds}
+use Rattle.pixel.specs.Surfaces.{within_rows, holds}
 use Rattle.pixel.proofs.Fills.{same_parts}
 use Rattle.pixel.proofs.Blends.{clear_shows}
-use Rattle.page_display_list.specs.declared.Part.{Part}
+use Rattle.page_display_list.specs.declared.CoveredArea.{CoveredArea}
 use Rattle.page_display_list.specs.Bitmaps.{near}
 use Rattle.page_display_list.specs.Shared.{IsShared, IsOutside}
 use Rattle.viz_render.specs.inner.Drawing.{SurfaceView, colour_of, colours}
@@ -34,7 +34,7 @@ faded_at true c d e below opacity same is = ap (λ (p : Parts). blend below (sca
 faded_at false c d e below opacity same is = sym (ap (λ (p : Parts). blend below (scaled p opacity)) is ∙ clear_faded below opacity)
 
 -- the pixel of a surface that belongs to a pixel of a part of it
-part_place : (pass : SurfaceView) (area : Rect) (part : Part) (x y : ℕ) → IsShared pass.rect area part → holds part.at x y ≡ true
+part_place : (pass : SurfaceView) (area : Rect) (part : CoveredArea) (x y : ℕ) → IsShared pass.rect area part → holds part.at x y ≡ true
     → pixel pass.bytes ((y - part.at.y + part.above) * near pass.rect.w + (x - part.at.x + part.left))
     ≡ pixel pass.bytes (near ((area.y +ℤ pos y) -ℤ pass.rect.y) * near pass.rect.w + near ((area.x +ℤ pos x) -ℤ pass.rect.x))
 part_place pass area part x y shared h =
@@ -42,9 +42,9 @@ part_place pass area part x y shared h =
     ∙ ap (λ (k : ℕ). pixel pass.bytes ((y - part.at.y + part.above) * near pass.rect.w + k)) (shared.column x (from_left part x y h)))
 
 -- the part of a pass that lies in the area, drawn where it lies
-pub group_part_shown : (area : Rect) (pass : SurfaceView) (part : Part) (opacity : ℕ) (tops : List ℕ) (number : ℕ) (old new : List ℕ) → IsShared pass.rect area part
+pub group_part_shown : (area : Rect) (pass : SurfaceView) (part : CoveredArea) (opacity : ℕ) (tops : List ℕ) (number : ℕ) (old new : List ℕ) → IsShared pass.rect area part
     → EachOpen (near area.w) (near area.h) tops number
-    (within part.at part.at.h (λ x y below. blend below (scaled (pixel pass.bytes ((y - part.at.y + part.above) * near pass.rect.w + (x - part.at.x + part.left))) opacity)))
+    (within_rows part.at part.at.h (λ x y below. blend below (scaled (pixel pass.bytes ((y - part.at.y + part.above) * near pass.rect.w + (x - part.at.x + part.left))) opacity)))
     old new
     → EachOpenPoint area tops number (λ x y below. blend below (scaled (colour_of pass x y) opacity)) old new
 unfolding colour_of

@@ -11,7 +11,7 @@ use Rattle.pixel.specs.Rows.{pixel}
 use Rattle.pixel.specs.Surfaces.{in_rows, holds}
 use Rattle.pixel.specs.declared.Area.{Area}
 use Rattle.pixel.proofs.Blends.{opaque_hides}
-use Rattle.page_display_list.specs.declared.Part.{Part}
+use Rattle.page_display_list.specs.declared.CoveredArea.{CoveredArea}
 use Rattle.page_display_list.specs.Bitmaps.{near}
 use Rattle.page_display_list.specs.Shared.{IsShared}
 use Rattle.tile_raster.specs.Images.{Image, IsRow, AreSameRows, IsOneColour}
@@ -88,7 +88,7 @@ block_hides at block from x y row low high opaque is =
     (block_held at block x y low high is, λ c d. sym (hides c) ∙ hides d)
 
 -- the pixels of a row, and of the rows that are equal to it
-pub band_hides : (image : Image) (part : Part) (row rows : ℕ) (bytes : List ℕ) → IsRow image.list image.rect (part.above + row) bytes
+pub band_hides : (image : Image) (part : CoveredArea) (row rows : ℕ) (bytes : List ℕ) → IsRow image.list image.rect (part.above + row) bytes
     → ((k : ℕ) → k < rows → AreSameRows image.list image.rect (part.above + row) (part.above + row + k))
     → part.left + part.at.w ≤ near image.rect.w → row + rows ≤ part.at.h
     → (x y : ℕ) → HidesIn (rows_from part.at row rows) (λ x y. pixel bytes (x - part.at.x + part.left)) x y → HidesIn part.at (part_pixel image part) x y
@@ -106,7 +106,7 @@ chosen true a b c d held same = same
 chosen false a b c d held same = cc
 
 -- a tile hides what the part of its image hides
-pub tile_hides : (image : Image) (at area : Rect) (from : Point) (part : Part) → IsTaken image at from → IsShared at area part
+pub tile_hides : (image : Image) (at area : Rect) (from : Point) (part : CoveredArea) → IsTaken image at from → IsShared at area part
     → (x y : ℕ) → HidesIn part.at (part_pixel image (taken part from)) x y
     → x < near area.w → y < near area.h → Hides (tiled image at from) (area.x +ℤ pos x) (area.y +ℤ pos y)
 tile_hides image at area from part t shared x y hides xw yh passes c d =
@@ -117,7 +117,7 @@ tile_hides image at area from part t shared x y hides xw yh passes c d =
     (subst (λ (p : Parts). blend c p ≡ blend d p) is (hides.1 c d))
 
 -- an opaque colour hides what is below it
-pub colour_hides : (at area : Rect) (colour : Parts) (part : Part) → IsShared at area part → colour.a ≡ 255
+pub colour_hides : (at area : Rect) (colour : Parts) (part : CoveredArea) → IsShared at area part → colour.a ≡ 255
     → (x y : ℕ) → holds part.at x y ≡ true → x < near area.w → y < near area.h → Hides (plain at colour) (area.x +ℤ pos x) (area.y +ℤ pos y)
 colour_hides at area colour part shared opaque x y held xw yh passes c d =
     chosen (covers at (area.x +ℤ pos x) (area.y +ℤ pos y)) (blend c colour) (blend d colour) c d (shared.points x y xw yh ∙ held)

@@ -4,9 +4,9 @@ use Rattle.std.specs.Prelude.{nat_le}
 use Rattle.std.proofs.lemmas.Bool.Decides.{nat_tests}
 use Rattle.pixel.specs.Colours.{Parts, blend, scaled}
 use Rattle.pixel.specs.Rows.{pixel}
-use Rattle.pixel.specs.Surfaces.{EachPixel, within, in_rows}
+use Rattle.pixel.specs.Surfaces.{EachPixel, within_rows, in_rows}
 use Rattle.pixel.specs.declared.Area.{Area}
-use Rattle.page_display_list.specs.declared.Part.{Part}
+use Rattle.page_display_list.specs.declared.CoveredArea.{CoveredArea}
 use Rattle.viz_render.specs.inner.Drawing.{rows_from, columns_from}
 use Rattle.viz_render.specs.inner.Masks.{top, is_open, EachOpen}
 use Rattle.viz_render.specs.inner.Paints.{painted, some_rows, some_columns}
@@ -17,15 +17,15 @@ use Rattle.viz_render.proofs.Tiles.{where_held}
 
 -- what does the same in an area
 open_like : (w h : ℕ) (tops : List ℕ) (number : ℕ) (at : Area) (rows : ℕ) (f g : ℕ → ℕ → Parts → Parts) (old new : List ℕ)
-    → EachOpen w h tops number (within at rows f) old new
+    → EachOpen w h tops number (within_rows at rows f) old new
     → ((x y : ℕ) (below : Parts) → in_rows at rows x y ≡ true → f x y below ≡ g x y below)
-    → EachOpen w h tops number (within at rows g) old new
+    → EachOpen w h tops number (within_rows at rows g) old new
 open_like w h tops number at rows f g old new each same x y xw yh seen =
     let before = pixel old (y * w + x) in
     each x y xw yh seen ∙ where_held (in_rows at rows x y) (f x y before) (g x y before) before (λ h. same x y before h)
 
 -- the pixel of a paint is the same in some rows of a part
-painted_rows : (p : Paint) (part : Part) (r n x y : ℕ) (below : Parts) → part.at.y + r ≤ y
+painted_rows : (p : Paint) (part : CoveredArea) (r n x y : ℕ) (below : Parts) → part.at.y + r ≤ y
     → painted p (some_rows part r n) x y below ≡ painted p part x y below
 painted_rows (paint.Fill colour) part r n x y below le = refl
 painted_rows (paint.Colour colour) part r n x y below le = refl
@@ -35,7 +35,7 @@ painted_rows (paint.Pass bytes width height opacity) part r n x y below le =
     ap (λ (k : ℕ). blend below (scaled (pixel bytes.now (k * width + (x - part.at.x + part.left))) opacity)) row
 
 -- and in some columns
-painted_columns : (p : Paint) (part : Part) (c n x y : ℕ) (below : Parts) → part.at.x + c ≤ x
+painted_columns : (p : Paint) (part : CoveredArea) (c n x y : ℕ) (below : Parts) → part.at.x + c ≤ x
     → painted p (some_columns part c n) x y below ≡ painted p part x y below
 painted_columns (paint.Fill colour) part c n x y below le = refl
 painted_columns (paint.Colour colour) part c n x y below le = refl
@@ -59,40 +59,40 @@ column_high : (at : Area) (rows x y : ℕ) → in_rows at rows x y ≡ true → 
 column_high at rows x y h = grind (arith, nat_tests)
 
 -- some more rows of a part
-pub rows_step : (w h : ℕ) (tops : List ℕ) (number : ℕ) (p : Paint) (part : Part) (r n : ℕ) (start old new : List ℕ)
-    → EachOpen w h tops number (within part.at r (painted p part)) start old
-    → EachOpen w h tops number (within (rows_from part.at r n) n (painted p (some_rows part r n))) old new
-    → EachOpen w h tops number (within part.at (r + n) (painted p part)) start new
+pub rows_step : (w h : ℕ) (tops : List ℕ) (number : ℕ) (p : Paint) (part : CoveredArea) (r n : ℕ) (start old new : List ℕ)
+    → EachOpen w h tops number (within_rows part.at r (painted p part)) start old
+    → EachOpen w h tops number (within_rows (rows_from part.at r n) n (painted p (some_rows part r n))) old new
+    → EachOpen w h tops number (within_rows part.at (r + n) (painted p part)) start new
 rows_step w h tops number p part r n start old new before after =
     rows_more w h tops number part.at r n (painted p part) start old new before
     (open_like w h tops number (rows_from part.at r n) n (painted p (some_rows part r n)) (painted p part) old new after
     (λ x y below held. painted_rows p part r n x y below (row_low (rows_from part.at r n) n x y held)))
 
 -- some more columns of a part
-pub columns_step : (w h : ℕ) (tops : List ℕ) (number : ℕ) (p : Paint) (part : Part) (c n : ℕ) (start old new : List ℕ)
-    → EachOpen w h tops number (within (columns_from part.at 0 c) part.at.h (painted p part)) start old
-    → EachOpen w h tops number (within (columns_from part.at c n) part.at.h (painted p (some_columns part c n))) old new
-    → EachOpen w h tops number (within (columns_from part.at 0 (c + n)) part.at.h (painted p part)) start new
+pub columns_step : (w h : ℕ) (tops : List ℕ) (number : ℕ) (p : Paint) (part : CoveredArea) (c n : ℕ) (start old new : List ℕ)
+    → EachOpen w h tops number (within_rows (columns_from part.at 0 c) part.at.h (painted p part)) start old
+    → EachOpen w h tops number (within_rows (columns_from part.at c n) part.at.h (painted p (some_columns part c n))) old new
+    → EachOpen w h tops number (within_rows (columns_from part.at 0 (c + n)) part.at.h (painted p part)) start new
 columns_step w h tops number p part c n start old new before after =
     columns_more w h tops number part.at c n (painted p part) start old new before
     (open_like w h tops number (columns_from part.at c n) part.at.h (painted p (some_columns part c n)) (painted p part) old new after
     (λ x y below held. painted_columns p part c n x y below (column_low (columns_from part.at c n) part.at.h x y held)))
 
 -- nothing yet
-pub no_row : (w h : ℕ) (tops : List ℕ) (number : ℕ) (at : Area) (g : ℕ → ℕ → Parts → Parts) (old : List ℕ) → EachOpen w h tops number (within at 0 g) old old
+pub no_row : (w h : ℕ) (tops : List ℕ) (number : ℕ) (at : Area) (g : ℕ → ℕ → Parts → Parts) (old : List ℕ) → EachOpen w h tops number (within_rows at 0 g) old old
 no_row w h tops number at g old x y xw yh seen =
     let none : in_rows at 0 x y ≡ false = grind (arith, nat_tests) in
     ap (λ (b : Bool). cond b (g x y (pixel old (y * w + x))) (pixel old (y * w + x))) (sym none)
 
 pub no_column : (w h : ℕ) (tops : List ℕ) (number : ℕ) (at : Area) (g : ℕ → ℕ → Parts → Parts) (old : List ℕ)
-    → EachOpen w h tops number (within (columns_from at 0 0) at.h g) old old
+    → EachOpen w h tops number (within_rows (columns_from at 0 0) at.h g) old old
 no_column w h tops number at g old x y xw yh seen =
     let none : in_rows (columns_from at 0 0) at.h x y ≡ false = grind (arith, nat_tests) in
     ap (λ (b : Bool). cond b (g x y (pixel old (y * w + x))) (pixel old (y * w + x))) (sym none)
 
 -- all of them
 pub all_columns : (w h : ℕ) (tops : List ℕ) (number : ℕ) (at : Area) (g : ℕ → ℕ → Parts → Parts) (c : ℕ) (old new : List ℕ) → c ≡ at.w
-    → EachOpen w h tops number (within (columns_from at 0 c) at.h g) old new → EachOpen w h tops number (within at at.h g) old new
+    → EachOpen w h tops number (within_rows (columns_from at 0 c) at.h g) old new → EachOpen w h tops number (within_rows at at.h g) old new
 all_columns w h tops number at g c old new e each x y xw yh seen =
     let same : in_rows (columns_from at 0 c) at.h x y ≡ in_rows at at.h x y = grind (arith, nat_tests) in
     each x y xw yh seen ∙ ap (λ (b : Bool). cond b (g x y (pixel old (y * w + x))) (pixel old (y * w + x))) same
@@ -118,7 +118,7 @@ pub hidden_kept : (w h : ℕ) (tops : List ℕ) (number : ℕ) (at : Area) (g : 
     → at.y % 8 + at.h ≤ 8
     → is_open tops number at.x at.y ≡ false
     → ((x : ℕ) → at.x ≤ x → x < at.x + at.w → is_open tops number x at.y ≡ is_open tops number at.x at.y)
-    → EachOpen w h tops number (within at at.h g) old old
+    → EachOpen w h tops number (within_rows at at.h g) old old
 hidden_kept w h tops number at g old one off alike x y xw yh seen =
     at_pixel w tops number at g old one off alike x y seen (in_rows at at.h x y) refl
   where

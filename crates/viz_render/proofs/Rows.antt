@@ -4,7 +4,7 @@ use Rattle.std.proofs.Common.{arith, ap, ◌∙◌}
 use Rattle.std.proofs.lemmas.Bool.Decides.{nat_tests}
 use Rattle.pixel.specs.Colours.{Parts}
 use Rattle.pixel.specs.Rows.{pixel}
-use Rattle.pixel.specs.Surfaces.{EachPixel, within, in_rows}
+use Rattle.pixel.specs.Surfaces.{EachPixel, within_rows, in_rows}
 use Rattle.pixel.specs.declared.Area.{Area}
 use Rattle.viz_render.specs.inner.Drawing.{rows_from, columns_from}
 use Rattle.viz_render.specs.inner.Masks.{EachOpen}
@@ -33,9 +33,9 @@ columns_apart at c n rows x y h k = absurd (grind (arith, nat_tests))
 
 -- what is drawn in the columns so far, and then in the columns beside them, is drawn in all of them, where it is seen
 pub columns_more : (w h : ℕ) (tops : List ℕ) (number : ℕ) (at : Area) (c n : ℕ) (g : ℕ → ℕ → Parts → Parts) (start old new : List ℕ)
-    → EachOpen w h tops number (within (columns_from at 0 c) at.h g) start old
-    → EachOpen w h tops number (within (columns_from at c n) at.h g) old new
-    → EachOpen w h tops number (within (columns_from at 0 (c + n)) at.h g) start new
+    → EachOpen w h tops number (within_rows (columns_from at 0 c) at.h g) start old
+    → EachOpen w h tops number (within_rows (columns_from at c n) at.h g) old new
+    → EachOpen w h tops number (within_rows (columns_from at 0 (c + n)) at.h g) start new
 columns_more w h tops number at c n g start old new before after x y xw yh seen =
     step (in_rows (columns_from at 0 c) at.h x y) (in_rows (columns_from at c n) at.h x y) (in_rows (columns_from at 0 (c + n)) at.h x y)
     (pixel start (y * w + x)) (pixel old (y * w + x)) (pixel new (y * w + x)) (pixel new (y * w + x)) (g x y)
@@ -43,9 +43,9 @@ columns_more w h tops number at c n g start old new before after x y xw yh seen 
 
 -- what is drawn in the rows so far, and then in the rows behind them, is drawn in all of them, where it is seen
 pub rows_more : (w h : ℕ) (tops : List ℕ) (number : ℕ) (at : Area) (r n : ℕ) (g : ℕ → ℕ → Parts → Parts) (start old new : List ℕ)
-    → EachOpen w h tops number (within at r g) start old
-    → EachOpen w h tops number (within (rows_from at r n) n g) old new
-    → EachOpen w h tops number (within at (r + n) g) start new
+    → EachOpen w h tops number (within_rows at r g) start old
+    → EachOpen w h tops number (within_rows (rows_from at r n) n g) old new
+    → EachOpen w h tops number (within_rows at (r + n) g) start new
 rows_more w h tops number at r n g start old new before after x y xw yh seen =
     step (in_rows at r x y) (in_rows (rows_from at r n) n x y) (in_rows at (r + n) x y)
     (pixel start (y * w + x)) (pixel old (y * w + x)) (pixel new (y * w + x)) (pixel new (y * w + x)) (g x y)
@@ -53,9 +53,9 @@ rows_more w h tops number at r n g start old new before after x y xw yh seen =
 
 -- the same of all pixels
 pub all_rows_more : (w h : ℕ) (at : Area) (r n : ℕ) (g : ℕ → ℕ → Parts → Parts) (start old new : List ℕ)
-    → EachPixel w h (within at r g) start old
-    → EachPixel w h (within (rows_from at r n) n g) old new
-    → EachPixel w h (within at (r + n) g) start new
+    → EachPixel w h (within_rows at r g) start old
+    → EachPixel w h (within_rows (rows_from at r n) n g) old new
+    → EachPixel w h (within_rows at (r + n) g) start new
 all_rows_more w h at r n g start old new before after x y xw yh =
     step (in_rows at r x y) (in_rows (rows_from at r n) n x y) (in_rows at (r + n) x y)
     (pixel start (y * w + x)) (pixel old (y * w + x)) (pixel new (y * w + x)) (pixel new (y * w + x)) (g x y)

@@ -11,12 +11,12 @@ use Rattle.geom.specs.declared.Rect.{Rect}
 use Rattle.geom.specs.Covers.{IsSound}
 use Rattle.pixel.specs.Colours.{Parts}
 use Rattle.pixel.specs.Rows.{pixel}
-use Rattle.pixel.specs.Surfaces.{IsPart, IsInside, EachPixel, within, in_rows}
+use Rattle.pixel.specs.Surfaces.{IsPart, IsInside, EachPixel, within_rows, in_rows}
 use Rattle.pixel.specs.declared.Area.{Area}
 use Rattle.viz_scene.specs.declared.RenderPass.{RenderPass}
 use Rattle.viz_scene.specs.Views.{QuadView, tiled, plain, grouped, pass_view, passes_view, SceneView}
 use Rattle.viz_scene.specs.Pixels.{quads_over, passes_at, scene_pixel}
-use Rattle.viz_scene.specs.Sound.{IsIn, Fits, IsSide, IsScene}
+use Rattle.viz_scene.specs.Sound.{IsIn, QuadFits, IsSceneSide, IsScene}
 use Rattle.viz_scene.proofs.Steps.{sound_at, scene_last}
 use Rattle.viz_render.specs.inner.Drawing.{SurfaceView, CanBeDrawn, PassesCanBeDrawn, ShowsQuads, ShowPasses}
 use Rattle.viz_render.specs.inner.Strips.{HasRoom, ShowsScene}
@@ -27,13 +27,13 @@ use Rattle.viz_render.proofs.Tiles.{where_held}
 use Rattle.viz_render.proofs.Hulls.{in_place}
 
 -- a rect on a screen is sound
-pub sound_in : (w h : ℕ) (at : Rect) → IsSide w → IsSide h → IsIn w h at → IsSound at
+pub sound_in : (w h : ℕ) (at : Rect) → IsSceneSide w → IsSceneSide h → IsIn w h at → IsSound at
 sound_in w h at wide tall i = record {
   across = record { from_low = omega (arith, ints); from_high = omega (arith, ints); length_low = omega (arith, ints); length_high = omega (arith, ints) };
   down = record { from_low = omega (arith, ints); from_high = omega (arith, ints); length_low = omega (arith, ints); length_high = omega (arith, ints) };
 }
 
-fits_drawn : (w h i : ℕ) (q : QuadView) → IsSide w → IsSide h → Fits w h i q → CanBeDrawn i q
+fits_drawn : (w h i : ℕ) (q : QuadView) → IsSceneSide w → IsSceneSide h → QuadFits w h i q → CanBeDrawn i q
 fits_drawn w h i (tiled image at from) wide tall f = (sound_in w h at wide tall f.0, f.1)
 fits_drawn w h i (plain at colour) wide tall f = sound_in w h at wide tall f
 fits_drawn w h i (grouped pass opacity) wide tall f = f
@@ -41,8 +41,8 @@ fits_drawn w h i (grouped pass opacity) wide tall f = f
 -- the quads of pass `i` of a scene
 pass_of : (s : SceneView) (i : ℕ) → IsScene s → i < length s.passes → All (CanBeDrawn i) (slice_index_or s.passes i [])
 pass_of s i is lt =
-    All-weaker (Fits s.w s.h i) (CanBeDrawn i) (λ q. fits_drawn s.w s.h i q is.wide is.tall) (slice_index_or s.passes i [])
-    (subst (λ (k : ℕ). All (Fits s.w s.h k) (slice_index_or s.passes i [])) (zero_plus i) (sound_at s.w s.h 0 i s.passes is.sound lt))
+    All-weaker (QuadFits s.w s.h i) (CanBeDrawn i) (λ q. fits_drawn s.w s.h i q is.wide is.tall) (slice_index_or s.passes i [])
+    (subst (λ (k : ℕ). All (QuadFits s.w s.h k) (slice_index_or s.passes i [])) (zero_plus i) (sound_at s.w s.h 0 i s.passes is.sound lt))
   where
     zero_plus : (i : ℕ) → 0 + i ≡ i
     zero_plus i = omega arith
@@ -130,8 +130,8 @@ copied s band at surface x y shown h =
     ∙ ap (λ (z : ℤ). scene_pixel s z (pos (band.top + at.y) +ℤ pos (y - at.y))) column ∙ ap (scene_pixel s (pos x)) row
 
 pub strip_shown : (s : SceneView) (w : ℕ) (band : Band) (at : Area) (surface old new : List ℕ) → ShowsScene s (rect_of band at) surface
-    → EachPixel w band.rows (within at at.h (λ x y below. pixel surface ((y - at.y) * at.w + (x - at.x)))) old new
-    → EachPixel w band.rows (within at at.h (λ x y below. scene_pixel s (pos x) (pos (band.top + y)))) old new
+    → EachPixel w band.rows (within_rows at at.h (λ x y below. pixel surface ((y - at.y) * at.w + (x - at.x)))) old new
+    → EachPixel w band.rows (within_rows at at.h (λ x y below. scene_pixel s (pos x) (pos (band.top + y)))) old new
 strip_shown s w band at surface old new shown each x y xw yh =
     each x y xw yh
     ∙ where_held (in_rows at at.h x y) (pixel surface ((y - at.y) * at.w + (x - at.x))) (scene_pixel s (pos x) (pos (band.top + y))) (pixel old (y * w + x))
@@ -162,7 +162,7 @@ row_place w x row top y e = rw (sym e) (grind arith)
 -- rows of a band that became the pixels of a scene
 pub rows_drawn : (s : SceneView) (band : Band) (at : Area) (place count : ℕ) (made old new : List ℕ)
     → IsInside at at.w band.rows → place ≡ at.y * at.w → count ≡ at.w * at.h → ShowsScene s (rect_of band at) made → IsPart place count (λ j below. pixel made j) old new
-    → EachPixel at.w band.rows (within at at.h (λ x y below. scene_pixel s (pos x) (pos (band.top + y)))) old new
+    → EachPixel at.w band.rows (within_rows at at.h (λ x y below. scene_pixel s (pos x) (pos (band.top + y)))) old new
 rows_drawn s band at place count made old new inside p n shown part x y xw yh =
     let left : at.x ≡ 0 = omega (arith, inside.across) in
     let Goal : Type 0 = pixel new (y * at.w + x) ≡ cond (in_rows at at.h x y) (scene_pixel s (pos x) (pos (band.top + y))) (pixel old (y * at.w + x)) in

@@ -8,13 +8,13 @@ use Rattle.geom.specs.Covers.{covers}
 use Rattle.geom.proofs.Spans.{inside, both}
 use Rattle.pixel.specs.Colours.{Parts, blend}
 use Rattle.pixel.specs.Rows.{pixel}
-use Rattle.pixel.specs.Surfaces.{within, in_rows, holds}
+use Rattle.pixel.specs.Surfaces.{within_rows, in_rows, holds}
 use Rattle.pixel.specs.declared.Area.{Area}
 use Rattle.page_display_list.specs.Content.{content}
 use Rattle.page_display_list.specs.Bitmaps.{near}
 use Rattle.page_display_list.specs.Shared.{IsShared}
-use Rattle.page_display_list.specs.declared.Part.{Part}
-use Rattle.tile_raster.specs.Images.{Image, IsRow, AreSameRows, IsOneColour, shown}
+use Rattle.page_display_list.specs.declared.CoveredArea.{CoveredArea}
+use Rattle.tile_raster.specs.Images.{Image, IsRow, AreSameRows, IsOneColour, list_colour}
 use Rattle.viz_scene.specs.Pixels.{placed_pixel}
 use Rattle.viz_scene.specs.Sound.{IsTaken}
 use Rattle.viz_render.specs.inner.Drawing.{rows_from, part_pixel, laid_on}
@@ -40,17 +40,17 @@ place_in start from at point x first skipped low le e =
     omega (arith, ints)
 
 -- what the rect takes of the image, as a part of the image
-abbrev pub taken : Part → Point → Part
+abbrev pub taken : CoveredArea → Point → CoveredArea
 taken part from = record { at = part.at; left = part.left + near from.x; above = part.above + near from.y }
 
-pub from_left : (part : Part) (x y : ℕ) → holds part.at x y ≡ true → part.at.x ≤ x
+pub from_left : (part : CoveredArea) (x y : ℕ) → holds part.at x y ≡ true → part.at.x ≤ x
 from_left part x y h = grind (arith, nat_tests)
 
-pub from_top : (part : Part) (x y : ℕ) → holds part.at x y ≡ true → part.at.y ≤ y
+pub from_top : (part : CoveredArea) (x y : ℕ) → holds part.at x y ≡ true → part.at.y ≤ y
 from_top part x y h = grind (arith, nat_tests)
 
 -- a pixel of the part
-pub pixel_taken : (image : Image) (at area : Rect) (from : Point) (part : Part) (x y : ℕ) → IsTaken image at from → IsShared at area part
+pub pixel_taken : (image : Image) (at area : Rect) (from : Point) (part : CoveredArea) (x y : ℕ) → IsTaken image at from → IsShared at area part
     → x < near area.w → y < near area.h → holds part.at x y ≡ true
     → part_pixel image (taken part from) x y ≡ placed_pixel image at from (area.x +ℤ pos x) (area.y +ℤ pos y)
 pixel_taken image at area from part x y t shared xw yh h =
@@ -64,8 +64,8 @@ pixel_taken image at area from part x y t shared xw yh h =
     ∙ ap (λ (z : ℤ). content image.list (image.rect.x +ℤ (from.x +ℤ ((area.x +ℤ pos x) -ℤ at.x))) z) row
 
 -- a part of a tile's image, drawn where its rect lies
-pub tile_shown : (image : Image) (at area : Rect) (from : Point) (part : Part) (tops : List ℕ) (number : ℕ) (old new : List ℕ) → IsTaken image at from → IsShared at area part
-    → EachOpen (near area.w) (near area.h) tops number (within part.at part.at.h (λ x y below. blend below (part_pixel image (taken part from) x y))) old new
+pub tile_shown : (image : Image) (at area : Rect) (from : Point) (part : CoveredArea) (tops : List ℕ) (number : ℕ) (old new : List ℕ) → IsTaken image at from → IsShared at area part
+    → EachOpen (near area.w) (near area.h) tops number (within_rows part.at part.at.h (λ x y below. blend below (part_pixel image (taken part from) x y))) old new
     → EachOpenPoint area tops number (laid_on at (placed_pixel image at from)) old new
 tile_shown image at area from part tops number old new t shared each x y xw yh seen =
     let before = pixel old (y * near area.w + x) in
@@ -122,7 +122,7 @@ column_high : (at : Area) (row rows x y : ℕ) → in_rows (rows_from at row row
 column_high at row rows x y h = grind (arith, nat_tests)
 
 -- the pixel of a row of the image, and of the rows that are equal to it
-pub band_pixel : (image : Image) (part : Part) (row rows : ℕ) (bytes : List ℕ) (x y : ℕ) → IsRow image.list image.rect (part.above + row) bytes
+pub band_pixel : (image : Image) (part : CoveredArea) (row rows : ℕ) (bytes : List ℕ) (x y : ℕ) → IsRow image.list image.rect (part.above + row) bytes
     → ((k : ℕ) → k < rows → AreSameRows image.list image.rect (part.above + row) (part.above + row + k))
     → part.left + part.at.w ≤ near image.rect.w → in_rows (rows_from part.at row rows) rows x y ≡ true
     → pixel bytes (x - part.at.x + part.left) ≡ part_pixel image part x y
@@ -135,15 +135,15 @@ band_pixel image part row rows bytes x y is equal fit h =
     let below : part.above + row + (y - (part.at.y + row)) ≡ y - part.at.y + part.above = omega arith in
     is.pixels (x - part.at.x + part.left) column
     ∙ equal (y - (part.at.y + row)) (omega arith) (x - part.at.x + part.left) column
-    ∙ ap (λ (n : ℕ). shown image.list image.rect (x - part.at.x + part.left) n) below
+    ∙ ap (λ (n : ℕ). list_colour image.list image.rect (x - part.at.x + part.left) n) below
 
 -- a row of the image, drawn in the rows of the part that are equal to it
-pub band_shown : (w h : ℕ) (image : Image) (part : Part) (row rows : ℕ) (bytes : List ℕ) (tops : List ℕ) (number : ℕ) (old new : List ℕ)
+pub band_shown : (w h : ℕ) (image : Image) (part : CoveredArea) (row rows : ℕ) (bytes : List ℕ) (tops : List ℕ) (number : ℕ) (old new : List ℕ)
     → IsRow image.list image.rect (part.above + row) bytes
     → ((k : ℕ) → k < rows → AreSameRows image.list image.rect (part.above + row) (part.above + row + k))
     → part.left + part.at.w ≤ near image.rect.w
-    → EachOpen w h tops number (within (rows_from part.at row rows) rows (λ x y below. blend below (pixel bytes (x - part.at.x + part.left)))) old new
-    → EachOpen w h tops number (within (rows_from part.at row rows) rows (λ x y below. blend below (part_pixel image part x y))) old new
+    → EachOpen w h tops number (within_rows (rows_from part.at row rows) rows (λ x y below. blend below (pixel bytes (x - part.at.x + part.left)))) old new
+    → EachOpen w h tops number (within_rows (rows_from part.at row rows) rows (λ x y below. blend below (part_pixel image part x y))) old new
 band_shown w h image part row rows bytes tops number old new is equal fit each x y xw yh seen =
     let before = pixel old (y * w + x) in
     each x y xw yh seen

@@ -6,7 +6,7 @@ use Rattle.pixel.specs.Rows.{pixel, ArePremultiplied}
 use Rattle.region.specs.Points.{covered}
 use Rattle.viz_scene.specs.Views.{SceneView}
 use Rattle.viz_scene.specs.Pixels.{scene_pixel}
-use Rattle.viz_scene.specs.Sound.{IsSide}
+use Rattle.viz_scene.specs.Sound.{IsSceneSide}
 
 -- the sides of a frame in pixels, and red, green, blue and alpha of each pixel, row by row from the top
 pub record FrameView : Type 0 where
@@ -16,8 +16,8 @@ pub record FrameView : Type 0 where
 
 -- what each frame keeps
 pub record IsFrame (f : FrameView) : Type 0 where
-  pub wide : IsSide f.w
-  pub tall : IsSide f.h
+  pub wide : IsSceneSide f.w
+  pub tall : IsSceneSide f.h
   pub size : length f.bytes ≡ 4 * (f.w * f.h)
   pub premultiplied : ArePremultiplied f.bytes
 
@@ -39,8 +39,8 @@ pub record IsOfSize (w h : ℕ) (f : FrameView) : Type 0 where
   pub tall : f.h ≡ h
 
 -- the frame shows the scene
-abbrev pub Shows : SceneView → FrameView → Type 0
-Shows s f = EachIs (λ x y. scene_pixel s (pos x) (pos y)) f
+abbrev pub FrameShows : SceneView → FrameView → Type 0
+FrameShows s f = EachIs (λ x y. scene_pixel s (pos x) (pos y)) f
 
 -- the frame shows the scene at the points of a region, and what it showed before elsewhere
 abbrev pub ShowsIn : SceneView → List Rect → FrameView → FrameView → Type 0

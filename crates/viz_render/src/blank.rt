@@ -7,7 +7,7 @@ ghost use Rattle.viz_render.specs.inner.Masks.{EachOpen};
 use crate::mask::Mask;
 use crate::open::paint_open;
 use crate::paint::Paint;
-use page_display_list::Part;
+use page_display_list::CoveredArea;
 use pixel::{Area, Colour, fill_row};
 
 /// Gives each pixel one colour; byte by byte where its four bytes are equal, as those of transparent pixels and of
@@ -50,7 +50,7 @@ pub(crate) fn fill_open(
             w: width,
             h: height,
         };
-        let whole = Part {
+        let whole = CoveredArea {
             at,
             left: 0,
             above: 0,

@@ -2,7 +2,7 @@
 
 ghost use Rattle.std.specs.Prelude.{◌≡◌, ℕ, ◌+◌, ◌-◌, ◌*◌, ◌<◌, ◌≤◌, ◌^◌, length};
 ghost use Rattle.pixel.specs.Rows.{pixel, ArePremultiplied};
-ghost use Rattle.pixel.specs.Surfaces.{IsPart, IsInside, EachPixel, within};
+ghost use Rattle.pixel.specs.Surfaces.{IsPart, IsInside, EachPixel, within_rows};
 
 use pixel::Area;
 
@@ -12,7 +12,7 @@ pub(crate) fn copy_area(surface: &mut [u8], width: usize, height: usize, at: Are
     requires inside { IsInside at width height }
     requires given { 4 * (at.w * at.h) ≤ length picture.now }
     requires premultiplied { ArePremultiplied picture.now }
-    ensures pixels { EachPixel width height (within at at.h (λ x y below. pixel picture.now ((y - at.y) * at.w + (x - at.x)))) surface.old surface.new }
+    ensures pixels { EachPixel width height (within_rows at at.h (λ x y below. pixel picture.now ((y - at.y) * at.w + (x - at.x)))) surface.old surface.new }
     ensures premultiplied { ArePremultiplied surface.old → ArePremultiplied surface.new }
 {
     for row in 0..at.h {

@@ -4,7 +4,7 @@ ghost use Rattle.std.specs.Prelude.{◌≡◌, ℕ, ◌+◌, ◌*◌, ◌<◌, �
 ghost use Rattle.geom.specs.Covers.{covers, IsSound};
 ghost use Rattle.region.specs.Points.{covered};
 ghost use Rattle.viz_scene.specs.Pixels.{scene_pixel};
-ghost use Rattle.viz_render.specs.Frames.{IsOfSize, EachIs, frame_pixel, Shows, ShowsIn};
+ghost use Rattle.viz_render.specs.Frames.{IsOfSize, EachIs, frame_pixel, FrameShows, ShowsIn};
 ghost use Rattle.viz_render.specs.inner.Bands.{AreAllReady};
 
 use crate::frame::Frame;
@@ -23,7 +23,7 @@ use viz_scene::Scene;
 pub fn render(scene: &Scene, frame: &mut Frame) -> Result<(), AllocError>
     requires { IsOfSize scene.now.w scene.now.h frame.old }
     ensures size { IsOfSize scene.now.w scene.now.h frame.new }
-    ensures ok { OnOk result (Shows scene.now frame.new) }
+    ensures ok { OnOk result (FrameShows scene.now frame.new) }
     ensures err { OnErr result (frame.new ≡ frame.old) }
 {
     render_by(&OneThread, scene, frame)
@@ -39,7 +39,7 @@ pub fn render_in_parts<R: Threads + Sync>(
 ) -> Result<(), AllocError>
     requires { IsOfSize scene.now.w scene.now.h frame.old }
     ensures size { IsOfSize scene.now.w scene.now.h frame.new }
-    ensures ok { OnOk result (Shows scene.now frame.new) }
+    ensures ok { OnOk result (FrameShows scene.now frame.new) }
     ensures err { OnErr result (frame.new ≡ frame.old) }
 {
     render_by(&ManyThreads { rt, most: parts }, scene, frame)
@@ -50,7 +50,7 @@ fn render_by<H: Hands>(hands: &H, scene: &Scene, frame: &mut Frame) -> Result<()
     requires can { H.can_draw hands.now }
     requires same { IsOfSize scene.now.w scene.now.h frame.old }
     ensures size { IsOfSize scene.now.w scene.now.h frame.new }
-    ensures ok { OnOk result (Shows scene.now frame.new) }
+    ensures ok { OnOk result (FrameShows scene.now frame.new) }
     ensures err { OnErr result (frame.new ≡ frame.old) }
 {
     let parts = hands.parts_of(scene, pixel_count(scene, screen_of(scene)));

@@ -2,7 +2,7 @@
 
 ghost use Rattle.std.specs.Prelude.{◌≡◌, ℕ, ◌+◌, ◌*◌, length, IfOk, ◌<◌, ◌≤◌, ◌^◌};
 ghost use Rattle.pixel.specs.Rows.{pixel, ArePremultiplied};
-ghost use Rattle.viz_scene.specs.Sound.{IsSide};
+ghost use Rattle.viz_scene.specs.Sound.{IsSceneSide};
 ghost use Rattle.viz_render.specs.Frames;
 ghost use Rattle.viz_render.specs.Frames.{FrameView, IsFrame, IsOfSize, EachIs, frame_pixel, black};
 ghost use Rattle.viz_render.specs.CopiedRows.{row_before};
@@ -33,8 +33,8 @@ impl Model for Frame {
 impl Frame {
     /// A frame that is black and opaque. An error is want of memory.
     pub fn new(alloc: Global, w: u32, h: u32) -> Result<Frame, AllocError>
-        requires wide { IsSide w }
-        requires tall { IsSide h }
+        requires wide { IsSceneSide w }
+        requires tall { IsSceneSide h }
         ensures size { IfOk result (λ frame. IsOfSize w h frame) }
         ensures pixels { IfOk result (λ frame. EachIs (λ x y. black) frame) }
     {
@@ -45,7 +45,7 @@ impl Frame {
     /// The width in pixels.
     pub fn w(&self) -> u32
         ensures value { result ≡ self.now.w }
-        ensures side { IsSide result }
+        ensures side { IsSceneSide result }
     {
         self.w
     }
@@ -53,7 +53,7 @@ impl Frame {
     /// The height in pixels.
     pub fn h(&self) -> u32
         ensures value { result ≡ self.now.h }
-        ensures side { IsSide result }
+        ensures side { IsSceneSide result }
     {
         self.h
     }

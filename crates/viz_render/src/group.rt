@@ -4,7 +4,7 @@ ghost use Rattle.std.specs.Prelude.{◌≡◌, ℕ, ◌+◌, ◌-◌, ◌*◌, �
 ghost use Rattle.geom.specs.Covers.{IsSound};
 ghost use Rattle.pixel.specs.Colours.{blend, scaled};
 ghost use Rattle.pixel.specs.Rows.{pixel, ArePremultiplied};
-ghost use Rattle.pixel.specs.Surfaces.{IsPart, IsInside, EachPixel, within};
+ghost use Rattle.pixel.specs.Surfaces.{IsPart, IsInside, EachPixel, within_rows};
 ghost use Rattle.page_display_list.specs.Bitmaps.{near, byte_count};
 ghost use Rattle.viz_render.specs.inner.Drawing.{colour_of};
 ghost use Rattle.viz_render.specs.inner.Masks.{EachOpenPoint};
@@ -16,7 +16,7 @@ use crate::paint::Paint;
 use crate::size::{height_of, width_of};
 use crate::surface::Surface;
 use geom::Rect;
-use page_display_list::{Part, shared_part};
+use page_display_list::{CoveredArea, shared_part};
 use viz_surface::faded_over;
 
 /// Lays the colours of a pass, faded to an opacity, over the pixels of an area.
@@ -64,7 +64,7 @@ pub(crate) fn fade_part(
     bytes: &[u8],
     pass_width: usize,
     pass_height: usize,
-    part: Part,
+    part: CoveredArea,
     opacity: u8,
 )
     requires size { length surface.old ≡ 4 * (width * height) }
@@ -74,7 +74,7 @@ pub(crate) fn fade_part(
     requires room { 4 * (pass_width * pass_height) ≤ length bytes.now }
     requires premultiplied { ArePremultiplied bytes.now }
     ensures pixels { EachPixel width height
-        (within part.at part.at.h (λ x y below. blend below (scaled (pixel bytes.now ((y - part.at.y + part.above) * pass_width + (x - part.at.x + part.left))) opacity)))
+        (within_rows part.at part.at.h (λ x y below. blend below (scaled (pixel bytes.now ((y - part.at.y + part.above) * pass_width + (x - part.at.x + part.left))) opacity)))
         surface.old surface.new }
     ensures premultiplied { ArePremultiplied surface.old → ArePremultiplied surface.new }
 {

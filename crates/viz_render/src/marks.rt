@@ -14,7 +14,7 @@ ghost use Rattle.viz_render.specs.inner.Masks.{Hides, HidesIn, IsOfBlock, Marks,
 use crate::surface::Surface;
 use crate::tile::{equal_rows_at, row_number, taken_part};
 use geom::{Point, Rect};
-use page_display_list::{Part, shared_part};
+use page_display_list::{CoveredArea, shared_part};
 use pixel::{Area, Colour};
 use tile_raster::TileImage;
 use viz_scene::Quad;
@@ -85,7 +85,7 @@ fn mark_tile(
 }
 
 // marks where a part of an image is opaque
-fn mark_part(tops: &mut [usize], image: &TileImage, part: Part, number: usize)
+fn mark_part(tops: &mut [usize], image: &TileImage, part: CoveredArea, number: usize)
     requires tops { length tops.old ≡ 1032 }
     requires wide { part.at.x + part.at.w ≤ 2048 }
     requires low { part.at.y + part.at.h ≤ 64 }
@@ -107,7 +107,7 @@ fn mark_part(tops: &mut [usize], image: &TileImage, part: Part, number: usize)
 fn mark_band(
     tops: &mut [usize],
     image: &TileImage,
-    part: Part,
+    part: CoveredArea,
     row: usize,
     rows: usize,
     number: usize,

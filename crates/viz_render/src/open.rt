@@ -2,13 +2,13 @@
 
 ghost use Rattle.std.specs.Prelude.{◌≡◌, ℕ, ◌+◌, ◌*◌, ◌/◌, ◌%◌, ◌^◌, ◌<◌, ◌≤◌, nat_le, length, slice_index};
 ghost use Rattle.pixel.specs.Rows.{ArePremultiplied};
-ghost use Rattle.pixel.specs.Surfaces.{IsInside, within};
+ghost use Rattle.pixel.specs.Surfaces.{IsInside, within_rows};
 ghost use Rattle.viz_render.specs.inner.Masks.{is_open, EachOpen};
 ghost use Rattle.viz_render.specs.inner.Paints.{painted, CanPaint, some_rows, some_columns};
 
 use crate::mask::Mask;
 use crate::paint::{Paint, paint_part};
-use page_display_list::Part;
+use page_display_list::CoveredArea;
 use pixel::Area;
 
 /// Paints a part of an area where a quad of this number is seen.
@@ -16,7 +16,7 @@ pub(crate) fn paint_open(
     surface: &mut [u8],
     width: usize,
     height: usize,
-    part: Part,
+    part: CoveredArea,
     paint: &Paint<'_>,
     mask: &Mask,
     number: usize,
@@ -28,7 +28,7 @@ pub(crate) fn paint_open(
     requires paint { CanPaint paint.now part }
     requires left { part.left + part.at.w < 2 ^ 64 }
     requires above { part.above + part.at.h < 2 ^ 64 }
-    ensures pixels { EachOpen width height mask.now.tops number (within part.at part.at.h (painted paint.now part)) surface.old surface.new }
+    ensures pixels { EachOpen width height mask.now.tops number (within_rows part.at part.at.h (painted paint.now part)) surface.old surface.new }
     ensures premultiplied { ArePremultiplied surface.old → ArePremultiplied surface.new }
 {
     if mask.highest() <= number {
@@ -43,7 +43,7 @@ fn paint_rows(
     surface: &mut [u8],
     width: usize,
     height: usize,
-    part: Part,
+    part: CoveredArea,
     paint: &Paint<'_>,
     tops: &[usize],
     number: usize,
@@ -56,7 +56,7 @@ fn paint_rows(
     requires left { part.left + part.at.w < 2 ^ 64 }
     requires above { part.above + part.at.h < 2 ^ 64 }
     requires tops { length tops.now ≡ 1032 }
-    ensures pixels { EachOpen width height tops.now number (within part.at part.at.h (painted paint.now part)) surface.old surface.new }
+    ensures pixels { EachOpen width height tops.now number (within_rows part.at part.at.h (painted paint.now part)) surface.old surface.new }
     ensures premultiplied { ArePremultiplied surface.old → ArePremultiplied surface.new }
 {
     let mut done = 0;
@@ -73,7 +73,7 @@ fn paint_columns(
     surface: &mut [u8],
     width: usize,
     height: usize,
-    part: Part,
+    part: CoveredArea,
     paint: &Paint<'_>,
     tops: &[usize],
     number: usize,
@@ -88,7 +88,7 @@ fn paint_columns(
     requires tops { length tops.now ≡ 1032 }
     requires some { 1 ≤ part.at.h }
     requires one { part.at.y % 8 + part.at.h ≤ 8 }
-    ensures pixels { EachOpen width height tops.now number (within part.at part.at.h (painted paint.now part)) surface.old surface.new }
+    ensures pixels { EachOpen width height tops.now number (within_rows part.at part.at.h (painted paint.now part)) surface.old surface.new }
     ensures premultiplied { ArePremultiplied surface.old → ArePremultiplied surface.new }
 {
     let mut done = 0;
@@ -105,7 +105,7 @@ fn paint_run(
     surface: &mut [u8],
     width: usize,
     height: usize,
-    part: Part,
+    part: CoveredArea,
     paint: &Paint<'_>,
     tops: &[usize],
     number: usize,
@@ -120,7 +120,7 @@ fn paint_run(
     requires columns { 1 ≤ part.at.w }
     requires one { part.at.y % 8 + part.at.h ≤ 8 }
     requires alike { (x : ℕ) → part.at.x ≤ x → x < part.at.x + part.at.w → is_open tops.now number x part.at.y ≡ is_open tops.now number part.at.x part.at.y }
-    ensures pixels { EachOpen width height tops.now number (within part.at part.at.h (painted paint.now part)) surface.old surface.new }
+    ensures pixels { EachOpen width height tops.now number (within_rows part.at part.at.h (painted paint.now part)) surface.old surface.new }
     ensures premultiplied { ArePremultiplied surface.old → ArePremultiplied surface.new }
 {
     if is_block_open(tops, part.at.x / 16, part.at.y / 8, number) {
@@ -129,7 +129,7 @@ fn paint_run(
 }
 
 // some rows of a part
-fn rows_of(part: Part, first: usize, rows: usize) -> Part
+fn rows_of(part: CoveredArea, first: usize, rows: usize) -> CoveredArea
     requires below { part.at.y + first < 2 ^ 64 }
     requires above { part.above + first < 2 ^ 64 }
     ensures { result ≡ some_rows part first rows }
@@ -140,7 +140,7 @@ fn rows_of(part: Part, first: usize, rows: usize) -> Part
         w: part.at.w,
         h: rows,
     };
-    Part {
+    CoveredArea {
         at,
         left: part.left,
         above: part.above + first,
@@ -148,7 +148,7 @@ fn rows_of(part: Part, first: usize, rows: usize) -> Part
 }
 
 // some columns of a part
-fn columns_of(part: Part, first: usize, columns: usize) -> Part
+fn columns_of(part: CoveredArea, first: usize, columns: usize) -> CoveredArea
     requires right { part.at.x + first < 2 ^ 64 }
     requires left { part.left + first < 2 ^ 64 }
     ensures { result ≡ some_columns part first columns }
@@ -159,7 +159,7 @@ fn columns_of(part: Part, first: usize, columns: usize) -> Part
         w: columns,
         h: part.at.h,
     };
-    Part {
+    CoveredArea {
         at,
         left: part.left + first,
         above: part.above,

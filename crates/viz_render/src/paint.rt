@@ -2,11 +2,11 @@
 
 ghost use Rattle.std.specs.Prelude.{◌≡◌, ℕ, ◌*◌, length};
 ghost use Rattle.pixel.specs.Rows.{ArePremultiplied};
-ghost use Rattle.pixel.specs.Surfaces.{IsInside, EachPixel, within};
+ghost use Rattle.pixel.specs.Surfaces.{IsInside, EachPixel, within_rows};
 ghost use Rattle.viz_render.specs.inner.Paints.{painted, CanPaint};
 
 use crate::group::fade_part;
-use page_display_list::Part;
+use page_display_list::CoveredArea;
 use pixel::{Colour, fill_area};
 use viz_surface::{colour_over_area, rows_over_area};
 
@@ -33,13 +33,13 @@ pub(crate) fn paint_part(
     surface: &mut [u8],
     width: usize,
     height: usize,
-    part: Part,
+    part: CoveredArea,
     paint: &Paint<'_>,
 )
     requires size { length surface.old ≡ 4 * (width * height) }
     requires inside { IsInside part.at width height }
     requires paint { CanPaint paint.now part }
-    ensures pixels { EachPixel width height (within part.at part.at.h (painted paint.now part)) surface.old surface.new }
+    ensures pixels { EachPixel width height (within_rows part.at part.at.h (painted paint.now part)) surface.old surface.new }
     ensures premultiplied { ArePremultiplied surface.old → ArePremultiplied surface.new }
 {
     match paint {

@@ -79,7 +79,7 @@ impl<'r, R: Threads + Sync> Hands for ManyThreads<'r, R> {
         at: Area,
         surfaces: &mut [Surfaces],
     ) {
-        draw_parts(self.rt, scene, Place { band, at }, bytes, surfaces);
+        draw_parts(self.rt, scene, BandArea { band, at }, bytes, surfaces);
     }
 }
 
@@ -133,17 +133,17 @@ fn start_of(width: usize, row: usize, rows: usize) -> usize
 
 // where a part is drawn: in a band, and in which area of it
 #[derive(Clone, Copy)]
-struct Place {
+struct BandArea {
     band: Band,
     at: Area,
 }
 
 // the first rows of an area, in a band that ends with them
-fn upper_of(band: Band, at: Area, rows: usize) -> Place
+fn upper_of(band: Band, at: Area, rows: usize) -> BandArea
     requires { at.y + rows ≤ 2048 }
     ensures { result ≡ upper_place band at rows }
 {
-    Place {
+    BandArea {
         band: Band {
             top: band.top,
             rows: at.y + rows,
@@ -158,14 +158,14 @@ fn upper_of(band: Band, at: Area, rows: usize) -> Place
 }
 
 // the rows of an area behind the first, in a band that begins with them
-fn lower_of(band: Band, at: Area, rows: usize) -> Place
+fn lower_of(band: Band, at: Area, rows: usize) -> BandArea
     requires end { band.top + band.rows ≤ 2048 }
     requires inside { at.y + at.h ≤ band.rows }
     requires rows { rows ≤ at.h }
     ensures { result ≡ lower_place band at rows }
 {
     let top = at.y + rows;
-    Place {
+    BandArea {
         band: Band {
             top: band.top + top,
             rows: band.rows - top,
@@ -184,7 +184,7 @@ fn lower_of(band: Band, at: Area, rows: usize) -> Place
 fn draw_parts<R: Threads + Sync>(
     rt: &R,
     scene: &Scene,
-    place: Place,
+    place: BandArea,
     bytes: &mut [u8],
     surfaces: &mut [Surfaces],
 )
@@ -193,7 +193,7 @@ fn draw_parts<R: Threads + Sync>(
     ensures drawn { IsBandDrawn scene.now place.band place.at bytes.old bytes.new }
     ensures ready { AreAllReady scene.now surfaces.new }
 {
-    let Place { band, at } = place;
+    let BandArea { band, at } = place;
     let width = scene.w() as usize;
     let parts = surfaces.len().min(parts_worth(scene, pixels_of(at)));
     if parts < 2 {
@@ -214,10 +214,10 @@ fn draw_parts<R: Threads + Sync>(
 fn draw_halves<R: Threads + Sync>(
     rt: &R,
     scene: &Scene,
-    upper: Place,
+    upper: BandArea,
     above: &mut [u8],
     first: &mut [Surfaces],
-    lower: Place,
+    lower: BandArea,
     below: &mut [u8],
     second: &mut [Surfaces],
 )

@@ -5,7 +5,7 @@ ghost use Rattle.geom.specs.Covers.{IsSound};
 ghost use Rattle.pixel.specs.Colours.{Parts, blend, clear};
 ghost use Rattle.pixel.specs.Rows.{ArePremultiplied};
 ghost use Rattle.page_display_list.specs.Bitmaps.{near, byte_count};
-ghost use Rattle.page_display_list.specs.declared.Part.{Part};
+ghost use Rattle.page_display_list.specs.declared.CoveredArea.{CoveredArea};
 ghost use Rattle.viz_render.specs.inner.Drawing.{laid_on};
 ghost use Rattle.viz_render.specs.inner.Masks.{EachOpenPoint};
 ghost use Rattle.viz_render.specs.inner.Paints.{painted, CanPaint};
@@ -56,8 +56,8 @@ pub(crate) fn draw_solid(
 
 // the paint of a colour
 fn paint_of(colour: Colour) -> Paint<'static>
-    ensures can { (part : Part) → CanPaint result part }
-    ensures value { (part : Part) (x y : ℕ) (below : Parts) → painted result part x y below ≡ blend below colour }
+    ensures can { (part : CoveredArea) → CanPaint result part }
+    ensures value { (part : CoveredArea) (x y : ℕ) (below : Parts) → painted result part x y below ≡ blend below colour }
 {
     if colour.a() == 255 {
         Paint::Fill(colour)

@@ -3,7 +3,7 @@
 ghost use Rattle.std.specs.Prelude.{◌≡◌, ℕ, ◌+◌, ◌*◌, ◌<◌, ◌≤◌, ◌^◌, ℤ, pos, ◌+ℤ◌, length, IfOk, cond};
 ghost use Rattle.geom.specs.Covers.{covers, IsSound};
 ghost use Rattle.pixel.specs.Rows.{pixel, ArePremultiplied};
-ghost use Rattle.pixel.specs.Surfaces.{IsInside, EachPixel, within};
+ghost use Rattle.pixel.specs.Surfaces.{IsInside, EachPixel, within_rows};
 ghost use Rattle.page_display_list.specs.Bitmaps.{near, byte_count};
 ghost use Rattle.viz_scene.specs.Views.{passes_view};
 ghost use Rattle.viz_scene.specs.Pixels.{scene_pixel};
@@ -106,7 +106,7 @@ pub(crate) fn draw_area(
     requires inside { IsInside at scene.now.w band.rows }
     requires end { band.top + band.rows ≤ 2048 }
     requires ready { AreReady scene.now surfaces.old }
-    ensures pixels { EachPixel scene.now.w band.rows (within at at.h (λ x y below. scene_pixel scene.now (pos x) (pos (band.top + y)))) bytes.old bytes.new }
+    ensures pixels { EachPixel scene.now.w band.rows (within_rows at at.h (λ x y below. scene_pixel scene.now (pos x) (pos (band.top + y)))) bytes.old bytes.new }
     ensures premultiplied { ArePremultiplied bytes.old → ArePremultiplied bytes.new }
     ensures ready { AreReady scene.now surfaces.new }
 {
@@ -131,7 +131,7 @@ fn draw_strip(scene: &Scene, bytes: &mut [u8], band: Band, at: Area, surfaces: &
     requires end { band.top + band.rows ≤ 2048 }
     requires low { at.h ≤ surfaces.old.rows }
     requires ready { AreReady scene.now surfaces.old }
-    ensures pixels { EachPixel scene.now.w band.rows (within at at.h (λ x y below. scene_pixel scene.now (pos x) (pos (band.top + y)))) bytes.old bytes.new }
+    ensures pixels { EachPixel scene.now.w band.rows (within_rows at at.h (λ x y below. scene_pixel scene.now (pos x) (pos (band.top + y)))) bytes.old bytes.new }
     ensures premultiplied { ArePremultiplied bytes.old → ArePremultiplied bytes.new }
     ensures ready { AreReady scene.now surfaces.new }
 {
@@ -151,7 +151,7 @@ fn draw_rows(scene: &Scene, bytes: &mut [u8], band: Band, at: Area, surfaces: &m
     requires narrow { at.w ≤ 2048 }
     requires low { at.h ≤ surfaces.old.rows }
     requires ready { AreReady scene.now surfaces.old }
-    ensures pixels { EachPixel scene.now.w band.rows (within at at.h (λ x y below. scene_pixel scene.now (pos x) (pos (band.top + y)))) bytes.old bytes.new }
+    ensures pixels { EachPixel scene.now.w band.rows (within_rows at at.h (λ x y below. scene_pixel scene.now (pos x) (pos (band.top + y)))) bytes.old bytes.new }
     ensures premultiplied { ArePremultiplied bytes.old → ArePremultiplied bytes.new }
     ensures ready { AreReady scene.now surfaces.new }
 {
@@ -226,7 +226,7 @@ fn draw_columns(scene: &Scene, bytes: &mut [u8], band: Band, at: Area, surfaces:
     requires end { band.top + band.rows ≤ 2048 }
     requires low { at.h ≤ surfaces.old.rows }
     requires ready { AreReady scene.now surfaces.old }
-    ensures pixels { EachPixel scene.now.w band.rows (within at at.h (λ x y below. scene_pixel scene.now (pos x) (pos (band.top + y)))) bytes.old bytes.new }
+    ensures pixels { EachPixel scene.now.w band.rows (within_rows at at.h (λ x y below. scene_pixel scene.now (pos x) (pos (band.top + y)))) bytes.old bytes.new }
     ensures premultiplied { ArePremultiplied bytes.old → ArePremultiplied bytes.new }
     ensures ready { AreReady scene.now surfaces.new }
 {

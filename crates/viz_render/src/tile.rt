@@ -4,7 +4,7 @@ ghost use Rattle.std.specs.Prelude.{◌≡◌, ℕ, ◌+◌, ◌*◌, ◌<◌, �
 ghost use Rattle.geom.specs.Covers.{IsSound};
 ghost use Rattle.pixel.specs.Colours.{blend};
 ghost use Rattle.pixel.specs.Rows.{ArePremultiplied};
-ghost use Rattle.pixel.specs.Surfaces.{IsInside, within};
+ghost use Rattle.pixel.specs.Surfaces.{IsInside, within_rows};
 ghost use Rattle.page_display_list.specs.Bitmaps.{near, byte_count};
 ghost use Rattle.viz_scene.specs.Pixels.{placed_pixel};
 ghost use Rattle.viz_scene.specs.Sound.{IsTaken};
@@ -18,7 +18,7 @@ use crate::paint::Paint;
 use crate::size::{count, height_of, width_of};
 use crate::solid::draw_solid;
 use geom::{Point, Rect};
-use page_display_list::{Part, shared_part};
+use page_display_list::{CoveredArea, shared_part};
 use pixel::Area;
 use tile_raster::TileImage;
 
@@ -61,14 +61,14 @@ pub(crate) fn draw_tile(
 }
 
 // the part with its columns and rows counted in the image, of which the rect takes what is from `from` on
-pub(crate) fn taken_part(part: Part, from: Point) -> Part
+pub(crate) fn taken_part(part: CoveredArea, from: Point) -> CoveredArea
     requires from_left { pos 0 ≤ℤ from.x }
     requires from_top { pos 0 ≤ℤ from.y }
     requires columns { part.left ≤ 2 ^ 29 }
     requires rows { part.above ≤ 2 ^ 29 }
     ensures { result ≡ record { at = part.at; left = part.left + near from.x; above = part.above + near from.y } }
 {
-    Part {
+    CoveredArea {
         at: part.at,
         left: later(part.left, from.x),
         above: later(part.above, from.y),
@@ -90,7 +90,7 @@ fn draw_part(
     width: usize,
     height: usize,
     image: &TileImage,
-    part: Part,
+    part: CoveredArea,
     mask: &Mask,
     quad: usize,
 )
@@ -100,7 +100,7 @@ fn draw_part(
     requires inside { IsInside part.at width height }
     requires columns { part.left + part.at.w ≤ near image.now.rect.w }
     requires rows { part.above + part.at.h ≤ near image.now.rect.h }
-    ensures pixels { EachOpen width height mask.now.tops quad (within part.at part.at.h (λ x y below. blend below (part_pixel image.now part x y))) surface.old surface.new }
+    ensures pixels { EachOpen width height mask.now.tops quad (within_rows part.at part.at.h (λ x y below. blend below (part_pixel image.now part x y))) surface.old surface.new }
     ensures premultiplied { ArePremultiplied surface.old → ArePremultiplied surface.new }
 {
     let mut done = 0;
@@ -113,7 +113,7 @@ fn draw_part(
 }
 
 // the row of an image that belongs to a row of a part of it
-pub(crate) fn row_number(image: &TileImage, part: Part, row: usize) -> u32
+pub(crate) fn row_number(image: &TileImage, part: CoveredArea, row: usize) -> u32
     requires rows { part.above + part.at.h ≤ near image.now.rect.h }
     requires there { row < part.at.h }
     ensures { result ≡ part.above + row }
@@ -141,7 +141,7 @@ fn draw_band(
     width: usize,
     height: usize,
     image: &TileImage,
-    part: Part,
+    part: CoveredArea,
     row: usize,
     rows: usize,
     mask: &Mask,
@@ -156,7 +156,7 @@ fn draw_band(
     requires some { 1 ≤ rows }
     requires there { row + rows ≤ part.at.h }
     requires equal { (k : ℕ) → k < rows → AreSameRows image.now.list image.now.rect (part.above + row) (part.above + row + k) }
-    ensures pixels { EachOpen width height mask.now.tops quad (within (rows_from part.at row rows) rows (λ x y below. blend below (part_pixel image.now part x y))) surface.old surface.new }
+    ensures pixels { EachOpen width height mask.now.tops quad (within_rows (rows_from part.at row rows) rows (λ x y below. blend below (part_pixel image.now part x y))) surface.old surface.new }
     ensures premultiplied { ArePremultiplied surface.old → ArePremultiplied surface.new }
 {
     let at = Area {
@@ -167,7 +167,7 @@ fn draw_band(
     };
     let number = row_number(image, part, row);
     let pixels = image.row(number);
-    let band = Part {
+    let band = CoveredArea {
         at,
         left: part.left,
         above: part.above + row,

@@ -5,28 +5,28 @@ use Rattle.std.proofs.lemmas.List.Elements.{All-head, All-tail, All-cons}
 use Rattle.viz_scene.specs.declared.quad.Quad.{Quad}
 use Rattle.viz_scene.specs.declared.quad.RenderPass.{RenderPass}
 use Rattle.viz_scene.specs.Views.{quad_view, quads_view, pass_view, passes_view}
-use Rattle.viz_scene.specs.Sound.{Fits, AreSound}
+use Rattle.viz_scene.specs.Sound.{QuadFits, AreSound}
 
-pub quads_rest : (w h i : ℕ) (rest after : List Quad) (q : Quad) → rest ≡ q ∷ after → Fits w h i (quad_view q)
-    → All (Fits w h i) (quads_view rest) ↔ All (Fits w h i) (quads_view after)
+pub quads_rest : (w h i : ℕ) (rest after : List Quad) (q : Quad) → rest ≡ q ∷ after → QuadFits w h i (quad_view q)
+    → All (QuadFits w h i) (quads_view rest) ↔ All (QuadFits w h i) (quads_view after)
 quads_rest w h i rest after q e fit =
-    subst (λ xs. All (Fits w h i) (quads_view xs) ↔ All (Fits w h i) (quads_view after)) (sym e)
-    (λ all. All-tail (Fits w h i) (quad_view q) (quads_view after) all, λ all. All-cons (Fits w h i) (quad_view q) (quads_view after) fit all)
+    subst (λ xs. All (QuadFits w h i) (quads_view xs) ↔ All (QuadFits w h i) (quads_view after)) (sym e)
+    (λ all. All-tail (QuadFits w h i) (quad_view q) (quads_view after) all, λ all. All-cons (QuadFits w h i) (quad_view q) (quads_view after) fit all)
 
-pub passes_rest : (w h i : ℕ) (rest after : List RenderPass) (p : RenderPass) → rest ≡ p ∷ after → All (Fits w h i) (pass_view p)
+pub passes_rest : (w h i : ℕ) (rest after : List RenderPass) (p : RenderPass) → rest ≡ p ∷ after → All (QuadFits w h i) (pass_view p)
     → AreSound w h i (passes_view rest) ↔ AreSound w h (i + 1) (passes_view after)
 passes_rest w h i rest after p e fit =
     subst (λ xs. AreSound w h i (passes_view xs) ↔ AreSound w h (i + 1) (passes_view after)) (sym e) (λ all. all.1, λ all. (fit, all))
 
 -- what one that does not fit says of all
-pub quads_fail : (w h i : ℕ) (all rest after : List Quad) (q : Quad) (t : Bool) → rest ≡ q ∷ after → (IsTrue t ↔ Fits w h i (quad_view q)) → t ≡ false
-    → (All (Fits w h i) (quads_view all) ↔ All (Fits w h i) (quads_view rest)) → IsTrue false ↔ All (Fits w h i) (quads_view all)
+pub quads_fail : (w h i : ℕ) (all rest after : List Quad) (q : Quad) (t : Bool) → rest ≡ q ∷ after → (IsTrue t ↔ QuadFits w h i (quad_view q)) → t ≡ false
+    → (All (QuadFits w h i) (quads_view all) ↔ All (QuadFits w h i) (quads_view rest)) → IsTrue false ↔ All (QuadFits w h i) (quads_view all)
 quads_fail w h i all rest after q t e test fails left = (
   λ wrong. absurd (cc (wrong)),
-  λ fit. sym fails ∙ test.1 (All-head (Fits w h i) (quad_view q) (quads_view after) (subst (λ xs. All (Fits w h i) (quads_view xs)) e (left.0 fit))),
+  λ fit. sym fails ∙ test.1 (All-head (QuadFits w h i) (quad_view q) (quads_view after) (subst (λ xs. All (QuadFits w h i) (quads_view xs)) e (left.0 fit))),
 )
 
-pub passes_fail : (w h i : ℕ) (all rest after : List RenderPass) (p : RenderPass) (t : Bool) → rest ≡ p ∷ after → (IsTrue t ↔ All (Fits w h i) (pass_view p)) → t ≡ false
+pub passes_fail : (w h i : ℕ) (all rest after : List RenderPass) (p : RenderPass) (t : Bool) → rest ≡ p ∷ after → (IsTrue t ↔ All (QuadFits w h i) (pass_view p)) → t ≡ false
     → (AreSound w h 0 (passes_view all) ↔ AreSound w h i (passes_view rest)) → IsTrue false ↔ AreSound w h 0 (passes_view all)
 passes_fail w h i all rest after p t e test fails left = (
   λ wrong. absurd (cc (wrong)),

@@ -6,7 +6,7 @@ use Rattle.std.proofs.lemmas.List.{length-append}
 use Rattle.pixel.specs.Colours.{Parts, clear}
 use Rattle.viz_scene.specs.Views.{QuadView, tiled, plain, grouped, SceneView}
 use Rattle.viz_scene.specs.Pixels.{quad_over, quads_over, passes_at, root_pixel, scene_pixel}
-use Rattle.viz_scene.specs.Sound.{Fits, AreSound}
+use Rattle.viz_scene.specs.Sound.{QuadFits, AreSound}
 
 -- quads behind others are laid over what those show
 pub quads_append : (passes : List Parts) (x y : ℤ) (below : Parts) (qs rs : List QuadView)
@@ -48,7 +48,7 @@ unfolding scene_pixel
 scene_last w h background inner root x y = root_last x y background [] inner root
 
 -- what may stand in a pass may stand in a later one
-pub fits_later : (w h i j : ℕ) (q : QuadView) → i ≤ j → Fits w h i q → Fits w h j q
+pub fits_later : (w h i j : ℕ) (q : QuadView) → i ≤ j → QuadFits w h i q → QuadFits w h j q
 fits_later w h i j (tiled image at from) le f = f
 fits_later w h i j (plain at colour) le f = f
 fits_later w h i j (grouped pass opacity) le f = omega arith
@@ -63,7 +63,7 @@ sound_append w h i (p ∷ ps) qs s t = (s.0, sound_append w h (i + 1) ps qs s.1 
     shift i n = omega arith
 
 -- the quads of one pass
-pub sound_at : (w h i k : ℕ) (ps : List (List QuadView)) → AreSound w h i ps → k < length ps → All (Fits w h (i + k)) (slice_index_or ps k [])
+pub sound_at : (w h i k : ℕ) (ps : List (List QuadView)) → AreSound w h i ps → k < length ps → All (QuadFits w h (i + k)) (slice_index_or ps k [])
 sound_at w h i k [] s lt = absurd (omega arith)
 sound_at w h i zero (p ∷ ps) s lt = rw (add-zero i) (s.0)
 sound_at w h i (suc k) (p ∷ ps) s lt = rw (← shift i k) (sound_at w h (i + 1) k ps s.1 (omega arith))

@@ -22,24 +22,24 @@ pub record IsTaken (image : Image) (at : Rect) (from : Point) : Type 0 where
   pub bottom : (from.y +ℤ at.h) ≤ℤ image.rect.h
 
 -- the quad may stand in the pass of number `i`: it lies on the screen and in its image, and a group is of an earlier pass
-abbrev pub Fits : ℕ → ℕ → ℕ → QuadView → Type 0
-Fits w h i (tiled image at from) = IsIn w h at × IsTaken image at from
-Fits w h i (plain at colour) = IsIn w h at
-Fits w h i (grouped pass opacity) = pass < i
+abbrev pub QuadFits : ℕ → ℕ → ℕ → QuadView → Type 0
+QuadFits w h i (tiled image at from) = IsIn w h at × IsTaken image at from
+QuadFits w h i (plain at colour) = IsIn w h at
+QuadFits w h i (grouped pass opacity) = pass < i
 
 -- each quad of each pass may stand there, the first pass being that of number `i`
 abbrev pub AreSound : ℕ → ℕ → ℕ → List (List QuadView) → Type 0
 AreSound w h i [] = Unit {0}
-AreSound w h i (p ∷ more) = All (Fits w h i) p × AreSound w h (i + 1) more
+AreSound w h i (p ∷ more) = All (QuadFits w h i) p × AreSound w h (i + 1) more
 
 -- a side of a scene, in pixels
-pub record IsSide (n : ℕ) : Type 0 where
+pub record IsSceneSide (n : ℕ) : Type 0 where
   pub low : 1 ≤ n
   pub high : n ≤ 2048
 
 -- what each scene keeps
 pub record IsScene (s : SceneView) : Type 0 where
-  pub wide : IsSide s.w
-  pub tall : IsSide s.h
+  pub wide : IsSceneSide s.w
+  pub tall : IsSceneSide s.h
   pub some : 1 ≤ length s.passes
   pub sound : AreSound s.w s.h 0 s.passes

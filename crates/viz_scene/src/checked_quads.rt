@@ -2,7 +2,7 @@
 
 ghost use Rattle.std.specs.Prelude.{◌≡◌, ◌↔◌, pos, ◌+ℤ◌, ◌&&◌, IsTrue};
 ghost use Rattle.viz_scene.specs.Views.{quad_view};
-ghost use Rattle.viz_scene.specs.Sound.{Fits, IsIn, IsTaken};
+ghost use Rattle.viz_scene.specs.Sound.{QuadFits, IsIn, IsTaken};
 ghost use Rattle.viz_scene.specs.inner.Tests;
 
 use crate::Quad;
@@ -60,7 +60,7 @@ fn is_taken(image: &TileImage, at: Rect, from: Point) -> bool
 /// lies on the screen, the part of an image that a tile shows lies in the image, and a group is of an earlier
 /// pass.
 pub(crate) fn fits(quad: &Quad, w: u32, h: u32, number: usize) -> bool
-    ensures { IsTrue result ↔ Fits w h number (quad_view quad.now) }
+    ensures { IsTrue result ↔ QuadFits w h number (quad_view quad.now) }
 {
     match quad {
         Quad::Tile { image, at, from } => {

@@ -2,7 +2,7 @@
 
 ghost use Rattle.std.specs.Prelude.{◌≡◌, ◌↔◌, All, IsTrue, MatchOption};
 ghost use Rattle.viz_scene.specs.Views.{quads_view, pass_view, passes_view};
-ghost use Rattle.viz_scene.specs.Sound.{Fits, AreSound, IsSide, IsScene};
+ghost use Rattle.viz_scene.specs.Sound.{QuadFits, AreSound, IsSceneSide, IsScene};
 
 use crate::checked_quads::fits;
 use crate::{Quad, RenderPass, Scene};
@@ -10,7 +10,7 @@ use pixel::Colour;
 
 // whether each quad may stand in the pass of this number
 fn all_fit(quads: &[Quad], w: u32, h: u32, number: usize) -> bool
-    ensures { IsTrue result ↔ All (Fits w h number) (quads_view quads.now) }
+    ensures { IsTrue result ↔ All (QuadFits w h number) (quads_view quads.now) }
 {
     let mut rest = quads;
     while let Some((quad, after)) = rest.split_first() {
@@ -24,7 +24,7 @@ fn all_fit(quads: &[Quad], w: u32, h: u32, number: usize) -> bool
 
 // whether each quad of a pass of this number may stand there
 fn pass_fits(pass: &RenderPass, w: u32, h: u32, number: usize) -> bool
-    ensures { IsTrue result ↔ All (Fits w h number) (pass_view pass.now) }
+    ensures { IsTrue result ↔ All (QuadFits w h number) (pass_view pass.now) }
 {
     all_fit(pass.quads.as_slice(), w, h, number)
 }
@@ -47,7 +47,7 @@ fn are_sound(passes: &[RenderPass], w: u32, h: u32) -> bool
 
 // whether a number of pixels may be a side
 fn is_side(n: u32) -> bool
-    ensures { IsTrue result ↔ IsSide n }
+    ensures { IsTrue result ↔ IsSceneSide n }
 {
     1 <= n && n <= 2048
 }

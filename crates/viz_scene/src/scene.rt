@@ -2,7 +2,7 @@
 
 ghost use Rattle.std.specs.Prelude.{◌≡◌};
 ghost use Rattle.viz_scene.specs.Views.{SceneView, passes_view};
-ghost use Rattle.viz_scene.specs.Sound.{IsSide, IsScene};
+ghost use Rattle.viz_scene.specs.Sound.{IsSceneSide, IsScene};
 
 use crate::quad::RenderPass;
 use pixel::Colour;
@@ -49,7 +49,7 @@ impl Scene {
     /// The width in pixels.
     pub fn w(&self) -> u32
         ensures value { result ≡ self.now.w }
-        ensures side { IsSide result }
+        ensures side { IsSceneSide result }
     {
         self.w
     }
@@ -57,7 +57,7 @@ impl Scene {
     /// The height in pixels.
     pub fn h(&self) -> u32
         ensures value { result ≡ self.now.h }
-        ensures side { IsSide result }
+        ensures side { IsSceneSide result }
     {
         self.h
     }

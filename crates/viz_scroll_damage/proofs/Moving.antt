@@ -13,7 +13,7 @@ use Rattle.page_display_list.specs.Content.{content}
 use Rattle.tile_raster.specs.Images.{Image}
 use Rattle.viz_scene.specs.Views.{QuadView, tiled, plain, grouped}
 use Rattle.viz_scene.specs.Pixels.{quads_over, placed_pixel}
-use Rattle.viz_scene.specs.Sound.{IsIn, IsTaken, Fits}
+use Rattle.viz_scene.specs.Sound.{IsIn, IsTaken, QuadFits}
 use Rattle.viz_scene.proofs.Steps.{quads_append}
 use Rattle.viz_scroll_damage.specs.Moved.{InRows}
 use Rattle.viz_scroll_damage.specs.inner.Acting.{IsCut, IsRest, ActMoved, AlsoFit}
@@ -135,7 +135,7 @@ rest_in w h by top end at r cut rest le i =
 pub tile_fits : (by top end : ℤ) (image : Image) (at r : Rect) (from start : Point) → IsCut by top end → IsRest by top end at r → start.x ≡ from.x
     → start.y ≡ from.y +ℤ (r.y -ℤ (at.y +ℤ by)) → AlsoFit end (tiled image at from ∷ []) (tiled image r start ∷ [])
 tile_fits by top end image at r from start cut rest sx sy w h n le all =
-    let f = only (Fits w h n) (tiled image at from) all in
+    let f = only (QuadFits w h n) (tiled image at from) all in
     let wide = rest.w in
     let above = rest.above in
     let below = rest.below in
@@ -143,7 +143,7 @@ tile_fits by top end image at r from start cut rest sx sy w h n le all =
     let high = f.1.top in
     let right = f.1.right in
     let bottom = f.1.bottom in
-    one_of (Fits w h n) (tiled image r start) (
+    one_of (QuadFits w h n) (tiled image r start) (
       rest_in w h by top end at r cut rest le f.0,
       record {
         left = omega (arith, ints);
@@ -155,7 +155,7 @@ tile_fits by top end image at r from start cut rest sx sy w h n le all =
 
 pub solid_fits : (by top end : ℤ) (at r : Rect) (c : Parts) → IsCut by top end → IsRest by top end at r → AlsoFit end (plain at c ∷ []) (plain r c ∷ [])
 solid_fits by top end at r c cut rest w h n le all =
-    one_of (Fits w h n) (plain r c) (rest_in w h by top end at r cut rest le (only (Fits w h n) (plain at c) all))
+    one_of (QuadFits w h n) (plain r c) (rest_in w h by top end at r cut rest le (only (QuadFits w h n) (plain at c) all))
 
 -- ---- one quad more
 
@@ -185,7 +185,7 @@ back_fits P (q ∷ qs) rs all = back_fits P qs rs (λ j e le. all (suc j) e (ome
 
 pub fit_more : (end : ℤ) (qs rs : List QuadView) (q r : QuadView) → AlsoFit end qs rs → AlsoFit end (q ∷ []) (r ∷ []) → AlsoFit end (qs ++ q ∷ []) (rs ++ r ∷ [])
 fit_more end qs rs q r first second w h n le all =
-    All-append (Fits w h n) rs (r ∷ []) (first w h n le (front_fits (Fits w h n) qs (q ∷ []) all)) (second w h n le (back_fits (Fits w h n) qs (q ∷ []) all))
+    All-append (QuadFits w h n) rs (r ∷ []) (first w h n le (front_fits (QuadFits w h n) qs (q ∷ []) all)) (second w h n le (back_fits (QuadFits w h n) qs (q ∷ []) all))
 
 pub fit_gone : (end : ℤ) (qs rs : List QuadView) (q : QuadView) → AlsoFit end qs rs → AlsoFit end (qs ++ q ∷ []) rs
-fit_gone end qs rs q first w h n le all = first w h n le (front_fits (Fits w h n) qs (q ∷ []) all)
+fit_gone end qs rs q first w h n le all = first w h n le (front_fits (QuadFits w h n) qs (q ∷ []) all)

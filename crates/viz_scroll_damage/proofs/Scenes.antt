@@ -13,7 +13,7 @@ use Rattle.viz_scene.specs.declared.quad.Quad.{Quad}
 use Rattle.viz_scene.specs.declared.quad.RenderPass.{RenderPass}
 use Rattle.viz_scene.specs.Views.{QuadView, tiled, plain, grouped, quad_view, quads_view, pass_view, passes_view, SceneView}
 use Rattle.viz_scene.specs.Pixels.{quads_over, root_pixel, scene_pixel}
-use Rattle.viz_scene.specs.Sound.{Fits, AreSound, IsScene}
+use Rattle.viz_scene.specs.Sound.{QuadFits, AreSound, IsScene}
 use Rattle.viz_damage.specs.Damage.{AreAlikeOutside, screen}
 use Rattle.viz_damage.proofs.PassSteps.{sound_wide}
 use Rattle.viz_scroll_damage.specs.declared.shift.Shift.{Shift}
@@ -81,14 +81,14 @@ all_passes passes i le =
 
 -- ---- what each scene keeps
 
-shown : (n : ℕ) (q : QuadView) → Fits 2048 2048 n q → IsShown q
+shown : (n : ℕ) (q : QuadView) → QuadFits 2048 2048 n q → IsShown q
 shown n (tiled image at from) f = f
 shown n (plain at colour) f = f
 shown n (grouped pass opacity) f = tt
 
 all_shown : (n : ℕ) (ps : List (List QuadView)) → AreSound 2048 2048 n ps → All (All IsShown) ps
 all_shown n [] s k d lt = absurd (omega arith)
-all_shown n (p ∷ ps) s zero d lt = All-weaker (Fits 2048 2048 n) IsShown (shown n) p s.0
+all_shown n (p ∷ ps) s zero d lt = All-weaker (QuadFits 2048 2048 n) IsShown (shown n) p s.0
 all_shown n (p ∷ ps) s (suc k) d lt = all_shown (n + 1) ps s.1 k d (omega arith)
 
 pub scene_shown : (s : SceneView) → IsScene s → All (All IsShown) s.passes

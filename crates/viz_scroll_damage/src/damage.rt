@@ -3,7 +3,7 @@
 ghost use Rattle.std.specs.Prelude.{◌≡◌, ◌≤◌, pos, ◌-ℤ◌, ◌≤ℤ◌, IfOk};
 ghost use Rattle.viz_scroll_damage.specs.Moved.{IsShift, AreAlikeMoved};
 
-use crate::cut::Cut;
+use crate::moved_rows::MovedRows;
 use crate::scene::moved;
 use crate::shift::Shift;
 use geom::Rect;
@@ -30,8 +30,8 @@ pub fn damage_of_shift(
     let by = fall_of(shift.from, shift.to);
     let top = row_of(shift.to);
     let end = row_of(shift.to + shift.count);
-    let before = moved(alloc, old, Cut { by, top, end })?;
-    let after = moved(alloc, new, Cut { by: 0, top, end })?;
+    let before = moved(alloc, old, MovedRows { by, top, end })?;
+    let after = moved(alloc, new, MovedRows { by: 0, top, end })?;
     let mut region = damage_of(alloc, &before, &after)?;
     region.add(rows_of(width, 0, top))?;
     region.add(rows_of(width, end, bottom))?;

@@ -8,7 +8,7 @@
 //! page was scrolled is guessed by a few tiles; a guess that is wrong costs a larger region.
 #![tactic(auto)]
 
-mod cut;
+mod moved_rows;
 mod damage;
 mod guess;
 mod scene;

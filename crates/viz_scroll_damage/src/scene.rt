@@ -4,12 +4,12 @@ ghost use Rattle.std.specs.Prelude.{◌≡◌, pos, ◌≤ℤ◌, All, List, [],
 ghost use Rattle.viz_scene.specs.Views.{QuadView, quad_view, quads_view, passes_view};
 ghost use Rattle.viz_scroll_damage.specs.inner.Acting.{IsCut, IsShown, ActMoved, AllActMoved, AlsoFit, AllAlsoFit, IsMoved};
 
-use crate::cut::{Cut, moved_quad};
+use crate::moved_rows::{MovedRows, moved_quad};
 use std::alloc::{AllocError, Global};
 use viz_scene::{Quad, RenderPass, Scene};
 
 /// A scene that shows between some rows what another shows so many rows higher. An error is want of memory.
-pub(crate) fn moved(alloc: Global, scene: &Scene, cut: Cut) -> Result<Scene, AllocError>
+pub(crate) fn moved(alloc: Global, scene: &Scene, cut: MovedRows) -> Result<Scene, AllocError>
     requires cut { IsCut cut.by cut.top cut.end }
     requires end { cut.end ≤ℤ pos scene.now.h }
     ensures { IfOk result (λ after. IsMoved cut.by cut.top cut.end scene.now after) }
@@ -27,7 +27,7 @@ pub(crate) fn moved(alloc: Global, scene: &Scene, cut: Cut) -> Result<Scene, All
 fn moved_passes(
     alloc: Global,
     passes: &[RenderPass],
-    cut: Cut,
+    cut: MovedRows,
 ) -> Result<Vec<RenderPass>, AllocError>
     requires cut { IsCut cut.by cut.top cut.end }
     requires shown { All (All IsShown) (passes_view passes.now) }
@@ -43,7 +43,7 @@ fn moved_passes(
 }
 
 // the quads of a pass, moved and cut
-fn moved_quads(alloc: Global, quads: &[Quad], cut: Cut) -> Result<Vec<Quad>, AllocError>
+fn moved_quads(alloc: Global, quads: &[Quad], cut: MovedRows) -> Result<Vec<Quad>, AllocError>
     requires cut { IsCut cut.by cut.top cut.end }
     requires shown { All IsShown (quads_view quads.now) }
     ensures act { IfOk result (λ after. ActMoved cut.by cut.top cut.end (quads_view quads.now) (quads_view after.items)) }
@@ -57,7 +57,7 @@ fn moved_quads(alloc: Global, quads: &[Quad], cut: Cut) -> Result<Vec<Quad>, All
 }
 
 // adds a quad that is moved and cut behind others
-fn add_moved(quad: &Quad, cut: Cut, after: &mut Vec<Quad>) -> Result<(), AllocError>
+fn add_moved(quad: &Quad, cut: MovedRows, after: &mut Vec<Quad>) -> Result<(), AllocError>
     requires cut { IsCut cut.by cut.top cut.end }
     requires shown { IsShown (quad_view quad.now) }
     ensures act { OnOk result ((qs : List QuadView) → ActMoved cut.by cut.top cut.end qs (quads_view after.old.items) → ActMoved cut.by cut.top cut.end (qs ++ quad_view quad.now ∷ []) (quads_view after.new.items)) }

@@ -5,7 +5,7 @@ use Rattle.std.proofs.lemmas.Bool.{cases_lt}
 use Rattle.std.proofs.lemmas.Bool.Decides.{nat_tests}
 use Rattle.pixel.specs.Colours.{Parts}
 use Rattle.pixel.specs.Rows.{pixel}
-use Rattle.pixel.specs.Surfaces.{IsPart, IsInside, EachPixel, within, in_rows}
+use Rattle.pixel.specs.Surfaces.{IsPart, IsInside, EachPixel, within_rows, in_rows}
 use Rattle.pixel.specs.declared.Area.{Area}
 use Rattle.pixel.specs.Rows.{AreOpaque, AreClear, alpha_place}
 use Rattle.pixel.specs.Colours.{blend, clear, scaled, times_255}
@@ -51,14 +51,14 @@ part_more_front n m g h old mid new one two same =
     part_more 0 n m g h old mid new one (subst (λ (k : ℕ). IsPart k m h mid new) e two) same
 
 -- no column, no pixel
-pub no_column : (w h : ℕ) (at : Area) (g : ℕ → ℕ → Parts → Parts) (old : List ℕ) → EachPixel w h (within (columns_of at 0 0) at.h g) old old
+pub no_column : (w h : ℕ) (at : Area) (g : ℕ → ℕ → Parts → Parts) (old : List ℕ) → EachPixel w h (within_rows (columns_of at 0 0) at.h g) old old
 no_column w h at g old x y xw yh =
     let none : in_rows (columns_of at 0 0) at.h x y ≡ false = grind (arith, nat_tests) in
     ap (λ (b : Bool). cond b (g x y (pixel old (y * w + x))) (pixel old (y * w + x))) (sym none)
 
 -- all columns
-pub all_columns : (w h : ℕ) (at : Area) (g : ℕ → ℕ → Parts → Parts) (old new : List ℕ) → EachPixel w h (within (columns_of at 0 at.w) at.h g) old new
-    → EachPixel w h (within at at.h g) old new
+pub all_columns : (w h : ℕ) (at : Area) (g : ℕ → ℕ → Parts → Parts) (old new : List ℕ) → EachPixel w h (within_rows (columns_of at 0 at.w) at.h g) old new
+    → EachPixel w h (within_rows at at.h g) old new
 all_columns w h at g old new each x y xw yh =
     let same : in_rows (columns_of at 0 at.w) at.h x y ≡ in_rows at at.h x y = grind (arith, nat_tests) in
     each x y xw yh ∙ ap (λ (b : Bool). cond b (g x y (pixel old (y * w + x))) (pixel old (y * w + x))) same
@@ -73,10 +73,10 @@ one_after false false f g s m n apart one two same = two ∙ one
 
 -- the columns beside were changed too
 pub columns_more : (w h : ℕ) (at : Area) (n m : ℕ) (f g : ℕ → ℕ → Parts → Parts) (start old new : List ℕ)
-    → EachPixel w h (within (columns_of at 0 n) at.h f) start old
-    → EachPixel w h (within (columns_of at n m) at.h g) old new
+    → EachPixel w h (within_rows (columns_of at 0 n) at.h f) start old
+    → EachPixel w h (within_rows (columns_of at n m) at.h g) old new
     → ((x y : ℕ) (below : Parts) → at.x + n ≤ x → x < at.x + n + m → g x y below ≡ f x y below)
-    → EachPixel w h (within (columns_of at 0 (n + m)) at.h f) start new
+    → EachPixel w h (within_rows (columns_of at 0 (n + m)) at.h f) start new
 columns_more w h at n m f g start old new one two same x y xw yh =
     let a = in_rows (columns_of at 0 n) at.h x y in
     let b = in_rows (columns_of at n m) at.h x y in
@@ -102,17 +102,17 @@ part_whole n g old new part k lt =
 -- one more row of an area
 pub area_step : (w h : ℕ) (at : Area) (r place n : ℕ) (g : ℕ → ℕ → Parts → Parts) (f : ℕ → Parts → Parts) (start old new : List ℕ)
     → IsInside at w h → r < at.h → n ≡ at.w → place ≡ (at.y + r) * w + at.x
-    → EachPixel w h (within at r g) start old → IsPart place n f old new
+    → EachPixel w h (within_rows at r g) start old → IsPart place n f old new
     → ((j : ℕ) (below : Parts) → j < n → f j below ≡ g (at.x + j) (at.y + r) below)
-    → EachPixel w h (within at (r + 1) g) start new
+    → EachPixel w h (within_rows at (r + 1) g) start new
 area_step w h at r place n g f start old new inside lt wide there each part same =
     let like = part_like place n f (λ j. g (at.x + j) (at.y + r)) old new part same in
     let here = subst (λ (k : ℕ). IsPart k n (λ j. g (at.x + j) (at.y + r)) old new) there like in
     row_step w h at r g start old new inside lt each (subst (λ (m : ℕ). IsPart ((at.y + r) * w + at.x) m (λ j. g (at.x + j) (at.y + r)) old new) wide here)
 
 -- what does the same in an area
-pub each_like : (w h : ℕ) (at : Area) (f g : ℕ → ℕ → Parts → Parts) (old new : List ℕ) → EachPixel w h (within at at.h f) old new
-    → ((x y : ℕ) (below : Parts) → at.x ≤ x → x < at.x + at.w → f x y below ≡ g x y below) → EachPixel w h (within at at.h g) old new
+pub each_like : (w h : ℕ) (at : Area) (f g : ℕ → ℕ → Parts → Parts) (old new : List ℕ) → EachPixel w h (within_rows at at.h f) old new
+    → ((x y : ℕ) (below : Parts) → at.x ≤ x → x < at.x + at.w → f x y below ≡ g x y below) → EachPixel w h (within_rows at at.h g) old new
 each_like w h at f g old new each same x y xw yh =
     each x y xw yh ∙ where_held (in_rows at at.h x y) (f x y (pixel old (y * w + x))) (g x y (pixel old (y * w + x))) (pixel old (y * w + x))
     (λ here. same x y (pixel old (y * w + x)) (left_of at x y here) (right_of at x y here))
@@ -129,7 +129,7 @@ each_like w h at f g old new each same x y xw yh =
 
 -- what changes nothing
 pub each_same : (w h : ℕ) (at : Area) (g : ℕ → ℕ → Parts → Parts) (old : List ℕ)
-    → ((x y : ℕ) (below : Parts) → at.x ≤ x → x < at.x + at.w → below ≡ g x y below) → EachPixel w h (within at at.h g) old old
+    → ((x y : ℕ) (below : Parts) → at.x ≤ x → x < at.x + at.w → below ≡ g x y below) → EachPixel w h (within_rows at at.h g) old old
 each_same w h at g old same = each_like w h at (λ x y below. below) g old old (λ x y xw yh. no_change (in_rows at at.h x y) (pixel old (y * w + x))) same
   where
     no_change : (b : Bool) (c : Parts) → c ≡ cond b c c
@@ -162,7 +162,7 @@ pub row_place : (x at_x first from m j : ℕ) → at_x + first ≤ x → x < at_
 row_place x at_x first from m j low high = omega arith
 
 -- no row, no pixel
-pub no_row : (w h : ℕ) (at : Area) (g : ℕ → ℕ → Parts → Parts) (old : List ℕ) → EachPixel w h (within at 0 g) old old
+pub no_row : (w h : ℕ) (at : Area) (g : ℕ → ℕ → Parts → Parts) (old : List ℕ) → EachPixel w h (within_rows at 0 g) old old
 no_row w h at g old x y xw yh =
     let none : in_rows at 0 x y ≡ false = grind (arith, nat_tests) in
     ap (λ (b : Bool). cond b (g x y (pixel old (y * w + x))) (pixel old (y * w + x))) (sym none)
@@ -171,13 +171,13 @@ no_row w h at g old x y xw yh =
 pub one_row : (w h : ℕ) (at : Area) (place : ℕ) (g : ℕ → ℕ → Parts → Parts) (f : ℕ → Parts → Parts) (old new : List ℕ)
     → IsInside at w h → at.h ≡ 1 → place ≡ at.y * w + at.x → IsPart place at.w f old new
     → ((j : ℕ) (below : Parts) → j < at.w → f j below ≡ g (at.x + j) (at.y + 0) below)
-    → EachPixel w h (within at at.h g) old new
+    → EachPixel w h (within_rows at at.h g) old new
 one_row w h at place g f old new inside one there part same =
     let e : at.y ≡ at.y + 0 = omega arith in
     let step =
     area_step w h at 0 place at.w g f old old new inside (omega (arith, one)) refl (there ∙ ap (λ (y : ℕ). y * w + at.x) e)
     (no_row w h at g old) part same in
-    subst (λ (n : ℕ). EachPixel w h (within at n g) old new) (sym one) step
+    subst (λ (n : ℕ). EachPixel w h (within_rows at n g) old new) (sym one) step
 
 -- what holds of pixels, and of those behind them, holds of both
 pub of_both : (P : ℕ → Type 0) (k n m : ℕ) → ((j : ℕ) → j < n → P (k + j)) → ((j : ℕ) → j < m → P (k + n + j)) → (j : ℕ) → j < n + m → P (k + j)
@@ -189,8 +189,8 @@ of_both P k n m first second j lt =
 
 -- columns beside others
 columns_beside : (w h : ℕ) (at : Area) (first n m : ℕ) (f : ℕ → ℕ → Parts → Parts) (start old new : List ℕ)
-    → EachPixel w h (within (columns_of at first n) at.h f) start old → EachPixel w h (within (columns_of at (first + n) m) at.h f) old new
-    → EachPixel w h (within (columns_of at first (n + m)) at.h f) start new
+    → EachPixel w h (within_rows (columns_of at first n) at.h f) start old → EachPixel w h (within_rows (columns_of at (first + n) m) at.h f) old new
+    → EachPixel w h (within_rows (columns_of at first (n + m)) at.h f) start new
 columns_beside w h at first n m f start old new one two x y xw yh =
     let a = in_rows (columns_of at first n) at.h x y in
     let b = in_rows (columns_of at (first + n) m) at.h x y in
@@ -202,9 +202,9 @@ columns_beside w h at first n m f start old new one two x y xw yh =
 
 -- sixteen columns, four after four
 pub four_times_four : (w h : ℕ) (at : Area) (first : ℕ) (f : ℕ → ℕ → Parts → Parts) (one two three four five : List ℕ)
-    → EachPixel w h (within (columns_of at first 4) at.h f) one two → EachPixel w h (within (columns_of at (first + 4) 4) at.h f) two three
-    → EachPixel w h (within (columns_of at (first + 8) 4) at.h f) three four → EachPixel w h (within (columns_of at (first + 12) 4) at.h f) four five
-    → EachPixel w h (within (columns_of at first 16) at.h f) one five
+    → EachPixel w h (within_rows (columns_of at first 4) at.h f) one two → EachPixel w h (within_rows (columns_of at (first + 4) 4) at.h f) two three
+    → EachPixel w h (within_rows (columns_of at (first + 8) 4) at.h f) three four → EachPixel w h (within_rows (columns_of at (first + 12) 4) at.h f) four five
+    → EachPixel w h (within_rows (columns_of at first 16) at.h f) one five
 four_times_four w h at first f one two three four five a b c d =
     columns_beside w h at first 12 4 f one four five (columns_beside w h at first 8 4 f one three four (columns_beside w h at first 4 4 f one two three a b) c) d
 

@@ -4,7 +4,7 @@ ghost use Rattle.std.specs.Prelude.{◌≡◌, ℕ, ◌+◌, ◌*◌, ◌<◌, �
 ghost use Rattle.pixel.specs.Colours.{blend};
 ghost use Rattle.pixel.specs.Rows.{pixel, ArePremultiplied};
 ghost use Rattle.pixel.specs.LaneBytes.{IsBytes};
-ghost use Rattle.pixel.specs.Surfaces.{IsPart, IsInside, EachPixel, within};
+ghost use Rattle.pixel.specs.Surfaces.{IsPart, IsInside, EachPixel, within_rows};
 
 use crate::four::{lay_four, lay_one};
 use crate::place::place_of;
@@ -16,7 +16,7 @@ use std::simd::prelude::*;
 pub fn colour_over_area(surface: &mut [u8], width: usize, height: usize, at: Area, colour: Colour)
     requires size { length surface.old ≡ 4 * (width * height) }
     requires inside { IsInside at width height }
-    ensures pixels { EachPixel width height (within at at.h (λ x y below. blend below colour)) surface.old surface.new }
+    ensures pixels { EachPixel width height (within_rows at at.h (λ x y below. blend below colour)) surface.old surface.new }
     ensures premultiplied { ArePremultiplied surface.old → ArePremultiplied surface.new }
 {
     for row in 0..at.h {

@@ -4,7 +4,7 @@ ghost use Rattle.std.specs.Prelude.{◌≡◌, ℕ, ◌+◌, ◌-◌, ◌*◌, �
 ghost use Rattle.pixel.specs.Colours.{Parts, blend};
 ghost use Rattle.pixel.specs.Rows.{pixel, ArePremultiplied};
 ghost use Rattle.pixel.specs.LaneBytes.{IsBytes};
-ghost use Rattle.pixel.specs.Surfaces.{IsPart, IsInside, EachPixel, within};
+ghost use Rattle.pixel.specs.Surfaces.{IsPart, IsInside, EachPixel, within_rows};
 ghost use Rattle.viz_surface.specs.inner.Columns.{columns_of};
 
 use crate::colour::colour_over_area;
@@ -28,7 +28,7 @@ pub fn rows_over_area(
     requires inside { IsInside at width height }
     requires columns { 4 * (from + at.w) ≤ length row.now }
     requires premultiplied { ArePremultiplied row.now }
-    ensures pixels { EachPixel width height (within at at.h (λ x y below. blend below (pixel row.now (x - at.x + from)))) surface.old surface.new }
+    ensures pixels { EachPixel width height (within_rows at at.h (λ x y below. blend below (pixel row.now (x - at.x + from)))) surface.old surface.new }
     ensures premultiplied { ArePremultiplied surface.old → ArePremultiplied surface.new }
 {
     if at.h == 1 {
@@ -45,7 +45,7 @@ fn row_over_row(surface: &mut [u8], width: usize, height: usize, at: Area, row: 
     requires one { at.h ≡ 1 }
     requires columns { 4 * (from + at.w) ≤ length row.now }
     requires premultiplied { ArePremultiplied row.now }
-    ensures pixels { EachPixel width height (within at at.h (λ x y below. blend below (pixel row.now (x - at.x + from)))) surface.old surface.new }
+    ensures pixels { EachPixel width height (within_rows at at.h (λ x y below. blend below (pixel row.now (x - at.x + from)))) surface.old surface.new }
     ensures premultiplied { ArePremultiplied surface.old → ArePremultiplied surface.new }
 {
     let place = place_of(width, height, at.x, at.y, at.w);
@@ -78,7 +78,7 @@ fn row_over_columns(
     requires inside { IsInside at width height }
     requires columns { 4 * (from + at.w) ≤ length row.now }
     requires premultiplied { ArePremultiplied row.now }
-    ensures pixels { EachPixel width height (within at at.h (λ x y below. blend below (pixel row.now (x - at.x + from)))) surface.old surface.new }
+    ensures pixels { EachPixel width height (within_rows at at.h (λ x y below. blend below (pixel row.now (x - at.x + from)))) surface.old surface.new }
     ensures premultiplied { ArePremultiplied surface.old → ArePremultiplied surface.new }
 {
     let mut done = 0;
@@ -113,7 +113,7 @@ fn row_over_sixteen_columns(
     requires there { first + 16 ≤ at.w }
     requires columns { 4 * (from + at.w) ≤ length row.now }
     requires premultiplied { ArePremultiplied row.now }
-    ensures pixels { EachPixel width height (within (columns_of at first 16) at.h (λ x y below. blend below (pixel row.now (x - at.x + from)))) surface.old surface.new }
+    ensures pixels { EachPixel width height (within_rows (columns_of at first 16) at.h (λ x y below. blend below (pixel row.now (x - at.x + from)))) surface.old surface.new }
     ensures premultiplied { ArePremultiplied surface.old → ArePremultiplied surface.new }
 {
     if are_sixteen_opaque(row, from + first) {
@@ -142,7 +142,7 @@ fn copy_over_rows(
     requires sixteen { at.w ≡ 16 }
     requires given { 4 * (from + 16) ≤ length row.now }
     requires premultiplied { ArePremultiplied row.now }
-    ensures pixels { EachPixel width height (within at at.h (λ x y below. pixel row.now (from + (x - at.x)))) surface.old surface.new }
+    ensures pixels { EachPixel width height (within_rows at at.h (λ x y below. pixel row.now (from + (x - at.x)))) surface.old surface.new }
     ensures premultiplied { ArePremultiplied surface.old → ArePremultiplied surface.new }
 {
     for down in 0..at.h {
@@ -178,7 +178,7 @@ fn row_over_four_columns(
     requires there { first + 4 ≤ at.w }
     requires columns { 4 * (from + at.w) ≤ length row.now }
     requires premultiplied { ArePremultiplied row.now }
-    ensures pixels { EachPixel width height (within (columns_of at first 4) at.h (λ x y below. blend below (pixel row.now (x - at.x + from)))) surface.old surface.new }
+    ensures pixels { EachPixel width height (within_rows (columns_of at first 4) at.h (λ x y below. blend below (pixel row.now (x - at.x + from)))) surface.old surface.new }
     ensures premultiplied { ArePremultiplied surface.old → ArePremultiplied surface.new }
 {
     let columns = columns(at, first, 4);
@@ -201,7 +201,7 @@ fn row_over_column(
     requires there { first < at.w }
     requires columns { 4 * (from + at.w) ≤ length row.now }
     requires premultiplied { ArePremultiplied row.now }
-    ensures pixels { EachPixel width height (within (columns_of at first 1) at.h (λ x y below. blend below (pixel row.now (x - at.x + from)))) surface.old surface.new }
+    ensures pixels { EachPixel width height (within_rows (columns_of at first 1) at.h (λ x y below. blend below (pixel row.now (x - at.x + from)))) surface.old surface.new }
     ensures premultiplied { ArePremultiplied surface.old → ArePremultiplied surface.new }
 {
     let column = columns(at, first, 1);
@@ -231,7 +231,7 @@ fn four_over_rows(surface: &mut [u8], width: usize, height: usize, at: Area, pix
     requires four { at.w ≡ 4 }
     requires bytes { IsBytes pixels }
     requires premultiplied { ArePremultiplied pixels }
-    ensures pixels { EachPixel width height (within at at.h (λ x y below. blend below (pixel pixels (x - at.x)))) surface.old surface.new }
+    ensures pixels { EachPixel width height (within_rows at at.h (λ x y below. blend below (pixel pixels (x - at.x)))) surface.old surface.new }
     ensures premultiplied { ArePremultiplied surface.old → ArePremultiplied surface.new }
 {
     if are_opaque(pixels) {
@@ -249,7 +249,7 @@ fn put_four_in_rows(surface: &mut [u8], width: usize, height: usize, at: Area, p
     requires four { at.w ≡ 4 }
     requires bytes { IsBytes pixels }
     requires premultiplied { ArePremultiplied pixels }
-    ensures pixels { EachPixel width height (within at at.h (λ x y below. pixel pixels (x - at.x))) surface.old surface.new }
+    ensures pixels { EachPixel width height (within_rows at at.h (λ x y below. pixel pixels (x - at.x))) surface.old surface.new }
     ensures premultiplied { ArePremultiplied surface.old → ArePremultiplied surface.new }
 {
     for row in 0..at.h {
@@ -266,7 +266,7 @@ fn lay_four_over_rows(surface: &mut [u8], width: usize, height: usize, at: Area,
     requires four { at.w ≡ 4 }
     requires bytes { IsBytes pixels }
     requires premultiplied { ArePremultiplied pixels }
-    ensures pixels { EachPixel width height (within at at.h (λ x y below. blend below (pixel pixels (x - at.x)))) surface.old surface.new }
+    ensures pixels { EachPixel width height (within_rows at at.h (λ x y below. blend below (pixel pixels (x - at.x)))) surface.old surface.new }
     ensures premultiplied { ArePremultiplied surface.old → ArePremultiplied surface.new }
 {
     for row in 0..at.h {

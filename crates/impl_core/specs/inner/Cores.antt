@@ -23,11 +23,11 @@ use Rattle.model_history.specs.Tiles.{in_flight, ready, pinned, required}
 use Rattle.model_history.specs.Ranking.{choice}
 use Rattle.model_history.specs.Values.{values}
 use Rattle.tile_manager.specs.Managers.{Managed, HoldsTiles, live_ranks}
-use Rattle.impl_host.specs.Hosts.{HostModel, HostsAt}
+use Rattle.impl_host.specs.Hosts.{ImplHostModel, HostsAt}
 
 -- what a core keeps beside its log
 pub record Kept : Type 0 where
-  pub host : HostModel
+  pub host : ImplHostModel
   pub tiles : Managed
   pub told : List Move
   pub prepared : Option CommitModel

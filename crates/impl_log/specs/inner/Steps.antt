@@ -1,6 +1,6 @@
 -- What one event more makes of the progress of a run.
 use Rattle.std.specs.Prelude.{ℕ, suc, ◌-◌, Bool, true, false, ◌||◌, Option, Some, None}
-use Rattle.model_scheduler.specs.Kinds.{after}
+use Rattle.model_scheduler.specs.Kinds.{sched_after}
 use Rattle.impl_log.specs.declared.progress.Progress.{Progress}
 use Rattle.model_history.specs.declared.event.Event.{Event}
 use Rattle.model_history.specs.declared.event.Event.TheVariants as event
@@ -14,7 +14,7 @@ is_named (Some n) = true
 
 -- what every event steps alike
 abbrev pub with_kind : Event → Progress → Progress
-with_kind e p = record p { sched = after p.sched (kind_of e); has_ended = is_last e || p.has_ended; inputs = one_more (uses e) p.inputs }
+with_kind e p = record p { sched = sched_after p.sched (kind_of e); has_ended = is_last e || p.has_ended; inputs = one_more (uses e) p.inputs }
 
 -- what an event steps by the numbers that it names
 abbrev pub with_named : Event → Progress → Progress

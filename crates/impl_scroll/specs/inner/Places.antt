@@ -11,7 +11,7 @@ use Rattle.model_history.specs.Values.{values}
 use Rattle.model_history.specs.Accepted.{IsAccepted}
 use Rattle.model_history.specs.Legal.{Legal}
 use Rattle.impl_scroll.specs.declared.row.Row.{Row}
-use Rattle.impl_scroll.specs.Rows.{value_of, is_among}
+use Rattle.impl_scroll.specs.Rows.{row_value, has_number}
 use Rattle.model_steps.specs.Standing.{active_at, pending_at}
 use Rattle.impl_scroll.specs.declared.pages.Pages.{Pages}
 use Rattle.impl_scroll.specs.Standings.{ArePages}
@@ -22,11 +22,11 @@ Places = Page → ℕ → Axis → ℤ
 
 -- by the values of these rows, in the active page
 abbrev pub at_active : List Row → Places
-at_active rs p = active_at (value_of rs)
+at_active rs p = active_at (row_value rs)
 
 -- and in the pending one, whose commit sets these scrollers outright
 abbrev pub at_pending : List ℕ → List Row → Places
-at_pending ids rs p = pending_at (is_among ids) p (value_of rs)
+at_pending ids rs p = pending_at (has_number ids) p (row_value rs)
 
 -- the offsets of a page; all are the origin where there is none
 abbrev pub offsets_where : Places → Option Page → ℕ → Point
@@ -40,7 +40,7 @@ AreInRange at (Some p) = (sc : ℕ) (ax : Axis) → IsInRange (most p sc ax) (at
 
 -- the rows have the values of a run after this past
 abbrev pub AreValues : ScriptModel → List Entry → List Row → Type 0
-AreValues s h rs = (sc : ℕ) (ax : Axis) → value_of rs sc ax ≡ values s sc ax h
+AreValues s h rs = (sc : ℕ) (ax : Axis) → row_value rs sc ax ≡ values s sc ax h
 
 -- there is a run of these pages with the values of these rows
 pub record RowsNow (rs : List Row) (seen : Pages) : Type 0 where

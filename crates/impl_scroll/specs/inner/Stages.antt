@@ -11,16 +11,16 @@ use Rattle.model_steps.specs.Standing.{brought_to, clamped_by}
 use Rattle.impl_scroll.specs.declared.offsets.Stage.{Stage}
 use Rattle.impl_scroll.specs.declared.offsets.Stage.TheVariants as stage
 use Rattle.impl_scroll.specs.declared.row.Row.{Row}
-use Rattle.impl_scroll.specs.Rows.{value_of, is_among}
+use Rattle.impl_scroll.specs.Rows.{row_value, has_number}
 
 -- where a scroller with these values stands in a page
 abbrev pub value_in : Stage → Page → ℕ → Axis → Synced → ℤ
 value_in stage.Active p sc ax v = active_value v
-value_in (stage.Pending clobbered) p sc ax v = brought_to (is_among clobbered.now sc) (most p sc ax) v
+value_in (stage.Pending clobbered) p sc ax v = brought_to (has_number clobbered.now sc) (most p sc ax) v
 
 -- where the scrollers of a page stand
 abbrev pub stands_at : Stage → Page → List Row → ℕ → Axis → ℤ
-stands_at s p rs sc ax = value_in s p sc ax (value_of rs sc ax)
+stands_at s p rs sc ax = value_in s p sc ax (row_value rs sc ax)
 
 -- as a point
 abbrev pub point_at : Stage → Page → List Row → ℕ → Point
@@ -28,11 +28,11 @@ point_at s p rs sc = record { x = stands_at s p rs sc across; y = stands_at s p 
 
 -- what the main side has not heard of
 abbrev pub unheard : List Row → ℕ → Axis → ℤ
-unheard rs sc ax = pull_answer (value_of rs sc ax)
+unheard rs sc ax = pull_answer (row_value rs sc ax)
 
 -- how far an activation moves a scroller of a page; those that the page lacks are not moved
 abbrev pub clamp_at : List ℕ → Page → List Row → ℕ → Axis → ℤ
-clamp_at clobbered p rs sc ax = cond (has_scroller p sc) (clamped_by (is_among clobbered) p (value_of rs) sc ax) (pos 0)
+clamp_at clobbered p rs sc ax = cond (has_scroller p sc) (clamped_by (has_number clobbered) p (row_value rs) sc ax) (pos 0)
 
 -- a move, unless it is one of (0, 0)
 abbrev pub unless_still : Move → List Move

@@ -6,12 +6,12 @@ use Rattle.model_scroll_values.specs.Bounds.{IsBoundedNumber, IsBounded}
 use Rattle.page_layers.specs.Axes.{Axis, across, down, amount_in}
 use Rattle.page_layers.specs.Scrollers.{main_value}
 use Rattle.impl_scroll.specs.declared.row.Row.{Row}
-use Rattle.impl_scroll.specs.declared.steps.Step.{Step}
-use Rattle.impl_scroll.specs.declared.steps.Step.TheVariants as step
-use Rattle.impl_scroll.specs.Rows.{row_at, is_among}
+use Rattle.impl_scroll.specs.declared.steps.ValueStep.{ValueStep}
+use Rattle.impl_scroll.specs.declared.steps.ValueStep.TheVariants as step
+use Rattle.impl_scroll.specs.Rows.{row_at, has_number}
 
 -- the values of a scroller along an axis after a step
-abbrev pub stepped : Step → ℕ → Axis → Synced → Synced
+abbrev pub stepped : ValueStep → ℕ → Axis → Synced → Synced
 stepped step.Pull sc ax v = table.pulled v
 stepped (step.Push page) sc ax v = table.pushed (main_value page.now sc ax) v
 stepped step.Activate sc ax v = table.activated v
@@ -19,7 +19,7 @@ stepped step.Abort sc ax v = table.aborted v
 stepped (step.Add ms) sc ax v = table.added (amount_in sc ax ms.now) v
 
 -- what the step needs of them
-abbrev pub MayStep : Step → ℕ → Axis → Synced → Type 0
+abbrev pub MayStep : ValueStep → ℕ → Axis → Synced → Type 0
 MayStep step.Pull sc ax v = IsBounded v × (v.reflected_main ≡ pos 0)
 MayStep (step.Push page) sc ax v = IsBounded v × (v.reflected_pending ≡ pos 0)
 MayStep step.Activate sc ax v = IsBounded v
@@ -27,7 +27,7 @@ MayStep step.Abort sc ax v = IsBounded v
 MayStep (step.Add ms) sc ax v = IsBounded v × IsBoundedNumber (amount_in sc ax ms.now)
 
 -- a row after a step
-abbrev pub row_stepped : Step → Row → Row
+abbrev pub row_stepped : ValueStep → Row → Row
 row_stepped s r = record { scroller = r.scroller; x = stepped s r.scroller across r.x; y = stepped s r.scroller down r.y }
 
 -- the scrollers that have a row
@@ -51,4 +51,4 @@ with_row n (r ∷ rs) = cond (nat_lt r.scroller n) (r ∷ with_row n rs) (cond (
 
 -- each of these scrollers has a row
 abbrev pub Covers : List ℕ → List Row → Type 0
-Covers ns rs = (sc : ℕ) → is_among ns sc ≡ true → is_among (ids_of rs) sc ≡ true
+Covers ns rs = (sc : ℕ) → has_number ns sc ≡ true → has_number (ids_of rs) sc ≡ true

@@ -2,7 +2,7 @@
 use Rattle.std.specs.Prelude.{◌≡◌, ◌≤◌, ℕ, Bool, true, false, ◌||◌, if◌then◌else◌, List, length, slice_get, Option, Some, None, IfSome, find}
 use Rattle.geom.specs.declared.tile.Place.{Place}
 use Rattle.geom.specs.Sides.{Sides}
-use Rattle.geom.specs.Grids.{has, rect_of}
+use Rattle.geom.specs.Grids.{has, rect_of_place}
 use Rattle.region.specs.declared.change.LayerChange.{LayerChange}
 use Rattle.region.specs.Lists.{Changed, change_of}
 use Rattle.tile_tiling.specs.Tiles.{Tiled, stamp_at}
@@ -39,7 +39,7 @@ AreAlike t u = u.grid ≡ t.grid → (p : Place) → has t.grid p ≡ true → s
 
 -- the second tiling has the stamps of the first, stepped by a commit, where the two are cut alike
 abbrev pub IsStepped : Commit → ℕ → Tiled → Tiled → Type 0
-IsStepped c id t u = t.grid ≡ u.grid → (p : Place) → has u.grid p ≡ true → stamp_at u p ≡ (if changes_in id (rect_of u.grid p) c then c.frame else stamp_at t p)
+IsStepped c id t u = t.grid ≡ u.grid → (p : Place) → has u.grid p ≡ true → stamp_at u p ≡ (if changes_in id (rect_of_place u.grid p) c then c.frame else stamp_at t p)
 
 -- a commit leads from the one page's tilings to the other's: those of a layer that is in both are stepped by it
 abbrev pub Leads : Page → List Tiled → Commit → Page → List Tiled → Type 0

@@ -2,7 +2,7 @@
 use Rattle.std.specs.Prelude.{◌≡◌, ℕ, List, Result, Ok, Err, ⊤}
 use Rattle.page_layers.specs.declared.command.Command.{Command}
 use Rattle.page_layers.specs.Pages.{Page}
-use Rattle.page_layers.specs.Effects.{after}
+use Rattle.page_layers.specs.Effects.{page_after_command}
 use Rattle.page_layers.specs.Outcomes.{Accepts, Refuses}
 use Rattle.model_history.specs.declared.script_error.ScriptError.{ScriptError}
 use Rattle.model_history.specs.declared.script_error.ScriptError.TheVariants as error
@@ -12,7 +12,7 @@ use Rattle.model_history.specs.Judging.{RefusedIn, RefusedAt, framed}
 
 -- the command at place n of frame k was applied to a page, which took it; or it was refused; or memory ran out
 abbrev pub AppliedCommand : Page → ℕ → ℕ → Command → Page → Result ⊤ ScriptError → Type 0
-AppliedCommand old k n c new (Ok done) = Accepts old c × (new ≡ after old c)
+AppliedCommand old k n c new (Ok done) = Accepts old c × (new ≡ page_after_command old c)
 AppliedCommand old k n c new (Err (error.Command frame command fault)) = (frame ≡ k) × (command ≡ n) × Refuses old c fault
 AppliedCommand old k n c new (Err (error.Memory e)) = ⊤
 

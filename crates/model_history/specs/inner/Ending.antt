@@ -7,8 +7,8 @@ use Rattle.page_layers.specs.declared.command.Command.{Command}
 use Rattle.page_layers.specs.declared.fault.EditError.{EditError}
 use Rattle.page_layers.specs.declared.fault.EditError.TheVariants as error
 use Rattle.page_layers.specs.Pages.{Page}
-use Rattle.page_layers.specs.Effects.{after, change_of, retiles}
-use Rattle.page_layers.specs.Outcomes.{Accepts, Refuses, Lists}
+use Rattle.page_layers.specs.Effects.{page_after_command, layer_change_of, retiles}
+use Rattle.page_layers.specs.Outcomes.{Accepts, Refuses, ListsChange}
 use Rattle.page_layers.specs.declared.moves.Move.{Move}
 use Rattle.page_layers.specs.Axes.{across, down, amount_in}
 use Rattle.page_layers.specs.Scrollers.{main_value}
@@ -22,13 +22,13 @@ with_next p c done = record { list = with_command p c done.list; retiled = done.
 
 -- what a command lists was noted behind what was noted before: where that was right, so is this
 abbrev pub Noted : Command → Changed → Changed → Changed → Type 0
-Noted c listed old new = (p : Page) (done : Changed) → Lists (change_of p c) (retiles p c) listed → SameChanges old done → SameChanges new (with_next p c done)
+Noted c listed old new = (p : Page) (done : Changed) → ListsChange (layer_change_of p c) (retiles p c) listed → SameChanges old done → SameChanges new (with_next p c done)
 
 -- a command was applied and noted; or it was refused, and the page is as it was; or memory ran out, before the command was applied or when it was noted
 abbrev pub TookCommand : Page → Command → Changed → Page → Changed → Result ⊤ EditError → Type 0
-TookCommand p c old q new (Ok done) = Accepts p c × (q ≡ after p c) × ((before : Changed) → SameChanges old before → SameChanges new (with_next p c before))
+TookCommand p c old q new (Ok done) = Accepts p c × (q ≡ page_after_command p c) × ((before : Changed) → SameChanges old before → SameChanges new (with_next p c before))
 TookCommand p c old q new (Err (error.Refused fault)) = Refuses p c fault × (q ≡ p)
-TookCommand p c old q new (Err (error.Memory e)) = (q ≡ p) ⊎ (q ≡ after p c)
+TookCommand p c old q new (Err (error.Memory e)) = (q ≡ p) ⊎ (q ≡ page_after_command p c)
 
 -- the move is what the pulls have for a scroller
 pub record IsPullOf (sc : ℕ) (ms : List Move) (m : Move) : Type 0 where

@@ -7,8 +7,8 @@ use Rattle.page_layers.specs.declared.command.Command.{Command}
 use Rattle.page_layers.specs.declared.command.Command.TheVariants as command
 use Rattle.page_layers.specs.Pages.{Page}
 use Rattle.page_layers.specs.Refusals.{test_of}
-use Rattle.page_layers.specs.Effects.{after, change_of, retiles}
-use Rattle.page_layers.specs.Outcomes.{Lists}
+use Rattle.page_layers.specs.Effects.{page_after_command, layer_change_of, retiles}
+use Rattle.page_layers.specs.Outcomes.{ListsChange}
 
 -- only these commands may part the layers of an effect
 abbrev pub may_part : Command → Bool
@@ -18,6 +18,6 @@ may_part _ = false
 
 -- the same, but for layers that would not stand together: for the commands that cannot part them
 abbrev pub Tested : Page → Command → Page → Result Changed EditError → Type 0
-Tested old c new (Ok changes) = (test_of old c ≡ Ok tt) × (new ≡ after old c) × Lists (change_of old c) (retiles old c) changes
+Tested old c new (Ok changes) = (test_of old c ≡ Ok tt) × (new ≡ page_after_command old c) × ListsChange (layer_change_of old c) (retiles old c) changes
 Tested old c new (Err (error.Refused fault)) = (test_of old c ≡ Err fault) × (new ≡ old)
 Tested old c new (Err (error.Memory e)) = new ≡ old

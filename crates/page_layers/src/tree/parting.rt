@@ -3,10 +3,10 @@
 ghost use Rattle.std.specs.Prelude.{◌≡◌, ◌≤◌, ◌<◌, ℕ, [], length, map, insert, IfOk, ◌==◌};
 ghost use Rattle.std.specs.Bool.{Decides};
 ghost use Rattle.page_properties.specs.Nesting.{AreNested};
-ghost use Rattle.page_layers.specs.Effects.{after};
+ghost use Rattle.page_layers.specs.Effects.{page_after_command};
 ghost use Rattle.std.specs.List.{list_any};
 ghost use Rattle.page_layers.specs.declared.command.Command.TheVariants as command;
-ghost use Rattle.page_layers.specs.Layers.{PageLayer, parts_of, moved};
+ghost use Rattle.page_layers.specs.Layers.{PageLayer, parts_of, with_layer_moved};
 ghost use Rattle.page_layers.specs.inner.FoundPlaces.{StandsAt};
 ghost use Rattle.page_layers.specs.Refusals as refusals;
 ghost use Rattle.page_layers.specs.Outcomes.{StandTogether, Outcome};
@@ -37,7 +37,7 @@ fn effects_moved(
     at: usize,
 ) -> Result<Vec<u32>, AllocError>
     requires { at < length layers.now }
-    ensures { IfOk result (λ effects. effects.items ≡ map (λ l. l.effect) (moved id at (map parts_of layers.now))) }
+    ensures { IfOk result (λ effects. effects.items ≡ map (λ l. l.effect) (with_layer_moved id at (map parts_of layers.now))) }
 {
     match layers::place_of(layers, id) {
         Some(place) => moved_effects(alloc, layers, place, at),
@@ -85,7 +85,7 @@ fn moved_effects(
     requires from { place < length layers.now }
     requires to { at < length layers.now }
     ensures { IfOk result (λ effects. (id : ℕ) → StandsAt id layers.now place →
-        effects.items ≡ map (λ l. l.effect) (moved id at (map parts_of layers.now))) }
+        effects.items ≡ map (λ l. l.effect) (with_layer_moved id at (map parts_of layers.now))) }
 {
     let mut effects = effects_of(alloc, layers)?;
     let effect = effects.remove(place);
@@ -152,7 +152,7 @@ impl LayerTree {
     // Whether the layers would stand together with one moved.
     fn stands_moved(&self, id: u32, at: u32) -> Result<bool, AllocError>
         requires { at < length self.now.layers }
-        ensures { IfOk result (λ together. Decides together (StandTogether (after self.now (command.MoveLayer id at)))) }
+        ensures { IfOk result (λ together. Decides together (StandTogether (page_after_command self.now (command.MoveLayer id at)))) }
     {
         let layers = self.layers.as_slice();
         let effects = effects_moved(*self.layers.allocator(), layers, id, at as usize)?;

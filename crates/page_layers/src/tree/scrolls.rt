@@ -6,7 +6,7 @@ ghost use Rattle.page_layers.specs.Refusals as refusals;
 ghost use Rattle.page_properties.specs.OffsetMap.{IsOffset};
 ghost use Rattle.page_properties.specs.Placement.{minus};
 ghost use Rattle.page_properties.specs.Entries.{find, knows};
-ghost use Rattle.page_layers.specs.Effects.{value_of, scrolled_to, scrolled_by};
+ghost use Rattle.page_layers.specs.Effects.{main_point, scrolled_to, scrolled_by};
 ghost use Rattle.page_layers.specs.Scrolls as scrolls;
 ghost use Rattle.page_layers.specs.inner.Tested.{Tested};
 
@@ -85,7 +85,7 @@ fn gap(new: i32, old: i32) -> i32
 impl LayerTree {
     /// The main value of a scroller; (0, 0) where the tree has no such scroller.
     pub fn value(&self, id: u32) -> Point
-        ensures value { result ≡ value_of self.now id }
+        ensures value { result ≡ main_point self.now id }
         ensures in_range { IsOffset result }
     {
         value_in(self.values.as_slice(), id)
@@ -230,7 +230,7 @@ impl LayerTree {
         requires up { neg_ℤ (pos (2 ^ 39)) <ℤ dy }
         requires down { dy <ℤ pos (2 ^ 39) }
         ensures tree { self.new ≡ scrolled_by self.old id dx dy }
-        ensures change { result ≡ minus (value_of self.new id) (value_of self.old id) }
+        ensures change { result ≡ minus (main_point self.new id) (main_point self.old id) }
     {
         let old = self.value(id);
         self.scroll_more(id, dx, dy);

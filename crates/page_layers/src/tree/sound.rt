@@ -1,7 +1,7 @@
 //! What holds of every tree, and its main scroll values.
 
 ghost use Rattle.std.specs.Prelude.{◌≡◌, map, All};
-ghost use Rattle.geom.specs.Sides.{IsSide};
+ghost use Rattle.geom.specs.Sides.{IsLayerSide};
 ghost use Rattle.page_layers.specs.Layers.{parts_of};
 ghost use Rattle.page_layers.specs.Sound.{IsPage};
 
@@ -21,7 +21,7 @@ impl LayerTree {
     /// Both sides of each of its layers are 1 to 16384. A law that does nothing when it runs.
     pub fn are_sized(&self, layers: &[Layer])
         requires { map parts_of layers.now ≡ self.now.layers }
-        ensures { All (λ l. IsSide l.w × IsSide l.h) layers.now }
+        ensures { All (λ l. IsLayerSide l.w × IsLayerSide l.h) layers.now }
     {
         self.is_page();
     }

@@ -3,7 +3,7 @@ use Rattle.std.specs.Prelude.{◌≡◌, ℕ, Bool, true, false, ◌&&◌, cond,
 use Rattle.std.specs.Io.KnownBytes.{Appends}
 use Rattle.atomic_table.specs.Seated.{TableId}
 use Rattle.player_io.specs.Pieces.{GainsPrefix}
-use Rattle.thread_ring.specs.Ring.{OneRing, taken, whole}
+use Rattle.thread_ring.specs.Ring.{OneRing, bytes_taken, whole}
 use Rattle.thread_ring.specs.Answers.{Gained}
 use Rattle.thread_ring.specs.declared.ends.Presented.{Presented}
 use Rattle.thread_ring.specs.declared.ends.Presented.TheVariants as presented
@@ -58,7 +58,7 @@ pub record HasRun (p : Seat) (before : List ℕ) (ran : Ran) (old new : Option (
   pub ring : OneRing ran.sink ran.presenter
   pub drove : Drove p ran.pass (Some before) (Some (whole ran.sink)) ran.ending
   pub calm : FaultCause 0 0 ran.ending.last
-  pub gained : Gained ran.served old new (taken ran.presenter)
+  pub gained : Gained ran.served old new (bytes_taken ran.presenter)
 
 -- a legal run of this script and so many workers
 pub record IsRunAt (o : Origin) (r : Run) : Type 0 where
@@ -77,7 +77,7 @@ abbrev pub ended_as : Ending → Outcome
 ended_as ending = cond (is_whole ending) Done Memory
 
 -- how the run ended
-abbrev pub settled_as : Presented → Ending → Outcome
-settled_as presented.Written ending = ended_as ending
-settled_as presented.Fault ending = WriteFault
-settled_as presented.Memory ending = Memory
+abbrev pub joint_outcome : Presented → Ending → Outcome
+joint_outcome presented.Written ending = ended_as ending
+joint_outcome presented.Fault ending = WriteFault
+joint_outcome presented.Memory ending = Memory

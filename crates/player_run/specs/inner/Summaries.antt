@@ -4,18 +4,18 @@ use Rattle.model_history.specs.declared.history.Entry.{Entry}
 use Rattle.model_history.specs.Lockstep.{IsLockstep}
 use Rattle.model_history.specs.Scripts.{ScriptModel}
 use Rattle.script_json.specs.Recordings.{recording}
-use Rattle.recording_sums.specs.Sums.{total}
-use Rattle.player_run.specs.Demos.{images, missing}
-use Rattle.player_run.specs.Outcomes.{joined}
+use Rattle.recording_sums.specs.Sums.{byte_sum}
+use Rattle.player_run.specs.Demos.{image_count, missing_count}
+use Rattle.player_run.specs.Outcomes.{joined_texts}
 use Rattle.player_run.specs.declared.demo.Summary.{Summary}
 
 -- they are those of this history and these bytes
 pub record IsSummary (history : List Entry) (whole : List ℕ) (summary : Summary) : Type 0 where
   pub events : summary.events ≡ length history
-  pub images : summary.images ≡ images history
-  pub missing : summary.missing ≡ missing history
+  pub images : summary.images ≡ image_count history
+  pub missing : summary.missing ≡ missing_count history
   pub bytes : summary.bytes ≡ length whole
-  pub sum : summary.sum ≡ total whole % 2 ^ 64
+  pub sum : summary.sum ≡ byte_sum whole % 2 ^ 64
 
 -- they are those of a script in lockstep, and of its recording
 abbrev pub IsDemoSummary : ScriptModel → Summary → Type 0
@@ -24,7 +24,7 @@ IsDemoSummary s summary = (history : List Entry) × IsLockstep s history × IsSu
 -- the line of the counts
 abbrev pub summary_line : Summary → List ℕ
 summary_line summary =
-    joined
+    joined_texts
     (codes "events " ∷ decimal summary.events
     ∷ codes " images " ∷ decimal summary.images
     ∷ codes " missing " ∷ decimal summary.missing

@@ -5,11 +5,11 @@ use Rattle.std.specs.declared.sync.Arc.{Arc}
 use Rattle.geom.specs.declared.tile.TileKey.{TileKey}
 use Rattle.tile_raster.specs.declared.image.TileImage.{TileImage}
 use Rattle.model_history.specs.Scripts.{ScriptModel}
-use Rattle.model_steps.specs.ShownKeys.{Shows}
+use Rattle.model_steps.specs.ShownKeys.{KeyShows}
 
 -- the image shows its key in every page of the script that has the key
 abbrev pub ShowsItsKey : ScriptModel → Arc TileImage Global → Type 0
-ShowsItsKey s image = Shows s image.value.key image.value.rect image.value.list
+ShowsItsKey s image = KeyShows s image.value.key image.value.rect image.value.list
 
 -- each image does
 abbrev pub ArePrepared : ScriptModel → List (Arc TileImage Global) → Type 0

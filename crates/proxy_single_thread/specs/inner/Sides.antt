@@ -10,21 +10,21 @@ use Rattle.model_history.specs.EventFields.{sends}
 use Rattle.model_history.specs.Scans.{counted, held}
 use Rattle.model_history.specs.Frames.{changes, pulls_in, pulls_of}
 use Rattle.model_history.specs.Legal.{sched}
-use Rattle.model_steps.specs.ShownKeys.{Shows}
+use Rattle.model_steps.specs.ShownKeys.{KeyShows}
 use Rattle.impl_log.specs.Runs.{Run, past}
-use Rattle.main_host.specs.Hosts.{HostModel}
+use Rattle.main_host.specs.Hosts.{MainHostModel}
 use Rattle.main_host.specs.declared.main_end.MainEnd.{MainEnd}
 use Rattle.main_host.specs.declared.main_end.MainEnd.TheVariants as end
 use Rattle.proxy_single_thread.specs.Singles.{AreScenes}
 use Rattle.proxy_single_thread.specs.declared.main_side.MainSide.{MainSide}
 use Rattle.proxy_single_thread.specs.declared.workers.Workers.{Workers}
-use Rattle.proxy_single_thread.specs.declared.shown.Shown.{Shown}
+use Rattle.proxy_single_thread.specs.declared.unwritten_scenes.UnwrittenScenes.{UnwrittenScenes}
 use Rattle.proxy_single_thread.specs.inner.Images.{ArePrepared}
 
 -- ---- the main side
 
 -- it has run the first n frames of the script, with these pulls
-pub record HasRun (s : ScriptModel) (ps : ℕ → List Move) (n : ℕ) (host : HostModel) : Type 0 where
+pub record HasRun (s : ScriptModel) (ps : ℕ → List Move) (n : ℕ) (host : MainHostModel) : Type 0 where
   pub script : host.script ≡ s
   pub count : length host.sends ≡ n
   pub each : (k : ℕ) → k < n → pulls_in host.sends k ≡ ps k
@@ -76,7 +76,7 @@ WasRun r side = is_sent (sched (past r)).main_state ≡ true → is_some side.en
 -- it is of this key and shows it
 pub record IsJobOf (s : ScriptModel) (q : TileKey) (job : Job) : Type 0 where
   pub key : job.key ≡ q
-  pub shows : Shows s q job.rect job.list.value
+  pub shows : KeyShows s q job.rect job.list.value
   pub sound : IsSound job.rect
 
 -- a worker that holds a key has its job, and one that holds none has none
@@ -97,7 +97,7 @@ AreWorkers r ws = HaveJobs r ws.jobs.items × ArePrepared r.script ws.prepared.i
 -- ---- what was drawn
 
 -- the scenes are those of the draws among the entries behind the written ones
-pub record IsShown (r : Run) (shown : Shown) : Type 0 where
+pub record IsShown (r : Run) (shown : UnwrittenScenes) : Type 0 where
   pub fresh : ℕ
   pub count : length r.entries ≡ fresh + shown.written
   pub scenes : AreScenes r.script fresh (past r) shown.scenes.items
@@ -105,7 +105,7 @@ pub record IsShown (r : Run) (shown : Shown) : Type 0 where
 -- ---- all of it
 
 -- they are the sides of a run that has 1 to 16 workers
-pub record IsSingle (r : Run) (side : MainSide) (ws : Workers) (drawn : Shown) : Type 0 where
+pub record IsSingle (r : Run) (side : MainSide) (ws : Workers) (drawn : UnwrittenScenes) : Type 0 where
   pub few : (1 ≤ r.workers) × (r.workers ≤ 16)
   pub main : IsMain r side
   pub workers : AreWorkers r ws

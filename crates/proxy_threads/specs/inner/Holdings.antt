@@ -1,13 +1,13 @@
 -- One holding of the turn by an actor.
 use Rattle.std.specs.Prelude.{◌≡◌, ◌⊎◌, ℕ, ◌<◌, ◌++◌, Some}
 use mathlib.Core.List.{IsPrefix}
-use Rattle.thread_lock.specs.Lists.{own, gained}
+use Rattle.thread_lock.specs.Lists.{entries_by, gained}
 use Rattle.model_history.specs.declared.event.Event.{Event}
 use Rattle.model_history.specs.Accepted.{IsAccepted}
 use Rattle.model_history.specs.Legal.{Legal}
 use Rattle.impl_log.specs.Runs.{Run, past, with_entry}
 use Rattle.impl_core.specs.Origins.{origin_of}
-use Rattle.proxy_threads.specs.Seats.{Seat, SamePass, Stands, pairs}
+use Rattle.proxy_threads.specs.Seats.{Seat, SamePass, HasSeenRun, pairs}
 
 -- the actor has entered nothing, or one event
 abbrev pub Steps : ℕ → Run → Run → Type 0
@@ -16,7 +16,7 @@ Steps a old new = (new ≡ old) ⊎ ((e : Event) × (new ≡ with_entry old a e)
 -- what the pass tells of a run that it finds: it goes on from what the pass has seen, and has as much of the actor as the pass
 pub record Sees (p : Seat) (r : Run) : Type 0 where
   pub began : IsPrefix p.seen (pairs r.entries)
-  pub own : own p.actor (pairs r.entries) ≡ p.mine
+  pub own : entries_by p.actor (pairs r.entries) ≡ p.mine
   pub origin : p.stem ≡ Some (origin_of r)
   pub legal : Legal r.script r.workers (past r)
   pub accepted : IsAccepted r.script
@@ -50,5 +50,5 @@ pub record Holding (p q : Seat) (Acts : Run → Run → Type 0) : Type 0 where
   pub left : Run
   pub same : SamePass p q
   pub sees : Sees p found
-  pub stands : Stands q left
+  pub stands : HasSeenRun q left
   pub acts : Acts found left

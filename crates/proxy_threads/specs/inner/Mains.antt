@@ -9,7 +9,7 @@ use Rattle.model_history.specs.Accepted.{IsAccepted}
 use Rattle.model_history.specs.Scans.{has_ended}
 use Rattle.impl_log.specs.Runs.{Run, past, now, with_entry}
 use Rattle.impl_core.specs.Replies.{told_frame}
-use Rattle.main_host.specs.Hosts.{HostModel}
+use Rattle.main_host.specs.Hosts.{MainHostModel}
 use Rattle.main_host.specs.declared.main_end.MainEnd.{MainEnd}
 use Rattle.main_host.specs.declared.main_end.MainEnd.TheVariants as end
 use Rattle.proxy_single_thread.specs.inner.Sides.{IsMain}
@@ -17,7 +17,7 @@ use Rattle.proxy_threads.specs.declared.turned.Turned.{Turned}
 use Rattle.proxy_threads.specs.declared.turned.Turned.TheVariants as turned
 use Rattle.proxy_threads.specs.declared.main_actor.Told.{Told}
 use Rattle.proxy_threads.specs.declared.main_actor.Told.TheVariants as told
-use Rattle.proxy_threads.specs.Seats.{Seat, Stands}
+use Rattle.proxy_threads.specs.Seats.{Seat, HasSeenRun}
 use Rattle.proxy_threads.specs.Causes.{have_frames_ended}
 use Rattle.proxy_threads.specs.MainTurns.{MainTurn, IsInStep}
 
@@ -39,9 +39,9 @@ pub record Listens (x : Told) (old new : Run) : Type 0 where
   pub tells : Tells old x
 
 -- the pass has seen that a main frame is in flight, with these pulls, which the host has not run
-pub record IsSentTo (p : Seat) (host : HostModel) (ms : List Move) : Type 0 where
+pub record IsSentTo (p : Seat) (host : MainHostModel) (ms : List Move) : Type 0 where
   pub run : Run
-  pub stands : Stands p run
+  pub stands : HasSeenRun p run
   pub actor : p.actor ≡ 1
   pub going : has_ended (past run) ≡ false
   pub accepted : IsAccepted run.script
@@ -51,9 +51,9 @@ pub record IsSentTo (p : Seat) (host : HostModel) (ms : List Move) : Type 0 wher
   pub main : IsMain run (record { host = host; end = None; changed = changed })
 
 -- the pass has seen that a main frame is in flight, which the host has run, and which ends so
-pub record IsHeldBy (p : Seat) (host : HostModel) (e : MainEnd) : Type 0 where
+pub record IsHeldBy (p : Seat) (host : MainHostModel) (e : MainEnd) : Type 0 where
   pub run : Run
-  pub stands : Stands p run
+  pub stands : HasSeenRun p run
   pub actor : p.actor ≡ 1
   pub changed : Bool
   pub main : IsMain run (record { host = host; end = Some e; changed = changed })
@@ -79,6 +79,6 @@ Hands e turned.Memory old new = new ≡ old
 Hands e _ old new = ⊥
 
 -- a turn of the main side, with a host that is in step with what the pass saw
-pub record MainTurns (p q : Seat) (host : HostModel) (t : Turned) : Type 0 where
+pub record MainTurns (p q : Seat) (host : MainHostModel) (t : Turned) : Type 0 where
   pub turn : MainTurn p q t
   pub in_step : IsInStep q host

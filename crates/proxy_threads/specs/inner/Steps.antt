@@ -6,7 +6,7 @@ use Rattle.model_history.specs.Scans.{has_ended}
 use Rattle.model_history.specs.Texts.{event_line}
 use Rattle.impl_log.specs.Runs.{Run, past, now, Entered}
 use Rattle.impl_core.specs.Origins.{Origin}
-use Rattle.impl_core.specs.Replies.{is_own, is_draw, is_played, DrawsScene}
+use Rattle.impl_core.specs.Replies.{is_own, is_draw_kind, is_played, DrawsScene}
 use Rattle.recording_writer.specs.inner.Scenes.{scene_image}
 use Rattle.recording_writer.specs.declared.writing.WriteStop.{WriteStop}
 use Rattle.recording_writer.specs.declared.writing.WriteStop.TheVariants as stop
@@ -30,10 +30,10 @@ pub record Stops (a : ℕ) (old new : Run) : Type 0 where
   pub ended : has_ended (past new) ≡ true
 
 -- where an actor gives up, it takes the turn once more
-abbrev pub Settles : Turned → Seat → Seat → Type 0
-Settles turned.Memory p q = Holding p q (Stops p.actor)
-Settles turned.WriteFault p q = Holding p q (Stops p.actor)
-Settles _ p q = q ≡ p
+abbrev pub StopsIfFailed : Turned → Seat → Seat → Type 0
+StopsIfFailed turned.Memory p q = Holding p q (Stops p.actor)
+StopsIfFailed turned.WriteFault p q = Holding p q (Stops p.actor)
+StopsIfFailed _ p q = q ≡ p
 
 -- ---- the compositor
 
@@ -41,7 +41,7 @@ Settles _ p q = q ≡ p
 abbrev pub Plays : Run → Run → Played → Type 0
 Plays old new played.Ended = (new ≡ old) × (has_ended (past old) ≡ true)
 Plays old new played.Blocked = (new ≡ old) × (has_ended (past old) ≡ false) × ((k : Kind) → is_own k ≡ true → now old k 0 ≡ None)
-Plays old new played.Plain = (k : Kind) × (is_draw k ≡ false) × Entered old k 0 new
+Plays old new played.Plain = (k : Kind) × (is_draw_kind k ≡ false) × Entered old k 0 new
 Plays old new (played.Shown scene) = DrawsScene old new scene
 Plays old new played.Memory = Steps 0 old new
 

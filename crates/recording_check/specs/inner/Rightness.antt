@@ -11,10 +11,10 @@ use Rattle.model_history.specs.Recordings.{shown_image, image_behind}
 use Rattle.model_history.specs.Scripts.{ScriptModel}
 use Rattle.impl_log.specs.Runs.{Run, past, with_entry}
 use Rattle.recording_reader.specs.declared.cursor.ImageSpan.{ImageSpan}
-use Rattle.recording_reader.specs.declared.cursor.Step.{Step}
+use Rattle.recording_reader.specs.declared.cursor.EventSpan.{EventSpan}
 use Rattle.recording_reader.specs.Pieces.{Piece, HasImage, entry_of}
 use Rattle.recording_reader.specs.Spans.{IsWithinBytes}
-use Rattle.recording_reader.specs.Taking.{StandsAt}
+use Rattle.recording_reader.specs.Taking.{IsImageAt}
 use Rattle.recording_check.specs.Verdicts.{IsRight}
 
 -- the keys that a draw lists
@@ -47,7 +47,7 @@ Arrives bytes None = ⊤
 Arrives bytes (Some m) = IsWithinBytes (length bytes) m
 
 -- the step is a piece of these bytes
-pub record IsPieceIn (bytes : List ℕ) (step : Step) : Type 0 where
+pub record IsPieceIn (bytes : List ℕ) (step : EventSpan) : Type 0 where
   pub image : List ℕ
   pub can : CanHave step.event image
-  pub stands : StandsAt bytes step.image image
+  pub stands : IsImageAt bytes step.image image

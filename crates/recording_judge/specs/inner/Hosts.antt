@@ -8,25 +8,25 @@ use Rattle.model_history.specs.EventFields as fields
 use Rattle.model_history.specs.Frames.{pulls_of}
 use Rattle.model_history.specs.Legal.{Legal}
 use Rattle.model_steps.specs.Events.{abort, commit, activate}
-use Rattle.impl_scroll.specs.Standings.{is_scroll}
+use Rattle.impl_scroll.specs.Standings.{uses_scroll}
 use Rattle.main_host.specs.declared.main_end.MainEnd.{MainEnd}
-use Rattle.impl_host.specs.Hosts.{HostModel, Hosts}
+use Rattle.impl_host.specs.Hosts.{ImplHostModel, Hosts}
 use Rattle.recording_judge.specs.inner.Mains.{IsCommitted}
 
 -- there is a run in which a scroll or a wheel with these moves may come next
-pub record HostMoves (host : HostModel) (ms : List Move) : Type 0 where
+pub record HostMoves (host : ImplHostModel) (ms : List Move) : Type 0 where
   pub script : ScriptModel
   pub workers : ℕ
   pub past : List Entry
   pub entry : Entry
   pub accepted : IsAccepted script
   pub legal : Legal script workers (entry ∷ past)
-  pub scroll : is_scroll entry.event ≡ true
+  pub scroll : uses_scroll entry.event ≡ true
   pub moves : fields.moves script entry.event ≡ ms
   pub hosts : Hosts script past host
 
 -- there is a run in which an abort may come next
-pub record HostAborts (host : HostModel) : Type 0 where
+pub record HostAborts (host : ImplHostModel) : Type 0 where
   pub script : ScriptModel
   pub workers : ℕ
   pub past : List Entry
@@ -37,7 +37,7 @@ pub record HostAborts (host : HostModel) : Type 0 where
   pub hosts : Hosts script past host
 
 -- there is a run of the script in which the commit of the frame may come next, and this is the commit
-pub record HostCommits (s : ScriptModel) (host : HostModel) (k : ℕ) (end : Option MainEnd) : Type 0 where
+pub record HostCommits (s : ScriptModel) (host : ImplHostModel) (k : ℕ) (end : Option MainEnd) : Type 0 where
   pub workers : ℕ
   pub past : List Entry
   pub actor : ℕ
@@ -47,7 +47,7 @@ pub record HostCommits (s : ScriptModel) (host : HostModel) (k : ℕ) (end : Opt
   pub commit : IsCommitted s (pulls_of past) k end
 
 -- there is a run in which an activation with these moves may come next
-pub record HostActivates (host : HostModel) (ms : List Move) : Type 0 where
+pub record HostActivates (host : ImplHostModel) (ms : List Move) : Type 0 where
   pub script : ScriptModel
   pub workers : ℕ
   pub past : List Entry

@@ -15,13 +15,13 @@ use Rattle.model_history.specs.Stamps.{frame_changes}
 use Rattle.model_history.specs.SameChanges.{SameChanges}
 use Rattle.model_history.specs.Legal.{sched, Legal}
 use Rattle.model_steps.specs.Events.{send}
-use Rattle.main_host.specs.Hosts.{HostModel}
+use Rattle.main_host.specs.Hosts.{MainHostModel}
 use Rattle.main_host.specs.declared.main_end.MainEnd.{MainEnd}
 use Rattle.main_host.specs.declared.main_end.MainEnd.TheVariants as end
-use Rattle.recording_judge.specs.declared.main_side.MainSide.{MainSide}
+use Rattle.recording_judge.specs.declared.judged_main.JudgedMain.{JudgedMain}
 
 -- it has run the first n frames of the script, with these pulls
-pub record HasRun (s : ScriptModel) (ps : ℕ → List Move) (n : ℕ) (host : HostModel) : Type 0 where
+pub record HasRun (s : ScriptModel) (ps : ℕ → List Move) (n : ℕ) (host : MainHostModel) : Type 0 where
   pub script : host.script ≡ s
   pub count : length host.sends ≡ n
   pub each : (k : ℕ) → k < n → pulls_in host.sends k ≡ ps k
@@ -66,16 +66,16 @@ abort_event (Some (end.Ready c)) = None
 abort_event (Some (end.Abort k)) = Some (event.Abort k)
 
 -- n frames were sent and run; the last of them, where it has not ended, is to end so
-pub record MainOf (s : ScriptModel) (ps : ℕ → List Move) (n : ℕ) (side : MainSide) (idle : Bool) (last : Option ℕ) : Type 0 where
+pub record MainOf (s : ScriptModel) (ps : ℕ → List Move) (n : ℕ) (side : JudgedMain) (idle : Bool) (last : Option ℕ) : Type 0 where
   pub run : HasRun s ps n side.host
   pub ends : idle ≡ false → (k : ℕ) → last ≡ Some k → EndsSo s ps k side.end
 
 -- it is the main side of a run of the script after this past
-abbrev pub IsMain : ScriptModel → List Entry → MainSide → Type 0
+abbrev pub IsMain : ScriptModel → List Entry → JudgedMain → Type 0
 IsMain s h side = MainOf s (pulls_of h) (counted sends h) side (is_main_idle (sched h).main_state) (newest sends h)
 
 -- there is a run in which a main frame may be sent next with these pulls
-pub record MainSends (side : MainSide) (ms : List Move) : Type 0 where
+pub record MainSends (side : JudgedMain) (ms : List Move) : Type 0 where
   pub script : ScriptModel
   pub workers : ℕ
   pub past : List Entry

@@ -9,20 +9,20 @@ use Rattle.model_history.specs.declared.history.Entry.{Entry}
 use Rattle.model_history.specs.Scripts.{ScriptModel}
 use Rattle.model_history.specs.Accepted.{IsAccepted}
 use Rattle.model_history.specs.EventFields.{kind_of, actor_of}
-use Rattle.model_history.specs.Ranking.{first}
+use Rattle.model_history.specs.Ranking.{rank_to_start}
 use Rattle.model_history.specs.Legal.{Legal}
 use Rattle.model_scheduler.specs.declared.kind.Kind.{Kind}
 use Rattle.model_scheduler.specs.declared.kind.Kind.TheVariants as kind
-use Rattle.impl_host.specs.Hosts.{HostModel, Hosts}
+use Rattle.impl_host.specs.Hosts.{ImplHostModel, Hosts}
 use Rattle.impl_log.specs.Runs.{past, now, with_entry}
 use Rattle.recording_judge.specs.declared.tile_keys.TileKeys.{TileKeys}
-use Rattle.recording_judge.specs.declared.main_side.MainSide.{MainSide}
+use Rattle.recording_judge.specs.declared.judged_main.JudgedMain.{JudgedMain}
 use Rattle.recording_judge.specs.declared.state.State.{State}
 use Rattle.recording_judge.specs.inner.Tiles.{Holds}
 use Rattle.recording_judge.specs.inner.Mains.{IsMain}
 
 -- they are the host, the tiles and the main side of a run of the script with so many workers after this past
-pub record Keeps (s : ScriptModel) (n : ℕ) (h : List Entry) (stands : HostModel) (keys : TileKeys) (side : MainSide) : Type 0 where
+pub record Keeps (s : ScriptModel) (n : ℕ) (h : List Entry) (stands : ImplHostModel) (keys : TileKeys) (side : JudgedMain) : Type 0 where
   pub host : Hosts s h stands
   pub tiles : Holds s n h keys
   pub main : IsMain s h side
@@ -99,5 +99,5 @@ pub record HasEntered (old : State) (a : ℕ) (e : Event) (new : State) : Type 0
 -- the key is that of the rank that is first
 pub record IsFirstKey (s : ScriptModel) (h : List Entry) (q : TileKey) : Type 0 where
   pub rank : Rank
-  pub is_first : first s h ≡ Some rank
+  pub is_first : rank_to_start s h ≡ Some rank
   pub key : rank.key ≡ q

@@ -6,7 +6,7 @@ use Rattle.geom.specs.declared.tile.TileKey.{TileKey}
 use Rattle.geom.specs.KeyLists.{has_key}
 use Rattle.tile_priority.specs.Choice.{Choice}
 use Rattle.tile_priority.specs.Tiles.{Tile}
-use Rattle.tile_priority.specs.Alike.{Alike, started, finished}
+use Rattle.tile_priority.specs.Alike.{Alike, choice_after_start, finished}
 use Rattle.tile_store.specs.Stores.{Store}
 use Rattle.model_history.specs.declared.history.Entry.{Entry}
 use Rattle.model_history.specs.Scripts.{ScriptModel}
@@ -46,11 +46,11 @@ store_of ks = record { ready = map.empty; in_flight = set.from_list ks; spare = 
 abbrev pub AreFree : ℕ → List (Option TileKey) → Type 0
 AreFree n os = (length os ≡ n) × ((w : ℕ) → slice_index_or os w None ≡ None)
 
--- the queue of a choice, where there is one, once a key has started for which these are given up
+-- the queue of a choice, where there is one, once a key has started for which these are evicted
 abbrev pub Started : Option Choice → Option Choice → TileKey → List TileKey → Type 0
 Started None new q evicted = new ≡ None
 Started (Some c) None q evicted = ⊥
-Started (Some c) (Some d) q evicted = Alike d (started c q evicted)
+Started (Some c) (Some d) q evicted = Alike d (choice_after_start c q evicted)
 
 -- the same once a tile in flight is made
 abbrev pub Finished : Option Choice → Option Choice → Option Tile → Type 0
@@ -76,7 +76,7 @@ pub record QueuesNow (s : ScriptModel) (active pending : Option SeenTreeModel) (
   pub seen_pending : IsSeenWhere (pending_tree s past) pending
   pub as_many : flying ≡ length (model.in_flight past)
 
--- there is a run in which the worker may start the key next, for which these keys are given up
+-- there is a run in which the worker may start the key next, for which these keys are evicted
 pub record StartsNow (t : TileKeys) (w : ℕ) (q : TileKey) (evicted : List TileKey) : Type 0 where
   pub script : ScriptModel
   pub workers : ℕ

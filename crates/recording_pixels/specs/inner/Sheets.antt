@@ -6,8 +6,8 @@ use Rattle.pixel.specs.Colours.{Parts}
 use Rattle.page_layers.specs.declared.paint.Group.{Group}
 use Rattle.page_layers.specs.Layers.{PageLayer}
 use Rattle.page_layers.specs.Pages.{Page}
-use Rattle.page_layers.specs.Paintings.{Placed, Ready, has_place, shown}
-use Rattle.page_layers.specs.TreePainting.{groups_in, opacity_in, place_at, colour_at}
+use Rattle.page_layers.specs.Paintings.{Placed, Ready, has_place, placed_colour}
+use Rattle.page_layers.specs.TreePainting.{groups_in, opacity_in, place_at, layer_colour_at}
 
 -- a layer in its place, and the effects below 255 that it lies in, the outermost first
 pub record SheetModel : Type 0 where
@@ -20,7 +20,7 @@ effects_of s = map (λ g. g.effect) s.groups
 
 -- the colour of a sheet at a point of the screen
 abbrev pub colour_in : ℕ → ℤ → ℤ → SheetModel → Parts
-colour_in tile x y s = shown tile x y s.placed
+colour_in tile x y s = placed_colour tile x y s.placed
 
 -- sheets as a page made ready
 abbrev pub ready : ℕ → List SheetModel → Ready
@@ -32,7 +32,7 @@ HaveOpacities opacity sheets = All (λ s. All (λ g. opacity g.effect ≡ g.opac
 
 -- a sheet is a layer of the page at these offsets, where the tiles of these keys are missing
 pub record IsSheetOf (p : Page) (offset : ℕ → Point) (missing : List TileKey) (l : PageLayer) (s : SheetModel) : Type 0 where
-  pub colours : (x y : ℤ) → colour_in p.view.tile x y s ≡ colour_at p offset missing x y l
+  pub colours : (x y : ℤ) → colour_in p.view.tile x y s ≡ layer_colour_at p offset missing x y l
   pub groups : effects_of s ≡ groups_in p.props.effects l.effect
   pub opacities : All (λ g. opacity_in p.props.effects g.effect ≡ g.opacity) s.groups
 

@@ -7,7 +7,7 @@ use Rattle.model_history.specs.declared.history.Entry.{Entry}
 use Rattle.model_history.specs.Texts.{event_line}
 use Rattle.recording_text.specs.Lines.{event_at}
 use Rattle.recording_text.specs.Images.{image_length}
-use Rattle.recording_reader.specs.declared.part.Part.{Part}
+use Rattle.recording_reader.specs.declared.part.RecordingPart.{RecordingPart}
 use Rattle.recording_reader.specs.declared.cursor.Cursor.{Cursor}
 use Rattle.recording_reader.specs.declared.cursor.ImageSpan.{ImageSpan}
 use Rattle.recording_reader.specs.Pieces.{entry_of, is_end, shown_after}
@@ -29,13 +29,13 @@ abbrev pub line_length : Event → ℕ
 line_length e = length (event_line e)
 
 -- a draw with the image behind its line, of the size of this view
-unfoldable pub with_image : View → List ℕ → Event → Result Part ℕ
+unfoldable pub with_image : View → List ℕ → Event → Result RecordingPart ℕ
 with_image v xs e = do
   n ← or_bad (line_length e) (image_length v.w v.h (drop (line_length e) xs))
   Ok (record { event = e; size = line_length e + n; image = Some (line_length e) })
 
 -- an event whose part is its line
-unfoldable pub bare : Event → Part
+unfoldable pub bare : Event → RecordingPart
 bare e = record { event = e; size = line_length e; image = None }
 
 abbrev pub is_nil : List ℕ → Bool
@@ -43,18 +43,18 @@ is_nil [] = true
 is_nil (x ∷ xs) = false
 
 -- the end, with nothing behind its line
-unfoldable pub at_end : List ℕ → Event → Result Part ℕ
+unfoldable pub at_end : List ℕ → Event → Result RecordingPart ℕ
 at_end xs e = if is_nil (drop (line_length e) xs) then Ok (bare e) else Err (line_length e)
 
 -- the part that an event's line begins; no part begins with a stop
-unfoldable pub part_of : View → List ℕ → Event → Result Part ℕ
+unfoldable pub part_of : View → List ℕ → Event → Result RecordingPart ℕ
 part_of v xs (event.Draw input missing) = with_image v xs (event.Draw input missing)
 part_of v xs (event.Stop actor) = Err 0
 part_of v xs event.End = at_end xs event.End
 part_of v xs e = Ok (bare e)
 
 -- the part at the front of these bytes, where images are of the size of this view; or the place in it of what is bad
-unfoldable pub part_at : View → List ℕ → Result Part ℕ
+unfoldable pub part_at : View → List ℕ → Result RecordingPart ℕ
 part_at v xs = do
   e ← or_bad 0 (event_at xs)
   part_of v xs e
@@ -82,7 +82,7 @@ behind es ms (Ok r) = Ok (record { entries = es ++ r.entries; images = ms ++ r.i
 behind es ms (Err place) = Err place
 
 -- a part and what is read behind it
-abbrev pub led : Option ℕ → ℕ → ℕ → Result Part ℕ → (Option ℕ → ℕ → Result Body ℕ) → Result Body ℕ
+abbrev pub led : Option ℕ → ℕ → ℕ → Result RecordingPart ℕ → (Option ℕ → ℕ → Result Body ℕ) → Result Body ℕ
 led shown index at (Err place) next = Err (at + place)
 led shown index at (Ok p) next =
     behind (entry_of p.event ∷ []) (images_in index at p.size p.image) (if is_end p.event then no_more else next (shown_after shown p.event) p.size)

@@ -4,11 +4,11 @@ use Rattle.model_history.specs.declared.history.Entry.{Entry}
 use Rattle.recording_reader.specs.declared.body.Body.{Body as BodyRead}
 use Rattle.recording_reader.specs.declared.cursor.ImageSpan.{ImageSpan}
 use Rattle.recording_reader.specs.inner.Parts.{Body}
-use Rattle.recording_reader.specs.Places.{place_of}
+use Rattle.recording_reader.specs.Places.{image_place_of}
 
 -- the entries and the places of the images; or the bad place
 abbrev pub WalksBody : Result Body ℕ → Result BodyRead ℕ → Type 0
-WalksBody there (Ok b) = (ms : List ImageSpan) × (map place_of ms ≡ b.images.items) × (there ≡ Ok (record { entries = b.events.entries; images = ms }))
+WalksBody there (Ok b) = (ms : List ImageSpan) × (map image_place_of ms ≡ b.images.items) × (there ≡ Ok (record { entries = b.events.entries; images = ms }))
 WalksBody there (Err place) = there ≡ Err place
 
 -- where the images stand; or the bad place

@@ -4,7 +4,7 @@ ghost use Rattle.std.specs.Prelude.{◌≡◌, ◌<◌, ◌+◌, ◌^◌, ◌≤
 ghost use Rattle.model_history.specs.Ranges.{are_short};
 ghost use Rattle.serde_json.specs.View.{view, items_view};
 ghost use Rattle.script_fields.specs.Faults.{Gives as GivesField};
-ghost use Rattle.script_json.specs.Faults.{Gives, placed};
+ghost use Rattle.script_json.specs.Faults.{GivesPart, placed};
 ghost use Rattle.script_json.specs.CommandReading.{fields_at, command_at, commands_at, frame_at, frames_at};
 
 use super::{items, layers, nodes};
@@ -61,7 +61,7 @@ fn placed_command(
     index: u32,
     value: &Value,
 ) -> Result<Command, Stop>
-    ensures { Gives (λ x. x) result (placed list index (command_at version (view value.now))) }
+    ensures { GivesPart (λ x. x) result (placed list index (command_at version (view value.now))) }
 {
     match command(alloc, version, value) {
         Ok(command) => Ok(command),
@@ -77,7 +77,7 @@ fn placed_command(
 // The commands of a main frame. A frame of 2^32 commands or more has places that no number of 32
 // bits tells; it is answered as if there were no memory. A text of fewer bytes has no such frame.
 fn commands(alloc: Global, version: u32, list: u32, values: &[Value]) -> Result<Vec<Command>, Stop>
-    ensures value { Gives (λ v. v.items) result (commands_at version list 0 (items_view values.now)) }
+    ensures value { GivesPart (λ v. v.items) result (commands_at version list 0 (items_view values.now)) }
     ensures short { IfOk result (λ v. nat_lt (length v.items) 4294967296 ≡ true) }
 {
     if values.len() > u32::MAX as usize {
@@ -96,7 +96,7 @@ fn commands(alloc: Global, version: u32, list: u32, values: &[Value]) -> Result<
 // A main frame; a value that is no list is a fault of field 98.
 #[tactic(auto, unfolding(crate::specs::CommandReading::frame_at))]
 fn frame(alloc: Global, version: u32, list: u32, value: &Value) -> Result<Vec<Command>, Stop>
-    ensures value { Gives (λ v. v.items) result (frame_at version list (view value.now)) }
+    ensures value { GivesPart (λ v. v.items) result (frame_at version list (view value.now)) }
     ensures short { IfOk result (λ v. nat_lt (length v.items) 4294967296 ≡ true) }
 {
     match value.as_array() {
@@ -116,7 +116,7 @@ pub(crate) fn frames(
     values: &[Value],
 ) -> Result<Vec<Vec<Command>>, Stop>
     requires { length values.now ≤ 4096 }
-    ensures value { Gives (λ v. map (λ frame. frame.items) v.items) result (frames_at version 2 (items_view values.now)) }
+    ensures value { GivesPart (λ v. map (λ frame. frame.items) v.items) result (frames_at version 2 (items_view values.now)) }
     ensures short { IfOk result (λ v. are_short (map (λ frame. frame.items) v.items) ≡ true) }
     ensures count { IfOk result (λ v. vec_len v ≡ length values.now) }
 {

@@ -2,7 +2,7 @@
 
 ghost use Rattle.std.specs.Prelude.{◌≡◌, ◌<◌, ◌+◌, ◌-◌, ◌^◌, ◌≤◌, length};
 ghost use Rattle.serde_json.specs.View.{view, items_view};
-ghost use Rattle.script_json.specs.Faults.{Gives, placed};
+ghost use Rattle.script_json.specs.Faults.{GivesPart, placed};
 ghost use Rattle.script_json.specs.InputReading.{amount_at, scroll_at, wheel_at, draw_at, frame_number, await_at, settle_at, input_fields_at, input_at, draws_after, inputs_at};
 
 use crate::fault::{ShapeFault, Stop};
@@ -139,7 +139,7 @@ fn placed_input(frames: u32, draws: u32, index: u32, value: &Value) -> Result<In
 /// The inputs, of which there are at most 65536, in a script of so many main frames.
 pub(crate) fn inputs(alloc: Global, frames: u32, values: &[Value]) -> Result<Vec<Input>, Stop>
     requires { length values.now ≤ 65536 }
-    ensures { Gives (λ v. v.items) result (inputs_at frames 0 0 (items_view values.now)) }
+    ensures { GivesPart (λ v. v.items) result (inputs_at frames 0 0 (items_view values.now)) }
 {
     let mut inputs = Vec::with_capacity(alloc, values.len())?;
     let mut draws = 0;

@@ -3,10 +3,10 @@
 ghost use Rattle.std.specs.Prelude.{◌≡◌, ◌≤◌, length, option_and_then, codes, true, IfOk};
 ghost use Rattle.serde_json.specs.Find.{get, as_str};
 ghost use Rattle.serde_json.specs.View.{view, items_view};
-ghost use Rattle.script_fields.specs.Faults.{seen};
+ghost use Rattle.script_fields.specs.Faults.{viewed_or_fault};
 ghost use Rattle.model_history.specs.Ranges.{longest_side, is_in_ranges, are_short};
 ghost use Rattle.model_history.specs.Scripts.{script_of};
-ghost use Rattle.script_json.specs.Faults.{Gives, placed};
+ghost use Rattle.script_json.specs.Faults.{GivesPart, placed};
 ghost use Rattle.script_json.specs.Reading.{priority_named, priority_at, head_at, lists_at, parts_at};
 ghost use Rattle.script_json.specs.Causes.{PartsCause};
 
@@ -90,7 +90,7 @@ struct Lists<'a> {
 // The last two fields of the top object, then further fields.
 #[tactic(auto, unfolding(crate::specs::Reading::lists_at))]
 fn lists_of(value: &Value) -> Result<Lists<'_>, FieldFault>
-    ensures value { seen (λ l. record { main = items_view l.main.now; inputs = items_view l.inputs.now }) result ≡ lists_at (view value.now) }
+    ensures value { viewed_or_fault (λ l. record { main = items_view l.main.now; inputs = items_view l.inputs.now }) result ≡ lists_at (view value.now) }
     ensures few { IfOk result (λ l. (length l.main.now ≤ 4096) × (length l.inputs.now ≤ 65536)) }
 {
     let main = fields::list(value, "main", 4096, 10)?;
@@ -115,7 +115,7 @@ fn placed_head(value: &Value) -> Result<Head, ShapeFault>
 
 // The lists, or the fault's place.
 fn placed_lists(value: &Value) -> Result<Lists<'_>, ShapeFault>
-    ensures value { seen (λ l. record { main = items_view l.main.now; inputs = items_view l.inputs.now }) result ≡ placed 0 0 (lists_at (view value.now)) }
+    ensures value { viewed_or_fault (λ l. record { main = items_view l.main.now; inputs = items_view l.inputs.now }) result ≡ placed 0 0 (lists_at (view value.now)) }
     ensures few { IfOk result (λ l. (length l.main.now ≤ 4096) × (length l.inputs.now ≤ 65536)) }
 {
     match lists_of(value) {
@@ -131,7 +131,7 @@ fn placed_lists(value: &Value) -> Result<Lists<'_>, ShapeFault>
 // The parts of a script.
 #[tactic(auto, unfolding(crate::specs::Reading::parts_at))]
 fn parts(alloc: Global, value: &Value) -> Result<ScriptParts, Stop>
-    ensures value { Gives script_of result (parts_at (view value.now)) }
+    ensures value { GivesPart script_of result (parts_at (view value.now)) }
     ensures short { IfOk result (λ p. are_short (script_of p).main ≡ true) }
 {
     let head = placed_head(value)?;

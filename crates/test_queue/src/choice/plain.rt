@@ -3,11 +3,11 @@
 ghost use Rattle.std.specs.Prelude.{◌≡◌, ℕ, ◌+◌, ◌-◌, ◌<◌, ◌^◌, length, cond, map, filter, IfOk, Some};
 ghost use Rattle.tile_priority.specs.Ranks.{least};
 ghost use Rattle.tile_priority.specs.Choice as choosing;
-ghost use Rattle.tile_priority.specs.Choice.{victim_of, victim_key};
+ghost use Rattle.tile_priority.specs.Choice.{evictable_of, evictable_key};
 ghost use Rattle.tile_priority.specs.Alike as alike;
 
-use crate::choice::steps::{given_up, staying, with_ready, without};
-use crate::choice::victims::{keys_of_front, victims_in};
+use crate::choice::steps::{evicted_ranks, staying, with_ready, without};
+use crate::choice::evictables::{keys_of_front, evictables_in};
 use geom::{Keys, TileKey};
 use std::alloc::{AllocError, Global};
 use std::marker::Model;
@@ -81,7 +81,7 @@ impl PlainChoice {
         self.budget
     }
 
-    /// The choice once a key starts and these keys are given up for it. Fewer than 2^63 tiles are in
+    /// The choice once a key starts and these keys are evicted for it. Fewer than 2^63 tiles are in
     /// flight. An error is want of memory.
     pub fn started(
         &self,
@@ -90,10 +90,10 @@ impl PlainChoice {
         evicted: &Keys,
     ) -> Result<PlainChoice, AllocError>
         requires { self.now.in_flight < 2 ^ 63 }
-        ensures { IfOk result (λ next. next ≡ alike.started self.now key evicted.now) }
+        ensures { IfOk result (λ next. next ≡ alike.choice_after_start self.now key evicted.now) }
     {
         let mut wanted = without(alloc, self.wanted.as_slice(), key)?;
-        let again = given_up(alloc, self.ready.as_slice(), evicted)?;
+        let again = evicted_ranks(alloc, self.ready.as_slice(), evicted)?;
         wanted.extend_from_slice(again.as_slice())?;
         let ready = staying(alloc, self.ready.as_slice(), evicted)?;
         Ok(PlainChoice {
@@ -137,22 +137,22 @@ impl PlainChoice {
         self.with_one_more().saturating_sub(self.budget as u128)
     }
 
-    // Whether giving up this many tiles makes room for one more.
+    // Whether evicting this many tiles makes room for one more.
     fn is_enough(&self, n: usize) -> bool
         ensures { result ≡ choosing.is_enough self.now n }
     {
         self.with_one_more().saturating_sub(n as u128) <= self.budget as u128
     }
 
-    // The ready tiles that may be given up for a rank, the worst first.
+    // The ready tiles that may be evicted for a rank, the worst first.
     #[tactic(auto, using(crate::proofs::Worst::worst_is), unfolding(tile_priority::specs::Choice::worst_first))]
     fn worst_first(&self, alloc: Global, rank: Rank) -> Result<Vec<ReadyTile>, AllocError>
-        ensures { IfOk result (λ all. map victim_of all.items ≡ choosing.worst_first self.now rank) }
+        ensures { IfOk result (λ all. map evictable_of all.items ≡ choosing.worst_first self.now rank) }
     {
-        victims_in(alloc, rank.bin, self.ready.as_slice())
+        evictables_in(alloc, rank.bin, self.ready.as_slice())
     }
 
-    // Whether a wanted tile may start: it is visible, or giving up all of its victims makes room.
+    // Whether a wanted tile may start: it is visible, or evicting all that it may makes room.
     #[tactic(auto, unfolding(tile_priority::specs::Choice::may_start))]
     fn may_start(&self, alloc: Global, rank: Rank) -> Result<bool, AllocError>
         ensures { IfOk result (λ may. may ≡ choosing.may_start self.now rank) }
@@ -160,8 +160,8 @@ impl PlainChoice {
         match rank.bin {
             Bin::Now => Ok(true),
             _ => {
-                let victims = self.worst_first(alloc, rank)?;
-                Ok(self.is_enough(victims.len()))
+                let evictables = self.worst_first(alloc, rank)?;
+                Ok(self.is_enough(evictables.len()))
             }
         }
     }
@@ -205,11 +205,11 @@ impl PlainChoice {
         self.best_of(alloc, self.wanted.as_slice())
     }
 
-    /// The keys of those that are given up for a rank, the worst first. An error is want of memory.
+    /// The keys of those that are evicted for a rank, the worst first. An error is want of memory.
     pub fn evicted(&self, alloc: Global, rank: Rank) -> Result<Vec<TileKey>, AllocError>
-        ensures { IfOk result (λ keys. keys.items ≡ map victim_key (choosing.evicted self.now rank)) }
+        ensures { IfOk result (λ keys. keys.items ≡ map evictable_key (choosing.evicted self.now rank)) }
     {
-        let victims = self.worst_first(alloc, rank)?;
-        keys_of_front(alloc, victims.as_slice(), self.over())
+        let evictables = self.worst_first(alloc, rank)?;
+        keys_of_front(alloc, evictables.as_slice(), self.over())
     }
 }

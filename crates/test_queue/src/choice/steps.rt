@@ -27,8 +27,8 @@ pub(crate) fn without(alloc: Global, ranks: &[Rank], key: TileKey) -> Result<Vec
         .collect(alloc)
 }
 
-/// The ranks of those of the tiles whose keys are given up. An error is want of memory.
-pub(crate) fn given_up(
+/// The ranks of those of the tiles whose keys are evicted. An error is want of memory.
+pub(crate) fn evicted_ranks(
     alloc: Global,
     ready: &[ReadyTile],
     evicted: &Keys,
@@ -42,7 +42,7 @@ pub(crate) fn given_up(
         .collect(alloc)
 }
 
-/// The tiles whose keys are not given up. An error is want of memory.
+/// The tiles whose keys are not evicted. An error is want of memory.
 pub(crate) fn staying(
     alloc: Global,
     ready: &[ReadyTile],

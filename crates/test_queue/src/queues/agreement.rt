@@ -19,7 +19,7 @@ fn are_wanted(queue: &CheckedQueue, most: u32) -> Result<bool, StepFault> {
     Ok(ranks.as_slice() == &all.as_slice()[..some])
 }
 
-/// Whether the keys that are given up for a key are the definition's: none where it is not wanted.
+/// Whether the keys that are evicted for a key are the definition's: none where it is not wanted.
 fn are_evicted(queue: &CheckedQueue, key: TileKey) -> Result<bool, StepFault> {
     let keys = queue.queue().evicted(key)?;
     for &rank in queue.plain().wanted() {
@@ -32,7 +32,7 @@ fn are_evicted(queue: &CheckedQueue, key: TileKey) -> Result<bool, StepFault> {
 }
 
 /// Whether the queue answers as the definitions say: its first key, its first wanted ranks, and what is
-/// given up for this key.
+/// evicted for this key.
 pub(crate) fn agrees(queue: &CheckedQueue, most: u32, key: TileKey) -> Result<bool, StepFault> {
     let first = is_first(queue)?;
     let wanted = are_wanted(queue, most)?;

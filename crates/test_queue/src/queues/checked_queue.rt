@@ -38,10 +38,10 @@ impl Model for CheckedQueue {
 
 /// What a start took.
 #[derive(Clone, Copy, Debug)]
-pub(crate) struct Started {
+pub(crate) struct StartCost {
     /// How long the queue took.
     pub(crate) took: Duration,
-    /// How many keys were given up.
+    /// How many keys were evicted.
     pub(crate) evicted: usize,
 }
 
@@ -83,7 +83,7 @@ fn start(
     queue: &mut RasterQueue,
     plain: &PlainChoice,
     key: TileKey,
-) -> Result<(PlainChoice, Started), StepFault>
+) -> Result<(PlainChoice, StartCost), StepFault>
     requires { Alike queue.old plain.now }
     ensures ok { IfOk result (λ next. Alike queue.new next.0) }
     ensures err { OnErr result (queue.new ≡ queue.old) }
@@ -102,7 +102,7 @@ fn start(
     queue.started(key, &evicted);
     let took = asked.saturating_add(since(rt, begin));
     let evicted = evicted.len();
-    Ok((next, Started { took, evicted }))
+    Ok((next, StartCost { took, evicted }))
 }
 
 /// Makes a tile, and gives the choice after that.
@@ -164,7 +164,7 @@ impl CheckedQueue {
     }
 
     /// Starts a key that is wanted.
-    pub(crate) fn start(&mut self, rt: &HostRuntime, key: TileKey) -> Result<Started, StepFault> {
+    pub(crate) fn start(&mut self, rt: &HostRuntime, key: TileKey) -> Result<StartCost, StepFault> {
         let (next, started) = start(rt, &mut self.queue, &self.plain, key)?;
         self.plain = next;
         Ok(started)

@@ -1,7 +1,7 @@
 //! Whether a call of the queue may be made: its conditions, tested on the choice that the queue stands for.
 
 ghost use Rattle.std.specs.Prelude.{◌≡◌, ◌≤◌, ◌++◌, map, IsTrue, IfOk, IfSome, OnOk};
-ghost use Rattle.geom.specs.KeyLists.{has_key, AreDistinct};
+ghost use Rattle.geom.specs.KeyLists.{has_key, AreDistinctKeys};
 ghost use Rattle.tile_queue.specs.Queues.{rank_key, tile_key, EachKeyOnce, IsNew};
 ghost use Rattle.test_queue.specs.Checks.{all_keys};
 
@@ -49,7 +49,7 @@ fn keys_of(alloc: Global, plain: &PlainChoice) -> Result<Vec<TileKey>, AllocErro
 
 /// Whether no key stands twice.
 fn are_distinct(keys: &[TileKey]) -> bool
-    ensures { IsTrue result → AreDistinct keys.now }
+    ensures { IsTrue result → AreDistinctKeys keys.now }
 {
     let mut rest = keys;
     while let Some((key, later)) = rest.split_first() {

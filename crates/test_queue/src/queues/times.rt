@@ -13,7 +13,7 @@ use tile_priority::{Bin, Rank, ReadyTile};
 pub(crate) enum Order {
     /// Bins and distances are mixed, and the first key starts.
     Mixed,
-    /// The first key starts; what is given up for it is wanted again in the middle of the wanted ones, and
+    /// The first key starts; what is evicted for it is wanted again in the middle of the wanted ones, and
     /// its tile stands in the middle of the ready ones.
     Middle,
     /// As mixed, and the worst wanted key starts.
@@ -22,17 +22,17 @@ pub(crate) enum Order {
 
 /// How long the calls took.
 #[derive(Clone, Copy, Debug)]
-pub(crate) struct Times {
+pub(crate) struct QueueTimes {
     /// A new choice, the shortest of several.
     pub(crate) rebuild: Duration,
     /// Many looks at the first key.
     pub(crate) looks: Duration,
-    /// All pairs of a start and its end: the first key, what is given up for it, its start, and its tile
+    /// All pairs of a start and its end: the first key, what is evicted for it, its start, and its tile
     /// made.
     pub(crate) pairs: Duration,
     /// How many pairs there were.
     pub(crate) count: u32,
-    /// How many keys were given up for them.
+    /// How many keys were evicted for them.
     pub(crate) evicted: usize,
 }
 
@@ -127,7 +127,7 @@ fn look(rt: &HostRuntime, queue: &CheckedQueue) -> Result<Duration, StepFault> {
     Ok(if sum == 1 { Duration::ZERO } else { took })
 }
 
-impl Times {
+impl QueueTimes {
     /// Starts a tile and makes it, where one may start.
     fn pair(
         &mut self,
@@ -154,14 +154,14 @@ pub(crate) fn queue_times(
     order: Order,
     tiles: u32,
     pairs: u32,
-) -> Result<Times, StepFault> {
+) -> Result<QueueTimes, StepFault> {
     let mut queue = CheckedQueue::new(rt.alloc());
     let mut rebuild = Duration::MAX;
     for _turn in 0..8 {
         let choice = choice_of(rt.alloc(), order, tiles)?;
         rebuild = rebuild.min(queue.rebuild(rt, choice)?);
     }
-    let mut times = Times {
+    let mut times = QueueTimes {
         rebuild,
         looks: look(rt, &queue)?,
         pairs: Duration::ZERO,

@@ -22,7 +22,7 @@ pub(crate) struct Counts {
     pub(crate) rebuilds: u64,
     /// How many were starts.
     pub(crate) starts: u64,
-    /// How many keys were given up for them.
+    /// How many keys were evicted for them.
     pub(crate) evicted: u64,
     /// How many tiles were made.
     pub(crate) finishes: u64,

@@ -118,7 +118,7 @@ fn text_of(alloc: Global, keys: &[TileKey]) -> Result<String, AllocError> {
     Ok(text)
 }
 
-/// The answer to `first`, the key that starts first, or to `evicted KEY`, the keys that are given up for it.
+/// The answer to `first`, the key that starts first, or to `evicted KEY`, the keys that are evicted for it.
 pub(crate) fn answer(
     alloc: Global,
     queue: &RasterQueue,

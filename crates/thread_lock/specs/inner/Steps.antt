@@ -2,28 +2,28 @@
 use Rattle.std.specs.Prelude.{◌≡◌, ◌≢◌, ◌⊎◌, ℕ, ◌+◌, ◌<◌, ◌≤◌, max, true, false, List, [], ◌∷◌, ◌++◌, length, Option, Some, None}
 use mathlib.Core.List.{IsPrefix}
 use Rattle.atomic_table.specs.Table.{Me, Step, rest}
-use Rattle.thread_lock.specs.declared.board.View.{View}
+use Rattle.thread_lock.specs.declared.board.PassView.{PassView}
 use Rattle.thread_lock.specs.declared.board.Old.{Old}
-use Rattle.thread_lock.specs.Lists.{own, gained}
+use Rattle.thread_lock.specs.Lists.{entries_by, gained}
 
 -- a seat: what its pass knows, and the slot if it is out with it
 abbrev pub Who : Type 0 → Type 0 → Type 0 → Type 0
-Who M E T = Me (Option T) (View M E)
+Who M E T = Me (Option T) (PassView M E)
 
 module _ {M E : Type 0} where
   -- what the holder knows once it has found the value
-  abbrev pub sees : List (ℕ × E) → View M E → View M E
+  abbrev pub sees : List (ℕ × E) → PassView M E → PassView M E
   sees history v = record v { seen = history; holds = true; taken = v.taken + 1 }
 
   -- what the holder knows once the history is this: it made what the history has beyond the seen
-  abbrev pub gains : List (ℕ × E) → View M E → View M E
+  abbrev pub gains : List (ℕ × E) → PassView M E → PassView M E
   gains history v = record v { seen = history; mine = v.mine ++ gained v.seen history }
 
 module _ {M E T : Type 0} where
   -- The pass has the turn, with the value: what it saw is where the history began, the stem is as it knew it, and what it made is all that the history has of its number
   abbrev pub Took : (T → M) → (T → List (ℕ × E)) → Who M E T → Who M E T → Type 0
   Took stem_of history_of m m' = (x : T) × (m' ≡ (sees (history_of x) m.0, (0, Some x) ∷ m.1)) × IsPrefix m.0.seen (history_of x) × (m.0.stem ≡ Some (stem_of x))
-      × ((n : ℕ) → m.0.number ≡ Some n → m.0.mine ≡ own n (history_of x))
+      × ((n : ℕ) → m.0.number ≡ Some n → m.0.mine ≡ entries_by n (history_of x))
 
   -- the turn was taken, and the pass counts that
   abbrev pub Missed : Who M E T → Who M E T → Type 0
@@ -63,18 +63,18 @@ module _ {M E T : Type 0} where
 
 module _ {M E : Type 0} where
   -- a pass that was just made of another, and has no number yet
-  abbrev pub newcomer : View M E → View M E
+  abbrev pub newcomer : PassView M E → PassView M E
   newcomer v = record v { number = None; mine = []; holds = false; taken = 0; busy = 0; olds = [] }
 
   -- what is kept of a pass that is taken in, if it has a number
-  abbrev pub old_at : Option ℕ → View M E → List (Old M E)
+  abbrev pub old_at : Option ℕ → PassView M E → List (Old M E)
   old_at None w = []
   old_at (Some n) w = record { stem = w.stem; number = n; seen = w.seen; mine = w.mine } ∷ []
 
   -- the pass v once it has taken in w
-  abbrev pub absorbed : View M E → View M E → View M E
+  abbrev pub absorbed : PassView M E → PassView M E → PassView M E
   absorbed v w = record v { known = max v.known w.known; olds = old_at w.number w ++ v.olds }
 
   -- the pass that was taken in
-  abbrev pub spent_view : View M E
+  abbrev pub spent_view : PassView M E
   spent_view = record { stem = None; number = None; most = 0; seen = []; mine = []; holds = false; taken = 0; busy = 0; known = 0; olds = [] }

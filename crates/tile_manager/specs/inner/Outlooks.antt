@@ -2,12 +2,12 @@
 use Rattle.std.specs.Prelude.{◌≡◌, ◌≤◌, Option, List, IfSome}
 use Rattle.geom.specs.declared.tile.TileKey.{TileKey}
 use Rattle.tile_priority.specs.Tiles.{Tile}
-use Rattle.tile_priority.specs.Alike.{Alike, started, finished}
+use Rattle.tile_priority.specs.Alike.{Alike, choice_after_start, finished}
 use Rattle.tile_queue.specs.Queues.{IsNew, MayStartWith}
 use Rattle.tile_manager.specs.declared.outlook.Outlook.{Outlook}
 use Rattle.tile_manager.specs.declared.outlook.Outlook.TheVariants as outlook
 
--- the key may start, where these keys are given up for it
+-- the key may start, where these keys are evicted for it
 abbrev pub MayStartNext : Outlook → TileKey → List TileKey → Type 0
 MayStartNext (outlook.Queue c) q ks = MayStartWith c q ks
 MayStartNext (outlook.Ranks r) q ks = Unit {0}
@@ -15,7 +15,7 @@ MayStartNext outlook.Unseen q ks = Unit {0}
 
 -- a queue has started the key; anything else stays
 abbrev pub HasStarted : Outlook → TileKey → List TileKey → Outlook → Type 0
-HasStarted (outlook.Queue c) q ks (outlook.Queue d) = Alike d (started c q ks)
+HasStarted (outlook.Queue c) q ks (outlook.Queue d) = Alike d (choice_after_start c q ks)
 HasStarted (outlook.Queue c) q ks _ = ⊥
 HasStarted (outlook.Ranks r) q ks new = new ≡ outlook.Ranks r
 HasStarted outlook.Unseen q ks new = new ≡ outlook.Unseen

@@ -2,7 +2,7 @@
 use Rattle.std.specs.Prelude.{◌≡◌, ℕ, List, length, Option}
 use Rattle.std.specs.List.Sorted.{IsSorted}
 use Rattle.geom.specs.declared.tile.TileKey.{TileKey}
-use Rattle.geom.specs.KeyLists.{has_key, AreDistinct}
+use Rattle.geom.specs.KeyLists.{has_key, AreDistinctKeys}
 use Rattle.geom.specs.KeyOrder.{key_cmp}
 use Rattle.tile_store.specs.Stores.{Store, is_in_flight}
 use Rattle.model_history.specs.declared.history.Entry.{Entry}
@@ -14,7 +14,7 @@ use Rattle.tile_ranks.specs.SeenTrees.{SeenTreeModel, IsSeenWhere}
 
 -- the ready keys after this past are these, each once, in key order; the store's keys in flight are those after the past, so many; and the pinned keys are these
 pub record AreTilesAt (s : ScriptModel) (h : List Entry) (store : Store) (kept pins : List TileKey) (flying : ℕ) : Type 0 where
-  pub once : AreDistinct kept
+  pub once : AreDistinctKeys kept
   pub order : IsSorted key_cmp kept
   pub ready : (q : TileKey) → has_key kept q ≡ has_key (model.ready s h) q
   pub in_flight : (q : TileKey) → is_in_flight store q ≡ has_key (model.in_flight h) q

@@ -5,7 +5,7 @@ use Rattle.geom.specs.declared.rect.Point.{Point}
 use Rattle.geom.specs.declared.rect.Rect.{Rect}
 use Rattle.geom.specs.declared.tile.Place.{Place}
 use Rattle.geom.specs.declared.tile.TileKey.{TileKey}
-use Rattle.geom.specs.Grids.{has, rect_of, places_touching}
+use Rattle.geom.specs.Grids.{has, rect_of_place, places_touching}
 use Rattle.geom.specs.Gaps.{shifted}
 use Rattle.tile_tiling.specs.Tiles.{Tiled, stamp_at, key_of}
 use Rattle.page_layers.specs.Layers.{PageLayer}
@@ -46,7 +46,7 @@ seen_has vs q = has_on (layer_at q.layer vs) q
 
 -- how a tile of the layer is seen
 abbrev pub tile_seen : SeenLayerModel → Place → Seen
-tile_seen v place = record { screen = shifted (rect_of v.grid place) v.by; clip = v.clip; draws = v.draws }
+tile_seen v place = record { screen = shifted (rect_of_place v.grid place) v.by; clip = v.clip; draws = v.draws }
 
 -- the rank of a key, where the layer has it
 abbrev pub layer_rank : Borders → Side → SeenLayerModel → TileKey → Option Rank

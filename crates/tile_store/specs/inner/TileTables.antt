@@ -9,7 +9,7 @@ use Rattle.slab.specs.Slab.{Slab, get}
 use Rattle.geom.specs.declared.tile.TileKey.{TileKey}
 use Rattle.geom.specs.KeyOrder.{key_cmp}
 use Rattle.tile_raster.specs.Images.{Image}
-use Rattle.tile_store.specs.declared.held.Held.{Held}
+use Rattle.tile_store.specs.declared.held.KeyedPlace.{KeyedPlace}
 use Rattle.tile_store.specs.declared.held.Tile.{Tile}
 use Rattle.geom.specs.KeyLists.{has_key}
 
@@ -33,21 +33,21 @@ abbrev pub shown : Tile → Option Image
 shown t = option_map (λ a. a.value) t.image
 
 -- the keys, each with the image at its place
-abbrev pub rows : (ℕ → Option Tile) → List Held → List (TileKey × Option Image)
+abbrev pub rows : (ℕ → Option Tile) → List KeyedPlace → List (TileKey × Option Image)
 rows tiles held = map (λ h. (h.key, option_and_then shown (tiles h.place))) held
 
 -- each of these keys is below the key
-abbrev pub Before : TileKey → List Held → Type 0
+abbrev pub Before : TileKey → List KeyedPlace → Type 0
 Before k [] = Unit {0}
 Before k (h ∷ hs) = (key_cmp h.key k ≡ Less) × Before k hs
 
 -- each of these keys is above the key
-abbrev pub After : TileKey → List Held → Type 0
+abbrev pub After : TileKey → List KeyedPlace → Type 0
 After k [] = Unit {0}
 After k (h ∷ hs) = (key_cmp k h.key ≡ Less) × After k hs
 
 -- the keys rise
-abbrev pub Rises : List Held → Type 0
+abbrev pub Rises : List KeyedPlace → Type 0
 Rises [] = Unit {0}
 Rises (h ∷ hs) = After h.key hs × Rises hs
 
@@ -56,21 +56,21 @@ abbrev pub HasTileOf : (ℕ → Option Tile) → ℕ → TileKey → Type 0
 HasTileOf tiles place key = option_map (λ t. t.key) (tiles place) ≡ Some key
 
 -- the place of each key has the tile of this key
-abbrev pub AreKept : (ℕ → Option Tile) → List Held → Type 0
+abbrev pub AreKept : (ℕ → Option Tile) → List KeyedPlace → Type 0
 AreKept tiles [] = Unit {0}
 AreKept tiles (h ∷ hs) = HasTileOf tiles h.place h.key × AreKept tiles hs
 
 -- the key stands at this index
-pub record StandsAt (held : List Held) (key : TileKey) (at : ℕ) : Type 0 where
+pub record StandsAt (held : List KeyedPlace) (key : TileKey) (at : ℕ) : Type 0 where
   pub in_range : at < length held
-  pub one : Held
+  pub one : KeyedPlace
   pub here : drop at held ≡ one ∷ drop (suc at) held
   pub is_key : one.key ≡ key
   pub before : Before key (take at held)
   pub after : After key (drop (suc at) held)
 
 -- the key would go to this index
-pub record IsGapFor (held : List Held) (key : TileKey) (at : ℕ) : Type 0 where
+pub record IsGapFor (held : List KeyedPlace) (key : TileKey) (at : ℕ) : Type 0 where
   pub in_range : at ≤ length held
   pub before : Before key (take at held)
   pub after : After key (drop at held)
@@ -81,17 +81,17 @@ room list_capacity count slab_capacity tiles =
     min (list_capacity - count) (min (slab_capacity - tiles) (4294967295 - count))
 
 -- the keys rise, each has its tile, and they are fewer than 2^32
-pub record IsTileTable (tiles : Slab Tile) (held : List Held) : Type 0 where
+pub record IsTileTable (tiles : Slab Tile) (held : List KeyedPlace) : Type 0 where
   pub rises : Rises held
   pub kept : AreKept (get tiles) held
   pub few : length held ≤ 4294967295
 
 -- the mark says whether the key is live
-abbrev pub marked : (TileKey → Bool) → Held → Held
+abbrev pub marked : (TileKey → Bool) → KeyedPlace → KeyedPlace
 marked live h = record h { live = live h.key }
 
 -- this key gets another mark
-abbrev pub marked_one : TileKey → Bool → Held → Held
+abbrev pub marked_one : TileKey → Bool → KeyedPlace → KeyedPlace
 marked_one key live h = record h { live = if eq_by_cmp key_cmp h.key key then live else h.live }
 
 -- the mark of the keys of a list, and of all others the opposite
@@ -104,14 +104,14 @@ is_made None = false
 is_made (Some t) = is_some t.image
 
 -- the keys whose tiles have an image
-abbrev pub made_keys : (ℕ → Option Tile) → List Held → List TileKey
+abbrev pub made_keys : (ℕ → Option Tile) → List KeyedPlace → List TileKey
 made_keys tiles held = map (λ h. h.key) (filter (λ h. is_made (tiles h.place)) held)
 
 -- the key is marked, or its image is being made
-abbrev pub stays : (ℕ → Option Tile) → Held → Bool
+abbrev pub stays : (ℕ → Option Tile) → KeyedPlace → Bool
 stays tiles h = h.live || not (is_made (tiles h.place))
 
 -- the place of each key has what it had
-abbrev pub AreSame : (ℕ → Option Tile) → (ℕ → Option Tile) → List Held → Type 0
+abbrev pub AreSame : (ℕ → Option Tile) → (ℕ → Option Tile) → List KeyedPlace → Type 0
 AreSame old new [] = Unit {0}
 AreSame old new (h ∷ hs) = (new h.place ≡ old h.place) × AreSame old new hs

@@ -1,13 +1,13 @@
 -- What a write of one stamp changes.
 use Rattle.std.specs.Prelude.{◌≡◌, ◌<◌, ℕ, ◌+◌, ◌*◌, nat_le, nat_lt, Bool, true, ◌&&◌, if◌then◌else◌, List, length, slice_index}
-use Rattle.geom.specs.declared.cut.Run.{Run}
+use Rattle.geom.specs.declared.cut.IndexRange.{IndexRange}
 use Rattle.geom.specs.declared.tile.Place.{Place}
 use Rattle.geom.specs.Sides.{Sides}
 use Rattle.geom.specs.Grids.{has}
 use Rattle.tile_tiling.specs.Tiles.{index_of}
 
 -- the number is one of the run
-abbrev pub in_run : Run → ℕ → Bool
+abbrev pub in_run : IndexRange → ℕ → Bool
 in_run r k = nat_le r.first k && nat_lt k r.end
 
 -- from one index on and below another the stamp stands, elsewhere what was there

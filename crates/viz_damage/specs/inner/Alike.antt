@@ -2,7 +2,7 @@
 use Rattle.std.specs.Prelude.{◌≡◌, ℕ, ◌+◌, take, ℤ, false, true, List, [], ◌∷◌, ◌++◌, slice_index_or}
 use Rattle.geom.specs.declared.Rect.{Rect}
 use Rattle.geom.specs.Covers.{covers}
-use Rattle.geom.specs.Common.{nothing}
+use Rattle.geom.specs.Common.{empty_rect}
 use Rattle.region.specs.Points.{covered}
 use Rattle.pixel.specs.Colours.{Parts, clear}
 use Rattle.page_display_list.specs.declared.Item.{Item}
@@ -46,7 +46,7 @@ GoOnAlike qs i rs j =
 -- at a point that the reach of a pass does not cover the pass is transparent
 abbrev pub ClearOutside : List Rect → List Parts → ℤ → ℤ → Type 0
 ClearOutside reaches passes x y =
-    (p : ℕ) → covers (slice_index_or reaches p nothing) x y ≡ false → slice_index_or passes p clear ≡ clear
+    (p : ℕ) → covers (slice_index_or reaches p empty_rect) x y ≡ false → slice_index_or passes p clear ≡ clear
 
 -- outside the area quads change nothing, where the passes that they draw as groups have these reaches
 abbrev pub ActWithin : List Rect → List Rect → List QuadView → Type 0

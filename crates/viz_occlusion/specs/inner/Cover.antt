@@ -3,14 +3,14 @@ use Rattle.std.specs.Prelude.{◌≡◌, ◌≢◌, ℕ, ◌+◌, ◌<◌, ℤ, 
 use Rattle.geom.specs.declared.Rect.{Rect}
 use Rattle.geom.specs.Covers.{covers}
 use Rattle.region.specs.Points.{covered}
-use Rattle.tile_raster.specs.Images.{Image, shown}
+use Rattle.tile_raster.specs.Images.{Image, list_colour}
 use Rattle.viz_scene.specs.declared.Quad.{Quad}
 use Rattle.viz_scene.specs.Views.{QuadView, tiled, plain, grouped, quads_view}
 use Rattle.viz_scene.specs.Opaque.{IsOpaque, LiesOn, IsCovered}
 use Rattle.viz_scene.specs.Sound.{IsTaken}
 use Rattle.viz_scene.specs.Areas.{IsOnScreen, IsUnion}
 use Rattle.viz_occlusion.specs.declared.cover.Joint.{Joint}
-use Rattle.viz_occlusion.specs.declared.opaque.Part.{Part}
+use Rattle.viz_occlusion.specs.declared.opaque.ImagePart.{ImagePart}
 use Rattle.viz_occlusion.specs.Culled.{AreKept}
 
 -- the quad lies on a screen, and the part of an image that it shows in the image
@@ -63,17 +63,17 @@ abbrev pub HidesNothing : QuadView → Type 0
 HidesNothing q = (x y : ℤ) → IsOpaque q → LiesOn x y q → ⊥
 
 -- each pixel of a part of an image has alpha 255
-abbrev pub IsOpaquePart : Image → Part → Type 0
+abbrev pub IsOpaquePart : Image → ImagePart → Type 0
 IsOpaquePart image part =
-    (x y : ℕ) → x < part.w → y < part.h → (shown image.list image.rect (part.left + x) (part.top + y)).a ≡ 255
+    (x y : ℕ) → x < part.w → y < part.h → (list_colour image.list image.rect (part.left + x) (part.top + y)).a ≡ 255
 
 -- a pixel of a part of an image has another alpha
-pub record HasOtherAlpha (image : Image) (part : Part) : Type 0 where
+pub record HasOtherAlpha (image : Image) (part : ImagePart) : Type 0 where
   pub x : ℕ
   pub y : ℕ
   pub across : x < part.w
   pub down : y < part.h
-  pub other : (shown image.list image.rect (part.left + x) (part.top + y)).a ≢ 255
+  pub other : (list_colour image.list image.rect (part.left + x) (part.top + y)).a ≢ 255
 
 -- a quad was kept or left out as it has to be, whatever is behind it: the area and the quads that were kept, last first
 pub record IsPassed (q : QuadView) (old_cover new_cover : List Rect) (old_kept new_kept : List Quad) : Type 0 where

@@ -4,12 +4,12 @@ use Rattle.geom.specs.declared.rect.Rect.{Rect}
 use Rattle.pixel.specs.Colours.{Parts}
 use Rattle.viz_scene.specs.Views.{QuadView}
 use Rattle.viz_scene.specs.Pixels.{quads_over}
-use Rattle.viz_scene.specs.Sound.{Fits}
+use Rattle.viz_scene.specs.Sound.{QuadFits}
 
 -- in a pass where the second quads may stand the first may too, and they show the same at each point
 pub record ActAs (rs qs : List QuadView) : Type 0 where
-  pub fit : (w h i : ℕ) → All (Fits w h i) qs → All (Fits w h i) rs
-  pub shows : (w h i : ℕ) → All (Fits w h i) qs → (passes : List Parts) (x y : ℤ) (below : Parts) → quads_over passes x y below rs ≡ quads_over passes x y below qs
+  pub fit : (w h i : ℕ) → All (QuadFits w h i) qs → All (QuadFits w h i) rs
+  pub shows : (w h i : ℕ) → All (QuadFits w h i) qs → (passes : List Parts) (x y : ℤ) (below : Parts) → quads_over passes x y below rs ≡ quads_over passes x y below qs
 
 -- the second rect begins where the first ends, in the same rows, and the third is both
 pub record IsBeside (r s both : Rect) : Type 0 where

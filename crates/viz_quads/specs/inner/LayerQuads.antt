@@ -5,7 +5,7 @@ use Rattle.geom.specs.declared.rect.Rect.{Rect}
 use Rattle.geom.specs.declared.tile.Place.{Place}
 use Rattle.geom.specs.Common.{common}
 use Rattle.geom.specs.Gaps.{shifted}
-use Rattle.geom.specs.Grids.{rect_of}
+use Rattle.geom.specs.Grids.{rect_of_place}
 use Rattle.geom.specs.Sides.{Sides}
 use Rattle.pixel.specs.Colours.{Parts}
 use Rattle.page_properties.specs.Placement.{translation, clip_of}
@@ -14,7 +14,7 @@ use Rattle.viz_scene.specs.Views.{QuadView, tiled, plain}
 use Rattle.page_layers.specs.Layers.{PageLayer}
 use Rattle.page_layers.specs.Pages.{Page}
 use Rattle.tile_visible.specs.Visible.{viewport, grid_of, cut_by}
-use Rattle.viz_quads.specs.Shown.{Tile, place_named, own_tiles}
+use Rattle.viz_quads.specs.ShownTiles.{PageTile, place_of_tile, own_tiles}
 
 -- a layer on the screen: its grid, how far it is moved, the part of the viewport that its clip lets through, and its background colour
 pub record Spot : Type 0 where
@@ -33,7 +33,7 @@ spot_of p offset l = record {
 
 -- where a place of the layer stands on the screen, and the part of it that is drawn
 abbrev pub screen_of : Spot → Place → Rect
-screen_of s place = shifted (rect_of s.grid place) s.by
+screen_of s place = shifted (rect_of_place s.grid place) s.by
 
 abbrev pub drawn_part : Spot → Place → Rect
 drawn_part s place = common (screen_of s place) s.clip
@@ -47,12 +47,12 @@ abbrev pub quad_for : Option Image → Parts → Rect → Rect → QuadView
 quad_for None colour part whole = plain part colour
 quad_for (Some image) colour part whole = tiled image part (corner part whole)
 
-abbrev pub quad_of : Spot → Tile → QuadView
-quad_of s t = quad_for t.image s.colour (drawn_part s (place_named t)) (screen_of s (place_named t))
+abbrev pub quad_of : Spot → PageTile → QuadView
+quad_of s t = quad_for t.image s.colour (drawn_part s (place_of_tile t)) (screen_of s (place_of_tile t))
 
 -- the quads of the layer with this id, in the order of its tiles
-abbrev pub quads_on : Spot → ℕ → List Tile → List QuadView
+abbrev pub quads_on : Spot → ℕ → List PageTile → List QuadView
 quads_on s id tiles = map (quad_of s) (own_tiles id tiles)
 
-abbrev pub layer_quads : Page → (ℕ → Point) → List Tile → PageLayer → List QuadView
+abbrev pub layer_quads : Page → (ℕ → Point) → List PageTile → PageLayer → List QuadView
 layer_quads p offset tiles l = quads_on (spot_of p offset l) l.id tiles

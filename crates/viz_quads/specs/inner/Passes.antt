@@ -6,7 +6,7 @@ use Rattle.pixel.specs.Colours.{Parts, blend, clear}
 use Rattle.page_layers.specs.Painting.{folded, items_at}
 use Rattle.viz_scene.specs.Views.{QuadView, quads_view}
 use Rattle.viz_scene.specs.Pixels.{quads_over, passes_at}
-use Rattle.viz_scene.specs.Sound.{Fits, AreSound}
+use Rattle.viz_scene.specs.Sound.{QuadFits, AreSound}
 use Rattle.viz_quads.specs.declared.parts.LayerParts.{LayerParts}
 use Rattle.viz_quads.specs.inner.Joins.{ActAs}
 
@@ -28,7 +28,7 @@ ActAsOne view qs = (passes : List Parts) (x y : ℤ) (below : Parts) → covers 
 -- a layer whose quads may stand in any pass, and act as one
 pub record IsLayer (w h : ℕ) (view : Rect) (l : LayerParts) : Type 0 where
   pub acts : ActAsOne view (own_quads l)
-  pub fit : All (Fits w h 0) (own_quads l)
+  pub fit : All (QuadFits w h 0) (own_quads l)
 
 -- the quads of each layer act as these
 abbrev pub HaveQuads : List (List QuadView) → List LayerParts → Type 0
@@ -46,6 +46,6 @@ pub record AreBuilt (w h : ℕ) (view : Rect) (depth : ℕ) (layers : List Layer
   pub added : List (List QuadView)
   pub grown : new ≡ old ++ added
   pub sound : AreSound w h (length old) added
-  pub fit : All (Fits w h (length new)) quads
+  pub fit : All (QuadFits w h (length new)) quads
   pub painted : (opacity : ℕ → ℕ) → HaveOpacities opacity layers → (x y : ℤ) → covers view x y ≡ true → (below : Parts)
       → quads_over (passes_at x y [] new) x y below quads ≡ folded opacity (items_at groups_of (own_colour x y) depth layers) below

@@ -1,7 +1,7 @@
 -- What is drawn into whole rows of a frame.
 use Rattle.std.specs.Prelude.{ℕ, ◌+◌, ◌*◌, ◌≤◌, ◌≡◌, pos, List, length, All}
 use Rattle.pixel.specs.Rows.{ArePremultiplied}
-use Rattle.pixel.specs.Surfaces.{IsInside, EachPixel, within}
+use Rattle.pixel.specs.Surfaces.{IsInside, EachPixel, within_rows}
 use Rattle.pixel.specs.declared.surface.Area.{Area}
 use Rattle.viz_scene.specs.Views.{SceneView}
 use Rattle.viz_scene.specs.Pixels.{scene_pixel}
@@ -17,7 +17,7 @@ pub record IsInBand (w : ℕ) (band : Band) (at : Area) (bytes : List ℕ) : Typ
 
 -- in an area the pixels of a band became those of a scene, and the others are what they were
 pub record IsBandDrawn (s : SceneView) (band : Band) (at : Area) (old new : List ℕ) : Type 0 where
-  pub pixels : EachPixel s.w band.rows (within at at.h (λ x y below. scene_pixel s (pos x) (pos (band.top + y)))) old new
+  pub pixels : EachPixel s.w band.rows (within_rows at at.h (λ x y below. scene_pixel s (pos x) (pos (band.top + y)))) old new
   pub premultiplied : ArePremultiplied old → ArePremultiplied new
 
 -- there are surfaces, and each has room for a strip of a scene

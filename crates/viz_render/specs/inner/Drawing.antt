@@ -6,9 +6,9 @@ use Rattle.pixel.specs.Colours.{Parts, blend, clear}
 use Rattle.pixel.specs.Rows.{pixel, ArePremultiplied}
 use Rattle.pixel.specs.Surfaces.{EachPixel}
 use Rattle.pixel.specs.declared.Area.{Area}
-use Rattle.page_display_list.specs.declared.Part.{Part}
+use Rattle.page_display_list.specs.declared.CoveredArea.{CoveredArea}
 use Rattle.page_display_list.specs.Bitmaps.{near, byte_count}
-use Rattle.tile_raster.specs.Images.{Image, shown}
+use Rattle.tile_raster.specs.Images.{Image, list_colour}
 use Rattle.viz_scene.specs.Views.{QuadView, tiled, plain, grouped}
 use Rattle.viz_scene.specs.Pixels.{quads_over, passes_at}
 use Rattle.viz_scene.specs.Sound.{IsTaken}
@@ -22,8 +22,8 @@ abbrev pub columns_from : Area → ℕ → ℕ → Area
 columns_from at c n = record { x = at.x + c; y = at.y; w = n; h = at.h }
 
 -- the pixel of an image that belongs to a pixel of a part of it: `left` and `above` count columns and rows of the image
-abbrev pub part_pixel : Image → Part → ℕ → ℕ → Parts
-part_pixel image part x y = shown image.list image.rect (x - part.at.x + part.left) (y - part.at.y + part.above)
+abbrev pub part_pixel : Image → CoveredArea → ℕ → ℕ → Parts
+part_pixel image part x y = list_colour image.list image.rect (x - part.at.x + part.left) (y - part.at.y + part.above)
 
 -- each pixel of an area was changed by `f`, which is told the point of the screen and what was there
 abbrev pub EachPoint : Rect → (ℤ → ℤ → Parts → Parts) → List ℕ → List ℕ → Type 0

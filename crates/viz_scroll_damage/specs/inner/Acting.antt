@@ -7,7 +7,7 @@ use Rattle.viz_scene.specs.Areas.{IsOnScreen}
 use Rattle.viz_scene.specs.declared.quad.Quad.{Quad}
 use Rattle.viz_scene.specs.Views.{QuadView, tiled, plain, grouped, quad_view, SceneView}
 use Rattle.viz_scene.specs.Pixels.{quads_over, scene_pixel}
-use Rattle.viz_scene.specs.Sound.{IsTaken, Fits}
+use Rattle.viz_scene.specs.Sound.{IsTaken, QuadFits}
 use Rattle.viz_scroll_damage.specs.Moved.{InRows}
 
 -- rows of a screen, and how many rows lower they are
@@ -38,7 +38,7 @@ AllActMoved by top end (p ∷ ps) (r ∷ rs) = ActMoved by top end p r × AllAct
 
 -- where quads may stand in a pass of a scene that has the rows, others may stand in it
 abbrev pub AlsoFit : ℤ → List QuadView → List QuadView → Type 0
-AlsoFit end qs rs = (w h n : ℕ) → end ≤ℤ pos h → All (Fits w h n) qs → All (Fits w h n) rs
+AlsoFit end qs rs = (w h n : ℕ) → end ≤ℤ pos h → All (QuadFits w h n) qs → All (QuadFits w h n) rs
 
 -- the same of each pass
 abbrev pub AllAlsoFit : ℤ → List (List QuadView) → List (List QuadView) → Type 0

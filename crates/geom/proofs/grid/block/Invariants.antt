@@ -2,7 +2,7 @@
 use Rattle.std.proofs.Common.{◌≡◌, ◌++◌, ◌-◌, map, flat_map}
 use Rattle.std.specs.List.{range_with_len}
 use Rattle.geom.specs.Grids.{place}
-use Rattle.geom.specs.Runs.{line}
+use Rattle.geom.specs.IndexRanges.{line}
 use Rattle.geom.proofs.grid.block.Given as goal
 
 abbrev pub invariant-loop-y : goal.invariant-loop-y

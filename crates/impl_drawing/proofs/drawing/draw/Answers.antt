@@ -2,8 +2,8 @@
 use Rattle.std.proofs.Common.{◌≡◌, map, ◌∙◌, ap}
 use Rattle.page_properties.specs.OffsetMap.{offset_at}
 use Rattle.page_layers.specs.TreePainting.{paint}
-use Rattle.viz_quads.specs.Shown.{tile_of, missing_keys}
-use Rattle.model_history.specs.Tiles.{missing}
+use Rattle.viz_quads.specs.ShownTiles.{tile_of, missing_keys}
+use Rattle.model_history.specs.Tiles.{missing_visible}
 use Rattle.impl_drawing.specs.Drawings.{held_tile}
 use Rattle.impl_drawing.proofs.HeldTiles.{missing_among, right_for}
 use Rattle.impl_drawing.proofs.drawing.draw.Goals as goal
@@ -25,5 +25,5 @@ pub returns-clause-pixels : goal.returns-clause-pixels
 returns-clause-pixels c = λ s h holds page offsets keys x y inside.
     let store = c.args.manager.now.store in
     let tiles = ap (map tile_of) c.as_slice-3.ensures.value ∙ (c.in_ok-tiles.ensures ∙ ap (map (held_tile store)) c.as_slice.ensures) in
-    let gone : missing_keys (map tile_of c.as_slice-3.result.now) ≡ missing s h = missing_among s h c.args.manager.now holds c.args.keys.now (map tile_of c.as_slice-3.result.now) keys tiles in
+    let gone : missing_keys (map tile_of c.as_slice-3.result.now) ≡ missing_visible s h = missing_among s h c.args.manager.now holds c.args.keys.now (map tile_of c.as_slice-3.result.now) keys tiles in
     c.in_ok-scene.ensures.pixels x y inside ∙ (λ i. paint (page i) (offsets i) (gone i) c.args.background x y)

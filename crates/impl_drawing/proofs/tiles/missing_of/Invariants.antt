@@ -1,6 +1,6 @@
 -- The keys of those of the tiles so far that have no image.
 use Rattle.std.proofs.Common.{◌≡◌, map, take}
-use Rattle.viz_quads.specs.Shown.{tile_of, missing_keys}
+use Rattle.viz_quads.specs.ShownTiles.{tile_of, missing_keys}
 use Rattle.impl_drawing.proofs.tiles.missing_of.Given as goal
 
 abbrev pub invariant-loop-tile : goal.invariant-loop-tile

@@ -1,6 +1,6 @@
 -- The tiles of the keys so far.
 use Rattle.std.proofs.Common.{◌≡◌, map, take}
-use Rattle.viz_quads.specs.Shown.{tile_of}
+use Rattle.viz_quads.specs.ShownTiles.{tile_of}
 use Rattle.impl_drawing.specs.Drawings.{held_tile}
 use Rattle.impl_drawing.proofs.tiles.shown_tiles.Given as goal
 

@@ -5,7 +5,7 @@ use Rattle.page_properties.specs.declared.nodes.ScrollNode.{ScrollNode}
 use Rattle.page_properties.specs.Trees.{Trees}
 use Rattle.page_properties.specs.Entries.{find}
 use Rattle.page_layers.specs.Pages.{Page}
-use Rattle.page_layers.specs.Effects.{clamped_in, value_of}
+use Rattle.page_layers.specs.Effects.{clamped_in, main_point}
 use Rattle.page_layers.proofs.NodeKeeps.{values-known, not_changed}
 use Rattle.model_history.proofs.frame.pull_one.Goals as goal
 
@@ -15,4 +15,4 @@ returns-in-None c =
     let lacks : is_some (find c.args.pull.scroller p.props.scrollers) ≡ false = ap (λ (t : Trees). is_some (find c.args.pull.scroller t.scrollers)) (sym c.props.ensures) ∙ ap (λ (o : Option ScrollNode). is_some o) (sym c.in-None.ensures) in
     let none : is_some (find c.args.pull.scroller p.values) ≡ false = values-known c.args.pull.scroller p.props.scrollers p.values c.is_page.ensures.values ∙ lacks in
     ap (λ (vs : List (ℕ × Point)). record p { values = vs })
-    (sym (not_changed c.args.pull.scroller (λ (v : Point). clamped_in (find c.args.pull.scroller p.props.scrollers) ((value_of p c.args.pull.scroller).x +ℤ c.args.pull.dx) ((value_of p c.args.pull.scroller).y +ℤ c.args.pull.dy)) p.values none))
+    (sym (not_changed c.args.pull.scroller (λ (v : Point). clamped_in (find c.args.pull.scroller p.props.scrollers) ((main_point p c.args.pull.scroller).x +ℤ c.args.pull.dx) ((main_point p c.args.pull.scroller).y +ℤ c.args.pull.dy)) p.values none))

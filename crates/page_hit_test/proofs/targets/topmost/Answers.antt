@@ -1,6 +1,6 @@
 -- One layer less is to be looked at.
 use Rattle.std.proofs.Common.{◌∙◌, refl, sym}
-use Rattle.geom.specs.Sides.{IsSide}
+use Rattle.geom.specs.Sides.{IsLayerSide}
 use Rattle.page_properties.specs.OffsetMap.{offset_at}
 use Rattle.page_properties.specs.Placement.{translation, draws}
 use Rattle.page_properties.proofs.Chains.{follow_the_parent}
@@ -34,7 +34,7 @@ loop-layer-preserved c =
     let s = step_down parts_of (covers_point c.args.tree.now (offset_at c.args.offsets.now) c.args.p.x c.args.p.y) c.loop-layer.rest.now c.in-Some.below.now c.in-Some.layer.now c.covering_id-id.result c.in-Some.ensures.cases.0 c.covering_id-id.ensures.value in
     record {
       same = sym (s ∙ passed c.covering_id-id.result _ c.if-id-ne0.false) ∙ c.loop-layer.invariant.same;
-      sizes = all_front (λ (w : Layer). IsSide w.w × IsSide w.h) c.loop-layer.rest.now c.in-Some.below.now c.in-Some.layer.now c.in-Some.ensures.cases.0 c.loop-layer.invariant.sizes;
+      sizes = all_front (λ (w : Layer). IsLayerSide w.w × IsLayerSide w.h) c.loop-layer.rest.now c.in-Some.below.now c.in-Some.layer.now c.in-Some.ensures.cases.0 c.loop-layer.invariant.sizes;
       places = c.covering_id-id.ensures.places;
       clips = c.covering_id-id.ensures.clips;
       effects = c.covering_id-id.ensures.effects;

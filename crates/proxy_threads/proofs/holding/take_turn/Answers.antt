@@ -1,7 +1,7 @@
 -- The pass tells of the core that it found.
 use Rattle.std.proofs.Common.{◌≡◌, ◌+◌, ℕ, ◌∙◌, sym, ap, subst, arith}
 use mathlib.Core.List.{IsPrefix}
-use Rattle.thread_lock.specs.Lists.{own}
+use Rattle.thread_lock.specs.Lists.{entries_by}
 use Rattle.impl_log.specs.Runs.{Run}
 use Rattle.proxy_threads.specs.Seats.{Seat, pairs}
 use Rattle.proxy_threads.proofs.holding.take_turn.Goals as goal
@@ -22,7 +22,7 @@ returns g c =
       seen = ap (λ (z : Seat). z.seen) place ∙ sym c.take-core.ensures.seen;
       sees = record {
         began = subst (λ (r : Run). IsPrefix c.args.pass.seen (pairs r.entries)) (sym c.take-core.ensures.value) c.enter-held.ensures.seen;
-        own = ap (λ (a : ℕ). own a (pairs c.take-core.result.0.entries)) (sym (ap (λ (z : Seat). z.actor) entered)) ∙ (c.take-core.ensures.mine ∙ ap (λ (z : Seat). z.mine) entered);
+        own = ap (λ (a : ℕ). entries_by a (pairs c.take-core.result.0.entries)) (sym (ap (λ (z : Seat). z.actor) entered)) ∙ (c.take-core.ensures.mine ∙ ap (λ (z : Seat). z.mine) entered);
         origin = sym (ap (λ (z : Seat). z.stem) entered) ∙ c.take-core.ensures.stem;
         legal = c.is_legal.ensures.legal;
         accepted = c.is_legal.ensures.accepted;

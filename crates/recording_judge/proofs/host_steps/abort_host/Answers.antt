@@ -1,6 +1,6 @@
 -- The scrollers stand where the abort leaves them.
 use Rattle.std.proofs.Common.{refl, sym, subst}
-use Rattle.impl_scroll.specs.Standings.{StandingModel, Stands}
+use Rattle.impl_scroll.specs.Standings.{StandingModel, StandsForPast}
 use Rattle.model_steps.specs.Events.{abort}
 use Rattle.recording_judge.proofs.host_steps.abort_host.Goals as goal
 
@@ -15,11 +15,11 @@ aborted-requires c =
       frame = r.frame;
       accepted = r.accepted;
       legal = r.legal;
-      stands = subst (λ (st : StandingModel). Stands r.script r.past st) (sym c.standing.ensures) r.hosts.standing;
+      stands = subst (λ (st : StandingModel). StandsForPast r.script r.past st) (sym c.standing.ensures) r.hosts.standing;
       pages = c.pages.ensures r.script r.past r.hosts;
     }
 
 pub returns : goal.returns
 returns c = λ s n h a k legal hosts.
-    let stands = subst (λ (st : StandingModel). Stands s h st) (sym c.standing.ensures) hosts.standing in
+    let stands = subst (λ (st : StandingModel). StandsForPast s h st) (sym c.standing.ensures) hosts.standing in
     c.stand.ensures.keeps s h (abort a k) refl refl refl hosts (c.in_ok-standing.ensures s n h a k legal stands (c.pages.ensures s h hosts))

@@ -2,7 +2,7 @@
 use Rattle.std.proofs.Common.{◌≡◌, sym, ◌∙◌, ap, subst}
 use Rattle.std.specs.Prelude.{option_copied}
 use Rattle.model_history.specs.Frames.{pending, pending_page}
-use Rattle.impl_scroll.specs.Standings.{StandingModel, Stands}
+use Rattle.impl_scroll.specs.Standings.{StandingModel, StandsForPast}
 use Rattle.impl_scroll.proofs.InputFacts.{page_is}
 use Rattle.recording_judge.proofs.host_steps.activate_host.Goals as goal
 
@@ -18,7 +18,7 @@ activated-requires c =
       frame = r.frame;
       accepted = r.accepted;
       legal = r.legal;
-      stands = subst (λ (st : StandingModel). Stands r.script r.past st) (sym c.standing.ensures) r.hosts.standing;
+      stands = subst (λ (st : StandingModel). StandsForPast r.script r.past st) (sym c.standing.ensures) r.hosts.standing;
       page_is = page_is r.script r.past c.in-Some.page.now (pending r.past) (sym (ap option_copied c.in-Some.is) ∙ pages.pending);
     }
 
@@ -31,5 +31,5 @@ pub returns : goal.returns
 returns c = λ s n h a k legal hosts.
     let pages = c.pages.ensures s h hosts in
     let page : c.in-Some.page.now ≡ pending_page s h = page_is s h c.in-Some.page.now (pending h) (sym (ap option_copied c.in-Some.is) ∙ pages.pending) in
-    let stands = subst (λ (st : StandingModel). Stands s h st) (sym c.standing.ensures) hosts.standing in
+    let stands = subst (λ (st : StandingModel). StandsForPast s h st) (sym c.standing.ensures) hosts.standing in
     c.activate.ensures s n h a k c.args.moves.now legal hosts (c.in_ok-standing.ensures s n h a k legal stands page)

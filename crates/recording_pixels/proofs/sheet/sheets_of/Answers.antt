@@ -5,8 +5,8 @@ use Rattle.std.proofs.lemmas.Simd.{map-map}
 use Rattle.page_properties.specs.OffsetMap.{offset_at}
 use Rattle.page_layers.specs.declared.paint.Group.{Group}
 use Rattle.page_layers.specs.Layers.{PageLayer, parts_of}
-use Rattle.page_layers.specs.Paintings.{shown}
-use Rattle.page_layers.specs.TreePainting.{groups_in, opacity_in, colour_at}
+use Rattle.page_layers.specs.Paintings.{placed_colour}
+use Rattle.page_layers.specs.TreePainting.{groups_in, opacity_in, layer_colour_at}
 use Rattle.page_layers.proofs.Placing.{sizes}
 use Rattle.recording_pixels.specs.inner.Sheets.{SheetModel}
 use Rattle.recording_pixels.proofs.sheet.sheets_of.Goals as goal
@@ -21,10 +21,10 @@ returns c =
     let offset = offset_at c.args.offsets.now in
     record {
       colours = λ x y.
-          map-map (shown tree.view.tile x y) (λ (s : SheetModel). s.placed) sheets
+          map-map (placed_colour tree.view.tile x y) (λ (s : SheetModel). s.placed) sheets
           ∙ c.in_ok-sheets.ensures.colours x y
-          ∙ sym (map-map (colour_at tree offset c.args.missing.now x y) parts_of c.layers.result.now)
-          ∙ ap (λ (ls : List PageLayer). map (colour_at tree offset c.args.missing.now x y) ls) c.layers.ensures;
+          ∙ sym (map-map (layer_colour_at tree offset c.args.missing.now x y) parts_of c.layers.result.now)
+          ∙ ap (λ (ls : List PageLayer). map (layer_colour_at tree offset c.args.missing.now x y) ls) c.layers.ensures;
       groups =
           map-map (λ (gs : List Group). map (λ (g : Group). g.effect) gs) (λ (s : SheetModel). s.groups) sheets
           ∙ c.in_ok-sheets.ensures.groups

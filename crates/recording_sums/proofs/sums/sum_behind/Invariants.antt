@@ -1,10 +1,10 @@
 -- The sum so far and the bytes that are left give the sum of all.
 use Rattle.std.proofs.Common.{◌≡◌, ◌+◌, ◌%◌, ◌^◌, length}
-use Rattle.recording_sums.specs.Sums.{total}
+use Rattle.recording_sums.specs.Sums.{byte_sum}
 use Rattle.recording_sums.proofs.sums.sum_behind.Given as goal
 
 abbrev pub invariant-loop-rest : goal.invariant-loop-rest
-invariant-loop-rest l = (l.sum + total l.rest) % 2 ^ 64 ≡ (l.before + total l.bytes) % 2 ^ 64
+invariant-loop-rest l = (l.sum + byte_sum l.rest) % 2 ^ 64 ≡ (l.before + byte_sum l.bytes) % 2 ^ 64
 
 abbrev pub decreases-loop-rest : goal.decreases-loop-rest
 decreases-loop-rest l = length l.rest

@@ -9,8 +9,8 @@ pub returns : goal.returns
 returns c = record {
   keys = key_order;
   ranks = rank_order;
-  victims = worst_order;
+  evictables = worst_order;
   one_key = orders_fix key_cmp key_order;
   one_rank = orders_fix rank_cmp rank_order;
-  one_victim = orders_fix worst_cmp worst_order;
+  one_evictable = orders_fix worst_cmp worst_order;
 }

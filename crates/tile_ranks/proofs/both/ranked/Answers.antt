@@ -1,6 +1,6 @@
 use Rattle.std.proofs.Common.{◌≡◌, ◌++◌, List, map, filter_map, ap, sym, ◌∙◌, subst}
 use Rattle.std.specs.Prelude.{option_copied}
-use Rattle.geom.specs.KeyLists.{AreDistinct}
+use Rattle.geom.specs.KeyLists.{AreDistinctKeys}
 use Rattle.tile_priority.specs.declared.rank.Rank.{Rank}
 use Rattle.tile_priority.specs.declared.rank.Side.TheVariants as side
 use Rattle.tile_priority.specs.Ordered.{SameMembers}
@@ -35,6 +35,6 @@ returns-clause-once c =
     weaken c.with_alone.result
     (λ v e a p left right.
     let all : v.items ≡ ranks_both s o w = e ∙ (λ i. first i ++ second i) in
-    subst (λ (rs : List Rank). AreDistinct (map (λ (r : Rank). r.key) rs)) (sym all)
+    subst (λ (rs : List Rank). AreDistinctKeys (map (λ (r : Rank). r.key) rs)) (sym all)
     (ranked_once s c.is_accepted.ensures.accepted a p o w left right c.is_page_where.ensures c.is_page_where-2.ensures))
     c.with_alone.ensures

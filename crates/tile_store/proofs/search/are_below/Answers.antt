@@ -1,7 +1,7 @@
 -- The key before the index tells of those before it.
 use Rattle.std.proofs.Common.{◌≡◌, ◌-◌, suc, take, sym, ◌∙◌, ap, subst, arith}
 use Rattle.geom.specs.KeyOrder.{key_cmp}
-use Rattle.tile_store.specs.declared.held.Held.{Held}
+use Rattle.tile_store.specs.declared.held.KeyedPlace.{KeyedPlace}
 use Rattle.tile_store.specs.inner.TileTables.{Before}
 use Rattle.tile_store.proofs.KeyOrders.{told_less}
 use Rattle.tile_store.proofs.Searches.{below_before}
@@ -14,4 +14,4 @@ returns-in-Some-clause-before c = λ told.
     let here : suc (c.args.at - 1) ≡ c.args.at = omega (arith, c.if-at-eq0.false) in
     subst (λ n. Before c.args.key (take n held)) here
     (below_before held c.args.key (c.args.at - 1) c.requires there.0
-    (λ d. ap (λ (h : Held). key_cmp h.key c.args.key) (sym (there.1 d)) ∙ sym c.cmp.ensures ∙ told_less c.cmp.result (sym c.eq.ensures ∙ told)))
+    (λ d. ap (λ (h : KeyedPlace). key_cmp h.key c.args.key) (sym (there.1 d)) ∙ sym c.cmp.ensures ∙ told_less c.cmp.result (sym c.eq.ensures ∙ told)))

@@ -2,7 +2,7 @@
 use Rattle.std.proofs.Common.{◌≡◌, ◌<◌, ◌≤◌, ◌+◌, true, false, set, length, get_or, Option, Some, None, OnSome, IfNone, refl, sym, ◌∙◌, ap, subst, arith}
 use Rattle.std.proofs.lemmas.List.{get_or_default}
 use Rattle.slab.specs.Slab.{Slab, get, slab_len}
-use Rattle.tile_store.specs.declared.held.Held.{Held}
+use Rattle.tile_store.specs.declared.held.KeyedPlace.{KeyedPlace}
 use Rattle.tile_store.specs.declared.held.Tile.{Tile}
 use Rattle.tile_store.specs.inner.TileTables.{stays}
 use Rattle.tile_store.proofs.KeptRows.{Walked, walked_yes, walked_no, same_itself, stays_now}
@@ -31,8 +31,8 @@ loop-at-preserved c =
     let now = c.loop-at.held in
     let at = c.loop-at.at in
     let walked = c.loop-at.invariant in
-    let none : Held = record { key = record { layer = 0; x = 0; y = 0; stamp = 0 }; place = 0; live = false } in
-    let one : Held = get_or now at none in
+    let none : KeyedPlace = record { key = record { layer = 0; x = 0; y = 0; stamp = 0 }; place = 0; live = false } in
+    let one : KeyedPlace = get_or now at none in
     let within : at < length now = omega arith in
     let is : one ≡ get_or now at one = get_or_default now at none one within in
     let test = stays_now first tiles held now c.loop-at.front at walked within one is in

@@ -3,19 +3,19 @@ use Rattle.std.proofs.Common.{◌-◌, List, length, take, sym, subst}
 use Rattle.std.specs.Prelude.{All}
 use Rattle.viz_scene.specs.declared.Quad.{Quad}
 use Rattle.viz_scene.specs.Views.{quads_view}
-use Rattle.viz_scene.specs.Sound.{Fits}
+use Rattle.viz_scene.specs.Sound.{QuadFits}
 use Rattle.viz_damage.specs.inner.Alike.{DifferWithin}
 use Rattle.viz_damage.proofs.ListSteps.{fit_front, ends_joined}
 use Rattle.viz_damage.proofs.lists.add_changes.Goals as goal
 
 pub add_front_changes-requires-clause-old : goal.add_front_changes-requires-clause-old
 add_front_changes-requires-clause-old c =
-    subst (λ (qs : List Quad). All (Fits 2048 2048 (length c.args.reaches.now)) (quads_view qs)) (sym c.split_at.ensures.front)
+    subst (λ (qs : List Quad). All (QuadFits 2048 2048 (length c.args.reaches.now)) (quads_view qs)) (sym c.split_at.ensures.front)
     (fit_front (length c.args.reaches.now) c.args.old.now _ c.requires.old)
 
 pub add_front_changes-requires-clause-new : goal.add_front_changes-requires-clause-new
 add_front_changes-requires-clause-new c =
-    subst (λ (qs : List Quad). All (Fits 2048 2048 (length c.args.reaches.now)) (quads_view qs)) (sym c.split_at-2.ensures.front)
+    subst (λ (qs : List Quad). All (QuadFits 2048 2048 (length c.args.reaches.now)) (quads_view qs)) (sym c.split_at-2.ensures.front)
     (fit_front (length c.args.reaches.now) c.args.new.now _ c.requires.new)
 
 pub returns-clause-changes : goal.returns-clause-changes

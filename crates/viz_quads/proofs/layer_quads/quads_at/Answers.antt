@@ -1,7 +1,7 @@
 -- One tile more.
 use Rattle.std.proofs.Common.{List, ◌∷◌, ◌++◌, [], map, take, sym, subst}
 use Rattle.viz_scene.specs.Views.{QuadView, quad_view, quads_view}
-use Rattle.viz_quads.specs.Shown.{tile_of}
+use Rattle.viz_quads.specs.ShownTiles.{tile_of}
 use Rattle.viz_quads.specs.inner.Joins.{ActAs}
 use Rattle.viz_quads.specs.inner.LayerQuads as spec
 use Rattle.viz_quads.proofs.Acts.{act_through, act_behind}

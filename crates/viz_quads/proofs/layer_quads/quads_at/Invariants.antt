@@ -1,7 +1,7 @@
 -- The quads act as those of the tiles so far.
 use Rattle.std.proofs.Common.{map, take}
 use Rattle.viz_scene.specs.Views.{quads_view}
-use Rattle.viz_quads.specs.Shown.{tile_of}
+use Rattle.viz_quads.specs.ShownTiles.{tile_of}
 use Rattle.viz_quads.specs.inner.Joins.{ActAs}
 use Rattle.viz_quads.specs.inner.LayerQuads as spec
 use Rattle.viz_quads.proofs.layer_quads.quads_at.Given as goal

@@ -9,7 +9,7 @@ use Rattle.page_layers.specs.Layers.{PageLayer, parts_of, has_id}
 use Rattle.page_layers.specs.TreePainting.{groups_in, opacity_in}
 use Rattle.viz_scene.specs.Views.{QuadView}
 use Rattle.viz_quads.specs.declared.parts.LayerParts.{LayerParts}
-use Rattle.viz_quads.specs.Shown.{tile_of}
+use Rattle.viz_quads.specs.ShownTiles.{tile_of}
 use Rattle.viz_quads.specs.inner.LayerQuads.{layer_quads}
 use Rattle.viz_quads.specs.inner.Passes.{groups_of, HaveQuads}
 use Rattle.viz_quads.proofs.Lists.{alike_more, all_mapped}

@@ -3,7 +3,7 @@ use Rattle.std.proofs.Common.{◌≡◌, ◌≤◌, map, length, take, All}
 use Rattle.page_properties.specs.OffsetMap.{offset_at}
 use Rattle.page_layers.specs.Layers.{parts_of}
 use Rattle.page_layers.specs.TreePainting.{groups_in, opacity_in}
-use Rattle.viz_quads.specs.Shown.{tile_of}
+use Rattle.viz_quads.specs.ShownTiles.{tile_of}
 use Rattle.viz_quads.specs.inner.LayerQuads.{layer_quads}
 use Rattle.viz_quads.specs.inner.Passes.{groups_of, HaveQuads, HaveOpacities}
 use Rattle.viz_quads.proofs.parts.layer_parts.Given as goal

@@ -7,7 +7,7 @@ use Rattle.page_layers.specs.declared.view.View.{View}
 use Rattle.viz_scene.specs.Views.{QuadView, SceneView, pass_view, passes_view, quads_view}
 use Rattle.viz_scene.specs.Pixels.{scene_pixel}
 use Rattle.viz_scene.specs.Sound.{IsScene}
-use Rattle.viz_quads.specs.Shown.{tile_of}
+use Rattle.viz_quads.specs.ShownTiles.{tile_of}
 use Rattle.viz_quads.proofs.Whole.{root_built, scene_shown, is_scene}
 use Rattle.viz_quads.proofs.scene_of.quads_of.Goals as goal
 

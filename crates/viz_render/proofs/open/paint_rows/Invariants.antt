@@ -1,7 +1,7 @@
 -- The rows so far are painted.
 use Rattle.std.specs.Prelude.{◌≤◌, ◌-◌}
 use Rattle.pixel.specs.Rows.{ArePremultiplied}
-use Rattle.pixel.specs.Surfaces.{within}
+use Rattle.pixel.specs.Surfaces.{within_rows}
 use Rattle.viz_render.specs.inner.Masks.{EachOpen}
 use Rattle.viz_render.specs.inner.Paints.{painted}
 use Rattle.viz_render.proofs.open.paint_rows.Given as given
@@ -9,7 +9,7 @@ use Rattle.viz_render.proofs.open.paint_rows.Given as given
 abbrev pub invariant-loop-done : given.invariant-loop-done
 invariant-loop-done l = record {
   inside : l.done ≤ l.part.at.h;
-  pixels : EachOpen l.width l.height l.tops l.number (within l.part.at l.done (painted l.paint l.part)) l.initial.surface l.surface;
+  pixels : EachOpen l.width l.height l.tops l.number (within_rows l.part.at l.done (painted l.paint l.part)) l.initial.surface l.surface;
   premultiplied : ArePremultiplied l.initial.surface → ArePremultiplied l.surface;
 }
 

@@ -1,7 +1,7 @@
 -- The rows so far are drawn.
 use Rattle.std.specs.Prelude.{◌+◌, ◌≤◌, ◌-◌, pos}
 use Rattle.pixel.specs.Rows.{ArePremultiplied}
-use Rattle.pixel.specs.Surfaces.{EachPixel, within}
+use Rattle.pixel.specs.Surfaces.{EachPixel, within_rows}
 use Rattle.viz_scene.specs.Pixels.{scene_pixel}
 use Rattle.viz_render.specs.inner.Strips.{AreReady}
 use Rattle.viz_render.proofs.strip.draw_area.Given as given
@@ -9,7 +9,7 @@ use Rattle.viz_render.proofs.strip.draw_area.Given as given
 abbrev pub invariant-loop-done : given.invariant-loop-done
 invariant-loop-done l = record {
   rows : l.done ≤ l.at.h;
-  pixels : EachPixel l.scene.w l.band.rows (within l.at l.done (λ x y below. scene_pixel l.scene (pos x) (pos (l.band.top + y)))) l.initial.bytes l.bytes;
+  pixels : EachPixel l.scene.w l.band.rows (within_rows l.at l.done (λ x y below. scene_pixel l.scene (pos x) (pos (l.band.top + y)))) l.initial.bytes l.bytes;
   premultiplied : ArePremultiplied l.initial.bytes → ArePremultiplied l.bytes;
   ready : AreReady l.scene l.surfaces;
 }

@@ -1,6 +1,6 @@
 -- The rows became the pixels of the scene.
 use Rattle.std.proofs.Common.{◌+◌, ◌≤◌, ℕ, pos, arith, subst}
-use Rattle.pixel.specs.Surfaces.{EachPixel, within}
+use Rattle.pixel.specs.Surfaces.{EachPixel, within_rows}
 use Rattle.viz_scene.specs.Pixels.{scene_pixel}
 use Rattle.viz_render.proofs.SceneSteps.{strip_size, less_room, same_size, rows_drawn}
 use Rattle.viz_render.proofs.strip.draw_rows.Goals as goal
@@ -14,7 +14,7 @@ draw_run-requires-clause-room c =
 pub returns-clause-pixels : goal.returns-clause-pixels
 returns-clause-pixels c =
     let drawn = rw (c.rect_of.ensures) at c.draw_run.ensures.pixels in
-    subst (λ (w : ℕ). EachPixel w c.args.band.rows (within c.args.at c.args.at.h (λ x y below. scene_pixel c.args.scene.now (pos x) (pos (c.args.band.top + y)))) c.args.bytes.now c.draw_run.new.bytes) c.requires.whole
+    subst (λ (w : ℕ). EachPixel w c.args.band.rows (within_rows c.args.at c.args.at.h (λ x y below. scene_pixel c.args.scene.now (pos x) (pos (c.args.band.top + y)))) c.args.bytes.now c.draw_run.new.bytes) c.requires.whole
     (rows_drawn c.args.scene.now c.args.band c.args.at c.run_of-place.result.0 c.run_of-place.result.1 drawn.0 c.args.bytes.now c.draw_run.new.bytes
     (record { across = omega (arith, c.requires.inside.across); down = c.requires.inside.down }) c.run_of-place.ensures.place c.run_of-place.ensures.count drawn.1 drawn.2)
 

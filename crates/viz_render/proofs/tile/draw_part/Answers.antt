@@ -1,7 +1,7 @@
 -- Each band adds what it draws to what was drawn.
 use Rattle.std.proofs.Common.{ℕ, ◌≡◌, ◌+◌, ◌<◌, subst, arith}
 use Rattle.pixel.specs.Colours.{Parts, blend}
-use Rattle.pixel.specs.Surfaces.{within}
+use Rattle.pixel.specs.Surfaces.{within_rows}
 use Rattle.tile_raster.specs.Images.{AreSameRows}
 use Rattle.viz_render.specs.inner.Drawing.{part_pixel}
 use Rattle.viz_render.specs.inner.Masks.{EachOpen}
@@ -27,5 +27,5 @@ pub returns-clause-pixels : goal.returns-clause-pixels
 returns-clause-pixels c =
     let f : ℕ → ℕ → Parts → Parts = λ x y below. blend below (part_pixel c.args.image.now c.args.part x y) in
     let all : c.loop-done.done ≡ c.args.part.at.h = omega (arith, c.loop-done.invariant.inside, c.loop-done-test.false) in
-    subst (λ (n : ℕ). EachOpen c.args.width c.args.height c.args.mask.now.tops c.args.quad (within c.args.part.at n f) c.args.surface.now c.loop-done.surface) all
+    subst (λ (n : ℕ). EachOpen c.args.width c.args.height c.args.mask.now.tops c.args.quad (within_rows c.args.part.at n f) c.args.surface.now c.loop-done.surface) all
     c.loop-done.invariant.pixels

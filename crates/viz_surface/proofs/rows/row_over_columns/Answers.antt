@@ -2,7 +2,7 @@
 use Rattle.std.proofs.Common.{ℕ, ◌≡◌, ◌+◌, ◌-◌, refl, subst, arith}
 use Rattle.pixel.specs.Colours.{Parts, blend}
 use Rattle.pixel.specs.Rows.{pixel}
-use Rattle.pixel.specs.Surfaces.{EachPixel, within}
+use Rattle.pixel.specs.Surfaces.{EachPixel, within_rows}
 use Rattle.viz_surface.specs.inner.Columns.{columns_of}
 use Rattle.viz_surface.proofs.Areas.{columns_more, all_columns}
 use Rattle.viz_surface.proofs.rows.row_over_columns.Goals as goal
@@ -45,5 +45,5 @@ returns-clause-pixels c =
     let f : ℕ → ℕ → Parts → Parts = λ x y below. blend below (pixel c.args.row.now (x - c.args.at.x + c.args.from)) in
     let all : c.ones.done ≡ c.args.at.w = omega (arith, c.ones.invariant.inside, c.ones-test.false) in
     all_columns c.args.width c.args.height c.args.at f c.args.surface.now c.ones.surface
-    (subst (λ (n : ℕ). EachPixel c.args.width c.args.height (within (columns_of c.args.at 0 n) c.args.at.h f) c.args.surface.now c.ones.surface) all
+    (subst (λ (n : ℕ). EachPixel c.args.width c.args.height (within_rows (columns_of c.args.at 0 n) c.args.at.h f) c.args.surface.now c.ones.surface) all
     c.ones.invariant.pixels)

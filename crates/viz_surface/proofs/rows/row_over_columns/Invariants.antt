@@ -1,14 +1,14 @@
 use Rattle.std.proofs.Common.{◌≤◌, ◌+◌, ◌-◌}
 use Rattle.pixel.specs.Colours.{blend}
 use Rattle.pixel.specs.Rows.{pixel, ArePremultiplied}
-use Rattle.pixel.specs.Surfaces.{EachPixel, within}
+use Rattle.pixel.specs.Surfaces.{EachPixel, within_rows}
 use Rattle.viz_surface.specs.inner.Columns.{columns_of}
 use Rattle.viz_surface.proofs.rows.row_over_columns.Given as given
 
 abbrev pub invariant-sixteens : given.invariant-sixteens
 invariant-sixteens l = record {
   inside : l.done ≤ l.at.w;
-  pixels : EachPixel l.width l.height (within (columns_of l.at 0 l.done) l.at.h (λ x y below. blend below (pixel l.row (x - l.at.x + l.from)))) l.fn.surface l.surface;
+  pixels : EachPixel l.width l.height (within_rows (columns_of l.at 0 l.done) l.at.h (λ x y below. blend below (pixel l.row (x - l.at.x + l.from)))) l.fn.surface l.surface;
   premultiplied : ArePremultiplied l.fn.surface → ArePremultiplied l.surface;
 }
 
@@ -18,7 +18,7 @@ decreases-sixteens l = l.at.w - l.done
 abbrev pub invariant-fours : given.invariant-fours
 invariant-fours l = record {
   inside : l.done ≤ l.at.w;
-  pixels : EachPixel l.width l.height (within (columns_of l.at 0 l.done) l.at.h (λ x y below. blend below (pixel l.row (x - l.at.x + l.from)))) l.fn.surface l.surface;
+  pixels : EachPixel l.width l.height (within_rows (columns_of l.at 0 l.done) l.at.h (λ x y below. blend below (pixel l.row (x - l.at.x + l.from)))) l.fn.surface l.surface;
   premultiplied : ArePremultiplied l.fn.surface → ArePremultiplied l.surface;
 }
 
@@ -28,7 +28,7 @@ decreases-fours l = l.at.w - l.done
 abbrev pub invariant-ones : given.invariant-ones
 invariant-ones l = record {
   inside : l.done ≤ l.at.w;
-  pixels : EachPixel l.width l.height (within (columns_of l.at 0 l.done) l.at.h (λ x y below. blend below (pixel l.row (x - l.at.x + l.from)))) l.fn.surface l.surface;
+  pixels : EachPixel l.width l.height (within_rows (columns_of l.at 0 l.done) l.at.h (λ x y below. blend below (pixel l.row (x - l.at.x + l.from)))) l.fn.surface l.surface;
   premultiplied : ArePremultiplied l.fn.surface → ArePremultiplied l.surface;
 }
 

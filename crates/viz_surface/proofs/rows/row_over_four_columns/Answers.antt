@@ -2,7 +2,7 @@
 use Rattle.std.proofs.Common.{◌+◌, ◌-◌, ap, ◌∙◌, subst, arith}
 use Rattle.pixel.specs.Colours.{blend}
 use Rattle.pixel.specs.Rows.{pixel}
-use Rattle.pixel.specs.Surfaces.{EachPixel, within}
+use Rattle.pixel.specs.Surfaces.{EachPixel, within_rows}
 use Rattle.pixel.specs.declared.Area.{Area}
 use Rattle.viz_surface.specs.inner.Columns.{columns_of}
 use Rattle.viz_surface.proofs.Areas.{each_like, row_place}
@@ -11,7 +11,7 @@ use Rattle.viz_surface.proofs.rows.row_over_four_columns.Goals as goal
 pub returns-clause-pixels : goal.returns-clause-pixels
 returns-clause-pixels c =
     let each =
-    subst (λ (a : Area). EachPixel c.args.width c.args.height (within a a.h (λ x y below. blend below (pixel c.four_at-pixels.result (x - a.x)))) c.args.surface.now c.four_over_rows.new.surface)
+    subst (λ (a : Area). EachPixel c.args.width c.args.height (within_rows a a.h (λ x y below. blend below (pixel c.four_at-pixels.result (x - a.x)))) c.args.surface.now c.four_over_rows.new.surface)
     c.columns-columns.ensures c.four_over_rows.ensures.pixels in
     each_like c.args.width c.args.height (columns_of c.args.at c.args.first 4)
     (λ x y below. blend below (pixel c.four_at-pixels.result (x - (c.args.at.x + c.args.first))))

@@ -2,7 +2,7 @@
 use Rattle.std.proofs.Common.{ℕ, ◌+◌, ◌-◌, ◌∙◌, ap, sym, subst, arith}
 use Rattle.pixel.specs.Colours.{blend}
 use Rattle.pixel.specs.Rows.{pixel}
-use Rattle.pixel.specs.Surfaces.{EachPixel, within}
+use Rattle.pixel.specs.Surfaces.{EachPixel, within_rows}
 use Rattle.pixel.specs.declared.Area.{Area}
 use Rattle.viz_surface.specs.inner.Columns.{columns_of}
 use Rattle.viz_surface.proofs.Areas.{each_like, each_same, clear_over, four_times_four, row_place}
@@ -12,7 +12,7 @@ pub returns-then-are_sixteen_opaque-clause-pixels : goal.returns-then-are_sixtee
 returns-then-are_sixteen_opaque-clause-pixels c =
     let start = c.args.from + c.args.first in
     let each =
-    subst (λ (a : Area). EachPixel c.args.width c.args.height (within a a.h (λ x y below. pixel c.args.row.now (start + (x - a.x)))) c.args.surface.now c.copy_over_rows.new.surface)
+    subst (λ (a : Area). EachPixel c.args.width c.args.height (within_rows a a.h (λ x y below. pixel c.args.row.now (start + (x - a.x)))) c.args.surface.now c.copy_over_rows.new.surface)
     c.columns-columns.ensures c.copy_over_rows.ensures.pixels in
     each_like c.args.width c.args.height (columns_of c.args.at c.args.first 16)
     (λ x y below. pixel c.args.row.now (start + (x - (c.args.at.x + c.args.first))))

@@ -7,7 +7,7 @@ use Rattle.model_history.specs.Frames.{pending}
 use Rattle.model_history.specs.Scrolls.{clobbers}
 use Rattle.model_history.specs.Legal.{Legal}
 use Rattle.model_steps.specs.Events.{abort}
-use Rattle.impl_scroll.specs.Standings.{StandingModel, Stands}
+use Rattle.impl_scroll.specs.Standings.{StandingModel, StandsForPast}
 use Rattle.impl_log.specs.Runs.{Run, past, now}
 use Rattle.impl_core.proofs.MayCome.{comes_next}
 use Rattle.impl_core.proofs.QuietAborts.{none_named}
@@ -18,7 +18,7 @@ aborted-requires c =
     let r : Run = c.self.inside.log in
     let h : List Entry = past r in
     let legal = c.is_legal.ensures.legal in
-    let stands = subst (λ (st : StandingModel). Stands r.script h st) (sym c.standing.ensures) c.self.invariant.host.standing in
+    let stands = subst (λ (st : StandingModel). StandsForPast r.script h st) (sym c.standing.ensures) c.self.invariant.host.standing in
     let pages = c.pages-pages.ensures r.script h c.self.invariant.host in
     let k : ℕ = c.args.frame in
     let may_come : now r kind.Abort 1 ≡ Some (event.Abort k) = subst (λ (z : Run). now z kind.Abort 1 ≡ Some (event.Abort k)) (sym c.self.view_is) c.requires in
@@ -30,12 +30,12 @@ abort_in_place-requires-clause-stands c =
     let r : Run = c.self.inside.log in
     let h : List Entry = past r in
     let legal = c.is_legal.ensures.legal in
-    let stands = subst (λ (st : StandingModel). Stands r.script h st) (sym c.standing.ensures) c.self.invariant.host.standing in
+    let stands = subst (λ (st : StandingModel). StandsForPast r.script h st) (sym c.standing.ensures) c.self.invariant.host.standing in
     let pages = c.pages-pages.ensures r.script h c.self.invariant.host in
     let k : ℕ = c.args.frame in
     let may_come : now r kind.Abort 1 ≡ Some (event.Abort k) = subst (λ (z : Run). now z kind.Abort 1 ≡ Some (event.Abort k)) (sym c.self.view_is) c.requires in
     let next : Legal r.script r.workers (abort 1 k ∷ h) = comes_next r.script r.workers h 1 (event.Abort k) legal may_come refl (omega arith) in
-    subst (λ (z : Run). Stands z.script (abort 1 k ∷ past z) c.in_ok-standing.standing) c.self.view_is (c.in_ok-standing.ensures r.script r.workers h 1 k next stands pages)
+    subst (λ (z : Run). StandsForPast z.script (abort 1 k ∷ past z) c.in_ok-standing.standing) c.self.view_is (c.in_ok-standing.ensures r.script r.workers h 1 k next stands pages)
 
 pub abort_in_place-requires-clause-none_outright : goal.abort_in_place-requires-clause-none_outright
 abort_in_place-requires-clause-none_outright c =
@@ -50,9 +50,9 @@ abort_moving-requires-clause-stands c =
     let r : Run = c.self.inside.log in
     let h : List Entry = past r in
     let legal = c.is_legal.ensures.legal in
-    let stands = subst (λ (st : StandingModel). Stands r.script h st) (sym c.standing.ensures) c.self.invariant.host.standing in
+    let stands = subst (λ (st : StandingModel). StandsForPast r.script h st) (sym c.standing.ensures) c.self.invariant.host.standing in
     let pages = c.pages-pages.ensures r.script h c.self.invariant.host in
     let k : ℕ = c.args.frame in
     let may_come : now r kind.Abort 1 ≡ Some (event.Abort k) = subst (λ (z : Run). now z kind.Abort 1 ≡ Some (event.Abort k)) (sym c.self.view_is) c.requires in
     let next : Legal r.script r.workers (abort 1 k ∷ h) = comes_next r.script r.workers h 1 (event.Abort k) legal may_come refl (omega arith) in
-    subst (λ (z : Run). Stands z.script (abort 1 k ∷ past z) c.in_ok-standing.standing) c.self.view_is (c.in_ok-standing.ensures r.script r.workers h 1 k next stands pages)
+    subst (λ (z : Run). StandsForPast z.script (abort 1 k ∷ past z) c.in_ok-standing.standing) c.self.view_is (c.in_ok-standing.ensures r.script r.workers h 1 k next stands pages)

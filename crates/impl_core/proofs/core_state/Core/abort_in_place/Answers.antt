@@ -8,7 +8,7 @@ use Rattle.model_history.specs.Frames.{pending}
 use Rattle.model_history.specs.Scrolls.{clobbers}
 use Rattle.model_history.specs.Legal.{Legal}
 use Rattle.model_steps.specs.Events.{abort}
-use Rattle.impl_scroll.specs.Standings.{Stands}
+use Rattle.impl_scroll.specs.Standings.{StandsForPast}
 use Rattle.impl_host.specs.Hosts.{Hosts}
 use Rattle.impl_log.specs.Runs.{Run, past, now}
 use Rattle.impl_core.proofs.CoreSteps.{one_more, refused}
@@ -30,7 +30,7 @@ invariant_of-self-2 c =
     let k : ℕ = c.args.frame in
     let may_come : now r kind.Abort 1 ≡ Some (event.Abort k) = subst (λ (z : Run). now z kind.Abort 1 ≡ Some (event.Abort k)) (sym c.self.view_is) c.requires.is_now in
     let next : Legal r.script r.workers (abort 1 k ∷ h) = comes_next r.script r.workers h 1 (event.Abort k) c.is_legal.ensures.legal may_come refl (omega arith) in
-    let stood : Stands r.script (abort 1 k ∷ h) c.args.standing = subst (λ (z : Run). Stands z.script (abort 1 k ∷ past z) c.args.standing) (sym c.self.view_is) c.requires.stands in
+    let stood : StandsForPast r.script (abort 1 k ∷ h) c.args.standing = subst (λ (z : Run). StandsForPast z.script (abort 1 k ∷ past z) c.args.standing) (sym c.self.view_is) c.requires.stands in
     let none : (sc : ℕ) → clobbers r.script (pending h) sc ≡ false = subst (λ (z : Run). (sc : ℕ) → clobbers z.script (pending (past z)) sc ≡ false) (sym c.self.view_is) c.requires.none_outright in
     let hosts : Hosts r.script (abort 1 k ∷ h) c.stand.new.self = c.stand.ensures.keeps r.script h (abort 1 k) refl refl refl c.self.invariant.host stood in
     one_more (record { host = c.stand.new.self; tiles = c.self.inside.tiles; told = c.self.inside.told; prepared = c.self.inside.prepared; required = c.self.inside.required }) r c.enter.new.self 1 (event.Abort k) c.in_ok-enter.ensures.ok

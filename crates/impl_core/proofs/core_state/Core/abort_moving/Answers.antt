@@ -4,7 +4,7 @@ use Rattle.model_scheduler.specs.declared.kind.Kind.TheVariants as kind
 use Rattle.model_history.specs.declared.event.Event.TheVariants as event
 use Rattle.model_history.specs.declared.history.Entry.{Entry}
 use Rattle.model_steps.specs.Events.{abort}
-use Rattle.impl_scroll.specs.Standings.{Stands}
+use Rattle.impl_scroll.specs.Standings.{StandsForPast}
 use Rattle.tile_prepare.proofs.SameTiles.{same_tiles}
 use Rattle.tile_manager.specs.Managers.{Manages}
 use Rattle.impl_host.specs.Hosts.{Hosts}
@@ -24,7 +24,7 @@ invariant_of-self-2 c =
     let r : Run = c.self.inside.log in
     let h : List Entry = past r in
     let k : ℕ = c.args.frame in
-    let stood : Stands r.script (abort 1 k ∷ h) c.args.standing = subst (λ (z : Run). Stands z.script (abort 1 k ∷ past z) c.args.standing) (sym c.self.view_is) c.requires.stands in
+    let stood : StandsForPast r.script (abort 1 k ∷ h) c.args.standing = subst (λ (z : Run). StandsForPast z.script (abort 1 k ∷ past z) c.args.standing) (sym c.self.view_is) c.requires.stands in
     let hosts : Hosts r.script (abort 1 k ∷ h) c.stand.new.self = c.stand.ensures.keeps r.script h (abort 1 k) refl refl refl c.self.invariant.host stood in
     let holds : Manages r.script (abort 1 k ∷ h) c.forget.new.self = c.forget.ensures r.script h (abort 1 k ∷ h) c.self.invariant.tiles (same_tiles r.script h (abort 1 k) refl) in
     one_more (record { host = c.stand.new.self; tiles = c.forget.new.self; told = c.self.inside.told; prepared = c.self.inside.prepared; required = None }) r c.enter.new.self 1 (event.Abort k) c.in_ok-enter.ensures.ok

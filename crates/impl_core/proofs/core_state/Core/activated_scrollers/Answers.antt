@@ -7,7 +7,7 @@ use Rattle.model_history.specs.declared.history.Entry.{Entry}
 use Rattle.model_history.specs.Frames.{pending, pending_page}
 use Rattle.model_history.specs.Scrolls.{next_clamps}
 use Rattle.model_steps.specs.Events.{activate}
-use Rattle.impl_scroll.specs.Standings.{StandingModel, Stands}
+use Rattle.impl_scroll.specs.Standings.{StandingModel, StandsForPast}
 use Rattle.impl_log.specs.Runs.{Run, past, now}
 use Rattle.impl_core.proofs.ActivationSteps.{OfActivation, of_activation}
 use Rattle.impl_scroll.proofs.InputFacts.{page_is}
@@ -21,7 +21,7 @@ activated-requires c =
     let legal = c.is_legal.ensures.legal in
     let pages = c.pages-pages.ensures r.script h c.self.invariant.host in
     let page : c.in-Some.page.now ≡ pending_page r.script h = page_is r.script h c.in-Some.page.now (pending h) (sym (ap option_copied c.in-Some.is) ∙ pages.pending) in
-    let stands = subst (λ (st : StandingModel). Stands r.script h st) (sym c.standing.ensures) c.self.invariant.host.standing in
+    let stands = subst (λ (st : StandingModel). StandsForPast r.script h st) (sym c.standing.ensures) c.self.invariant.host.standing in
     let listed : ms ≡ next_clamps r.script h = c.as_slice.ensures ∙ c.in_ok-clamps.ensures r.script r.workers h c.is_legal.ensures.accepted legal stands page pages.outright in
     let waits = subst (λ (z : Run). pending (past z) ≡ Some c.args.frame) (sym c.self.view_is) c.requires.waits in
     let may = subst (λ (z : Run). is_some (now z kind.Activate 0) ≡ true) (sym c.self.view_is) c.requires.may in
@@ -33,7 +33,7 @@ activated-requires c =
       frame = c.args.frame;
       accepted = c.is_legal.ensures.accepted;
       legal = (of_activation r.script r.workers h c.args.frame ms legal may waits listed).legal;
-      stands = subst (λ (st : StandingModel). Stands r.script h st) (sym c.standing-2.ensures) c.self.invariant.host.standing;
+      stands = subst (λ (st : StandingModel). StandsForPast r.script h st) (sym c.standing-2.ensures) c.self.invariant.host.standing;
       page_is = page;
     }
 
@@ -45,12 +45,12 @@ returns-clause-stands c =
     let legal = c.is_legal.ensures.legal in
     let pages = c.pages-pages.ensures r.script h c.self.invariant.host in
     let page : c.in-Some.page.now ≡ pending_page r.script h = page_is r.script h c.in-Some.page.now (pending h) (sym (ap option_copied c.in-Some.is) ∙ pages.pending) in
-    let stands = subst (λ (st : StandingModel). Stands r.script h st) (sym c.standing.ensures) c.self.invariant.host.standing in
+    let stands = subst (λ (st : StandingModel). StandsForPast r.script h st) (sym c.standing.ensures) c.self.invariant.host.standing in
     let listed : ms ≡ next_clamps r.script h = c.as_slice.ensures ∙ c.in_ok-clamps.ensures r.script r.workers h c.is_legal.ensures.accepted legal stands page pages.outright in
     let waits = subst (λ (z : Run). pending (past z) ≡ Some c.args.frame) (sym c.self.view_is) c.requires.waits in
     let may = subst (λ (z : Run). is_some (now z kind.Activate 0) ≡ true) (sym c.self.view_is) c.requires.may in
     let activation : OfActivation r.script r.workers h c.args.frame ms = of_activation r.script r.workers h c.args.frame ms legal may waits listed in
-    let now_stands = subst (λ (st : StandingModel). Stands r.script h st) (sym c.standing-2.ensures) c.self.invariant.host.standing in
-    subst (λ (z : Run). Stands z.script (activate 0 c.args.frame (next_clamps z.script (past z)) ∷ past z) c.in_ok-standing.standing) c.self.view_is
-    (subst (λ (l : List Move). Stands r.script (activate 0 c.args.frame l ∷ h) c.in_ok-standing.standing) listed
+    let now_stands = subst (λ (st : StandingModel). StandsForPast r.script h st) (sym c.standing-2.ensures) c.self.invariant.host.standing in
+    subst (λ (z : Run). StandsForPast z.script (activate 0 c.args.frame (next_clamps z.script (past z)) ∷ past z) c.in_ok-standing.standing) c.self.view_is
+    (subst (λ (l : List Move). StandsForPast r.script (activate 0 c.args.frame l ∷ h) c.in_ok-standing.standing) listed
     (c.in_ok-standing.ensures r.script r.workers h 0 c.args.frame activation.legal now_stands page))

@@ -9,7 +9,7 @@ use Rattle.model_history.specs.Frames.{pending}
 use Rattle.model_history.specs.Scrolls.{next_clamps}
 use Rattle.model_history.specs.Tiles.{pending_tree}
 use Rattle.tile_ranks.specs.SeenTrees.{SeenTreeModel, IsSeenTree, IsSeenWhere}
-use Rattle.tile_prepare.specs.Rebuilds.{ActivatesNow, AreForActivation}
+use Rattle.tile_prepare.specs.Rebuilds.{PreparedActivates, AreForActivation}
 use Rattle.impl_log.specs.Runs.{Run, past, now}
 use Rattle.impl_core.proofs.ActivationSteps.{of_activation}
 use Rattle.impl_core.proofs.StandingHosts.{as_it_stands}
@@ -24,7 +24,7 @@ activation_of-requires c =
     let seen = c.in_ok-seen.ensures.trees r.script h (as_it_stands r.script h c.self.inside.host c.standing.result.now c.standing.ensures c.self.invariant.host) in
     let is_there : c.in_ok-seen.seen.pending ≡ Some c.in-Some.pending.now = sym c.as_ref.ensures.value ∙ ap option_copied c.in-Some.is in
     let tree : IsSeenTree (pending_tree r.script h) c.in-Some.pending.now = subst (λ (o : Option SeenTreeModel). IsSeenWhere (pending_tree r.script h) o) is_there seen.pending in
-    subst (λ (s : ScriptModel). ActivatesNow s c.in-Some.pending.now c.in_ok-required.required c.self.inside.tiles) (sym (c.deref.ensures ∙ c.script.ensures))
+    subst (λ (s : ScriptModel). PreparedActivates s c.in-Some.pending.now c.in_ok-required.required c.self.inside.tiles) (sym (c.deref.ensures ∙ c.script.ensures))
     (record {
       workers = r.workers;
       past = h;

@@ -7,7 +7,7 @@ use Rattle.model_history.specs.Scans.{has_ended, held}
 use Rattle.model_history.specs.Legal.{Legal}
 use Rattle.model_history.proofs.TileCourse.{holder_is_worker}
 use Rattle.model_steps.specs.Events.{done}
-use Rattle.model_steps.specs.ShownKeys.{Shows}
+use Rattle.model_steps.specs.ShownKeys.{KeyShows}
 use Rattle.tile_manager.specs.Managers.{Manages, tile_made}
 use Rattle.impl_log.specs.Runs.{Run, past, with_entry}
 use Rattle.impl_core.proofs.CoreSteps.{done_core, one_more}
@@ -58,7 +58,7 @@ invariant_of-self c =
     let legal : Legal r.script r.workers (done (2 + w) w q ∷ past r) =
     comes_next r.script r.workers (past r) (2 + w) (event.DoneTile w q) c.is_legal.ensures.legal (done_now r.script (past r) going w q holds) refl (omega (arith, within)) in
     let is_tile = subst (λ (z : Run). c.args.tile ≡ tile_made z.script (past z) q) (sym c.self.view_is) c.requires.tile in
-    let shows = subst (λ (z : Run). Shows z.script q c.args.image.value.rect c.args.image.value.list) (sym c.self.view_is) c.requires.shows in
+    let shows = subst (λ (z : Run). KeyShows z.script q c.args.image.value.rect c.args.image.value.list) (sym c.self.view_is) c.requires.shows in
     let made : Manages r.script (done (2 + w) w q ∷ past r) c.done.new.self = c.done.ensures.tiles r.script r.workers (past r) (2 + w) w c.self.invariant.tiles legal is_tile shows in
     let same : c.key-key.result ≡ q = c.key-key.ensures ∙ ap (λ (i : Image). i.key) c.deref.ensures in
     let entered : c.enter_kept.new.self ≡ with_entry r (2 + w) (event.DoneTile w q) = subst (λ (k : TileKey). c.enter_kept.new.self ≡ with_entry r (2 + w) (event.DoneTile w k)) same c.enter_kept.ensures in

@@ -7,7 +7,7 @@ use Rattle.model_history.specs.declared.history.Entry.{Entry}
 use Rattle.model_history.specs.Frames.{pending}
 use Rattle.model_history.specs.Scrolls.{next_clamps}
 use Rattle.model_steps.specs.Events.{activate}
-use Rattle.impl_scroll.specs.Standings.{Stands}
+use Rattle.impl_scroll.specs.Standings.{StandsForPast}
 use Rattle.tile_prepare.specs.Rebuilds.{AreForActivation}
 use Rattle.tile_manager.specs.Managers.{Manages}
 use Rattle.impl_host.specs.Hosts.{Hosts}
@@ -47,8 +47,8 @@ invariant_of-self-2 c =
     let may = subst (λ (z : Run). is_some (now z kind.Activate 0) ≡ true) (sym c.self.view_is) c.requires.may in
     let listed : ms ≡ next_clamps r.script h = subst (λ (z : Run). ms ≡ next_clamps z.script (past z)) (sym c.self.view_is) c.in_ok-clamps.ensures.clamps in
     let activation : OfActivation r.script r.workers h k ms = of_activation r.script r.workers h k ms c.is_legal.ensures.legal may waits listed in
-    let stands : Stands r.script (activate 0 k ms ∷ h) c.in_ok-clamps.standing = subst (λ (l : List Move). Stands r.script (activate 0 k l ∷ h) c.in_ok-clamps.standing) (sym listed)
-    (subst (λ (z : Run). Stands z.script (activate 0 k (next_clamps z.script (past z)) ∷ past z) c.in_ok-clamps.standing) (sym c.self.view_is) c.in_ok-clamps.ensures.stands) in
+    let stands : StandsForPast r.script (activate 0 k ms ∷ h) c.in_ok-clamps.standing = subst (λ (l : List Move). StandsForPast r.script (activate 0 k l ∷ h) c.in_ok-clamps.standing) (sym listed)
+    (subst (λ (z : Run). StandsForPast z.script (activate 0 k (next_clamps z.script (past z)) ∷ past z) c.in_ok-clamps.standing) (sym c.self.view_is) c.in_ok-clamps.ensures.stands) in
     let brings : AreForActivation r.script h 0 k ms c.in_ok-next.next.pins c.in_ok-next.next.live c.in_ok-next.next.ranks =
     subst (λ (l : List Move). AreForActivation r.script h 0 k l c.in_ok-next.next.pins c.in_ok-next.next.live c.in_ok-next.next.ranks) (sym listed)
     (subst (λ (z : Run). AreForActivation z.script (past z) 0 k (next_clamps z.script (past z)) c.in_ok-next.next.pins c.in_ok-next.next.live c.in_ok-next.next.ranks) (sym c.self.view_is) c.in_ok-next.ensures) in

@@ -11,7 +11,7 @@ use Rattle.model_history.specs.EventFields.{kind_of}
 use Rattle.model_history.specs.Due.{next_input, input_now}
 use Rattle.model_history.specs.Legal.{is_open}
 use Rattle.model_history.proofs.DueFacts.{entry}
-use Rattle.impl_scroll.specs.Standings.{StandingModel, Stands}
+use Rattle.impl_scroll.specs.Standings.{StandingModel, StandsForPast}
 use Rattle.tile_prepare.proofs.SameTiles.{same_tiles}
 use Rattle.tile_manager.specs.Managers.{Manages}
 use Rattle.impl_host.specs.Hosts.{Hosts}
@@ -26,7 +26,7 @@ moved-requires c =
     let r : Run = c.self.inside.log in
     let h : List Entry = past r in
     let legal = c.is_legal.ensures.legal in
-    let stands = subst (λ (st : StandingModel). Stands r.script h st) (sym c.standing.ensures) c.self.invariant.host.standing in
+    let stands = subst (λ (st : StandingModel). StandsForPast r.script h st) (sym c.standing.ensures) c.self.invariant.host.standing in
     let pages = c.pages-pages.ensures r.script h c.self.invariant.host in
     let is_open = subst (λ (z : Run). is_open (past z) kind.Scroll ≡ true) (sym c.self.view_is) c.requires.is_open in
     let asked = subst (λ (z : Run). input_now z.script (past z) ≡ Some (input.Scroll c.args.scroller c.args.dx c.args.dy)) (sym c.self.view_is) c.requires.asked in
@@ -43,7 +43,7 @@ moved-requires c =
       entry = entry 0 (event.Scroll i x y);
       accepted = c.is_legal.ensures.accepted;
       legal = of.legal;
-      stands = subst (λ (st : StandingModel). Stands r.script h st) (sym c.standing-2.ensures) c.self.invariant.host.standing;
+      stands = subst (λ (st : StandingModel). StandsForPast r.script h st) (sym c.standing-2.ensures) c.self.invariant.host.standing;
       pages = pages;
       scroll = refl;
       moves = (of.moves ∙ ap (λ (m : Move). m ∷ []) (sym c.move_by.ensures));
@@ -54,7 +54,7 @@ enter-requires-clause-is_now c =
     let r : Run = c.self.inside.log in
     let h : List Entry = past r in
     let legal = c.is_legal.ensures.legal in
-    let stands = subst (λ (st : StandingModel). Stands r.script h st) (sym c.standing.ensures) c.self.invariant.host.standing in
+    let stands = subst (λ (st : StandingModel). StandsForPast r.script h st) (sym c.standing.ensures) c.self.invariant.host.standing in
     let pages = c.pages-pages.ensures r.script h c.self.invariant.host in
     let is_open = subst (λ (z : Run). is_open (past z) kind.Scroll ≡ true) (sym c.self.view_is) c.requires.is_open in
     let asked = subst (λ (z : Run). input_now z.script (past z) ≡ Some (input.Scroll c.args.scroller c.args.dx c.args.dy)) (sym c.self.view_is) c.requires.asked in
@@ -76,7 +76,7 @@ invariant_of-self-2 c =
     let r : Run = c.self.inside.log in
     let h : List Entry = past r in
     let legal = c.is_legal.ensures.legal in
-    let stands = subst (λ (st : StandingModel). Stands r.script h st) (sym c.standing.ensures) c.self.invariant.host.standing in
+    let stands = subst (λ (st : StandingModel). StandsForPast r.script h st) (sym c.standing.ensures) c.self.invariant.host.standing in
     let pages = c.pages-pages.ensures r.script h c.self.invariant.host in
     let is_open = subst (λ (z : Run). is_open (past z) kind.Scroll ≡ true) (sym c.self.view_is) c.requires.is_open in
     let asked = subst (λ (z : Run). input_now z.script (past z) ≡ Some (input.Scroll c.args.scroller c.args.dx c.args.dy)) (sym c.self.view_is) c.requires.asked in
@@ -88,8 +88,8 @@ invariant_of-self-2 c =
     let of : OfScroll r.script r.workers h c.args.scroller i x y = of_scroll r.script r.workers h c.args.scroller c.args.dx c.args.dy i x y legal is_open asked c.next_input-input.ensures right downwards in
     let e : Event = event.Scroll i x y in
     let is_event : c.scroll_event-event.result ≡ e = c.scroll_event-event.ensures in
-    let before = subst (λ (st : StandingModel). Stands r.script h st) (sym c.standing-2.ensures) c.self.invariant.host.standing in
-    let moved : Stands r.script (entry 0 e ∷ h) c.in_ok-standing.standing = c.in_ok-standing.ensures r.script r.workers h (entry 0 e) of.legal refl (of.moves ∙ ap (λ (m : Move). m ∷ []) (sym c.move_by.ensures)) before pages in
+    let before = subst (λ (st : StandingModel). StandsForPast r.script h st) (sym c.standing-2.ensures) c.self.invariant.host.standing in
+    let moved : StandsForPast r.script (entry 0 e ∷ h) c.in_ok-standing.standing = c.in_ok-standing.ensures r.script r.workers h (entry 0 e) of.legal refl (of.moves ∙ ap (λ (m : Move). m ∷ []) (sym c.move_by.ensures)) before pages in
     let entered : c.enter.new.self ≡ with_entry r 0 e = subst (λ (z : Event). c.enter.new.self ≡ with_entry r 0 z) is_event c.in_ok-enter.ensures.ok in
     let hosts : Hosts r.script (entry 0 e ∷ h) c.stand.new.self = c.stand.ensures.keeps r.script h (entry 0 e) refl refl refl c.self.invariant.host moved in
     let holds : Manages r.script (entry 0 e ∷ h) c.forget.new.self = c.forget.ensures r.script h (entry 0 e ∷ h) c.self.invariant.tiles (same_tiles r.script h (entry 0 e) refl) in
@@ -101,7 +101,7 @@ returns-clause-ok c =
     let r : Run = c.self.inside.log in
     let h : List Entry = past r in
     let legal = c.is_legal.ensures.legal in
-    let stands = subst (λ (st : StandingModel). Stands r.script h st) (sym c.standing.ensures) c.self.invariant.host.standing in
+    let stands = subst (λ (st : StandingModel). StandsForPast r.script h st) (sym c.standing.ensures) c.self.invariant.host.standing in
     let pages = c.pages-pages.ensures r.script h c.self.invariant.host in
     let is_open = subst (λ (z : Run). is_open (past z) kind.Scroll ≡ true) (sym c.self.view_is) c.requires.is_open in
     let asked = subst (λ (z : Run). input_now z.script (past z) ≡ Some (input.Scroll c.args.scroller c.args.dx c.args.dy)) (sym c.self.view_is) c.requires.asked in

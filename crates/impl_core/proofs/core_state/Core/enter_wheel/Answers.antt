@@ -11,7 +11,7 @@ use Rattle.model_history.specs.EventFields.{kind_of}
 use Rattle.model_history.specs.Due.{next_input, input_now}
 use Rattle.model_history.specs.Legal.{is_open}
 use Rattle.model_history.proofs.DueFacts.{entry}
-use Rattle.impl_scroll.specs.Standings.{StandingModel, Stands}
+use Rattle.impl_scroll.specs.Standings.{StandingModel, StandsForPast}
 use Rattle.tile_prepare.proofs.SameTiles.{same_tiles}
 use Rattle.tile_manager.specs.Managers.{Manages}
 use Rattle.impl_host.specs.Hosts.{Hosts}
@@ -25,7 +25,7 @@ pub wheel-requires : goal.wheel-requires
 wheel-requires c =
     let r : Run = c.self.inside.log in
     let h : List Entry = past r in
-    let stands = subst (λ (st : StandingModel). Stands r.script h st) (sym c.standing.ensures) c.self.invariant.host.standing in
+    let stands = subst (λ (st : StandingModel). StandsForPast r.script h st) (sym c.standing.ensures) c.self.invariant.host.standing in
     let pages = c.pages-pages.ensures r.script h c.self.invariant.host in
     let asked = subst (λ (z : Run). input_now z.script (past z) ≡ Some (input.Wheel c.args.x c.args.y c.args.dx c.args.dy)) (sym c.self.view_is) c.requires.asked in
     record { script = r.script; workers = r.workers; past = h; accepted = c.is_legal.ensures.accepted; legal = c.is_legal.ensures.legal; stands = stands; page = pages.active; input = simp (to_z-of_z, c.ranges.dx, c.ranges.dy) asked }
@@ -35,7 +35,7 @@ moved-requires c =
     let r : Run = c.self.inside.log in
     let h : List Entry = past r in
     let legal = c.is_legal.ensures.legal in
-    let stands = subst (λ (st : StandingModel). Stands r.script h st) (sym c.standing.ensures) c.self.invariant.host.standing in
+    let stands = subst (λ (st : StandingModel). StandsForPast r.script h st) (sym c.standing.ensures) c.self.invariant.host.standing in
     let pages = c.pages-pages.ensures r.script h c.self.invariant.host in
     let is_open = subst (λ (z : Run). is_open (past z) kind.Wheel ≡ true) (sym c.self.view_is) c.requires.is_open in
     let asked = subst (λ (z : Run). input_now z.script (past z) ≡ Some (input.Wheel c.args.x c.args.y c.args.dx c.args.dy)) (sym c.self.view_is) c.requires.asked in
@@ -54,7 +54,7 @@ moved-requires c =
       entry = entry 0 (event.Wheel i layer rest_x rest_y ms);
       accepted = c.is_legal.ensures.accepted;
       legal = of.legal;
-      stands = subst (λ (st : StandingModel). Stands r.script h st) (sym c.standing-2.ensures) c.self.invariant.host.standing;
+      stands = subst (λ (st : StandingModel). StandsForPast r.script h st) (sym c.standing-2.ensures) c.self.invariant.host.standing;
       pages = pages;
       scroll = refl;
       moves = (sym c.as_slice.ensures);
@@ -65,7 +65,7 @@ enter-requires-clause-is_now c =
     let r : Run = c.self.inside.log in
     let h : List Entry = past r in
     let legal = c.is_legal.ensures.legal in
-    let stands = subst (λ (st : StandingModel). Stands r.script h st) (sym c.standing.ensures) c.self.invariant.host.standing in
+    let stands = subst (λ (st : StandingModel). StandsForPast r.script h st) (sym c.standing.ensures) c.self.invariant.host.standing in
     let pages = c.pages-pages.ensures r.script h c.self.invariant.host in
     let is_open = subst (λ (z : Run). is_open (past z) kind.Wheel ≡ true) (sym c.self.view_is) c.requires.is_open in
     let asked = subst (λ (z : Run). input_now z.script (past z) ≡ Some (input.Wheel c.args.x c.args.y c.args.dx c.args.dy)) (sym c.self.view_is) c.requires.asked in
@@ -89,7 +89,7 @@ invariant_of-self-2 c =
     let r : Run = c.self.inside.log in
     let h : List Entry = past r in
     let legal = c.is_legal.ensures.legal in
-    let stands = subst (λ (st : StandingModel). Stands r.script h st) (sym c.standing.ensures) c.self.invariant.host.standing in
+    let stands = subst (λ (st : StandingModel). StandsForPast r.script h st) (sym c.standing.ensures) c.self.invariant.host.standing in
     let pages = c.pages-pages.ensures r.script h c.self.invariant.host in
     let is_open = subst (λ (z : Run). is_open (past z) kind.Wheel ≡ true) (sym c.self.view_is) c.requires.is_open in
     let asked = subst (λ (z : Run). input_now z.script (past z) ≡ Some (input.Wheel c.args.x c.args.y c.args.dx c.args.dy)) (sym c.self.view_is) c.requires.asked in
@@ -103,8 +103,8 @@ invariant_of-self-2 c =
     of_wheel r.script r.workers h c.args.x c.args.y c.args.dx c.args.dy i layer rest_x rest_y ms legal is_open asked c.next_input-input.ensures is.hits is.rest_across is.rest_down (c.in_ok-moves.ensures ∙ is.parts) in
     let e : Event = event.Wheel i layer rest_x rest_y ms in
     let is_event : c.wheel_event-event.result ≡ e = c.wheel_event-event.ensures in
-    let before = subst (λ (st : StandingModel). Stands r.script h st) (sym c.standing-2.ensures) c.self.invariant.host.standing in
-    let moved : Stands r.script (entry 0 e ∷ h) c.in_ok-standing.standing = c.in_ok-standing.ensures r.script r.workers h (entry 0 e) of.legal refl (sym c.as_slice.ensures) before pages in
+    let before = subst (λ (st : StandingModel). StandsForPast r.script h st) (sym c.standing-2.ensures) c.self.invariant.host.standing in
+    let moved : StandsForPast r.script (entry 0 e ∷ h) c.in_ok-standing.standing = c.in_ok-standing.ensures r.script r.workers h (entry 0 e) of.legal refl (sym c.as_slice.ensures) before pages in
     let entered : c.enter.new.self ≡ with_entry r 0 e = subst (λ (z : Event). c.enter.new.self ≡ with_entry r 0 z) is_event c.in_ok-enter.ensures.ok in
     let hosts : Hosts r.script (entry 0 e ∷ h) c.stand.new.self = c.stand.ensures.keeps r.script h (entry 0 e) refl refl refl c.self.invariant.host moved in
     let holds : Manages r.script (entry 0 e ∷ h) c.forget.new.self = c.forget.ensures r.script h (entry 0 e ∷ h) c.self.invariant.tiles (same_tiles r.script h (entry 0 e) refl) in
@@ -116,7 +116,7 @@ returns-clause-ok c =
     let r : Run = c.self.inside.log in
     let h : List Entry = past r in
     let legal = c.is_legal.ensures.legal in
-    let stands = subst (λ (st : StandingModel). Stands r.script h st) (sym c.standing.ensures) c.self.invariant.host.standing in
+    let stands = subst (λ (st : StandingModel). StandsForPast r.script h st) (sym c.standing.ensures) c.self.invariant.host.standing in
     let pages = c.pages-pages.ensures r.script h c.self.invariant.host in
     let is_open = subst (λ (z : Run). is_open (past z) kind.Wheel ≡ true) (sym c.self.view_is) c.requires.is_open in
     let asked = subst (λ (z : Run). input_now z.script (past z) ≡ Some (input.Wheel c.args.x c.args.y c.args.dx c.args.dy)) (sym c.self.view_is) c.requires.asked in

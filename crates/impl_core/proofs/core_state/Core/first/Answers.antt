@@ -1,7 +1,7 @@
 -- The tiles are those of the history before and after, and it was looked.
 use Rattle.std.proofs.Common.{◌∙◌, ap, sym, subst, option_map}
 use Rattle.model_history.specs.Scripts.{ScriptModel}
-use Rattle.model_history.specs.Ranking.{first}
+use Rattle.model_history.specs.Ranking.{rank_to_start}
 use Rattle.impl_log.specs.Runs.{Run, past}
 use Rattle.tile_queue.specs.Queues.{rank_key}
 use Rattle.impl_core.specs.inner.Outlooks.{LooksNow}
@@ -28,4 +28,4 @@ invariant_of-self-2 c =
 pub returns-clause-key : goal.returns-clause-key
 returns-clause-key c =
     let r = c.self.inside.log in
-    c.next_start.ensures r.script r.workers (past r) c.is_legal.ensures.legal (c.look.ensures.same r.script (past r) (c.deref.ensures ∙ c.script.ensures) c.self.invariant.host c.self.invariant.tiles) ∙ ap (λ (z : Run). option_map rank_key (first z.script (past z))) c.self.view_is
+    c.next_start.ensures r.script r.workers (past r) c.is_legal.ensures.legal (c.look.ensures.same r.script (past r) (c.deref.ensures ∙ c.script.ensures) c.self.invariant.host c.self.invariant.tiles) ∙ ap (λ (z : Run). option_map rank_key (rank_to_start z.script (past z))) c.self.view_is

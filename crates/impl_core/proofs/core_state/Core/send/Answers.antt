@@ -5,7 +5,7 @@ use Rattle.page_layers.specs.declared.moves.Move.{Move}
 use Rattle.model_history.specs.declared.event.Event.TheVariants as event
 use Rattle.model_history.specs.Legal.{Legal}
 use Rattle.model_steps.specs.Events.{send}
-use Rattle.impl_scroll.specs.Standings.{StandingModel, Stands}
+use Rattle.impl_scroll.specs.Standings.{StandingModel, StandsForPast}
 use Rattle.impl_log.specs.declared.progress.Progress.{Progress}
 use Rattle.impl_log.specs.Runs.{Run, past, Entered}
 use Rattle.tile_manager.proofs.OtherTiles.{send_holds}
@@ -22,14 +22,14 @@ unheard-requires c =
       past = past r;
       accepted = c.is_legal.ensures.accepted;
       legal = c.is_legal.ensures.legal;
-      stands = subst (λ (st : StandingModel). Stands r.script (past r) st) (sym c.standing.ensures) c.self.invariant.host.standing;
+      stands = subst (λ (st : StandingModel). StandsForPast r.script (past r) st) (sym c.standing.ensures) c.self.invariant.host.standing;
     }
 
 pub enter-requires-clause-is_now : goal.enter-requires-clause-is_now
 enter-requires-clause-is_now c =
     let r : Run = c.self.inside.log in
     let is_open = sym c.is_open-open.ensures ∙ c.if-open.true in
-    let stands = subst (λ (st : StandingModel). Stands r.script (past r) st) (sym c.standing.ensures) c.self.invariant.host.standing in
+    let stands = subst (λ (st : StandingModel). StandsForPast r.script (past r) st) (sym c.standing.ensures) c.self.invariant.host.standing in
     send_now r.script (past r) is_open (sym c.is_left-left.ensures ∙ c.if-left.true) c.progress-frame.result.sends (ap (λ (p : Progress). p.sends) c.progress-frame.ensures) c.in_ok-pulls.pulls
     (c.in_ok-pulls.ensures r.script r.workers (past r) c.is_legal.ensures.legal stands is_open)
 
@@ -42,7 +42,7 @@ sent-requires c =
     let k : ℕ = c.progress-frame.result.sends in
     let ms : List Move = c.in_ok-pulls.pulls in
     let is_open = sym c.is_open-open.ensures ∙ c.if-open.true in
-    let stands = subst (λ (st : StandingModel). Stands r.script (past r) st) (sym c.standing.ensures) c.self.invariant.host.standing in
+    let stands = subst (λ (st : StandingModel). StandsForPast r.script (past r) st) (sym c.standing.ensures) c.self.invariant.host.standing in
     let may_come = send_now r.script (past r) is_open (sym c.is_left-left.ensures ∙ c.if-left.true) k (ap (λ (p : Progress). p.sends) c.progress-frame.ensures) ms (c.in_ok-pulls.ensures r.script r.workers (past r) c.is_legal.ensures.legal stands is_open) in
     record {
       script = r.script;
@@ -62,7 +62,7 @@ invariant_of-self-then-left c =
     let k : ℕ = c.progress-frame.result.sends in
     let ms : List Move = c.in_ok-pulls.pulls in
     let is_open = sym c.is_open-open.ensures ∙ c.if-open.true in
-    let stands = subst (λ (st : StandingModel). Stands r.script (past r) st) (sym c.standing.ensures) c.self.invariant.host.standing in
+    let stands = subst (λ (st : StandingModel). StandsForPast r.script (past r) st) (sym c.standing.ensures) c.self.invariant.host.standing in
     let may_come = send_now r.script (past r) is_open (sym c.is_left-left.ensures ∙ c.if-left.true) k (ap (λ (p : Progress). p.sends) c.progress-frame.ensures) ms (c.in_ok-pulls.ensures r.script r.workers (past r) c.is_legal.ensures.legal stands is_open) in
     let legal : Legal r.script r.workers (send 0 k ms ∷ past r) = comes_next r.script r.workers (past r) 0 (event.Send k ms) c.is_legal.ensures.legal may_come refl (omega arith) in
     one_more (record { host = c.sent.new.self; tiles = c.self.inside.tiles; told = c.in_ok-told.told; prepared = c.self.inside.prepared; required = c.self.inside.required }) r c.enter.new.self 0 (event.Send k ms) c.in_ok-enter.ensures.ok
@@ -75,7 +75,7 @@ returns-in_ok-enter-clause-plays c =
     let k : ℕ = c.progress-frame.result.sends in
     let ms : List Move = c.in_ok-pulls.pulls in
     let is_open = sym c.is_open-open.ensures ∙ c.if-open.true in
-    let stands = subst (λ (st : StandingModel). Stands r.script (past r) st) (sym c.standing.ensures) c.self.invariant.host.standing in
+    let stands = subst (λ (st : StandingModel). StandsForPast r.script (past r) st) (sym c.standing.ensures) c.self.invariant.host.standing in
     let may_come = send_now r.script (past r) is_open (sym c.is_left-left.ensures ∙ c.if-left.true) k (ap (λ (p : Progress). p.sends) c.progress-frame.ensures) ms (c.in_ok-pulls.ensures r.script r.workers (past r) c.is_legal.ensures.legal stands is_open) in
     let entered : Entered r kind.Send 0 c.enter.new.self = record { event = event.Send k ms; is_now = may_come; is_entered = c.in_ok-enter.ensures.ok } in
     subst (λ (z : Run). Entered z kind.Send 0 c.enter.new.self) c.self.view_is entered

@@ -1,4 +1,4 @@
--- The next key is started, with what is given up for it.
+-- The next key is started, with what is evicted for it.
 use Rattle.std.proofs.Common.{◌≡◌, ℕ, ◌+◌, ◌<◌, ◌∷◌, List, None, Some, refl, sym, ◌∙◌, subst, arith}
 use Rattle.geom.specs.declared.tile.TileKey.{TileKey}
 use Rattle.model_scheduler.specs.declared.kind.Kind.TheVariants as kind
@@ -32,8 +32,8 @@ invariant_of-self-in_err-evicted c =
     with_tiles r.script (past r) (record { host = c.self.inside.host; tiles = c.self.inside.tiles; told = c.self.inside.told; prepared = c.self.inside.prepared; required = c.self.inside.required }) c.look.new.tiles c.self.invariant
     (c.look.ensures.same r.script (past r) (c.deref.ensures ∙ c.script.ensures) c.self.invariant.host c.self.invariant.tiles)
 
-pub invariant_of-self-in_err-given_up : goal.invariant_of-self-in_err-given_up
-invariant_of-self-in_err-given_up c =
+pub invariant_of-self-in_err-evicted_keys : goal.invariant_of-self-in_err-evicted_keys
+invariant_of-self-in_err-evicted_keys c =
     let r : Run = c.self.inside.log in
     with_tiles r.script (past r) (record { host = c.self.inside.host; tiles = c.self.inside.tiles; told = c.self.inside.told; prepared = c.self.inside.prepared; required = c.self.inside.required }) c.look.new.tiles c.self.invariant
     (c.look.ensures.same r.script (past r) (c.deref.ensures ∙ c.script.ensures) c.self.invariant.host c.self.invariant.tiles)
@@ -60,7 +60,7 @@ enter-requires-clause-is_now c =
     let first : IsFirst r.script (past r) q = next_first r.script (past r) q (subst (λ (z : Run). next_key z ≡ Some q) (sym c.self.view_is) c.requires.next) in
     let gone = c.in_ok-evicted.ensures r.script r.workers (past r) first.rank c.is_legal.ensures.legal (c.look.ensures.same r.script (past r) (c.deref.ensures ∙ c.script.ensures) c.self.invariant.host c.self.invariant.tiles) first.is_first first.key in
     let may_come : now r kind.Start (2 + w) ≡ Some (event.Start w q ks) = start_now r.script (past r) first.going w free first.rank first.is_first q first.key ks gone in
-    subst (λ (z : List TileKey). now r kind.Start (2 + w) ≡ Some (event.Start w q z)) (sym c.in_ok-given_up.ensures) may_come
+    subst (λ (z : List TileKey). now r kind.Start (2 + w) ≡ Some (event.Start w q z)) (sym c.in_ok-evicted_keys.ensures) may_come
 
 pub start-requires-clause-next : goal.start-requires-clause-next
 start-requires-clause-next c =
@@ -98,7 +98,7 @@ invariant_of-self-2 c =
     let started : Manages r.script (start (2 + w) w q ks ∷ past r) c.start.new.self =
     c.start.ensures.tiles r.script r.workers (past r) (2 + w) w (c.reserve.ensures.same r.script (past r) (c.look.ensures.same r.script (past r) (c.deref.ensures ∙ c.script.ensures) c.self.invariant.host c.self.invariant.tiles)) legal in
     let entered : c.enter.new.self ≡ with_entry r (2 + w) (event.Start w q ks) =
-    subst (λ (z : List TileKey). c.enter.new.self ≡ with_entry r (2 + w) (event.Start w q z)) c.in_ok-given_up.ensures c.in_ok-enter.ensures.ok in
+    subst (λ (z : List TileKey). c.enter.new.self ≡ with_entry r (2 + w) (event.Start w q z)) c.in_ok-evicted_keys.ensures c.in_ok-enter.ensures.ok in
     one_more (record { host = c.self.inside.host; tiles = c.start.new.self; told = c.self.inside.told; prepared = c.self.inside.prepared; required = c.self.inside.required }) r c.enter.new.self (2 + w) (event.Start w q ks) entered
     (start_core r.script (past r) (2 + w) w q ks (record { host = c.self.inside.host; tiles = c.self.inside.tiles; told = c.self.inside.told; prepared = c.self.inside.prepared; required = c.self.inside.required }) c.start.new.self c.self.invariant started)
 
@@ -113,6 +113,6 @@ returns-clause-ok c =
     let gone = c.in_ok-evicted.ensures r.script r.workers (past r) first.rank c.is_legal.ensures.legal (c.look.ensures.same r.script (past r) (c.deref.ensures ∙ c.script.ensures) c.self.invariant.host c.self.invariant.tiles) first.is_first first.key in
     let may_come : now r kind.Start (2 + w) ≡ Some (event.Start w q ks) = start_now r.script (past r) first.going w free first.rank first.is_first q first.key ks gone in
     let entered : c.enter.new.self ≡ with_entry r (2 + w) (event.Start w q ks) =
-    subst (λ (z : List TileKey). c.enter.new.self ≡ with_entry r (2 + w) (event.Start w q z)) c.in_ok-given_up.ensures c.in_ok-enter.ensures.ok in
+    subst (λ (z : List TileKey). c.enter.new.self ≡ with_entry r (2 + w) (event.Start w q z)) c.in_ok-evicted_keys.ensures c.in_ok-enter.ensures.ok in
     let next : next_key r ≡ Some q = subst (λ (z : Run). next_key z ≡ Some q) (sym c.self.view_is) c.requires.next in
     subst (λ (z : Run). StartsKey z w q c.enter.new.self) c.self.view_is (record { evicted = ks; is_next = next; is_now = may_come; is_entered = entered })

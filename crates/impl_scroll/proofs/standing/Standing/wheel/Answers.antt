@@ -3,7 +3,7 @@ use Rattle.std.proofs.Common.{pos, sym, ◌∙◌, ap, subst}
 use Rattle.std.specs.Prelude.{option_copied}
 use Rattle.std.proofs.lemmas.Int.{to_z-of_z}
 use Rattle.page_layers.proofs.KeptPages.{weaken}
-use Rattle.impl_scroll.specs.Standings.{Stands}
+use Rattle.impl_scroll.specs.Standings.{StandsForPast}
 use Rattle.impl_scroll.proofs.InputFacts.{ranges_there, wheel_there, wheel_nowhere, wheel_fits}
 use Rattle.impl_scroll.proofs.standing.Standing.wheel.Goals as goal
 
@@ -11,7 +11,7 @@ pub wheel_in-requires-clause-ranges : goal.wheel_in-requires-clause-ranges
 wheel_in-requires-clause-ranges c =
     let r = c.requires in
     ranges_there r.script r.past (record { rows = c.self.inside.rows; active = c.self.inside.active; pending = c.self.inside.pending }) c.in-Some.page.now
-    (subst (Stands r.script r.past) (sym c.self.view_is) r.stands).active (sym (ap option_copied c.in-Some.is) ∙ r.page) r.workers r.accepted r.legal
+    (subst (StandsForPast r.script r.past) (sym c.self.view_is) r.stands).active (sym (ap option_copied c.in-Some.is) ∙ r.page) r.workers r.accepted r.legal
 
 pub wheel_in-requires-clause-column : goal.wheel_in-requires-clause-column
 wheel_in-requires-clause-column c = let r = c.requires in (wheel_fits r.script r.past c.args.x c.args.y c.args.dx c.args.dy r.accepted r.input).column
@@ -35,5 +35,5 @@ returns-in-Some c =
     weaken c.wheel_in.result
     (λ w there s n h is e.
     wheel_there s h (record { rows = c.self.inside.rows; active = c.self.inside.active; pending = c.self.inside.pending }) c.in-Some.page.now
-    (subst (Stands s h) (sym c.self.view_is) is).active (sym (ap option_copied c.in-Some.is) ∙ e) (pos c.args.x) (pos c.args.y) c.args.dx c.args.dy w there)
+    (subst (StandsForPast s h) (sym c.self.view_is) is).active (sym (ap option_copied c.in-Some.is) ∙ e) (pos c.args.x) (pos c.args.y) c.args.dx c.args.dy w there)
     (simp (to_z-of_z, c.ranges.dx, c.ranges.dy) at c.wheel_in.ensures)

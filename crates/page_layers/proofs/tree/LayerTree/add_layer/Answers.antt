@@ -5,7 +5,7 @@ use Rattle.page_display_list.specs.declared.item.Item.{Item}
 use Rattle.page_layers.specs.declared.command.Command.TheVariants as command
 use Rattle.page_layers.specs.Layers.{PageLayer, parts_of}
 use Rattle.page_layers.specs.Pages.{Page}
-use Rattle.page_layers.specs.Effects.{after}
+use Rattle.page_layers.specs.Effects.{page_after_command}
 use Rattle.page_layers.proofs.TestFacts.{add_layer_facts}
 use Rattle.page_layers.proofs.KeptPages.{passed_inside, accepted, parted, kept_together}
 use Rattle.page_layers.proofs.tree.LayerTree.add_layer.Goals as goal
@@ -28,7 +28,7 @@ invariant_of-self-then-together c =
 pub returns-in-Ok : goal.returns-in-Ok
 returns-in-Ok c = (
   (let l : PageLayer = (record { id = c.args.id; transform = c.args.transform; clip = c.args.clip; effect = c.args.effect; w = c.args.w; h = c.args.h; colour = c.args.colour; items = [] }) in accepted c.args.self.now (command.AddLayer c.args.id c.args.at c.args.transform c.args.clip c.args.effect c.args.w c.args.h c.args.colour) c.in_ok-together.together c.in_ok-may_add_layer.field-0 (c.in_ok-together.ensures l refl) c.if-together.true c.in_ok-may_add_layer.ensures),
-  ap (λ (us : List ℕ). let made : Page = record { view = c.self.inside.view; props = c.self.inside.props; layers = map parts_of c.put_in.new.layers.items; used = us; values = c.self.inside.values.items } in made) (c.in-Ok.ensures.items ∙ ap (λ (us : List ℕ). us ++ c.args.id ∷ []) c.in_ok-reserve.ensures.items) ∙ ap (λ (ls : List PageLayer). let made : Page = record { view = c.self.inside.view; props = c.self.inside.props; layers = ls; used = (c.self.inside.used.items ++ c.args.id ∷ []); values = c.self.inside.values.items } in made) (c.in_ok-put_in.ensures.ok ∙ ap (λ (items : List Item). let l : PageLayer = record { id = c.args.id; transform = c.args.transform; clip = c.args.clip; effect = c.args.effect; w = c.args.w; h = c.args.h; colour = c.args.colour; items = items } in insert (map parts_of c.self.inside.layers.items) c.args.at l) c.in_ok-list.ensures) ∙ ap (λ (p : Page). after p (command.AddLayer c.args.id c.args.at c.args.transform c.args.clip c.args.effect c.args.w c.args.h c.args.colour)) c.self.view_is,
+  ap (λ (us : List ℕ). let made : Page = record { view = c.self.inside.view; props = c.self.inside.props; layers = map parts_of c.put_in.new.layers.items; used = us; values = c.self.inside.values.items } in made) (c.in-Ok.ensures.items ∙ ap (λ (us : List ℕ). us ++ c.args.id ∷ []) c.in_ok-reserve.ensures.items) ∙ ap (λ (ls : List PageLayer). let made : Page = record { view = c.self.inside.view; props = c.self.inside.props; layers = ls; used = (c.self.inside.used.items ++ c.args.id ∷ []); values = c.self.inside.values.items } in made) (c.in_ok-put_in.ensures.ok ∙ ap (λ (items : List Item). let l : PageLayer = record { id = c.args.id; transform = c.args.transform; clip = c.args.clip; effect = c.args.effect; w = c.args.w; h = c.args.h; colour = c.args.colour; items = items } in insert (map parts_of c.self.inside.layers.items) c.args.at l) c.in_ok-list.ensures) ∙ ap (λ (p : Page). page_after_command p (command.AddLayer c.args.id c.args.at c.args.transform c.args.clip c.args.effect c.args.w c.args.h c.args.colour)) c.self.view_is,
   c.in_ok-changes.ensures,
 )
 

@@ -6,10 +6,10 @@ use Rattle.page_layers.proofs.KeptPages.{kept, passed_inside}
 use Rattle.page_layers.proofs.tree.LayerTree.insert_item.Goals as goal
 use Rattle.page_layers.proofs.TestFacts.{insert_item_facts}
 use Rattle.geom.specs.Covers.{IsSound}
-use Rattle.page_display_list.specs.Content.{rect_of}
+use Rattle.page_display_list.specs.Content.{rect_of_item}
 use Rattle.page_display_list.specs.declared.item.Item.{Item}
 use Rattle.std.specs.Prelude.{insert}
-use Rattle.page_layers.specs.Lists.{changed}
+use Rattle.page_layers.specs.Lists.{with_first_changed}
 use Rattle.page_layers.specs.Layers.{has_id, with_items}
 
 pub inside-requires : goal.inside-requires
@@ -25,10 +25,10 @@ insert-requires-clause-fits c =
 pub insert-requires-clause-sound : goal.insert-requires-clause-sound
 insert-requires-clause-sound c =
     let inside : Page = record { view = c.self.inside.view; props = c.self.inside.props; layers = map parts_of c.self.inside.layers.items; used = c.self.inside.used.items; values = c.self.inside.values.items } in
-    subst (λ (i : Item). IsSound (rect_of i)) (sym c.in_ok-copy.ensures) (insert_item_facts inside c.args.layer c.args.at c.args.item.now (passed_inside inside c.args.self.now (command.InsertItem c.args.layer c.args.at c.args.item.now) c.self.view_is c.in_ok-may_insert_item.field-0 c.in_ok-may_insert_item.ensures)).1
+    subst (λ (i : Item). IsSound (rect_of_item i)) (sym c.in_ok-copy.ensures) (insert_item_facts inside c.args.layer c.args.at c.args.item.now (passed_inside inside c.args.self.now (command.InsertItem c.args.layer c.args.at c.args.item.now) c.self.view_is c.in_ok-may_insert_item.field-0 c.in_ok-may_insert_item.ensures)).1
 
 pub invariant_of-self-2 : goal.invariant_of-self-2
 invariant_of-self-2 c =
     let inside : Page = record { view = c.self.inside.view; props = c.self.inside.props; layers = map parts_of c.self.inside.layers.items; used = c.self.inside.used.items; values = c.self.inside.values.items } in
     kept inside c.args.self.now _ (command.InsertItem c.args.layer c.args.at c.args.item.now) refl c.self.view_is c.self.invariant c.in_ok-may_insert_item.field-0 c.in_ok-may_insert_item.ensures
-    (ap (λ (ls : List PageLayer). let made : Page = record { view = c.self.inside.view; props = c.self.inside.props; layers = ls; used = c.self.inside.used.items; values = c.self.inside.values.items } in made) (c.in_ok-insert.ensures.ok ∙ ap (λ (i : Item). changed (has_id c.args.layer) (with_items (λ (items : List Item). insert items c.args.at i)) (map parts_of c.self.inside.layers.items)) c.in_ok-copy.ensures))
+    (ap (λ (ls : List PageLayer). let made : Page = record { view = c.self.inside.view; props = c.self.inside.props; layers = ls; used = c.self.inside.used.items; values = c.self.inside.values.items } in made) (c.in_ok-insert.ensures.ok ∙ ap (λ (i : Item). with_first_changed (has_id c.args.layer) (with_items (λ (items : List Item). insert items c.args.at i)) (map parts_of c.self.inside.layers.items)) c.in_ok-copy.ensures))

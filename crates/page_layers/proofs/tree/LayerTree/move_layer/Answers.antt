@@ -4,8 +4,8 @@ use Rattle.region.specs.Lists.{Changed}
 use Rattle.page_layers.specs.declared.command.Command.TheVariants as command
 use Rattle.page_layers.specs.Layers.{PageLayer, parts_of}
 use Rattle.page_layers.specs.Pages.{Page}
-use Rattle.page_layers.specs.Effects.{after}
-use Rattle.page_layers.specs.Outcomes.{Lists}
+use Rattle.page_layers.specs.Effects.{page_after_command}
+use Rattle.page_layers.specs.Outcomes.{ListsChange}
 use Rattle.page_layers.proofs.TestFacts.{move_layer_facts}
 use Rattle.page_layers.proofs.KeptPages.{passed_inside, accepted, parted, kept_together}
 use Rattle.page_layers.proofs.tree.LayerTree.move_layer.Goals as goal
@@ -28,8 +28,8 @@ invariant_of-self c =
 pub returns-then-together : goal.returns-then-together
 returns-then-together c = (
   (accepted c.args.self.now (command.MoveLayer c.args.id c.args.at) c.in_ok-together.together c.in_ok-may_move_layer.field-0 c.in_ok-together.ensures c.if-together.true c.in_ok-may_move_layer.ensures),
-  ap (λ (ls : List PageLayer). let made : Page = record { view = c.self.inside.view; props = c.self.inside.props; layers = ls; used = c.self.inside.used.items; values = c.self.inside.values.items } in made) c.reorder.ensures ∙ ap (λ (p : Page). after p (command.MoveLayer c.args.id c.args.at)) c.self.view_is,
-  subst (λ (ch : Changed). Lists None false ch) (sym c.unlisted.ensures) (record { holds = tt; retiled = refl }),
+  ap (λ (ls : List PageLayer). let made : Page = record { view = c.self.inside.view; props = c.self.inside.props; layers = ls; used = c.self.inside.used.items; values = c.self.inside.values.items } in made) c.reorder.ensures ∙ ap (λ (p : Page). page_after_command p (command.MoveLayer c.args.id c.args.at)) c.self.view_is,
+  subst (λ (ch : Changed). ListsChange None false ch) (sym c.unlisted.ensures) (record { holds = tt; retiled = refl }),
 )
 
 pub returns-else-together : goal.returns-else-together

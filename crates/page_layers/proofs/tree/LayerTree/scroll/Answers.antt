@@ -6,7 +6,7 @@ use Rattle.std.proofs.Common.{ℕ, List, map, sym, ap, ◌∙◌, ◌≡◌, sub
 use Rattle.std.specs.Prelude.{is_some}
 use Rattle.geom.specs.declared.rect.Point.{Point}
 use Rattle.page_properties.specs.declared.nodes.ScrollNode.{ScrollNode}
-use Rattle.page_properties.specs.Entries.{changed, find}
+use Rattle.page_properties.specs.Entries.{with_node_changed, find}
 use Rattle.page_layers.specs.Layers.{parts_of}
 use Rattle.page_layers.specs.Pages.{Page}
 use Rattle.page_layers.specs.Effects.{clamped_in, scrolled_to}
@@ -28,7 +28,7 @@ invariant_of-self c =
     let fits_x : FitsSigned w64 c.args.x = search rules in
     let fits_y : FitsSigned w64 c.args.y = search rules in
     let at_is : c.clamped-at.result ≡ clamped_in (find c.args.id c.self.inside.props.scrollers) c.args.x c.args.y = (simp to_z-of_z at c.clamped-at.ensures) ∙ ap (λ (o : Option ScrollNode). clamped_in o c.args.x c.args.y) c.in-Some.ensures in
-    subst IsPage (sym (ap made (c.set_value.ensures ∙ ap (λ (q : Point). changed c.args.id (λ (v : Point). q) c.self.inside.values.items) at_is))) (after-scrolled inside c.args.id c.args.x c.args.y c.self.invariant)
+    subst IsPage (sym (ap made (c.set_value.ensures ∙ ap (λ (q : Point). with_node_changed c.args.id (λ (v : Point). q) c.self.inside.values.items) at_is))) (after-scrolled inside c.args.id c.args.x c.args.y c.self.invariant)
 
 pub returns-in-None : goal.returns-in-None
 returns-in-None c =

@@ -10,8 +10,8 @@ use Rattle.page_layers.specs.declared.paint.LayerSample.{LayerSample}
 use Rattle.page_layers.specs.declared.view.View.{View}
 use Rattle.page_layers.specs.Layers.{PageLayer, parts_of}
 use Rattle.page_layers.specs.inner.LayerSamples.{HaveOpacities}
-use Rattle.page_layers.specs.TreePainting.{groups_in, opacity_in, colour_at}
-use Rattle.page_layers.specs.Paintings.{shown}
+use Rattle.page_layers.specs.TreePainting.{groups_in, opacity_in, layer_colour_at}
+use Rattle.page_layers.specs.Paintings.{placed_colour}
 use Rattle.page_layers.proofs.Placing.{sizes}
 use Rattle.page_layers.proofs.SampleColours.{effects_of_lists}
 use Rattle.page_layers.proofs.tree_paint.Painting.new.Goals as goal
@@ -36,10 +36,10 @@ invariant_of-result c =
 pub returns : goal.returns
 returns c = record {
   colours = λ x y.
-      ap (λ (v : View). map (shown v.tile x y) c.in_ok-layers.layers.items) c.view-tile.ensures
+      ap (λ (v : View). map (placed_colour v.tile x y) c.in_ok-layers.layers.items) c.view-tile.ensures
       ∙ c.in_ok-layers.ensures.colours x y
-      ∙ sym (map-map (colour_at c.args.tree.now (offset_at c.args.offsets.now) c.args.missing.now x y) parts_of c.layers.result.now)
-      ∙ ap (λ (ls : List PageLayer). map (colour_at c.args.tree.now (offset_at c.args.offsets.now) c.args.missing.now x y) ls) c.layers.ensures;
+      ∙ sym (map-map (layer_colour_at c.args.tree.now (offset_at c.args.offsets.now) c.args.missing.now x y) parts_of c.layers.result.now)
+      ∙ ap (λ (ls : List PageLayer). map (layer_colour_at c.args.tree.now (offset_at c.args.offsets.now) c.args.missing.now x y) ls) c.layers.ensures;
   groups =
       sym (effects_of_lists c.in_ok-samples.samples.items)
       ∙ c.in_ok-samples.ensures.groups

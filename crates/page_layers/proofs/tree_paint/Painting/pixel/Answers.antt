@@ -7,7 +7,7 @@ use Rattle.std.proofs.lemmas.Grind.{common_steps}
 use Rattle.page_layers.specs.declared.paint.Group.{Group}
 use Rattle.page_layers.specs.declared.paint.LayerSample.{LayerSample}
 use Rattle.page_layers.specs.inner.LayerSamples.{colour_of}
-use Rattle.page_layers.specs.Paintings.{Ready, Placed, shown}
+use Rattle.page_layers.specs.Paintings.{Ready, Placed, placed_colour}
 use Rattle.page_layers.proofs.SampleColours.{each-sample, lists_of, painted}
 use Rattle.page_layers.proofs.tree_paint.Painting.pixel.Goals as goal
 
@@ -28,5 +28,5 @@ returns-clause-value c = λ p offset missing shows.
     let view = c.self.view_is in
     painted p offset missing c.args.self.now c.as_slice-2.result.now c.args.background c.paint_from.result c.args.x c.args.y shows
     (ap lists_of written ∙ c.set_colours.ensures.groups ∙ ap lists_of c.as_mut_slice.ensures.value ∙ ap (λ (r : Ready). r.groups) view)
-    (ap (λ (ss : List LayerSample). map colour_of ss) written ∙ colours ∙ ap (λ (ls : List Placed). map (shown c.self.inside.tile c.args.x c.args.y) ls) c.as_slice.ensures.value ∙ ap (λ (r : Ready). map (shown r.tile c.args.x c.args.y) r.layers) view)
+    (ap (λ (ss : List LayerSample). map colour_of ss) written ∙ colours ∙ ap (λ (ls : List Placed). map (placed_colour c.self.inside.tile c.args.x c.args.y) ls) c.as_slice.ensures.value ∙ ap (λ (r : Ready). map (placed_colour r.tile c.args.x c.args.y) r.layers) view)
     (λ opacity have. c.paint_from.ensures opacity have)

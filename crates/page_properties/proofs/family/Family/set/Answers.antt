@@ -1,6 +1,6 @@
 -- The place of the id takes the node, which changes no id.
 use Rattle.std.proofs.Common.{◌≡◌, ◌∙◌, sym, ap, arith, None, true, is_some}
-use Rattle.page_properties.specs.Entries.{find, changed}
+use Rattle.page_properties.specs.Entries.{find, with_node_changed}
 use Rattle.page_properties.specs.inner.Index.{listed_place}
 use Rattle.page_properties.proofs.Indexes.{entry_of, set_entry, unknown_entry, distinct_changed, ids_changed}
 use Rattle.page_properties.proofs.family.Family.set.Goals as goal
@@ -21,7 +21,7 @@ pub returns-in-Some : goal.returns-in-Some
 returns-in-Some g c =
     let e = set_entry c.args.id c.args.node.now c.self.inside.nodes.items c.self.inside.entries.items c.in-Some.place c.self.invariant.1
     (ap (listed_place c.args.id) (sym c.deref.ensures.value) ∙ (sym c.place_in.ensures ∙ c.in-Some.is)) in
-    e ∙ ap (changed c.args.id (λ _. c.args.node.now)) c.self.view_is
+    e ∙ ap (with_node_changed c.args.id (λ _. c.args.node.now)) c.self.view_is
 
 pub returns-in_default : goal.returns-in_default
 returns-in_default g c =

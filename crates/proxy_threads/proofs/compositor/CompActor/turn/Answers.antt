@@ -14,12 +14,12 @@ returns-clause-turn g c =
     subst (λ (w : List ℕ). Wrote (g.K.Sink.held c.args.self.now.out.now) (g.K.Sink.held c.write-answer.new.out) (text_for c.hold-pass.result.1 w) c.write-answer.result) c.as_slice.ensures.value c.write-answer.ensures.bytes in
     subst
     (λ (o : Option Seat).
-    CompTurns o (Some c.settle.result) c.args.self.now.lines.written c.hold-pass.new.lines.written (g.K.Sink.held c.args.self.now.out.now) (g.K.Sink.held c.write-answer.new.out) c.write-answer.result)
+    CompTurns o (Some c.stop_if_failed.result) c.args.self.now.lines.written c.hold-pass.new.lines.written (g.K.Sink.held c.args.self.now.out.now) (g.K.Sink.held c.write-answer.new.out) c.write-answer.result)
     c.in-Some.ensures.value
     (comp_turn c.in-Some.pass c.hold-pass.result.0 c.args.self.now.lines.written c.hold-pass.new.lines c.hold-pass.result.1 may.actor may.written c.hold-pass.ensures (g.K.Sink.held c.args.self.now.out.now) (g.K.Sink.held c.write-answer.new.out)
-    c.settle.result c.write-answer.result c.write-answer.ensures.answer wrote c.settle.ensures)
+    c.stop_if_failed.result c.write-answer.result c.write-answer.ensures.answer wrote c.stop_if_failed.ensures)
 
 pub returns-clause-over : goal.returns-clause-over
 returns-clause-over g c =
     let may : MayTurn c.args.lock.now.id c.args.self.now.lines.written c.in-Some.pass = subst (λ (o : Option Seat). Of o (MayTurn c.args.lock.now.id c.args.self.now.lines.written)) (sym c.in-Some.ensures.value) c.requires in
-    knows_end c.in-Some.pass c.hold-pass.result.0 c.args.self.now.lines.written c.hold-pass.new.lines c.hold-pass.result.1 may.actor may.written c.hold-pass.ensures c.settle.result c.write-answer.result c.settle.ensures
+    knows_end c.in-Some.pass c.hold-pass.result.0 c.args.self.now.lines.written c.hold-pass.new.lines c.hold-pass.result.1 may.actor may.written c.hold-pass.ensures c.stop_if_failed.result c.write-answer.result c.stop_if_failed.ensures

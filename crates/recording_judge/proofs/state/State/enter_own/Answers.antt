@@ -3,7 +3,7 @@ use Rattle.std.proofs.Common.{◌<◌, ◌+◌, sym, ◌∙◌, ap, subst}
 use Rattle.model_scheduler.specs.declared.kind.Kind.{Kind}
 use Rattle.page_layers.proofs.KeptPages.{weaken}
 use Rattle.impl_log.specs.Runs.{Run, now}
-use Rattle.recording_judge.specs.Judging.{Enters}
+use Rattle.recording_judge.specs.Judging.{JudgesEntry}
 use Rattle.recording_judge.specs.inner.States.{HasKind}
 use Rattle.recording_judge.proofs.StateFacts.{has_kind}
 use Rattle.recording_judge.proofs.state.State.enter_own.Goals as goal
@@ -23,4 +23,4 @@ enter_coming-requires-clause-within c = subst (λ (z : Run). c.args.entry.now.ac
 
 pub returns-clause-enters : goal.returns-clause-enters
 returns-clause-enters c =
-    weaken c.enter_coming.result (λ yes enters. subst (λ (z : Run). Enters z c.args.entry.now c.enter_coming.new.self.log yes) c.in_ok-prepare.ensures.log enters) c.enter_coming.ensures.enters
+    weaken c.enter_coming.result (λ yes enters. subst (λ (z : Run). JudgesEntry z c.args.entry.now c.enter_coming.new.self.log yes) c.in_ok-prepare.ensures.log enters) c.enter_coming.ensures.enters

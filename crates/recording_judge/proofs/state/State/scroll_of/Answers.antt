@@ -1,7 +1,7 @@
 -- What is accepted is what the scrollers tell.
 use Rattle.std.proofs.Common.{ℤ, ℕ, Some, sym, ◌∙◌, ap, subst}
 use Rattle.std.proofs.lemmas.Int.{to_z-of_z}
-use Rattle.impl_scroll.specs.Standings.{StandingModel, Stands}
+use Rattle.impl_scroll.specs.Standings.{StandingModel, StandsForPast}
 use Rattle.impl_log.specs.Runs.{past}
 use Rattle.recording_judge.proofs.DueEvents.{scroll_is}
 use Rattle.recording_judge.proofs.state.State.scroll_of.Goals as goal
@@ -11,7 +11,7 @@ returns c =
     let r = c.args.self.now.log in
     let h = past r in
     let legal = c.is_legal.ensures.legal in
-    let stands = subst (λ (st : StandingModel). Stands r.script h st) (sym c.standing.ensures) c.requires.state.host.standing in
+    let stands = subst (λ (st : StandingModel). StandsForPast r.script h st) (sym c.standing.ensures) c.requires.state.host.standing in
     let pages = c.pages.ensures r.script h c.requires.state.host in
     let x : ℤ = c.accepted-taken.result.x in
     let y : ℤ = c.accepted-taken.result.y in

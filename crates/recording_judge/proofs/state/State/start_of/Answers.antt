@@ -1,4 +1,4 @@
--- What is given up is what the queue tells.
+-- What is evicted is what the queue tells.
 use Rattle.std.proofs.Common.{◌∙◌}
 use Rattle.impl_log.specs.Runs.{past}
 use Rattle.recording_judge.proofs.DueEvents.{start_is}
@@ -8,4 +8,4 @@ pub returns : goal.returns
 returns c =
     let r = c.args.self.now.log in
     let f = c.requires.first in
-    start_is r.script (past r) c.args.actor c.requires.free c.args.key f c.in_ok-evicted.evicted (c.in_ok-evicted.ensures ∙ c.in_ok-given_up.ensures r.script r.workers (past r) f.rank c.requires.state.tiles f.is_first f.key)
+    start_is r.script (past r) c.args.actor c.requires.free c.args.key f c.in_ok-evicted.evicted (c.in_ok-evicted.ensures ∙ c.in_ok-evicted_keys.ensures r.script r.workers (past r) f.rank c.requires.state.tiles f.is_first f.key)

@@ -2,7 +2,7 @@
 use Rattle.std.proofs.Common.{◌≡◌, ℕ, List, ◌++◌, ◌+◌, ◌%◌, ◌^◌, length, ap, ◌∙◌, rules}
 use Rattle.rtrb.specs.Ring.{sent}
 use Rattle.recording_sums.specs.Put.{joined}
-use Rattle.recording_sums.specs.Sums.{total}
+use Rattle.recording_sums.specs.Sums.{byte_sum}
 use Rattle.recording_sums.proofs.Pieces.{joined_more, counts_more}
 use Rattle.recording_sums.proofs.sink.SumSink.take_in.Goals as goal
 

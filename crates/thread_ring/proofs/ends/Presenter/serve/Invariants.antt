@@ -1,12 +1,12 @@
 use Rattle.std.proofs.Common.{◌≡◌, ◌≤◌}
-use Rattle.thread_ring.specs.Ring.{SamePresenter, taken}
+use Rattle.thread_ring.specs.Ring.{SamePresenter, bytes_taken}
 use Rattle.thread_ring.specs.Answers.{FaultRose, Served}
 use Rattle.thread_ring.proofs.ends.Presenter.serve.Given as goal
 
 abbrev pub invariant-loop : goal.invariant-loop
 invariant-loop g l = record {
   ring : SamePresenter l.fn.self l.self;
-  bytes : Served l.state (g.K.Sink.held l.fn.out) (g.K.Sink.held l.out) (taken l.fn.self) (taken l.self);
+  bytes : Served l.state (g.K.Sink.held l.fn.out) (g.K.Sink.held l.out) (bytes_taken l.fn.self) (bytes_taken l.self);
   faults : g.K.Sink.faults l.fn.out ≤ g.K.Sink.faults l.out;
   refusals : g.K.Sink.refusals l.fn.out ≤ g.K.Sink.refusals l.out;
   cause : FaultRose l.state (g.K.Sink.faults l.fn.out) (g.K.Sink.faults l.out);

@@ -1,7 +1,7 @@
 -- They are the keys of the store's map.
 use Rattle.std.proofs.Common.{sym, subst, ap, ◌∙◌}
 use Rattle.geom.specs.KeyOrder.{key_cmp}
-use Rattle.geom.specs.KeyLists.{has_key, AreDistinct}
+use Rattle.geom.specs.KeyLists.{has_key, AreDistinctKeys}
 use Rattle.tile_priority.specs.Ordered.{IsInOrder}
 use Rattle.tile_store.specs.Stores.{is_ready}
 use Rattle.tile_manager.specs.Managers.{Managed}
@@ -13,7 +13,7 @@ pub returns-clause-order : goal.returns-clause-order
 returns-clause-order c = of_answer c.ready_keys.result (λ keys is. subst (IsInOrder key_cmp) (sym is) (keys_in_order c.self.inside.store)) c.ready_keys.ensures
 
 pub returns-clause-once : goal.returns-clause-once
-returns-clause-once c = of_answer c.ready_keys.result (λ keys is. subst AreDistinct (sym is) (keys_once c.self.inside.store)) c.ready_keys.ensures
+returns-clause-once c = of_answer c.ready_keys.result (λ keys is. subst AreDistinctKeys (sym is) (keys_once c.self.inside.store)) c.ready_keys.ensures
 
 pub returns-clause-keys : goal.returns-clause-keys
 returns-clause-keys c =

@@ -1,4 +1,4 @@
--- The queue that is made gives up the same keys.
+-- The queue that is made evicts the same keys.
 use Rattle.tile_manager.specs.Choices.{choice_among}
 use Rattle.tile_manager.proofs.AlikeChoices.{same_evicted}
 use Rattle.tile_manager.proofs.Bools.{of_answer}

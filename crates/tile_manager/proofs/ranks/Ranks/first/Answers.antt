@@ -5,7 +5,7 @@ use Rattle.tile_priority.specs.declared.rank.Rank.{Rank}
 use Rattle.tile_priority.specs.Choice.{least_of}
 use Rattle.tile_priority.proofs.LeastFirst.{least_is_first}
 use Rattle.tile_queue.specs.Queues.{rank_key}
-use Rattle.tile_manager.specs.Choices.{Ranked, is_missing, choice_among}
+use Rattle.tile_manager.specs.Choices.{Ranked, store_lacks, choice_among}
 use Rattle.tile_manager.proofs.ranks.Ranks.first.Goals as goal
 
 pub returns-in_default : goal.returns-in_default
@@ -13,7 +13,7 @@ returns-in_default c =
     let store = c.args.store.now in
     let now = choice_among store c.args.pins.now c.args.self.now in
     let least : least_of now.wanted ≡ c.best_missing.result =
-    ap (λ rs. least_of (filter (λ (r : Rank). is_missing store r.key) rs)) (sym (c.as_slice.ensures.value ∙ ap (λ (r : Ranked). r.ranks) c.self.view_is)) ∙ sym c.best_missing.ensures in
+    ap (λ rs. least_of (filter (λ (r : Rank). store_lacks store r.key) rs)) (sym (c.as_slice.ensures.value ∙ ap (λ (r : Ranked). r.ranks) c.self.view_is)) ∙ sym c.best_missing.ensures in
     sym (ap (option_map rank_key) (least_is_first.none now (least ∙ c.in_default.is)))
 
 pub returns-then-may_start : goal.returns-then-may_start
@@ -22,7 +22,7 @@ returns-then-may_start c =
     let now = choice_among store c.args.pins.now c.args.self.now in
     let rank = c.in-Some.rank in
     let least : least_of now.wanted ≡ c.best_missing.result =
-    ap (λ rs. least_of (filter (λ (r : Rank). is_missing store r.key) rs)) (sym (c.as_slice.ensures.value ∙ ap (λ (r : Ranked). r.ranks) c.self.view_is)) ∙ sym c.best_missing.ensures in
+    ap (λ rs. least_of (filter (λ (r : Rank). store_lacks store r.key) rs)) (sym (c.as_slice.ensures.value ∙ ap (λ (r : Ranked). r.ranks) c.self.view_is)) ∙ sym c.best_missing.ensures in
     sym (ap (option_map rank_key) (least_is_first.least now rank (least ∙ c.in-Some.is) ∙ ap (λ b. cond b (Some rank) None) (sym (c.may_start.ensures rank refl) ∙ c.if-may_start.true)))
 
 pub returns-else-may_start : goal.returns-else-may_start
@@ -31,5 +31,5 @@ returns-else-may_start c =
     let now = choice_among store c.args.pins.now c.args.self.now in
     let rank = c.in-Some.rank in
     let least : least_of now.wanted ≡ c.best_missing.result =
-    ap (λ rs. least_of (filter (λ (r : Rank). is_missing store r.key) rs)) (sym (c.as_slice.ensures.value ∙ ap (λ (r : Ranked). r.ranks) c.self.view_is)) ∙ sym c.best_missing.ensures in
+    ap (λ rs. least_of (filter (λ (r : Rank). store_lacks store r.key) rs)) (sym (c.as_slice.ensures.value ∙ ap (λ (r : Ranked). r.ranks) c.self.view_is)) ∙ sym c.best_missing.ensures in
     sym (ap (option_map rank_key) (least_is_first.least now rank (least ∙ c.in-Some.is) ∙ ap (λ b. cond b (Some rank) None) (sym (c.may_start.ensures rank refl) ∙ c.if-may_start.false)))

@@ -1,4 +1,4 @@
--- As many may be given up as the worst-first list has.
+-- As many may be evicted as the worst-first list has.
 use Rattle.std.proofs.Common.{◌∙◌, sym, ap, filter, length}
 use Rattle.tile_priority.specs.Choice.{gives_way}
 use Rattle.tile_queue.proofs.Picking.{starts_now, starts_if, not_now}
@@ -12,5 +12,5 @@ returns-in-Now c = λ q e. sym (starts_now (choice_among c.args.store.now c.args
 pub returns-in-Soon : goal.returns-in-Soon
 returns-in-Soon c = λ q e.
     let now = choice_among c.args.store.now c.args.pins.now c.args.self.now in
-    let count = c.victims.ensures ∙ (ap (λ b. length (filter (gives_way b) now.ready)) (sym e) ∙ sym (worst_count c.args.store.now c.args.pins.now c.args.self.now q)) in
-    starts_if now q c.args.bin c.over_budget.result c.victims.result e (not_now c.args.bin c.in-Soon.is) c.over_budget.ensures count
+    let count = c.evictables.ensures ∙ (ap (λ b. length (filter (gives_way b) now.ready)) (sym e) ∙ sym (worst_count c.args.store.now c.args.pins.now c.args.self.now q)) in
+    starts_if now q c.args.bin c.over_budget.result c.evictables.result e (not_now c.args.bin c.in-Soon.is) c.over_budget.ensures count

@@ -2,7 +2,7 @@
 use Rattle.std.proofs.Common.{◌≡◌, Bool, List, filter, ap, ◌∙◌, subst}
 use Rattle.geom.specs.declared.tile.TileKey.{TileKey}
 use Rattle.page_layers.specs.Pages.{Page}
-use Rattle.page_layers.specs.Sound.{AreDistinct}
+use Rattle.page_layers.specs.Sound.{AreDistinctLayers}
 use Rattle.page_layers.proofs.KeptPages.{weaken}
 use Rattle.tile_ranks.specs.SeenTrees.{SeenLayerModel, SeenTreeModel}
 use Rattle.tile_ranks.specs.inner.Lists.{seen_has}
@@ -17,5 +17,5 @@ returns c =
     are
     ∙ (ap (λ (vs : List SeenLayerModel). filter (seen_has vs) c.as_slice-2.result.now) layers
     ∙ (ap (λ (keys : List TileKey). filter (seen_has c.args.self.now.layers) keys) c.as_slice-2.ensures
-    ∙ ap (λ (test : TileKey → Bool). filter test c.args.keys.now) (λ i q. has_is t c.args.self.now q (subst (λ (p : Page). AreDistinct p.layers) (ap (λ (r : SeenTreeModel). r.page) c.self.view_is ∙ is.page) c.is_page.ensures.distinct) is i))))
+    ∙ ap (λ (test : TileKey → Bool). filter test c.args.keys.now) (λ i q. has_is t c.args.self.now q (subst (λ (p : Page). AreDistinctLayers p.layers) (ap (λ (r : SeenTreeModel). r.page) c.self.view_is ∙ is.page) c.is_page.ensures.distinct) is i))))
     c.keys_on.ensures

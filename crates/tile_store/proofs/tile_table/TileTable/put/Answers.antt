@@ -3,7 +3,7 @@ use Rattle.std.proofs.Common.{◌≡◌, ◌<◌, ◌≤◌, true, false, length
 use Rattle.std.specs.List.{insert}
 use Rattle.std.specs.FinMap as fin
 use Rattle.slab.specs.Slab.{slab_len}
-use Rattle.tile_store.specs.declared.held.Held.{Held}
+use Rattle.tile_store.specs.declared.held.KeyedPlace.{KeyedPlace}
 use Rattle.tile_store.specs.declared.held.Tile.{Tile}
 use Rattle.tile_store.specs.inner.TileTables.{StandsAt, IsGapFor, IsTileTable, room}
 use Rattle.tile_store.proofs.TableSteps.{held_map, put, found_at, inserted}
@@ -15,7 +15,7 @@ made c =
     let tiles = c.self.inside.tiles in
     let held = c.self.inside.held.items in
     let new = c.insert_reserved-place.new.self in
-    let one : Held = record { key = c.args.key; place = c.insert_reserved-place.result; live = false } in
+    let one : KeyedPlace = record { key = c.args.key; place = c.insert_reserved-place.result; live = false } in
     let tile : Tile = record { key = c.args.key; image = None } in
     let gap = subst (λ l. IsGapFor l c.args.key c.in-Err.at) c.deref.ensures.value c.in-Err.ensures.absent in
     let spare : 1 ≤ room (vec_capacity c.self.inside.held) (vec_len c.self.inside.held) tiles.capacity (slab_len tiles) = subst (λ s. 1 ≤ s.spare) (sym c.self.view_is) c.requires.room in

@@ -2,7 +2,7 @@
 use Rattle.std.proofs.Common.{◌≡◌, ◌<◌, ◌∷◌, [], ◌++◌, true, false, cond, is_ok, length, get_or, append-nil, sym, ap, ◌∙◌, arith}
 use Rattle.std.specs.FinMap as fin
 use Rattle.slab.specs.Slab.{get}
-use Rattle.tile_store.specs.declared.held.Held.{Held}
+use Rattle.tile_store.specs.declared.held.KeyedPlace.{KeyedPlace}
 use Rattle.tile_store.specs.inner.Rows.{ready_of}
 use Rattle.tile_store.proofs.MadeKeys.{made_more, made_all}
 use Rattle.tile_store.proofs.tile_table.TileTable.ready_keys.Goals as goal
@@ -13,7 +13,7 @@ loop-one-preserved c =
     let tiles = get c.self.inside.tiles in
     let items = c.deref-one-items.result.now in
     let at = c.loop-one.one-index in
-    let none : Held = record { key = record { layer = 0; x = 0; y = 0; stamp = 0 }; place = 0; live = false } in
+    let none : KeyedPlace = record { key = record { layer = 0; x = 0; y = 0; stamp = 0 }; place = 0; live = false } in
     let within : at < length items = omega arith in
     elim c.if-is_made.branch [
       | then-is_made+in_default w ↦

@@ -1,12 +1,12 @@
 -- The keys and their tiles stay.
 use Rattle.std.proofs.Common.{ℕ, List, subst, sym}
 use Rattle.slab.specs.Slab.{Slab}
-use Rattle.tile_store.specs.declared.held.Held.{Held}
+use Rattle.tile_store.specs.declared.held.KeyedPlace.{KeyedPlace}
 use Rattle.tile_store.specs.declared.held.Tile.{Tile}
 use Rattle.tile_store.specs.inner.TileTables.{IsTileTable}
 use Rattle.tile_store.proofs.tile_table.TileTable.reserve.Goals as goal
 
-with_room : (tiles : Slab Tile) (held : List Held) (n : ℕ) → IsTileTable tiles held → IsTileTable (record tiles { capacity = n }) held
+with_room : (tiles : Slab Tile) (held : List KeyedPlace) (n : ℕ) → IsTileTable tiles held → IsTileTable (record tiles { capacity = n }) held
 with_room tiles held n table = record { rises = table.rises; kept = table.kept; few = table.few }
 
 pub invariant_of-self-2 : goal.invariant_of-self-2

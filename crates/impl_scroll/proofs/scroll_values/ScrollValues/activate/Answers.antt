@@ -1,0 +1,16 @@
+use Rattle.std.proofs.Common.{List, refl, ap, sym, ◌∙◌, subst}
+use Rattle.model_scroll_values.specs.Table.{activated}
+use Rattle.impl_scroll.specs.declared.row.Row.{Row}
+use Rattle.impl_scroll.specs.declared.steps.ValueStep.TheVariants as step
+use Rattle.impl_scroll.specs.Rows.{row_value}
+use Rattle.impl_scroll.specs.inner.Steps.{AreRising}
+use Rattle.impl_scroll.proofs.StepFacts.{stepped_rising, all_stepped}
+use Rattle.impl_scroll.proofs.scroll_values.ScrollValues.activate.Goals as goal
+
+pub invariant_of-self : goal.invariant_of-self
+invariant_of-self c = subst AreRising (sym c.step_all.ensures) (stepped_rising step.Activate c.self.inside.rows.items c.self.invariant)
+
+pub returns : goal.returns
+returns c = λ sc ax.
+    all_stepped step.Activate c.self.inside.rows.items c.step_all.new.rows.items sc ax c.step_all.ensures (λ e. refl)
+    ∙ ap (λ (rs : List Row). activated (row_value rs sc ax)) c.self.view_is

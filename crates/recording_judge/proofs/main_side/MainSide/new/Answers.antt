@@ -1,6 +1,0 @@
--- No frame was run.
-use Rattle.recording_judge.proofs.MainSteps.{begin_main}
-use Rattle.recording_judge.proofs.main_side.MainSide.new.Goals as goal
-
-pub returns : goal.returns
-returns c = begin_main c.args.script.value _ c.new.ensures.script c.new.ensures.sends

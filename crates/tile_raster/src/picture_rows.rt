@@ -1,0 +1,167 @@
+//! The rows that a picture keeps: of equal rows that follow one another only the first.
+
+ghost use Rattle.std.specs.Prelude.{◌≡◌, ℕ, ◌+◌, ◌*◌, ◌<◌, ◌≤◌, ◌^◌, length, true, false, cond, slice_index, slice_index_or, IsTrue, IfOk};
+ghost use Rattle.geom.specs.Covers.{IsSound};
+ghost use Rattle.pixel.specs.Colours.{clear};
+ghost use Rattle.pixel.specs.Rows.{pixel, ArePremultiplied};
+ghost use Rattle.page_display_list.specs.Bitmaps.{near};
+ghost use Rattle.tile_raster.specs.inner.Bands.{AreLevel, AreSteps, AreKept, IsEnd, AreEnds, IsCount};
+
+use crate::changes::changing_rows;
+use crate::draw::draw_items;
+use crate::pixels::width_of;
+use geom::Rect;
+use page_display_list::DisplayList;
+use std::alloc::{AllocError, Global};
+
+/// The rows of a picture.
+#[derive(Drop)]
+pub(crate) struct PictureRows {
+    /// For each row of the picture the place of its bytes among the rows that are kept.
+    pub(crate) places: Vec<u32>,
+    /// For each row of the picture the row behind the last that is kept as it.
+    pub(crate) ends: Vec<u32>,
+    /// The bytes of the rows that are kept.
+    pub(crate) bytes: Vec<u8>,
+}
+
+/// The rows of what the list shows on the rect.
+pub(crate) fn kept_rows(alloc: Global, list: &DisplayList, rect: Rect) -> Result<PictureRows, AllocError>
+    requires { IsSound rect }
+    ensures kept { IfOk result (λ rows. AreKept list.now rect rows.places.items rows.bytes.items) }
+    ensures ends { IfOk result (λ rows. AreEnds rows.places.items rows.ends.items) }
+{
+    let changes = changing_rows(alloc, list, rect)?;
+    let places = places_of(alloc, &changes)?;
+    let bytes = drawn_rows(alloc, list, rect, &places)?;
+    let ends = ends_of(alloc, &places)?;
+    Ok(PictureRows {
+        places,
+        ends,
+        bytes,
+    })
+}
+
+// the place of each row: that of the row above where the row is not marked, else the next
+fn places_of(alloc: Global, changes: &[bool]) -> Result<Vec<u32>, AllocError>
+    requires { length changes.now ≤ 2 ^ 29 }
+    ensures { IfOk result (λ places. AreSteps (λ y. slice_index_or changes.now (y + 1) true ≡ false) (length changes.now) places.items) }
+{
+    let mut places = Vec::with_capacity(alloc, changes.len())?;
+    while places.len() < changes.len() {
+        let place = next_place(&places, changes);
+        places.push(place)?;
+    }
+    Ok(places)
+}
+
+// the place of the row behind those that have one
+fn next_place(places: &[u32], changes: &[bool]) -> u32
+    requires small { (k : ℕ) → k < length places.now → slice_index places.now k ≤ k }
+    requires left { length places.now < length changes.now }
+    requires few { length changes.now < 2 ^ 32 }
+    ensures first { length places.now ≡ 0 → result ≡ 0 }
+    ensures next { (k : ℕ) → k + 1 ≡ length places.now → result ≡ slice_index places.now k + cond (slice_index_or changes.now (k + 1) true) 1 0 }
+{
+    let changed = changes[places.len()];
+    match places.last() {
+        Some(last) if changed => *last + 1,
+        Some(last) => *last,
+        None => 0,
+    }
+}
+
+// the end of each row: rows that have one place have one end
+fn ends_of(alloc: Global, places: &[u32]) -> Result<Vec<u32>, AllocError>
+    requires { length places.now ≤ 2 ^ 29 }
+    ensures { IfOk result (λ ends. AreEnds places.now ends.items) }
+{
+    let mut ends = Vec::with_capacity(alloc, places.len())?;
+    while ends.len() < places.len() {
+        let row = ends.len();
+        let end = row + equal_places_at(places, row);
+        ends.resize(end, end as u32)?;
+    }
+    Ok(ends)
+}
+
+// how many rows from row y on have the place of row y
+fn equal_places_at(places: &[u32], y: usize) -> usize
+    requires { y < length places.now }
+    ensures some { 1 ≤ result }
+    ensures inside { y + result ≤ length places.now }
+    ensures equal { (k : ℕ) → k < result → slice_index places.now (y + k) ≡ slice_index places.now y }
+{
+    let first = places[y];
+    let mut rows = 1;
+    while y + rows < places.len() && places[y + rows] == first {
+        rows += 1;
+    }
+    rows
+}
+
+// the bytes of the rows that are kept
+fn drawn_rows(
+    alloc: Global,
+    list: &DisplayList,
+    rect: Rect,
+    places: &[u32],
+) -> Result<Vec<u8>, AllocError>
+    requires rect { IsSound rect }
+    requires steps { AreSteps (AreLevel list.now rect) (near rect.h) places.now }
+    ensures { IfOk result (λ bytes. AreKept list.now rect places.now bytes.items) }
+{
+    let width = width_of(rect);
+    let kept = kept_count(places);
+    let mut bytes = clear_rows(alloc, width, kept)?;
+    let mut scratch = clear_rows(alloc, width, 1)?;
+    draw_items(
+        list,
+        rect,
+        places,
+        kept,
+        bytes.as_mut_slice(),
+        scratch.as_mut_slice(),
+    );
+    Ok(bytes)
+}
+
+// how many rows are kept
+fn kept_count(places: &[u32]) -> usize
+    requires { (k : ℕ) → k < length places.now → slice_index places.now k ≤ k }
+    ensures last { IsCount places.now result }
+    ensures few { result ≤ length places.now }
+{
+    match places.last() {
+        Some(last) => *last as usize + 1,
+        None => 0,
+    }
+}
+
+// so many rows of transparent pixels
+fn clear_rows(alloc: Global, width: usize, rows: usize) -> Result<Vec<u8>, AllocError>
+    requires width { width ≤ 2 ^ 29 }
+    requires rows { rows ≤ 2 ^ 29 }
+    ensures size { IfOk result (λ bytes. length bytes.items ≡ 4 * (width * rows)) }
+    ensures pixels { IfOk result (λ bytes. (k : ℕ) → k < width * rows → pixel bytes.items k ≡ clear) }
+    ensures premultiplied { IfOk result (λ bytes. ArePremultiplied bytes.items) }
+{
+    vec![in alloc; 0u8; 4 * (width * rows)]
+}
+
+/// The row behind the last that is kept as row y.
+pub(crate) fn end_of(rows: &PictureRows, y: usize) -> u32
+    requires ends { AreEnds rows.now.places.items rows.now.ends.items }
+    requires inside { y < length rows.now.places.items }
+    ensures { IsEnd rows.now.places.items y result }
+{
+    rows.ends[y]
+}
+
+/// Whether two pictures keep the same rows.
+pub(crate) fn are_same_rows(a: &PictureRows, b: &PictureRows) -> bool
+    ensures places { IsTrue result → a.now.places.items ≡ b.now.places.items }
+    ensures bytes { IsTrue result → a.now.bytes.items ≡ b.now.bytes.items }
+{
+    a.places == b.places && a.bytes == b.bytes
+}
