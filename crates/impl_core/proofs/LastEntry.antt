@@ -17,7 +17,3 @@ pub none_last : (es : List Entry) → slice_get es (length es - 1) ≡ None → 
 none_last [] i = refl
 none_last (x ∷ []) i = absurd cc
 none_last (x ∷ y ∷ ys) i = none_last (y ∷ ys) (sym (ap (slice_get (x ∷ y ∷ ys)) (one_further (length ys))) ∙ i)
-
-pub none_entered : (es : List Entry) → length es ≡ 0 → is_played es ≡ false
-none_entered [] i = refl
-none_entered (x ∷ xs) i = absurd cc

@@ -21,18 +21,11 @@ use Rattle.model_history.proofs.BoolFacts.{or_left}
 use Rattle.model_history.proofs.KeyFacts.{has_append}
 use Rattle.model_steps.proofs.QuietFrames.{page_stamp}
 use Rattle.impl_trees.specs.Trees.{TreeModel, Paired}
-use Rattle.impl_trees.specs.Trees as sync
 use Rattle.impl_trees.proofs.Standing.{stands_found}
 use Rattle.tile_ranks.proofs.BothTrees.{no_keys}
 use Rattle.tile_ranks.specs.SeenTrees.{IsTiled}
-use Rattle.tile_ranks.specs.SeenTrees as ranks
 use Rattle.impl_host.specs.Hosts.{IsTreeAt}
 use Rattle.impl_host.specs.inner.LivePages.{tree_at, HasPageKey, HasLivePage}
-
--- each tiling is cut as its layer is
-pub cut_alike : (m : TreeModel) (p : Page) (us : List Tiled) → p ≡ m.page → us ≡ m.tilings → sync.AreCut m.page m.tilings → ranks.AreCut p us
-cut_alike m p us pe ue cut =
-    subst (λ (z : Page). ranks.AreCut z us) (sym pe) (subst (λ (ts : List Tiled). ranks.AreCut m.page ts) (sym ue) (record { each_one = cut.each_one; grids = cut.grids }))
 
 -- where there is no tree, the page is blank
 pub no_tree : (s : ScriptModel) (ps : ℕ → List Move) (o : Option ℕ) (at : ℕ → Point) → IsTreeAt s ps o None → (tree_at s ps o at).page.layers ≡ []

@@ -50,9 +50,6 @@ accepted_there s n h rs p sc ax asked legal is e =
     let same : p ≡ active_page s h = page_is s h p (active h) e in
     (λ i. amount_taken (same i) (λ k x. active_at (λ j y. is j y i) k x) sc ax asked) ∙ sym (accepted_is s n h legal sc ax asked)
 
-pub accepted_nowhere : (s : ScriptModel) (h : List Entry) (sc : ℕ) (ax : Axis) (asked : ℤ) → None ≡ page_at s h (active h) → pos 0 ≡ accepted s h sc ax asked
-accepted_nowhere s h sc ax asked e = sym (ap (λ o. amount_taken (page s (pulls_of h) (up_to o)) (offset s h) sc ax asked) (no_frame s h (active h) e))
-
 -- the scrollers of the active page are in their ranges
 
 at_place : (ax : Axis) (at : ℕ → Axis → ℤ) (sc : ℕ) → at sc ax ≡ along ax (record { x = at sc across; y = at sc down })

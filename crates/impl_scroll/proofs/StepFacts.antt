@@ -1,8 +1,6 @@
 -- Rows that are stepped one after another, and the values of the scrollers then.
 use Rattle.std.proofs.Common.{◌≡◌, ℕ, zero, suc, ◌+◌, ◌<◌, ◌≤◌, ◌==◌, Bool, true, false, cond, ◌||◌, List, [], ◌∷◌, length, get_or, map, refl, sym, ◌∙◌, ap, subst, arith, add-one}
-use Rattle.std.specs.List.{list_any}
 use Rattle.std.specs.Prelude.{slice_set}
-use Rattle.model_scroll_values.specs.declared.Synced.{Synced}
 use Rattle.model_scroll_values.specs.Table.{zero as nothing}
 use Rattle.page_layers.specs.Axes.{Axis, across, down}
 use Rattle.model_history.proofs.BoolFacts.{same_number}
@@ -17,11 +15,6 @@ abbrev pub half : (Row → Row) → ℕ → List Row → List Row
 half f zero rs = rs
 half f (suc i) [] = []
 half f (suc i) (r ∷ rs) = f r ∷ half f i rs
-
-pub half_long : (f : Row → Row) (i : ℕ) (rs : List Row) → length (half f i rs) ≡ length rs
-half_long f zero rs = refl
-half_long f (suc i) [] = refl
-half_long f (suc i) (r ∷ rs) = ap suc (half_long f i rs)
 
 pub half_get : (f : Row → Row) (i : ℕ) (rs : List Row) (d : Row) → get_or (half f i rs) i d ≡ get_or rs i d
 half_get f zero rs d = refl

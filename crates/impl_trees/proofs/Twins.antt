@@ -8,7 +8,7 @@ use Rattle.geom.specs.Sides.{Sides}
 use Rattle.geom.specs.Grids.{has, rect_of_place}
 use Rattle.region.specs.declared.change.LayerChange.{LayerChange}
 use Rattle.region.specs.Lists.{Changed, change_of}
-use Rattle.tile_tiling.specs.Tiles.{Tiled, stamp_at, IsCarried}
+use Rattle.tile_tiling.specs.Tiles.{Tiled, stamp_at}
 use Rattle.tile_tiling.specs.Stamps.{Commit, may_show_in, changes_in}
 use Rattle.page_layers.specs.declared.layer.Layer.{Layer}
 use Rattle.page_layers.specs.Layers.{PageLayer, parts_of}
@@ -25,27 +25,6 @@ abbrev stepped_at : Commit → Tiled → Place → ℕ → Sides → ℕ
 stepped_at c t p id g = if changes_in id (rect_of_place g p) c then c.frame else stamp_at t p
 
 -- ---- one step
-
-shown_by : (d : Changed) (layer : ℕ) (frame : ℕ) (r : Rect) → d.retiled ≡ false → changes_in layer r (record { frame = frame; changed = d }) ≡ may_show_in (change_of d.list layer) r
-shown_by d layer frame r e = ap (λ b. b || may_show_in (change_of d.list layer) r) e
-
--- a change that is carried
-pub carried : (d : Changed) (layer frame : ℕ) (change : LayerChange) (t u : Tiled) → d.retiled ≡ false → change_of d.list layer ≡ Some change → IsCarried t change frame u
-    → (u.grid ≡ t.grid) × IsStepped (record { frame = frame; changed = d }) layer t u
-carried d layer frame change t u flat is made = (made.grid, steps)
-  where
-    steps : IsStepped (record { frame = frame; changed = d }) layer t u
-    steps cut p there =
-        let shows : changes_in layer (rect_of_place t.grid p) (record { frame = frame; changed = d }) ≡ may_show_in (Some change) (rect_of_place t.grid p) =
-        shown_by d layer frame (rect_of_place t.grid p) flat ∙ ap (λ o. may_show_in o (rect_of_place t.grid p)) is in
-        made.places p (ap (λ g. has g p) cut ∙ there)
-        ∙ ap (λ b. if b then frame else stamp_at t p) (sym shows)
-        ∙ ap (λ g. stepped_at (record { frame = frame; changed = d }) t p layer g) cut
-
--- a layer that is not listed
-pub unlisted : (d : Changed) (layer frame : ℕ) (t : Tiled) → d.retiled ≡ false → change_of d.list layer ≡ None → IsStepped (record { frame = frame; changed = d }) layer t t
-unlisted d layer frame t flat none cut p there =
-    ap (λ b. if b then frame else stamp_at t p) (sym (shown_by d layer frame (rect_of_place t.grid p) flat ∙ ap (λ o. may_show_in o (rect_of_place t.grid p)) none))
 
 -- ---- twins
 

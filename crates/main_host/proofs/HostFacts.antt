@@ -8,7 +8,6 @@ use Rattle.model_history.specs.Frames.{commands_of, page, pulls_in, page_after_p
 use Rattle.model_history.specs.Stamps.{changed_by, unchanged}
 use Rattle.model_history.specs.SameChanges.{SameChanges}
 use Rattle.model_history.specs.Ended.{StandsBefore, EndsFrame, Tells}
-use Rattle.model_history.specs.Commits.{IsCommit}
 use Rattle.model_history.proofs.PageFacts.{page_alike}
 use Rattle.main_host.specs.Hosts.{IsHost, IsNext}
 
@@ -63,16 +62,6 @@ is_host s sends ms k before after done n =
       few = omega (arith, l, left);
       tree = n.after ∙ ap (page s (pulls_in (sends ++ ms ∷ []))) (sym l);
     }
-
--- its commit
-pub is_commit : (s : ScriptModel) (sends : List (List Move)) (ms : List Move) (k : ℕ) (before after : Page) (done : Changed) → IsNext (record { script = s; sends = sends }) ms k before after done
-    → IsCommit (record { script = s; frame = k; sends = sends ++ ms ∷ []; tree = after; changes = done })
-is_commit s sends ms k before after done n = record {
-  frame = n.left;
-  sends = more_long sends ms ∙ ap suc (sym n.frame);
-  tree = n.after;
-  changes = n.changes;
-}
 
 -- what is told of the next frame
 pub told : (s : ScriptModel) (sends : List (List Move)) (ms ns : List Move) (k : ℕ) (before after : Page) (answer : Bool) (done : Changed) → IsNext (record { script = s; sends = sends }) ms k before after done

@@ -1,5 +1,5 @@
 -- What is due at each kind: of an entry that may come, its fields, its further condition and its state.
-use Rattle.std.proofs.Common.{◌≡◌, ℕ, ◌-◌, ℤ, pos, Bool, true, false, not, ◌&&◌, List, Option, Some, None, is_some, refl, sym, ◌∙◌, ap}
+use Rattle.std.proofs.Common.{◌≡◌, ℕ, ◌-◌, ℤ, pos, Bool, true, false, not, List, Option, Some, None, is_some, refl, sym, ◌∙◌, ap}
 use Rattle.geom.specs.declared.tile.TileKey.{TileKey}
 use Rattle.tile_priority.specs.declared.rank.Rank.{Rank}
 use Rattle.model_scheduler.specs.Kinds.{is_idle, is_inside_begin_frame, is_inside_deadline, is_main_idle, is_sent, is_ready_to_commit, is_for_draw}
@@ -51,22 +51,6 @@ at_begin s n h a i x =
       idle = x.state;
       draw = on_if_holds (asks_draw (input_now s h)) (event.Begin (next_input h)) (event.Begin i) x.is_due;
       input = cc;
-    }
-
-pub record AtBeginPlain (s : ScriptModel) (h : List Entry) : Type 0 where
-  pub idle : is_idle (sched h).impl_state ≡ true
-  pub main : is_main_idle (sched h).main_state ≡ true
-  pub no_draw : asks_draw (input_now s h) ≡ false
-  pub left : is_left s h ≡ true
-
-pub at_begin_plain : (s : ScriptModel) (n : ℕ) (h : List Entry) (a : ℕ) → Next s n h (entry a event.BeginPlain) → AtBeginPlain s h
-at_begin_plain s n h a x =
-    let d = on_if_holds (not (asks_draw (input_now s h)) && is_left s h) event.BeginPlain event.BeginPlain x.is_due in
-    record {
-      idle = and_left (is_idle (sched h).impl_state) (is_main_idle (sched h).main_state) x.state;
-      main = and_right (is_idle (sched h).impl_state) (is_main_idle (sched h).main_state) x.state;
-      no_draw = not_true (asks_draw (input_now s h)) (and_left (not (asks_draw (input_now s h))) (is_left s h) d);
-      left = and_right (not (asks_draw (input_now s h))) (is_left s h) d;
     }
 
 -- the main frame: sent, ready or aborted, committed, activated

@@ -1,11 +1,9 @@
 -- Whether a frame changes something is told by its commands and the scrollers that its pulls name.
-use Rattle.std.proofs.Common.{◌≡◌, ℕ, suc, ◌+◌, ◌<◌, ℤ, pos, ◌-ℤ◌, Bool, true, false, cond, not, ◌==◌, ◌&&◌, ◌||◌, List, [], ◌∷◌, ◌++◌, length, get_or, drop, refl, sym, ◌∙◌, ap, subst, eqb-true, arith}
+use Rattle.std.proofs.Common.{◌≡◌, ℕ, suc, ◌+◌, ◌<◌, ℤ, pos, ◌-ℤ◌, Bool, true, false, not, ◌==◌, ◌&&◌, ◌||◌, List, [], ◌∷◌, ◌++◌, length, refl, sym, ◌∙◌, ap, subst, eqb-true, arith}
 use Rattle.std.specs.List.{list_any}
 use Rattle.std.specs.Ordering.{int_eq}
 use Rattle.std.proofs.lemmas.Int.{ints}
 use Rattle.std.proofs.lemmas.Bool.Decides.{Decides-int_eq}
-use Rattle.std.proofs.lemmas.List.{drop_all, drop_more}
-use Rattle.model_scroll_values.specs.Bounds.{IsBoundedNumber}
 use Rattle.page_layers.specs.declared.command.Command.{Command}
 use Rattle.page_layers.specs.Pages.{Page}
 use Rattle.page_layers.specs.declared.moves.Move.{Move}
@@ -14,7 +12,7 @@ use Rattle.page_layers.specs.Axes.{Axis, across, down, amount_in, named_in}
 use Rattle.page_layers.specs.Scrollers.{scrollers, main_value}
 use Rattle.model_history.specs.Frames.{is_empty, commands_of, page_after_pulls, commanded, page, main_move, moves_main, changes}
 use Rattle.model_history.specs.Ended.{AreBounded, Tells}
-use Rattle.model_history.specs.inner.Ending.{IsPullOf, is_moved}
+use Rattle.model_history.specs.inner.Ending.{is_moved}
 use Rattle.model_history.proofs.BoolFacts.{by_test}
 use Rattle.model_history.proofs.FrameFacts.{is_named, amount_other, pulled_other}
 
@@ -25,35 +23,6 @@ pub record Seeks (sc : ℕ) (all rest : List Move) : Type 0 where
   pub across : amount_in sc across rest ≡ amount_in sc across all
   pub down : amount_in sc down rest ≡ amount_in sc down all
   pub bounded : AreBounded rest
-
-seeks_past : (sc : ℕ) (all : List Move) (m : Move) (rest : List Move) → (m.scroller == sc) ≡ false → Seeks sc all (m ∷ rest) → Seeks sc all rest
-seeks_past sc all m rest e s = record {
-  across = sym (ap (λ b. cond b m.dx (amount_in sc across rest)) e) ∙ s.across;
-  down = sym (ap (λ b. cond b m.dy (amount_in sc down rest)) e) ∙ s.down;
-  bounded = s.bounded.2;
-}
-
-pub seeks_on : (sc : ℕ) (all : List Move) (i : ℕ) (d : Move) → i < length all → ((get_or all i d).scroller == sc) ≡ false → Seeks sc all (drop i all) → Seeks sc all (drop (i + 1) all)
-seeks_on sc all i d lt e s = seeks_past sc all (get_or all i d) (drop (i + 1) all) e (subst (λ (ms : List Move). Seeks sc all ms) (drop_more all i d lt) s)
-
-seeks_first : (sc : ℕ) (all : List Move) (m : Move) (rest : List Move) → (m.scroller == sc) ≡ true → Seeks sc all (m ∷ rest) → IsPullOf sc all m
-seeks_first sc all m rest e s = record {
-  across = sym (ap (λ b. cond b m.dx (amount_in sc across rest)) e) ∙ s.across;
-  down = sym (ap (λ b. cond b m.dy (amount_in sc down rest)) e) ∙ s.down;
-  bounded_across = s.bounded.0;
-  bounded_down = s.bounded.1;
-}
-
-pub seeks_found : (sc : ℕ) (all : List Move) (i : ℕ) (d : Move) → i < length all → ((get_or all i d).scroller == sc) ≡ true → Seeks sc all (drop i all) → IsPullOf sc all (get_or all i d)
-seeks_found sc all i d lt e s = seeks_first sc all (get_or all i d) (drop (i + 1) all) e (subst (λ (ms : List Move). Seeks sc all ms) (drop_more all i d lt) s)
-
-zero_bounded : IsBoundedNumber (pos 0)
-zero_bounded = record { above = omega (arith, ints); below = omega (arith, ints) }
-
-pub seeks_none : (sc : ℕ) (all : List Move) (i : ℕ) → i ≡ length all → Seeks sc all (drop i all) → IsPullOf sc all (record { scroller = sc; dx = pos 0; dy = pos 0 })
-seeks_none sc all i e s =
-    let last : Seeks sc all [] = subst (λ (ms : List Move). Seeks sc all ms) (drop_all i all (omega (arith, e))) s in
-    record { across = last.across; down = last.down; bounded_across = zero_bounded; bounded_down = zero_bounded }
 
 -- the scrollers that the pulls name
 

@@ -1,6 +1,6 @@
 -- Commands that are applied one after another: what they changed together, so far and in the end.
 use Rattle.std.proofs.Common.{◌≡◌, ◌⊎◌, inl, inr, ℕ, ◌+◌, ◌<◌, List, [], ◌∷◌, ◌++◌, Ok, Err, length, refl, sym, ap, ◌∙◌, get_or, take, drop, subst, arith}
-use Rattle.std.proofs.lemmas.List.{drop_all, drop_more, take_more}
+use Rattle.std.proofs.lemmas.List.{drop_more, take_more}
 use Rattle.region.specs.Lists.{Changed}
 use Rattle.page_layers.specs.declared.command.Command.{Command}
 use Rattle.page_layers.specs.declared.fault.EditError.{EditError}
@@ -14,8 +14,7 @@ use Rattle.model_history.specs.Judging.{RefusedIn}
 use Rattle.model_history.specs.SameChanges.{SameChanges}
 use Rattle.model_history.specs.Ended.{AreBounded, HasTaken, TookCommands}
 use Rattle.model_history.specs.inner.Ending.{with_next, TookCommand}
-use Rattle.model_history.proofs.Leads.{Leads, rest_at, leads_start, leads_on}
-use Rattle.model_history.proofs.SameLists.{same_changes}
+use Rattle.model_history.proofs.Leads.{Leads, rest_at, leads_on}
 
 -- the pulls from place i on lead from the page now to where all lead from the first one
 pub record Pulls (first : Page) (all : List Move) (now : Page) (rest : List Move) : Type 0 where
@@ -41,9 +40,6 @@ pub record Gathers (first : Page) (all : List Command) (i : ℕ) (now : Page) (c
   pub done : Changed
   pub same : SameChanges changes done
   pub total : changed_by now rest done ≡ changed_by first all unchanged
-
-pub gathers_start : (p : Page) (all : List Command) (none : Changed) → none ≡ unchanged → Gathers p all 0 p none all
-gathers_start p all none e = record { leads = leads_start p all; taken = refl; done = none; same = same_changes none; total = ap (λ (d : Changed). changed_by p all d) e }
 
 gathers_next : (first : Page) (all : List Command) (i : ℕ) (now : Page) (c : Command) (rest : List Command) (old new : Changed) (q : Page) → c ≡ get_or all i c → i < length all
     → TookCommand now c old q new (Ok tt) → Gathers first all i now old (c ∷ rest) → Gathers first all (i + 1) q new rest
@@ -75,14 +71,6 @@ gathers_stop first all i now c old new q (Memory e) is lt t g = by_half t
     by_half : (q ≡ now) ⊎ (q ≡ page_after_command now c) → (n : ℕ) × HasTaken first all n q
     by_half (inl same) = (i, same ∙ g.taken)
     by_half (inr next) = (i + 1, next ∙ taken_more first all i now c is lt g.taken)
-
--- in the end
-pub gathers_end : (first : Page) (all : List Command) (i : ℕ) (now : Page) (changes : Changed) → i ≡ length all → Gathers first all i now changes (drop i all) → TookCommands first all now (Ok changes)
-gathers_end first all i now changes e g =
-    let none : drop i all ≡ [] = drop_all i all (omega (arith, e)) in
-    let l : Leads first all i now [] = subst (λ (cs : List Command). Leads first all i now cs) none g.leads in
-    let t : changed_by now [] g.done ≡ changed_by first all unchanged = subst (λ (cs : List Command). changed_by now cs g.done ≡ changed_by first all unchanged) none g.total in
-    (l.taken tt, l.page, subst (λ (d : Changed). SameChanges changes d) t g.same)
 
 pulls_next : (first : Page) (all : List Move) (now q : Page) (m : Move) (rest : List Move) → q ≡ scrolled_by now m.scroller m.dx m.dy → Pulls first all now (m ∷ rest) → Pulls first all q rest
 pulls_next first all now q m rest e p = record { page = ap (λ (x : Page). page_after_pulls rest x) e ∙ p.page; bounded = p.bounded.2 }

@@ -1,5 +1,5 @@
 -- Commands that are applied one after another: what is judged of the rest from now on is judged of all from the start.
-use Rattle.std.proofs.Common.{◌≡◌, ℕ, suc, ◌+◌, List, ◌∷◌, Err, length, map, refl, sym, ap, ◌∙◌, ◌<◌, get_or, drop, subst, arith}
+use Rattle.std.proofs.Common.{◌≡◌, ℕ, suc, ◌+◌, List, ◌∷◌, Err, length, map, sym, ap, ◌∙◌, ◌<◌, get_or, drop, subst, arith}
 use Rattle.std.proofs.lemmas.List.{drop_more}
 use Rattle.page_layers.specs.declared.command.Command.{Command}
 use Rattle.page_layers.specs.declared.fault.EditFault.{EditFault}
@@ -28,9 +28,6 @@ pub record Leads (first : Page) (all : List Command) (i : ℕ) (now : Page) (res
   pub page : commanded rest now ≡ commanded all first
   pub refused : (n : ℕ) (fault : EditFault) → RefusedIn now rest n fault → RefusedIn first all (i + n) fault
 
-pub leads_start : (p : Page) (all : List Command) → Leads p all 0 p all
-leads_start p all = record { taken = λ t. t; page = refl; refused = λ n fault r. subst (λ (k : ℕ). RefusedIn p all k fault) (omega arith) r }
-
 pub leads_on : (first : Page) (all : List Command) (i : ℕ) (now : Page) (c : Command) (rest : List Command) → Accepts now c
     → Leads first all i now (c ∷ rest) → Leads first all (i + 1) (page_after_command now c) rest
 leads_on first all i now c rest a l =
@@ -52,9 +49,6 @@ pub record LeadsFrames (first : Page) (all : List (List Command)) (i : ℕ) (now
   pub taken : TakesFrames now rest → TakesFrames first all
   pub page : framed rest now ≡ framed all first
   pub refused : (k n : ℕ) (fault : EditFault) → RefusedAt now rest k n fault → RefusedAt first all (i + k) n fault
-
-pub frames_start : (p : Page) (all : List (List Command)) → LeadsFrames p all 0 p all
-frames_start p all = record { taken = λ t. t; page = refl; refused = λ k n fault r. subst (λ (j : ℕ). RefusedAt p all j n fault) (omega arith) r }
 
 pub frames_on : (first : Page) (all : List (List Command)) (i : ℕ) (now : Page) (f : List Command) (rest : List (List Command)) → TakesAll now f
     → LeadsFrames first all i now (f ∷ rest) → LeadsFrames first all (i + 1) (commanded f now) rest

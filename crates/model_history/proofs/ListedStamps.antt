@@ -1,30 +1,21 @@
 -- The stamps of places from lists of changes that say the same as the changes of the frames.
-use Rattle.std.proofs.Common.{ℕ, zero, suc, ℤ, ◌≡◌, ◌+◌, ◌<◌, ◌≤◌, nat_eq, Bool, true, false, ◌&&◌, ◌||◌, if◌then◌else◌, Option, Some, None, List, [], ◌∷◌, length, get_or, drop, slice_get, find, refl, ap, sym, ◌∙◌, arith}
-use Rattle.std.specs.Prelude.{unwrap_or}
+use Rattle.std.proofs.Common.{ℕ, ℤ, ◌≡◌, ◌<◌, ◌≤◌, nat_eq, Bool, true, false, ◌&&◌, ◌||◌, if◌then◌else◌, Option, Some, None, List, [], ◌∷◌, refl, ap, sym, ◌∙◌, arith}
 use Rattle.std.proofs.lemmas.Bool.Decides.{nat_tests}
 use Rattle.geom.specs.declared.rect.Rect.{Rect}
-use Rattle.geom.specs.declared.tile.Place.{Place}
-use Rattle.geom.specs.Grids.{rect_of_place}
-use Rattle.geom.specs.Sides.{Sides}
 use Rattle.region.specs.declared.change.LayerChange.{LayerChange}
 use Rattle.region.specs.Lists.{Changed, AreChangesAbove, IsRising, change_of, is_listed_whole, has_changed}
 use Rattle.region.specs.Points.{covered, touched}
 use Rattle.region.proofs.Covering.{points_decide}
-use Rattle.tile_tiling.specs.Tiles.{shows_in}
-use Rattle.tile_tiling.specs.Stamps.{may_show_in, changes_in, stamp_of}
+use Rattle.tile_tiling.specs.Stamps.{may_show_in}
 use Rattle.page_layers.specs.declared.command.Command.{Command}
-use Rattle.page_layers.specs.Layers.{PageLayer, has_id}
 use Rattle.page_layers.specs.Pages.{Page}
 use Rattle.page_layers.specs.Effects.{page_after_command}
 use Rattle.page_layers.specs.declared.moves.Move.{Move}
-use Rattle.model_history.specs.declared.history.Entry.{Entry}
 use Rattle.model_history.specs.Scripts.{ScriptModel}
-use Rattle.model_history.specs.Frames.{commands_of, page, page_before, pulls_of}
-use Rattle.model_history.specs.Stamps.{changed_by, unchanged, frame_changes, commits_to, place_rect, stamp_in}
+use Rattle.model_history.specs.Frames.{commands_of, page_before}
+use Rattle.model_history.specs.Stamps.{changed_by, unchanged, frame_changes}
 use Rattle.model_history.specs.SameChanges.{SameChanges}
 use Rattle.model_history.specs.inner.Ending.{with_next}
-use Rattle.model_history.specs.inner.Listed.{IsChangesOf, AreChanges, commits_of, IsGridOf}
-use Rattle.model_history.proofs.BoolFacts.{is_same, is_other}
 use Rattle.model_history.proofs.FrameKeeps.{rising_command}
 
 -- ---- the change of a layer in a rising list
@@ -103,79 +94,8 @@ frame_rising s ps k = changed_rising (commands_of s k) (page_before s ps k) unch
 
 -- ---- commits
 
-pub one_shows : (s : ScriptModel) (h : List Entry) (k : ℕ) (c : Changed) (layer : ℕ) (r : Rect) → IsChangesOf s h k c
-    → changes_in layer r (record { frame = k; changed = c }) ≡ changes_in layer r (record { frame = k; changed = frame_changes s (pulls_of h) k })
-one_shows s h k c layer r is =
-    let shown = same_shows c (frame_changes s (pulls_of h) k) layer r is.same is.rising (frame_rising s (pulls_of h) k) in
-    λ i. is.same.retiled i || shown i
-
-pub same_stamp : (s : ScriptModel) (h : List Entry) (list : List Changed) (layer : ℕ) (r : Rect) (n : ℕ) → n ≤ length list → AreChanges s h list
-    → stamp_of layer r (commits_of list n) ≡ stamp_of layer r (commits_to s (pulls_of h) n)
-same_stamp s h list layer r zero le are = refl
-same_stamp s h list layer r (suc k) le are =
-    let here = one_shows s h k (get_or list k unchanged) layer r (are k unchanged (omega (arith, le))) in
-    let rest = same_stamp s h list layer r k (omega (arith, le)) are in
-    λ i. if here i then Some k else rest i
-
 -- ---- from the latest on
-
-at_place : (list : List Changed) (i : ℕ) (c d : Changed) → i < length list → c ≡ get_or list i c → c ≡ get_or list i d
-at_place [] i c d lt e = absurd (omega (arith, lt))
-at_place (x ∷ xs) zero c d lt e = e
-at_place (x ∷ xs) (suc i) c d lt e = at_place xs i c d (omega (arith, lt)) e
-
-abbrev pub shown : ℕ → Rect → Changed → Bool
-shown layer r c = c.retiled || may_show_in (change_of c.list layer) r
-
-latest : (list : List Changed) (layer : ℕ) (r : Rect) (left i : ℕ) (c : Changed) (b : Bool) → left ≡ suc i → i < length list → c ≡ get_or list i c → shown layer r c ≡ b
-    → stamp_of layer r (commits_of list left) ≡ (if b then Some i else stamp_of layer r (commits_of list i))
-latest list layer r left i c b e lt is test =
-    ap (λ n. stamp_of layer r (commits_of list n)) e
-    ∙ ap (λ t. if t then Some i else stamp_of layer r (commits_of list i)) (ap (shown layer r) (sym (at_place list i c unchanged lt is)) ∙ test)
-
-pub latest_shows : (list : List Changed) (layer : ℕ) (r : Rect) (left i n : ℕ) (c : Changed) → left ≡ suc i → i < length list → c ≡ get_or list i c → shown layer r c ≡ true
-    → stamp_of layer r (commits_of list left) ≡ stamp_of layer r (commits_of list n) → i ≡ unwrap_or (stamp_of layer r (commits_of list n)) 0
-latest_shows list layer r left i n c e lt is test same = ap (λ o. unwrap_or o 0) (sym (latest list layer r left i c true e lt is test) ∙ same)
-
-pub latest_hides : (list : List Changed) (layer : ℕ) (r : Rect) (left i n : ℕ) (c : Changed) → left ≡ suc i → i < length list → c ≡ get_or list i c → shown layer r c ≡ false
-    → stamp_of layer r (commits_of list left) ≡ stamp_of layer r (commits_of list n) → stamp_of layer r (commits_of list i) ≡ stamp_of layer r (commits_of list n)
-latest_hides list layer r left i n c e lt is test same = sym (latest list layer r left i c false e lt is test) ∙ same
 
 -- ---- one list of changes
 
-pub listed_rest : (ds : List LayerChange) (i layer : ℕ) (c : LayerChange) → Some c ≡ slice_get ds i → change_of (drop i ds) layer ≡ (if nat_eq c.layer layer then Some c else change_of (drop (i + 1) ds) layer)
-listed_rest [] i layer c e = absurd (cc)
-listed_rest (d ∷ ds) zero layer c e = let same : c ≡ d = cc in ap (λ (x : LayerChange). if nat_eq x.layer layer then Some x else change_of ds layer) (sym same)
-listed_rest (d ∷ ds) (suc i) layer c e =
-    listed_rest ds i layer c e ∙ ap (λ (k : ℕ). if nat_eq c.layer layer then Some c else change_of (drop k (d ∷ ds)) layer) (next_place i)
-  where
-    next_place : (i : ℕ) → suc (i + 1) ≡ suc i + 1
-    next_place i = omega arith
-
 -- ---- a place of a layer of a page
-
-pub stamp_of_place : (s : ScriptModel) (h : List Entry) (list : List Changed) (grid : Sides) (layer : ℕ) (place : Place) (r : Rect) (n answer : ℕ) → n ≡ length list → AreChanges s h list
-    → IsGridOf (page s (pulls_of h) n) layer grid → r ≡ rect_of_place grid place → answer ≡ unwrap_or (stamp_of layer r (commits_of list n)) 0 → answer ≡ stamp_in s (pulls_of h) n layer place
-unfolding stamp_in
-stamp_of_place s h list grid layer place r n answer e are g is stamp =
-    let p : Page = page s (pulls_of h) n in
-    let rect : r ≡ place_rect p place (find (has_id layer) p.layers) =
-    is ∙ (ap (λ (z : Sides). rect_of_place z place) g.cut ∙ ap (λ (o : Option PageLayer). place_rect p place o) (sym g.there)) in
-    stamp ∙ ap (λ o. unwrap_or o 0) (same_stamp s h list layer r n (omega (arith, e)) are ∙ ap (λ (z : Rect). stamp_of layer z (commits_to s (pulls_of h) n)) rect)
-
--- the listed change of a layer is the first one of the layer
-pub listed_shows : (ds : List LayerChange) (i layer : ℕ) (r : Rect) (c : LayerChange) (answer : Bool) → Some c ≡ slice_get ds i → c.layer ≡ layer → answer ≡ shows_in c r
-    → change_of (drop i ds) layer ≡ change_of ds layer → answer ≡ may_show_in (change_of ds layer) r
-listed_shows ds i layer r c answer e is shows same =
-    let found : change_of ds layer ≡ Some c = sym same ∙ (listed_rest ds i layer c e ∙ ap (λ b. if b then Some c else change_of (drop (i + 1) ds) layer) (is_same c.layer layer is)) in
-    shows ∙ ap (λ (o : Option LayerChange). may_show_in o r) (sym found)
-
-pub listed_past : (ds : List LayerChange) (i layer : ℕ) (c : LayerChange) → Some c ≡ slice_get ds i → (c.layer ≡ layer → ⊥) → change_of (drop i ds) layer ≡ change_of ds layer
-    → change_of (drop (i + 1) ds) layer ≡ change_of ds layer
-listed_past ds i layer c e out same =
-    sym (listed_rest ds i layer c e ∙ ap (λ b. if b then Some c else change_of (drop (i + 1) ds) layer) (is_other c.layer layer out)) ∙ same
-
-pub listed_there : (ds : List LayerChange) (i : ℕ) → i < length ds → None ≡ slice_get ds i → ⊥
-listed_there [] i lt e = omega (arith, lt)
-listed_there (d ∷ ds) zero lt e = cc
-listed_there (d ∷ ds) (suc i) lt e = listed_there ds i (omega (arith, lt)) e

@@ -18,10 +18,6 @@ cond_same : (b : Bool) (x y z : ℤ) → x ≡ z → y ≡ z → cond b x y ≡ 
 cond_same true x y z e f = e
 cond_same false x y z e f = f
 
-or_same : (a : Bool) → a ≡ (a || a)
-or_same true = refl
-or_same false = refl
-
 pub or_swap : (a b c : Bool) → (a || (b || c)) ≡ (b || (a || c))
 or_swap true true c = refl
 or_swap true false c = refl

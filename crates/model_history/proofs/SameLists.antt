@@ -235,6 +235,3 @@ pub noted_join : (r : Result (Unit {0}) AllocError) (c : Command) (listed old ne
     → OnOk r (AreJoined old.list listed.list new.list) → OnOk r (new.retiled ≡ (old.retiled || listed.retiled)) → OnOk r (Noted c listed old new)
 noted_join (Ok u) c listed old new out joined tiles = noted_joined c listed old new out joined tiles
 noted_join (Err e) c listed old new out joined tiles = tt
-
-pub same_changes : (c : Changed) → SameChanges c c
-same_changes c = record { listed = λ n. refl; whole = λ n. refl; points = λ n x y. refl; retiled = refl }

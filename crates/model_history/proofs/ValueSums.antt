@@ -65,9 +65,6 @@ told_all vd vp d p u m a b e f = omega (arith, ints, a, b, e, f)
 nothing_unsent : (d u m p u' m' : ℤ) → d ≡ (u +ℤ m) +ℤ p → m ≡ pos 0 → u' ≡ pos 0 → m' ≡ u → d ≡ (u' +ℤ m') +ℤ p
 nothing_unsent d u m p u' m' e a b f = omega (arith, ints, e, a, b, f)
 
-added_parts : (x u m p : ℤ) → x +ℤ ((u +ℤ m) +ℤ p) ≡ ((x +ℤ u) +ℤ m) +ℤ p
-added_parts x u m p = omega (arith, ints)
-
 -- a send
 
 send_case : (s : ScriptModel) (n : ℕ) (h : List Entry) (a k : ℕ) (ms : List Move) (sc : ℕ) (ax : Axis) → Course h → Sums s sc ax h

@@ -1,19 +1,14 @@
 -- Following a way part by part, and what was played where it is left early.
-use Rattle.std.proofs.Common.{ℕ, zero, suc, ◌≡◌, ◌<◌, ◌-◌, Bool, true, false, Some, None, List, ◌++◌, refl, ap, sym, ◌∙◌, subst, arith}
+use Rattle.std.proofs.Common.{ℕ, zero, suc, ◌≡◌, ◌<◌, ◌-◌, Bool, true, false, List, ◌++◌, refl, ap, sym, ◌∙◌, subst, arith}
 use Rattle.std.specs.Prelude.{MatchBool, Result, Ok, Err, OnOk, OnErr}
 use Rattle.std.proofs.lemmas.List.{append_assoc}
 use Rattle.model_scheduler.specs.declared.kind.Kind.{Kind}
 use Rattle.model_history.specs.declared.history.Entry.{Entry}
 use Rattle.model_history.specs.Scripts.{ScriptModel}
-use Rattle.model_history.specs.Legal.{can}
 use Rattle.model_history.specs.Lockstep.{Step, Stays, Then, Where, While, AtMost}
 use Rattle.model_history.proofs.LockstepWords.{Good}
 use Rattle.model_lockstep.specs.Walks.{WalkState, Way, CanFollow, Follows, IsOnWay, TurnsOf, Turns, entering}
 use Rattle.model_lockstep.proofs.Fronts.{Grows, enters}
-
--- what can be entered is possible
-pub not_none : (k : Kind) (a : ℕ) (r : WalkState) → CanFollow (entering k a) r → can r.script r.past k a ≡ None → ⊥
-not_none k a r c n = let (e, d, i) = c.way in let j : can r.script r.past k a ≡ Some e = d in absurd cc
 
 -- a way that leads on and only adds entries begins where one stands
 pub begun : (P : Way) (r : WalkState) → ((s : ScriptModel) → Grows (P s)) → CanFollow P r → IsOnWay P r r
@@ -103,10 +98,6 @@ module _ (test : ScriptModel → List Entry → Bool) (P Q : Way) where
 
   pub on_else : (r m : WalkState) → test r.script r.past ≡ false → IsOnWay Q r m → IsOnWay (where' test P Q) r m
   on_else r m t w = record { same = w.same; written = w.written; end = w.end; way = choose_else (test r.script r.past) (P r.script r.past w.end) (Q r.script r.past w.end) t w.way; newer = w.newer; beginning = w.beginning }
-
--- nothing is played where there is nothing to do
-pub stayed : (r : WalkState) → Follows (λ s. Stays) r r
-stayed r = record { same = refl; written = refl; way = refl }
 
 -- ---- loops
 

@@ -1,11 +1,10 @@
 -- The two trees, and the choice, after a send, an abort, a commit and an activation.
-use Rattle.std.proofs.Common.{◌≡◌, ℕ, suc, ◌<◌, ◌≤◌, ℤ, pos, ◌+ℤ◌, ◌-ℤ◌, Bool, true, false, cond, List, ◌∷◌, ◌++◌, filter, Option, Some, None, is_some, refl, sym, ◌∙◌, ap, arith}
+use Rattle.std.proofs.Common.{◌≡◌, ℕ, suc, ◌≤◌, ℤ, ◌+ℤ◌, ◌-ℤ◌, Bool, true, false, List, ◌∷◌, ◌++◌, filter, Some, None, refl, sym, ◌∙◌, ap, arith}
 use Rattle.std.proofs.lemmas.Int.{ints}
 use Rattle.geom.specs.declared.rect.Point.{Point}
 use Rattle.geom.specs.declared.tile.Place.{Place}
 use Rattle.geom.specs.KeyLists.{has_key}
 use Rattle.model_scroll_values.specs.declared.Synced.{Synced}
-use Rattle.model_scroll_values.specs.Table.{active_value, pending_value}
 use Rattle.model_scroll_values.specs.Table as table
 use Rattle.page_layers.specs.Pages.{Page}
 use Rattle.page_layers.specs.Scrolls.{clamp_to}
@@ -121,9 +120,6 @@ module _ (s : ScriptModel) (n : ℕ) (h : List Entry) (a k : ℕ) (legal : Legal
       (same_offsets (pending_page s h) (pending_page s h) (pending_offset s ended) (pending_offset s h) refl (λ sc ax t.
       pending_is s n ended legal sc ax ∙ (brought_kept (clobbers s (pending h) sc) (most (pending_page s h) sc ax) (values s sc ax h) (none sc) ∙ sym (pending_is s n h legal.0 sc ax))))
       (λ layer place. refl)
-
-  pub abort_ready : ((sc : ℕ) → clobbers s (pending h) sc ≡ false) → ready s ended ≡ ready s h
-  abort_ready none = same_ready s h ended abort_active (abort_pending none) refl
 
   pub abort_choice : ((sc : ℕ) → clobbers s (pending h) sc ≡ false) → choice s ended ≡ choice s h
   abort_choice none = same_choice s h ended abort_active (abort_pending none) refl refl refl

@@ -1,6 +1,6 @@
 -- The steps along a chain of scrollers.
-use Rattle.std.proofs.Common.{◌≡◌, ℕ, ◌+◌, ◌<◌, ◌≤◌, ℤ, ◌-ℤ◌, Bool, true, false, cond, List, [], ◌∷◌, ◌++◌, length, map, get_or, drop, refl, sym, ◌∙◌, ap, add-one, append_assoc, append-nil, drop-cons}
-use Rattle.std.proofs.lemmas.List.{drop_all, map-append}
+use Rattle.std.proofs.Common.{◌≡◌, ℕ, ◌+◌, ◌<◌, ℤ, ◌-ℤ◌, Bool, true, false, cond, List, [], ◌∷◌, ◌++◌, length, map, get_or, drop, refl, sym, ◌∙◌, ap, add-one, append_assoc, drop-cons}
+use Rattle.std.proofs.lemmas.List.{map-append}
 use Rattle.page_layers.specs.declared.moves.Move.{Move}
 use Rattle.page_layers.specs.Axes.{Axis, across, down, is_still, with_move}
 use Rattle.page_layers.specs.Wheels.{chain_parts, chain_rest}
@@ -50,12 +50,3 @@ parts_more takes xs i x y bx by nx ny old new all lt ex ey made dx dy was =
     ∙ (λ j. with_move (m (ex j) (ey j)) (rest (ex j) (ey j)))
     ∙ sym (ap (λ (ys : List ℕ). chain_parts takes ys x y) (rest_is xs i lt)))
     ∙ was
-
--- all parts and all that is left, where no scroller is left
-pub parts_all : (takes : ℕ → Axis → ℤ → ℤ) (xs : List ℕ) (i : ℕ) (x y : ℤ) (parts : List WheelPart) (all : List Move) → length xs ≤ i
-    → map part_move parts ++ chain_parts takes (drop i xs) x y ≡ all → map part_move parts ≡ all
-parts_all takes xs i x y parts all l old =
-    sym (append-nil (map part_move parts)) ∙ ap (λ (ys : List ℕ). map part_move parts ++ chain_parts takes ys x y) (sym (drop_all i xs l)) ∙ old
-
-pub rest_all : (takes : ℕ → Axis → ℤ → ℤ) (ax : Axis) (xs : List ℕ) (i : ℕ) (asked all : ℤ) → length xs ≤ i → chain_rest takes ax (drop i xs) asked ≡ all → asked ≡ all
-rest_all takes ax xs i asked all l old = ap (λ (ys : List ℕ). chain_rest takes ax ys asked) (sym (drop_all i xs l)) ∙ old

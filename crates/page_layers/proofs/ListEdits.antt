@@ -2,8 +2,7 @@
 use Rattle.std.proofs.Common.{ℕ, suc, ◌≡◌, ◌+◌, ◌<◌, ◌≤◌, Bool, true, false, not, cond, Option, Some, None, List, [], ◌∷◌, ◌++◌, length, take, drop, get_or, set, map, refl, ap, sym, ◌∙◌, subst, arith}
 use Rattle.std.specs.List.{position_or_len, position, find, insert, remove, take-map, drop-map}
 use Rattle.std.specs.Prelude.{MatchOption, nat_lt}
-use Rattle.std.proofs.lemmas.List.{length-map, map-append, set_split}
-use Rattle.std.proofs.Math.Seq.{drop-cons}
+use Rattle.std.proofs.lemmas.List.{length-map, map-append}
 use Rattle.std.proofs.lemmas.Bool.Decides.{nat_tests}
 use Rattle.page_layers.specs.Lists.{with_first_changed, without_first}
 
@@ -78,11 +77,3 @@ map-remove v xs i = map-append v (take i xs) (drop (suc i) xs) ∙ ap (λ (ys : 
 -- views of a list with one more element
 pub map-insert : {A B : Type 0} (v : A → B) (xs : List A) (i : ℕ) (x : A) → map v (insert xs i x) ≡ insert (map v xs) i (v x)
 map-insert v xs i x = map-append v (take i xs) (x ∷ drop i xs) ∙ ap (λ (ys : List _). map v (take i xs) ++ v x ∷ ys) (sym (drop-map v i xs)) ∙ ap (λ (ys : List _). ys ++ v x ∷ drop i (map v xs)) (sym (take-map v i xs))
-
--- a change where a walk from the front has come to the first that passes
-pub changed_here : {A : Type 0} (p : A → Bool) (f : A → A) (xs all : List A) (i : ℕ) (d : A) → i < length xs → p (get_or xs i d) ≡ true → take i xs ++ with_first_changed p f (drop i xs) ≡ all → set xs i (f (get_or xs i d)) ≡ all
-changed_here {A} p f xs all i d lt here rest =
-    set_split xs i (f (get_or xs i d)) lt
-    ∙ ap (λ (ys : List A). take i xs ++ ys) (sym (ap (λ (b : Bool). cond b (f (get_or xs i d) ∷ drop (suc i) xs) (get_or xs i d ∷ with_first_changed p f (drop (suc i) xs))) here))
-    ∙ ap (λ (ys : List A). take i xs ++ with_first_changed p f ys) (sym (drop-cons xs i d lt))
-    ∙ rest

@@ -3,7 +3,6 @@ use Rattle.std.proofs.Common.{◌≡◌, ℕ, zero, suc, ◌+◌, ◌<◌, ◌�
 use Rattle.std.proofs.lemmas.Bool.Decides.{nat_tests}
 use Rattle.std.proofs.lemmas.Bool.{cases_lt, cases_order}
 use Rattle.std.proofs.lemmas.List.{reverse-append, reverse-reverse, length-reverse, length-map, set-append_left, set_at}
-use Rattle.std.proofs.lemmas.List.Sums.{prefix_len-le-length}
 use Rattle.std.specs.List.{prefix_len, insert}
 use Rattle.std.specs.List.Sorted.{IsPartitionedBy, IsPartitionPoint}
 use Rattle.page_properties.specs.declared.index.IndexEntry.{IndexEntry}
@@ -39,10 +38,6 @@ pub point_is_front : (id : ℕ) (entries : List IndexEntry) (i : ℕ) → IsPart
     → i ≡ front id entries
 unfolding front
 point_is_front id entries i s h = point_is (λ s. nat_lt s.id id) entries i s h
-
-pub front_le : (id : ℕ) (entries : List IndexEntry) → front id entries ≤ length entries
-unfolding front
-front_le id entries = prefix_len-le-length (λ s. nat_lt s.id id) entries
 
 -- inserting behind the smaller ids is `put`
 insert_by : (s x : IndexEntry) (xs : List IndexEntry) (n : ℕ) (t : Bool) → insert xs n s ≡ put s xs
@@ -174,13 +169,6 @@ known_place id (e ∷ older) = known_by id e older (e.0 == id) (known_place id o
 none_of : {A : Type 0} (o : Option A) → is_some o ≡ false → o ≡ None
 none_of None h = refl
 none_of (Some x) h = cc
-
--- the index of distinct ids rises
-pub rising_index : {N : Type 0} (nodes : List (ℕ × N)) → AreDistinctIds nodes → AreRising (index_of (ids nodes))
-rising_index [] d = tt
-rising_index (e ∷ older) d =
-    rising_put _ (index_of (ids older)) (rising_index older d.1)
-    (entry_index e.0 (ids older) ∙ none_of (place_of e.0 (ids older)) (known_place e.0 older ∙ d.0))
 
 -- the node of an id stands at its place in the order of addition
 pub record IsAt {N : Type 0} (id : ℕ) (nodes : List (ℕ × N)) (p : ℕ) (e : ℕ × N) : Type 0 where

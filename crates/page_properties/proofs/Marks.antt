@@ -194,22 +194,10 @@ pub record Climbed (nodes : List (ℕ × EffectNode)) (before marks : List Bool)
   pub left : (k : ℕ) → lies_in nodes k id ≡ true → lies_in nodes k effect ≡ true
   pub fresh : (k : ℕ) → lies_in nodes k effect ≡ true → lies_in nodes k id ≡ false → marked nodes before k ≡ false
 
-excluded : (a b : Bool) → a ≡ a || (b && not b)
-excluded true b = refl
-excluded false true = refl
-excluded false false = refl
-
 plain : (a b : Bool) → a || (b && not true) ≡ a
 plain true b = refl
 plain false true = refl
 plain false false = refl
-
-pub climbed_none : (nodes : List (ℕ × EffectNode)) (before : List Bool) (effect : ℕ) → Climbed nodes before before effect effect
-climbed_none nodes before effect = record {
-  now_marked = λ k. excluded (marked nodes before k) (lies_in nodes k effect);
-  left = λ k h. h;
-  fresh = λ k h i. absurd (clash _ h i);
-}
 
 module _ (nodes : List (ℕ × EffectNode)) (family : AreEffects nodes) (before marks : List Bool) (effect id : ℕ) (w : Climbed nodes before marks effect id) where
   module _ (n : EffectNode) (found : find id nodes ≡ Some n) where

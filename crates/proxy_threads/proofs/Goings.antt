@@ -124,13 +124,6 @@ pub goes_first : (id : TableId) (o : Option Seat) (written : ℕ) (old : Option 
 goes_first id None written old may = absurd may
 goes_first id (Some p) written old may = going_first id written p old may
 
--- what a turn needs
-pub goes_may : (id : TableId) (o x : Option Seat) (w v : ℕ) (old mid : Option (List ℕ)) → Goes id o x w v old mid → Of x (MayTurn id v)
-goes_may id (Some p) (Some q) w v old mid going = going.may
-goes_may id None None w v old mid going = absurd going
-goes_may id None (Some q) w v old mid going = absurd going
-goes_may id (Some p) None w v old mid going = absurd going
-
 pub goes_went : (id : TableId) (o x y : Option Seat) (w v u : ℕ) (old mid new : Option (List ℕ)) → Goes id o x w v old mid → CompTurns x y v u mid new turned.Went → Goes id o y w u old new
 goes_went id (Some p) (Some q) (Some r) w v u old mid new going turn = goes_on id p q r w v u old mid new turned.Went going turn turn.all.0 turn.all.1 turn.wrote
 goes_went id (Some p) (Some q) None w v u old mid new going turn = absurd turn

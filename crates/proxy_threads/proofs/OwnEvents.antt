@@ -1,5 +1,5 @@
 -- Which events may come of an actor.
-use Rattle.std.proofs.Common.{◌≡◌, ℕ, ◌+◌, true, false, cond, not, ◌&&◌, List, [], ◌∷◌, Option, Some, None, refl, sym, ◌∙◌, ap, arith}
+use Rattle.std.proofs.Common.{◌≡◌, ℕ, ◌+◌, true, false, cond, not, ◌&&◌, List, Option, Some, None, refl, sym, ◌∙◌, ap, arith}
 use Rattle.model_scheduler.specs.declared.kind.Kind.{Kind}
 use Rattle.model_scheduler.specs.declared.kind.Kind.TheVariants as kind
 use Rattle.model_history.specs.declared.event.Event.{Event}
@@ -7,17 +7,13 @@ use Rattle.model_history.specs.declared.event.Event.TheVariants as event
 use Rattle.model_history.specs.declared.history.Entry.{Entry}
 use Rattle.model_history.specs.Scripts.{ScriptModel}
 use Rattle.model_history.specs.EventFields.{kind_of, actor_of}
-use Rattle.model_history.specs.Scans.{has_ended, held}
+use Rattle.model_history.specs.Scans.{held}
 use Rattle.model_history.specs.Due.{due}
 use Rattle.model_history.specs.Legal.{sched, can, Next}
 use Rattle.model_scheduler.specs.Kinds.{is_sent}
 use Rattle.model_history.proofs.BoolFacts.{not_both}
 use Rattle.model_history.proofs.DueFacts.{entry, at_ready, at_abort, at_done}
-use Rattle.impl_log.specs.Runs.{Run, past, now}
 use Rattle.impl_core.specs.Replies.{is_own}
-use Rattle.proxy_threads.specs.declared.playing.Played.{Played}
-use Rattle.proxy_threads.specs.declared.playing.Played.TheVariants as played
-use Rattle.proxy_threads.specs.inner.Steps.{NoneNow, Plays, PlaysOf}
 use Rattle.proxy_threads.specs.Causes.{is_stop, HasNone}
 
 -- an event that may come is one that is asked for by its kind
@@ -52,38 +48,6 @@ main_none s n h idle (event.Start w q evicted) f x = let a = x.actor in absurd (
 main_none s n h idle (event.DoneTile w q) f x = let a = x.actor in absurd (omega (arith, a))
 main_none s n h idle (event.Stop b) f x = absurd (cc (f))
 main_none s n h idle _ f x = let a = x.actor in absurd (cc (a))
-
--- the compositor's kinds, in the order in which they are tried
-abbrev pub compositor_kinds : List Kind
-compositor_kinds =
-    kind.Finish ∷ kind.Activate ∷ kind.Commit ∷ kind.Send ∷ kind.Draw ∷ kind.Skip ∷ kind.NoDraw ∷ kind.Scroll ∷ kind.Wheel ∷ kind.BeginDraw ∷ kind.BeginPlain ∷ kind.Await ∷ kind.Settle ∷ kind.End ∷ []
-
-none_listed : (r : Run) → NoneNow compositor_kinds r → (k : Kind) → is_own k ≡ true → now r k 0 ≡ None
-none_listed r n kind.Finish t = n.0
-none_listed r n kind.Activate t = n.1.0
-none_listed r n kind.Commit t = n.1.1.0
-none_listed r n kind.Send t = n.1.1.1.0
-none_listed r n kind.Draw t = n.1.1.1.1.0
-none_listed r n kind.Skip t = n.1.1.1.1.1.0
-none_listed r n kind.NoDraw t = n.1.1.1.1.1.1.0
-none_listed r n kind.Scroll t = n.1.1.1.1.1.1.1.0
-none_listed r n kind.Wheel t = n.1.1.1.1.1.1.1.1.0
-none_listed r n kind.BeginDraw t = n.1.1.1.1.1.1.1.1.1.0
-none_listed r n kind.BeginPlain t = n.1.1.1.1.1.1.1.1.1.1.0
-none_listed r n kind.Await t = n.1.1.1.1.1.1.1.1.1.1.1.0
-none_listed r n kind.Settle t = n.1.1.1.1.1.1.1.1.1.1.1.1.0
-none_listed r n kind.End t = n.1.1.1.1.1.1.1.1.1.1.1.1.1.0
-none_listed r n kind.Ready t = absurd (cc)
-none_listed r n kind.Abort t = absurd (cc)
-none_listed r n kind.Start t = absurd (cc)
-none_listed r n kind.Done t = absurd (cc)
-none_listed r n kind.Stop t = absurd (cc)
-
--- what was played of all kinds
-pub plays_all : (old new : Run) (x : Played) → has_ended (past old) ≡ false → PlaysOf compositor_kinds old new x → Plays old new x
-plays_all old new played.Blocked going p = (p.0, going, none_listed old p.1)
-plays_all old new played.Ended going p = absurd p
-plays_all old new x going p = p
 
 -- ---- a worker
 

@@ -12,7 +12,7 @@ use Rattle.recording_reader.specs.declared.cursor.EventSpan.{EventSpan}
 use Rattle.recording_reader.specs.BadParts.{IsBadPart, AreFront, shown_behind, StopsAt}
 use Rattle.recording_reader.specs.Bodies.{ArePiecesFrom}
 use Rattle.recording_reader.specs.Pieces.{Piece, piece_text, IsPiece, ArePieces, entry_of, entries, is_end, shown_after}
-use Rattle.recording_reader.specs.Taking.{IsImageAt, TakesPiece, TakesNext, start_at}
+use Rattle.recording_reader.specs.Taking.{IsImageAt, TakesPiece, TakesNext}
 use Rattle.recording_reader.specs.Views.{ViewTable, view_at}
 use Rattle.recording_check.specs.Verdicts.{IsRight, AreRightPieces, IsWrongAt}
 use Rattle.recording_check.specs.inner.Judgements.{AreJudged, JudgesNext, JudgesParts, verdict_where}
@@ -117,9 +117,6 @@ pub record StandsBehind (bytes : List ℕ) (t : ViewTable) (start : ℕ) (c : Cu
   pub shown : c.shown ≡ shown_behind None ps
   pub index : c.index ≡ length ps
   pub at : c.at ≡ start + length (flat_map piece_text ps)
-
-pub at_start : (bytes : List ℕ) (t : ViewTable) (start : ℕ) → StandsBehind bytes t start (start_at start) []
-at_start bytes t start = record { front = tt; text = refl; shown = refl; index = refl; at = omega arith }
 
 text_more : (bytes : List ℕ) (start at now : ℕ) (ps : List Piece) (p : Piece) → drop start bytes ≡ flat_map piece_text ps ++ drop at bytes → drop at bytes ≡ piece_text p ++ drop now bytes
     → drop start bytes ≡ flat_map piece_text (ps ++ p ∷ []) ++ drop now bytes

@@ -6,7 +6,6 @@ use Rattle.geom.specs.declared.tile.TileKey.{TileKey}
 use Rattle.pixel.specs.Colours.{Parts}
 use Rattle.page_properties.specs.OffsetMap.{offset_at}
 use Rattle.page_layers.specs.Pages.{Page}
-use Rattle.page_layers.specs.declared.view.View.{View}
 use Rattle.model_history.specs.declared.event.Event.{Event}
 use Rattle.model_history.specs.declared.event.Event.TheVariants as event
 use Rattle.model_history.specs.declared.history.Entry.{Entry}
@@ -16,23 +15,14 @@ use Rattle.model_history.specs.Frames.{active, active_page}
 use Rattle.model_history.specs.Scrolls.{active_offsets}
 use Rattle.model_history.specs.Due.{due_draw}
 use Rattle.model_history.specs.Legal.{Next}
-use Rattle.model_history.specs.Recordings.{image, shown_image, image_behind}
+use Rattle.model_history.specs.Recordings.{image, shown_image}
 use Rattle.model_history.specs.Scripts.{ScriptModel}
-use Rattle.impl_log.specs.Runs.{Run, past, with_entry}
+use Rattle.impl_log.specs.Runs.{Run, past}
 use Rattle.recording_judge.specs.declared.screen_state.ScreenState.{ScreenState}
-use Rattle.recording_judge.specs.Judging.{JudgesEntry, IsShown}
+use Rattle.recording_judge.specs.Judging.{IsShown}
 use Rattle.recording_pixels.specs.inner.Behind.{pixel_of}
-use Rattle.recording_reader.specs.Pieces.{HasImage, entry_of}
+use Rattle.recording_reader.specs.Pieces.{entry_of}
 use Rattle.recording_check.specs.inner.Rightness.{missing_in, TellsDrawn, CanHave, TellsImage, Judged}
-
--- an event that is no draw has nothing behind its line
-other_image : (s : ScriptModel) (h : List Entry) (v : View) (e : Event) (image : List ℕ) → missing_in e ≡ None → HasImage v e image → image ≡ image_behind s h e
-other_image s h v (event.Draw i ms) image none has = absurd (cc (none))
-other_image s h v (event.Stop a) image none has = absurd has
-other_image s h v e image none has = has
-
-pub others_right : (s : ScriptModel) (h : List Entry) (e : Event) (image : List ℕ) → missing_in e ≡ None → CanHave e image → TellsImage s h e image true
-others_right s h e image none can = other_image s h can.0 e image none can.1
 
 -- a draw comes only where a page is active
 no_draw_at : (s : ScriptModel) (h : List Entry) (o : Option ℕ) (i : ℕ) (ms : List TileKey) → active h ≡ None → due_draw s h o ≡ Some (event.Draw i ms) → ⊥
@@ -63,15 +53,6 @@ painted_is s h ms v is =
 compared : (s : ScriptModel) (h : List Entry) (ms : List TileKey) (image whole : List ℕ) (b : Bool) → whole ≡ shown_image s h ms → Decides b (image ≡ whole) → TellsDrawn s h ms image b
 compared s h ms image whole true is decides = decides.0 refl ∙ is
 compared s h ms image whole false is decides = λ there. let no : false ≡ true = decides.1 (there ∙ sym is) in absurd (cc (no))
-
--- the entry is that of its event
-piece_entered : (e : Entry) → e ≡ entry_of e.event → (old : Run) → with_entry old e.actor e.event ≡ with_entry old (entry_of e.event).actor (entry_of e.event).event
-piece_entered e own old = ap (λ (x : Entry). with_entry old x.actor x.event) own
-
--- the image is right, and the entry was entered or not
-pub entered : (old new : Run) (e : Entry) (image : List ℕ) (b : Bool) → e ≡ entry_of e.event → TellsImage old.script (past old) e.event image true → JudgesEntry old e new b → Judged old (record { event = e.event; image = image }) new b
-entered old new e image true own same enters = (record { next = subst (λ (x : Entry). Next old.script old.workers (past old) x) own enters.0; image = same }, enters.1 ∙ piece_entered e own old)
-entered old new e image false own same enters = (λ right. enters.0 (subst (λ (x : Entry). Next old.script old.workers (past old) x) (sym own) right.next), enters.1)
 
 -- the image is wrong
 pub refused : (old : Run) (e : Event) (image : List ℕ) → TellsImage old.script (past old) e image false → Judged old (record { event = e; image = image }) old false

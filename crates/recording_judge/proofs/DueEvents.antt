@@ -62,9 +62,6 @@ module _ (s : ScriptModel) (h : List Entry) where
   pub draw_is : (i : ℕ) → newest begins h ≡ Some i → is_some (active h) ≡ true → (ks : List TileKey) → ks ≡ missing_visible s h → Some (event.Draw i ks) ≡ due s h kind.Draw 0
   draw_is i begun there ks lacks = sym (ap (due_draw s h) begun ∙ (ap (λ b. on_if b (event.Draw i (missing_visible s h))) there ∙ ap (λ l. Some (event.Draw i l)) (sym lacks)))
 
-  pub draw_not : (i : ℕ) → newest begins h ≡ Some i → is_some (active h) ≡ false → None ≡ due s h kind.Draw 0
-  draw_not i begun none = sym (ap (due_draw s h) begun ∙ ap (λ b. on_if b (event.Draw i (missing_visible s h))) none)
-
   -- the key that is first, and none
 
   pub first_key : (o : Option Rank) (q : TileKey) → rank_to_start s h ≡ o → Some q ≡ option_map rank_key o → IsFirstKey s h q

@@ -35,7 +35,7 @@ use Rattle.model_steps.proofs.ReadyAfter.{activate_ready}
 use Rattle.tile_manager.specs.Managers.{tile_made}
 use Rattle.tile_manager.proofs.Bools.{is_some_if, some_key}
 use Rattle.recording_judge.specs.declared.tile_keys.TileKeys.{TileKeys}
-use Rattle.recording_judge.specs.inner.Tiles.{Holds, AreFree, Started, Finished, HaveSameKeys}
+use Rattle.recording_judge.specs.inner.Tiles.{Holds, AreFree, Started, Finished}
 
 -- at the beginning
 pub begins : (s : ScriptModel) (n : ℕ) (t : TileKeys) → t.ready ≡ [] → t.pins ≡ [] → AreFree n t.held.items → t.queue ≡ None → Holds s n [] t
@@ -45,16 +45,6 @@ begins s n t ready pins free none = record {
   count = free.0;
   held = λ w lt. free.1 w;
   queue = subst (λ (o : Option Choice). IfSome o (λ q. Alike q (choice s []))) (sym none) tt;
-}
-
--- another past with the same keys, for which there is no queue
-pub forgets : (s : ScriptModel) (n : ℕ) (h g : List Entry) (t u : TileKeys) → u.ready ≡ t.ready → u.pins ≡ t.pins → u.held.items ≡ t.held.items → u.queue ≡ None → Holds s n h t → HaveSameKeys s h g → Holds s n g u
-forgets s n h g t u ready pins held none holds same = record {
-  ready = λ q. ap (λ ks. has_key ks q) ready ∙ (holds.ready q ∙ sym (same.tiles.ready q));
-  pinned = λ q. ap (λ ks. has_key ks q) pins ∙ (holds.pinned q ∙ sym (same.tiles.pinned q));
-  count = ap length held ∙ holds.count;
-  held = λ w lt. ap (λ os. slice_index_or os w None) held ∙ (holds.held w lt ∙ sym (same.held w));
-  queue = subst (λ (o : Option Choice). IfSome o (λ q. Alike q (choice s g))) (sym none) tt;
 }
 
 -- what the queue tells

@@ -18,12 +18,6 @@ behind_append (c ∷ cs) b (x ∷ xs) = at_byte (c == x) (behind_append cs b xs)
 
 -- a byte and what follows it
 
-pub byte_there : (c : ℕ) (cs xs r : List ℕ) → behind (c ∷ []) xs ≡ Some r → behind (c ∷ cs) xs ≡ behind cs r
-byte_there c cs xs r e = behind_append (c ∷ []) cs xs ∙ ap (option_and_then (behind cs)) e
-
-pub byte_missing : (c : ℕ) (cs xs : List ℕ) → behind (c ∷ []) xs ≡ None → behind (c ∷ cs) xs ≡ None
-byte_missing c cs xs e = behind_append (c ∷ []) cs xs ∙ ap (option_and_then (behind cs)) e
-
 -- one after another
 
 pub one_more : (f : ℕ → List ℕ) (n : ℕ) (xs r q : List ℕ) → behind_each n f xs ≡ Some r → behind (f n) r ≡ Some q → behind_each (n + 1) f xs ≡ Some q

@@ -1,5 +1,5 @@
 -- What was read so far, before what is read from a place on, is all that is read.
-use Rattle.std.proofs.Common.{◌≡◌, ℕ, true, false, List, [], ◌∷◌, ◌++◌, refl, ap, sym, ◌∙◌, append_assoc, append-nil}
+use Rattle.std.proofs.Common.{◌≡◌, ℕ, false, List, [], ◌∷◌, ◌++◌, refl, ap, sym, ◌∙◌, append_assoc}
 use Rattle.std.specs.Prelude.{Result, Ok, Err, if◌then◌else◌, option_to_list}
 use Rattle.model_history.specs.declared.history.Entry.{Entry}
 use Rattle.recording_reader.specs.declared.cursor.Cursor.{Cursor}
@@ -16,11 +16,6 @@ behind_both es fs ms ns (Ok r) =
     ∙ ap (λ (ys : List ImageSpan). Ok (record { entries = (es ++ fs) ++ r.entries; images = ys })) (sym (append_assoc ms ns r.images))
 behind_both es fs ms ns (Err place) = refl
 
-behind_all : (es : List Entry) (ms : List ImageSpan) → behind es ms no_more ≡ Ok (record { entries = es; images = ms })
-behind_all es ms =
-    ap (λ (xs : List Entry). Ok (record { entries = xs; images = ms ++ [] })) (append-nil es)
-    ∙ ap (λ (ys : List ImageSpan). Ok (record { entries = es; images = ys })) (append-nil ms)
-
 -- a part more is read
 pub goes_on : (bytes : List ℕ) (t : ViewTable) (old new : Cursor) (step : EventSpan) (es : List Entry) (ms : List ImageSpan) (all : Result Body ℕ)
     → behind es ms (read_from bytes t old) ≡ all → Steps bytes t old new (Ok step) → is_end step.event ≡ false
@@ -29,15 +24,6 @@ goes_on bytes t old new step es ms all so one more =
     let next : read_from bytes t old ≡ behind (entry_of step.event ∷ []) (option_to_list step.image) (read_from bytes t new) =
     one ∙ ap (λ (b : _). behind (entry_of step.event ∷ []) (option_to_list step.image) (if b then no_more else read_from bytes t new)) more in
     sym (behind_both es (entry_of step.event ∷ []) ms (option_to_list step.image) (read_from bytes t new)) ∙ ap (behind es ms) (sym next) ∙ so
-
--- the end is read
-pub comes_to_end : (bytes : List ℕ) (t : ViewTable) (old new : Cursor) (step : EventSpan) (es : List Entry) (ms : List ImageSpan) (all : Result Body ℕ)
-    → behind es ms (read_from bytes t old) ≡ all → Steps bytes t old new (Ok step) → is_end step.event ≡ true
-    → Ok (record { entries = es ++ (entry_of step.event ∷ []); images = ms ++ option_to_list step.image }) ≡ all
-comes_to_end bytes t old new step es ms all so one last =
-    let next : read_from bytes t old ≡ behind (entry_of step.event ∷ []) (option_to_list step.image) no_more =
-    one ∙ ap (λ (b : _). behind (entry_of step.event ∷ []) (option_to_list step.image) (if b then no_more else read_from bytes t new)) last in
-    sym (behind_all (es ++ (entry_of step.event ∷ [])) (ms ++ option_to_list step.image)) ∙ sym (behind_both es (entry_of step.event ∷ []) ms (option_to_list step.image) no_more) ∙ ap (behind es ms) (sym next) ∙ so
 
 -- a bad part is met
 pub stops : (bytes : List ℕ) (t : ViewTable) (old new : Cursor) (place : ℕ) (es : List Entry) (ms : List ImageSpan) (all : Result Body ℕ)

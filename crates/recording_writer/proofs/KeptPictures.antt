@@ -1,5 +1,5 @@
 -- The picture of the last draw is that of each draw that lists the same missing tiles, until something moves.
-use Rattle.std.proofs.Common.{◌≡◌, ℕ, true, List, ◌∷◌, ◌++◌, Option, Some, None, ap, sym, ◌∙◌, append_assoc}
+use Rattle.std.proofs.Common.{◌≡◌, ℕ, List, ◌++◌, Option, Some, None, ap, sym, ◌∙◌, append_assoc}
 use Rattle.std.specs.Prelude.{slice_get, Result, Ok, Err, OnOk}
 use Rattle.geom.specs.declared.tile.TileKey.{TileKey}
 use Rattle.model_history.specs.declared.event.Event.{Event}
@@ -9,23 +9,13 @@ use Rattle.model_history.specs.Scripts.{ScriptModel}
 use Rattle.model_history.specs.Recordings.{image_head, shown_image, image_behind}
 use Rattle.recording_writer.specs.declared.last_draw.LastDraw.{LastDraw}
 use Rattle.recording_writer.specs.inner.Packed.{PicturesView}
-use Rattle.recording_writer.specs.inner.Repeats.{is_quiet, missing_in, HaveSameMissing, image_of, StaysShown, KeepsAt, KeepsFrom, Keeps}
+use Rattle.recording_writer.specs.inner.Repeats.{missing_in, image_of, KeepsAt, KeepsFrom, Keeps}
 use Rattle.recording_writer.proofs.Places.{still_there}
 
 -- behind a draw stands what the screen shows with the missing tiles that it lists
 pub behind_draw : (s : ScriptModel) (h : List Entry) (e : Event) (missing : List TileKey) → missing_in e ≡ Some missing → shown_image s h missing ≡ image_behind s h e
 behind_draw s h (event.Draw i lacks) missing lists = let same : missing ≡ lacks = cc in ap (λ (keys : List TileKey). shown_image s h keys) same
 behind_draw s h _ missing lists = absurd cc
-
--- a draw that lists the missing tiles of the last one shows the picture again
-pub shown_again : (s : ScriptModel) (h entries : List Entry) (picture : PicturesView) (place : ℕ) (drawn : Entry) (e : Event) → slice_get entries place ≡ Some drawn
-    → HaveSameMissing drawn.event e → KeepsAt s h entries picture place → image_of picture ≡ image_behind s h e
-shown_again s h entries picture place drawn e there same keeps =
-    let one : keeps.drawn ≡ drawn = by_place (sym keeps.there ∙ there) in
-    keeps.image same.missing (ap (λ (x : Entry). missing_in x.event) one ∙ same.first) ∙ behind_draw s h e same.missing same.second
-  where
-    by_place : {x y : Entry} → Some x ≡ Some y → x ≡ y
-    by_place is = cc
 
 -- what was drawn now is kept
 pub kept_here : (s : ScriptModel) (h entries : List Entry) (picture : PicturesView) (at : ℕ) (e : Entry) → slice_get entries at ≡ Some e → image_of picture ≡ image_behind s h e.event
@@ -47,19 +37,6 @@ from_longer s h entries news picture (Some at) keeps = record {
 
 pub keeps_longer : (s : ScriptModel) (h entries news : List Entry) (last : LastDraw) → Keeps s h entries last → Keeps s h (entries ++ news) last
 keeps_longer s h entries news last keeps = from_longer s h entries news last.pictures last.place keeps
-
--- it is kept behind a quiet entry
-from_quiet : (s : ScriptModel) (h entries : List Entry) (e : Entry) (picture : PicturesView) (place : Option ℕ) → is_quiet e.event ≡ true → StaysShown s h e
-    → KeepsFrom s h entries picture place → KeepsFrom s (e ∷ h) entries picture place
-from_quiet s h entries e picture None quiet stays keeps = tt
-from_quiet s h entries e picture (Some at) quiet stays keeps = record {
-  drawn = keeps.drawn;
-  there = keeps.there;
-  image = λ missing lists. keeps.image missing lists ∙ sym (stays quiet missing);
-}
-
-pub keeps_quiet : (s : ScriptModel) (h entries : List Entry) (e : Entry) (last : LastDraw) → is_quiet e.event ≡ true → StaysShown s h e → Keeps s h entries last → Keeps s (e ∷ h) entries last
-keeps_quiet s h entries e last quiet stays keeps = from_quiet s h entries e last.pictures last.place quiet stays keeps
 
 -- the head of the image behind some lines, and then the packed pixels
 pub drawn_text : (p : PicturesView) (lines text behind : List ℕ) (w h : ℕ) → w ≡ p.frame.w → h ≡ p.frame.h → text ≡ lines ++ image_head w h → image_of p ≡ behind

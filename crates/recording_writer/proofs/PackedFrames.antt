@@ -7,7 +7,7 @@ use Rattle.std.proofs.lemmas.List.{take_more, take_all}
 use Rattle.pixel.specs.Colours.{Parts}
 use Rattle.recording_rgb.specs.Packing.{IsRgb, IsRunPacked}
 use Rattle.viz_render.specs.Frames.{FrameView, frame_pixel}
-use Rattle.viz_painter.specs.Painters.{has_row, IsKeptOutside}
+use Rattle.viz_painter.specs.Painters.{has_row}
 use Rattle.viz_painter.specs.declared.frame_rows.FrameRows.{FrameRows}
 use Rattle.model_history.specs.Recordings.{joined_to, rgb, image_head, image_row, image}
 use Rattle.recording_writer.specs.inner.Packed.{IsPacked, IsPackedOutside}
@@ -148,24 +148,3 @@ rows_fit bottom to v f last wide low =
     let rows = rows_in_order bottom f.h f.w low in
     let turned : f.h * f.w ≡ f.w * f.h = grind arith in
     omega (arith, end, rows, turned)
-
--- what was packed of a frame still is outside of the rows that changed
-pub still_packed : (rows : FrameRows) (old new : FrameView) (packed : List ℕ) → IsPacked old packed → IsKeptOutside rows old new → new.w ≡ old.w → new.h ≡ old.h
-    → IsPackedOutside rows new packed
-still_packed rows old new packed is kept wide tall = record {
-  size = is.size ∙ ap (λ (w : ℕ). 3 * (w * old.h)) (sym wide) ∙ ap (λ (h : ℕ). 3 * (new.w * h)) (sym tall);
-  pixels = λ x y xw yh off.
-      subst (λ (c : Parts). IsRgb c (y * new.w + x) packed) (sym (kept.pixels x y xw yh off))
-      (subst (λ (w : ℕ). IsRgb (frame_pixel old x y) (y * w + x) packed) (sym wide) (is.pixels x y (omega arith) (omega arith)));
-}
-
--- no row lies outside of all rows of a frame
-pub outside_all : (rows : FrameRows) (f : FrameView) (packed : List ℕ) → rows.top ≡ 0 → rows.bottom ≡ f.h → length packed ≡ 3 * (f.w * f.h)
-    → IsPackedOutside rows f packed
-outside_all rows f packed first last size = record {
-  size = size;
-  pixels = λ x y xw yh off. absurd (all_in rows f.h y first last yh off);
-}
-  where
-    all_in : (rows : FrameRows) (h y : ℕ) → rows.top ≡ 0 → rows.bottom ≡ h → y < h → has_row rows y ≡ false → ⊥
-    all_in rows h y first last lt off = grind (arith, nat_tests)

@@ -1,5 +1,5 @@
 -- The whole run of a script, and its recording.
-use Rattle.std.proofs.Common.{inl, inr, ◌≡◌, ℕ, ◌≤◌, List, [], ◌++◌, refl, ap, sym, ◌∙◌, append-nil, subst, arith}
+use Rattle.std.proofs.Common.{◌≡◌, ℕ, List, [], ◌++◌, refl, ap, sym, ◌∙◌, append-nil, subst}
 use Rattle.std.specs.Prelude.{reverse, Option, None, Result, Ok, Err, IfOk, ⊤}
 use Rattle.std.proofs.lemmas.List.{reverse-reverse}
 use Rattle.player_io.specs.Pieces.{GainsPrefix}
@@ -122,9 +122,3 @@ lockstep_run s entries (Err stop) result is right = subst (λ (r : Result (List 
 pub where_ok : {X E : Type 0} (P : Type 0) (result : Result X E) → P → IfOk result (λ x. P)
 where_ok P (Ok x) holds = holds
 where_ok P (Err e) holds = tt
-
--- a stop has its cause where the count of faults rose after it stood at a lower one
-pub cause_later : (stop : WriteStop) (f g h : ℕ) → f ≤ g → WriteCause {X = ⊤} g h (Err stop) → WriteCause {X = ⊤} f h (Err stop)
-cause_later Fault f g h le (inl lt) = inl (omega (arith, le, lt))
-cause_later Fault f g h le (inr last) = inr last
-cause_later Memory f g h le cause = tt

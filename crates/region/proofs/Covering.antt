@@ -3,7 +3,7 @@ use Rattle.std.proofs.Common.{◌≡◌, ◌⊎◌, inl, inr, ℕ, zero, suc, �
 use Rattle.std.specs.List.{All}
 use Rattle.std.proofs.lemmas.List.Folds.{list_any-append}
 use Rattle.std.proofs.lemmas.List.Elements.{All-append}
-use Rattle.std.proofs.lemmas.List.{take_more, take_at, take_all, drop_all}
+use Rattle.std.proofs.lemmas.List.{take_more, take_all, drop_all}
 use Rattle.geom.specs.declared.rect.Rect.{Rect}
 use Rattle.geom.specs.Covers.{covers, within, IsSound}
 use Rattle.geom.specs.Common.{common, meets}
@@ -88,9 +88,6 @@ pub record HasGrown (old new others : List Rect) : Type 0 where
   pub points : (x y : ℤ) → covered new x y ≡ (covered old x y || covered others x y)
   pub sound : All IsSound new
 
-pub grown_none : (rs : List Rect) → All IsSound rs → HasGrown rs rs []
-grown_none rs a = record { more = []; front = sym (append-nil rs); points = λ x y. sym (or-false (covered rs x y)); sound = a }
-
 pub or_assoc : (a b c : Bool) → ((a || b) || c) ≡ (a || (b || c))
 or_assoc true b c = refl
 or_assoc false b c = refl
@@ -112,10 +109,6 @@ grown_more old now new others r g s f p = record {
     sound : (new ≡ now) ⊎ (new ≡ now ++ r ∷ []) → All IsSound new
     sound (inl e) = rw e g.sound
     sound (inr e) = rw e (sound_push now r g.sound s)
-
--- cut back to its old length it is the old list
-pub grown_back : (old new others : List Rect) → HasGrown old new others → take (length old) new ≡ old
-grown_back old new others g = rw g.front (take_at old g.more (length old) refl)
 
 -- where the one span starts no later, its end decides
 pub end_decides : (a m b n : ℤ) → a ≤ℤ b → int_le (b +ℤ n) (a +ℤ m) ≡ span_holds a m b n

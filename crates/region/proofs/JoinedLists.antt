@@ -8,7 +8,7 @@ use Rattle.std.proofs.lemmas.Bool.Decides.{nat_tests}
 use Rattle.region.specs.Laws.{EachLayerOnce}
 use Rattle.region.specs.Points.{covered}
 use Rattle.region.specs.Lists.{AreChangesAbove, AllBelow, IsRising, IsAboveLast, StartsAbove, change_of, is_listed, is_listed_whole, has_changed, IsJoined, AreJoined, without_layer}
-use Rattle.region.proofs.Covering.{or-false, or_assoc}
+use Rattle.region.proofs.Covering.{or_assoc}
 
 -- the order
 
@@ -82,14 +82,6 @@ to_back true true = refl
 to_back true false = refl
 to_back false true = refl
 to_back false false = refl
-
--- joined with nothing
-pub joined_none : (cs : List LayerChange) → AreJoined cs [] cs
-joined_none cs = record {
-  listed = λ n. sym (or-false (is_listed cs n));
-  whole = λ n. sym (or-false (is_listed_whole cs n));
-  points = λ n x y. sym (or-false (has_changed cs n x y));
-}
 
 -- joined with one more
 listed_push : (cs : List LayerChange) (d : LayerChange) (n : ℕ) → is_listed (cs ++ d ∷ []) n ≡ (is_listed cs n || is_listed (d ∷ []) n)
@@ -194,9 +186,6 @@ pub rising_at : (cs : List LayerChange) (i : ℕ) (d : LayerChange) → IsRising
 rising_at cs i d r b a =
     let w : IsRising (take i cs ++ drop i cs) = subst IsRising (sym (take-append-drop i cs)) r in
     rising_insert (take i cs) (drop i cs) d w b (above_start d.layer (drop i cs) a (rising_rest (take i cs) (drop i cs) w))
-
-pub start_at : (cs : List LayerChange) (i n : ℕ) (z : LayerChange) → i < length cs → n < (get_or cs i z).layer → StartsAbove n (drop i cs)
-start_at cs i n z lt h = rw (drop-cons cs i z lt) h
 
 pub below_more : (cs : List LayerChange) (i n : ℕ) (d : LayerChange) → AllBelow n (take i cs) → i < length cs → d ≡ get_or cs i d → d.layer < n → AllBelow n (take (i + 1) cs)
 below_more cs i n d b lt e h =

@@ -1,48 +1,21 @@
 -- Which entries a run takes, and where a walk stops.
-use Rattle.std.proofs.Common.{ℕ, zero, suc, ◌+◌, ◌<◌, ◌≡◌, Bool, true, false, cond, not, ◌&&◌, Some, None, List, [], ◌∷◌, ◌++◌, length, get_or, take, drop, refl, ap, sym, ◌∙◌, subst, arith, drop-cons, take-append-drop}
-use Rattle.std.specs.Prelude.{Option, slice_get}
+use Rattle.std.proofs.Common.{ℕ, suc, ◌+◌, ◌<◌, ◌≡◌, Bool, true, false, cond, not, ◌&&◌, Some, None, List, [], ◌∷◌, ◌++◌, length, get_or, take, drop, refl, ap, sym, ◌∙◌, subst, arith, drop-cons, take-append-drop}
+use Rattle.std.specs.Prelude.{Option}
 use Rattle.std.specs.Bool.{Decides}
 use Rattle.std.proofs.lemmas.List.{length-take-le}
 use Rattle.model_history.specs.declared.event.Event.{Event}
 use Rattle.model_history.specs.declared.event.Event.TheVariants as event
 use Rattle.model_history.specs.declared.history.Entry.{Entry}
-use Rattle.model_history.specs.EventFields.{kind_of, actor_of}
+use Rattle.model_history.specs.EventFields.{kind_of}
 use Rattle.model_history.specs.Scans.{has_ended}
 use Rattle.model_history.specs.Scripts.{ScriptModel}
 use Rattle.model_history.specs.Due.{due}
 use Rattle.model_history.specs.Legal.{is_open, can, Next, Legal}
 use Rattle.impl_log.specs.Runs.{Run, past, with_entry, Entered}
-use Rattle.proxy_single_thread.specs.Singles.{HasKind}
 use Rattle.recording_judge.specs.Judging.{JudgesEntry}
 use Rattle.test_histories.specs.Walks.{WalkStopsAt, WalkTakes}
 
 -- ---- an entry that may come
-
--- the actor whose event it is has events of its kind
-kind_at : (n a : ℕ) (e : Event) → a ≡ actor_of e → a < 2 + n → HasKind n (kind_of e) a
-kind_at n a (event.Begin i) is lt = is
-kind_at n a event.BeginPlain is lt = is
-kind_at n a (event.Send k ms) is lt = is
-kind_at n a (event.Ready k) is lt = is
-kind_at n a (event.Abort k) is lt = is
-kind_at n a (event.Commit k) is lt = is
-kind_at n a (event.Activate k ms) is lt = is
-kind_at n a (event.Scroll i x y) is lt = is
-kind_at n a (event.Wheel i t x y ms) is lt = is
-kind_at n a (event.Start w q ks) is lt = (omega (arith, is), lt)
-kind_at n a (event.DoneTile w q) is lt = (omega (arith, is), lt)
-kind_at n a (event.Draw i ks) is lt = is
-kind_at n a (event.Skip i) is lt = is
-kind_at n a event.NoDraw is lt = is
-kind_at n a event.Finish is lt = is
-kind_at n a (event.Await i) is lt = is
-kind_at n a (event.Settle i) is lt = is
-kind_at n a event.End is lt = is
-kind_at n a (event.Stop w) is lt = lt
-
--- an entry whose actor has no events of its kind may not come
-pub no_kind : (s : ScriptModel) (n : ℕ) (h : List Entry) (e : Entry) (b : Bool) → Decides b (HasKind n (kind_of e.event) e.actor) → b ≡ false → Next s n h e → ⊥
-no_kind s n h e b tells none next = absurd (cc (tells.1 (kind_at n e.actor e.event next.actor next.within), none))
 
 open_both : (a b : Bool) → a ≡ false → b ≡ true → (not a && b) ≡ true
 open_both true b ended may = absurd (cc (ended))
@@ -58,22 +31,7 @@ next_now s n h e next =
     where_open (is_open h (kind_of e.event)) (due s h (kind_of e.event) e.actor) (Some e.event)
     (open_both (has_ended h) _ next.going next.state) next.is_due
 
--- where its kind and its actor have no event now it may not come
-pub none_now : (s : ScriptModel) (n : ℕ) (h : List Entry) (e : Entry) → can s h (kind_of e.event) e.actor ≡ None → Next s n h e → ⊥
-none_now s n h e none next = absurd (cc (next_now s n h e next, none))
-
 -- ---- what was entered
-
--- the newest entry stands at the last place
-pub newest_at : (before : List Entry) (x : Entry) (n : ℕ) → length (before ++ x ∷ []) ≡ n + 1 → slice_get (before ++ x ∷ []) n ≡ Some x
-newest_at [] x zero is = refl
-newest_at [] x (suc n) is = absurd (omega (arith, is))
-newest_at (y ∷ before) x zero is = absurd (no_end before x (omega (arith, is)))
-  where
-    no_end : (ys : List Entry) (x : Entry) → length (ys ++ x ∷ []) ≡ 0 → ⊥
-    no_end [] x is = absurd (omega (arith, is))
-    no_end (y ∷ ys) x is = absurd (omega (arith, is))
-newest_at (y ∷ before) x (suc n) is = newest_at before x n (omega (arith, is))
 
 -- what was entered tells whether the entry was
 pub taken : (old new : Run) (e : Entry) (b : Bool) → Entered old (kind_of e.event) e.actor new

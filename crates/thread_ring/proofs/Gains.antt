@@ -1,6 +1,6 @@
 -- Fronts and appends one after the other.
-use Rattle.std.proofs.Common.{◌≡◌, ℕ, List, [], ◌++◌, take, drop, Option, Some, None, Err, refl, ap, sym, subst, ◌∙◌, append_assoc, true, false, Bool}
-use Rattle.std.specs.Io.KnownBytes.{Appends, Keeps}
+use Rattle.std.proofs.Common.{◌≡◌, ℕ, List, [], ◌++◌, take, drop, Option, Some, None, Err, ap, sym, subst, ◌∙◌, append_assoc, true, false, Bool}
+use Rattle.std.specs.Io.KnownBytes.{Appends}
 use Rattle.std.specs.Global.{Vec}
 use Rattle.std.proofs.lemmas.List.{take-append-drop}
 use Rattle.std.proofs.lemmas.Grind.{flat_map-append}
@@ -23,20 +23,9 @@ appends_then (Some xs) None new done more a b = absurd a
 appends_then (Some xs) (Some ys) None done more a b = absurd b
 appends_then (Some xs) (Some ys) (Some zs) done more a b = b ∙ ap (λ bytes. bytes ++ more) a ∙ append_assoc xs done more
 
--- what is kept was appended before
-pub appends_kept : (first old new : Option (List ℕ)) (done : List ℕ) → Appends first old done → Keeps old new → Appends first new done
-appends_kept None old new done a b = tt
-appends_kept (Some xs) None new done a b = absurd a
-appends_kept (Some xs) (Some ys) None done a b = absurd b
-appends_kept (Some xs) (Some ys) (Some zs) done a b = b ∙ a
-
 -- all that was, then a front of the piece
 pub front_after : (first old new : Option (List ℕ)) (done piece : List ℕ) → Appends first old done → GainsPrefix old new piece → GainsPrefix first new (done ++ piece)
 front_after first old new done piece a gains = (done ++ gains.0, gains.1, append_assoc done gains.0 gains.1 ∙ ap (λ bytes. done ++ bytes) gains.2, appends_then first old new done gains.0 a gains.3)
-
--- all that was, and nothing of the piece
-pub front_kept : (first old new : Option (List ℕ)) (done piece : List ℕ) → Appends first old done → Keeps old new → GainsPrefix first new (done ++ piece)
-front_kept first old new done piece a keeps = (done, piece, refl, appends_kept first old new done a keeps)
 
 -- a front of the same bytes
 pub front_same : (first new : Option (List ℕ)) (held bytes : List ℕ) → held ≡ bytes → GainsPrefix first new held → GainsPrefix first new bytes

@@ -225,15 +225,6 @@ same_may_start c d q s =
     let b : c.budget ≡ d.budget = s.budget in
     λ i. is_now q.bin || nat_le ((u i + 1) - length (w i)) (b i)
 
-same_choice_back : (c d : Choice) → SameChoice c d → SameChoice d c
-same_choice_back c d s = record {
-  wanted = same_sym c.wanted d.wanted s.wanted;
-  ready = same_sym c.ready d.ready s.ready;
-  as_many = sym s.as_many;
-  in_flight = sym s.in_flight;
-  budget = sym s.budget;
-}
-
 first_moves : (c d : Choice) (q : Rank) → SameChoice c d → IsFirst c q → IsFirst d q
 first_moves c d q s a = record {
   wanted = s.wanted.there q a.wanted;

@@ -46,9 +46,6 @@ none_left p xs f = none_in (λ x. not (p x)) xs (λ x i. ap not (f x i))
 
 -- the ranks that are wanted again
 
-rank_of : Evictable → Option Rank
-rank_of v = tile_rank (tile_of v)
-
 -- a rank stands among those wanted again where it stood before, or is that of one of the evictable tiles
 again_there : (v : Evictable) (rs : List Rank) (r : Rank) → In r (again v rs) → In r rs ⊎ In r (cons_option (tile_rank (tile_of v)) [])
 again_there (Unranked k) rs r i = inl i
@@ -313,18 +310,6 @@ start_all wanted rest wanted' staying vs vs' f budget a b d a' d' n q ks s m e l
     }
 
 -- the end of a start
-
-pub finish_none : (wanted : List Rank) (staying : List Tile) (vs : List Evictable) (f a b d : ℕ) → IsQueue wanted staying vs f a b d → IsQueue wanted staying vs (f - 1) a b d
-finish_none wanted staying vs f a b d s = record {
-  best_first = s.best_first;
-  worst_first = s.worst_first;
-  all_stay = s.all_stay;
-  once = s.once;
-  fits_ranks = let o = s.fits_ranks in omega arith;
-  fits_kept = let o = s.fits_kept in omega arith;
-  fits_evictables = let o = s.fits_evictables in omega arith;
-  few = let o = s.few in omega arith;
-}
 
 stands_nowhere : (wanted : List Rank) (staying : List Tile) (vs : List Evictable) (f budget : ℕ) (k : TileKey) → IsNew (choice_of wanted staying vs f budget) k → standing k wanted staying vs ≡ 0
 stands_nowhere wanted staying vs f budget k n =

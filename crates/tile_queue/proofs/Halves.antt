@@ -1,5 +1,5 @@
 -- Where a search ends: the first element that passes, and by halves the last of those that pass.
-use Rattle.std.proofs.Common.{◌≡◌, ℕ, ◌+◌, ◌<◌, ◌≤◌, zero, suc, nat_le, nat_lt, Bool, true, false, cond, not, Some, None, List, [], ◌∷◌, length, filter, map, get_or, take, refl, sym, ◌∙◌, ap, subst, arith}
+use Rattle.std.proofs.Common.{◌≡◌, ℕ, ◌+◌, ◌<◌, ◌≤◌, zero, suc, nat_le, nat_lt, Bool, true, false, cond, not, Some, None, List, [], ◌∷◌, length, filter, map, get_or, take, refl, sym, ◌∙◌, ap, arith}
 use Rattle.std.specs.List.{position, position_or_len}
 use Rattle.std.specs.List.Sorted.{IsPermutation, IsPartitionedBy}
 use Rattle.std.proofs.lemmas.Bool.Decides.{nat_tests}
@@ -36,23 +36,6 @@ length_kept ready vs e =
 abbrev pub NoneBelow : {X : Type 0} → (X → Bool) → List X → ℕ → Type 0
 NoneBelow {X} p xs i = (k : ℕ) (d : X) → k < i → p (get_or xs k d) ≡ false
 
-pub none_at_first : {X : Type 0} (p : X → Bool) (xs : List X) → NoneBelow p xs 0
-none_at_first p xs k d h = absurd (omega arith)
-
-pub one_more_none : {X : Type 0} (p : X → Bool) (xs : List X) (i : ℕ) (x : X) → NoneBelow p xs i → i < length xs → x ≡ get_or xs i x → p x ≡ false → NoneBelow p xs (i + 1)
-one_more_none {X} p xs i x n l e f k d h = by_test (nat_lt k i) refl
-  where
-    same_at : (xs : List X) (i : ℕ) → i < length xs → get_or xs i x ≡ get_or xs i d
-    same_at [] i l = absurd (omega arith)
-    same_at (y ∷ ys) zero l = refl
-    same_at (y ∷ ys) (suc i) l = same_at ys i (omega arith)
-
-    by_test : (t : Bool) → nat_lt k i ≡ t → p (get_or xs k d) ≡ false
-    by_test true q = n k d (grind (arith, nat_tests))
-    by_test false q =
-        let m : k ≡ i = grind (arith, nat_tests) in
-        subst (λ (j : ℕ). p (get_or xs j d) ≡ false) (sym m) (ap p (sym (e ∙ same_at xs i l)) ∙ f)
-
 place_is : {X : Type 0} (p : X → Bool) (xs : List X) (n : ℕ) → position_or_len p xs ≡ n → (t : Bool) → nat_lt n (length xs) ≡ t → position p xs ≡ cond t (Some n) None
 place_is p xs n e t h = rw (e, h) refl
 
@@ -75,9 +58,6 @@ pub record IsHalved {X : Type 0} (p : X → Bool) (xs : List X) (low high : ℕ)
   pub within : high ≤ length xs
   pub front : (k : ℕ) (d : X) → k < low → p (get_or xs k d) ≡ true
   pub back : (k : ℕ) (d : X) → high ≤ k → k < length xs → p (get_or xs k d) ≡ false
-
-pub all_open : {X : Type 0} (p : X → Bool) (xs : List X) → IsHalved p xs 0 (length xs)
-all_open p xs = record { ordered = omega arith; within = omega arith; front = λ k d h. absurd (omega arith); back = λ k d h l. absurd (omega arith) }
 
 any_default : {X : Type 0} (xs : List X) (i : ℕ) (x d : X) → i < length xs → get_or xs i x ≡ get_or xs i d
 any_default [] i x d l = absurd (omega arith)

@@ -1,7 +1,7 @@
 -- Lists that loops build, one element more at a time.
 use Rattle.std.proofs.Common.{◌≡◌, ℕ, ◌+◌, ◌<◌, Option, List, [], ◌∷◌, ◌++◌, length, get_or, take, filter_map, sym, ◌∙◌, ap, append_assoc}
-use Rattle.std.specs.List.{cons_option, flat_map}
-use Rattle.std.proofs.lemmas.List.{take_more, flat_map_more}
+use Rattle.std.specs.List.{cons_option}
+use Rattle.std.proofs.lemmas.List.{take_more}
 use Rattle.std.proofs.lemmas.List.Elements.{filter_map-append}
 
 pub option_more : {X Y : Type 0} (f : X → Option Y) (xs : List X) (i : ℕ) (d : X) (base old new : List Y) → i < length xs
@@ -11,11 +11,3 @@ option_more {X} {Y} f xs i d base old new lt was made =
     ∙ ap (λ (zs : List Y). zs ++ cons_option (f (get_or xs i d)) []) was
     ∙ append_assoc base (filter_map f (take i xs)) (cons_option (f (get_or xs i d)) [])
     ∙ ap (λ (zs : List Y). base ++ zs) (sym (ap (λ (zs : List X). filter_map f zs) (take_more xs i d lt) ∙ filter_map-append f (take i xs) (get_or xs i d ∷ [])))
-
-pub lists_more : {X Y : Type 0} (f : X → List Y) (xs : List X) (i : ℕ) (d : X) (old new : List Y) → i < length xs
-    → old ≡ flat_map f (take i xs) → new ≡ old ++ f (get_or xs i d) → new ≡ flat_map f (take (i + 1) xs)
-lists_more {X} {Y} f xs i d old new lt was made =
-    made
-    ∙ ap (λ (zs : List Y). zs ++ f (get_or xs i d)) was
-    ∙ flat_map_more f [] (take i xs) (get_or xs i d)
-    ∙ ap (λ (zs : List X). flat_map f zs) (sym (take_more xs i d lt))

@@ -1,6 +1,6 @@
 -- The rows that a picture keeps.
-use Rattle.std.proofs.Common.{◌≡◌, ℕ, zero, suc, ◌<◌, ◌≤◌, ◌+◌, ◌*◌, inl, inr, List, length, take, drop, slice_index, sym, ◌∙◌, ap, subst, arith}
-use Rattle.std.proofs.Math.Nat.{zero-mul, mul-le-mul_left}
+use Rattle.std.proofs.Common.{◌≡◌, ℕ, ◌<◌, ◌≤◌, ◌+◌, ◌*◌, inl, inr, List, length, slice_index, sym, ◌∙◌, ap, subst, arith}
+use Rattle.std.proofs.Math.Nat.{mul-le-mul_left}
 use Rattle.std.proofs.lemmas.Bool.{cases_lt}
 use Rattle.std.proofs.lemmas.Int.{clamps}
 use Rattle.std.proofs.lemmas.List.{length-take, length-drop}
@@ -13,17 +13,6 @@ use Rattle.tile_raster.specs.Images.{list_colour, IsRow, HasTwoColours, row_byte
 use Rattle.tile_raster.specs.Images.{AreSameRows}
 use Rattle.tile_raster.specs.inner.Bands.{AreKept, IsEnd}
 use Rattle.tile_raster.proofs.RowBytes.{pixel_part, part_premultiplied}
-
--- the end of a row lies inside the bytes
-pub row_inside : (w p : ℕ) (bytes : List ℕ) → length (row_bytes w p bytes) ≡ 4 * w → 4 * (w * p) + 4 * w ≤ length bytes
-row_inside w p bytes size = inside_by w size
-  where
-    inside_by : (n : ℕ) → length (take (4 * n) (drop (4 * (n * p)) bytes)) ≡ 4 * n → 4 * (n * p) + 4 * n ≤ length bytes
-    inside_by zero e = let none : zero * p ≡ 0 = zero-mul p in omega arith
-    inside_by (suc n) e =
-        let one = length-take (4 * suc n) (drop (4 * (suc n * p)) bytes) in
-        let two = length-drop (4 * (suc n * p)) bytes in
-        omega (arith, clamps)
 
 -- what one row of bytes shows twice is equal
 pub rows_agree : (list : List Item) (r : Rect) (y z : ℕ) (row : List ℕ) → IsRow list r y row → IsRow list r z row → AreSameRows list r y z

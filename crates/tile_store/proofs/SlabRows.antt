@@ -27,10 +27,6 @@ abbrev pub Away : ℕ → List KeyedPlace → Type 0
 Away p [] = Unit {0}
 Away p (h ∷ hs) = (h.place ≢ p) × Away p hs
 
-pub away_append : (p : ℕ) (front back : List KeyedPlace) → Away p front → Away p back → Away p (front ++ back)
-away_append p [] back a b = b
-away_append p (h ∷ front) back a b = (a.0, away_append p front back a.1 b)
-
 pub kept_append : (g : ℕ → Option Tile) (front back : List KeyedPlace) → AreKept g front → AreKept g back → AreKept g (front ++ back)
 kept_append g [] back a b = b
 kept_append g (h ∷ front) back a b = (a.0, kept_append g front back a.1 b)

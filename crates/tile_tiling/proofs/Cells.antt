@@ -1,5 +1,5 @@
 -- Cells of a grid that is kept row by row, and what writes of one stamp change.
-use Rattle.std.proofs.Common.{◌≡◌, ℕ, zero, suc, ◌<◌, ◌≤◌, ◌+◌, ◌*◌, nat_eq, nat_le, nat_lt, Bool, true, false, cond, ◌&&◌, ◌||◌, List, [], ◌∷◌, length, take, get_or, set, length-set, refl, sym, ◌∙◌, ap, subst, arith}
+use Rattle.std.proofs.Common.{◌≡◌, ℕ, ◌<◌, ◌≤◌, ◌+◌, ◌*◌, nat_eq, nat_le, nat_lt, Bool, true, false, cond, ◌&&◌, ◌||◌, List, [], ◌∷◌, length, take, get_or, refl, sym, ◌∙◌, ap, subst, arith}
 use Rattle.std.specs.Prelude.{replicate}
 use Rattle.std.proofs.Math.Nat.{mul-le-mul_left}
 use Rattle.std.proofs.lemmas.Bool.Decides.{nat_tests}
@@ -56,33 +56,12 @@ cell w x y a b r lx lb = cell_by w x y a b r lx lb (nat_lt y r) (nat_lt r y) ref
 
 -- one write more
 
-pub row_none : (xs : List ℕ) (i stamp : ℕ) → WritesRow xs xs i i stamp
-row_none xs i stamp = record { long = refl; each = λ k. none k }
-  where
-    none : (k : ℕ) → get_or xs k 0 ≡ cond (nat_le i k && nat_lt k i) stamp (get_or xs k 0)
-    none k = let e : (nat_le i k && nat_lt k i) ≡ false = grind (arith, nat_tests) in rw e refl
-
-set_at : (xs : List ℕ) (i k v : ℕ) → i < length xs → get_or (set xs i v) k 0 ≡ cond (nat_eq k i) v (get_or xs k 0)
-set_at [] i k v lt = absurd (omega arith)
-set_at (x ∷ xs) zero zero v lt = refl
-set_at (x ∷ xs) zero (suc k) v lt = let e : nat_eq (suc k) zero ≡ false = grind (arith, nat_tests) in rw e refl
-set_at (x ∷ xs) (suc i) zero v lt = let e : nat_eq zero (suc i) ≡ false = grind (arith, nat_tests) in rw e refl
-set_at (x ∷ xs) (suc i) (suc k) v lt =
-    let e : nat_eq (suc k) (suc i) ≡ nat_eq k i = grind (arith, nat_tests) in
-    rw e (set_at xs i k v (omega arith))
-
 one_more : (from i k s o : ℕ) → from ≤ i → cond (nat_eq k i) s (cond (nat_le from k && nat_lt k i) s o) ≡ cond (nat_le from k && nat_lt k (i + 1)) s o
 one_more from i k s o le = one_more_by (nat_eq k i) refl
   where
     one_more_by : (t : Bool) → nat_eq k i ≡ t → cond t s (cond (nat_le from k && nat_lt k i) s o) ≡ cond (nat_le from k && nat_lt k (i + 1)) s o
     one_more_by true e = let f : (nat_le from k && nat_lt k (i + 1)) ≡ true = grind (arith, nat_tests) in rw f refl
     one_more_by false e = let f : nat_lt k i ≡ nat_lt k (i + 1) = grind (arith, nat_tests) in rw f refl
-
-pub row_more : (old now : List ℕ) (from i stamp : ℕ) → from ≤ i → i < length now → WritesRow old now from i stamp → WritesRow old (set now i stamp) from (i + 1) stamp
-row_more old now from i stamp le lt w = record {
-  long = length-set now i stamp ∙ w.long;
-  each = λ k. set_at now i k stamp lt ∙ (ap (λ o. cond (nat_eq k i) stamp o) (w.each k) ∙ one_more from i k stamp (get_or old k 0) le);
-}
 
 -- rows of a block
 
@@ -200,9 +179,6 @@ meets_turned r s =
     same_test (meets r s) (meets s r)
     (λ h. let (x, y, p, q) = meet_points r s h in points_meet s r (x, y, q, p))
     (λ h. let (x, y, p, q) = meet_points s r h in points_meet r s (x, y, q, p))
-
-pub rects_none : (g : Sides) (xs : List ℕ) (stamp : ℕ) → WritesPlaces g xs xs (λ p. touched [] (rect_of_place g p)) stamp
-rects_none g xs stamp = record { long = refl; each = λ p h. refl }
 
 either : (a b : Bool) (s o : ℕ) → cond b s (cond a s o) ≡ cond (a || b) s o
 either true true s o = refl

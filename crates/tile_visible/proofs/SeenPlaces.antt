@@ -54,15 +54,6 @@ small_cut : (v : View) (clip : Option Rect) → IsView v → IsSmall (cut_by (re
 small_cut v None is = record { left = omega (arith, ints); right = omega (arith, ints); upper = omega (arith, ints); lower = omega (arith, ints); w_low = omega (arith, ints); w_high = omega (arith, ints, is.w_high); h_low = omega (arith, ints); h_high = omega (arith, ints, is.h_high) }
 small_cut v (Some r) is = small_spans v.w v.h (common_span r.x r.w (pos 0) (pos v.w)) (common_span r.y r.h (pos 0) (pos v.h)) is.w_high is.h_high (part v.w r.x r.w) (part v.h r.y r.h)
 
--- a clip cut by a viewport is sound
-pub cut_sound : (v : View) (clip : Option Rect) (r : Rect) → IsView v → r ≡ cut_by (record { x = pos 0; y = pos 0; w = pos v.w; h = pos v.h }) clip → IsSound r
-cut_sound v clip r is same =
-    let s : IsSmall r = subst IsSmall (sym same) (small_cut v clip is) in
-    record {
-      across = record { from_low = omega (arith, ints, s.left); from_high = omega (arith, ints, s.right); length_low = s.w_low; length_high = omega (arith, ints, s.w_high) };
-      down = record { from_low = omega (arith, ints, s.upper); from_high = omega (arith, ints, s.lower); length_low = s.h_low; length_high = omega (arith, ints, s.h_high) };
-    }
-
 -- and it is sound too when it is moved back by a translation
 pub back_sound : (v : View) (clip : Option Rect) (r : Rect) (by : Point) → IsView v → r ≡ cut_by (record { x = pos 0; y = pos 0; w = pos v.w; h = pos v.h }) clip → IsWithin (256 * 1114112) by
     → IsSound (shifted r (record { x = neg_ℤ by.x; y = neg_ℤ by.y }))

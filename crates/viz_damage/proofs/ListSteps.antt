@@ -1,7 +1,7 @@
 -- Two lists of quads, one step further.
 use Rattle.std.proofs.Common.{◌≡◌, ℕ, suc, add-one, drop-cons, ◌+◌, ◌-◌, ◌<◌, ℤ, false, List, [], ◌∷◌, length, get_or, take, drop, refl, sym, ◌∙◌, ap, subst, arith}
 use Rattle.std.specs.Prelude.{All}
-use Rattle.std.proofs.lemmas.List.{take-append-drop, take-map, map-append, length-map, take_all, drop_all}
+use Rattle.std.proofs.lemmas.List.{take-append-drop, take-map, map-append, length-map, take_all}
 use Rattle.std.proofs.lemmas.List.Elements.{All-take}
 use Rattle.geom.specs.declared.Rect.{Rect}
 use Rattle.geom.specs.Covers.{covers}
@@ -25,14 +25,6 @@ go_on olds news i j q r lt less e f act passes x y below same =
     ∙ act passes x y (quads_over passes x y below (take i (quads_view olds)))
     ∙ ap (λ (c : Parts). quad_over passes x y c (quad_view r)) same
     ∙ sym (over_more passes x y below news j r less f)
-
--- a wider damage
-pub wider : (reaches damage more : List Rect) (qs rs : List QuadView) → HoldAll more damage → DifferWithin reaches damage qs rs → DifferWithin reaches more qs rs
-wider reaches damage more qs rs holds d x y h = d x y (holds x y h)
-
-pub gone_on : (reaches damage : List Rect) (qs rs : List QuadView) (i j : ℕ) → GoOnAlike qs i rs j → DifferWithin reaches damage (take i qs) (take j rs)
-    → DifferWithin reaches damage (take (i + 1) qs) (take (j + 1) rs)
-gone_on reaches damage qs rs i j step d x y h passes clears below = step passes x y below (d x y h passes clears below)
 
 -- quads that are gone and quads that have come
 pub changed : (reaches damage first second : List Rect) (qs qs2 rs rs2 : List QuadView) → HoldAll first damage → HoldAll second first
@@ -76,14 +68,6 @@ ends_more olds news n q r lt less e f act alike passes x y below =
     ∙ alike passes x y (quad_over passes x y below (quad_view q))
     ∙ ap (λ (c : Parts). quads_over passes x y c (quads_view (drop (length news - n) news))) (act passes x y below)
     ∙ ap (λ (qs : List Quad). quads_over passes x y below (quads_view qs)) (sym (end_more news n r less f))
-
-pub ends_none : (olds news : List Quad) → ActListsAlike (quads_view (drop (length olds - 0) olds)) (quads_view (drop (length news - 0) news))
-ends_none olds news passes x y below =
-    ap (λ (qs : List Quad). quads_over passes x y below (quads_view qs)) (nothing_left olds)
-    ∙ ap (λ (qs : List Quad). quads_over passes x y below (quads_view qs)) (sym (nothing_left news))
-  where
-    nothing_left : (quads : List Quad) → drop (length quads - 0) quads ≡ []
-    nothing_left quads = drop_all (length quads - 0) quads (omega arith)
 
 -- fronts and ends
 parted : (passes : List Parts) (x y : ℤ) (below : Parts) (quads : List Quad) (n : ℕ)

@@ -1,5 +1,5 @@
 -- Passes, one more at a time.
-use Rattle.std.proofs.Common.{◌≡◌, ℕ, ◌+◌, ◌<◌, ◌≤◌, ℤ, true, false, List, [], ◌∷◌, ◌++◌, length, get_or, take, refl, sym, ◌∙◌, ap, subst, arith, inl, inr}
+use Rattle.std.proofs.Common.{◌≡◌, ℕ, ◌+◌, ◌<◌, ◌≤◌, ℤ, false, List, [], ◌∷◌, ◌++◌, length, get_or, take, refl, sym, ◌∙◌, ap, subst, arith, inl, inr}
 use Rattle.std.specs.Prelude.{All, slice_index_or, ◌⊎◌}
 use Rattle.std.proofs.lemmas.Bool.{cases_lt}
 use Rattle.std.proofs.lemmas.List.{get_or_append_left, get_or_push, get_or_past, length-append, length-map, take_all, take_more, get_or-map, length-take-le}
@@ -15,20 +15,11 @@ use Rattle.viz_scene.specs.Views.{QuadView, tiled, plain, grouped, quads_view, p
 use Rattle.viz_scene.specs.Pixels.{quads_over, passes_at, root_pixel, scene_pixel}
 use Rattle.viz_scene.specs.Sound.{IsIn, QuadFits, AreSound, IsSceneSide}
 use Rattle.viz_scene.proofs.Steps.{passes_push, length-passes_at, sound_at}
-use Rattle.viz_damage.specs.Damage.{AreAlikeOutside, screen}
+use Rattle.viz_damage.specs.Damage.{AreAlikeOutside}
 use Rattle.viz_scene.specs.Areas.{IsOnScreen}
 use Rattle.viz_damage.specs.inner.Areas.{HoldAll}
 use Rattle.viz_damage.proofs.AreaSteps.{one_on_screen}
 use Rattle.viz_damage.specs.inner.Alike.{AlikeAt, ClearOutside, ActWithin, DifferWithin, PassesAlike}
-
--- passes that make the same of each colour have the same colours
-pub same_colours : (x y : ℤ) (before : List Parts) (ps qs : List (List QuadView)) → PassesAlike x y before ps qs → passes_at x y before ps ≡ passes_at x y before qs
-same_colours x y before [] [] h = refl
-same_colours x y before [] (q ∷ qs) h = absurd h
-same_colours x y before (p ∷ ps) [] h = absurd h
-same_colours x y before (p ∷ ps) (q ∷ qs) h =
-    same_colours x y (before ++ quads_over before x y clear p ∷ []) ps qs h.1
-    ∙ ap (λ (c : Parts). passes_at x y (before ++ c ∷ []) qs) (h.0 clear)
 
 pub alike_more : (x y : ℤ) (before : List Parts) (ps qs : List (List QuadView)) (p q : List QuadView) → PassesAlike x y before ps qs
     → AlikeAt (passes_at x y before ps) x y p q → PassesAlike x y before (ps ++ p ∷ []) (qs ++ q ∷ [])
@@ -57,13 +48,6 @@ unfolding scene_pixel
 scenes_alike s t region rects e same alike x y seen out =
     same_root x y s.background [] s.passes t.passes (alike x y (sym (same x y) ∙ out))
     ∙ ap (λ (c : Parts). root_pixel x y c [] t.passes) e
-
--- the whole screen
-pub nowhere_else : (s t : SceneView) (region : List Rect) → ((x y : ℤ) → covered region x y ≡ false → covers (screen s) x y ≡ false) → AreAlikeOutside region s t
-nowhere_else s t region whole x y seen out = absurd (clash (sym seen ∙ whole x y out))
-  where
-    clash : true ≡ false → ⊥
-    clash e = cc
 
 -- a rect on a screen lies on the largest one
 on_screen : (w h : ℕ) (at : Rect) → IsSceneSide w → IsSceneSide h → IsIn w h at → IsOnScreen at

@@ -1,57 +1,27 @@
 -- Quads that act alike, and the areas that they act on.
-use Rattle.std.proofs.Common.{◌≡◌, ℕ, ◌+◌, ◌<◌, ◌≤◌, ℤ, pos, ◌+ℤ◌, ◌-ℤ◌, ◌≤ℤ◌, ◌*◌, ◌/◌, Bool, true, false, cond, List, [], ◌∷◌, ◌++◌, length, get_or, take, refl, sym, ◌∙◌, ap, subst, arith, zero-mul}
-use Rattle.std.specs.Prelude.{All, slice_index_or}
+use Rattle.std.proofs.Common.{◌≡◌, ℕ, ◌+◌, ◌<◌, ◌≤◌, ℤ, pos, ◌+ℤ◌, ◌-ℤ◌, ◌≤ℤ◌, Bool, true, false, cond, List, [], ◌∷◌, ◌++◌, length, get_or, take, refl, sym, ◌∙◌, ap, subst, arith}
+use Rattle.std.specs.Prelude.{All}
 use Rattle.std.proofs.lemmas.Int.{ints}
-use Rattle.std.proofs.lemmas.List.{get_or-map, get_or_default, length-map, take_all, take_more}
-use Rattle.std.proofs.lemmas.List.Sums.{fold_more}
+use Rattle.std.proofs.lemmas.List.{get_or-map, length-map, take_all, take_more}
 use Rattle.geom.specs.declared.Rect.{Rect}
 use Rattle.geom.specs.declared.Point.{Point}
 use Rattle.geom.specs.Covers.{covers, within}
-use Rattle.geom.specs.Common.{empty_rect, meets}
 use Rattle.geom.proofs.Spans.{inside, is_within_of, both, both_of}
-use Rattle.geom.proofs.Meets.{points_meet}
-use Rattle.pixel.specs.Colours.{Parts, blend, scaled, clear, times_255}
-use Rattle.pixel.proofs.Blends.{clear_shows}
-use Rattle.page_display_list.specs.declared.Item.{Item}
-use Rattle.page_display_list.specs.Content.{painted, content, rect_of_item, colour_of}
-use Rattle.tile_raster.specs.Images.{Image, ShowAlike}
+use Rattle.pixel.specs.Colours.{Parts, blend}
+use Rattle.page_display_list.specs.Content.{content}
+use Rattle.tile_raster.specs.Images.{Image}
 use Rattle.viz_scene.specs.declared.Quad.{Quad}
-use Rattle.viz_scene.specs.Views.{QuadView, tiled, plain, grouped, quad_view, quads_view}
+use Rattle.viz_scene.specs.Views.{QuadView, tiled, quad_view, quads_view}
 use Rattle.viz_scene.specs.Pixels.{placed_pixel, quad_over, quads_over}
 use Rattle.viz_scene.specs.Sound.{IsTaken, QuadFits}
 use Rattle.viz_scene.proofs.Steps.{quads_append}
 use Rattle.viz_scene.specs.Areas.{Holds}
-use Rattle.viz_scene.proofs.RectSteps.{not_either}
-use Rattle.viz_damage.specs.inner.Alike.{PaintAlike, PaintsNothing, AreSameImages, ActAlike, ActWithin}
+use Rattle.viz_damage.specs.inner.Alike.{AreSameImages, ActAlike, ActWithin}
 use Rattle.viz_damage.proofs.AreaSteps.{neither, neither_of}
 
 -- two rects whose parts are equal
 pub same_rects : (a b : Rect) → a.x ≡ b.x → a.y ≡ b.y → a.w ≡ b.w → a.h ≡ b.h → a ≡ b
 same_rects a b x y w h = λ i. record { x = x i; y = y i; w = w i; h = h i }
-
--- an item outside a rect paints nothing there
-pub paints_nothing : (item : Item) (r : Rect) → meets (rect_of_item item) r ≡ false → PaintsNothing r item
-paints_nothing item r apart x y h below =
-    let out : covers (rect_of_item item) x y ≡ false =
-    not_either (meets (rect_of_item item) r) (covers (rect_of_item item) x y) (λ k. points_meet (rect_of_item item) r (x, y, k, h)) apart in
-    ap (λ (t : Bool). cond t (blend below (colour_of item x y)) below) out
-
--- one more item
-pub shown_more : (items others : List Item) (i : ℕ) (item other : Item) (r : Rect) → i < length items → i < length others
-    → item ≡ get_or items i item → other ≡ get_or others i other → PaintAlike r item other
-    → ShowAlike r (take i items) (take i others) → ShowAlike r (take (i + 1) items) (take (i + 1) others)
-shown_more items others i item other r lt less e f alike before x y h =
-    fold_more (painted x y) clear items i item lt
-    ∙ ap (λ (it : Item). painted x y (content (take i items) x y) it) (sym e)
-    ∙ alike x y h (content (take i items) x y)
-    ∙ ap (λ (below : Parts). painted x y below other) (before x y h)
-    ∙ ap (λ (it : Item). painted x y (content (take i others) x y) it) f
-    ∙ sym (fold_more (painted x y) clear others i other less)
-
-pub shown_all : (items others : List Item) (i : ℕ) (r : Rect) → length items ≤ i → length others ≤ i
-    → ShowAlike r (take i items) (take i others) → ShowAlike r items others
-shown_all items others i r le less alike x y h =
-    ap (λ (its : List Item). content its x y) (sym (take_all i items le)) ∙ alike x y h ∙ ap (λ (its : List Item). content its x y) (take_all i others less)
 
 -- two colours that are equal where a test holds
 where_held : (t : Bool) (c d below : Parts) → (t ≡ true → c ≡ d) → cond t (blend below c) below ≡ cond t (blend below d) below
@@ -85,29 +55,6 @@ same_tiles a b i j first second at place from start n e f g h fits p q same pass
     ∙ ap (λ (r : Rect). quad_over passes x y below (tiled j r from)) g
     ∙ ap (λ (s : Point). quad_over passes x y below (tiled j place s)) h
     ∙ ap (quad_over passes x y below) (sym f)
-
--- the colour of the rect where a point is not covered
-pub tile_within : (reaches : List Rect) (image : Image) (at : Rect) (from : Point) → ActWithin reaches (at ∷ []) (tiled image at from ∷ [])
-tile_within reaches image at from x y h passes clears below =
-    ap (λ (t : Bool). cond t (blend below (placed_pixel image at from x y)) below) (neither (covers at x y) false h).0
-
-pub solid_within : (reaches : List Rect) (at : Rect) (c : Parts) → ActWithin reaches (at ∷ []) (plain at c ∷ [])
-solid_within reaches at c x y h passes clears below =
-    ap (λ (t : Bool). cond t (blend below c) below) (neither (covers at x y) false h).0
-
--- nothing is left of the transparent colour faded
-faded_clear : (opacity : ℕ) → scaled clear opacity ≡ clear
-faded_clear opacity = let e : times_255 0 opacity ≡ 0 = none opacity in λ i. record { r = e i; g = e i; b = e i; a = e i }
-  where
-    none : (n : ℕ) → (0 * n + 127) / 255 ≡ 0
-    none n = rw (zero-mul n) refl
-
-pub group_within : (reaches : List Rect) (pass opacity : ℕ) (r : Rect) → pass < length reaches → r ≡ get_or reaches pass r
-    → ActWithin reaches (r ∷ []) (grouped pass opacity ∷ [])
-group_within reaches pass opacity r lt e x y h passes clears below =
-    let out : covers (slice_index_or reaches pass empty_rect) x y ≡ false =
-    ap (λ (s : Rect). covers s x y) (get_or_default reaches pass empty_rect r lt ∙ sym e) ∙ (neither (covers r x y) false h).0 in
-    ap (λ (c : Parts). blend below (scaled c opacity)) (clears pass out) ∙ ap (blend below) (faded_clear opacity) ∙ clear_shows below
 
 -- a quad of a list
 pub fits_at : (n : ℕ) (quads : List Quad) (i : ℕ) (q : Quad) → All (QuadFits 2048 2048 n) (quads_view quads) → i < length quads → q ≡ get_or quads i q

@@ -1,23 +1,16 @@
 -- What lists of rects cover.
-use Rattle.std.proofs.Common.{◌≡◌, ◌⊎◌, inl, inr, ℕ, suc, ◌+◌, ◌<◌, ℤ, pos, negsuc, ◌+ℤ◌, ◌≤ℤ◌, ◌<ℤ◌, int_lt, Bool, true, false, ◌||◌, List, [], ◌∷◌, ◌++◌, length, get_or, take, drop, refl, sym, ◌∙◌, ap, add-one, drop-cons, arith}
+use Rattle.std.proofs.Common.{◌≡◌, ◌⊎◌, inl, inr, ℕ, suc, ◌+◌, ◌<◌, ℤ, pos, negsuc, ◌+ℤ◌, ◌≤ℤ◌, ◌<ℤ◌, int_lt, Bool, true, false, ◌||◌, List, ◌∷◌, ◌++◌, length, get_or, take, drop, refl, sym, ◌∙◌, ap, add-one, drop-cons, arith}
 use Rattle.std.specs.Int.{int_min, int_gap}
 use Rattle.std.proofs.lemmas.Int.{ints, clamps}
 use Rattle.std.proofs.lemmas.List.{take-append-drop}
 use Rattle.std.proofs.lemmas.List.Folds.{list_any-append}
 use Rattle.geom.specs.declared.Rect.{Rect}
-use Rattle.geom.specs.Covers.{covers, IsSound}
+use Rattle.geom.specs.Covers.{covers}
 use Rattle.geom.proofs.Spans.{inside, is_within_of, both, both_of}
 use Rattle.region.specs.Points.{covered}
 use Rattle.region.proofs.Covering.{or-true}
-use Rattle.viz_scene.specs.Areas.{IsOnScreen, IsUnion}
+use Rattle.viz_scene.specs.Areas.{IsUnion}
 use Rattle.viz_occlusion.specs.inner.Cover.{IsBlock, IsOpen, HasGap, IsRectAt}
-
--- a rect on the largest screen is sound
-pub sound_on_screen : (r : Rect) → IsOnScreen r → IsSound r
-sound_on_screen r i = record {
-  across = record { from_low = omega (arith, ints); from_high = omega (arith, ints); length_low = omega (arith, ints); length_high = omega (arith, ints) };
-  down = record { from_low = omega (arith, ints); from_high = omega (arith, ints); length_low = omega (arith, ints); length_high = omega (arith, ints) };
-}
 
 -- what one rect of a list adds to the others
 covered_out : (rs : List Rect) (i : ℕ) (s : Rect) → i < length rs → s ≡ get_or rs i s → (x y : ℤ)
@@ -87,51 +80,6 @@ gap_falls (negsuc a) (pos b) (pos c) l k = omega (arith, ints)
 gap_falls (negsuc a) (pos b) (negsuc c) l k = omega (arith, ints)
 gap_falls (negsuc a) (negsuc b) (pos c) l k = omega (arith, ints)
 gap_falls (negsuc a) (negsuc b) (negsuc c) l k = omega (arith, ints)
-
-pub no_columns : (rects : List Rect) (left y end : ℤ) → IsBlock rects left left y end
-no_columns rects left y end px py l r t b = absurd (omega (arith, ints))
-
-pub no_rows : (rects : List Rect) (left right top : ℤ) → IsBlock rects left right top top
-no_rows rects left right top px py l r t b = absurd (omega (arith, ints))
-
--- the columns up to the right end
-pub all_columns : (rects : List Rect) (left x right y end : ℤ) → right ≤ℤ x → IsBlock rects left x y end → IsBlock rects left right y end
-all_columns rects left x right y end le block px py l r t b = block px py l (omega (arith, ints)) t b
-
--- rows below others
-pub rows_more : (rects : List Rect) (left right top y end : ℤ) → IsBlock rects left right top y → IsBlock rects left right y end
-    → IsBlock rects left right top end
-rows_more rects left right top y end upper lower px py l r t b = by_side (before_or_not py y)
-  where
-    by_side : (py <ℤ y) ⊎ (y ≤ℤ py) → covered rects px py ≡ true
-    by_side (inl above) = upper px py l r t above
-    by_side (inr below) = lower px py l r below b
-
-pub all_rows : (rects : List Rect) (left right top y bottom : ℤ) → bottom ≤ℤ y → IsBlock rects left right top y → IsBlock rects left right top bottom
-all_rows rects left right top y bottom le block px py l r t b = block px py l r t (omega (arith, ints))
-
-pub open_at : (rects : List Rect) (left x right y bottom : ℤ) → left ≤ℤ x → x <ℤ right → y <ℤ bottom → covered rects x y ≡ false
-    → IsOpen rects left right y bottom
-open_at rects left x right y bottom l r b out = record {
-  x = x;
-  y = y;
-  from_left = l;
-  from_right = r;
-  from_top = omega (arith, ints);
-  from_bottom = b;
-  outside = out;
-}
-
-pub open_above : (rects : List Rect) (left right top y bottom : ℤ) → top ≤ℤ y → IsOpen rects left right y bottom → IsOpen rects left right top bottom
-open_above rects left right top y bottom le o = record {
-  x = o.x;
-  y = o.y;
-  from_left = o.from_left;
-  from_right = o.from_right;
-  from_top = let t = o.from_top in omega (arith, ints);
-  from_bottom = o.from_bottom;
-  outside = o.outside;
-}
 
 -- an area as columns and rows
 pub area_covered : (area : Rect) (rects : List Rect) (right bottom : ℤ) → right ≡ area.x +ℤ area.w → bottom ≡ area.y +ℤ area.h

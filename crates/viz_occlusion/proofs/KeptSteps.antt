@@ -1,34 +1,25 @@
 -- Quads that are kept, and what they show.
-use Rattle.std.proofs.Common.{◌≡◌, ◌⊎◌, inl, inr, ℕ, zero, suc, ◌+◌, ◌-◌, ◌<◌, ◌≤◌, ℤ, Bool, true, false, cond, ◌||◌, List, [], ◌∷◌, ◌++◌, length, get_or, take, drop, refl, sym, ◌∙◌, ap, subst, add-one, drop-cons, arith}
-use Rattle.std.specs.Prelude.{All, map, reverse, slice_index_or}
+use Rattle.std.proofs.Common.{◌≡◌, inl, inr, ℕ, zero, suc, ◌+◌, ◌-◌, ◌<◌, ℤ, Bool, true, false, cond, List, [], ◌∷◌, ◌++◌, length, get_or, take, drop, refl, sym, ◌∙◌, ap, subst, add-one, drop-cons, arith}
+use Rattle.std.specs.Prelude.{All, reverse, slice_index_or}
 use Rattle.std.proofs.lemmas.List.{reverse-append, get_or-map, get_or_default, length-map, map-append, take_more}
 use Rattle.std.proofs.lemmas.List.Elements.{All-weaker}
 use Rattle.geom.specs.declared.Rect.{Rect}
 use Rattle.geom.specs.Covers.{covers}
 use Rattle.region.specs.Points.{covered}
-use Rattle.region.proofs.Covering.{or-true}
 use Rattle.pixel.specs.Colours.{Parts, blend, clear}
-use Rattle.tile_raster.specs.Images.{Image, IsOneColour}
 use Rattle.viz_scene.specs.declared.Quad.{Quad}
 use Rattle.viz_scene.specs.declared.RenderPass.{RenderPass}
 use Rattle.viz_scene.specs.Views.{QuadView, tiled, plain, grouped, quad_view, quads_view, pass_view, passes_view, SceneView}
-use Rattle.viz_scene.specs.Pixels.{placed_pixel, quad_over, quads_over, passes_at, root_pixel, scene_pixel}
-use Rattle.viz_scene.specs.Opaque.{IsOpaque, LiesOn, IsCovered, IsHidden}
-use Rattle.viz_scene.specs.Sound.{IsIn, IsTaken, QuadFits, AreSound, IsSceneSide, IsScene}
+use Rattle.viz_scene.specs.Pixels.{placed_pixel, quad_over, quads_over, root_pixel, scene_pixel}
+use Rattle.viz_scene.specs.Opaque.{IsCovered, IsHidden}
+use Rattle.viz_scene.specs.Sound.{IsIn, QuadFits, AreSound, IsSceneSide, IsScene}
 use Rattle.viz_scene.proofs.Hiding.{hidden_drops}
 use Rattle.viz_scene.proofs.Steps.{sound_at}
 use Rattle.std.proofs.lemmas.Int.{ints}
 use Rattle.viz_scene.specs.Areas.{IsOnScreen}
 use Rattle.viz_occlusion.specs.Culled.{IsKeptAs, AreKept, AreAllKept, IsCulled}
-use Rattle.viz_occlusion.specs.inner.Cover.{IsCover, IsFit, HasGap, HidesNothing, IsPassed}
+use Rattle.viz_occlusion.specs.inner.Cover.{IsCover, IsFit, HidesNothing, IsPassed}
 use Rattle.viz_occlusion.proofs.AlphaSteps.{solid_placed}
-
--- the area of no quads
-pub no_cover : IsCover [] []
-no_cover = record { sound = λ x y h. nothing h; whole = λ x y h. absurd h }
-  where
-    nothing : false ≡ true → ⊥
-    nothing h = cc
 
 -- a quad that hides nothing adds nothing
 pub cover_kept : (q : QuadView) (later : List QuadView) (rects : List Rect) → HidesNothing q → IsCover later rects → IsCover (q ∷ later) rects
@@ -37,60 +28,6 @@ cover_kept q later rects hides is = record { sound = λ x y h. inr (is.sound x y
     whole : (x y : ℤ) → IsCovered x y (q ∷ later) → covered rects x y ≡ true
     whole x y (inl here) = absurd (hides x y here.0 here.1)
     whole x y (inr there) = is.whole x y there
-
--- nor does a hidden quad
-pub cover_hidden : (q : QuadView) (later : List QuadView) (rects : List Rect) → IsHidden q later → IsCover later rects → IsCover (q ∷ later) rects
-cover_hidden q later rects hidden is = record { sound = λ x y h. inr (is.sound x y h); whole = λ x y h. whole x y h }
-  where
-    under : (q : QuadView) → IsHidden q later → (x y : ℤ) → LiesOn x y q → IsCovered x y later
-    under (tiled image at from) hidden x y lies = hidden x y lies
-    under (plain at colour) hidden x y lies = hidden x y lies
-    under (grouped pass opacity) hidden x y lies = absurd lies
-
-    whole : (x y : ℤ) → IsCovered x y (q ∷ later) → covered rects x y ≡ true
-    whole x y (inl here) = is.whole x y (under q hidden x y here.1)
-    whole x y (inr there) = is.whole x y there
-
--- an opaque quad adds its rect
-pub cover_more : (q : QuadView) (at : Rect) (later : List QuadView) (rects more : List Rect) → IsOpaque q
-    → ((x y : ℤ) → covers at x y ≡ true → LiesOn x y q) → ((x y : ℤ) → LiesOn x y q → covers at x y ≡ true)
-    → ((x y : ℤ) → covered more x y ≡ (covered rects x y || covers at x y)) → IsCover later rects → IsCover (q ∷ later) more
-cover_more q at later rects more opaque lies lain points is = record {
-  sound = λ x y h. sound x y (covered rects x y) refl (sym (points x y) ∙ h);
-  whole = λ x y h. points x y ∙ whole x y h;
-}
-  where
-    sound : (x y : ℤ) (t : Bool) → covered rects x y ≡ t → (t || covers at x y) ≡ true → IsCovered x y (q ∷ later)
-    sound x y true e h = inr (is.sound x y e)
-    sound x y false e h = inl (opaque, lies x y h)
-
-    whole : (x y : ℤ) → IsCovered x y (q ∷ later) → (covered rects x y || covers at x y) ≡ true
-    whole x y (inl here) = ap (λ (b : Bool). covered rects x y || b) (lain x y here.1) ∙ or-true (covered rects x y)
-    whole x y (inr there) = ap (λ (b : Bool). b || covers at x y) (is.whole x y there)
-
--- what the area says of a quad that lies on a rect
-pub hidden_under : (at : Rect) (rects : List Rect) (later : List QuadView) → ((x y : ℤ) → covers at x y ≡ true → covered rects x y ≡ true) → IsCover later rects
-    → (x y : ℤ) → covers at x y ≡ true → IsCovered x y later
-hidden_under at rects later all is x y h = is.sound x y (all x y h)
-
-pub seen_through : (at : Rect) (rects : List Rect) (later : List QuadView) → HasGap at rects → IsCover later rects
-    → ((x y : ℤ) → covers at x y ≡ true → IsCovered x y later) → ⊥
-seen_through at rects later gap is hidden = clash (sym gap.outside ∙ is.whole gap.x gap.y (hidden gap.x gap.y gap.inside))
-  where
-    clash : false ≡ true → ⊥
-    clash e = cc
-
--- one quad more, before those that were gone through
-kept_without : (q : QuadView) (later rs : List QuadView) → IsHidden q later → AreKept later rs → AreKept (q ∷ later) rs
-kept_without q later [] h k = (h, k)
-kept_without q later (r ∷ rs) h k = inl (h, k)
-
-pub passed_hidden : (q : QuadView) (cover : List Rect) (kept : List Quad) → ((later : List QuadView) → IsCover later cover → IsHidden q later)
-    → IsPassed q cover cover kept kept
-passed_hidden q cover kept hidden = record {
-  cover = λ later is. cover_hidden q later cover (hidden later is) is;
-  kept = λ later is k. kept_without q later (quads_view (reverse kept)) (hidden later is) k;
-}
 
 pub passed_kept : (q : QuadView) (r : Quad) (old new : List Rect) (kept more : List Quad) → more ≡ kept ++ r ∷ [] → IsKeptAs q (quad_view r)
     → ((later : List QuadView) → IsCover later old → IsHidden q later → ⊥) → ((later : List QuadView) → IsCover later old → IsCover (q ∷ later) new)

@@ -23,9 +23,6 @@ use Rattle.viz_render.specs.inner.Drawing.{rows_from, part_pixel}
 use Rattle.viz_render.specs.inner.Masks.{top, Hides, HidesIn, IsOfBlock, Marks, AreMarked}
 use Rattle.viz_render.proofs.Tiles.{taken, pixel_taken, solid_pixel, band_pixel}
 
-pub marks_none : (n : ℕ) (H : ℕ → ℕ → Type 0) (old : List ℕ) → Marks n H old old
-marks_none n H old x y lt = inl refl
-
 -- marks after marks
 pub marks_more : (n : ℕ) (H : ℕ → ℕ → Type 0) (start old new : List ℕ) → Marks n H start old → Marks n H old new → Marks n H start new
 marks_more n H start old new before after x y lt =

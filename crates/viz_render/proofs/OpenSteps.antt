@@ -1,10 +1,10 @@
 -- Painting a part of an area where it is seen, piece by piece.
-use Rattle.std.proofs.Common.{◌≡◌, ℕ, ◌+◌, ◌-◌, ◌*◌, ◌/◌, ◌%◌, ◌<◌, ◌≤◌, Bool, true, false, cond, List, slice_index, refl, sym, ◌∙◌, ap, arith}
+use Rattle.std.proofs.Common.{◌≡◌, ℕ, ◌+◌, ◌-◌, ◌*◌, ◌/◌, ◌%◌, ◌<◌, ◌≤◌, Bool, true, false, cond, List, slice_index, refl, ◌∙◌, ap, arith}
 use Rattle.std.specs.Prelude.{nat_le}
 use Rattle.std.proofs.lemmas.Bool.Decides.{nat_tests}
 use Rattle.pixel.specs.Colours.{Parts, blend, scaled}
 use Rattle.pixel.specs.Rows.{pixel}
-use Rattle.pixel.specs.Surfaces.{EachPixel, within_rows, in_rows}
+use Rattle.pixel.specs.Surfaces.{within_rows, in_rows}
 use Rattle.pixel.specs.declared.Area.{Area}
 use Rattle.page_display_list.specs.declared.CoveredArea.{CoveredArea}
 use Rattle.viz_render.specs.inner.Drawing.{rows_from, columns_from}
@@ -78,32 +78,12 @@ columns_step w h tops number p part c n start old new before after =
     (open_like w h tops number (columns_from part.at c n) part.at.h (painted p (some_columns part c n)) (painted p part) old new after
     (λ x y below held. painted_columns p part c n x y below (column_low (columns_from part.at c n) part.at.h x y held)))
 
--- nothing yet
-pub no_row : (w h : ℕ) (tops : List ℕ) (number : ℕ) (at : Area) (g : ℕ → ℕ → Parts → Parts) (old : List ℕ) → EachOpen w h tops number (within_rows at 0 g) old old
-no_row w h tops number at g old x y xw yh seen =
-    let none : in_rows at 0 x y ≡ false = grind (arith, nat_tests) in
-    ap (λ (b : Bool). cond b (g x y (pixel old (y * w + x))) (pixel old (y * w + x))) (sym none)
-
-pub no_column : (w h : ℕ) (tops : List ℕ) (number : ℕ) (at : Area) (g : ℕ → ℕ → Parts → Parts) (old : List ℕ)
-    → EachOpen w h tops number (within_rows (columns_from at 0 0) at.h g) old old
-no_column w h tops number at g old x y xw yh seen =
-    let none : in_rows (columns_from at 0 0) at.h x y ≡ false = grind (arith, nat_tests) in
-    ap (λ (b : Bool). cond b (g x y (pixel old (y * w + x))) (pixel old (y * w + x))) (sym none)
-
 -- all of them
 pub all_columns : (w h : ℕ) (tops : List ℕ) (number : ℕ) (at : Area) (g : ℕ → ℕ → Parts → Parts) (c : ℕ) (old new : List ℕ) → c ≡ at.w
     → EachOpen w h tops number (within_rows (columns_from at 0 c) at.h g) old new → EachOpen w h tops number (within_rows at at.h g) old new
 all_columns w h tops number at g c old new e each x y xw yh seen =
     let same : in_rows (columns_from at 0 c) at.h x y ≡ in_rows at at.h x y = grind (arith, nat_tests) in
     each x y xw yh seen ∙ ap (λ (b : Bool). cond b (g x y (pixel old (y * w + x))) (pixel old (y * w + x))) same
-
--- what was changed at each pixel was changed where it is seen
-pub all_open : (w h : ℕ) (tops : List ℕ) (number : ℕ) (f : ℕ → ℕ → Parts → Parts) (old new : List ℕ) → EachPixel w h f old new → EachOpen w h tops number f old new
-all_open w h tops number f old new each x y xw yh seen = each x y xw yh
-
--- a block of a row
-block_same : (y first : ℕ) → first ≤ y → y < first + (8 - first % 8) → y / 8 ≡ first / 8
-block_same y first le lt = omega arith
 
 -- the pixels of one row of blocks have the number of the first row's
 pub same_top : (tops : List ℕ) (x y first : ℕ) → y / 8 ≡ first / 8 → top tops x y ≡ top tops x first

@@ -1,5 +1,5 @@
 -- Quads that act some rows lower.
-use Rattle.std.proofs.Common.{◌≡◌, ℕ, ◌+◌, ◌<◌, ◌≤◌, ℤ, pos, ◌+ℤ◌, ◌-ℤ◌, ◌≤ℤ◌, ◌<ℤ◌, Bool, true, false, cond, ◌&&◌, List, [], ◌∷◌, ◌++◌, length, refl, sym, ◌∙◌, ap, arith, zero, suc}
+use Rattle.std.proofs.Common.{◌≡◌, ℕ, ◌+◌, ◌<◌, ◌≤◌, ℤ, pos, ◌+ℤ◌, ◌-ℤ◌, ◌≤ℤ◌, ◌<ℤ◌, Bool, true, false, cond, ◌&&◌, List, [], ◌∷◌, ◌++◌, refl, sym, ◌∙◌, ap, arith, zero, suc}
 use Rattle.std.specs.Prelude.{All}
 use Rattle.std.specs.Int.{int_max, int_min}
 use Rattle.std.proofs.lemmas.Int.{ints, clamps}
@@ -7,13 +7,13 @@ use Rattle.std.proofs.lemmas.List.Elements.{All-append}
 use Rattle.geom.specs.declared.Rect.{Rect}
 use Rattle.geom.specs.declared.Point.{Point}
 use Rattle.geom.specs.Covers.{covers, within}
-use Rattle.geom.proofs.Spans.{Inside, inside, is_within_of, same_test}
+use Rattle.geom.proofs.Spans.{inside, is_within_of, same_test}
 use Rattle.pixel.specs.Colours.{Parts, blend}
 use Rattle.page_display_list.specs.Content.{content}
 use Rattle.tile_raster.specs.Images.{Image}
-use Rattle.viz_scene.specs.Views.{QuadView, tiled, plain, grouped}
+use Rattle.viz_scene.specs.Views.{QuadView, tiled, plain}
 use Rattle.viz_scene.specs.Pixels.{quads_over, placed_pixel}
-use Rattle.viz_scene.specs.Sound.{IsIn, IsTaken, QuadFits}
+use Rattle.viz_scene.specs.Sound.{IsIn, QuadFits}
 use Rattle.viz_scene.proofs.Steps.{quads_append}
 use Rattle.viz_scroll_damage.specs.Moved.{InRows}
 use Rattle.viz_scroll_damage.specs.inner.Acting.{IsCut, IsRest, ActMoved, AlsoFit}
@@ -89,9 +89,6 @@ tile_moved by top end image at r from start rest sx sy passes x y below rows =
 pub solid_moved : (by top end : ℤ) (at r : Rect) (c : Parts) → IsRest by top end at r → ActMoved by top end (plain at c ∷ []) (plain r c ∷ [])
 solid_moved by top end at r c rest passes x y below rows =
     ap (λ (t : Bool). cond t (blend below c) below) (rest_covers by top end at r x y rest rows)
-
-pub group_moved : (by top end : ℤ) (pass opacity : ℕ) → ActMoved by top end (grouped pass opacity ∷ []) (grouped pass opacity ∷ [])
-group_moved by top end pass opacity passes x y below rows = refl
 
 pub tile_gone : (by top end : ℤ) (image : Image) (at : Rect) (from : Point) → ((y : ℤ) → InRows top end y → within at.y at.h (y -ℤ by) ≡ false)
     → ActMoved by top end (tiled image at from ∷ []) []

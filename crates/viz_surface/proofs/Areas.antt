@@ -50,12 +50,6 @@ part_more_front n m g h old mid new one two same =
     let e : n ≡ 0 + n = omega arith in
     part_more 0 n m g h old mid new one (subst (λ (k : ℕ). IsPart k m h mid new) e two) same
 
--- no column, no pixel
-pub no_column : (w h : ℕ) (at : Area) (g : ℕ → ℕ → Parts → Parts) (old : List ℕ) → EachPixel w h (within_rows (columns_of at 0 0) at.h g) old old
-no_column w h at g old x y xw yh =
-    let none : in_rows (columns_of at 0 0) at.h x y ≡ false = grind (arith, nat_tests) in
-    ap (λ (b : Bool). cond b (g x y (pixel old (y * w + x))) (pixel old (y * w + x))) (sym none)
-
 -- all columns
 pub all_columns : (w h : ℕ) (at : Area) (g : ℕ → ℕ → Parts → Parts) (old new : List ℕ) → EachPixel w h (within_rows (columns_of at 0 at.w) at.h g) old new
     → EachPixel w h (within_rows at at.h g) old new
@@ -152,10 +146,6 @@ clear_pixel v j none lt =
 -- a transparent pixel over another
 pub clear_over : (p below : Parts) → p ≡ clear → below ≡ blend below p
 clear_over p below e = sym (clear_shows below) ∙ ap (blend below) (sym e)
-
--- four transparent pixels over others
-pub clear_laid : (v : List ℕ) (j : ℕ) (below : Parts) → AreClear 0 16 v → j < 4 → below ≡ blend below (pixel v j)
-clear_laid v j below none lt = clear_over (pixel v j) below (clear_pixel v j none lt)
 
 -- the pixel of a row that is laid over a column
 pub row_place : (x at_x first from m j : ℕ) → at_x + first ≤ x → x < at_x + first + m → from + first + (x - (at_x + first)) ≡ x - at_x + from

@@ -58,14 +58,6 @@ Finished None new tile = new ≡ None
 Finished (Some c) None tile = ⊥
 Finished (Some c) (Some d) tile = Alike d (finished c tile)
 
--- there is a run whose tiles these are
-pub record HoldsNow (t : TileKeys) : Type 0 where
-  pub script : ScriptModel
-  pub workers : ℕ
-  pub past : List Entry
-  pub legal : Legal script workers past
-  pub holds : Holds script workers past t
-
 -- there is a run whose tiles and whose two trees these are, with so many tiles in flight
 pub record QueuesNow (s : ScriptModel) (active pending : Option SeenTreeModel) (t : TileKeys) (flying : ℕ) : Type 0 where
   pub workers : ℕ

@@ -4,7 +4,6 @@ use Rattle.geom.specs.declared.Rect.{Rect}
 use Rattle.geom.specs.Covers.{covers, IsSound}
 use Rattle.pixel.specs.Colours.{Parts, blend, clear}
 use Rattle.pixel.specs.Rows.{pixel, ArePremultiplied}
-use Rattle.pixel.specs.Surfaces.{EachPixel}
 use Rattle.pixel.specs.declared.Area.{Area}
 use Rattle.page_display_list.specs.declared.CoveredArea.{CoveredArea}
 use Rattle.page_display_list.specs.Bitmaps.{near, byte_count}
@@ -24,10 +23,6 @@ columns_from at c n = record { x = at.x + c; y = at.y; w = n; h = at.h }
 -- the pixel of an image that belongs to a pixel of a part of it: `left` and `above` count columns and rows of the image
 abbrev pub part_pixel : Image → CoveredArea → ℕ → ℕ → Parts
 part_pixel image part x y = list_colour image.list image.rect (x - part.at.x + part.left) (y - part.at.y + part.above)
-
--- each pixel of an area was changed by `f`, which is told the point of the screen and what was there
-abbrev pub EachPoint : Rect → (ℤ → ℤ → Parts → Parts) → List ℕ → List ℕ → Type 0
-EachPoint area f old new = EachPixel (near area.w) (near area.h) (λ x y below. f (area.x +ℤ pos x) (area.y +ℤ pos y) below) old new
 
 -- `c x y` laid over what was there where the rect covers the point
 abbrev pub laid_on : Rect → (ℤ → ℤ → Parts) → ℤ → ℤ → Parts → Parts
