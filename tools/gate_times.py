@@ -4,7 +4,7 @@
 usage: .ci/run 2>&1 | tools/gate_times.py --stamp LOG
        tools/gate_times.py LOG [--write PAGE]
 
---stamp hands its input on unchanged. It writes each line to LOG behind the seconds since the start, and at the end the
+--stamp hands its input on unchanged. It writes each line to LOG after the seconds since the start, and at the end the
 processor seconds of the proofs, tests and edits of each crate: it looks each half second at what the provers of this
 session have used. Where LOG can't be written it says so and goes on.
 
@@ -23,7 +23,7 @@ import time
 MARKS = ("<!-- gate_times begins -->", "<!-- gate_times ends -->")
 KINDS = ("proof", "tests", "edits")
 TICKS = os.sysconf("SC_CLK_TCK")
-# Crates below so many processor seconds stand in one line of the table.
+# Crates below the given number of processor seconds stand in one line of the table.
 LEAST = 60
 
 

@@ -408,7 +408,7 @@ def span(name, first, last, lane, told):
 
 def trace_of(recording):
     """The events of a timeline: impl frames, main frames and tiles as bars, others as points, and an arc from each
-    send to its commit and its activation. Nothing in a recording has a time: the index of an event stands for it, as
+    send to its commit and its activation. Nothing in a recording has a time: the index of an event represents it, as
     if each took a microsecond."""
     begun, sent, tiles, lanes = None, None, {}, {0: "compositor", 1: "main side"}
     for event in recording.events():

@@ -144,7 +144,7 @@ fn inputs(alloc: Global, load: Load) -> Result<Vec<Input>, AllocError> {
     Ok(inputs)
 }
 
-/// The parts of the script. An error is want of memory.
+/// The parts of the script. An error means out of memory.
 pub(crate) fn parts_of(alloc: Global, load: Load) -> Result<ScriptParts, AllocError> {
     let main = frames(alloc, load)?;
     let inputs = inputs(alloc, load)?;

@@ -1,9 +1,10 @@
 //! Times the calls of the core, and plays the load on one thread.
 //!
-//! `core LAYERS ITEMS SCROLLERS TILE ACROSS FRAMES SCROLLS DRAWS` plays a page of so many layers over each
-//! other, each with so many items and `ACROSS` by `ACROSS` tiles of `TILE` pixels, and with so many scrollers;
-//! then so many main frames that change one item each, so many scrolls by a pixel, and so many draws. It prints
-//! the least and the mean time of each call, in nanoseconds. The script `bench/core` calls it.
+//! `core LAYERS ITEMS SCROLLERS TILE ACROSS FRAMES SCROLLS DRAWS` plays a page of the given number of layers
+//! over each other, each with the given number of items and `ACROSS` by `ACROSS` tiles of `TILE` pixels, and
+//! with the given number of scrollers; then the given number of main frames that change one item each, the
+//! given number of scrolls by a pixel, and the given number of draws. It prints the least and the mean time
+//! of each call, in nanoseconds. The script `bench/core` calls it.
 //!
 //! With no words it plays a small load, and prints how many tiles were made and how many entries there are.
 #![tactic(auto)]

@@ -189,7 +189,7 @@ fn end_once(
     Ok(sum)
 }
 
-// Ends all main frames of a script so many times, and gives a sum of what came out.
+// Ends all main frames of a script the given number of times, and gives a sum of what came out.
 fn end_often(
     alloc: Global,
     script: &Arc<Script>,
@@ -204,7 +204,7 @@ fn end_often(
     Ok(sum.wrapping_add(kept.len() as u64))
 }
 
-// The script on standard input. An error is a text that is no script, or want of memory, or a fault of the stream.
+// The script on standard input. An error is a text that is no script, or out of memory, or a fault of the stream.
 fn script_of(rt: &HostRuntime) -> io::Result<Arc<Script>> {
     let text = io::read_to_string(rt.alloc(), rt.reader())?;
     let Ok(script) = read_script(rt.alloc(), text.as_bytes()) else {
@@ -217,7 +217,7 @@ fn script_of(rt: &HostRuntime) -> io::Result<Arc<Script>> {
 }
 
 /// Does what the words ask for and prints what came out; false where they ask for nothing of this module. An
-/// error is a text on standard input that is no script, or want of memory, or a fault of the streams.
+/// error is a text on standard input that is no script, or out of memory, or a fault of the streams.
 pub(crate) fn run(rt: &HostRuntime, words: &[String]) -> io::Result<bool> {
     let [name, count] = words else {
         return Ok(false);

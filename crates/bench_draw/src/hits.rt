@@ -136,7 +136,7 @@ fn offsets_of(alloc: Global, tree: &LayerTree) -> Result<Offsets, AllocError>
     main_offsets(alloc, tree)
 }
 
-/// Asks so many times which layer a point hits, and adds up their ids.
+/// Asks the given number of times which layer a point hits, and adds up their ids.
 pub(crate) fn targets(alloc: Global, size: PageSize, times: u32) -> Result<u64, AllocError> {
     let tree = page_of(alloc, size)?;
     let offsets = offsets_of(alloc, &tree)?;
@@ -147,7 +147,7 @@ pub(crate) fn targets(alloc: Global, size: PageSize, times: u32) -> Result<u64, 
     Ok(sum)
 }
 
-/// Asks so many times what a wheel does, and adds up how many scrollers move.
+/// Asks the given number of times what a wheel does, and adds up how many scrollers move.
 pub(crate) fn wheels(alloc: Global, size: PageSize, times: u32) -> Result<u64, AllocError> {
     let tree = page_of(alloc, size)?;
     let offsets = offsets_of(alloc, &tree)?;

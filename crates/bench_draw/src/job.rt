@@ -22,31 +22,31 @@ pub(crate) enum ItemKind {
     Bitmap,
 }
 
-/// One job, done so many times.
+/// One job, done the given number of times.
 #[derive(Clone, Copy, Debug)]
 pub(crate) enum BenchJob {
-    /// A row of so many pixels is laid over another.
+    /// A row of the given number of pixels is laid over another.
     Over {
         pixels: usize,
         times: u32,
     },
-    /// A row of so many pixels is faded.
+    /// A row of the given number of pixels is faded.
     Scale {
         pixels: usize,
         times: u32,
     },
-    /// A row of so many pixels gets one colour.
+    /// A row of the given number of pixels gets one colour.
     Fill {
         pixels: usize,
         times: u32,
     },
-    /// A list of so many items is rasterised.
+    /// A list of the given number of items is rasterised.
     Raster {
         kind: ItemKind,
         items: usize,
         times: u32,
     },
-    /// A scene of layers of so many items is drawn.
+    /// A scene of layers of the given number of items is drawn.
     Scene {
         in_groups: bool,
         items: usize,
@@ -93,7 +93,11 @@ impl BenchJob {
         ensures { IfSome result IsSmallJob }
     {
         match words {
-            [name, first, second] => BenchJob::of_row(name.as_str(), first.as_str(), second.as_str()),
+            [name, first, second] => BenchJob::of_row(
+                name.as_str(),
+                first.as_str(),
+                second.as_str(),
+            ),
             [name, first, second, third] if name.as_str() == "raster" => Some(BenchJob::Raster {
                 kind: kind_of(first.as_str())?,
                 items: number(second.as_str(), MOST_ITEMS)?,

@@ -116,8 +116,8 @@ fn add_layer(
     Ok(())
 }
 
-/// A scene of so many layers, of which the last has an image of this number in its middle. None where that is
-/// no scene.
+/// A scene of the given number of layers, of which the last has an image of this number in its middle. None
+/// where that is no scene.
 pub(crate) fn layered(alloc: Global, layers: u32, middle: u32) -> Result<Option<Scene>, AllocError>
     ensures { IfOk result (λ scene. IfSome scene IsLarge) }
 {

@@ -1,15 +1,17 @@
-//! Does one drawing job so many times and prints the sum of the bytes that it made.
+//! Does one drawing job the given number of times and prints the sum of the bytes that it made.
 //!
 //! The words after the program's name are one of
 //!
-//! - `over PIXELS TIMES`, `scale PIXELS TIMES`, `fill PIXELS TIMES`: a row of so many pixels,
-//! - `raster KIND ITEMS TIMES`: a tile of 256 by 256 pixels under so many items that cover it, of the kind
-//!   `opaque`, `translucent` or `bitmap`,
+//! - `over PIXELS TIMES`, `scale PIXELS TIMES`, `fill PIXELS TIMES`: a row of the given number of pixels,
+//! - `raster KIND ITEMS TIMES`: a tile of 256 by 256 pixels under the given number of items that cover it, of
+//!   the kind `opaque`, `translucent` or `bitmap`,
 //! - `scene ITEMS LAYERS TIMES`, `groups ITEMS LAYERS TIMES`: a scene of 1024 by 1024 pixels in tiles of 256
-//!   by 256, of so many layers of so many translucent items; with `groups` each layer is in a group of its own,
-//! - `target LAYERS NODES DEPTH TIMES`, `wheel LAYERS NODES DEPTH TIMES`: a page of so many layers and so many
-//!   nodes in each property tree, which stand in chains of DEPTH; the lowest layer alone shows. It prints the
-//!   sum of the ids of the layers that a point hits, or of how many scrollers a wheel there moves,
+//!   by 256, of the given number of layers of the given number of translucent items; with `groups` each layer
+//!   is in a group of its own,
+//! - `target LAYERS NODES DEPTH TIMES`, `wheel LAYERS NODES DEPTH TIMES`: a page of the given number of
+//!   layers and the given number of nodes in each property tree, which stand in chains of DEPTH; the lowest
+//!   layer alone shows. It prints the sum of the ids of the layers that a point hits, or of how many
+//!   scrollers a wheel there moves,
 //! - what `redraws` lists, and what `frames` does.
 //!
 //! With no words it makes a small tile's pictures and tries pairs of scenes, of which none may be wrong.

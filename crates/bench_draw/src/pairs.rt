@@ -1,4 +1,4 @@
-//! Pairs of thrown scenes: the damage from one to the other is drawn over the frame of the first.
+//! Pairs of random scenes: the damage from one to the other is drawn over the frame of the first.
 
 ghost use Rattle.std.specs.Prelude.{◌≡◌, IsTrue, IfOk};
 ghost use Rattle.viz_scene.specs.Views.{SceneView};
@@ -207,7 +207,7 @@ fn try_throw(
     }
 }
 
-// what comes out of so many pairs
+// what comes out of the given number of pairs
 fn figures_of(alloc: Global, count: u32, seed: u32) -> Result<PairCounts, AllocError> {
     let pool = pool_of(alloc)?;
     let mut painter = Painter::new(alloc, 1, 1)?;
@@ -222,7 +222,7 @@ fn figures_of(alloc: Global, count: u32, seed: u32) -> Result<PairCounts, AllocE
     Ok(figures)
 }
 
-/// Tries so many pairs of scenes and tells how many are wrong.
+/// Tries the given number of pairs of scenes and tells how many are wrong.
 pub(crate) fn tell_wrong(rt: &HostRuntime, count: u32, seed: u32) -> io::Result<()> {
     let figures = figures_of(rt.alloc(), count, seed)?;
     let (pairs, wrong, otherwise) = (figures.pairs, figures.wrong, figures.shown_otherwise);
@@ -230,8 +230,8 @@ pub(crate) fn tell_wrong(rt: &HostRuntime, count: u32, seed: u32) -> io::Result<
     Ok(())
 }
 
-/// Tries so many pairs of scenes and tells what came out: how many are wrong, and how many points are damaged
-/// and how many have another colour, in all.
+/// Tries the given number of pairs of scenes and tells what came out: how many are wrong, and how many points
+/// are damaged and how many have another colour, in all.
 pub(crate) fn tell(rt: &HostRuntime, count: u32, seed: u32) -> io::Result<()> {
     let figures = figures_of(rt.alloc(), count, seed)?;
     let (pairs, skipped) = (figures.pairs, figures.skipped);

@@ -1,4 +1,4 @@
-//! Images for thrown scenes.
+//! Images for random scenes.
 
 ghost use Rattle.std.specs.Prelude.{◌≡◌, pos, ◌≤ℤ◌, IfOk};
 ghost use Rattle.geom.specs.Covers.{IsSound};

@@ -1,12 +1,13 @@
 //! Redrawing what changed from one scene to the next.
 //!
-//! - `pairs COUNT SEED`: so many pairs of thrown scenes, tried by `pairs`,
-//! - `copy LAYERS TIMES`, `cull LAYERS TIMES`, `damage LAYERS TIMES`: a scene of 1024 by 1024 pixels of so many
-//!   layers of 25 tiles is copied, has its hidden quads left out, or is compared with its equal,
+//! - `pairs COUNT SEED`: the given number of pairs of random scenes, tried by `pairs`,
+//! - `copy LAYERS TIMES`, `cull LAYERS TIMES`, `damage LAYERS TIMES`: a scene of 1024 by 1024 pixels of the
+//!   given number of layers of 25 tiles is copied, has its hidden quads left out, or is compared with its
+//!   equal,
 //! - `show LAYERS TIMES`, `tile LAYERS TIMES`: a painter shows copies of that scene, or of two that differ in
 //!   one tile of the last layer, one after the other,
-//! - `scroll DOWN TIMES`: a painter shows the page of `scrolled` by turns where it is not scrolled and so many
-//!   pixels further down.
+//! - `scroll DOWN TIMES`: a painter shows the page of `scrolled` alternately where it is not scrolled and the
+//!   given number of pixels further down.
 
 use crate::{pairs, scrolled, showing};
 use std::io;

@@ -16,7 +16,7 @@ use tile_raster::Job;
 use viz_render::{Frame, render};
 use viz_scene::{Quad, RenderPass, Scene};
 
-/// Numbers that look as if they were thrown.
+/// Numbers that look random.
 #[derive(Drop)]
 pub(crate) struct Dice {
     last: u64,
@@ -63,7 +63,7 @@ fn rect_of(x: u32, y: u32, w: u32, h: u32) -> Rect
     }
 }
 
-/// A list of so many items.
+/// A list of the given number of items.
 fn list_of(alloc: Global, dice: &mut Dice, items: usize) -> Result<Arc<DisplayList>, AllocError> {
     let mut list = DisplayList::new(alloc);
     for _turn in 0..items {
@@ -123,7 +123,7 @@ fn tile_of(alloc: Global, list: &Arc<DisplayList>, place: u32) -> Result<Quad, A
     }
 }
 
-/// Adds the quads of a layer of so many items.
+/// Adds the quads of a layer of the given number of items.
 fn add_layer(
     alloc: Global,
     dice: &mut Dice,
@@ -140,7 +140,7 @@ fn add_layer(
     Ok(())
 }
 
-/// A scene of so many layers, side by side in one pass.
+/// A scene of the given number of layers, side by side in one pass.
 fn flat(alloc: Global, items: usize, layers: u32) -> Result<Scene, AllocError>
     ensures { IfOk result IsLarge }
 {
@@ -154,7 +154,7 @@ fn flat(alloc: Global, items: usize, layers: u32) -> Result<Scene, AllocError>
     Ok(Scene::new(1024, 1024, Colour::CLEAR, passes))
 }
 
-/// A scene of so many layers, each in a group of its own of opacity 128.
+/// A scene of the given number of layers, each in a group of its own of opacity 128.
 fn grouped(alloc: Global, items: usize, layers: u32) -> Result<Scene, AllocError>
     ensures { IfOk result IsLarge }
 {
@@ -171,7 +171,7 @@ fn grouped(alloc: Global, items: usize, layers: u32) -> Result<Scene, AllocError
     Ok(Scene::new(1024, 1024, Colour::CLEAR, passes))
 }
 
-/// Draws a scene of so many layers so many times, and gives the first byte.
+/// Draws a scene of the given number of layers the given number of times, and gives the first byte.
 pub(crate) fn draw(
     alloc: Global,
     in_groups: bool,

@@ -51,7 +51,7 @@ fn word_of(dice: &mut Dice, place: u32) -> Rect
     }
 }
 
-// adds a rect of a thrown colour
+// adds a rect of a random colour
 fn add_item(list: &mut DisplayList, dice: &mut Dice, rect: Rect) -> Result<(), AllocError>
     requires { IsSound rect }
 {
@@ -192,7 +192,7 @@ fn side_bar() -> Quad {
     solid_of(at, 64, 192)
 }
 
-// the quads of the page where it is scrolled so far down
+// the quads of the page where it is scrolled this far down
 fn quads_at(alloc: Global, images: &[Arc<TileImage>], down: i32) -> Result<Vec<Quad>, AllocError> {
     let mut quads = Vec::new(alloc);
     let mut place = 0i32;
@@ -209,7 +209,7 @@ fn quads_at(alloc: Global, images: &[Arc<TileImage>], down: i32) -> Result<Vec<Q
     Ok(quads)
 }
 
-// the scene of the page where it is scrolled so far down; None where that is no scene
+// the scene of the page where it is scrolled this far down; None where that is no scene
 fn scene_at(
     alloc: Global,
     images: &[Arc<TileImage>],
@@ -222,8 +222,8 @@ fn scene_at(
     Ok(scene_of(1024, 768, white, passes))
 }
 
-/// Shows the page by turns where it is not scrolled and where it is scrolled so many pixels down, so many times,
-/// and gives a sum of what came out.
+/// Shows the page alternately where it is not scrolled and where it is scrolled the given number of pixels
+/// down, the given number of times, and gives a sum of what came out.
 pub(crate) fn sum_of(alloc: Global, down: u32, times: u32) -> Result<u64, AllocError> {
     let images = images_of(alloc)?;
     let down = i32::try_from(down).unwrap_or(0);

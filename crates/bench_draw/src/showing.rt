@@ -52,7 +52,7 @@ fn quad_count(scene: &Scene) -> u64 {
     count
 }
 
-// copies a scene so many times
+// copies a scene the given number of times
 fn copies(alloc: Global, scene: &Scene, times: u32) -> Result<u64, AllocError> {
     let mut sum = 0u64;
     for _turn in 0..times {
@@ -63,7 +63,7 @@ fn copies(alloc: Global, scene: &Scene, times: u32) -> Result<u64, AllocError> {
     Ok(sum)
 }
 
-// leaves the hidden quads of a scene out so many times
+// leaves the hidden quads of a scene out the given number of times
 fn culls(alloc: Global, scene: &Scene, times: u32) -> Result<u64, AllocError> {
     let mut sum = 0u64;
     for _turn in 0..times {
@@ -73,7 +73,7 @@ fn culls(alloc: Global, scene: &Scene, times: u32) -> Result<u64, AllocError> {
     Ok(sum)
 }
 
-// compares two scenes so many times
+// compares two scenes the given number of times
 fn damages(alloc: Global, old: &Scene, new: &Scene, times: u32) -> Result<u64, AllocError>
     requires old { IsLarge old.now }
     requires new { IsLarge new.now }
@@ -98,7 +98,7 @@ fn show_copy(alloc: Global, painter: &mut Painter, scene: &Scene) -> Result<u64,
     }
 }
 
-/// Shows copies of two scenes by turns, so many times, and gives a sum of the first bytes.
+/// Shows copies of two scenes alternately, the given number of times, and gives a sum of the first bytes.
 pub(crate) fn shows(
     alloc: Global,
     first: &Scene,
@@ -134,7 +134,8 @@ fn sum_over(
     }
 }
 
-/// Does something with scenes of so many layers so many times, and gives a sum of what came out.
+/// Does something with scenes of the given number of layers the given number of times, and gives a sum of
+/// what came out.
 pub(crate) fn sum_of(alloc: Global, act: Act, layers: u32, times: u32) -> Result<u64, AllocError> {
     let last = layers.saturating_sub(1);
     let middle = match act {

@@ -1,4 +1,4 @@
-//! Sketches of scenes: thrown, and changed by a few throws.
+//! Sketches of scenes: random, and changed by a few random steps.
 
 ghost use Rattle.std.specs.Prelude.{◌≡◌, ◌≤◌, IfSome, IfOk};
 
@@ -149,7 +149,7 @@ fn moved(dice: &mut Dice, at: Rect) -> Rect {
     }
 }
 
-// adds so many quads of the pass of this number, and its end
+// adds the given number of quads of the pass of this number, and its end
 fn add_pass(
     dice: &mut Dice,
     number: u32,
@@ -174,7 +174,11 @@ fn parts_of(alloc: Global, dice: &mut Dice) -> Result<Vec<SketchPart>, AllocErro
 }
 
 // some parts, of which one is gone, is another one, or has another one before it
-fn with_change(alloc: Global, dice: &mut Dice, parts: &[SketchPart]) -> Result<Vec<SketchPart>, AllocError> {
+fn with_change(
+    alloc: Global,
+    dice: &mut Dice,
+    parts: &[SketchPart],
+) -> Result<Vec<SketchPart>, AllocError> {
     let place = dice.throw() as usize % parts.len().max(1);
     let kind = dice.throw() % 6;
     let mut after = Vec::new(alloc);
@@ -209,7 +213,11 @@ fn change_at(
 }
 
 // some parts, all moved by one way
-fn scrolled(alloc: Global, dice: &mut Dice, parts: &[SketchPart]) -> Result<Vec<SketchPart>, AllocError> {
+fn scrolled(
+    alloc: Global,
+    dice: &mut Dice,
+    parts: &[SketchPart],
+) -> Result<Vec<SketchPart>, AllocError> {
     let by = dice.throw() % 3;
     let mut after = Vec::new(alloc);
     for part in parts {
@@ -218,7 +226,7 @@ fn scrolled(alloc: Global, dice: &mut Dice, parts: &[SketchPart]) -> Result<Vec<
     Ok(after)
 }
 
-// a tile that lies so much higher; all else stays
+// a tile that lies this much higher; all else stays
 fn scrolled_part(part: SketchPart, by: i32) -> SketchPart {
     match part {
         SketchPart::Tile { image, at, from } => SketchPart::Tile {
@@ -236,7 +244,7 @@ fn scrolled_part(part: SketchPart, by: i32) -> SketchPart {
 }
 
 impl Sketch {
-    /// A thrown sketch.
+    /// A random sketch.
     pub(crate) fn thrown(alloc: Global, dice: &mut Dice) -> Result<Sketch, AllocError> {
         let background = colour_of(dice);
         let parts = parts_of(alloc, dice)?;
@@ -267,7 +275,11 @@ impl Sketch {
 }
 
 // some parts with a few changes
-fn parts_after(alloc: Global, dice: &mut Dice, parts: &[SketchPart]) -> Result<Vec<SketchPart>, AllocError> {
+fn parts_after(
+    alloc: Global,
+    dice: &mut Dice,
+    parts: &[SketchPart],
+) -> Result<Vec<SketchPart>, AllocError> {
     let mut after = if dice.throw() % 4 == 0 {
         scrolled(alloc, dice, parts)?
     } else {

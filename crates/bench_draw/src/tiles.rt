@@ -27,7 +27,7 @@ const KEY: TileKey = TileKey {
     stamp: 0,
 };
 
-/// So many bytes of one value.
+/// The given number of bytes of one value.
 fn bytes_of(alloc: Global, value: u8, count: usize) -> Result<Vec<u8>, AllocError> {
     vec![in alloc; value; count]
 }
@@ -55,7 +55,7 @@ fn item_of(alloc: Global, kind: ItemKind, level: u8) -> Result<Item, AllocError>
     }
 }
 
-/// A list of so many items of a kind.
+/// A list of the given number of items of a kind.
 fn list_of(alloc: Global, kind: ItemKind, items: usize) -> Result<DisplayList, AllocError>
     requires { items ≤ 256 }
 {
@@ -88,9 +88,14 @@ fn red_of(alloc: Global, list: &Arc<DisplayList>) -> Result<u64, AllocError> {
     }
 }
 
-/// Makes the picture of a tile of a list of items so many times, as the program does, and adds up the red of its
-/// pixels' one colour.
-pub(crate) fn raster(alloc: Global, kind: ItemKind, items: usize, times: u32) -> Result<u64, AllocError>
+/// Makes the picture of a tile of a list of items the given number of times, as the program does, and adds up
+/// the red of its pixels' one colour.
+pub(crate) fn raster(
+    alloc: Global,
+    kind: ItemKind,
+    items: usize,
+    times: u32,
+) -> Result<u64, AllocError>
     requires { items ≤ 256 }
 {
     let Ok(list) = Arc::new(alloc, list_of(alloc, kind, items)?) else {

@@ -66,7 +66,7 @@ fn word_of(alloc: Global, bytes: &[u8]) -> Result<String, AllocError> {
     }
 }
 
-// The words behind the program's name. One that is no text, or longer than any word that the program
+// The words after the program's name. One that is no text, or longer than any word that the program
 // knows, is the empty text, which fits no use.
 fn words_of<E: Env>(env: &E, alloc: Global) -> Result<Vec<String>, AllocError> {
     let mut words = Vec::new(alloc);

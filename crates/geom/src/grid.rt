@@ -111,7 +111,7 @@ impl Grid {
     }
 
     /// The places whose rect shares a point with `area`, by row and then by column, each once. They
-    /// are found by division: the work is that of writing them down. An error is want of memory.
+    /// are found by division: the work is that of writing them down. An error means out of memory.
     #[tactic(auto, using(crate::proofs::Cuts::tiles_few))]
     pub fn places_touching(self, alloc: Global, area: Rect) -> Result<Vec<Place>, AllocError>
         requires { IsSound area }

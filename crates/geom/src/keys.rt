@@ -32,7 +32,7 @@ impl Keys {
         }
     }
 
-    /// Appends `key`. An error is want of memory: it gives the key back, and the list is as it was.
+    /// Appends `key`. An error means out of memory: it gives the key back, and the list is as it was.
     pub fn push(&mut self, key: TileKey) -> Result<(), (AllocError, TileKey)>
         ensures keys { self.new ≡ (if is_ok result then self.old ++ key ∷ [] else self.old) }
         ensures given_back { IfErr result (λ e. e.1 ≡ key) }
@@ -43,7 +43,7 @@ impl Keys {
         }
     }
 
-    /// A list of the same keys. An error is want of memory.
+    /// A list of the same keys. An error means out of memory.
     pub fn copy(&self) -> Result<Keys, AllocError>
         ensures { IfOk result (λ k. k ≡ self.now) }
     {

@@ -101,7 +101,7 @@ IsReply old k new (Ok (reply.Scene scene)) = (k ≡ kind.Draw) × DrawsScene old
 IsReply old k new (Err (fault.NotNow state asked)) = (now old k 0 ≡ None) × (new ≡ old) × (state ≡ sched (past old)) × (asked ≡ k)
 IsReply old k new (Err (fault.Memory refused)) = new ≡ old
 
--- they make the first so many tiles that are wanted, the most urgent first, each as every page of the script shows it that has its key
+-- they make the given number of the first tiles that are wanted, the most urgent first, each as every page of the script shows it that has its key
 pub record AreUpcoming (r : Run) (most : ℕ) (jobs : List Job) : Type 0 where
   pub keys : map (λ (j : Job). j.key) jobs ≡ map rank_key (take most (in_order rank_cmp (wanted r.script (past r))))
   pub sound : AllByRecursion (λ (j : Job). IsSound j.rect) jobs

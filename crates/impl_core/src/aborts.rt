@@ -44,7 +44,7 @@ impl Core {
         Ok(())
     }
 
-    /// The main side has ended the frame in flight, which changed nothing. An error is want of memory, and
+    /// The main side has ended the frame in flight, which changed nothing. An error means out of memory, and
     /// nothing was entered.
     pub fn abort(&mut self, frame: u32) -> Result<(), AllocError>
         requires { now self.old kind.Abort 1 ≡ Some (event.Abort frame) }

@@ -20,7 +20,7 @@ use std::alloc::AllocError;
 use tile_prepare::{Activation, activation_of};
 
 impl Core {
-    // The visible keys of the pending tree. An error is want of memory.
+    // The visible keys of the pending tree. An error means out of memory.
     fn required_keys(&self) -> Result<Keys, AllocError>
         ensures { IfOk result (λ keys. keys ≡ required self.now.script (past self.now)) }
     {
@@ -28,8 +28,8 @@ impl Core {
         visible_of(self.alloc, seen.pending.as_ref())
     }
 
-    // Finds what the pending tree needs, and keeps it. The answer is whether all of it is ready; an error is want
-    // of memory.
+    // Finds what the pending tree needs, and keeps it. The answer is whether all of it is ready; an error
+    // means out of memory.
     fn find_required(&mut self) -> Result<bool, AllocError>
         ensures ready { IfOk result (λ ready. ready ≡ are_ready self.old.script (past self.old) (required self.old.script (past self.old))) }
         ensures same { self.new ≡ self.old }
@@ -40,7 +40,7 @@ impl Core {
         Ok(ready)
     }
 
-    // Whether all that the pending tree needs is ready. An error is want of memory.
+    // Whether all that the pending tree needs is ready. An error means out of memory.
     fn are_required_ready(&mut self) -> Result<bool, AllocError>
         ensures ready { IfOk result (λ ready. ready ≡ are_ready self.old.script (past self.old) (required self.old.script (past self.old))) }
         ensures same { self.new ≡ self.old }
@@ -51,7 +51,7 @@ impl Core {
         }
     }
 
-    /// The main frame whose commit may be activated now, if there is one. An error is want of memory; the run
+    /// The main frame whose commit may be activated now, if there is one. An error means out of memory; the run
     /// stays in any case.
     pub(crate) fn activation_now(&mut self) -> Result<Option<u32>, AllocError>
         ensures waits { IfOk result (λ found. IfSome found (λ frame. pending (past self.old) ≡ Some frame)) }
@@ -67,7 +67,7 @@ impl Core {
         }
     }
 
-    /// Whether the pending commit may be activated now. An error is want of memory; the run stays in any case.
+    /// Whether the pending commit may be activated now. An error means out of memory; the run stays in any case.
     pub(crate) fn may_activate(&mut self) -> Result<bool, AllocError>
         ensures may { IfOk result (λ may. may ≡ is_some (now self.old kind.Activate 0)) }
         ensures same { self.new ≡ self.old }
@@ -76,7 +76,7 @@ impl Core {
         Ok(frame.is_some())
     }
 
-    // What the activation of the pending tree brings to the tiles. An error is want of memory.
+    // What the activation of the pending tree brings to the tiles. An error means out of memory.
     fn activated_tiles(&self, frame: u32) -> Result<Activation, AllocError>
         requires waits { pending (past self.now) ≡ Some frame }
         requires may { is_some (now self.now kind.Activate 0) ≡ true }
@@ -99,8 +99,8 @@ impl Core {
         )
     }
 
-    // How the activation of the pending tree moves the scrollers, and where they stand then. An error is want
-    // of memory.
+    // How the activation of the pending tree moves the scrollers, and where they stand then. An error means
+    // out of memory.
     fn activated_scrollers(&self, frame: u32) -> Result<(Moves, Standing), AllocError>
         requires waits { pending (past self.now) ≡ Some frame }
         requires may { is_some (now self.now kind.Activate 0) ≡ true }
@@ -144,7 +144,7 @@ impl Core {
     }
 
     /// Activates the pending commit, where all its visible tiles are ready and the scheduler's state allows
-    /// it, and answers whether it was activated. An error is want of memory, and nothing was entered.
+    /// it, and answers whether it was activated. An error means out of memory, and nothing was entered.
     pub fn activate(&mut self) -> Result<bool, AllocError>
         ensures plays { IfOk result (λ played. Plays self.old kind.Activate 0 self.new played) }
         ensures err { OnErr result (self.new ≡ self.old) }

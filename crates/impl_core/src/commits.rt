@@ -20,8 +20,8 @@ use model_history::{Commit, Event, Script};
 use model_scheduler::Kind;
 use std::alloc::{AllocError, Global};
 
-// Pushes a copy of the commit that is prepared, and answers how the scrollers stood before. An error is want
-// of memory, and the host is as it was.
+// Pushes a copy of the commit that is prepared, and answers how the scrollers stood before. An error means
+// out of memory, and the host is as it was.
 fn push_prepared(
     alloc: Global,
     host: &mut ImplHost,
@@ -84,7 +84,7 @@ impl Core {
     }
 
     /// Commits the main frame that is ready, where it may be committed now, and answers whether it was. An
-    /// error is want of memory, and nothing was entered.
+    /// error means out of memory, and nothing was entered.
     pub fn commit(&mut self) -> Result<bool, AllocError>
         ensures plays { IfOk result (λ played. Plays self.old kind.Commit 0 self.new played) }
         ensures err { OnErr result (self.new ≡ self.old) }

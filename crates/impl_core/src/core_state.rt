@@ -81,7 +81,7 @@ fn is_end(event: &Event) -> bool
 }
 
 impl Core {
-    /// The core of a run in which nothing was entered yet, with up to 16 workers. An error is want of
+    /// The core of a run in which nothing was entered yet, with up to 16 workers. An error means out of
     /// memory.
     pub fn new(alloc: Global, script: Arc<Script>, workers: u32) -> Result<Core, AllocError>
         requires { workers ≤ 16 }
@@ -204,8 +204,8 @@ impl Core {
         }
     }
 
-    /// The key that starts next; None exactly where the run has ended or none may start. An error is want of
-    /// memory; the run stays in any case.
+    /// The key that starts next; None exactly where the run has ended or none may start. An error means out
+    /// of memory; the run stays in any case.
     pub fn next_start(&mut self) -> Result<Option<TileKey>, AllocError>
         ensures key { IfOk result (λ key. key ≡ next_key self.old) }
         ensures same { self.new ≡ self.old }
@@ -214,7 +214,7 @@ impl Core {
     }
 
     /// The key of the tile that is to be made first, whether or not the run has ended; None exactly where none
-    /// is to be made or no room can be made for one. An error is want of memory; the run stays in any case.
+    /// is to be made or no room can be made for one. An error means out of memory; the run stays in any case.
     pub fn first(&mut self) -> Result<Option<TileKey>, AllocError>
         ensures key { IfOk result (λ key. key ≡ option_map rank_key (rank_to_start self.old.script (past self.old))) }
         ensures same { self.new ≡ self.old }
@@ -224,7 +224,7 @@ impl Core {
         Ok(self.tiles.next_start())
     }
 
-    /// Makes the raster queue, so that the next questions for a key cost less. An error is want of memory; the
+    /// Makes the raster queue, so that the next questions for a key cost less. An error means out of memory; the
     /// run stays in any case.
     pub(crate) fn refresh(&mut self) -> Result<(), AllocError>
         ensures { self.new ≡ self.old }

@@ -56,7 +56,7 @@ impl Core {
     }
 
     /// Draws the active tree, where a draw may come now: the scene whose pixels are the painting at this
-    /// point. None exactly where no draw may come. An error is want of memory, and nothing was entered.
+    /// point. None exactly where no draw may come. An error means out of memory, and nothing was entered.
     pub fn draw(&mut self) -> Result<Option<Scene>, AllocError>
         ensures draws { IfOk result (Draws self.old self.new) }
         ensures err { OnErr result (self.new ≡ self.old) }

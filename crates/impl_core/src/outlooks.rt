@@ -29,7 +29,7 @@ pub(crate) fn visible_of(alloc: Global, tree: Option<&SeenTree<'_>>) -> Result<K
 }
 
 /// Looks where the trees of the host stand, where that was not done since they were moved, and gives the tiles
-/// their ranks. An error is want of memory, and the tiles are as they were.
+/// their ranks. An error means out of memory, and the tiles are as they were.
 pub(crate) fn look(
     alloc: Global,
     script: &Script,

@@ -11,7 +11,7 @@ use std::alloc::AllocError;
 
 impl Core {
     /// Enters the event of a plain kind, where one may come now, and answers whether there was one. An error
-    /// is want of memory, and nothing was entered.
+    /// means out of memory, and nothing was entered.
     pub fn play_plain(&mut self, kind: Kind) -> Result<bool, AllocError>
         requires { is_plain_kind kind ≡ true }
         ensures plays { IfOk result (λ played. Plays self.old kind 0 self.new played) }
@@ -28,7 +28,7 @@ impl Core {
         self.log.plain_now(kind).is_some()
     }
 
-    /// Whether the end of a settle may come now. An error is want of memory; the run stays in any case.
+    /// Whether the end of a settle may come now. An error means out of memory; the run stays in any case.
     pub(crate) fn may_settle(&mut self) -> Result<bool, AllocError>
         ensures may { IfOk result (λ may. may ≡ is_some (now self.old kind.Settle 0)) }
         ensures same { self.new ≡ self.old }
@@ -44,7 +44,7 @@ impl Core {
     }
 
     /// Enters the end of a settle, where the next input is one and no tile is left to make, and answers
-    /// whether it was. An error is want of memory, and nothing was entered.
+    /// whether it was. An error means out of memory, and nothing was entered.
     pub fn settle(&mut self) -> Result<bool, AllocError>
         ensures plays { IfOk result (λ played. Plays self.old kind.Settle 0 self.new played) }
         ensures err { OnErr result (self.new ≡ self.old) }

@@ -71,7 +71,7 @@ impl Core {
         }
     }
 
-    /// Whether an event of this kind of the compositor may come now. An error is want of memory; the run stays
+    /// Whether an event of this kind of the compositor may come now. An error means out of memory; the run stays
     /// in any case.
     pub fn may(&mut self, kind: Kind) -> Result<bool, AllocError>
         requires { is_own kind ≡ true }

@@ -12,7 +12,7 @@ use std::alloc::AllocError;
 
 impl Core {
     /// The main side is ready with the commit of the frame in flight, which it made of this script with the
-    /// pulls that were sent. An error is want of memory: nothing was entered, and the commit comes back.
+    /// pulls that were sent. An error means out of memory: nothing was entered, and the commit comes back.
     pub fn ready(&mut self, commit: Commit) -> Result<(), (AllocError, Commit)>
         requires is_now { now self.old kind.Ready 1 ≡ Some (event.Ready commit.frame) }
         requires script { commit.script ≡ self.old.script }

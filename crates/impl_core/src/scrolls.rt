@@ -22,7 +22,7 @@ fn wide(pixels: i32) -> i64
     pixels as i64
 }
 
-// The move of a scroller by so much.
+// The move of a scroller by this much.
 fn move_by(scroller: u32, by: Point) -> Move
     ensures { result ≡ record { scroller = scroller; dx = by.x; dy = by.y } }
 {
@@ -33,7 +33,7 @@ fn move_by(scroller: u32, by: Point) -> Move
     }
 }
 
-// The event of a scroll of which so much is accepted.
+// The event of a scroll of which this much is accepted.
 fn scroll_event(input: u32, by: Point) -> Event
     ensures { result ≡ event.Scroll input by.x by.y }
 {
@@ -81,7 +81,7 @@ impl Core {
     }
 
     /// Accepts the scroll that is the next input, as far as the active range allows, where one may be
-    /// accepted now, and answers whether it was. An error is want of memory, and nothing was entered.
+    /// accepted now, and answers whether it was. An error means out of memory, and nothing was entered.
     pub fn scroll(&mut self) -> Result<bool, AllocError>
         ensures plays { IfOk result (λ played. Plays self.old kind.Scroll 0 self.new played) }
         ensures err { OnErr result (self.new ≡ self.old) }

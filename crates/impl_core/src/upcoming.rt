@@ -33,7 +33,7 @@ impl Core {
         }
     }
 
-    // The first ranks that are wanted, at most so many, in rising order. An error is want of memory.
+    // The first ranks that are wanted, at most the given number, in rising order. An error means out of memory.
     fn wanted(&mut self, most: u32) -> Result<Vec<Rank>, AllocError>
         ensures ranks { IfOk result (λ ranks. ranks.items ≡ take most (in_order rank_cmp (wanted self.old.script (past self.old)))) }
         ensures same { self.new ≡ self.old }
@@ -43,7 +43,7 @@ impl Core {
         self.tiles.upcoming(most)
     }
 
-    // The jobs of the first ranks that are wanted, of which there are at most so many.
+    // The jobs of the first ranks that are wanted, of which there are at most the given number.
     fn jobs_of(&self, most: u32, ranks: &[Rank]) -> Result<Vec<Job>, AllocError>
         requires { ranks.now ≡ take most (in_order rank_cmp (wanted self.now.script (past self.now))) }
         ensures { IfOk result (λ jobs. AreUpcoming self.now most jobs.items) }
@@ -58,8 +58,8 @@ impl Core {
     }
 
     /// The jobs of the first `most` keys that are to be made and are neither ready nor in flight, the most
-    /// urgent first: those that `start` gives for them while nothing is committed or activated. An error is
-    /// want of memory; the run stays in any case.
+    /// urgent first: those that `start` gives for them while nothing is committed or activated. An error
+    /// means out of memory; the run stays in any case.
     pub fn upcoming(&mut self, most: u32) -> Result<Vec<Job>, AllocError>
         ensures upcoming { IfOk result (λ jobs. AreUpcoming self.old most jobs.items) }
         ensures same { self.new ≡ self.old }

@@ -68,7 +68,7 @@ impl Core {
     }
 
     /// Turns the wheel that is the next input, where one may be turned now, and answers whether it was. An
-    /// error is want of memory, and nothing was entered.
+    /// error means out of memory, and nothing was entered.
     pub fn wheel(&mut self) -> Result<bool, AllocError>
         ensures plays { IfOk result (λ played. Plays self.old kind.Wheel 0 self.new played) }
         ensures err { OnErr result (self.new ≡ self.old) }

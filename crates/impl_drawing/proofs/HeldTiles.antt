@@ -61,7 +61,7 @@ module _ (s : ScriptModel) (h : List Entry) (m : Managed) (holds : Manages s h m
   pub missing_among : (ks : List TileKey) (tiles : List PageTile) → ks ≡ visible_in (active_tree s h) → tiles ≡ map (held_tile m.store) ks → missing_keys tiles ≡ missing_visible s h
   missing_among ks tiles keys is = ap missing_keys is ∙ (missing_held m.store ks ∙ (ap (λ (qs : List TileKey). filter (λ q. not (is_ready m.store q)) qs) keys ∙ missing_is))
 
-  -- an image of a key of the page may stand for its tile
+  -- an image of a key of the page may represent its tile
   may_stand : (q : TileKey) → is_key q → ImageMayStand (active_page s h) (held_tile m.store q)
   may_stand q has = by_image (image_of m.store q) refl
     where

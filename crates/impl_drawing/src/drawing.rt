@@ -35,8 +35,8 @@ pub struct Drawing {
 
 /// Draws the active page of a run: `page` at these offsets of its scrollers, whose visible tiles have these
 /// keys, in key order, over the background of the script. At each point of the viewport the scene has the
-/// colour of the direct painting with the missing tiles, which are those that the run misses. An error is
-/// want of memory.
+/// colour of the direct painting with the missing tiles, which are those that the run misses. An error means
+/// out of memory.
 pub fn draw(
     alloc: Global,
     manager: &TileManager,

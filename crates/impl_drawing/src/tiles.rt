@@ -11,7 +11,11 @@ use tile_manager::TileManager;
 use viz_quads::ShownTile;
 
 // The tile of a key, with its image where the key is ready, which is looked for at `near` first.
-fn shown_tile(manager: &TileManager, near: &mut usize, key: TileKey) -> Result<ShownTile, AllocError>
+fn shown_tile(
+    manager: &TileManager,
+    near: &mut usize,
+    key: TileKey,
+) -> Result<ShownTile, AllocError>
     ensures { IfOk result (λ tile. tile_of tile ≡ held_tile manager.now.store key) }
 {
     match manager.image_near(near, key) {
@@ -24,8 +28,8 @@ fn shown_tile(manager: &TileManager, near: &mut usize, key: TileKey) -> Result<S
 }
 
 /// The tiles of these keys, each with its image where it is ready. No pixel is copied. The work of a key that
-/// is ready and stands next to the one before it does not grow with the number of tiles. An error is want of
-/// memory.
+/// is ready and stands next to the one before it does not grow with the number of tiles. An error means out
+/// of memory.
 pub(crate) fn shown_tiles(
     alloc: Global,
     manager: &TileManager,
@@ -41,7 +45,7 @@ pub(crate) fn shown_tiles(
     Ok(tiles)
 }
 
-// The keys of the tiles that have no image, in their order. An error is want of memory.
+// The keys of the tiles that have no image, in their order. An error means out of memory.
 pub(crate) fn missing_of(alloc: Global, tiles: &[ShownTile]) -> Result<Keys, AllocError>
     ensures { IfOk result (λ missing. missing ≡ missing_keys (map tile_of tiles.now)) }
 {

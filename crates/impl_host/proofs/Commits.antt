@@ -27,7 +27,7 @@ use Rattle.impl_host.specs.Hosts.{IsTree, IsTreeAt, IsMadeBy}
 pub none_before : (s : ScriptModel) (workers : ℕ) (h : List Entry) (actor k : ℕ) → Legal s workers (commit actor k ∷ h) → pending h ≡ None
 none_before s workers h actor k legal = none_where (pending h) (sym (course s workers h legal.0).pending_state ∙ (at_commit s workers h actor k legal.1).none_pending)
 
--- no tree stands for no frame
+-- no tree represents no frame
 pub tree_missing : (s : ScriptModel) (ps : ℕ → List Move) (o : Option ℕ) (m : Option TreeModel) → o ≡ None → IsTreeAt s ps o m → m ≡ None
 tree_missing s ps None None e is = refl
 tree_missing s ps None (Some t) e is = absurd is

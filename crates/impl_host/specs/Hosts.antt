@@ -1,4 +1,4 @@
--- What contracts see of the compositor side, and when it stands for a run.
+-- What contracts see of the compositor side, and when it represents a run.
 use Rattle.std.specs.Prelude.{◌≡◌, ℕ, suc, List, Option, Some, None}
 use Rattle.geom.specs.declared.rect.Point.{Point}
 use Rattle.model_scroll_values.specs.declared.Synced.{Synced}
@@ -47,11 +47,11 @@ pub record HostsAt (s : ScriptModel) (m : ImplHostModel) (ps : ℕ → List Move
   pub standing : HasScrollState m.standing value at_active at_pending
   pub outright : (sc : ℕ) → has_number m.outright sc ≡ clobbers s wait sc
 
--- it stands for a run of the script after this past
+-- it represents a run of the script after this past
 abbrev pub Hosts : ScriptModel → List Entry → ImplHostModel → Type 0
 Hosts s h m = HostsAt s m (pulls_of h) (active h) (pending h) (λ sc ax. values s sc ax h) (active_offsets s h) (pending_offsets s h)
 
--- after this past the main frame makes this page, changes so much, and has these commands
+-- after this past the main frame makes this page, makes these changes, and has these commands
 pub record IsMadeBy (s : ScriptModel) (h : List Entry) (k : ℕ) (p : Page) (d : Changed) (commands : List Command) : Type 0 where
   pub page_is : p ≡ page s (pulls_of h) (suc k)
   pub changes : SameChanges d (frame_changes s (pulls_of h) k)

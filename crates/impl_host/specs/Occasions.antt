@@ -23,7 +23,7 @@ pub record SendsNow (m : ImplHostModel) : Type 0 where
   pub legal : Legal script workers (send actor frame pulls ∷ past)
   pub hosts : Hosts script past m
 
--- a run in which this commit may come next: it has this page, changes so much, and its frame has these commands
+-- a run in which this commit may come next: it has this page, makes these changes, and its frame has these commands
 pub record PushesNow (m : ImplHostModel) (p : Page) (d : Changed) (frame : ℕ) (commands : List Command) : Type 0 where
   pub script : ScriptModel
   pub workers : ℕ

@@ -29,9 +29,9 @@ impl ImplHost {
         self.standing.sent();
     }
 
-    /// Makes the commit of a main frame pending: the page after the frame, what its commands changed, and
-    /// its commands. Answers where the scrollers stood before, for [`ImplHost::take_back`]. An error is
-    /// want of memory, and the host is as it was.
+    /// Makes the commit of a main frame pending: the page after the frame, what its commands changed, and its
+    /// commands. Answers where the scrollers stood before, for [`ImplHost::take_back`]. An error means out of
+    /// memory, and the host is as it was.
     pub fn push(
         &mut self,
         alloc: Global,

@@ -45,7 +45,7 @@ fn rect_in(page: &LayerTree, layer: &Layer, key: TileKey) -> Option<Rect>
 }
 
 /// The job that makes the tile of a key: what its layer shows, on the rect of its place. None exactly where
-/// the page has no such place. The list is shared. An error is want of memory.
+/// the page has no such place. The list is shared. An error means out of memory.
 pub(crate) fn job_of(page: &LayerTree, key: TileKey) -> Result<Option<Job>, AllocError>
     ensures value { IfOk result (λ job. option_map spec.made_by job ≡ spec.job_in page.now key) }
     ensures sound { IfOk result (λ job. IfSome job (λ j. IsSound j.rect)) }

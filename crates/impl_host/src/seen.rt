@@ -18,7 +18,7 @@ use page_properties::Offsets;
 use std::alloc::{AllocError, Global};
 use tile_ranks::{PlacedTree, PlacedTrees, SeenTree, SeenTrees};
 
-// A tree that may be missing, as its tiles are seen at these offsets. An error is want of memory.
+// A tree that may be missing, as its tiles are seen at these offsets. An error means out of memory.
 fn seen_tree<'a>(
     alloc: Global,
     tree: Option<&'a TreeState>,
@@ -61,7 +61,7 @@ pub(crate) fn placed_tree<'a>(
 
 impl ImplHost {
     /// The active and the pending tree as their tiles are seen where the scrollers stand so, which may be
-    /// after an event that is still to be entered. An error is want of memory.
+    /// after an event that is still to be entered. An error means out of memory.
     pub fn seen<'a>(
         &'a self,
         alloc: Global,

@@ -78,7 +78,7 @@ impl ImplHost {
     }
 
     /// The job that makes the tile of a key, whose list is shared; None exactly where the key is not live.
-    /// What it makes shows the key in every page of the script that has it. An error is want of memory.
+    /// What it makes shows the key in every page of the script that has it. An error means out of memory.
     pub fn job(&self, key: TileKey) -> Result<Option<Job>, AllocError>
         ensures live { IfOk result (λ job. (s : ScriptModel) (h : List Entry) → IsAccepted s → Hosts s h self.now → is_some job ≡ has_key (live_keys s h) key) }
         ensures shows { IfOk result (λ job. IfSome job (λ j. (s : ScriptModel) (h : List Entry) → IsAccepted s → Hosts s h self.now → (j.key ≡ key) × KeyShows s key j.rect j.list.value)) }

@@ -8,7 +8,7 @@ use Rattle.model_history.specs.declared.history.Entry.{Entry}
 use Rattle.model_history.specs.Scripts.{ScriptModel}
 use Rattle.model_history.specs.Legal.{can}
 
--- a script that is played by a compositor, a main side and so many workers; the entries stand with the oldest first
+-- a script that is played by a compositor, a main side and the given number of workers; the entries stand with the oldest first
 pub record Run : Type 0 where
   pub script : ScriptModel
   pub workers : ℕ

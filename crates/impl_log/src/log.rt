@@ -65,8 +65,7 @@ fn add(history: &mut History, progress: &mut Progress, entry: Entry)
 }
 
 impl Log {
-    /// The log of a run in which nothing was entered yet, with 1 to 16 workers. An error is want of
-    /// memory.
+    /// The log of a run in which nothing was entered yet, with 1 to 16 workers. An error means out of memory.
     pub fn new(alloc: Global, script: Arc<Script>, workers: u32) -> Result<Log, AllocError>
         requires { workers ≤ 16 }
         ensures { IfOk result (λ log. log ≡ new_run script.value workers) }
@@ -82,7 +81,7 @@ impl Log {
     }
 
     /// Enters the event of its kind and of this actor that may come now. The actor is the one whose event
-    /// it is: 0 the compositor, 1 the main side, `2 + w` the worker w. An error is want of memory, and
+    /// it is: 0 the compositor, 1 the main side, `2 + w` the worker w. An error means out of memory, and
     /// nothing was entered.
     pub fn enter(&mut self, actor: u32, event: Event) -> Result<(), AllocError>
         requires is_now { now self.old (kind_of event) actor ≡ Some event }
@@ -302,7 +301,7 @@ impl Log {
     }
 
     /// Enters the event of a plain kind, where there is one that may come now, and answers whether there
-    /// was. An error is want of memory, and nothing was entered.
+    /// was. An error means out of memory, and nothing was entered.
     pub fn enter_plain(&mut self, kind: Kind) -> Result<bool, AllocError>
         requires { is_plain_kind kind ≡ true }
         ensures plays { IfOk result (λ played. Plays self.old kind 0 self.new played) }

@@ -75,7 +75,7 @@ module _ (s : ScriptModel) (n : ℕ) (h : List Entry) (rs : List Row) (legal : L
         (range_where s h (pending h) (at_pending ids rs) (λ sc ax.
         subst (IsInRange (most (pending_page s h) sc ax)) (pending_is s n h legal sc ax ∙ sym (λ i. pending_at (all_outright i) (pending_page s h) (all_values i) sc ax)) (pending_in_range s n h sc ax acc legal)))
 
--- rows with the offsets that follow from them stand for the run
+-- rows with the offsets that follow from them represent the run
 pub stand_in : (s : ScriptModel) (n : ℕ) (h : List Entry) (pages : Pages) (st : StandingModel) → Legal s n h → AreValues s h st.rows → ArePages s h pages
     → ((sc : ℕ) → offset_at st.active sc ≡ offsets_where (at_active st.rows) (option_copied pages.active) sc)
     → ((sc : ℕ) → offset_at st.pending sc ≡ offsets_where (at_pending pages.outright.now st.rows) (option_copied pages.pending) sc) → StandsForPast s h st

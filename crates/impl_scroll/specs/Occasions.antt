@@ -17,7 +17,7 @@ use Rattle.impl_scroll.specs.Rows.{has_number}
 use Rattle.impl_scroll.specs.declared.pages.Pages.{Pages}
 use Rattle.impl_scroll.specs.Standings.{StandingModel, StandsForPast, page_at, ArePages, uses_scroll}
 
--- it stands for a run
+-- it represents a run
 pub record StandsNow (st : StandingModel) : Type 0 where
   pub script : ScriptModel
   pub workers : ℕ

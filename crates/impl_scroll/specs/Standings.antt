@@ -29,7 +29,7 @@ pub record HasScrollState (st : StandingModel) (value : ℕ → Axis → Synced)
   pub active : (sc : ℕ) → offset_at st.active sc ≡ at_active sc
   pub pending : (sc : ℕ) → offset_at st.pending sc ≡ at_pending sc
 
--- it stands for a run of the script after this past
+-- it represents a run of the script after this past
 abbrev pub StandsForPast : ScriptModel → List Entry → StandingModel → Type 0
 StandsForPast s h st = HasScrollState st (λ sc ax. values s sc ax h) (active_offsets s h) (pending_offsets s h)
 

@@ -9,7 +9,7 @@ use crate::offsets::is_among;
 use page_layers::Command;
 use std::alloc::{AllocError, Global};
 
-/// The scrollers that some commands set outright, each once. An error is want of memory.
+/// The scrollers that some commands set outright, each once. An error means out of memory.
 pub fn clobbered_by(alloc: Global, commands: &[Command]) -> Result<Vec<u32>, AllocError>
     ensures { IfOk result (λ ids. (sc : ℕ) → spec.has_number ids.items sc ≡ list_any (scrolls_to sc) commands.now) }
 {

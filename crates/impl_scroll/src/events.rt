@@ -23,8 +23,8 @@ use page_layers::{LayerTree, Move};
 use std::alloc::{AllocError, Global};
 
 impl Standing {
-    /// What a `Send` lists, where one may come next: the moves that the main side has not heard of. An
-    /// error is want of memory.
+    /// What a `Send` lists, where one may come next: the moves that the main side has not heard of. An error
+    /// means out of memory.
     pub fn unheard(&self, alloc: Global) -> Result<Moves, AllocError>
         requires { StandsNow self.now }
         ensures { IfOk result (λ pulls. (s : ScriptModel) (workers : ℕ) (h : List EntryModel) → Legal s workers h → StandsForPast s h self.now → is_open h kind.Send ≡ true → pulls ≡ next_pulls s h) }
@@ -41,7 +41,7 @@ impl Standing {
         self.rows.pull();
     }
 
-    /// Where the scrollers stand after a scroll or a wheel with these moves. An error is want of memory.
+    /// Where the scrollers stand after a scroll or a wheel with these moves. An error means out of memory.
     pub fn moved(
         &self,
         alloc: Global,
@@ -56,7 +56,7 @@ impl Standing {
         standing_in(alloc, rows, pages)
     }
 
-    /// Where the scrollers stand after the abort of the main frame that was sent last. An error is want of
+    /// Where the scrollers stand after the abort of the main frame that was sent last. An error means out of
     /// memory.
     pub fn aborted(&self, alloc: Global, pages: Pages<'_>) -> Result<Standing, AllocError>
         requires { AbortsNow self.now pages }
@@ -68,7 +68,7 @@ impl Standing {
     }
 
     /// Where the scrollers stand after the commit of a page, whose main frame sets these scrollers
-    /// outright. An error is want of memory.
+    /// outright. An error means out of memory.
     pub fn pushed<'a>(
         &self,
         alloc: Global,
@@ -90,7 +90,7 @@ impl Standing {
     }
 
     /// What an activation of the pending page lists, whose commit sets these scrollers outright: the moves
-    /// that bring its scrollers where they stand in it. An error is want of memory.
+    /// that bring its scrollers where they stand in it. An error means out of memory.
     pub fn clamps(
         &self,
         alloc: Global,
@@ -104,7 +104,7 @@ impl Standing {
     }
 
     /// Where the scrollers stand after the activation of the pending page with these moves: at the offsets
-    /// that they had in it. An error is want of memory.
+    /// that they had in it. An error means out of memory.
     pub fn activated(
         &self,
         alloc: Global,

@@ -15,7 +15,7 @@ ghost use Rattle.impl_scroll.specs.Occasions.{ShowsNow, WheelsNow};
 
 use crate::standing::Standing;
 use geom::Point;
-use page_hit_test::{WheelParts, Wheel, wheel_parts};
+use page_hit_test::{Wheel, WheelParts, wheel_parts};
 use page_layers::LayerTree;
 use page_properties::Offsets;
 use std::alloc::{AllocError, Global};
@@ -28,7 +28,7 @@ fn coordinate(at: u32) -> i32
     at as i32
 }
 
-// What a wheel at a point of the screen does in a page. An error is want of memory.
+// What a wheel at a point of the screen does in a page. An error means out of memory.
 fn wheel_in(
     alloc: Global,
     page: &LayerTree,
@@ -79,7 +79,7 @@ impl Standing {
 
     /// What a wheel at a point of the screen does, which is the next input: the layer of the active page
     /// that it hits, what the scrollers there take of it, and what they leave. Before the first activation
-    /// it hits no layer and all is left. An error is want of memory.
+    /// it hits no layer and all is left. An error means out of memory.
     pub fn wheel(
         &self,
         alloc: Global,

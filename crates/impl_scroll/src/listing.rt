@@ -38,7 +38,7 @@ fn is_still(one: Move) -> bool
     is_zero(one.dx) && is_zero(one.dy)
 }
 
-// Adds a move at the end where it is not one of (0, 0). An error is want of memory.
+// Adds a move at the end where it is not one of (0, 0). An error means out of memory.
 fn push_moving(moves: &mut Moves, one: Move) -> Result<(), AllocError>
     ensures { OnOk result (moves.new ≡ moves.old ++ unless_still one) }
 {
@@ -74,7 +74,7 @@ fn unheard_move(row: &Row) -> Move
     }
 }
 
-/// What the main side has not heard of each scroller. An error is want of memory.
+/// What the main side has not heard of each scroller. An error means out of memory.
 pub(crate) fn unheard_moves(alloc: Global, rows: &[Row]) -> Result<Moves, AllocError>
     requires rising { AreRising rows.now }
     requires bounded { (sc : ℕ) (ax : axes.Axis) → IsBounded (row_value rows.now sc ax) }
@@ -130,7 +130,7 @@ fn clamp_move(outright: &[u32], page: &LayerTree, row: &Row) -> Move
 }
 
 /// How far an activation of a page moves each of its scrollers, where its commit sets these outright. An
-/// error is want of memory.
+/// error means out of memory.
 pub(crate) fn clamp_moves(
     alloc: Global,
     outright: &[u32],

@@ -137,8 +137,8 @@ fn point_in(stage: Stage<'_>, page: &LayerTree, row: &Row) -> Point
     Point { x, y }
 }
 
-/// The offsets of a page: its scrollers stand where their values say, all others at (0, 0). An error is
-/// want of memory.
+/// The offsets of a page: its scrollers stand where their values say, all others at (0, 0). An error means
+/// out of memory.
 pub(crate) fn offsets_of(
     alloc: Global,
     stage: Stage<'_>,

@@ -19,7 +19,7 @@ fn move_of(part: WheelPart) -> Move
     }
 }
 
-// Adds a part at the end of some moves. An error is want of memory.
+// Adds a part at the end of some moves. An error means out of memory.
 fn push_part(moves: &mut Moves, part: WheelPart) -> Result<(), AllocError>
     ensures { OnOk result (moves.new ≡ moves.old ++ part_move part ∷ []) }
 {
@@ -40,7 +40,7 @@ fn moves_in(alloc: Global, parts: &[WheelPart]) -> Result<Moves, AllocError>
     Ok(moves)
 }
 
-/// The moves that the parts of a wheel are, in their order. An error is want of memory.
+/// The moves that the parts of a wheel are, in their order. An error means out of memory.
 pub fn moves_of(alloc: Global, parts: &WheelParts) -> Result<Moves, AllocError>
     ensures { IfOk result (λ moves. moves ≡ map part_move parts.now) }
 {

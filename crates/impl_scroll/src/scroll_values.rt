@@ -54,7 +54,7 @@ impl ScrollValues {
         }
     }
 
-    /// The same values once more. An error is want of memory.
+    /// A copy of the values. An error means out of memory.
     pub fn copy(&self) -> Result<ScrollValues, AllocError>
         ensures { IfOk result (λ rows. rows ≡ self.now) }
     {
@@ -71,7 +71,7 @@ impl ScrollValues {
     }
 
     /// What the main side has not heard of each scroller, by rising scroller; what is (0, 0) is left out.
-    /// An error is want of memory.
+    /// An error means out of memory.
     pub fn unheard(&self, alloc: Global) -> Result<Moves, AllocError>
         requires { (sc : ℕ) (ax : Axis) → IsBounded (row_value self.now sc ax) }
         ensures rising { IfOk result (λ moves. AreRising moves) }
@@ -89,7 +89,7 @@ impl ScrollValues {
         step_all(&mut self.rows, ValueStep::Pull);
     }
 
-    /// The main values of a page become the pending bases. No commit is pending. An error is want of
+    /// The main values of a page become the pending bases. No commit is pending. An error means out of
     /// memory, and all values are as they were.
     pub fn push(&mut self, alloc: Global, page: &LayerTree) -> Result<(), AllocError>
         requires bounded { (sc : ℕ) (ax : Axis) → IsBounded (row_value self.old sc ax) }
@@ -120,7 +120,7 @@ impl ScrollValues {
         step_all(&mut self.rows, ValueStep::Abort);
     }
 
-    /// Adds the first move of each scroller. An error is want of memory, and all values are as they were.
+    /// Adds the first move of each scroller. An error means out of memory, and all values are as they were.
     pub fn add(&mut self, alloc: Global, moves: &[Move]) -> Result<(), AllocError>
         requires bounded { (sc : ℕ) (ax : Axis) → IsBounded (row_value self.old sc ax) }
         requires amounts { (sc : ℕ) (ax : Axis) → IsBoundedNumber (amount_in sc ax moves.now) }
@@ -133,7 +133,7 @@ impl ScrollValues {
         Ok(())
     }
 
-    /// The offsets of the active page, each in its range there. An error is want of memory.
+    /// The offsets of the active page, each in its range there. An error means out of memory.
     pub fn active_offsets(&self, alloc: Global, page: &LayerTree) -> Result<Offsets, AllocError>
         requires bounded { (sc : ℕ) (ax : Axis) → IsBounded (row_value self.now sc ax) }
         requires in_range { (sc : ℕ) (ax : Axis) → IsInRange (most page.now sc ax) (active_at (row_value self.now) sc ax) }
@@ -144,7 +144,7 @@ impl ScrollValues {
     }
 
     /// The offsets of the pending page, each in its range there, where its commit sets these scrollers
-    /// outright. An error is want of memory.
+    /// outright. An error means out of memory.
     pub fn pending_offsets(
         &self,
         alloc: Global,
@@ -160,7 +160,7 @@ impl ScrollValues {
     }
 
     /// How far an activation of the pending page moves each of its scrollers, where its commit sets these
-    /// outright; by rising scroller, and what is (0, 0) is left out. An error is want of memory.
+    /// outright; by rising scroller, and what is (0, 0) is left out. An error means out of memory.
     pub fn clamps(
         &self,
         alloc: Global,

@@ -39,7 +39,7 @@ impl Model for Standing {
     ghost invariant = { λ s. AreOffsets (offset_at s.active) × AreOffsets (offset_at s.pending) };
 }
 
-// Values with the offsets that follow from them in these pages. An error is want of memory.
+// Values with the offsets that follow from them in these pages. An error means out of memory.
 pub(crate) fn standing_in(
     alloc: Global,
     rows: ScrollValues,

@@ -5,7 +5,7 @@ use Rattle.tile_tiling.specs.Tiles.{Tiled}
 use Rattle.page_layers.specs.Layers.{PageLayer}
 use Rattle.impl_trees.specs.Trees.{Paired}
 
--- an element of a front stands at the same place of the whole
+-- an element of a prefix stands at the same place of the whole
 pub at_front : {X : Type 0} (xs more : List X) (i : ℕ) (x : X) → slice_get xs i ≡ Some x → slice_get (xs ++ more) i ≡ Some x
 at_front [] more i x e = absurd (cc)
 at_front (y ∷ xs) more zero x e = e

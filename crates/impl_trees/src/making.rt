@@ -192,7 +192,7 @@ fn emptied(
 }
 
 /// The tilings of the tree of a commit, which may follow the active one. The tilings of the recycled tree are
-/// used again. An error is want of memory.
+/// used again. An error means out of memory.
 pub(crate) fn next_tilings(
     alloc: Global,
     spares: &mut Vec<Spare>,

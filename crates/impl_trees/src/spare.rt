@@ -78,7 +78,7 @@ fn add(
 }
 
 /// Adds the tilings of a tree that lacks the commit of the active tree, once this commit is carried. None is
-/// added where it retiles. An error is want of memory.
+/// added where it retiles. An error means out of memory.
 pub(crate) fn add_behind(
     spares: &mut Vec<Spare>,
     tree: &LayerTree,
@@ -104,7 +104,7 @@ pub(crate) fn add_behind(
 }
 
 /// Adds the tilings of a tree that has one commit more than the active tree, where this commit changed
-/// nothing. An error is want of memory.
+/// nothing. An error means out of memory.
 pub(crate) fn add_ahead(
     spares: &mut Vec<Spare>,
     tree: &LayerTree,

@@ -81,7 +81,7 @@ impl Trees {
     /// the place shows. The last pushed tree is the active one, as none may be pending.
     ///
     /// The commit may follow that tree: a layer that it does not list with `whole` stands there with its
-    /// size, and where it does not retile, the tile size is the one there. An error is want of memory: the
+    /// size, and where it does not retile, the tile size is the one there. An error means out of memory: the
     /// tree and the changes are given back, and the trees are as they were.
     pub fn push(
         &mut self,

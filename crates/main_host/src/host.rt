@@ -146,7 +146,7 @@ impl MainHost {
     /// its range cuts is such a move.
     ///
     /// A main frame must be left, and both parts of each pull are below 2^39 in absolute value. A pull of
-    /// a scroller that the page lacks moves nothing. An error is want of memory: no frame is ended, and it
+    /// a scroller that the page lacks moves nothing. An error means out of memory: no frame is ended, and it
     /// can be begun again, with the same pulls or others.
     pub fn begin(&mut self, pulls: &Moves) -> Result<MainEnd, AllocError>
         requires left { length self.old.sends < length self.old.script.main }

@@ -17,7 +17,7 @@ use Rattle.model_history.specs.inner.Applying.{AppliedCommand, AppliedFrame, App
 pub rest_at : {A : Type 0} (xs : List A) (i : ℕ) (x : A) → x ≡ get_or xs i x → i < length xs → drop i xs ≡ x ∷ drop (i + 1) xs
 rest_at {A = A} xs i x e lt = drop_more xs i x lt ∙ ap (λ (y : A). y ∷ drop (i + 1) xs) (sym e)
 
--- the same of what each element stands for
+-- the same of what each element represents
 pub mapped_rest_at : {A B : Type 0} (f : A → B) (xs : List A) (i : ℕ) (x : A) (y : B) → x ≡ get_or xs i x → y ≡ f x → i < length xs
     → map f (drop i xs) ≡ y ∷ map f (drop (i + 1) xs)
 mapped_rest_at {B = B} f xs i x y e g lt = ap (map f) (rest_at xs i x e lt) ∙ ap (λ (z : B). z ∷ map f (drop (i + 1) xs)) (sym g)

@@ -229,7 +229,7 @@ same_rest m ms ns same a b sc ax = go (m.scroller == sc) refl (same sc ax)
         nothing_below sc ax ms (subst (λ k. AreMovesAbove k ms) i a) ∙ sym (nothing_below sc ax ns (subst (λ k. AreMovesAbove k ns) i b))
     go false e f = f
 
--- only one rising list has so much for each scroller
+-- only one rising list has this much for each scroller
 pub one_rising_list : (ms ns : List Move) → AreRising ms → AreRising ns → HaveSame ms ns → ms ≡ ns
 one_rising_list [] [] r q same = refl
 one_rising_list [] (n ∷ ns) r q same = absurd (not_above n ns [] q.0 (same_sym [] (n ∷ ns) same) tt)

@@ -58,7 +58,7 @@ view_blank s h = view_head s (and_left (head_in_range s) (main_in_range s.versio
 
 -- ---- pages
 
--- the number that is so many further on
+-- the number that is that much further on
 abbrev pub ahead : ℕ → ℕ → ℕ
 ahead zero m = m
 ahead (suc d) m = suc (ahead d m)

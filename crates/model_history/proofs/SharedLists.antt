@@ -1,4 +1,4 @@
--- Where an element of several lists stands, one after another, and of one more behind them.
+-- Where an element of several lists stands, one after another, and of one more after them.
 use Rattle.std.proofs.Common.{◌≡◌, ℕ, zero, suc, ◌+◌, ◌-◌, ◌<◌, ◌≤◌, List, [], ◌∷◌, ◌++◌, length, get_or, drop, slice_get, refl, ◌∙◌, ap, arith, append_assoc, drop-cons}
 use Rattle.std.specs.List.{flat_map}
 

@@ -21,7 +21,7 @@ use Rattle.model_history.proofs.BarePages.{bare, page_bare}
 use Rattle.model_history.proofs.ScriptPages.{ahead, ahead_is, plain}
 use Rattle.model_history.proofs.KeptStamps.{plain_key, IsKept, key_between, keys_plain, rect_kept}
 
--- a number that is not smaller is so many further on
+-- a number that is not smaller is that much further on
 ahead_to : (m n : ℕ) → m ≤ n → ahead (n - m) m ≡ n
 ahead_to m n le = let is : ahead (n - m) m ≡ (n - m) + m = ahead_is (n - m) m in omega (arith, is, le)
 

@@ -25,7 +25,7 @@ AreBounded (m ∷ ms) = IsBoundedNumber m.dx × IsBoundedNumber m.dy × AreBound
 abbrev pub HasTaken : Page → List Command → ℕ → Page → Type 0
 HasTaken p cs n q = q ≡ commanded (take n cs) p
 
--- all commands were applied and noted behind nothing; or this one was the first that was refused, and those before it were applied; or memory ran out, and the first few were applied
+-- all commands were applied and noted after nothing; or this one was the first that was refused, and those before it were applied; or memory ran out, and the first few were applied
 abbrev pub TookCommands : Page → List Command → Page → Result Changed EditError → Type 0
 TookCommands p cs q (Ok changes) = TakesAll p cs × (q ≡ commanded cs p) × SameChanges changes (changed_by p cs unchanged)
 TookCommands p cs q (Err (error.Refused fault)) = (n : ℕ) × RefusedIn p cs n fault × HasTaken p cs n q

@@ -23,7 +23,7 @@ is_open h k = not (has_ended h) && may (sched h) k
 abbrev pub can : ScriptModel → List Entry → Kind → ℕ → Option Event
 can s h k a = cond (is_open h k) (due s h k a) None
 
--- the entry may come after this past, in a run with so many workers
+-- the entry may come after this past, in a run with the given number of workers
 pub record Next (s : ScriptModel) (workers : ℕ) (h : List Entry) (e : Entry) : Type 0 where
   -- no end and no stop stands
   pub going : has_ended h ≡ false

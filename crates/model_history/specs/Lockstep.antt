@@ -42,7 +42,7 @@ Times test P (suc n) h g = (test h ≡ true) × (m : List Entry) × P h m × Tim
 abbrev pub While : (List Entry → Bool) → Step → Step
 While test P h g = (n : ℕ) × Times test P n h g
 
--- P as long as the test holds, but at most so many times
+-- P as long as the test holds, but at most the given number of times
 abbrev pub AtMost : ℕ → (List Entry → Bool) → Step → Step
 AtMost zero test P = Stays
 AtMost (suc n) test P = Where test (Then P (AtMost n test P)) Stays

@@ -77,7 +77,7 @@ command_in_range version (SetView w h tile) = (version == 2) && is_u32 w && is_u
 abbrev pub is_amount : ℤ → Bool
 is_amount z = int_in_range (neg_ℤ (pos max_scroll)) (pos max_scroll) z
 
--- an input of a script of so many main frames
+-- an input of a script of the given number of main frames
 abbrev pub input_in_range : ℕ → Input → Bool
 input_in_range frames (Scroll scroller dx dy) = in_range 1 max_id scroller && is_amount dx && is_amount dy
 input_in_range frames (Wheel x y dx dy) = in_range 0 2047 x && in_range 0 2047 y && is_amount dx && is_amount dy

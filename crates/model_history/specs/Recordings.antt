@@ -40,7 +40,7 @@ screen_colour s h missing x y = paint (active_page s h) (active_offsets s h) mis
 unfoldable pub shown_image : ScriptModel → List Entry → List TileKey → List ℕ
 shown_image s h missing = image (screen_colour s h missing) (active_page s h).view.w (active_page s h).view.h
 
--- what stands behind the line of an event that came after a past: behind that of a draw the image of what it shows, with the tiles missing that it lists
+-- what stands after the line of an event that came after a past: after that of a draw the image of what it shows, with the tiles missing that it lists
 abbrev pub image_behind : ScriptModel → List Entry → Event → List ℕ
 image_behind s h (event.Draw input missing) = shown_image s h missing
 image_behind s h _ = []

@@ -39,7 +39,7 @@ abbrev pub with_command : Page → Command → List LayerChange → List LayerCh
 with_command p (command.RemoveLayer id) ds = without_layer id ds
 with_command p c ds = with_some (layer_change_of p c) ds
 
--- the changes of these commands together, the first of which acts on this page, behind those of earlier ones
+-- the changes of these commands together, the first of which acts on this page, after those of earlier ones
 abbrev pub changed_by : Page → List Command → Changed → Changed
 changed_by p [] done = done
 changed_by p (c ∷ cs) done = changed_by (page_after_command p c) cs (record { list = with_command p c done.list; retiled = done.retiled || retiles p c })

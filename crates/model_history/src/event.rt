@@ -109,7 +109,7 @@ pub enum Event {
     },
     /// The script has been played to its end.
     End,
-    /// An actor gave up, for want of memory or because the output failed.
+    /// An actor gave up, because memory ran out or the output failed.
     Stop {
         /// The actor's number.
         actor: u32,

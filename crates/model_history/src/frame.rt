@@ -91,9 +91,9 @@ fn take_commands(
 /// range, then applies the commands in order. Answers what the commands changed together; a layer that
 /// one of them removed is not listed for what came before.
 ///
-/// The parts of a pull are below 2^39 in absolute value; one of a scroller that the tree lacks does
-/// nothing. After a refusal the tree has the pulls and the commands before the refused one; after want
-/// of memory it has the pulls and the first few commands.
+/// The parts of a pull are below 2^39 in absolute value; one of a scroller that the tree lacks does nothing.
+/// After a refusal the tree has the pulls and the commands before the refused one; when memory runs out it
+/// has the pulls and the first few commands.
 pub fn apply_frame(
     alloc: Global,
     tree: &mut LayerTree,
@@ -108,7 +108,7 @@ pub fn apply_frame(
 }
 
 /// Ends a main frame of a script on the tree before it, as `apply_frame` does with the frame's commands.
-/// A script's commands are taken whatever was pulled, so an error is want of memory; the tree then has
+/// A script's commands are taken whatever was pulled, so an error means out of memory; the tree then has
 /// the pulls and the first few commands.
 pub fn take_frame(
     alloc: Global,

@@ -26,7 +26,7 @@ pub fn actors_are_few()
     ensures { (s : ScriptModel) (workers : ℕ) (h : List Entry) → Legal s workers h → AtEach (λ g e. e.actor < 2 + workers) h }
 {}
 
-/// What stands before the newest entries of a legal past is legal, and so is each beginning of a legal
+/// What stands before the newest entries of a legal past is legal, and so is every prefix of a legal
 /// history.
 pub fn beginnings_are_legal()
     ensures past { (s : ScriptModel) (workers : ℕ) (newer h : List Entry) → Legal s workers (newer ++ h) → Legal s workers h }

@@ -72,7 +72,7 @@ pub fn moves_are_small()
 {}
 
 /// The moves that a send and an activation of an accepted script list stand by rising scroller, each once,
-/// and none is (0, 0). Only one such list has so much for each scroller.
+/// and none is (0, 0). Only one such list has this much for each scroller.
 pub fn listed_moves_rise()
     ensures each { (s : ScriptModel) (workers : ℕ) (h : List Entry) → IsAccepted s → Legal s workers h → AtEach (λ g e. AreRising (pulls e.event) × AreRising (clamps e.event)) h }
     ensures one_list { (one other : List Move) → AreRising one → AreRising other → ((sc : ℕ) (ax : Axis) → amount_in sc ax one ≡ amount_in sc ax other) → one ≡ other }

@@ -47,7 +47,7 @@ impl Moves {
         }
     }
 
-    /// The same list once more.
+    /// A copy of the list.
     pub fn copy(&self) -> Result<Moves, AllocError>
         ensures { IfOk result (λ c. c ≡ self.now) }
     {
@@ -106,7 +106,7 @@ impl Model for Sends {
     ghost invariant = { λ s. s.count ≡ length (flat_map (λ lists. lists.value.items) s.shared.items ++ s.rest.items) };
 }
 
-// Copies of these lists. An error is want of memory.
+// Copies of these lists. An error means out of memory.
 fn copies(alloc: Global, lists: &[Moves]) -> Result<Vec<Moves>, AllocError>
     ensures { IfOk result (λ copies. copies.items ≡ lists.now) }
 {
@@ -117,7 +117,7 @@ fn copies(alloc: Global, lists: &[Moves]) -> Result<Vec<Moves>, AllocError>
     Ok(copies)
 }
 
-// The same lists, shared once more. An error is want of memory.
+// The same lists, shared once more. An error means out of memory.
 fn shared_again(
     alloc: Global,
     shared: &[Arc<Vec<Moves>>],
@@ -202,7 +202,7 @@ impl Sends {
         }
     }
 
-    /// The same lists once more.
+    /// A copy of the lists.
     pub fn copy(&self) -> Result<Sends, AllocError>
         ensures { IfOk result (λ c. c ≡ self.now) }
     {

@@ -3,7 +3,7 @@ use Rattle.std.proofs.Common.{ℕ, zero, suc, ◌≡◌, inl, inr, ◌<◌, ◌�
 use Rattle.tile_priority.specs.Ordered.{In}
 use Rattle.model_lockstep.specs.Measures.{weighed}
 
--- so many where one more comes first, if it passes
+-- that many where one more comes first, if it passes
 abbrev one_before : Bool → ℕ → ℕ
 one_before b n = cond b (suc n) n
 

@@ -153,7 +153,7 @@ module _ (test : ScriptModel → List Entry → Bool) (P : Way) (first now : Wal
         beginning = more.1 ∙ ap (λ (z : List Entry). more.0 ++ z) (one ∙ o.beginning) ∙ sym (append_assoc more.0 o.newer mid.past);
       }
 
--- ---- loops with at most so many turns
+-- ---- loops with at most the given number of turns
 
 abbrev pub limited : (ScriptModel → List Entry → Bool) → Way → ℕ → Way
 limited test P n s = AtMost n (test s) (P s)

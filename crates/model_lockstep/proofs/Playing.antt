@@ -149,7 +149,7 @@ all_pairs s h st r = while_ends (has_first s) (Pair s) (Stands s st h) (tiles_le
     turn : (g : List Entry) → Stands s st h g → has_first s g ≡ true → Turn (Pair s) (Stands s st h) (tiles_left s) g
     turn g x t = let (f, e) = none_or_some (rank_to_start s g) t in pair_turn s st h g f x e
 
--- so many pairs at most
+-- at most the given number of pairs
 pub some_pairs : (s : ScriptModel) (st : Sched) (n : ℕ) (h : List Entry) → Rests s h st → Reaches s (AtMost n (has_first s) (Pair s)) h st
 some_pairs s st zero h r = record { past = h; way = refl; rests = r; keeps = keeps_all h }
 some_pairs s st (suc n) h r = by_test (has_first s h) (more (some_pairs s st n)) (λ f. record { past = h; way = where_false (has_first s) (Then (Pair s) (AtMost n (has_first s) (Pair s))) Stays h h f refl; rests = r; keeps = keeps_all h })

@@ -32,7 +32,7 @@ pub record Follows (P : Way) (r q : WalkState) : Type 0 where
   pub written : q.written ≡ r.written
   pub way : P r.script r.past q.past
 
--- the second run lies on the way from the first: what was played is a beginning of what the way brings
+-- the second run lies on the way from the first: what was played is a prefix of what the way brings
 pub record IsOnWay (P : Way) (r q : WalkState) : Type 0 where
   pub same : q.script ≡ r.script
   pub written : q.written ≡ r.written

@@ -36,7 +36,7 @@ pub trait Compositor {
         requires { actor_for kind ≡ Some actor }
         ensures { WalkEnters kind actor (run self.old) (run self.new) result };
 
-    /// Whether the pending commit can be activated. An error is want of memory. Nothing is entered.
+    /// Whether the pending commit can be activated. An error means out of memory. Nothing is entered.
     fn can_activate(&mut self) -> Result<bool, AllocError>
         ensures same { run self.new ≡ run self.old }
         ensures answer { IfOk result (λ answer. answer ≡ is_possible (run self.old).script kind.Activate 0 (run self.old).past) };
@@ -49,7 +49,7 @@ pub trait Compositor {
     fn waits(&self) -> bool
         ensures { result ≡ is_waiting (run self.now).past };
 
-    /// Whether a tile may start. An error is want of memory. Nothing is entered.
+    /// Whether a tile may start. An error means out of memory. Nothing is entered.
     fn has_first(&mut self) -> Result<bool, AllocError>
         ensures same { run self.new ≡ run self.old }
         ensures answer { IfOk result (λ answer. answer ≡ is_tile_first (run self.old).script (run self.old).past) };
@@ -67,7 +67,7 @@ pub trait Compositor {
         ensures { result ≡ (run self.now).script.raster_per_frame };
 
     /// Lets the main side run the frame that was sent last, and answers whether it changes something. An
-    /// error is want of memory. Nothing is entered.
+    /// error means out of memory. Nothing is entered.
     fn changes(&mut self) -> Result<bool, AllocError>
         ensures same { run self.new ≡ run self.old }
         ensures answer { IfOk result (λ answer. (k : ℕ) → newest sends (run self.old).past ≡ Some k → answer ≡ frame_changes (run self.old).script (pulls_of (run self.old).past) k) };

@@ -33,7 +33,7 @@ fn start_and_make<C: Compositor>(core: &mut C) -> Result<(), AllocError>
     enter(core, Kind::Done, 2)
 }
 
-/// Starts and makes the tile that is first, which may be made ahead together with those behind it.
+/// Starts and makes the tile that is first, which may be made ahead together with those after it.
 pub(crate) fn pair<R: Threads + Sync, C: Compositor>(rt: &R, core: &mut C) -> Result<(), AllocError>
     requires can { CanFollow Pair (C.run core.old) }
     ensures ok { OnOk result (Follows Pair (C.run core.old) (C.run core.new)) }
@@ -73,7 +73,7 @@ pub(crate) fn make_all<R: Threads + Sync, C: Compositor>(
     Ok(())
 }
 
-/// Makes at most so many tiles.
+/// Makes at most the given number of tiles.
 pub(crate) fn make_some<R: Threads + Sync, C: Compositor>(
     rt: &R,
     core: &mut C,

@@ -77,7 +77,7 @@ fn settle<R: Threads + Sync, C: Compositor>(rt: &R, core: &mut C) -> Result<(), 
 }
 
 /// Plays what an input brings, which the run is to be able to follow. On an error memory was refused, and
-/// what was played since is a beginning of that.
+/// what was played since is a prefix of that.
 pub fn play_input<R: Threads + Sync, C: Compositor>(
     rt: &R,
     core: &mut C,
@@ -139,7 +139,7 @@ fn rounds_until_end<R: Threads + Sync, C: Compositor>(
 }
 
 /// Plays the rounds that are left after all inputs, and ends the run. On an error memory was refused, and
-/// what was played since is a beginning of that.
+/// what was played since is a prefix of that.
 pub fn end_run<R: Threads + Sync, C: Compositor>(rt: &R, core: &mut C) -> Result<(), AllocError>
     requires can { CanFollow run_end (C.run core.old) }
     ensures ok { OnOk result (Follows run_end (C.run core.old) (C.run core.new)) }
@@ -152,7 +152,7 @@ pub fn end_run<R: Threads + Sync, C: Compositor>(rt: &R, core: &mut C) -> Result
 /// Plays an accepted script, of which nothing was played yet, to its end.
 ///
 /// What is played then is the script's lockstep history. On an error memory was refused, and what was
-/// played is a beginning of that history.
+/// played is a prefix of that history.
 pub fn play_script<R: Threads + Sync, C: Compositor>(
     rt: &R,
     core: &mut C,

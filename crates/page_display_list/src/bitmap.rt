@@ -69,7 +69,7 @@ fn bytes_of(w: i32, h: i32) -> Option<usize>
     }
 }
 
-/// How far behind the start of a span one of its numbers lies.
+/// How far after the start of a span one of its numbers lies.
 #[tactic(auto, unfolding(geom::specs::Covers::within))]
 fn distance_in(at: i32, len: i32, p: i32) -> usize
     requires span { IsSpan at len }

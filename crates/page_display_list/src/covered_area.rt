@@ -29,7 +29,7 @@ pub struct CoveredArea {
     pub above: usize,
 }
 
-/// The number behind the last of a span.
+/// The number after the last of a span.
 fn end_of(at: i32, len: i32) -> i32
     requires { IsSpan at len }
     ensures { result ≡ at +ℤ len }
@@ -37,7 +37,7 @@ fn end_of(at: i32, len: i32) -> i32
     at + len
 }
 
-/// How far a number is behind another.
+/// How far a number is after another.
 fn gap(from: i32, to: i32) -> usize
     requires { from ≤ℤ to }
     ensures { from +ℤ pos result ≡ to }

@@ -5,15 +5,15 @@
 #![tactic(auto)]
 
 mod bitmap;
+mod covered_area;
 mod item;
 mod list;
-mod covered_area;
 mod raster;
 
 pub use bitmap::{BadBitmap, Bitmap, BitmapCause};
+pub use covered_area::{CoveredArea, shared_part};
 pub use item::Item;
 pub use list::DisplayList;
-pub use covered_area::{CoveredArea, shared_part};
 
 #[cfg(test)]
 mod tests;

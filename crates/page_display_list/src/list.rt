@@ -65,9 +65,9 @@ impl DisplayList {
         self.items.as_slice()
     }
 
-    /// Puts an item before that at `at`, or behind the last.
+    /// Puts an item before that at `at`, or after the last.
     ///
-    /// Want of memory hands the item back and leaves the list as it was.
+    /// Running out of memory hands the item back and leaves the list as it was.
     pub fn insert(&mut self, at: usize, item: Item) -> Result<(), (AllocError, Item)>
         requires place { at ≤ length self.old }
         requires room { length self.old < 256 }

@@ -9,8 +9,8 @@ ghost use Rattle.page_display_list.specs.Bitmaps.{near, byte_count};
 ghost use Rattle.page_display_list.specs.Content.{painted, IsSoundItem};
 
 use crate::bitmap::Bitmap;
-use crate::item::Item;
 use crate::covered_area::{CoveredArea, shared_part};
+use crate::item::Item;
 use geom::Rect;
 use pixel::{Colour, colour_over_area, fill_area, image_over_area};
 use std::alloc::{AllocError, Global};
@@ -39,7 +39,7 @@ pub(crate) fn height_of(area: Rect) -> usize
     side(area.h)
 }
 
-/// So many transparent pixels.
+/// The given number of transparent pixels.
 pub(crate) fn clear_pixels(alloc: Global, count: usize) -> Result<Vec<u8>, AllocError>
     requires { count ≤ 2 ^ 60 }
     ensures size { IfOk result (λ bytes. length bytes.items ≡ 4 * count) }

@@ -26,12 +26,12 @@ AreDistinctNumbers (n ∷ ns) = (stands_in ns n ≡ false) × AreDistinctNumbers
 abbrev pub AreScrollersOf : Page → List ℕ → Type 0
 AreScrollersOf p ns = (n : ℕ) → stands_in ns n ≡ true → has_scroller p n ≡ true
 
--- a scroller that took so much is then at the end of its range in that direction
+-- a scroller that took this much is then at the end of its range in that direction
 pub record IsAtEnd (p : Page) (offset : ℕ → Point) (sc : ℕ) (ax : Axis) (asked by : ℤ) : Type 0 where
   pub forwards : pos 0 <ℤ asked → along ax (offset sc) +ℤ by ≡ pos (most p sc ax)
   pub backwards : asked <ℤ pos 0 → along ax (offset sc) +ℤ by ≡ pos 0
 
--- where a scroller behind these takes anything, each of these is then at the end of its range in the direction of what is asked
+-- where a scroller after these takes anything, each of these is then at the end of its range in the direction of what is asked
 abbrev pub TakeInTurn : Page → (ℕ → Point) → Axis → Type 0
 TakeInTurn p offset ax =
     (before : List ℕ) (b : ℕ) (between : List ℕ) (sc : ℕ) (asked : ℤ)

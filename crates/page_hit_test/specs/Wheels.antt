@@ -12,7 +12,7 @@ use Rattle.page_layers.specs.Wheels.{wheel_parts, wheel_rest}
 use Rattle.page_hit_test.specs.declared.parts.WheelPart.{WheelPart}
 use Rattle.page_hit_test.specs.declared.wheels.Wheel.{Wheel}
 
--- the part of a scroller that moves by so much
+-- the part of a scroller that moves by this much
 abbrev pub wheel_part : ℕ → ℤ → ℤ → WheelPart
 wheel_part sc dx dy = record { scroller = sc; by = record { x = dx; y = dy } }
 
@@ -29,7 +29,7 @@ pub record IsAmount (z : ℤ) : Type 0 where
   pub least : neg_ℤ (pos max_scroll) ≤ℤ z
   pub greatest : z ≤ℤ pos max_scroll
 
--- what a wheel of so much at a point does
+-- what a wheel of this much at a point does
 pub record IsWheel (p : Page) (offset : ℕ → Point) (x y dx dy : ℤ) (w : Wheel) : Type 0 where
   pub hits : w.target ≡ target p offset x y
   pub parts : map part_move w.parts ≡ wheel_parts p offset x y dx dy

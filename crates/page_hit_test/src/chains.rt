@@ -57,7 +57,7 @@ fn transform_of(layers: &[Layer], id: u32) -> Option<u32>
 }
 
 /// The scrollers that take a wheel over a layer, the nearest first; none where no transform above the
-/// layer names a scroller, and where there is no such layer. An error is want of memory.
+/// layer names a scroller, and where there is no such layer. An error means out of memory.
 pub fn chain(alloc: Global, tree: &LayerTree, layer: u32) -> Result<Vec<u32>, AllocError>
     ensures { IfOk result (λ chain. chain.items ≡ chain_at tree.now layer) }
 {

@@ -42,7 +42,7 @@ impl WheelParts {
         }
     }
 
-    /// Appends a part. An error is want of memory: it gives the part back, and the list is as it was.
+    /// Appends a part. An error means out of memory: it gives the part back, and the list is as it was.
     pub fn push(&mut self, part: WheelPart) -> Result<(), (AllocError, WheelPart)>
         ensures ok { OnOk result (self.new ≡ self.old ++ part ∷ []) }
         ensures err { OnErr result (self.new ≡ self.old) }
@@ -54,7 +54,7 @@ impl WheelParts {
         }
     }
 
-    /// A list of the same parts. An error is want of memory.
+    /// A list of the same parts. An error means out of memory.
     pub fn copy(&self) -> Result<WheelParts, AllocError>
         ensures { IfOk result (λ parts. parts ≡ self.now) }
     {
@@ -91,7 +91,7 @@ fn is_still_part(scroller: u32, dx: i32, dy: i32) -> bool
     dx == 0 && dy == 0
 }
 
-/// Appends what a scroller takes, where that is not (0, 0). An error is want of memory.
+/// Appends what a scroller takes, where that is not (0, 0). An error means out of memory.
 pub(crate) fn push_moving(
     parts: &mut WheelParts,
     scroller: u32,

@@ -29,7 +29,7 @@ fn scroll_offset(offsets: &Offsets, scroller: u32) -> Point
     }
 }
 
-// A coordinate of what stands in something, behind an offset.
+// A coordinate of what stands in something, after an offset.
 fn added(above: i32, at: i32, offset: i32) -> i32
     requires own { FitsSigned w32 (at -ℤ offset) }
     requires all { FitsSigned w32 (above +ℤ (at -ℤ offset)) }

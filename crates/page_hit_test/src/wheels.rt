@@ -37,7 +37,7 @@ fn clamp_to(most: u32, value: i32) -> i32
     value.min(most as i32).max(0)
 }
 
-// How far a number moves where so much is asked, in a range with this end.
+// How far a number moves where this much is asked, in a range with this end.
 fn moved_within(most: u32, at: i32, asked: i32) -> i32
     requires range { most ≤ 2 ^ 20 }
     requires low { pos 0 ≤ℤ at }
@@ -96,7 +96,7 @@ fn taken(tree: &LayerTree, offsets: &Offsets, scroller: u32, asked_x: i32, asked
     taken_by(node, offsets.get(scroller), asked_x, asked_y)
 }
 
-// What the scrollers of a chain take in turn, and what they leave. An error is want of memory.
+// What the scrollers of a chain take in turn, and what they leave. An error means out of memory.
 fn parts_along(
     alloc: Global,
     tree: &LayerTree,
@@ -130,9 +130,9 @@ fn parts_along(
     ))
 }
 
-/// What a wheel of so much at a point of the screen does: the layer that it hits, and what the scrollers
+/// What a wheel of this much at a point of the screen does: the layer that it hits, and what the scrollers
 /// of its chain take in turn. Each offset is in its scroller's range, and at most 1048576 is asked along
-/// each axis, in either direction. An error is want of memory.
+/// each axis, in either direction. An error means out of memory.
 pub fn wheel_parts(
     alloc: Global,
     tree: &LayerTree,

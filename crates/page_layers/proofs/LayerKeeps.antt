@@ -117,7 +117,7 @@ distinct-changed p f keeps (l ∷ ls) d = go (p l) (distinct-changed p f keeps l
     go true rest = (ap (λ (n : ℕ). has_layer n ls) (keeps l) ∙ d.0, d.1)
     go false rest = (has_layer-changed l.id p f keeps ls ∙ d.0, rest)
 
--- a layer that is not there is not behind the first, and is not the first
+-- a layer that is not there is not after the first, and is not the first
 absent-tail : (x : ℕ) (l : PageLayer) (ls : List PageLayer) → has_layer x (l ∷ ls) ≡ false → has_layer x ls ≡ false
 absent-tail x l ls h = go (l.id == x) h
   where
@@ -132,7 +132,7 @@ absent-head x l ls h = go (l.id == x) h
     go true h = absurd (cc)
     go false h = refl
 
--- a layer is not there where it is neither the first nor behind it
+-- a layer is not there where it is neither the first nor after it
 pub absent-both : (x : ℕ) (l : PageLayer) (ls : List PageLayer) → (l.id == x) ≡ false → has_layer x ls ≡ false → has_layer x (l ∷ ls) ≡ false
 absent-both x l ls e h = ap (λ (a : Bool). is_some (cond a (Some l) (find (has_id x) ls))) e ∙ h
 

@@ -19,7 +19,7 @@ record Within (some all : List ℕ) : Type 0 where
   pub same : (k : ℕ) → k < length some → slice_index some k ≡ slice_index all (place k)
   pub order : (i j : ℕ) → i ≤ j → place i ≤ place j
 
--- places behind one more element
+-- places after one more element
 abbrev up : (ℕ → ℕ) → ℕ → ℕ
 up g zero = zero
 up g (suc k) = suc (g k)

@@ -133,7 +133,7 @@ known_found {N} id nodes h = go (find id nodes) h
     go (Some n) h = (n, refl)
     go None h = absurd (cc)
 
--- a change where a walk from the front has come to the first entry with the id
+-- a change where a walk from the start has come to the first entry with the id
 pub changed_here : {N : Type 0} (id : ℕ) (n : N) (xs all : List (ℕ × N)) (i : ℕ) (d : ℕ × N) → i < length xs → ((get_or xs i d).0 == id) ≡ true → take i xs ++ with_node_changed id (λ m. n) (drop i xs) ≡ all → set xs i ((get_or xs i d).0, n) ≡ all
 changed_here {N} id n xs all i d lt here rest =
     set_split xs i ((get_or xs i d).0, n) lt

@@ -64,7 +64,7 @@ module _ {A : Type 0} (groups_of : A → List ℕ) (colour_of : A → Parts) whe
       step items n rest [] at = refl
       step items n rest (f ∷ fs) at = pick items n rest f fs (e == f) (λ h. grind (arith, nat_tests, h)) (drop_one depth f (groups_of l) fs at)
 
-  -- the layers behind that run make what follows the group
+  -- the layers after that run make what follows the group
   pub after_is : (e depth : ℕ) (ls : List A) → after_group e (items_at groups_of colour_of depth ls) ≡ items_at groups_of colour_of depth (drop (prefix_len (lies_in groups_of depth e) ls) ls)
   after_is e depth [] = refl
   after_is e depth (l ∷ more) = step (items_at groups_of colour_of depth more) refl (prefix_len (lies_in groups_of depth e) more) (after_is e depth more) (drop depth (groups_of l)) refl

@@ -187,7 +187,7 @@ set_range_facts p id max_x max_y ok =
 
 -- ---- items
 
--- what is found has so many items
+-- what is found has the given number of items
 count_found : (o : Option PageLayer) (n : ℕ) (P : ℕ → Type 0) → count_in o ≡ Ok n → P n → IfSome o (λ l. P (length l.items))
 count_found None n P e h = absurd (cc)
 count_found (Some l) n P e h = let same : length l.items ≡ n = cc in subst P (sym same) h

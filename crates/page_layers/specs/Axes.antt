@@ -24,7 +24,7 @@ abbrev pub amount_in : ℕ → Axis → List Move → ℤ
 amount_in sc ax [] = pos 0
 amount_in sc ax (m ∷ ms) = cond (m.scroller == sc) (amount ax m) (amount_in sc ax ms)
 
--- the move of a scroller by so much along each axis
+-- the move of a scroller by this much along each axis
 abbrev pub move_of : (ℕ → Axis → ℤ) → ℕ → Move
 move_of f sc = record { scroller = sc; dx = f sc across; dy = f sc down }
 

@@ -34,6 +34,6 @@ main_value p sc ax = along ax (main_point p sc)
 abbrev pub offsets_in : Page → (ℕ → Axis → ℤ) → ℕ → Point
 offsets_in p at sc = cond (has_scroller p sc) (record { x = at sc across; y = at sc down }) origin
 
--- how far a scroller of the page at this number moves where so much is asked: as far as its range allows
+-- how far a scroller of the page at this number moves where this much is asked: as far as its range allows
 abbrev pub amount_taken : Page → (ℕ → Axis → ℤ) → ℕ → Axis → ℤ → ℤ
 amount_taken p at sc ax asked = cond (has_scroller p sc) (clamp_to (most p sc ax) (at sc ax +ℤ asked) -ℤ at sc ax) (pos 0)

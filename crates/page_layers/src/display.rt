@@ -142,7 +142,8 @@ fn replace_in(
     Ok(())
 }
 
-/// Inserts an item into the display list of the layer with this id. Want of memory leaves the layers as they were.
+/// Inserts an item into the display list of the layer with this id. Running out of memory leaves the layers
+/// as they were.
 #[tactic(auto, using(crate::proofs::LayerPlaces::not_changed))]
 pub(crate) fn insert(
     layers: &mut Vec<Layer>,
@@ -165,7 +166,8 @@ pub(crate) fn insert(
     }
 }
 
-/// Removes an item of the display list of the layer with this id. Want of memory leaves the layers as they were.
+/// Removes an item of the display list of the layer with this id. Running out of memory leaves the layers as
+/// they were.
 #[tactic(auto, using(crate::proofs::LayerPlaces::not_changed))]
 pub(crate) fn remove(layers: &mut Vec<Layer>, id: u32, at: usize) -> Result<(), AllocError>
     requires { IfSome (find (has_id id) (map parts_of layers.old.items)) (λ l. at < length l.items) }
@@ -182,7 +184,8 @@ pub(crate) fn remove(layers: &mut Vec<Layer>, id: u32, at: usize) -> Result<(), 
     }
 }
 
-/// Replaces an item of the display list of the layer with this id. Want of memory leaves the layers as they were.
+/// Replaces an item of the display list of the layer with this id. Running out of memory leaves the layers as
+/// they were.
 #[tactic(auto, using(crate::proofs::LayerPlaces::not_changed))]
 pub(crate) fn replace(
     layers: &mut Vec<Layer>,

@@ -19,8 +19,8 @@ fn put_first(groups: &mut Vec<Group>, effect: u32, opacity: u8) -> Result<(), Al
     Ok(())
 }
 
-/// The effects below 255 from this one up to the root, the outermost first, with their opacities. An
-/// error is want of memory.
+/// The effects below 255 from this one up to the root, the outermost first, with their opacities. An error
+/// means out of memory.
 pub fn groups_of(
     alloc: Global,
     props: &PropertyTrees,

@@ -55,7 +55,7 @@ fn take_out(layers: &mut Vec<Layer>, place: usize)
     layers.remove(place);
 }
 
-/// Puts a layer in at a place. Want of memory leaves the layers as they were.
+/// Puts a layer in at a place. Running out of memory leaves the layers as they were.
 pub(crate) fn put_in(layers: &mut Vec<Layer>, at: usize, layer: Layer) -> Result<(), AllocError>
     requires { at ≤ length layers.old.items }
     ensures ok { OnOk result (map parts_of layers.new.items ≡ insert (map parts_of layers.old.items) at (parts_of layer)) }

@@ -38,7 +38,7 @@ fn lies_inside(sample: &LayerSample, depth: usize, effect: u32) -> bool
     }
 }
 
-// How many layers from the front on lie in this effect's group.
+// How many layers from the first on lie in this effect's group.
 fn run_len(samples: &[LayerSample], depth: usize, effect: u32) -> usize
     ensures value { result ≡ prefix_len (lies_in groups_of depth effect) samples.now }
     ensures within { result ≤ length samples.now }

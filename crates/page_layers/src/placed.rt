@@ -114,7 +114,7 @@ fn cut(rect: Rect, clip: Option<Rect>) -> Rect
     }
 }
 
-/// A layer of a tree in its place at these offsets. The layer's sides are 1 to 16384. An error is want of
+/// A layer of a tree in its place at these offsets. The layer's sides are 1 to 16384. An error means out of
 /// memory.
 pub(crate) fn placed(
     alloc: Global,

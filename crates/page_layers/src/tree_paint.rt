@@ -104,7 +104,7 @@ fn set_colours(layers: &[PlacedLayer], samples: &mut [LayerSample], tile: u32, x
 
 impl Painting {
     /// The tree made ready, at these offsets of its scrollers and with the tiles of these keys missing,
-    /// whatever their stamps. Each offset is from 0 to 1048576 on both axes. An error is want of memory.
+    /// whatever their stamps. Each offset is from 0 to 1048576 on both axes. An error means out of memory.
     pub fn new(
         alloc: Global,
         tree: &LayerTree,
@@ -147,7 +147,7 @@ impl Painting {
 
 /// What the screen shows at one point of a tree, at these offsets of its scrollers, over this
 /// background, and with the tiles of these keys missing. Each offset is from 0 to 1048576 on both axes,
-/// and both coordinates are from 0 to 2047. An error is want of memory. For many points of one picture
+/// and both coordinates are from 0 to 2047. An error means out of memory. For many points of one picture
 /// make a [`Painting`].
 pub fn paint_at(
     alloc: Global,

@@ -26,7 +26,7 @@ fn offsets_of(alloc: Global, values: &[(u32, Point)]) -> Result<Offsets, AllocEr
 }
 
 /// The main scroll values of a tree as offsets: each scroller's own, and (0, 0) for what is no scroller
-/// of the tree. An error is want of memory.
+/// of the tree. An error means out of memory.
 pub fn main_offsets(alloc: Global, tree: &LayerTree) -> Result<Offsets, AllocError>
     ensures values { IfOk result (λ offsets. (id : ℕ) → offset_at offsets id ≡ main_point tree.now id) }
     ensures in_range { IfOk result (λ offsets. AreOffsets (offset_at offsets)) }

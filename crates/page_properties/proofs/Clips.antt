@@ -10,7 +10,7 @@ use Rattle.geom.proofs.Spans.{inside, is_within_of, first_holds, within_none, co
 use Rattle.geom.proofs.Spans as spans
 use Rattle.page_properties.specs.Placement.{both}
 
--- a rect that has a point, or the one that stands for all that have none
+-- a rect that has a point, or the one that represents all that have none
 abbrev pub IsNormal : Rect → Type 0
 IsNormal r = (r ≡ empty_rect) ⊎ ((pos 0 <ℤ r.w) × (pos 0 <ℤ r.h))
 

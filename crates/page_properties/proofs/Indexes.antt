@@ -23,7 +23,7 @@ smaller_first id (s ∷ ss) r zero (suc j) d le lt e =
 smaller_first id (s ∷ ss) r (suc i) zero d le lt e = absurd (omega arith)
 smaller_first id (s ∷ ss) r (suc i) (suc j) d le lt e = smaller_first id ss r.1 i j d (omega arith) (omega arith) e
 
--- the place between those that pass and those that fail is the length of the front that passes
+-- the place between those that pass and those that fail is the length of the prefix that passes
 point_is : (p : IndexEntry → Bool) (entries : List IndexEntry) (i : ℕ) → IsPartitionPoint (λ s. p s ≡ true) (λ s. p s ≡ false) entries i → i ≤ length entries
     → i ≡ prefix_len p entries
 point_is p [] zero s h = refl
@@ -39,7 +39,7 @@ pub point_is_front : (id : ℕ) (entries : List IndexEntry) (i : ℕ) → IsPart
 unfolding front
 point_is_front id entries i s h = point_is (λ s. nat_lt s.id id) entries i s h
 
--- inserting behind the smaller ids is `put`
+-- inserting after the smaller ids is `put`
 insert_by : (s x : IndexEntry) (xs : List IndexEntry) (n : ℕ) (t : Bool) → insert xs n s ≡ put s xs
     → insert (x ∷ xs) (cond t (1 + n) 0) s ≡ cond t (x ∷ put s xs) (s ∷ x ∷ xs)
 insert_by s x xs n true e = let one : 1 + n ≡ suc n = omega arith in rw one (ap (λ l. x ∷ l) e)
@@ -70,7 +70,7 @@ found_by id x xs n (inl l) a e =
 found_by id x xs n (inr l) a e =
     let u : nat_lt x.id id ≡ false = grind (arith, nat_tests) in rw (u, none_above id x.id xs l a) refl
 
--- the entry behind the smaller ids is the one with the id, where there is one
+-- the entry after the smaller ids is the one with the id, where there is one
 pub entry_found : (id : ℕ) (entries : List IndexEntry) → AreRising entries
     → listed_place id entries ≡ named id (slice_get entries (front id entries))
 unfolding front

@@ -60,7 +60,7 @@ impl<N: Copy> Family<N> {
         }
     }
 
-    /// Adds a node under a new id. An error is want of memory and leaves the family as it was.
+    /// Adds a node under a new id. An error means out of memory and leaves the family as it was.
     pub fn add(&mut self, id: u32, node: N) -> Result<(), AllocError>
         requires { knows id self.old ≡ false }
         ensures { self.new ≡ (if is_ok result then (id, node) ∷ self.old else self.old) }
@@ -109,7 +109,7 @@ impl<N: Copy> Family<N> {
         &self.nodes
     }
 
-    /// A family of the same nodes. An error is want of memory.
+    /// A family of the same nodes. An error means out of memory.
     pub fn copy(&self) -> Result<Family<N>, AllocError>
         ensures { IfOk result (λ f. f ≡ self.now) }
     {

@@ -33,7 +33,7 @@ impl Offsets {
         }
     }
 
-    /// Gives the scroller `id` the offset `p`. An error is want of memory; the map is then as it was.
+    /// Gives the scroller `id` the offset `p`. An error means out of memory; the map is then as it was.
     pub fn set(&mut self, id: u32, p: Point) -> Result<(), AllocError>
         ensures offsets { (k : ℕ) → offset_at self.new k ≡ (if is_ok result && k == id then p else offset_at self.old k) }
         ensures unchanged { OnErr result (self.new ≡ self.old) }

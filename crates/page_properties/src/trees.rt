@@ -52,7 +52,7 @@ impl PropertyTrees {
         }
     }
 
-    /// Adds a transform under a new id. An error is want of memory; the trees are then as they were.
+    /// Adds a transform under a new id. An error means out of memory; the trees are then as they were.
     pub fn add_transform(&mut self, id: u32, node: TransformNode) -> Result<(), AllocError>
         requires joins { MayJoinTransforms id node self.old.transforms }
         requires scroller_known { IsTrue (is_known node.scroller self.old.scrollers) }
@@ -61,7 +61,7 @@ impl PropertyTrees {
         self.transforms.add(id, node)
     }
 
-    /// Adds a clip under a new id. An error is want of memory; the trees are then as they were.
+    /// Adds a clip under a new id. An error means out of memory; the trees are then as they were.
     pub fn add_clip(&mut self, id: u32, node: ClipNode) -> Result<(), AllocError>
         requires joins { MayJoinClips id node self.old.clips }
         requires transform_known { IsTrue (is_known node.transform self.old.transforms) }
@@ -70,7 +70,7 @@ impl PropertyTrees {
         self.clips.add(id, node)
     }
 
-    /// Adds an effect under a new id. An error is want of memory; the trees are then as they were.
+    /// Adds an effect under a new id. An error means out of memory; the trees are then as they were.
     pub fn add_effect(&mut self, id: u32, node: EffectNode) -> Result<(), AllocError>
         requires { MayJoinEffects id node self.old.effects }
         ensures { self.new ≡ (if is_ok result then record self.old { effects = (id, node) ∷ self.old.effects } else self.old) }
@@ -78,7 +78,7 @@ impl PropertyTrees {
         self.effects.add(id, node)
     }
 
-    /// Adds a scroller under a new id. An error is want of memory; the trees are then as they were.
+    /// Adds a scroller under a new id. An error means out of memory; the trees are then as they were.
     pub fn add_scroller(&mut self, id: u32, node: ScrollNode) -> Result<(), AllocError>
         requires { MayJoinScrollers id node self.old.scrollers }
         ensures { self.new ≡ (if is_ok result then record self.old { scrollers = (id, node) ∷ self.old.scrollers } else self.old) }
@@ -246,7 +246,7 @@ impl PropertyTrees {
         let _ = &self.transforms;
     }
 
-    /// The same trees. An error is want of memory.
+    /// The same trees. An error means out of memory.
     pub fn copy(&self) -> Result<PropertyTrees, AllocError>
         ensures { IfOk result (λ t. t ≡ self.now) }
     {

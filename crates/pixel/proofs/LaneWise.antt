@@ -322,7 +322,7 @@ filled_lanes c old new at fit whole count lanes = record {
   behind = λ i le. get_or-put_chunk_above at old new i 0 (omega arith);
 }
 
--- the bytes of so many pixels of one colour
+-- the bytes of the given number of pixels of one colour
 abbrev pub repeated : ℕ → Parts → List ℕ
 repeated zero c = []
 repeated (suc n) c = c.r ∷ c.g ∷ c.b ∷ c.a ∷ repeated n c

@@ -45,7 +45,7 @@ before_row w x y below xw less = grind arith
 behind_row : (w to above y from n x : ℕ) → to ≡ from + n → to ≤ w → above < y → above * w + from + n ≤ y * w + x
 behind_row w to above y from n x e le less = grind arith
 
--- a pixel of another row lies before or behind the next row's part
+-- a pixel of another row lies before or after the next row's part
 beside : (w h : ℕ) (at : Area) (r x y : ℕ) → x < w → IsInside at w h → (y < at.y + r) ⊎ (at.y + r < y)
     → (y * w + x < (at.y + r) * w + at.x) ⊎ ((at.y + r) * w + at.x + at.w ≤ y * w + x)
 beside w h at r x y xw inside (inl less) = let low = before_row w x y (at.y + r) xw less in inl (omega arith)

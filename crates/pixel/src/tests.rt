@@ -47,7 +47,7 @@ fn write_pixels(row: &mut [u8], alpha: u8) {
     }
 }
 
-/// Whether the kernels and the plain loops lay and fade so many pixels to the same bytes.
+/// Whether the kernels and the plain loops lay and fade the given number of pixels to the same bytes.
 fn is_same(alloc: Global, src: &mut [u8], count: usize, alpha: u8) -> Result<bool, AllocError>
     requires { 4 * count ≤ length src.old }
 {

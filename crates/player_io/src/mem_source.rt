@@ -25,7 +25,7 @@ pub struct MemSource {
     ghost moves: { 1 ≤ step },
 }
 
-/// Copies the first `count` bytes into the front of `buf`.
+/// Copies the first `count` bytes into the start of `buf`.
 fn copy_front(bytes: &[u8], buf: &mut [u8], count: usize)
     requires enough { count ≤ length bytes.now }
     requires fits { count ≤ length buf.old }

@@ -8,7 +8,7 @@ use std::test::Fail;
 /// What one call of a fake reader or writer does.
 #[derive(Clone, Copy)]
 enum Step {
-    /// Moves so many bytes.
+    /// Moves the given number of bytes.
     Moves(usize),
     Fails(ErrorKind),
 }

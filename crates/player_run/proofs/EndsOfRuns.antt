@@ -48,7 +48,7 @@ module _ (o : Origin) (run : Run) (at : IsRunAt o run) (q : Seat) (seen : q.seen
   abbrev text : List ℕ
   text = before ++ part run.script [] (pairs run.entries)
 
-  -- what was put is a front of the text, and so is what the sink gained of it
+  -- what was put is a prefix of the text, and so is what the sink gained of it
   less : (rest : List ℕ) → put ++ rest ≡ text → GainsPrefix first new put → GainsPrefix first new text
   less rest is g = (g.0, g.1 ++ rest, sym (append_assoc g.0 g.1 rest) ∙ (ap (λ (w : List ℕ). w ++ rest) g.2 ∙ is), g.3)
 

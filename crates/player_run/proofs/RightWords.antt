@@ -2,7 +2,7 @@
 use Rattle.std.proofs.Common.{◌≡◌, ℕ, ◌+◌, ◌-◌, ◌*◌, ◌≤◌, List, [], ◌∷◌, ap, sym, ◌∙◌, arith}
 use Rattle.player_run.specs.Words.{digits_value}
 
--- digits behind a number do not make it less
+-- digits after a number do not make it less
 pub value_grows : (n : ℕ) (cs : List ℕ) → n ≤ digits_value n cs
 value_grows n [] = omega arith
 value_grows n (c ∷ cs) = let more = value_grows (n * 10 + (c - 48)) cs in omega (arith, more)

@@ -10,7 +10,7 @@ entry_first [] at e is = absurd (cc is)
 entry_first (x ∷ xs) zero e is = cc is
 entry_first (x ∷ xs) (suc at) e is = entry_first xs at e is
 
--- none stands behind all
+-- none stands after all
 none_left : (xs : List Entry) (at : ℕ) → length xs ≤ at → drop at xs ≡ []
 none_left [] zero le = refl
 none_left [] (suc at) le = refl
@@ -37,7 +37,7 @@ images_whole xs at before whole le all = let none : image_count (drop at xs) ≡
 pub missing_whole : (xs : List Entry) (at before whole : ℕ) → length xs ≤ at → before + missing_count (drop at xs) ≡ whole → before ≡ whole
 missing_whole xs at before whole le all = let none : missing_count (drop at xs) ≡ 0 = ap missing_count (none_left xs at le) in omega (arith, none, all)
 
--- what is over with the entry in hand is over with all
+-- what is over with the current entry is over with all
 pub over_whole : (xs : List Entry) (at : ℕ) (e : Entry) (limit seen lacking : ℕ) → slice_get xs at ≡ Some e → seen + image_count (drop at xs) ≡ image_count xs → lacking + missing_count (drop at xs) ≡ missing_count xs → limit ≤ seen + images_in e.event ⊎ limit ≤ lacking + missing_in e.event → limit ≤ image_count xs ⊎ limit ≤ missing_count xs
 over_whole xs at e limit seen lacking is seen-all lacking-all (inl over) =
     let all : (seen + images_in e.event) + image_count (drop (at + 1) xs) ≡ image_count xs = images_more xs at e seen (seen + images_in e.event) (image_count xs) is refl seen-all in

@@ -17,7 +17,7 @@ took_nothing most None new kept = ([], tt, omega arith)
 took_nothing most (Some xs) None kept = absurd kept
 took_nothing most (Some xs) (Some ys) kept = ([], sym kept, omega arith)
 
--- the front of a list is no longer than it
+-- a prefix of a list is no longer than it
 take_short : (n : ℕ) (xs : List ℕ) → length (take n xs) ≤ length xs
 take_short zero xs = omega arith
 take_short (suc n) [] = omega arith
@@ -29,7 +29,7 @@ take_few zero xs = omega arith
 take_few (suc n) [] = omega arith
 take_few (suc n) (x ∷ xs) = let rest = take_few n xs in omega (arith, rest)
 
--- a front of a buffer was given
+-- a prefix of a buffer was given
 pub took_front : (most n : ℕ) (old new : Option (List ℕ)) (buffer : List ℕ) → Consumes old new (take n buffer) → length buffer ≤ most → TakenAtMost most old new
 took_front most n old new buffer gave few = (take n buffer, gave, omega (arith, take_short n buffer, few))
 

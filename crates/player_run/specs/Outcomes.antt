@@ -63,7 +63,7 @@ line_of (BadRecording place) = joined_texts (codes "cc: bad recording at " ∷ d
 line_of (No event) = joined_texts (codes "cc: event " ∷ decimal event ∷ codes " is wrong\n" ∷ [])
 line_of Memory = joined_texts (codes "cc: out of memory\n" ∷ [])
 
--- the notes gained the line; or a front of it, and one of their two counts rose
+-- the notes gained the line; or a prefix of it, and one of their two counts rose
 abbrev pub Told : Option (List ℕ) → Option (List ℕ) → ℕ → ℕ → ℕ → ℕ → List ℕ → Type 0
 Told old new faults_old faults_new refusals_old refusals_new line =
     Appends old new line ⊎ (GainsPrefix old new line × (Rose faults_old faults_new ⊎ Rose refusals_old refusals_new))

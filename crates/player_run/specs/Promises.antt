@@ -35,7 +35,7 @@ pub record StandsRight (s : ScriptModel) (h : List Entry) (sc : ℕ) (ax : Axis)
 abbrev pub StandRight : ScriptModel → List Entry → Type 0
 StandRight s h = (sc : ℕ) (ax : Axis) → StandsRight s h sc ax
 
--- a history of a script with so many raster workers, up to its end or not
+-- a history of a script with the given number of raster workers, up to its end or not
 pub record IsSoundHistory (s : ScriptModel) (workers : ℕ) (history : List Entry) : Type 0 where
   -- each entry is what is due after those before it
   pub legal : IsLegal s workers history
@@ -46,7 +46,7 @@ pub record IsSoundHistory (s : ScriptModel) (workers : ℕ) (history : List Entr
   -- after each prefix of it every scroller stands right
   pub offsets : (before after : List Entry) → before ++ after ≡ history → StandRight s (reverse before)
 
--- the history of a script that is played with so many raster workers
+-- the history of a script that is played with the given number of raster workers
 pub record IsPlayed (s : ScriptModel) (workers : ℕ) (history : List Entry) : Type 0 where
   pub sound : IsSoundHistory s workers history
   pub ends : HasEnded history

@@ -109,7 +109,7 @@ CauseFrom (Gen number) source result = IsUnread result
 CauseFrom (Demo number) source result = IsUnread result
 CauseFrom wanted source result = IfSome source (λ bytes. CauseOf wanted bytes result)
 
--- at most so many bytes were taken of a source
+-- at most the given number of bytes were taken of a source
 abbrev pub TakenAtMost : ℕ → Option (List ℕ) → Option (List ℕ) → Type 0
 TakenAtMost most old new = (bytes : List ℕ) × Consumes old new bytes × (length bytes ≤ most)
 
@@ -143,11 +143,11 @@ ReadToEnd Check left result = IsJudgedWhole left result
 abbrev pub IsScriptFrom : Option (List ℕ) → ScriptModel → Type 0
 IsScriptFrom source s = IsAccepted s × IfSome source (λ bytes. IsScriptText bytes s)
 
--- the recording of a script and of its history, as it is promised for so many raster workers
+-- the recording of a script and of its history, as it is promised for the given number of raster workers
 abbrev pub IsRunOf : ℕ → ScriptModel → List ℕ → Type 0
 IsRunOf workers s whole = (history : List Entry) × IsPromised s workers history × (whole ≡ recording s history)
 
--- the recording of a script and of a history that actors played, with so many raster workers
+-- the recording of a script and of a history that actors played, with the given number of raster workers
 abbrev pub IsPlayOf : ℕ → ScriptModel → List ℕ → Type 0
 IsPlayOf workers s whole = (history : List Entry) × IsPlayed s workers history × (whole ≡ recording s history)
 
@@ -178,7 +178,7 @@ abbrev pub IsBegun : Use → Option (List ℕ) → List ℕ → Type 0
 IsBegun (Play workers) source whole = (s : ScriptModel) × IsScriptFrom source s × IsPlayUpTo workers s whole
 IsBegun wanted source whole = IsOutput wanted source whole
 
--- what the sink gained: all that the use writes; a front of what it was writing; or nothing
+-- what the sink gained: all that the use writes; a prefix of what it was writing; or nothing
 abbrev pub Writes : Use → Option (List ℕ) → Option (List ℕ) → Option (List ℕ) → Outcome → Type 0
 Writes wanted source old new Done = (whole : List ℕ) × IsOutput wanted source whole × Appends old new whole
 Writes wanted source old new WriteFault = (whole : List ℕ) × IsBegun wanted source whole × GainsPrefix old new whole

@@ -22,7 +22,7 @@ few (Some n) = if nat_le 1 n && nat_le n 16 then Some n else None
 abbrev pub workers_in : List ℕ → Option ℕ
 workers_in w = few (number_in w)
 
--- the use, where no word stands behind its own; else the index of the next word
+-- the use, where no word stands after its own; else the index of the next word
 abbrev pub no_more_words : Use → ℕ → List (List ℕ) → Result Use ℕ
 no_more_words wanted index [] = Ok wanted
 no_more_words wanted index (w ∷ ws) = Err index
@@ -32,17 +32,17 @@ abbrev pub numbered : Option ℕ → (ℕ → Use) → List (List ℕ) → Resul
 numbered None wanted ws = Err 1
 numbered (Some n) wanted ws = no_more_words (wanted n) 2 ws
 
--- behind `step` stands the number of raster workers
+-- after `step` stands the number of raster workers
 abbrev pub after_step : List (List ℕ) → Result Use ℕ
 after_step [] = Err 1
 after_step (w ∷ ws) = numbered (workers_in w) Step ws
 
--- behind `play` too
+-- after `play` too
 abbrev pub after_play : List (List ℕ) → Result Use ℕ
 after_play [] = Err 1
 after_play (w ∷ ws) = numbered (workers_in w) Play ws
 
--- behind `gen` and `demo` stands the number of which the script is made
+-- after `gen` and `demo` stands the number of which the script is made
 abbrev pub after_gen : List (List ℕ) → Result Use ℕ
 after_gen [] = Err 1
 after_gen (w ∷ ws) = numbered (number_in w) Gen ws
@@ -51,7 +51,7 @@ abbrev pub after_demo : List (List ℕ) → Result Use ℕ
 after_demo [] = Err 1
 after_demo (w ∷ ws) = numbered (number_in w) Demo ws
 
--- what the words behind the first one, which is none of `step`, ask for
+-- what the words after the first one, which is none of `step`, ask for
 abbrev pub after_other : List ℕ → List (List ℕ) → Result Use ℕ
 after_other w ws =
     if bytes_eq w (codes "play") then after_play ws

@@ -16,7 +16,7 @@ use std::alloc::{AllocError, Global};
 use std::sync::{Arc, Wait};
 use thread_lock::{Pass, TurnLock};
 
-/// A lock round a new core, and those who take turns with it.
+/// A lock around a new core, and those who take turns with it.
 #[derive(Drop)]
 pub(crate) struct Crew<'g, G: Gate> {
     pub(crate) lock: TurnLock<Core>,
@@ -43,7 +43,7 @@ fn pass_of<R: Wait>(
     }
 }
 
-// The workers, each with its pass. An answer of None is want of memory, or a pass of another number.
+// The workers, each with its pass. An answer of None means out of memory, or a pass of another number.
 #[tactic(auto, using(crate::proofs::BeginsOfRuns::same_again))]
 fn workers_of<'g, R: Wait, G: Gate>(
     rt: &R,
@@ -68,7 +68,7 @@ fn workers_of<'g, R: Wait, G: Gate>(
     Some(workers)
 }
 
-// A lock round a new core of a script, and its first pass.
+// A lock around a new core of a script, and its first pass.
 fn lock_of(alloc: Global, script: Arc<Script>, count: u32) -> Option<(TurnLock<Core>, Pass<Core>)>
     requires { count ≤ 16 }
     ensures first { IfSome result (λ made. IsFirst made.0.id made.1) }
@@ -95,7 +95,8 @@ fn main_of<R: Wait>(
     Some(MainActor::new(pass, MainHost::new(alloc, script)))
 }
 
-/// The actors of a script with so many workers. An answer of None is want of memory, or a pass of another number.
+/// The actors of a script with the given number of workers. An answer of None means out of memory, or a pass
+/// of another number.
 pub(crate) fn crew_of<'g, R: Wait, G: Gate>(
     rt: &R,
     alloc: Global,

@@ -7,9 +7,9 @@ ghost use Rattle.player_run.specs.inner.Fragments.{fragment_text};
 ghost use Rattle.player_run.specs.inner.Outputs.{WritesSome};
 ghost use Rattle.player_run.specs.inner.Summaries.{IsDemoSummary, IsSummary, summary_line};
 
+use crate::draw_counts::tally_of;
 use crate::fragments::{Fragment, put_fragments};
 use crate::outcome::Outcome;
-use crate::draw_counts::tally_of;
 use model_history::Script;
 use player_io::{PutFault, Sink};
 use recording_sums::SumSink;

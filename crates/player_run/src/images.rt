@@ -1,4 +1,4 @@
-//! The images of a recording, written one behind the other.
+//! The images of a recording, written one after another.
 
 ghost use Rattle.std.specs.Prelude.{◌≡◌, ℕ, ◌≤◌, List, length, flat_map, Ok, IfSome};
 ghost use Rattle.recording_writer.specs.Writing.{PutsAll, WriteCause};
@@ -42,7 +42,7 @@ fn put_image<K: Sink>(out: &mut K, bytes: &[u8], span: ImageSpan) -> Result<(), 
     put_all(out, image_in(bytes, span))
 }
 
-// Puts images one behind the other, each as it stands in the recording.
+// Puts images one after another, each as it stands in the recording.
 fn put_images<K: Sink>(out: &mut K, bytes: &[u8], spans: &[ImageSpan]) -> Result<(), WriteStop>
     requires { AreWithin (length bytes.now) spans.now }
     ensures bytes { PutsAll (K.held out.old) (K.held out.new) (flat_map (span_bytes bytes.now) spans.now) result }

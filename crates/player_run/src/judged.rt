@@ -24,7 +24,7 @@ fn outcome_of(alloc: Global, bytes: &[u8]) -> Outcome
     }
 }
 
-/// Reads the source to its end, and judges the recording in it without the engine. Nothing is written.
+/// Reads the source to its end, and judges the recording in it without the core and what draws. Nothing is written.
 #[tactic(auto, using(crate::proofs::JudgedInputs::judged_input, crate::proofs::JudgedInputs::judged_words, crate::proofs::JudgedInputs::judged_silent, crate::proofs::JudgedInputs::judged_causes, crate::proofs::JudgedInputs::judged_end))]
 pub fn run_check<S: Source>(alloc: Global, source: &mut S) -> Outcome
     ensures words { TellsMisfit (Ok Use.Check) result }

@@ -9,6 +9,7 @@
 mod beside;
 mod crew;
 mod demo;
+mod draw_counts;
 mod fragments;
 mod generated;
 mod images;
@@ -21,7 +22,6 @@ mod play;
 mod program;
 mod script_input;
 mod step;
-mod draw_counts;
 mod threads;
 mod words;
 

@@ -33,7 +33,7 @@ pub enum Outcome {
     },
     /// The source failed.
     ReadFault,
-    /// The sink failed. What it gained is a front of what was to be written.
+    /// The sink failed. What it gained is a prefix of what was to be written.
     WriteFault,
     /// The source gave more than `limit` bytes.
     TooLong {

@@ -85,8 +85,8 @@ fn play<R: Threads + Wait + Sync, K: Sink + Send, G: Gate + Sync>(
     }
 }
 
-/// Plays the script of the source by actors on threads, so many raster workers among them, and writes its
-/// recording.
+/// Plays the script of the source by actors on threads, the given number of raster workers among them, and
+/// writes its recording.
 #[tactic(auto, using(crate::proofs::ScriptsActed::acted_output, crate::proofs::ScriptsActed::acted_cause, crate::proofs::ScriptsActed::acted_words))]
 pub fn run_play<R: Threads + Wait + Sync, S: Source, K: Sink + Send, G: Gate + Sync>(
     rt: &R,

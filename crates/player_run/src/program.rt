@@ -75,13 +75,13 @@ fn run_words<R: Threads + Wait + Sync, S: Source, K: Sink + Send, G: Gate + Sync
 /// Runs the program: does what the words ask with the bytes of the source, writes to `out`, and tells
 /// the notes how it ended.
 ///
-/// The words are those behind the program's name. `step N`, where N is 1 to 16, reads a script, plays it in
-/// lockstep with N raster workers and writes its recording, which is the same for every N. `play N` plays it by
-/// actors on threads of their own, N raster workers among them, and writes its recording; where a thread cannot be
-/// started, it does as `step N`. `frames` reads a recording and writes its images, one behind the other; `check`
-/// reads one and judges it without the engine, and writes nothing. `gen NUMBER` reads nothing and writes the
-/// canonical text of a number's script and a newline; `demo NUMBER` plays that script and writes a line that sums up
-/// its recording. NUMBER is a plain decimal below 2^64.
+/// The words are those after the program's name. `step N`, where N is 1 to 16, reads a script, plays it in
+/// lockstep with N raster workers and writes its recording, which is the same for every N. `play N` plays it
+/// by actors on threads of their own, N raster workers among them, and writes its recording; where a thread
+/// cannot be started, it does as `step N`. `frames` reads a recording and writes its images, one after
+/// another; `check` reads one and judges it without the core and what draws, and writes nothing. `gen NUMBER`
+/// reads nothing and writes the canonical text of a number's script and a newline; `demo NUMBER` plays that
+/// script and writes a line that sums up its recording. NUMBER is a plain decimal below 2^64.
 ///
 /// The source is read to its end, or to one byte beyond the limit: 16,777,216 bytes of a script,
 /// 268,435,456 of a recording. Refusals come in this order: the words (nothing is read then), the source,

@@ -21,7 +21,7 @@ fn done_with(_run: Recorded) -> Outcome
     Outcome::Done
 }
 
-/// Plays a script in lockstep with so many raster workers, and writes its recording.
+/// Plays a script in lockstep with the given number of raster workers, and writes its recording.
 pub(crate) fn play_lockstep<R: Threads + Sync, K: Sink>(
     rt: &R,
     alloc: Global,
@@ -61,7 +61,7 @@ fn play<R: Threads + Sync, K: Sink>(
     play_lockstep(rt, alloc, shared, workers, out)
 }
 
-/// Plays the script of the source in lockstep with so many raster workers, and writes its recording.
+/// Plays the script of the source in lockstep with the given number of raster workers, and writes its recording.
 #[tactic(auto, using(crate::proofs::ScriptsPlayed::script_output, crate::proofs::ScriptsPlayed::script_cause, crate::proofs::Outputs::some_words))]
 pub fn run_step<R: Threads + Sync, S: Source, K: Sink>(
     rt: &R,

@@ -10,7 +10,7 @@ ghost use Rattle.proxy_threads.specs.WorkTurns.{WorkIsReady};
 ghost use Rattle.player_run.specs.Runs.{Causes};
 ghost use Rattle.player_run.specs.inner.Actors.{HasRun, IsFirst, PlayEnds};
 
-use crate::beside::{Ran, run_beside, join_outcomes, take_back};
+use crate::beside::{Ran, join_outcomes, run_beside, take_back};
 use crate::crew::Crew;
 use crate::outcome::Outcome;
 use impl_core::Core;
@@ -148,7 +148,7 @@ fn run_scope<'g, R: Threads + Wait + Sync, G: Gate + Sync, K: Sink + Send>(
     ran
 }
 
-/// Runs the actors on threads, and writes behind what the ring has. An answer of None is that a thread could not
+/// Runs the actors on threads, and writes after what the ring has. An answer of None is that a thread could not
 /// be started, and nothing was written.
 pub(crate) fn run_crew<'g, R: Threads + Wait + Sync, G: Gate + Sync, K: Sink + Send>(
     rt: &R,

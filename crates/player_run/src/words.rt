@@ -32,7 +32,7 @@ pub enum Use {
     },
     /// `frames`: writes the images of a recording.
     Frames,
-    /// `check`: judges a recording without the engine.
+    /// `check`: judges a recording without the core and what draws.
     Check,
 }
 
@@ -43,7 +43,7 @@ fn is_same(a: &str, b: &str) -> bool
     a == b
 }
 
-// The next value, where a digit stands behind it; None where it does not fit.
+// The next value, where a digit stands after it; None where it does not fit.
 fn value_behind(value: u64, digit: u8) -> Option<u64>
     ensures { MatchOption result (2 ^ 64 ≤ value * 10 + (digit - 48)) (λ n. n ≡ value * 10 + (digit - 48)) }
 {
@@ -110,7 +110,7 @@ fn no_more(wanted: Use, index: u32, rest: &[String]) -> Result<Use, u32>
     }
 }
 
-// What the words behind `step` ask for, or the index of the first that does not fit.
+// What the words after `step` ask for, or the index of the first that does not fit.
 fn after_step(rest: &[String]) -> Result<Use, u32>
     ensures { result ≡ words.after_step (map string_bytes rest.now) }
 {
@@ -123,7 +123,7 @@ fn after_step(rest: &[String]) -> Result<Use, u32>
     }
 }
 
-// What the words behind `play` ask for, or the index of the first that does not fit.
+// What the words after `play` ask for, or the index of the first that does not fit.
 fn after_play(rest: &[String]) -> Result<Use, u32>
     ensures { result ≡ words.after_play (map string_bytes rest.now) }
 {
@@ -136,7 +136,7 @@ fn after_play(rest: &[String]) -> Result<Use, u32>
     }
 }
 
-// What the words behind `gen` ask for, or the index of the first that does not fit.
+// What the words after `gen` ask for, or the index of the first that does not fit.
 fn after_gen(rest: &[String]) -> Result<Use, u32>
     ensures { result ≡ words.after_gen (map string_bytes rest.now) }
 {
@@ -149,7 +149,7 @@ fn after_gen(rest: &[String]) -> Result<Use, u32>
     }
 }
 
-// What the words behind `demo` ask for, or the index of the first that does not fit.
+// What the words after `demo` ask for, or the index of the first that does not fit.
 fn after_demo(rest: &[String]) -> Result<Use, u32>
     ensures { result ≡ words.after_demo (map string_bytes rest.now) }
 {
@@ -162,7 +162,7 @@ fn after_demo(rest: &[String]) -> Result<Use, u32>
     }
 }
 
-// What the words behind a first word that is not `step` ask for, or the index of the first that does not
+// What the words after a first word that is not `step` ask for, or the index of the first that does not
 // fit.
 fn after_other(first: &str, rest: &[String]) -> Result<Use, u32>
     ensures { result ≡ words.after_other first.now (map string_bytes rest.now) }

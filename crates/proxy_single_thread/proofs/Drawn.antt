@@ -66,7 +66,7 @@ module _ (r new : Run) (k : Kind) (shown after : UnwrittenScenes) (same : after.
       drawn : DrawsScene r new scene → IsShown new after
       drawn d = shown_more r new 0 d.entered.event d.entered.is_entered shown after same are (entered_kind r new kind.Draw 0 d.entered) scene d.picture more
 
--- the scenes are those of the entries behind the written ones
+-- the scenes are those of the entries after the written ones
 pub scenes_fresh : (r : Run) (shown : UnwrittenScenes) → IsShown r shown → AreScenes r.script (length r.entries - shown.written) (past r) shown.scenes.items
 scenes_fresh r shown are =
     let count = are.count in

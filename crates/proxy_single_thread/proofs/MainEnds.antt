@@ -31,7 +31,7 @@ pub record IsHeld (r : Run) (side : MainSide) (e : MainEnd) : Type 0 where
   pub sent : is_sent (sched (past r)).main_state ≡ true
   pub behind : IsBehind r.script (pulls_of (past r)) (counted sends (past r)) side e
 
--- where a frame is in flight it is before or behind its run
+-- where a frame is in flight it is before or after its run
 in_flight : (r : Run) (side : MainSide) → IsMain r side → is_sent (sched (past r)).main_state ≡ true → (o : Option MainEnd) → side.end ≡ o
     → IsInFlight r.script (pulls_of (past r)) (counted sends (past r)) side o
 in_flight r side m t o is =

@@ -22,7 +22,7 @@ pub record SingleModel : Type 0 where
 abbrev pub walk_of : SingleModel → walks.WalkState
 walk_of m = record { script = m.run.script; past = past m.run; written = m.written }
 
--- the actor has events of this kind, where there are so many workers: the main side, a worker, anybody, or the compositor
+-- the actor has events of this kind, where there are that many workers: the main side, a worker, anybody, or the compositor
 abbrev pub HasKind : ℕ → Kind → ℕ → Type 0
 HasKind n kind.Ready a = a ≡ 1
 HasKind n kind.Abort a = a ≡ 1

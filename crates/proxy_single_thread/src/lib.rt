@@ -10,8 +10,8 @@ mod compositor;
 mod enter;
 mod main_side;
 mod prepared;
-mod unwritten_scenes;
 mod single;
+mod unwritten_scenes;
 mod workers;
 
 pub use single::SingleThread;

@@ -47,7 +47,7 @@ impl MainSide {
         }
     }
 
-    /// Runs the frame in flight, where there is one that was not run yet. An error is want of memory, and
+    /// Runs the frame in flight, where there is one that was not run yet. An error means out of memory, and
     /// nothing was run.
     pub(crate) fn run(&mut self, core: &Core) -> Result<(), AllocError>
         requires { IsMain core.now self.old }

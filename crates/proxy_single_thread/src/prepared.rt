@@ -67,8 +67,8 @@ impl Prepared {
         None
     }
 
-    /// The image of a job: the one that was made ahead for its key, or else the one that it makes. An error is
-    /// want of memory, and gives the job back.
+    /// The image of a job: the one that was made ahead for its key, or else the one that it makes. An error
+    /// means out of memory, and gives the job back.
     pub(crate) fn image_of(
         &mut self,
         alloc: Global,
@@ -94,7 +94,7 @@ impl Prepared {
     }
 
     /// After an event of the compositor itself: a commit and an activation change what comes next, so the images
-    /// are dropped; and a draw may start so many tiles.
+    /// are dropped; and a draw may start the given number of tiles.
     pub(crate) fn follow(&mut self, kind: Kind, raster_per_frame: u32)
         ensures { (s : ScriptModel) → ArePrepared s self.old.images.items → ArePrepared s self.new.images.items }
     {
@@ -105,9 +105,9 @@ impl Prepared {
         }
     }
 
-    // How many images are worth to be made ahead: four for each worker, but no more than are sure to be asked for.
-    // A draw starts so many tiles at most, what the budget has no room for may never start, and an activation waits
-    // for no more than it needs: there it is one for each worker.
+    // How many images are worth to be made ahead: four for each worker, but no more than are sure to be asked
+    // for. A draw starts at most the given number of tiles, what the budget has no room for may never start,
+    // and an activation waits for no more than it needs: there it is one for each worker.
     fn most(&self, core: &Core) -> u32
         requires { core.now.workers ≤ 16 }
     {
@@ -125,7 +125,7 @@ impl Prepared {
     }
 
     /// Makes the images of the tiles that come next, in at most as many parts as there are workers, where that of the
-    /// next one was not made. An error is want of memory, and the images are as they were.
+    /// next one was not made. An error means out of memory, and the images are as they were.
     pub(crate) fn prepare<R: Threads + Sync>(
         &mut self,
         rt: &R,

@@ -53,7 +53,7 @@ impl Drop for SingleThread {
 }
 
 impl SingleThread {
-    /// The compositor of a script with 1 to 16 workers, before anything was entered. An error is want of
+    /// The compositor of a script with 1 to 16 workers, before anything was entered. An error means out of
     /// memory.
     pub fn new(alloc: Global, script: Arc<Script>, workers: u32) -> Result<SingleThread, AllocError>
         requires { (1 ≤ workers) × (workers ≤ 16) }
@@ -100,7 +100,7 @@ impl SingleThread {
         self.shown.written
     }
 
-    /// The jobs of the first `most` keys that are to be made, as the core tells them. An error is want of memory.
+    /// The jobs of the first `most` keys that are to be made, as the core tells them. An error means out of memory.
     pub fn upcoming(&mut self, most: u32) -> Result<Vec<Job>, AllocError>
         ensures upcoming { IfOk result (λ jobs. AreUpcoming self.old.run most jobs.items) }
         ensures same { self.new ≡ self.old }
@@ -109,7 +109,7 @@ impl SingleThread {
     }
 
     /// Makes the images of the tiles that come next, in as many threads as there are workers. Nothing is entered:
-    /// the ends of those tiles use them. An error is want of memory.
+    /// the ends of those tiles use them. An error means out of memory.
     pub fn prepare<R: Threads + Sync>(&mut self, rt: &R) -> Result<(), AllocError>
         ensures { self.new ≡ self.old }
     {

@@ -22,7 +22,7 @@ pub(crate) struct Workers {
 }
 
 impl Workers {
-    /// So many workers, which hold nothing. An error is want of memory.
+    /// The given number of workers, which hold nothing. An error means out of memory.
     pub(crate) fn new(alloc: Global, count: u32) -> Result<Workers, AllocError>
         ensures { IfOk result (λ workers. (s : ScriptModel) → AreWorkers (new_run s count) workers) }
     {

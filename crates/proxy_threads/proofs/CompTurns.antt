@@ -52,7 +52,7 @@ take_whole (x ∷ xs) = ap (λ ys. x ∷ ys) (take_whole xs)
 
 -- ---- what was played
 
--- an own event was entered last
+-- an event of its own was entered last
 pub plays_steps : (old new : Run) (x : Played) → Plays old new x → Steps 0 old new
 plays_steps old new played.Ended p = inl p.0
 plays_steps old new played.Blocked p = inl p.0
@@ -91,7 +91,7 @@ module _ (p q : Seat) (written : ℕ) (lines : Lines) (x : Played) (actor : p.ac
   legal : Legal hold.found.script hold.found.workers (past_of (before ++ more))
   legal = subst (Legal hold.found.script hold.found.workers) (sym found_past) hold.sees.legal
 
-  -- what is behind the written entries where the history is this
+  -- what comes after the written entries where the history is this
   behind : (left : Run) (ys : List (ℕ × Event)) → hold.left ≡ left → pairs left.entries ≡ pairs hold.found.entries ++ ys → drop written q.seen ≡ more ++ ys
   behind left ys is longer =
       let seen : q.seen ≡ before ++ (more ++ ys) = hold.stands.seen ∙ (ap (λ (r : Run). pairs r.entries) is ∙ (longer ∙ (ap (λ (xs : List (ℕ × Event)). xs ++ ys) (sym split) ∙ append_assoc before more ys))) in
@@ -111,7 +111,7 @@ module _ (p q : Seat) (written : ℕ) (lines : Lines) (x : Played) (actor : p.ac
       let rest : drop written q.seen ≡ more = behind hold.found [] is (sym (append-nil (pairs hold.found.entries))) ∙ append-nil more in
       append-nil lines.text.items ∙ (text_is g more rest ∙ (sym (others_part hold.found.script hold.found.workers before more none legal) ∙ ap (λ (xs : List (ℕ × Event)). part hold.found.script before xs) (sym rest)))
 
-  -- an own event was entered, which adds its line and this image
+  -- an event of its own was entered, which adds its line and this image
   text_more : GathersAll written hold.left.entries lines → (e : Event) (image : List ℕ) → hold.left ≡ with_entry hold.found 0 e
       → part hold.found.script before (more ++ (0, e) ∷ []) ≡ lines_of (entries_of (more ++ (0, e) ∷ [])) ++ image
       → lines.text.items ++ image ≡ part hold.found.script before (drop written q.seen)
@@ -222,7 +222,7 @@ module _ (p q : Seat) (written : ℕ) (lines : Lines) (x : Played) (actor : p.ac
     seen_all : (t : Turned) → answer_for x ≡ t → t ≢ turned.Memory → HasWritten q lines.written × (lines.written ≡ length q.seen)
     seen_all t is other = has_written (all_for x t is other hold.acts.gathers)
 
-    -- the written entries are a front of what it has seen
+    -- the written entries are a prefix of what it has seen
     few_seen : written ≤ length q.seen
     few_seen =
         let few = have.few in

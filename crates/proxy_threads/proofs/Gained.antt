@@ -11,7 +11,7 @@ use Rattle.proxy_threads.specs.declared.turned.Turned.TheVariants as turned
 use Rattle.proxy_threads.specs.Writing.{Wrote}
 use Rattle.proxy_threads.specs.inner.Steps.{answer_at}
 
--- some bytes, and then others or a front of them
+-- some bytes, and then others or a prefix of them
 pub wrote_behind : (t : Turned) (old mid new : Option (List ℕ)) (a b : List ℕ) → Appends old mid a → Wrote mid new b t → Wrote old new (a ++ b) t
 wrote_behind turned.Went old mid new a b first more = gains_both old mid new a b first more
 wrote_behind turned.Blocked old mid new a b first more = gains_both old mid new a b first more
@@ -19,7 +19,7 @@ wrote_behind turned.Ended old mid new a b first more = gains_both old mid new a 
 wrote_behind turned.Memory old mid new a b first more = gains_front old mid new a b [] (a ++ b) first more (append-nil (a ++ b))
 wrote_behind turned.WriteFault old mid new a b first more = gains_front old mid new a b [] (a ++ b) first more (append-nil (a ++ b))
 
--- a front of some bytes is one of those and others
+-- a prefix of some bytes is one of those and others
 pub wrote_refused : (z : WriteStop) (old new : Option (List ℕ)) (a b : List ℕ) → GainsPrefix old new a → Wrote old new (a ++ b) (answer_at z)
 wrote_refused stop.Fault old new a b gains = gains_longer old new a b gains
 wrote_refused stop.Memory old new a b gains = gains_longer old new a b gains

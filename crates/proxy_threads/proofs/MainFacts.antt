@@ -46,7 +46,7 @@ not_mains _ a is other = refl
 side_stays : (s : ScriptModel) (n : ℕ) (side : MainSide) (h : List Entry) (x : ℕ × Event) → Legal s n (entry_of_pair x ∷ h) → x.0 ≢ 1 → IsMainAt s h side → IsMainAt s (entry_of_pair x ∷ h) side
 side_stays s n side h x legal other m = main_stays s n h x.0 side x.1 legal (not_mains x.1 x.0 legal.1.actor other) m
 
--- from a front of what the pass saw, in which all is that the main side entered, to the run that it finds
+-- from a prefix of what the pass saw, in which all is that the main side entered, to the run that it finds
 pub main_found : (p : Seat) (r : Run) (side : MainSide) (o : Origin) (base rest : List (ℕ × Event)) → Sees p r → p.actor ≡ 1 → base ++ rest ≡ p.seen → entries_by 1 base ≡ p.mine → p.stem ≡ Some o → IsMainAt o.script (past_of base) side → IsMain r side
 main_found p r side o base rest sees actor seen mine stem m =
     let longer : base ++ (rest ++ sees.began.0) ≡ pairs r.entries = sym (append_assoc base rest sees.began.0) ∙ (ap (λ (xs : List (ℕ × Event)). xs ++ sees.began.0) seen ∙ sees.began.1) in
@@ -66,7 +66,7 @@ main_since p r side before sees actor stands m =
     main_found p r side (origin_of before) p.seen [] sees actor (append-nil p.seen) (ap (λ (a : ℕ). entries_by a p.seen) (sym actor) ∙ sym stands.mine) stands.stem
     (subst (λ (h : List Entry). IsMainAt before.script h side) (sym (ap (λ (xs : List (ℕ × Event)). past_of xs) stands.seen ∙ past_pairs before.entries)) m)
 
--- a pass that stands for a run is tied to its host
+-- a pass that represents a run is tied to its host
 pub tied_after : (q : Seat) (r : Run) (host : MainHostModel) (changed : Bool) → HasSeenRun q r → q.actor ≡ 1 → IsMain r (record { host = host; end = None; changed = changed }) → IsTied q host
 tied_after q r host changed stands actor m = record {
   base = q.seen;

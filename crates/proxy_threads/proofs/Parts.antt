@@ -70,7 +70,7 @@ others_lines s n (y ∷ ys) h none legal =
     ap (λ (w : List ℕ). w ++ pieces s (entry_of_pair y ∷ h) (entries_of ys)) (line_alone s h y.0 y.1 (other_number y.0 0 t.first) next.actor)
     ∙ ap (λ (w : List ℕ). event_line y.1 ++ w) (others_lines s n ys (entry_of_pair y ∷ h) t.others legal)
 
--- the others' part, and one own event behind it, which adds its line and this
+-- the others' part, and one own event after it, which adds its line and this
 module _ (s : ScriptModel) (n : ℕ) (before more : List (ℕ × Event)) (none : entries_by 0 more ≡ []) (legal : Legal s n (past_of (before ++ more))) where
   pub others_part : part s before more ≡ lines_of (entries_of more)
   unfolding part

@@ -63,7 +63,7 @@ held_found w p r sees actor =
     ∙ (held_mine r.script r.workers w (pairs r.entries) (subst (Legal r.script r.workers) (sym (past_pairs r.entries)) sees.legal)
     ∙ ap (λ (xs : List (ℕ × Event)). held w (past_of xs)) (ap (λ (a : ℕ). entries_by a (pairs r.entries)) (sym actor) ∙ sees.own))
 
--- at the run that a pass stands for
+-- at the run that a pass represents
 pub held_standing : (w : ℕ) (p : Seat) (r : Run) → HasSeenRun p r → p.actor ≡ 2 + w → held w (past_of p.mine) ≡ held w (past r)
 held_standing w p r stands actor =
     let all : past_of p.seen ≡ past r = ap (λ (xs : List (ℕ × Event)). past_of xs) stands.seen ∙ past_pairs r.entries in

@@ -26,7 +26,7 @@ HasNone s n h a = (e : Event) → is_stop e ≡ false → Next s n h (record { a
 abbrev pub have_frames_ended : ScriptModel → List Entry → Bool
 have_frames_ended s h = not (is_left s h) && is_main_idle (sched h).main_state
 
--- the pass saw last this history with one entry of its own behind it, before which nothing had ended the run
+-- the pass saw last this history with one entry of its own after it, before which nothing had ended the run
 pub record EnteredLast (q : Seat) : Type 0 where
   pub before : List (ℕ × Event)
   pub event : Event

@@ -16,7 +16,7 @@ use Rattle.proxy_threads.specs.Causes.{MainCause}
 abbrev pub run_of : Origin → List (ℕ × Event) → Run
 run_of o ps = record { script = o.script; workers = o.workers; entries = entries_of ps }
 
--- the host has run the main frames of a front of what the pass saw, in which all is that the main side entered
+-- the host has run the main frames of a prefix of what the pass saw, in which all is that the main side entered
 pub record IsTied (p : Seat) (host : MainHostModel) : Type 0 where
   pub base : List (ℕ × Event)
   pub rest : List (ℕ × Event)

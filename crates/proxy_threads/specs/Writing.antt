@@ -16,16 +16,16 @@ use Rattle.proxy_threads.specs.declared.turned.Turned.TheVariants as turned
 use Rattle.proxy_threads.specs.Seats.{Seat, SamePass, HasSeenRun, entries_of, past_of}
 use Rattle.proxy_threads.specs.Causes.{CompCause}
 
--- what a recording has of some entries, behind those before them
+-- what a recording has of some entries, after those before them
 unfoldable pub part : ScriptModel → List (ℕ × Event) → List (ℕ × Event) → List ℕ
 part s before more = pieces s (past_of before) (entries_of more)
 
--- the first so many entries that the pass saw were written, and all of its own are among them
+-- the given number of the first entries that the pass saw were written, and all of its own are among them
 pub record HasWritten (p : Seat) (written : ℕ) : Type 0 where
   pub few : written ≤ length p.seen
   pub own : entries_by 0 (take written p.seen) ≡ p.mine
 
--- the sink gained the whole, or where the actor gave up, a front of it
+-- the sink gained the whole, or where the actor gave up, a prefix of it
 abbrev pub Wrote : Option (List ℕ) → Option (List ℕ) → List ℕ → Turned → Type 0
 Wrote old new whole turned.Went = Appends old new whole
 Wrote old new whole turned.Blocked = Appends old new whole
@@ -77,7 +77,7 @@ KnowsEnd (Some q) over turned.Memory = ⊤
 KnowsEnd (Some q) over turned.WriteFault = ⊤
 KnowsEnd (Some q) over t = over ≡ is_played (entries_of q.seen)
 
--- turns of the compositor up to one that answers so: the run has ended, and the sink gained the part for all that the pass has seen, or where the compositor gave up, a front of it
+-- turns of the compositor up to one that answers so: the run has ended, and the sink gained the part for all that the pass has seen, or where the compositor gave up, a prefix of it
 pub record Driven (p q : Seat) (written : ℕ) (old new : Option (List ℕ)) (t : Turned) : Type 0 where
   pub same : SamePass p q
   pub run : Run

@@ -31,7 +31,7 @@ pub struct CompActor<'a, K: Sink> {
 
 impl<'a, K: Sink> CompActor<'a, K> {
     /// The compositor with a pass of actor 0 that has entered nothing, and with the sink that takes the
-    /// recording behind its two header lines.
+    /// recording after its two header lines.
     pub fn new(alloc: Global, pass: Pass<Core>, out: &'a mut K) -> CompActor<'a, K>
         requires actor { pass.actor ≡ 0 }
         requires fresh { pass.mine ≡ [] }
@@ -49,7 +49,7 @@ impl<'a, K: Sink> CompActor<'a, K> {
     }
 
     /// One turn: enters the first event of the compositor that may come, and after giving the turn up writes
-    /// the lines of all entries that were not written, with the image behind the line of its own draw. A large
+    /// the lines of all entries that were not written, with the image after the line of its own draw. A large
     /// image is made in as many parts as the run has workers. It waits while another actor holds the turn.
     pub fn turn<R: Threads + Wait + Sync>(&mut self, rt: &R, lock: &TurnLock<Core>) -> Turned
         requires { Of self.old.pass (MayTurn lock.now.id self.old.lines.written) }

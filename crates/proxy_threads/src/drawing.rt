@@ -15,7 +15,7 @@ pub struct Drawer {
     alloc: Global,
     /// paints the scenes; None before the first
     painter: Option<ImagePainter>,
-    /// in how many parts a scene is drawn at the most
+    /// in how many parts a scene is drawn at most
     pub(crate) parts: usize,
 }
 
@@ -29,7 +29,7 @@ impl Drawer {
         }
     }
 
-    // The painter, a new one where there is none. An error is want of memory.
+    // The painter, a new one where there is none. An error means out of memory.
     fn take_painter(&mut self) -> Result<ImagePainter, AllocError> {
         match self.painter.take() {
             Some(painter) => Ok(painter),
@@ -37,7 +37,7 @@ impl Drawer {
         }
     }
 
-    /// The image of a scene. An error is want of memory.
+    /// The image of a scene. An error means out of memory.
     pub(crate) fn draw<R: Threads + Sync>(
         &mut self,
         rt: &R,

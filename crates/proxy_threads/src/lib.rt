@@ -1,12 +1,12 @@
 //! The actors that take turns with one core: the compositor, the main side, and the raster workers.
 //!
-//! Each actor has a pass of the lock round the core. At a turn it takes the lock, enters one event of its
+//! Each actor has a pass of the lock around the core. At a turn it takes the lock, enters one event of its
 //! own if one may come, and gives the lock up. What takes long stands outside: the compositor writes and
 //! renders images after it has given the lock up, the main side runs a main frame between two holdings, and
 //! a worker makes its tile between two holdings.
 //!
-//! In: a lock round a core, and its passes. Out: what each turn answers ([`Turned`]), and the recording of
-//! the one history, which the compositor writes behind the two header lines. An actor that is refused memory,
+//! In: a lock around a core, and its passes. Out: what each turn answers ([`Turned`]), and the recording of
+//! the one history, which the compositor writes after the two header lines. An actor that is refused memory,
 //! or whose sink fails, enters its stop, and all others then end at their next turn.
 #![tactic(auto)]
 

@@ -35,7 +35,7 @@ impl Lines {
         }
     }
 
-    /// Takes the lines of the entries that have had none yet. An error is want of memory.
+    /// Takes the lines of the entries that have had none yet. An error means out of memory.
     pub(crate) fn gather(&mut self, history: &History) -> Result<(), AllocError>
         ensures lines { OnOk result (GathersAll self.old.written history.now.entries self.new) }
         ensures over { self.new.over ≡ self.old.over }

@@ -11,7 +11,7 @@ ghost use Rattle.proxy_threads.specs.MainTurns.{MainIsReady, MainTurn};
 ghost use Rattle.proxy_threads.specs.inner.Holdings.{Holding};
 ghost use Rattle.proxy_threads.specs.inner.Mains.{CanEnd, CanHandOver, Hands, IsHeldBy, IsSentTo, Listens, MainTurns, Tells};
 
-use crate::holding::{put_back, stop_if_failed, stop, take_turn};
+use crate::holding::{put_back, stop, stop_if_failed, take_turn};
 use crate::turned::Turned;
 use impl_core::Core;
 use main_host::{MainEnd, MainHost};

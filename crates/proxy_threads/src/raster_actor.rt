@@ -156,7 +156,7 @@ impl<'g, G: Gate> RasterActor<'g, G> {
         }
     }
 
-    /// One turn: starts the next tile, makes it outside of any turn, behind the gate, and is done with it. It
+    /// One turn: starts the next tile, makes it outside of any turn, after the gate, and is done with it. It
     /// waits while another actor holds the turn.
     pub fn turn<R: Wait>(&mut self, rt: &R, lock: &TurnLock<Core>) -> Turned
         requires { Of self.old.pass (WorkIsReady lock.now.id self.old.worker) }

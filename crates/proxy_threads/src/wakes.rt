@@ -34,7 +34,7 @@ impl Wakes {
 
     /// Finds out whom to wake up after what was played: the main side where a main frame was sent, the workers where
     /// a draw was begun or nothing may be entered, and a tile may start; and all where the run has ended. Most
-    /// scrolls are followed by another, which changes again what may start: behind those nobody asks.
+    /// scrolls are followed by another, which changes again what may start: after those nobody asks.
     pub(crate) fn renew(&mut self, played: &Played, core: &mut Core)
         ensures { core.new ≡ core.old }
     {

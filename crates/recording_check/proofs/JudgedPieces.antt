@@ -88,7 +88,7 @@ pub same_workers : (b : Bool) (old new : Run) (p : Piece) → Judged old p new b
 same_workers true old new p judged = ap (λ (r : Run). r.workers) judged.1
 same_workers false old new p judged = ap (λ (r : Run). r.workers) judged.1
 
--- a front and a piece behind it
+-- a prefix and a piece after it
 
 front_more : (t : ViewTable) (shown : Option ℕ) (ps : List Piece) (p : Piece) → AreFront t shown ps → IsPiece (view_at t (shown_behind shown ps)) p → is_end p.event ≡ false → AreFront t shown (ps ++ p ∷ [])
 front_more t shown [] p are is more = (is, more, tt)
@@ -178,7 +178,7 @@ pub told : (bytes : List ℕ) (t : ViewTable) (start : ℕ) (s : ScriptModel) (n
 told bytes t start s n ps r None are script workers judged = (ps, are, subst (λ (m : ℕ). AreRightPieces s m [] ps) workers (subst (λ (z : ScriptModel). AreRightPieces z r.workers [] ps) script judged.1))
 told bytes t start s n ps r (Some place) are script workers judged = (ps, are, subst (λ (m : ℕ). IsWrongAt s m ps place) workers (subst (λ (z : ScriptModel). IsWrongAt z r.workers ps place) script judged))
 
--- a piece more behind one that is wrong
+-- a piece more after one that is wrong
 
 still_wrong : (o : Option ℕ) (ps : List Piece) (r : Run) (p : Piece) → is_some o ≡ true → AreJudged ps r o → AreJudged (ps ++ p ∷ []) r o
 still_wrong None ps r p some so = absurd (cc (some))
@@ -187,7 +187,7 @@ still_wrong (Some place) ps r p some so = stays_wrong r.script r.workers ps p pl
 pub passed : (bytes : List ℕ) (r : Run) (o : Option ℕ) (index : ℕ) (step : EventSpan) → is_some o ≡ true → JudgesNext bytes r o index step r o
 passed bytes r o index step some = record { script = refl; workers = refl; judged = λ ps image stands at so. still_wrong o ps r (piece_in step image) some so }
 
--- a piece more behind right ones
+-- a piece more after right ones
 pub looked_at : (bytes : List ℕ) (old new : Run) (o : Option ℕ) (index : ℕ) (step : EventSpan) (b : Bool) (there : List ℕ) → is_some o ≡ false → IsImageAt bytes step.image there
     → ((image : List ℕ) → IsImageAt bytes step.image image → Judged old (piece_in step image) new b) → JudgesNext bytes old o index step new (told_by b index)
 looked_at bytes old new (Some place) index step b there none stands judged = absurd (cc (none))

@@ -6,7 +6,7 @@ use Rattle.std.proofs.Math.Seq.{take-append_seam}
 use Rattle.std.proofs.lemmas.Bool.Decides.{nat_tests}
 use Rattle.recording_check.specs.Openings.{IsOneLine, FirstLine, is_newline}
 
--- the newline at n, counted from k, has a front before it
+-- the newline at n, counted from k, has a prefix before it
 
 found_in : (b : Bool) (k c : ℕ) (xs : List ℕ) (n : ℕ) → is_newline c ≡ b → cond b (Some k) (position_from is_newline (k + 1) xs) ≡ Some n
     → (position_from is_newline (k + 1) xs ≡ Some n → (front : List ℕ) × (rest : List ℕ) × (xs ≡ front ++ (10 ∷ rest)) × (n ≡ (k + 1) + length front))

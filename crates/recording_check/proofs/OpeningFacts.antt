@@ -1,4 +1,4 @@
--- What the two first lines tell.
+-- What the first two lines tell.
 use Rattle.std.proofs.Common.{◌≡◌, ℕ, ◌+◌, true, false, List, ◌∷◌, ◌++◌, length, drop, refl, ap, sym, ◌∙◌, append_assoc, arith, inl, inr, None, Some, subst, Bor, length-append}
 use Rattle.std.specs.Prelude.{nat_eq, codes, Ok}
 use Rattle.std.specs.List.{starts_with}
@@ -11,7 +11,7 @@ use Rattle.recording_check.specs.declared.opening.Opening.{Opening}
 use Rattle.recording_check.specs.Openings.{IsScriptLine, FirstLine, ScriptOf, OpensWith, IsBadOpening, Opens}
 use Rattle.recording_check.proofs.OneLines.{script_is_one_line}
 
--- the two lines, and what stands behind the name of the format
+-- the two lines, and what stands after the name of the format
 pub header_parts : (line rest : List ℕ) → header line ++ rest ≡ codes "cc1\n" ++ (line ++ (10 ∷ rest))
 unfolding header
 header_parts line rest = append_assoc (codes "cc1\n" ++ line) (codes "\n") rest ∙ append_assoc (codes "cc1\n") line (codes "\n" ++ rest)
@@ -26,7 +26,7 @@ header_length line =
 behind_name : (bytes : List ℕ) → starts_with nat_eq bytes (codes "cc1\n") ≡ true → bytes ≡ codes "cc1\n" ++ drop 4 bytes
 behind_name bytes begins = starts_exact bytes (codes "cc1\n") begins
 
--- what stands behind the name where the bytes begin with a script's two lines
+-- what stands after the name where the bytes begin with a script's two lines
 pub lines_behind : (bytes : List ℕ) (s : ScriptModel) (rest : List ℕ) → bytes ≡ header (script_text s) ++ rest → drop 4 bytes ≡ script_text s ++ (10 ∷ rest)
 lines_behind bytes s rest text = ap (drop 4) (text ∙ header_parts (script_text s) rest) ∙ drop-append_seam (codes "cc1\n") (script_text s ++ (10 ∷ rest))
 
@@ -56,7 +56,7 @@ opening_lacks_name bytes begins = inl (
       absurd (cc (begins, there)),
 )
 
--- no line stands behind it
+-- no line stands after it
 pub opening_lacks_line : (bytes : List ℕ) → starts_with nat_eq bytes (codes "cc1\n") ≡ true → FirstLine (drop 4 bytes) None → IsBadOpening bytes 4
 opening_lacks_line bytes begins none = inr (refl, ((drop 4 bytes, behind_name bytes begins), λ s rest opens. none (script_text s) rest (lines_behind bytes s rest opens.text)))
 

@@ -1,4 +1,4 @@
--- The two first lines and what is read behind them.
+-- The first two lines and what is read after them.
 use Rattle.std.proofs.Common.{◌≡◌, ℕ, ◌+◌, List, ◌++◌, drop, map, ap, ◌∙◌, inl, inr, subst}
 use Rattle.std.specs.Prelude.{Result, Ok, Err}
 use Rattle.model_history.specs.Recordings.{header}
@@ -16,7 +16,7 @@ use Rattle.recording_check.specs.Answers.{ReadsRecording, ReadsImages}
 use Rattle.recording_check.specs.Openings.{OpensWith, IsBadOpening, opening_length}
 use Rattle.recording_check.specs.Recordings.{IsRecording, IsBadAt}
 
--- the two lines, and behind them pieces
+-- the two lines, and after them pieces
 pub is_recording : (bytes : List ℕ) (s : ScriptModel) (end : ℕ) (ps : List Piece) → OpensWith bytes s (drop end bytes) → ArePiecesFrom bytes (views_of s) end ps → IsRecording bytes s ps
 is_recording bytes s end ps opens are = record {
   opening = record { script = opens.script; text = opens.text ∙ ap (λ (x : List ℕ). header (script_text s) ++ x) are.1 };

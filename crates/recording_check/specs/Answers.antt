@@ -18,7 +18,7 @@ ReadsRecording bytes (Ok r) =
 ReadsRecording bytes (Err (fault.Bad place)) = IsBadAt bytes place
 ReadsRecording bytes (Err (fault.Memory e)) = ⊤
 
--- the bytes are a recording, and these are its images, one behind the other; or the first bad part begins here; or memory ran out
+-- the bytes are a recording, and these are its images, one after another; or the first bad part begins here; or memory ran out
 abbrev pub ReadsImages : {V : Type 0} → (V → List ImageSpan) → List ℕ → Result V RecordingFault → Type 0
 ReadsImages spans bytes (Ok v) =
     (s : ScriptModel) × (ps : List Piece) × IsRecording bytes s ps × (flat_map (span_bytes bytes) (spans v) ≡ images_text ps) × AreWithin (length bytes) (spans v)

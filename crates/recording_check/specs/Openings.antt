@@ -34,7 +34,7 @@ abbrev pub ScriptOf : List ℕ → Option ScriptModel → Type 0
 ScriptOf line (Some s) = IsScriptLine line s
 ScriptOf line None = (s : ScriptModel) → IsScriptLine line s → ⊥
 
--- the bytes begin with the two lines of a script's recording, and behind them stand these
+-- the bytes begin with the two lines of a script's recording, and after them stand these
 pub record OpensWith (bytes : List ℕ) (s : ScriptModel) (rest : List ℕ) : Type 0 where
   pub script : IsScriptLine (script_text s) s
   pub text : bytes ≡ header (script_text s) ++ rest
@@ -43,7 +43,7 @@ pub record OpensWith (bytes : List ℕ) (s : ScriptModel) (rest : List ℕ) : Ty
 abbrev pub LacksName : List ℕ → Type 0
 LacksName bytes = (rest : List ℕ) → bytes ≡ codes "cc1\n" ++ rest → ⊥
 
--- they do, and behind it stands no script's line
+-- they do, and after it stands no script's line
 abbrev pub LacksScript : List ℕ → Type 0
 LacksScript bytes = ((rest : List ℕ) × (bytes ≡ codes "cc1\n" ++ rest)) × ((s : ScriptModel) (rest : List ℕ) → OpensWith bytes s rest → ⊥)
 
@@ -57,6 +57,6 @@ Opens bytes (Ok o) = OpensWith bytes o.script (drop o.end bytes) × (o.end ≡ l
 Opens bytes (Err (fault.Bad place)) = IsBadOpening bytes place
 Opens bytes (Err (fault.Memory e)) = ⊤
 
--- the place behind the two lines
+-- the place after the two lines
 abbrev pub opening_length : ScriptModel → ℕ
 opening_length s = length (header (script_text s))

@@ -6,12 +6,12 @@ use Rattle.recording_reader.specs.Pieces.{Piece, piece_text, ArePieces}
 use Rattle.recording_reader.specs.Views.{views_of}
 use Rattle.recording_check.specs.Openings.{OpensWith, IsBadOpening, opening_length}
 
--- the bytes are the recording of this script and these events, with some image of the right size behind each draw
+-- the bytes are the recording of this script and these events, with some image of the right size after each draw
 pub record IsRecording (bytes : List ℕ) (s : ScriptModel) (ps : List Piece) : Type 0 where
   pub opening : OpensWith bytes s (flat_map piece_text ps)
   pub pieces : ArePieces (views_of s) None ps
 
--- the first part that is not of its form begins here: one of the two first lines, or a part behind them
+-- the first part that is not of its form begins here: one of the first two lines, or a part after them
 abbrev pub IsBadAt : List ℕ → ℕ → Type 0
 IsBadAt bytes place =
     IsBadOpening bytes place ⊎ ((s : ScriptModel) × (rest : List ℕ) × OpensWith bytes s rest × (n : ℕ) × BreaksAt (views_of s) None rest n × (place ≡ opening_length s + n))

@@ -14,7 +14,7 @@ use Rattle.recording_check.specs.Openings.{IsScriptLine}
 use Rattle.recording_check.specs.Painted.{IsOver}
 use Rattle.recording_check.specs.Recordings.{IsRecording, IsBadAt}
 
--- a piece is right after a past: its event may come next, in a run with so many workers, and the bytes behind its line are what a recording has there
+-- a piece is right after a past: its event may come next, in a run with the given number of workers, and the bytes after its line are what a recording has there
 pub record IsRight (s : ScriptModel) (workers : ℕ) (h : List Entry) (p : Piece) : Type 0 where
   pub next : Next s workers h (entry_of p.event)
   pub image : p.image ≡ image_behind s h p.event
@@ -34,7 +34,7 @@ pub record IsWrongAt (s : ScriptModel) (workers : ℕ) (ps : List Piece) (place 
   pub right : AreRightPieces s workers [] before
   pub wrong : IsRight s workers (reverse (entries before)) piece → ⊥
 
--- the bytes are the recording of a script, and of a history that is legal for it and so many workers and ends with the end
+-- the bytes are the recording of a script, and of a history that is legal for it and the given number of workers and ends with the end
 pub record IsLegalRecording (workers : ℕ) (bytes : List ℕ) : Type 0 where
   pub script : ScriptModel
   pub history : List Entry

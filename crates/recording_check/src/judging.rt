@@ -1,4 +1,4 @@
-//! Judging a recording without the engine that made it.
+//! Judging a recording without the core and what draws that made it.
 
 ghost use Rattle.std.specs.Prelude.{◌≡◌, ◌<◌, ◌≤◌, ◌^◌, [], length, IfOk};
 ghost use Rattle.recording_reader.specs.Pieces as pieces;
@@ -13,7 +13,7 @@ use crate::right::enter_step;
 use crate::verdict::Verdict;
 use model_history::{Event, Script};
 use recording_judge::Judge;
-use recording_reader::{Cursor, ImageViews, EventSpan, take_piece};
+use recording_reader::{Cursor, EventSpan, ImageViews, take_piece};
 use recording_text::Scratch;
 use std::alloc::{AllocError, Global};
 use std::sync::Arc;
@@ -35,8 +35,8 @@ fn verdict_of(wrong: Option<u64>) -> Verdict
     }
 }
 
-// Judges one piece more, where all before it are right; answers the first that is wrong. An error is want of
-// memory.
+// Judges one piece more, where all before it are right; answers the first that is wrong. An error means out
+// of memory.
 fn judge_next(
     alloc: Global,
     judge: &mut Judge,
@@ -55,8 +55,8 @@ fn judge_next(
     if is_right { Ok(None) } else { Ok(Some(index)) }
 }
 
-// Judges the pieces behind the two first lines, by a judge that has entered nothing yet; or tells where a part
-// begins that is not of its form. An error is want of memory.
+// Judges the pieces after the first two lines, by a judge that has entered nothing yet; or tells where a part
+// begins that is not of its form. An error means out of memory.
 fn judge_parts(
     alloc: Global,
     judge: &mut Judge,
@@ -87,7 +87,7 @@ fn judge_parts(
     }
 }
 
-// Judges the pieces behind the two first lines of a script's recording. An error is want of memory.
+// Judges the pieces after the first two lines of a script's recording. An error means out of memory.
 fn judge_script(
     alloc: Global,
     script: Script,
@@ -104,11 +104,11 @@ fn judge_script(
     judge_parts(alloc, &mut judge, bytes, &views, start)
 }
 
-/// Judges a recording without the engine: by the definitions of legal histories, for 16 workers, and of the
-/// painting. `Good` comes exactly where the bytes are the recording of a script and of a history that is legal
-/// for it and that the end closes. Bytes of a recording's form are else told by the first event that may not
-/// come, or whose image is not the painting, and other bytes as [`read_recording`](crate::read_recording) tells
-/// them. No event is kept but in the judge's history.
+/// Judges a recording without the core and what draws: by the definitions of legal histories, for 16 workers,
+/// and of the painting. `Good` comes exactly where the bytes are the recording of a script and of a history
+/// that is legal for it and that the end closes. Bytes of a recording's form are else told by the first event
+/// that may not come, or whose image is not the painting, and other bytes as
+/// [`read_recording`](crate::read_recording) tells them. No event is kept but in the judge's history.
 pub fn check(alloc: Global, bytes: &[u8]) -> Result<Verdict, RecordingFault>
     requires { length bytes.now < 2 ^ 32 }
     ensures { Judges bytes.now result }

@@ -1,6 +1,6 @@
 //! Recordings, read and looked through without the core that made them, or anything that draws.
 //!
-//! A recording begins with the name of the format and the script's line (`opening`); behind them stand
+//! A recording begins with the name of the format and the script's line (`opening`); after them stand
 //! the parts that recording_reader reads. `recording` joins both. `judging` judges them one after another, by the
 //! state of the model (`right`).
 #![tactic(auto)]

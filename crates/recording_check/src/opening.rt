@@ -14,7 +14,7 @@ use std::alloc::{AllocError, Global};
 pub struct Opening {
     /// The script.
     pub script: Script,
-    /// The offset behind the two lines.
+    /// The offset after the two lines.
     pub end: usize,
 }
 
@@ -34,7 +34,7 @@ fn front(bytes: &[u8], end: usize) -> &[u8]
     &bytes[..end]
 }
 
-// What stands behind the first bytes.
+// What stands after the first bytes.
 fn behind(bytes: &[u8], count: usize) -> &[u8]
     requires { count ≤ length bytes.now }
     ensures { result.now ≡ drop count bytes.now }
@@ -80,7 +80,7 @@ fn script_of(alloc: Global, line: &[u8]) -> Result<Option<Script>, AllocError>
     }
 }
 
-/// The script of a recording, and where its two first lines end; or which of them is bad.
+/// The script of a recording, and where its first two lines end; or which of them is bad.
 #[tactic(auto, using(crate::proofs::OpeningFacts::opening_good, crate::proofs::OpeningFacts::opening_lacks_name, crate::proofs::OpeningFacts::opening_lacks_line, crate::proofs::OpeningFacts::opening_lacks_script))]
 pub fn read_opening(alloc: Global, bytes: &[u8]) -> Result<Opening, RecordingFault>
     requires { length bytes.now < 2 ^ 32 }

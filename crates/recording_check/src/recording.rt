@@ -23,8 +23,8 @@ pub struct Recording {
 
 /// Reads a recording: the script, the events and where the images stand. `Bad` comes exactly where the
 /// bytes are none, with the offset at which the first part begins that is not of its form: the name of
-/// the format at 0, the script's line at 4, an event's line, the image behind a draw, or what stands
-/// behind the end.
+/// the format at 0, the script's line at 4, an event's line, the image after a draw, or what stands
+/// after the end.
 #[tactic(auto, using(crate::proofs::Wholes::recording_read, crate::proofs::Wholes::bad_read, crate::proofs::Wholes::bad_opening))]
 pub fn read_recording(alloc: Global, bytes: &[u8]) -> Result<Recording, RecordingFault>
     requires { length bytes.now < 2 ^ 32 }

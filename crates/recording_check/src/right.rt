@@ -10,7 +10,7 @@ use geom::TileKey;
 use model_history::{Entry, Event};
 use recording_judge::Judge;
 use recording_pixels::is_painted;
-use recording_reader::{ImageSpan, EventSpan, entry_of};
+use recording_reader::{EventSpan, ImageSpan, entry_of};
 use std::alloc::{AllocError, Global};
 
 // The keys that a draw lists as missing; None where the event is no draw.
@@ -23,7 +23,7 @@ fn missing_of(event: &Event) -> Option<&[TileKey]>
     }
 }
 
-// Whether an image is that of what is shown now, with these tiles missing. An error is want of memory.
+// Whether an image is that of what is shown now, with these tiles missing. An error means out of memory.
 fn is_drawn(
     alloc: Global,
     judge: &Judge,
@@ -49,7 +49,7 @@ fn is_drawn(
     }
 }
 
-// Whether the bytes behind the line of an event are what a recording has there. An error is want of memory.
+// Whether the bytes after the line of an event are what a recording has there. An error means out of memory.
 fn is_image(alloc: Global, judge: &Judge, event: &Event, image: &[u8]) -> Result<bool, AllocError>
     requires { CanHave event.now image.now }
     ensures { IfOk result (TellsImage judge.now.script (past judge.now) event.now image.now) }
@@ -60,8 +60,8 @@ fn is_image(alloc: Global, judge: &Judge, event: &Event, image: &[u8]) -> Result
     }
 }
 
-// Enters an entry where it may come next, and the bytes behind its line are what a recording has there. An
-// error is want of memory.
+// Enters an entry where it may come next, and the bytes after its line are what a recording has there. An
+// error means out of memory.
 fn enter_right(
     alloc: Global,
     judge: &mut Judge,
@@ -95,7 +95,7 @@ fn image_in(bytes: &[u8], image: Option<ImageSpan>) -> &[u8]
 }
 
 /// Enters the event of a step where its piece is right: it may come next, and its image is the painting of what
-/// is shown then. An error is want of memory.
+/// is shown then. An error means out of memory.
 pub(crate) fn enter_step(
     alloc: Global,
     judge: &mut Judge,

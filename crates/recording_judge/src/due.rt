@@ -23,7 +23,7 @@ use model_history::{Event, Input, Moves};
 use std::alloc::{AllocError, Global};
 use tile_ranks::SeenTree;
 
-// The event of a scroll of which so much is accepted.
+// The event of a scroll of which this much is accepted.
 fn scroll_event(input: u32, by: Point) -> Event
     ensures { result ≡ event.Scroll input by.x by.y }
 {
@@ -47,7 +47,7 @@ fn wheel_event(input: u32, target: u32, rest: Point, moves: Moves) -> Event
     }
 }
 
-// The keys of the visible tiles of a tree; none where there is no tree. An error is want of memory.
+// The keys of the visible tiles of a tree; none where there is no tree. An error means out of memory.
 #[tactic(auto, unfolding(tile_visible::specs::Visible::visible_keys))]
 fn visible_of(alloc: Global, tree: Option<&SeenTree<'_>>) -> Result<Keys, AllocError>
     ensures { IfOk result (λ keys. (t : Tree) → IsSeenWhere t (option_copied tree.entry) → keys ≡ visible_in t) }
@@ -59,7 +59,7 @@ fn visible_of(alloc: Global, tree: Option<&SeenTree<'_>>) -> Result<Keys, AllocE
 }
 
 impl State {
-    // The keys of the visible tiles of the pending tree; none where nothing is pending. An error is want of
+    // The keys of the visible tiles of the pending tree; none where nothing is pending. An error means out of
     // memory.
     fn needed(&self) -> Result<Keys, AllocError>
         requires { IsState self.now }
@@ -78,7 +78,7 @@ impl State {
         visible_of(self.alloc, seen.active.as_ref())
     }
 
-    /// The `Send` that is due. An error is want of memory.
+    /// The `Send` that is due. An error means out of memory.
     pub(crate) fn send_due(&self) -> Result<Option<Event>, AllocError>
         requires state { IsState self.now }
         requires is_open { is_open (past self.now.log) kind.Send ≡ true }
@@ -125,7 +125,7 @@ impl State {
         }
     }
 
-    // The moves that an activation lists now. An error is want of memory.
+    // The moves that an activation lists now. An error means out of memory.
     fn clamps(&self) -> Result<Moves, AllocError>
         requires state { IsState self.now }
         requires waits { is_some (pending (past self.now.log)) ≡ true }
@@ -141,7 +141,7 @@ impl State {
             .clamps(self.alloc, page, pages.outright)
     }
 
-    // Whether all that the pending tree needs is ready. An error is want of memory.
+    // Whether all that the pending tree needs is ready. An error means out of memory.
     fn are_needed_ready(&self) -> Result<bool, AllocError>
         requires { IsState self.now }
         ensures { IfOk result (λ ready. ready ≡ are_ready self.now.log.script (past self.now.log) (required self.now.log.script (past self.now.log))) }
@@ -150,7 +150,7 @@ impl State {
         Ok(self.tiles.are_ready(&needed))
     }
 
-    // The activation of the pending commit, which is that of this frame. An error is want of memory.
+    // The activation of the pending commit, which is that of this frame. An error means out of memory.
     fn activation_of(&self, frame: u32) -> Result<Option<Event>, AllocError>
         requires state { IsState self.now }
         requires waits { pending (past self.now.log) ≡ Some frame }
@@ -165,7 +165,7 @@ impl State {
         }
     }
 
-    /// The `Activate` that is due. An error is want of memory.
+    /// The `Activate` that is due. An error means out of memory.
     pub(crate) fn activate_due(&self) -> Result<Option<Event>, AllocError>
         requires { IsState self.now }
         ensures { IfOk result (λ event. event ≡ dues.due self.now.log.script (past self.now.log) kind.Activate 0) }
@@ -200,7 +200,7 @@ impl State {
         }
     }
 
-    // The wheel that is the next input, as an event. An error is want of memory.
+    // The wheel that is the next input, as an event. An error means out of memory.
     fn wheel_of(&self, x: u32, y: u32, dx: i32, dy: i32) -> Result<Option<Event>, AllocError>
         requires state { IsState self.now }
         requires asked { input_now self.now.log.script (past self.now.log) ≡ Some (input.Wheel x y dx dy) }
@@ -217,7 +217,7 @@ impl State {
         Ok(Some(wheel_event(place, wheel.target, wheel.rest, moves)))
     }
 
-    /// The `Wheel` that is due. An error is want of memory.
+    /// The `Wheel` that is due. An error means out of memory.
     pub(crate) fn wheel_due(&self) -> Result<Option<Event>, AllocError>
         requires { IsState self.now }
         ensures { IfOk result (λ event. event ≡ dues.due self.now.log.script (past self.now.log) kind.Wheel 0) }
@@ -228,7 +228,7 @@ impl State {
         }
     }
 
-    // The start of a key by a worker that holds nothing. There is a queue. An error is want of memory.
+    // The start of a key by a worker that holds nothing. There is a queue. An error means out of memory.
     fn start_of(&self, actor: u32, key: TileKey) -> Result<Option<Event>, AllocError>
         requires state { IsState self.now }
         requires actor { (2 ≤ actor) × (actor < 2 + self.now.log.workers) }
@@ -248,7 +248,7 @@ impl State {
         }))
     }
 
-    // The start by a worker that holds nothing. There is a queue. An error is want of memory.
+    // The start by a worker that holds nothing. There is a queue. An error means out of memory.
     fn start_free(&self, actor: u32) -> Result<Option<Event>, AllocError>
         requires state { IsState self.now }
         requires actor { (2 ≤ actor) × (actor < 2 + self.now.log.workers) }
@@ -262,7 +262,7 @@ impl State {
         }
     }
 
-    /// The `Start` of a worker that is due. There is a queue. An error is want of memory.
+    /// The `Start` of a worker that is due. There is a queue. An error means out of memory.
     pub(crate) fn start_due(&self, actor: u32) -> Result<Option<Event>, AllocError>
         requires state { IsState self.now }
         requires actor { (2 ≤ actor) × (actor < 2 + self.now.log.workers) }
@@ -288,7 +288,7 @@ impl State {
         }
     }
 
-    // The draw for this input, which is that of the impl frame. An error is want of memory.
+    // The draw for this input, which is that of the impl frame. An error means out of memory.
     fn draw_of(&self, place: u32) -> Result<Option<Event>, AllocError>
         requires state { IsState self.now }
         requires begun { newest begins (past self.now.log) ≡ Some place }
@@ -307,7 +307,7 @@ impl State {
         }
     }
 
-    /// The `Draw` that is due. An error is want of memory.
+    /// The `Draw` that is due. An error means out of memory.
     pub(crate) fn draw_due(&self) -> Result<Option<Event>, AllocError>
         requires { IsState self.now }
         ensures { IfOk result (λ event. event ≡ dues.due self.now.log.script (past self.now.log) kind.Draw 0) }

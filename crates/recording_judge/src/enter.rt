@@ -62,7 +62,7 @@ fn lacks_queue(kind: Kind, queue: &Option<RasterQueue>) -> bool
     asks && none
 }
 
-// Makes the queue of tiles anew. An error is want of memory.
+// Makes the queue of tiles anew. An error means out of memory.
 fn requeue_tiles(
     alloc: Global,
     log: &Log,
@@ -86,7 +86,7 @@ fn requeue_tiles(
 }
 
 impl State {
-    // Makes the queue anew. An error is want of memory.
+    // Makes the queue anew. An error means out of memory.
     fn requeue(&mut self) -> Result<(), AllocError>
         requires { IsState self.old }
         ensures log { self.new.log ≡ self.old.log }
@@ -96,7 +96,7 @@ impl State {
         requeue_tiles(self.alloc, &self.log, &self.host, &mut self.tiles)
     }
 
-    // Makes a queue where the kind needs one and there is none. An error is want of memory.
+    // Makes a queue where the kind needs one and there is none. An error means out of memory.
     fn prepare(&mut self, kind: Kind) -> Result<(), AllocError>
         requires { IsState self.old }
         ensures { OnOk result (IsReadyFor self.old kind self.new) }
@@ -105,7 +105,7 @@ impl State {
         if lacks { self.requeue() } else { Ok(()) }
     }
 
-    // The event of this kind and actor that is due, where the states allow the kind. An error is want of
+    // The event of this kind and actor that is due, where the states allow the kind. An error means out of
     // memory.
     fn due(&self, kind: Kind, actor: u32) -> Result<Option<Event>, AllocError>
         requires state { IsState self.now }
@@ -131,7 +131,7 @@ impl State {
         }
     }
 
-    // The event of this kind and actor that may come now, if there is one. An error is want of memory.
+    // The event of this kind and actor that may come now, if there is one. An error means out of memory.
     fn coming(&self, kind: Kind, actor: u32) -> Result<Option<Event>, AllocError>
         requires state { IsState self.now }
         requires has { HasKind self.now.log.workers kind actor }
@@ -146,7 +146,7 @@ impl State {
         }
     }
 
-    // Steps the parts by the event that may come now, and enters it. An error is want of memory.
+    // Steps the parts by the event that may come now, and enters it. An error means out of memory.
     fn follow(&mut self, actor: u32, event: Event) -> Result<(), AllocError>
         requires { Comes self.old actor event }
         ensures { OnOk result (HasEntered self.old actor event self.new) }
@@ -203,7 +203,7 @@ impl State {
         self.enter_coming(coming, entry)
     }
 
-    /// Enters an entry where it may come next, and answers whether it may. An error is want of memory; then the
+    /// Enters an entry where it may come next, and answers whether it may. An error means out of memory; then the
     /// state is of no use any more.
     pub(crate) fn enter(&mut self, entry: &Entry) -> Result<bool, AllocError>
         requires { IsState self.old }

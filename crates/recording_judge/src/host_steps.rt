@@ -22,7 +22,7 @@ use model_history::{Commit, Script};
 use page_layers::Move;
 use std::alloc::{AllocError, Global};
 
-/// Steps the host by a scroll or a wheel with these moves. An error is want of memory.
+/// Steps the host by a scroll or a wheel with these moves. An error means out of memory.
 pub(crate) fn move_host(
     alloc: Global,
     host: &mut ImplHost,
@@ -43,7 +43,7 @@ pub(crate) fn sets_outright(host: &ImplHost) -> bool
     !host.pages().outright.is_empty()
 }
 
-/// Steps the host by the abort of the main frame in flight. An error is want of memory.
+/// Steps the host by the abort of the main frame in flight. An error means out of memory.
 pub(crate) fn abort_host(alloc: Global, host: &mut ImplHost) -> Result<(), AllocError>
     requires { HostAborts host.old }
     ensures { OnOk result ((s : ScriptModel) (workers : ℕ) (h : List Entry) (actor k : ℕ) → Legal s workers (abort actor k ∷ h) → Hosts s h host.old → Hosts s (abort actor k ∷ h) host.new) }
@@ -64,7 +64,7 @@ fn commit_of(end: &Option<MainEnd>) -> Option<&Commit>
     }
 }
 
-/// Steps the host by the commit of a main frame, which ended so. An error is want of memory.
+/// Steps the host by the commit of a main frame, which ended so. An error means out of memory.
 #[tactic(auto, using(crate::proofs::HostFacts::commit_absent))]
 pub(crate) fn commit_to_host(
     alloc: Global,
@@ -85,7 +85,7 @@ pub(crate) fn commit_to_host(
     Ok(())
 }
 
-/// Steps the host by an activation with these moves. An error is want of memory.
+/// Steps the host by an activation with these moves. An error means out of memory.
 pub(crate) fn activate_host(
     alloc: Global,
     host: &mut ImplHost,

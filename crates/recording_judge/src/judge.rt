@@ -44,7 +44,7 @@ impl Model for Judge {
 }
 
 impl Judge {
-    /// The judge of a run in which nothing has come yet, with up to 16 workers. An error is want of memory.
+    /// The judge of a run in which nothing has come yet, with up to 16 workers. An error means out of memory.
     pub fn new(alloc: Global, script: Arc<Script>, workers: u32) -> Result<Judge, AllocError>
         requires { workers ≤ 16 }
         ensures { IfOk result (λ judge. judge ≡ new_run script.value workers) }
@@ -74,7 +74,7 @@ impl Judge {
         Ok(self.state.shown_page())
     }
 
-    /// Enters an entry where it may come next, and answers whether it may. An error is want of memory, and
+    /// Enters an entry where it may come next, and answers whether it may. An error means out of memory, and
     /// comes at each later call too.
     pub fn enter(&mut self, entry: &Entry) -> Result<bool, AllocError>
         ensures { IfOk result (JudgesEntry self.old entry.now self.new) }

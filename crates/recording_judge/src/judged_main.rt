@@ -61,7 +61,7 @@ impl JudgedMain {
         }
     }
 
-    /// A main frame is sent with these pulls, and is run. An error is want of memory.
+    /// A main frame is sent with these pulls, and is run. An error means out of memory.
     pub(crate) fn send(&mut self, pulls: &Moves) -> Result<(), AllocError>
         requires { MainSends self.old pulls.now }
         ensures { OnOk result ((s : ScriptModel) (workers : ℕ) (h : List Entry) (actor k : ℕ) → IsAccepted s → Legal s workers (send actor k pulls.now ∷ h) → IsMain s h self.old → IsMain s (send actor k pulls.now ∷ h) self.new) }

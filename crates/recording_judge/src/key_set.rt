@@ -58,7 +58,7 @@ impl KeySet {
         }
     }
 
-    /// These keys, in whatever order they stand. An error is want of memory.
+    /// These keys, in whatever order they stand. An error means out of memory.
     pub(crate) fn of(alloc: Global, keys: &[TileKey]) -> Result<KeySet, AllocError>
         ensures { IfOk result (λ set. (q : Key) → has_key set q ≡ has_key keys.now q) }
     {
@@ -88,7 +88,7 @@ impl KeySet {
         true
     }
 
-    /// Those of the keys that are not among them, in their order. An error is want of memory.
+    /// Those of the keys that are not among them, in their order. An error means out of memory.
     pub(crate) fn lacking(&self, alloc: Global, keys: &Keys) -> Result<Keys, AllocError>
         ensures { IfOk result (λ lacking. lacking ≡ filter (λ q. not (has_key self.now q)) keys.now) }
     {
@@ -103,7 +103,7 @@ impl KeySet {
         Ok(lacking)
     }
 
-    /// The keys as a list. An error is want of memory.
+    /// The keys as a list. An error means out of memory.
     pub(crate) fn list(&self, alloc: Global) -> Result<Keys, AllocError>
         ensures { IfOk result (λ keys. keys ≡ self.now) }
     {
@@ -118,7 +118,7 @@ impl KeySet {
         is_rising(&self.keys);
     }
 
-    /// Adds a key, where it is not there. An error is want of memory, and nothing was added.
+    /// Adds a key, where it is not there. An error means out of memory, and nothing was added.
     pub(crate) fn insert(&mut self, key: TileKey) -> Result<(), AllocError>
         ensures { OnOk result ((q : Key) → has_key self.new q ≡ (same_key key q || has_key self.old q)) }
     {

@@ -36,7 +36,7 @@ struct Tiles<'a> {
     in_flight: u32,
 }
 
-// Those of the ranks whose keys are neither ready nor being made. An error is want of memory.
+// Those of the ranks whose keys are neither ready nor being made. An error means out of memory.
 fn missing(
     alloc: Global,
     ready: &KeySet,
@@ -55,7 +55,7 @@ fn missing(
     Ok(missing)
 }
 
-// The ready keys with their ranks, each with whether it is pinned. An error is want of memory.
+// The ready keys with their ranks, each with whether it is pinned. An error means out of memory.
 fn ready_tiles(
     alloc: Global,
     script: &Script,
@@ -74,7 +74,7 @@ fn ready_tiles(
     Ok(ready)
 }
 
-// The queue of both trees as they are seen, and of the tiles that are there. An error is want of memory.
+// The queue of both trees as they are seen, and of the tiles that are there. An error means out of memory.
 fn rebuilt(
     alloc: Global,
     script: &Script,
@@ -99,8 +99,8 @@ fn rebuilt(
     Ok(queue)
 }
 
-/// The raster queue for the tiles of a run with these trees, where so many keys are being made. An error is
-/// want of memory.
+/// The raster queue for the tiles of a run with these trees, where the given number of keys are being made.
+/// An error means out of memory.
 pub(crate) fn queue_of(
     alloc: Global,
     script: &Script,

@@ -110,7 +110,7 @@ fn is_activate(event: &Event, frame: u32, clamps: &Moves) -> bool
     }
 }
 
-// Whether an event is a scroll by so much.
+// Whether an event is a scroll by this much.
 fn is_scroll(event: &Event, input: u32, dx: i32, dy: i32) -> bool
     ensures { Decides result (kind.Scroll input dx dy ≡ event.now) }
 {

@@ -39,7 +39,7 @@ impl Drop for State {
 }
 
 impl State {
-    /// The state of a run in which nothing has come yet, with up to 16 workers. An error is want of memory.
+    /// The state of a run in which nothing has come yet, with up to 16 workers. An error means out of memory.
     pub(crate) fn new(alloc: Global, script: Arc<Script>, workers: u32) -> Result<State, AllocError>
         requires { workers ≤ 16 }
         ensures run { IfOk result (λ state. state.log ≡ new_run script.value workers) }

@@ -31,7 +31,7 @@ fn wide(pixels: i32) -> i64
     pixels as i64
 }
 
-// The move of a scroller by so much.
+// The move of a scroller by this much.
 fn move_by(scroller: u32, dx: i32, dy: i32) -> Move
     ensures { result ≡ record { scroller = scroller; dx = dx; dy = dy } }
 {
@@ -62,7 +62,7 @@ fn forget_where(tiles: &mut TileKeys, moves: bool)
     }
 }
 
-// Steps the tiles by an activation with these moves. An error is want of memory.
+// Steps the tiles by an activation with these moves. An error means out of memory.
 fn activate_tiles(
     alloc: Global,
     host: &ImplHost,
@@ -207,7 +207,7 @@ impl State {
         Ok(())
     }
 
-    /// Steps the parts by an entry that may come next. An error is want of memory; then the state is of no
+    /// Steps the parts by an entry that may come next. An error means out of memory; then the state is of no
     /// use any more.
     pub(crate) fn step(&mut self, actor: u32, event: &Event) -> Result<(), AllocError>
         requires { MayStep self.old actor event.now }

@@ -46,7 +46,7 @@ pub(crate) struct TileKeys {
     pub(crate) alloc: Global,
 }
 
-// So many workers that hold nothing. An error is want of memory.
+// The given number of workers that hold nothing. An error means out of memory.
 fn free_workers(alloc: Global, count: u32) -> Result<Vec<Option<TileKey>>, AllocError>
     ensures { IfOk result (λ held. AreFree count held.items) }
 {
@@ -57,7 +57,7 @@ fn free_workers(alloc: Global, count: u32) -> Result<Vec<Option<TileKey>>, Alloc
     Ok(held)
 }
 
-// Adds a key, where there is one. An error is want of memory.
+// Adds a key, where there is one. An error means out of memory.
 fn push_some(keys: &mut Keys, one: Option<TileKey>) -> Result<(), AllocError>
     ensures { OnOk result (keys.new ≡ keys.old ++ held_keys (one ∷ [])) }
 {
@@ -70,7 +70,7 @@ fn push_some(keys: &mut Keys, one: Option<TileKey>) -> Result<(), AllocError>
     }
 }
 
-/// The keys that workers hold. An error is want of memory.
+/// The keys that workers hold. An error means out of memory.
 pub(crate) fn keys_held(alloc: Global, held: &[Option<TileKey>]) -> Result<Keys, AllocError>
     ensures { IfOk result (λ keys. keys ≡ held_keys held.now) }
 {
@@ -101,7 +101,7 @@ fn put_held(held: &mut Vec<Option<TileKey>>, worker: usize, key: Option<TileKey>
     held[worker] = key;
 }
 
-// Adds a key where it is live. An error is want of memory.
+// Adds a key where it is live. An error means out of memory.
 fn insert_live(ready: &mut KeySet, key: TileKey, live: bool) -> Result<(), AllocError>
     ensures { OnOk result ((q : Key) → has_key ready.new q ≡ ((live && same_key key q) || has_key ready.old q)) }
 {
@@ -131,7 +131,7 @@ fn finish_in(queue: &mut Option<RasterQueue>, tile: Option<ReadyTile>)
     }
 }
 
-// The keys that a tree lacks, in their order. An error is want of memory.
+// The keys that a tree lacks, in their order. An error means out of memory.
 fn dead_of(alloc: Global, tree: &SeenTree<'_>, keys: &[TileKey]) -> Result<Keys, AllocError>
     ensures { IfOk result (λ dead. (t : Tree) → IsSeenTree t tree.now → dead ≡ filter (λ q. not (has_key (keys_of t) q)) keys.now) }
 {
@@ -147,7 +147,8 @@ fn dead_of(alloc: Global, tree: &SeenTree<'_>, keys: &[TileKey]) -> Result<Keys,
 }
 
 impl TileKeys {
-    /// The tiles of a run with so many workers in which nothing has come yet. An error is want of memory.
+    /// The tiles of a run with the given number of workers in which nothing has come yet. An error means out
+    /// of memory.
     pub(crate) fn new(alloc: Global, workers: u32) -> Result<TileKeys, AllocError>
         ensures { IfOk result (λ tiles. (s : ScriptModel) → Holds s workers [] tiles) }
     {
@@ -182,7 +183,7 @@ impl TileKeys {
         self.ready.has_all(keys)
     }
 
-    /// Those of the keys that are not ready, in their order. An error is want of memory.
+    /// Those of the keys that are not ready, in their order. An error means out of memory.
     pub(crate) fn missing(&self, keys: &Keys) -> Result<Keys, AllocError>
         ensures { IfOk result (λ missing. (s : ScriptModel) (workers : ℕ) (h : List Entry) → Holds s workers h self.now → missing ≡ filter (λ q. not (has_key (model.ready s h) q)) keys.now) }
     {
@@ -200,7 +201,7 @@ impl TileKeys {
         queue.first()
     }
 
-    /// The keys that are evicted for the next one, the worst first. There is a queue. An error is want of
+    /// The keys that are evicted for the next one, the worst first. There is a queue. An error means out of
     /// memory.
     pub(crate) fn evicted(&self, key: TileKey) -> Result<Keys, AllocError>
         requires { is_some self.now.queue ≡ true }
@@ -212,7 +213,8 @@ impl TileKeys {
         queue.evicted(key)
     }
 
-    /// Makes the queue anew, for these trees, where so many keys are being made. An error is want of memory.
+    /// Makes the queue anew, for these trees, where the given number of keys are being made. An error means
+    /// out of memory.
     pub(crate) fn requeue(
         &mut self,
         script: &Script,
@@ -240,7 +242,7 @@ impl TileKeys {
     }
 
     /// A worker is done with the key that it holds, whose tile is this; None where the key is no longer live.
-    /// An error is want of memory.
+    /// An error means out of memory.
     pub(crate) fn done(
         &mut self,
         worker: u32,
@@ -264,7 +266,7 @@ impl TileKeys {
     }
 
     /// The pending tree, which needs these keys, becomes the active one: they are pinned, the ready keys that
-    /// the tree lacks are dropped, and the queue is forgotten. An error is want of memory.
+    /// the tree lacks are dropped, and the queue is forgotten. An error means out of memory.
     pub(crate) fn activate(&mut self, needed: &Keys, tree: &SeenTree<'_>) -> Result<(), AllocError>
         ensures { OnOk result ((s : ScriptModel) (workers : ℕ) (h : List Entry) (actor k : ℕ) (clamps : List Move) → IsAccepted s → Legal s workers (activate actor k clamps ∷ h) → Holds s workers h self.old → needed.now ≡ required s h → IsSeenTree (pending_tree s h) tree.now → Holds s workers (activate actor k clamps ∷ h) self.new) }
     {

@@ -1,4 +1,4 @@
--- Fronts of bytes, one behind the other.
+-- Prefixes of bytes, one after another.
 use Rattle.std.proofs.Common.{◌≡◌, ℕ, zero, suc, ◌+◌, ◌<◌, ◌==◌, Bool, true, false, cond, List, [], ◌∷◌, ◌++◌, length, Option, Some, None, refl, sym, ◌∙◌, ap, subst, arith}
 use Rattle.std.specs.Prelude.{option_and_then}
 use Rattle.std.specs.Bool.{Decides}
@@ -46,7 +46,7 @@ unfolding joined_to
 joined_behind zero f xs = refl
 joined_behind (suc n) f xs = ap (option_and_then (behind (f n))) (joined_behind n f xs) ∙ sym (behind_append (joined_to n f) (f n) xs)
 
--- a front and what stands behind it are the bytes
+-- a prefix and what stands after it are the bytes
 
 rest_of : (xs r : List ℕ) → Some xs ≡ Some r → xs ≡ r
 rest_of xs r e = cc
@@ -118,7 +118,7 @@ pub image_is : (pixel : ℕ → ℕ → Parts) (w h : ℕ) → image pixel w h �
 unfolding image
 image_is pixel w h = refl
 
--- the same fronts one after another
+-- the same prefixes one after another
 pub each_same : (n : ℕ) (f g : ℕ → List ℕ) (xs : List ℕ) → ((x : ℕ) → x < n → f x ≡ g x) → behind_each n f xs ≡ behind_each n g xs
 each_same zero f g xs same = refl
 each_same (suc n) f g xs same =

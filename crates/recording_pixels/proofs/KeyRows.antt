@@ -14,7 +14,7 @@ use Rattle.page_display_list.specs.Content.{content}
 use Rattle.page_layers.specs.Paintings.{Placed, has_place, colour_there, placed_colour}
 use Rattle.page_layers.specs.TreePainting.{place_at}
 
--- of keys by rising row those of one row stand behind those of smaller rows, and before those of greater ones
+-- of keys by rising row those of one row stand after those of smaller rows, and before those of greater ones
 cut_out : (row : ℕ) (ks : List TileKey) (i j : ℕ)
     → IsPartitionPoint (λ k. nat_lt k.y row ≡ true) (λ k. nat_lt k.y row ≡ false) ks i → i ≤ length ks
     → IsPartitionPoint (λ k. nat_le k.y row ≡ true) (λ k. nat_le k.y row ≡ false) (drop i ks) j → j ≤ length (drop i ks)
@@ -46,7 +46,7 @@ cut_twice row ks rest own i j e f s h t g =
     f ∙ ap (λ (ls : List TileKey). take j ls) e
     ∙ cut_out row ks i j s h (subst (λ (ls : List TileKey). IsPartitionPoint (λ k. nat_le k.y row ≡ true) (λ k. nat_le k.y row ≡ false) ls j) e t) (subst (λ (ls : List TileKey). j ≤ length ls) e g)
 
--- keys behind some others stand by rising row too
+-- keys after some others stand by rising row too
 pub rest_rises : (ks rest : List TileKey) (i : ℕ) → rest ≡ drop i ks → IsNonDecreasingBy (λ k. k.y) ks → IsNonDecreasingBy (λ k. k.y) rest
 rest_rises ks rest i e r = subst (λ (ls : List TileKey). IsNonDecreasingBy (λ k. k.y) ls) (sym e) (IsNonDecreasingBy-drop (λ k. k.y) i ks r)
 

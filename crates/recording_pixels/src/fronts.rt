@@ -1,4 +1,4 @@
-//! What stands behind a front of bytes.
+//! What stands after a prefix of bytes.
 
 ghost use Rattle.std.specs.Prelude.{◌≡◌, [], ◌∷◌, option_copied};
 ghost use Rattle.model_history.specs.Recordings.{rgb};
@@ -6,7 +6,7 @@ ghost use Rattle.recording_pixels.specs.inner.Behind.{behind};
 
 use pixel::Colour;
 
-// What stands behind a byte; None where the bytes do not begin with it.
+// What stands after a byte; None where the bytes do not begin with it.
 fn behind_byte(byte: u8, bytes: &[u8]) -> Option<&[u8]>
     ensures { option_copied result ≡ behind (byte ∷ []) bytes.now }
 {
@@ -16,7 +16,7 @@ fn behind_byte(byte: u8, bytes: &[u8]) -> Option<&[u8]>
     }
 }
 
-/// What stands behind a front; None where the bytes do not begin with it.
+/// What stands after a prefix; None where the bytes do not begin with it.
 pub(crate) fn behind_front<'a>(front: &[u8], bytes: &'a [u8]) -> Option<&'a [u8]>
     ensures { option_copied result ≡ behind front.now bytes.now }
 {
@@ -34,7 +34,7 @@ pub(crate) fn behind_front<'a>(front: &[u8], bytes: &'a [u8]) -> Option<&'a [u8]
     Some(rest)
 }
 
-/// What stands behind a pixel of this colour; None where the bytes do not begin with one.
+/// What stands after a pixel of this colour; None where the bytes do not begin with one.
 pub(crate) fn behind_pixel(colour: Colour, bytes: &[u8]) -> Option<&[u8]>
     ensures { option_copied result ≡ behind (rgb colour) bytes.now }
 {

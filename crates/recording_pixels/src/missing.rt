@@ -31,8 +31,8 @@ fn place_of(tile: u32, at: Point) -> Place
     }
 }
 
-// So many points of a layer, from this one on to the right, lie in one tile: all up to the tile's edge where
-// the point is right of the layer's origin, and at most `most`.
+// The given number of points of a layer, from this one on to the right, lie in one tile: all up to the tile's
+// edge where the point is right of the layer's origin, and at most `most`.
 fn run_in_tile(tile: u32, at: Point, most: usize) -> usize
     requires cut { 1 ≤ tile }
     requires any { 1 ≤ most }

@@ -22,7 +22,7 @@ use pixel::{Colour, colour_at, fill_row};
 use recording_text::push_image_head;
 use std::alloc::{AllocError, Global};
 
-// What stands behind the first w pixels of a row; None where the bytes do not begin with them.
+// What stands after the first w pixels of a row; None where the bytes do not begin with them.
 fn behind_row<'a>(row: &[u8], w: usize, bytes: &'a [u8]) -> Option<&'a [u8]>
     requires size { length row.now ≡ 4 * w }
     requires premultiplied { ArePremultiplied row.now }
@@ -65,7 +65,7 @@ fn paint_row(
     Ok(())
 }
 
-// What stands behind the first w pixels of each of the first h rows of the screen; None where the bytes do
+// What stands after the first w pixels of each of the first h rows of the screen; None where the bytes do
 // not begin with them. What `row`, `line` and `spare` hold afterwards is not said.
 fn behind_rows<'a>(
     alloc: Global,
@@ -99,7 +99,7 @@ fn behind_rows<'a>(
     Ok(Some(rest))
 }
 
-// What stands behind the first w pixels of each of the first h rows of the screen, with the memory for the
+// What stands after the first w pixels of each of the first h rows of the screen, with the memory for the
 // rows; None where the bytes do not begin with them.
 fn behind_pixels<'a>(
     alloc: Global,
@@ -135,7 +135,7 @@ fn behind_pixels<'a>(
     Ok(rest)
 }
 
-// Whether bytes are a head and the rows of the screen behind it, and nothing more.
+// Whether bytes are a head and the rows of the screen after it, and nothing more.
 fn holds_image(
     alloc: Global,
     sheets: &[Sheet],
@@ -165,7 +165,7 @@ fn holds_image(
 
 /// Whether bytes are the image of what the screen shows: of the painting of a page, as large as its view, at
 /// these offsets of its scrollers, over this background, and with the tiles of these keys missing. Each offset
-/// is from 0 to 1048576 on both axes. An error is want of memory.
+/// is from 0 to 1048576 on both axes. An error means out of memory.
 pub fn is_painted(
     alloc: Global,
     page: &LayerTree,

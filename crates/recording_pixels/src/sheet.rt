@@ -164,7 +164,7 @@ fn sheets_in(
     Ok(sheets)
 }
 
-/// The layers of a tree in their places at these offsets, in painting order. An error is want of memory.
+/// The layers of a tree in their places at these offsets, in painting order. An error means out of memory.
 pub(crate) fn sheets_of(
     alloc: Global,
     tree: &LayerTree,

@@ -33,7 +33,7 @@ fn lies_inside(sheet: &Sheet, depth: usize, effect: u32) -> bool
     }
 }
 
-// How many layers from the front on lie in this effect's group.
+// How many layers from the first on lie in this effect's group.
 fn run_len(sheets: &[Sheet], depth: usize, effect: u32) -> usize
     ensures value { result ≡ prefix_len (lies_in effects_of depth effect) sheets.now }
     ensures within { result ≤ length sheets.now }
@@ -59,10 +59,10 @@ fn fade_over(row: &mut [u8], width: usize, inner: &[u8], opacity: u8)
     faded_over(row, inner, opacity);
 }
 
-/// Layers, those of one effect with their groups from a depth on, laid over row `y` of the screen in
-/// order. Layers that stand together in a group are blended from transparent, faded by the group's
-/// opacity, and laid over what stands below them. What `line` and `spare` hold afterwards is not said. An
-/// error is want of memory.
+/// Layers, those of one effect with their groups from a depth on, laid over row `y` of the screen in order.
+/// Layers that stand together in a group are blended from transparent, faded by the group's opacity, and laid
+/// over what stands below them. What `line` and `spare` hold afterwards is not said. An error means out of
+/// memory.
 pub(crate) fn paint_from(
     alloc: Global,
     sheets: &[Sheet],

@@ -62,7 +62,7 @@ drawn_bad : (v : View) (xs : List ℕ) (i : ℕ) (ms : List TileKey) (place : �
 unfolding with_image
 drawn_bad v xs i ms place line fits is = drawn_bad_in (image_length v.w v.h (drop (line_length (event.Draw i ms)) xs)) v xs i ms place refl line fits is
 
--- the part of the end, by what stands behind its line
+-- the part of the end, by what stands after its line
 abbrev ended : List ℕ → Result RecordingPart ℕ
 ended ys = if is_nil ys then Ok (bare event.End) else Err (line_length event.End)
 

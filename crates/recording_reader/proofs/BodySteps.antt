@@ -1,4 +1,4 @@
--- One part of a recording and what is read behind it.
+-- One part of a recording and what is read after it.
 use Rattle.std.proofs.Common.{◌≡◌, ℕ, zero, suc, ◌+◌, ◌-◌, ◌<◌, List, [], ◌∷◌, drop, refl, ap, sym, ◌∙◌, arith}
 use Rattle.std.specs.Prelude.{Option, Result, Ok, Err, if◌then◌else◌}
 use Rattle.std.proofs.lemmas.List.{drop-drop}

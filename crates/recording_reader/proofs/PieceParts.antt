@@ -18,7 +18,7 @@ use Rattle.recording_reader.specs.declared.part.RecordingPart.{RecordingPart}
 use Rattle.recording_reader.specs.inner.Parts.{◌>>=◌, or_bad, line_length, with_image, bare, is_nil, at_end, part_of, part_at, images_in}
 use Rattle.recording_reader.specs.Pieces.{Piece, piece_text, IsImage, HasImage, IsPiece, image_span_of, is_end}
 
--- the part of an event with these bytes behind its line
+-- the part of an event with these bytes after its line
 abbrev pub whole_part : Event → List ℕ → RecordingPart
 whole_part (event.Draw input missing) image = record { event = event.Draw input missing; size = line_length (event.Draw input missing) + length image; image = Some (line_length (event.Draw input missing)) }
 whole_part e image = bare e
@@ -86,7 +86,7 @@ or_bad_ok : {A : Type 0} (place : ℕ) (o : Option A) (x : A) → or_bad place o
 or_bad_ok place None x is = absurd (cc (is))
 or_bad_ok place (Some y) x is = let one : y ≡ x = cc (is) in ap (λ (z : _). Some z) one
 
--- two fronts and what stands behind them
+-- two prefixes and what stands after them
 split_text : (a b xs more r : List ℕ) (n : ℕ) → xs ≡ a ++ more → more ≡ b ++ r → n ≡ length a + length b → xs ≡ (a ++ b) ++ drop n xs
 split_text a b xs more r n first second long =
     let whole : xs ≡ (a ++ b) ++ r = first ∙ ap (λ (y : List ℕ). a ++ y) second ∙ sym (append_assoc a b r) in
@@ -154,7 +154,7 @@ from_part v xs (event.Stop a) p line fits is = absurd (cc (is))
 from_part v xs event.End p line fits is = from_end v xs p line is
 from_part v xs e p line fits is = from_bare v xs e p line fits refl refl (λ last. absurd (cc (last))) is
 
--- a part that was read is the part of a piece at the front
+-- a part that was read is the part of a piece at the start
 pub part_exact : (v : View) (xs : List ℕ) (p : RecordingPart) → part_at v xs ≡ Ok p → (image : List ℕ) × PartTells v xs p image
 unfolding part_at
 part_exact v xs p is =

@@ -18,7 +18,7 @@ use Rattle.recording_reader.proofs.PieceParts.{whole_part, piece_part, part_even
 pub piece_has_some : (p : Piece) → 0 < length (piece_text p)
 piece_has_some p = omega (arith, line_has_some p.event, length-append (event_line p.event) p.image)
 
--- one piece, and what is read behind it
+-- one piece, and what is read after it
 pub piece_step : (t : ViewTable) (shown : Option ℕ) (index at : ℕ) (p : Piece) (rest : List ℕ) → IsPiece (view_at t shown) p → (is_end p.event ≡ true → rest ≡ [])
     → body (piece_text p ++ rest) t shown index at 0 ≡ behind (entry_of p.event ∷ []) (image_span_of index at p.event p.image) (if is_end p.event then no_more else body rest t (shown_after shown p.event) (index + 1) (at + length (piece_text p)) 0)
 piece_step t shown index at p rest is last =

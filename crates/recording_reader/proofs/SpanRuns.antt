@@ -49,7 +49,7 @@ within_both : (n : ℕ) (ms ns : List ImageSpan) → AreWithin n ms → AreWithi
 within_both n [] ns first second = second
 within_both n (m ∷ ms) ns first second = (first.0, within_both n ms ns first.1 second)
 
--- the images of pieces that stand behind a front
+-- the images of pieces that stand after a prefix
 stand : (bytes front : List ℕ) (index : ℕ) (ps : List Piece) → AllHave ps → bytes ≡ front ++ flat_map piece_text ps → Stands bytes (image_spans index (length front) ps) (images_text ps)
 stand bytes front index [] have text = (refl, tt)
 stand bytes front index (p ∷ ps) have text =

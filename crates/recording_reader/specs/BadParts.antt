@@ -22,34 +22,34 @@ LacksEvent xs = (e : Event) (rest : List ℕ) → FitsEvent e → MayBeRecorded 
 abbrev pub LacksImage : View → List ℕ → Type 0
 LacksImage v xs = (image rest : List ℕ) → IsImage v image → xs ≡ image ++ rest → ⊥
 
--- they begin with the line of a draw, and behind it no image stands
+-- they begin with the line of a draw, and after it no image stands
 abbrev pub IsBadDraw : View → List ℕ → ℕ → Type 0
 IsBadDraw v xs place =
     (input : ℕ) × (missing : List TileKey) × (rest : List ℕ) × FitsEvent (event.Draw input missing) × (xs ≡ event_line (event.Draw input missing) ++ rest) × LacksImage v rest × (place ≡ length (event_line (event.Draw input missing)))
 
--- they begin with the line of the end, and behind it more stands
+-- they begin with the line of the end, and after it more stands
 abbrev pub IsBadEnd : List ℕ → ℕ → Type 0
 IsBadEnd xs place = (c : ℕ) × (rest : List ℕ) × (xs ≡ event_line event.End ++ (c ∷ rest)) × (place ≡ length (event_line event.End))
 
--- what is not of its form begins behind so many of these bytes, where images have the size of this view: an event's line; the image behind that of a draw; or what stands behind that of the end
+-- what is not of its form begins after the given number of these bytes, where images have the size of this view: an event's line; the image after that of a draw; or what stands after that of the end
 abbrev pub IsBadPart : View → List ℕ → ℕ → Type 0
 IsBadPart v xs place = ((place ≡ 0) × LacksEvent xs) ⊎ (IsBadDraw v xs place ⊎ IsBadEnd xs place)
 
--- pieces behind which a recording may go on: as those of a recording, without the end
+-- pieces after which a recording may go on: as those of a recording, without the end
 abbrev pub AreFront : ViewTable → Option ℕ → List Piece → Type 0
 AreFront t shown [] = Unit {0}
 AreFront t shown (p ∷ ps) = IsPiece (view_at t shown) p × (is_end p.event ≡ false) × AreFront t (shown_after shown p.event) ps
 
--- the frame that was activated last behind these pieces
+-- the frame that was activated last after these pieces
 abbrev pub shown_behind : Option ℕ → List Piece → Option ℕ
 shown_behind shown [] = shown
 shown_behind shown (p ∷ ps) = shown_behind (shown_after shown p.event) ps
 
--- the bytes are pieces of their form, and behind them a part that is not of its form, which begins behind so many of the bytes
+-- the bytes are pieces of their form, and after them a part that is not of its form, which begins after the given number of the bytes
 abbrev pub BreaksAt : ViewTable → Option ℕ → List ℕ → ℕ → Type 0
 BreaksAt t shown xs place =
     (ps : List Piece) × (rest : List ℕ) × (at : ℕ) × AreFront t shown ps × (xs ≡ flat_map piece_text ps ++ rest) × IsBadPart (view_at t (shown_behind shown ps)) rest at × (place ≡ length (flat_map piece_text ps) + at)
 
--- behind so many bytes come pieces of their form, and then a part that is not of its form and begins here
+-- after the given number of bytes come pieces of their form, and then a part that is not of its form and begins here
 abbrev pub StopsAt : List ℕ → ViewTable → ℕ → ℕ → Type 0
 StopsAt bytes t start place = (n : ℕ) × BreaksAt t None (drop start bytes) n × (place ≡ start + n)

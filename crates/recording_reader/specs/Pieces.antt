@@ -1,4 +1,4 @@
--- The text of a recording behind its two first lines: which events and images stand in it, and in which order.
+-- The text of a recording after its first two lines: which events and images stand in it, and in which order.
 use Rattle.std.specs.Prelude.{◌≡◌, ℕ, ◌+◌, nat_lt, Bool, true, false, cond, List, [], ◌∷◌, ◌++◌, length, map, flat_map, Option, Some, MatchBool}
 use Rattle.page_layers.specs.declared.view.View.{View}
 use Rattle.model_history.specs.declared.event.Event.{Event}
@@ -30,7 +30,7 @@ at_most_u32 n = cond (nat_lt n 4294967296) n 4294967295
 unfoldable pub entry_of : Event → Entry
 entry_of e = record { actor = at_most_u32 (actor_of e); event = e }
 
--- an event, and the bytes behind its line: an image behind a draw's, else none
+-- an event, and the bytes after its line: an image after a draw's, else none
 pub record Piece : Type 0 where
   pub event : Event
   pub image : List ℕ
@@ -42,7 +42,7 @@ piece_text p = event_line p.event ++ p.image
 abbrev pub IsImage : View → List ℕ → Type 0
 IsImage v image = (picture : List ℕ) × (length picture ≡ picture_size v.w v.h) × (image ≡ image_head v.w v.h ++ picture)
 
--- behind a draw stands an image, behind another event nothing; a stop stands in no recording
+-- after a draw stands an image, after another event nothing; a stop stands in no recording
 abbrev pub HasImage : View → Event → List ℕ → Type 0
 HasImage v (event.Draw input missing) image = IsImage v image
 HasImage v (event.Stop actor) image = ⊥
@@ -61,7 +61,7 @@ ArePieces t shown (p ∷ ps) = IsPiece (view_at t shown) p × MatchBool (is_end 
 abbrev pub entries : List Piece → List Entry
 entries ps = map (λ p. entry_of p.event) ps
 
--- the images of these pieces, one behind the other
+-- the images of these pieces, one after another
 abbrev pub images_text : List Piece → List ℕ
 images_text ps = flat_map (λ p. p.image) ps
 

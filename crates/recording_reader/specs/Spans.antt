@@ -6,7 +6,7 @@ use Rattle.recording_reader.specs.declared.cursor.ImageSpan.{ImageSpan}
 abbrev pub span_bytes : List ℕ → ImageSpan → List ℕ
 span_bytes bytes m = take m.size (drop m.at bytes)
 
--- it ends within so many bytes
+-- it ends within the given number of bytes
 abbrev pub IsWithinBytes : ℕ → ImageSpan → Type 0
 IsWithinBytes n m = m.at + m.size ≤ n
 

@@ -8,12 +8,12 @@ use Rattle.recording_reader.specs.Pieces.{piece_text, IsPiece, is_end, shown_aft
 use Rattle.recording_reader.specs.Spans.{span_bytes, IsWithinBytes}
 use Rattle.recording_reader.specs.Views.{ViewTable, view_at}
 
--- the cursor stands in the bytes, behind so many events at least as many bytes
+-- the cursor stands in the bytes, after the given number of events at least as many bytes
 pub record IsAmong (bytes : List ℕ) (c : Cursor) : Type 0 where
   pub at : c.at ≤ length bytes
   pub index : c.index ≤ c.at
 
--- the place behind the two first lines
+-- the place after the first two lines
 abbrev pub start_at : ℕ → Cursor
 start_at n = record { at = n; index = 0; shown = None }
 
@@ -22,7 +22,7 @@ abbrev pub IsImageAt : List ℕ → Option ImageSpan → List ℕ → Type 0
 IsImageAt bytes None image = image ≡ []
 IsImageAt bytes (Some m) image = IsWithinBytes (length bytes) m × (span_bytes bytes m ≡ image)
 
--- a piece stands at the cursor, which has gone on behind it: the step has its event, and tells where its image stands
+-- a piece stands at the cursor, which has gone on after it: the step has its event, and tells where its image stands
 pub record TakesPiece (bytes : List ℕ) (t : ViewTable) (old new : Cursor) (step : EventSpan) : Type 0 where
   pub image : List ℕ
   pub piece : IsPiece (view_at t old.shown) (record { event = step.event; image = image })

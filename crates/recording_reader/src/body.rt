@@ -1,4 +1,4 @@
-//! The parts of a recording behind its two first lines, one after another.
+//! The parts of a recording after its first two lines, one after another.
 
 ghost use Rattle.std.specs.Prelude.{◌≡◌, ℕ, ◌+◌, ◌<◌, ◌≤◌, ◌^◌, List, length, map, Result, OnOk, IfOk, OnErr, option_to_list, ◌∷◌, ◌++◌, []};
 ghost use Rattle.recording_reader.specs.Pieces.{is_end as is_end_of, entry_of as entry_is};
@@ -8,7 +8,7 @@ ghost use Rattle.recording_reader.specs.Taking.{start_at};
 ghost use Rattle.recording_reader.specs.Bodies.{ReadsBody, FindsImages};
 ghost use Rattle.recording_reader.specs.inner.Walks.{WalksBody, WalksSpans};
 
-use crate::cursor::{Cursor, ImageSpan, EventSpan, take_part};
+use crate::cursor::{Cursor, EventSpan, ImageSpan, take_part};
 use crate::part::entry_of;
 use crate::place::ImagePlace;
 use crate::views::ImageViews;
@@ -16,7 +16,7 @@ use model_history::{Event, History};
 use recording_text::Scratch;
 use std::alloc::{AllocError, Global};
 
-/// What is read behind the two first lines.
+/// What is read after the first two lines.
 #[derive(Drop)]
 pub struct Body {
     /// The events with their actors.
@@ -132,7 +132,7 @@ fn walk_spans(
 
 /// The events and the places of the images of a recording with these views, whose third line begins at
 /// `start`; or the offset at which the first part begins that is not of its form: an event's line, the
-/// image behind that of a draw, or what stands behind that of the end.
+/// image after that of a draw, or what stands after that of the end.
 #[tactic(auto, using(crate::proofs::BodyReads::body_reads, crate::proofs::BodyReads::body_stops))]
 pub fn read_body(
     alloc: Global,

@@ -54,7 +54,7 @@ pub struct ImageSpan {
 pub struct EventSpan {
     /// The event.
     pub event: Event,
-    /// The image behind a draw.
+    /// The image after a draw.
     pub image: Option<ImageSpan>,
 }
 
@@ -84,7 +84,7 @@ fn span_of(cursor: &Cursor, size: usize, front: Option<usize>) -> Option<ImageSp
     }
 }
 
-// Goes on behind a part.
+// Goes on after a part.
 fn pass(cursor: &mut Cursor, part: RecordingPart) -> EventSpan
     requires long { cursor.old.at + part.size < 2 ^ 32 }
     requires few { cursor.old.index < 2 ^ 32 }
@@ -136,9 +136,9 @@ pub(crate) fn take_part(
     }
 }
 
-/// The next piece of a recording with these views, and goes on behind it; or the place of what is not of its
-/// form there: an event's line, the image behind that of a draw, or what stands behind that of the end. The
-/// cursor stands among the bytes, at first behind the two first lines. An error is want of memory.
+/// The next piece of a recording with these views, and goes on after it; or the place of what is not of its
+/// form there: an event's line, the image after that of a draw, or what stands after that of the end. The
+/// cursor stands among the bytes, at first after the first two lines. An error means out of memory.
 pub fn take_piece(
     bytes: &[u8],
     views: &ImageViews,

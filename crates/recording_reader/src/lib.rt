@@ -1,4 +1,4 @@
-//! The parts of a recording behind its two first lines: event lines, with an image behind that of each
+//! The parts of a recording after its first two lines: event lines, with an image after that of each
 //! draw.
 //!
 //! The modules stand in the order in which one needs the other: the views that say how large an image
@@ -12,7 +12,7 @@ mod place;
 mod views;
 
 pub use body::{Body, find_images, read_body};
-pub use cursor::{Cursor, ImageSpan, EventSpan, take_piece};
+pub use cursor::{Cursor, EventSpan, ImageSpan, take_piece};
 pub use part::entry_of;
 pub use place::ImagePlace;
 pub use views::ImageViews;

@@ -1,4 +1,4 @@
-//! The parts of a recording: an event's line, and the image behind it where it is a draw.
+//! The parts of a recording: an event's line, and the image after it where it is a draw.
 
 ghost use Rattle.std.specs.Prelude.{◌≡◌, ℕ, ◌+◌, ◌<◌, ◌≤◌, List, length, drop, Result, IfOk, IfSome, MatchResult};
 ghost use Rattle.model_history.specs.Texts.{event_line};
@@ -24,7 +24,7 @@ pub struct RecordingPart {
     pub image: Option<usize>,
 }
 
-// What stands behind the first bytes.
+// What stands after the first bytes.
 fn behind(bytes: &[u8], count: usize) -> &[u8]
     requires { count ≤ length bytes.now }
     ensures { result.now ≡ drop count bytes.now }
@@ -32,7 +32,7 @@ fn behind(bytes: &[u8], count: usize) -> &[u8]
     &bytes[count..]
 }
 
-// A draw with the image behind its line.
+// A draw with the image after its line.
 #[tactic(auto, unfolding(crate::specs::inner::Parts::with_image))]
 fn with_image(view: View, bytes: &[u8], event: Event, line: usize) -> Result<RecordingPart, usize>
     requires size { line ≡ parts.line_length event }
@@ -99,7 +99,7 @@ fn part_of(view: View, bytes: &[u8], event: Event, line: usize) -> Result<Record
     }
 }
 
-/// The part at the front of these bytes, where images have the size of this view; or where in it the
+/// The part at the start of these bytes, where images have the size of this view; or where in it the
 /// first thing stands that is not of its form.
 #[tactic(auto, unfolding(crate::specs::inner::Parts::part_at))]
 pub fn part_at(

@@ -1,4 +1,4 @@
--- Packed pixels, some behind others.
+-- Packed pixels, some after others.
 use Rattle.std.proofs.Common.{◌≡◌, ℕ, ◌+◌, ◌*◌, ◌-◌, ◌<◌, List, slice_index, ◌∙◌, subst, inl, inr, arith}
 use Rattle.std.proofs.lemmas.Bool.{cases_lt}
 use Rattle.pixel.specs.Colours.{Parts}
@@ -19,7 +19,7 @@ packed_at k row old new j are lt =
     let at : 0 + j ≡ j = omega arith in
     subst (λ (i : ℕ). IsRgb (pixel row i) i new) at (are.inside j lt)
 
--- the first pixels, and more behind them
+-- the first pixels, and more after them
 pub packed_more : (k n : ℕ) (row old mid new : List ℕ) → ArePacked 0 k row old mid → ArePacked k n row mid new → ArePacked 0 (k + n) row old new
 packed_more k n row old mid new first more = record {
   inside = λ j lt. elim (cases_lt j k) as (λ _. IsRgb (pixel row (0 + j)) (0 + j) new) [

@@ -9,7 +9,7 @@ use std::simd::prelude::*;
 /// How many bytes are taken at a time, and written.
 pub(crate) const LANES: usize = 16;
 
-/// Red, green and blue of four pixels, and behind them their alphas.
+/// Red, green and blue of four pixels, and after them their alphas.
 #[inline(always)]
 fn colours_first(v: u8x16) -> u8x16
     requires { length v ≡ 16 }
@@ -19,7 +19,7 @@ fn colours_first(v: u8x16) -> u8x16
     v.swizzle([0, 1, 2, 4, 5, 6, 8, 9, 10, 12, 13, 14, 3, 7, 11, 15])
 }
 
-/// Packs the four pixels of a row from one on. The four bytes behind them take any value.
+/// Packs the four pixels of a row from one on. The four bytes after them take any value.
 #[inline(always)]
 pub(crate) fn pack_four(packed: &mut [u8], row: &[u8], place: usize)
     requires given { 4 * place + 16 ≤ length row.now }
@@ -30,13 +30,13 @@ pub(crate) fn pack_four(packed: &mut [u8], row: &[u8], place: usize)
     colours_first(pixels).copy_to_slice(&mut packed[3 * place..]);
 }
 
-/// How many pixels are packed at a time where so many are left.
+/// How many pixels are packed at a time where that many are left.
 pub(crate) const BLOCK: usize = 16;
 
 /// How many bytes they are written to.
 pub(crate) const ROOM: usize = 52;
 
-/// Packs the sixteen pixels of a row from one on. The four bytes behind them take any value.
+/// Packs the sixteen pixels of a row from one on. The four bytes after them take any value.
 #[inline(always)]
 pub(crate) fn pack_sixteen(packed: &mut [u8], row: &[u8], place: usize)
     requires given { 4 * place + 64 ≤ length row.now }

@@ -37,7 +37,7 @@ pub fn pack_run_in_parts<R: Threads + Sync>(
     );
 }
 
-// packs a row of whole pixels in so many parts
+// packs a row of whole pixels in the given number of parts
 #[cycle(halves)]
 fn pack_parts<R: Threads + Sync>(rt: &R, parts: usize, row: &[u8], packed: &mut [u8])
     requires { CanBePacked row.now packed.old }
@@ -54,7 +54,7 @@ fn pack_parts<R: Threads + Sync>(rt: &R, parts: usize, row: &[u8], packed: &mut 
     pack_halves(rt, first, here, to, parts - first, there, beyond);
 }
 
-// packs two rows side by side, each in so many parts
+// packs two rows side by side, each in the given number of parts
 #[cycle(halves)]
 fn pack_halves<R: Threads + Sync>(
     rt: &R,
@@ -82,7 +82,7 @@ fn pack_halves<R: Threads + Sync>(
     join_mut(rt, &mut front, &mut back);
 }
 
-// how many of so many pixels the first of some parts have
+// how many of the given number of pixels the first of some parts have
 fn share_of(pixels: usize, parts: usize, first: usize) -> usize
     requires some { 1 ≤ parts }
     requires first { first ≤ parts }

@@ -10,7 +10,7 @@ total_both : (xs ys : List ℕ) → byte_sum (xs ++ ys) ≡ byte_sum xs + byte_s
 total_both [] ys = omega arith
 total_both (x ∷ xs) ys = let rest = total_both xs ys in omega (arith, rest)
 
--- the bytes of a piece stand behind those of the others
+-- the bytes of a piece stand after those of the others
 pub joined_more : (pieces : List (Vec ℕ)) (piece : Vec ℕ) → joined (pieces ++ piece ∷ []) ≡ joined pieces ++ piece.items
 joined_more pieces piece =
     flat_map-append (λ (p : Vec ℕ). p.items) pieces (piece ∷ []) ∙ ap (λ (w : List ℕ). joined pieces ++ w) (append-nil piece.items)

@@ -2,7 +2,7 @@
 use Rattle.std.specs.Prelude.{ℕ, List, flat_map}
 use Rattle.std.specs.Global.{Vec}
 
--- all bytes that were put, and how many puts were refused for want of memory
+-- all bytes that were put, and how many puts were refused for lack of memory
 pub record Put : Type 0 where
   pub held : List ℕ
   pub refused : ℕ

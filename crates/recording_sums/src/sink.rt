@@ -22,7 +22,7 @@ pub struct SumSink {
     bytes: u64,
     /// Their sum modulo 2^64.
     sum: u64,
-    /// How many puts were refused for want of memory.
+    /// How many puts were refused for lack of memory.
     refused: u64,
 }
 

@@ -23,7 +23,7 @@ digit d small = grind (arith, nat_tests)
 short : (n : ℕ) → n ≤ 922337203685477580 → nat_le n 922337203685477580 ≡ true
 short n few = grind (arith, nat_tests)
 
--- a digit behind others
+-- a digit after others
 digit_more : (b : Bool) (n d : ℕ) (x : List ℕ) → d < 10 → n ≤ 922337203685477580 → numbers b n ((48 + d) ∷ x) ≡ numbers b (n * 10 + d) x
 unfolding numbers
 digit_more b n d x small few =

@@ -25,7 +25,7 @@ after_exact : (front xs r : List ℕ) → after_front front xs ≡ Some r → xs
 unfolding after_front
 after_exact front xs r is = begun (starts_with nat_eq xs front) front xs r refl is
 
--- five fronts one behind the other
+-- five prefixes one after another
 abbrev behind_five : List ℕ → List ℕ → List ℕ → List ℕ → List ℕ → List ℕ → Option (List ℕ)
 behind_five a b c d e xs = do
   p ← after_front a xs
@@ -53,7 +53,7 @@ head_right : (w h : ℕ) (rest : List ℕ) → image_head w h ++ rest ≡ codes 
 unfolding image_head
 head_right w h rest = five_right (codes "P6\n") (decimal w) (codes " ") (decimal h) (codes "\n255\n") rest
 
--- what stands behind the head of an image
+-- what stands after the head of an image
 pub head_again : (w h : ℕ) (rest : List ℕ) → behind_head w h (image_head w h ++ rest) ≡ Some rest
 unfolding behind_head
 head_again w h rest = ap (behind_five (codes "P6\n") (decimal w) (codes " ") (decimal h) (codes "\n255\n")) (head_right w h rest) ∙ five_again (codes "P6\n") (decimal w) (codes " ") (decimal h) (codes "\n255\n") rest
@@ -112,20 +112,20 @@ length_exact w h xs n is =
 pub image_reads : (xs : List ℕ) (w h : ℕ) (p : List ℕ) → BeginsWithImage xs w h p → picture_at w h xs ≡ Some p
 image_reads xs w h p begins = ap (picture_at w h) begins.1.1 ∙ picture_again w h p begins.1.0 begins.0
 
--- one image of a size at most stands at the front
+-- one image of a size at most stands at the start
 pub one_image : (xs : List ℕ) (w h : ℕ) (p q : List ℕ) → BeginsWithImage xs w h p → BeginsWithImage xs w h q → p ≡ q
 one_image xs w h p q first second =
     let a = image_reads xs w h p first in
     let b = image_reads xs w h q second in
     cc (a, b)
 
--- what is answered of the image at the front of bytes
+-- what is answered of the image at the start of bytes
 pub is_picture : (result : Option (Bor (List ℕ))) (bytes : List ℕ) (w h : ℕ) → option_copied result ≡ picture_at w h bytes
     → MatchOption result ((picture : List ℕ) → BeginsWithImage bytes w h picture → ⊥) (λ picture. BeginsWithImage bytes w h picture.now)
 is_picture None bytes w h is = λ picture begins. let there = image_reads bytes w h picture begins in absurd (cc (is, there))
 is_picture (Some p) bytes w h is = picture_exact w h bytes p.now (sym is)
 
--- the length of an image by the bytes behind its head
+-- the length of an image by the bytes after its head
 pub length_is : (w h : ℕ) (xs rest p : List ℕ) (n : ℕ) → behind_head w h xs ≡ Some rest → first_bytes (picture_size w h) rest ≡ Some p → n ≡ (length xs - length rest) + length p → Some n ≡ image_length w h xs
 unfolding image_length picture_at
 length_is w h xs rest p n head pixels is =

@@ -6,7 +6,7 @@ use Rattle.page_layers.specs.declared.moves.Move.{Move}
 use Rattle.recording_text.specs.Numbers.{before, key_in, keys_from, move_in, moves_of}
 use Rattle.recording_text.specs.Gathering.{prefixed_by}
 
--- an element before the rest goes behind those before it
+-- an element before the rest goes after those before it
 after_more : {A : Type 0} (xs : List A) (x : A) (o : Option (List A)) → prefixed_by xs (before (Some x) o) ≡ prefixed_by (xs ++ (x ∷ [])) o
 after_more xs x None = refl
 after_more xs x (Some ys) = ap (λ (zs : List _). Some zs) (sym (append_assoc xs (x ∷ []) ys))

@@ -19,7 +19,7 @@ use Rattle.recording_text.proofs.LineRuns.{guess_again}
 pub starts_again : (xs rest : List ℕ) → starts_with nat_eq (xs ++ rest) xs ≡ true
 starts_again xs rest = (starts_is Decides-eqb (xs ++ rest) xs _ refl).1 rest refl
 
--- where bytes begin with a text, they are that text and what stands behind it
+-- where bytes begin with a text, they are that text and what stands after it
 pub starts_exact : (xs front : List ℕ) → starts_with nat_eq xs front ≡ true → xs ≡ front ++ drop (length front) xs
 starts_exact xs front is = (starts_is Decides-eqb xs front _ refl).0 is
 
@@ -27,7 +27,7 @@ checked_again : (e : Event) (rest : List ℕ) → checked (event_line e ++ rest)
 unfolding checked
 checked_again e rest = rw (starts_again (event_line e) rest) refl
 
--- the line of an event, with anything behind it, begins with that event's line
+-- the line of an event, with anything after it, begins with that event's line
 pub event_again : (e : Event) (rest : List ℕ) → FitsEvent e → event_at (event_line e ++ rest) ≡ Some e
 unfolding event_at
 event_again e rest fits = rw (guess_again e rest fits) (checked_again e rest)
@@ -51,7 +51,7 @@ unfolding checked
 guessed_exact None xs f is = absurd (cc (is))
 guessed_exact (Some e) xs f is = checked_exact (starts_with nat_eq xs (event_line e)) xs e f refl is
 
--- bytes that begin with an event's line are that line and what stands behind it
+-- bytes that begin with an event's line are that line and what stands after it
 pub event_exact : (xs : List ℕ) (e : Event) → event_at xs ≡ Some e → xs ≡ event_line e ++ drop (length (event_line e)) xs
 unfolding event_at
 event_exact xs e is = guessed_exact (guess xs) xs e is
@@ -64,7 +64,7 @@ read_whole line e size is long whole =
     let one : line ≡ event_line e = parts ∙ ap (λ (r : List ℕ). event_line e ++ r) none ∙ append-nil (event_line e) in
     ((event_fits line e is, one), λ f fits same. sym is ∙ ap event_at (same ∙ sym (append-nil (event_line f))) ∙ event_again f [] fits)
 
--- a line that goes on behind an event's is none
+-- a line that goes on after an event's is none
 pub read_longer : (line : List ℕ) (e : Event) (size : ℕ) → event_at line ≡ Some e → size ≡ length (event_line e) → size < length line → ReadsLine line None
 read_longer line e size is long less = (
   tt,

@@ -1,7 +1,7 @@
 -- What gathering numbers into a list gives.
 use Rattle.std.specs.Prelude.{◌≡◌, ℤ, Bool, true, false, List, ◌++◌, Option, Some, None, ⊤}
 
--- all numbers were added behind those that were there; or there are none to be had
+-- all numbers were added after those that were there; or there are none to be had
 abbrev pub Gathers : Option (List ℤ) → List ℤ → Bool → List ℤ → Type 0
 Gathers (Some ns) old true new = new ≡ old ++ ns
 Gathers None old false new = ⊤

@@ -178,7 +178,7 @@ event_with_numbers w xs = do
   ns ← numbers false 0 (drop (head w) xs)
   event_of w ns
 
--- a `-` stands where the number behind `begin` would
+-- a `-` stands where the number after `begin` would
 abbrev pub has_plain_dash : List ℕ → Bool
 has_plain_dash (a ∷ b ∷ c ∷ d ∷ e ∷ f ∷ dash ∷ rest) = dash == 45
 has_plain_dash _ = false
@@ -191,7 +191,7 @@ guess_of xs word.Finish = Some event.Finish
 guess_of xs word.End = Some event.End
 guess_of xs w = event_with_numbers w xs
 
--- the event that the line at the front of these bytes can be
+-- the event that the line at the start of these bytes can be
 unfoldable pub guess : List ℕ → Option Event
 guess xs = do
   w ← word_at xs

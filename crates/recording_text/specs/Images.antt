@@ -17,11 +17,11 @@ rgb_of _ = []
 abbrev pub BeginsWithImage : List ℕ → ℕ → ℕ → List ℕ → Type 0
 BeginsWithImage xs w h picture = (length picture ≡ picture_size w h) × ((rest : List ℕ) × (xs ≡ (image_head w h ++ picture) ++ rest))
 
--- what stands behind a front
+-- what stands after a prefix
 unfoldable pub after_front : List ℕ → List ℕ → Option (List ℕ)
 after_front front xs = if starts_with nat_eq xs front then Some (drop (length front) xs) else None
 
--- what stands behind the head of an image of this size
+-- what stands after the head of an image of this size
 unfoldable pub behind_head : ℕ → ℕ → List ℕ → Option (List ℕ)
 behind_head w h xs = do
   kind ← after_front (codes "P6\n") xs
@@ -30,17 +30,17 @@ behind_head w h xs = do
   height ← after_front (decimal h) space
   after_front (codes "\n255\n") height
 
--- the first bytes of a list, where it has so many
+-- the first bytes of a list, where it has that many
 unfoldable pub first_bytes : ℕ → List ℕ → Option (List ℕ)
 first_bytes n xs = if nat_le n (length xs) then Some (take n xs) else None
 
--- the pixels of an image of this size at the front
+-- the pixels of an image of this size at the start
 unfoldable pub picture_at : ℕ → ℕ → List ℕ → Option (List ℕ)
 picture_at w h xs = do
   rest ← behind_head w h xs
   first_bytes (picture_size w h) rest
 
--- the length of the image of this size at the front
+-- the length of the image of this size at the start
 unfoldable pub image_length : ℕ → ℕ → List ℕ → Option ℕ
 image_length w h xs = do
   picture ← picture_at w h xs

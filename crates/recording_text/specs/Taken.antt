@@ -1,4 +1,4 @@
--- What taking a line from the front of bytes gives.
+-- What taking a line from the start of bytes gives.
 use Rattle.std.specs.Prelude.{◌≡◌, ℕ, ◌<◌, ◌≤◌, List, length, Option, Some, None}
 use Rattle.model_history.specs.declared.event.Event.{Event}
 use Rattle.model_history.specs.Texts.{event_line}

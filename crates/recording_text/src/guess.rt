@@ -229,7 +229,7 @@ fn event_of(alloc: Global, word: Word, numbers: &[i64]) -> Result<Option<Event>,
     }
 }
 
-/// What stands behind the first bytes; nothing where there are not so many.
+/// What stands after the first bytes; nothing where there are not that many.
 fn behind(bytes: &[u8], count: usize) -> &[u8]
     ensures { result.now ≡ drop count bytes.now }
 {
@@ -240,7 +240,7 @@ fn behind(bytes: &[u8], count: usize) -> &[u8]
     }
 }
 
-/// The event of the numbers behind a word.
+/// The event of the numbers after a word.
 fn with_numbers(
     bytes: &[u8],
     word: Word,
@@ -255,7 +255,7 @@ fn with_numbers(
     event_of(scratch.alloc, word, scratch.numbers.as_slice())
 }
 
-/// Whether a number begins with `-`, behind `begin`.
+/// Whether a number begins with `-`, after `begin`.
 fn is_plain(bytes: &[u8]) -> bool
     ensures { result ≡ guesses.has_plain_dash bytes.now }
 {
@@ -279,7 +279,7 @@ fn guess_of(bytes: &[u8], word: Word, scratch: &mut Scratch) -> Result<Option<Ev
     }
 }
 
-/// The event that the line at the front of these bytes can be, if it is an event's.
+/// The event that the line at the start of these bytes can be, if it is an event's.
 #[tactic(auto, unfolding(crate::specs::Guesses::guess))]
 pub fn guess(bytes: &[u8], scratch: &mut Scratch) -> Result<Option<Event>, AllocError>
     ensures { IfOk result (λ event. event ≡ guesses.guess bytes.now) }

@@ -78,7 +78,7 @@ pub fn p6(alloc: Global, w: u32, h: u32, rgba: &[u8]) -> Result<Vec<u8>, AllocEr
     Ok(text)
 }
 
-/// What stands behind a front; None where the bytes do not begin with it.
+/// What stands after a prefix; None where the bytes do not begin with it.
 #[tactic(auto, unfolding(crate::specs::Images::after_front))]
 pub fn after_front<'a>(front: &[u8], bytes: &'a [u8]) -> Option<&'a [u8]>
     ensures rest { option_copied result ≡ images.after_front front.now bytes.now }
@@ -91,7 +91,7 @@ pub fn after_front<'a>(front: &[u8], bytes: &'a [u8]) -> Option<&'a [u8]>
     }
 }
 
-/// What stands behind a number in plain decimal.
+/// What stands after a number in plain decimal.
 fn after_number(number: u32, bytes: &[u8]) -> Option<&[u8]>
     ensures rest { option_copied result ≡ images.after_front (decimal number) bytes.now }
     ensures short { IfSome result (λ rest. length rest.now ≤ length bytes.now) }
@@ -100,7 +100,7 @@ fn after_number(number: u32, bytes: &[u8]) -> Option<&[u8]>
     after_front(buffer.format(number).as_bytes(), bytes)
 }
 
-/// What stands behind the head of an image of this size.
+/// What stands after the head of an image of this size.
 #[tactic(auto, unfolding(crate::specs::Images::behind_head))]
 fn behind_head(w: u32, h: u32, bytes: &[u8]) -> Option<&[u8]>
     ensures rest { option_copied result ≡ images.behind_head w h bytes.now }
@@ -126,7 +126,7 @@ fn first_pixels(w: u32, h: u32, bytes: &[u8]) -> Option<&[u8]>
     }
 }
 
-/// The pixels of the image of this size at the front of the bytes.
+/// The pixels of the image of this size at the start of the bytes.
 #[tactic(auto, unfolding(crate::specs::Images::picture_at))]
 fn picture_at(w: u32, h: u32, bytes: &[u8]) -> Option<&[u8]>
     ensures { option_copied result ≡ images.picture_at w h bytes.now }

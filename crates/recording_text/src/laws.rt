@@ -7,7 +7,7 @@ ghost use Rattle.recording_text.specs.Fits.{FitsEvent};
 ghost use Rattle.recording_text.specs.Images.{BeginsWithImage};
 ghost use Rattle.recording_text.specs.Lines.{event_at};
 
-/// The line of an event reads back as that event, whatever stands behind it.
+/// The line of an event reads back as that event, whatever stands after it.
 pub fn lines_read_back()
     ensures { (event : Event) (rest : List ℕ) → FitsEvent event → event_at (event_line event ++ rest) ≡ Some event }
 {}

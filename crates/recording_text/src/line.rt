@@ -10,7 +10,7 @@ use model_history::{Event, Moves};
 use page_layers::Move;
 use std::alloc::{AllocError, Global};
 
-/// Adds a byte and a number behind it.
+/// Adds a byte and a number after it.
 fn push_field(text: &mut Vec<u8>, before: u8, number: i64) -> Result<(), AllocError>
     ensures text { OnOk result (text.new.items ≡ text.old.items ++ field_text (field before number)) }
     ensures kept { OnErr result (StartsWith text.new.items text.old.items) }

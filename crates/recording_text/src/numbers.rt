@@ -69,7 +69,7 @@ pub fn to_i32(number: i64) -> Option<i32>
     i32::try_from(number).ok()
 }
 
-/// The first of these numbers, at most so many.
+/// The first of these numbers, at most the given number.
 pub fn first(numbers: &[i64], count: usize) -> &[i64]
     ensures { result.now ≡ take count numbers.now }
 {
@@ -80,7 +80,7 @@ pub fn first(numbers: &[i64], count: usize) -> &[i64]
     }
 }
 
-/// The numbers behind the first ones; none where there are not so many.
+/// The numbers after the first ones; none where there are not that many.
 pub fn behind(numbers: &[i64], count: usize) -> &[i64]
     ensures { result.now ≡ drop count numbers.now }
 {

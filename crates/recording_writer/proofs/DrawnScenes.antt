@@ -44,12 +44,12 @@ picture_image s h scene is =
     ∙ ap (λ (n : ℕ). image (λ x y. scene_pixel scene (pos x) (pos y)) w n) is.height
     ∙ image_alike w t (λ x y. scene_pixel scene (pos x) (pos y)) (screen_colour s h (missing_visible s h)) (λ x y across down. is.pixels (pos x) (pos y) (inside s h x y across down))
 
--- a draw that may come has the image of its picture behind its line
+-- a draw that may come has the image of its picture after its line
 pub draw_image : (s : ScriptModel) (n : ℕ) (h : List Entry) (a i : ℕ) (lacks : List TileKey) (scene : SceneView) → Next s n h (record { actor = a; event = event.Draw i lacks }) → IsPicture s h scene
     → scene_image scene ≡ shown_image s h lacks
 draw_image s n h a i lacks scene next is = picture_image s h scene is ∙ ap (λ (keys : List TileKey). shown_image s h keys) (sym (at_draw s n h a i lacks next).lacking)
 
--- an event that may come: its scene, if it is a draw, stands behind those before it
+-- an event that may come: its scene, if it is a draw, stands after those before it
 record Added (s : ScriptModel) (h : List Entry) (e : Event) (rest : List SceneView → Type 0) (scenes back : List SceneView) : Type 0 where
   front : List SceneView
   here : List SceneView
@@ -70,7 +70,7 @@ added s n h a (event.Draw i lacks) rest scenes back next ends = record {
 }
 added s n h a _ rest scenes back next are = record { front = scenes; here = back; earlier = are; split = refl; image = refl; left = refl }
 
--- newer entries, the newest first, and later ones behind them
+-- newer entries, the newest first, and later ones after them
 module _ (s : ScriptModel) (n : ℕ) (h : List Entry) where
   turned : (newer later : List Entry) (scenes back : List SceneView) → Legal s n (newer ++ h) → AreScenes s (length newer) (newer ++ h) scenes
       → AllCome s (newer ++ h) later back → AllCome s h (reverse_aux newer later) (scenes ++ back)
@@ -81,13 +81,13 @@ module _ (s : ScriptModel) (n : ℕ) (h : List Entry) where
       let others : AllCome s (e ∷ (newer ++ h)) later (left_behind e.event x.here) = subst (λ (zs : List SceneView). AllCome s (e ∷ (newer ++ h)) later zs) (sym x.left) come in
       subst (λ (zs : List SceneView). AllCome s h (reverse_aux newer (e ∷ later)) zs) (sym x.split) (turned newer (e ∷ later) x.front x.here legal.0 x.earlier (first, others))
 
-  -- entries behind a past come with the scenes of their draws
+  -- entries after a past come with the scenes of their draws
   pub scenes_come : (news : List Entry) (scenes : List SceneView) → Legal s n (reverse news ++ h) → AreScenes s (length news) (reverse news ++ h) scenes → AllCome s h news scenes
   scenes_come news scenes legal are =
       let there = turned (reverse news) [] scenes [] legal (subst (λ (k : ℕ). AreScenes s k (reverse news ++ h) scenes) (sym (length-reverse news)) are) tt in
       subst (λ (zs : List SceneView). AllCome s h news zs) (append-nil scenes) (subst (λ (es : List Entry). AllCome s h es (scenes ++ [])) (reverse-reverse news) there)
 
--- and so do the entries behind those that were written
+-- and so do the entries after those that were written
 pub news_come : (s : ScriptModel) (n : ℕ) (entries : List Entry) (written : ℕ) (scenes : List SceneView) → written ≤ length entries → Legal s n (reverse entries)
     → AreScenes s (length entries - written) (reverse entries) scenes → AllCome s (reverse (take written entries)) (drop written entries) scenes
 news_come s n entries written scenes few legal are =
@@ -100,7 +100,7 @@ news_come s n entries written scenes few legal are =
 
 -- ---- one entry after another
 
--- the line of an event and what stands behind it are its piece
+-- the line of an event and what stands after it are its piece
 pub piece_parts : (s : ScriptModel) (h : List Entry) (lines held : List ℕ) (e : Event) → held ≡ lines ++ event_line e → held ++ image_behind s h e ≡ lines ++ piece s h e
 unfolding piece
 piece_parts s h lines held e is = ap (λ (w : List ℕ). w ++ image_behind s h e) is ∙ append_assoc lines (event_line e) (image_behind s h e)

@@ -1,4 +1,4 @@
--- What a sink gained piece by piece is a front of the whole.
+-- What a sink gained piece by piece is a prefix of the whole.
 use Rattle.std.proofs.Common.{◌≡◌, ℕ, List, [], ◌++◌, None, Some, ap, sym, ◌∙◌, refl, append_assoc, append-nil, subst}
 use Rattle.std.specs.Prelude.{Option, Result, Ok, Err}
 use Rattle.std.specs.Io.KnownBytes.{Appends}
@@ -13,7 +13,7 @@ gains_both (Some xs) None new a b first second = absurd first
 gains_both (Some xs) (Some ys) None a b first second = absurd second
 gains_both (Some xs) (Some ys) (Some zs) a b first second = second ∙ ap (λ w. w ++ b) first ∙ append_assoc xs a b
 
--- a piece and then a front of another are a front of all
+-- a piece and then a prefix of another are a prefix of all
 pub gains_front : (old mid new : Option (List ℕ)) (a b rest whole : List ℕ) → Appends old mid a → GainsPrefix mid new b → (a ++ b) ++ rest ≡ whole → GainsPrefix old new whole
 gains_front None mid new a b rest whole first more e = ([], whole, refl, tt)
 gains_front (Some xs) None new a b rest whole first more e = absurd first
@@ -26,15 +26,15 @@ pub appends_nothing : (held : Option (List ℕ)) → Appends held held []
 appends_nothing None = tt
 appends_nothing (Some xs) = sym (append-nil xs)
 
--- nothing is a front of all
+-- nothing is a prefix of all
 pub gains_nothing : (held : Option (List ℕ)) (whole : List ℕ) → GainsPrefix held held whole
 gains_nothing held whole = ([], whole, refl, appends_nothing held)
 
--- a front of a beginning is a front of the whole
+-- a prefix of a prefix is a prefix of the whole
 pub gains_longer : (old new : Option (List ℕ)) (a b : List ℕ) → GainsPrefix old new a → GainsPrefix old new (a ++ b)
 gains_longer old new a b more = (more.0, more.1 ++ b, sym (append_assoc more.0 more.1 b) ∙ ap (λ w. w ++ b) more.2, more.3)
 
--- some bytes were put, and then others or a front of them
+-- some bytes were put, and then others or a prefix of them
 pub written_after : {X E : Type 0} (result : Result X E) (old mid new : Option (List ℕ)) (a b whole : List ℕ) → Appends old mid a → PutsAll mid new b result → a ++ b ≡ whole → PutsAll old new whole result
 written_after (Ok x) old mid new a b whole first more e = subst (λ (w : List ℕ). Appends old new w) e (gains_both old mid new a b first more)
 written_after (Err stop) old mid new a b whole first more e = gains_front old mid new a b [] whole first more (append-nil (a ++ b) ∙ e)
@@ -65,7 +65,7 @@ piece_moves done lines gained held piece rest all whole part is e =
     ∙ ap (λ w. done ++ w) (joins gained held lines piece rest part ∙ ap (λ w. lines ++ w) (sym is))
     ∙ e
 
--- a front of one more piece was written
+-- a prefix of one more piece was written
 pub piece_stops : (done lines piece rest all whole : List ℕ) → all ≡ piece ++ rest → done ++ (lines ++ all) ≡ whole → (done ++ (lines ++ piece)) ++ rest ≡ whole
 piece_stops done lines piece rest all whole is e =
     append_assoc done (lines ++ piece) rest ∙ ap (λ w. done ++ w) (append_assoc lines piece rest ∙ ap (λ w. lines ++ w) (sym is)) ∙ e

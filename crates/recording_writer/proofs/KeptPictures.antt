@@ -12,7 +12,7 @@ use Rattle.recording_writer.specs.inner.Packed.{PicturesView}
 use Rattle.recording_writer.specs.inner.Repeats.{missing_in, image_of, KeepsAt, KeepsFrom, Keeps}
 use Rattle.recording_writer.proofs.Places.{still_there}
 
--- behind a draw stands what the screen shows with the missing tiles that it lists
+-- after a draw stands what the screen shows with the missing tiles that it lists
 pub behind_draw : (s : ScriptModel) (h : List Entry) (e : Event) (missing : List TileKey) → missing_in e ≡ Some missing → shown_image s h missing ≡ image_behind s h e
 behind_draw s h (event.Draw i lacks) missing lists = let same : missing ≡ lacks = cc in ap (λ (keys : List TileKey). shown_image s h keys) same
 behind_draw s h _ missing lists = absurd cc
@@ -26,7 +26,7 @@ kept_here s h entries picture at e there image = record {
   image = λ missing lists. image ∙ sym (behind_draw s h e.event missing lists);
 }
 
--- it is kept where more comes behind the entries
+-- it is kept where more comes after the entries
 from_longer : (s : ScriptModel) (h entries news : List Entry) (picture : PicturesView) (place : Option ℕ) → KeepsFrom s h entries picture place → KeepsFrom s h (entries ++ news) picture place
 from_longer s h entries news picture None keeps = tt
 from_longer s h entries news picture (Some at) keeps = record {
@@ -38,7 +38,7 @@ from_longer s h entries news picture (Some at) keeps = record {
 pub keeps_longer : (s : ScriptModel) (h entries news : List Entry) (last : LastDraw) → Keeps s h entries last → Keeps s h (entries ++ news) last
 keeps_longer s h entries news last keeps = from_longer s h entries news last.pictures last.place keeps
 
--- the head of the image behind some lines, and then the packed pixels
+-- the head of the image after some lines, and then the packed pixels
 pub drawn_text : (p : PicturesView) (lines text behind : List ℕ) (w h : ℕ) → w ≡ p.frame.w → h ≡ p.frame.h → text ≡ lines ++ image_head w h → image_of p ≡ behind
     → text ++ p.packed ≡ lines ++ behind
 drawn_text p lines text behind w h wide tall made is =

@@ -37,7 +37,7 @@ prefix_more packed c k fit is =
     ∙ ap (λ (g : ℕ). front ++ c.r ∷ g ∷ blue ∷ []) is.green
     ∙ ap (λ (b : ℕ). front ++ c.r ∷ c.g ∷ b ∷ []) (ap (slice_index packed) last ∙ is.blue)
 
--- the pixels of a row behind the rows before
+-- the pixels of a row after the rows before
 row_prefix : (f : FrameView) (packed : List ℕ) (y x : ℕ) → IsPacked f packed → y < f.h → x ≤ f.w
     → take (3 * (y * f.w)) packed ≡ joined_to y (image_row (frame_pixel f) f.w)
     → take (3 * (y * f.w + x)) packed ≡ joined_to y (image_row (frame_pixel f) f.w) ++ joined_to x (λ (i : ℕ). rgb (frame_pixel f i y))
@@ -66,7 +66,7 @@ rows_prefix f packed (suc y) is down =
     ap (λ (n : ℕ). take (3 * n) packed) next
     ∙ row_prefix f packed y f.w is (omega arith) (omega arith) (rows_prefix f packed y is (omega arith))
 
--- behind the head of an image its packed pixels are the image
+-- after the head of an image its packed pixels are the image
 pub packed_image : (f : FrameView) (packed : List ℕ) → IsPacked f packed → image_head f.w f.h ++ packed ≡ image (frame_pixel f) f.w f.h
 unfolding image
 packed_image f packed is =
@@ -130,7 +130,7 @@ rows_packed rows top bottom f old new first last same others run = record {
       ];
 }
 
--- the same, where the places of the first row and of the one behind the last were computed
+-- the same, where the places of the first row and of the one after the last were computed
 pub run_of_rows : (rows : FrameRows) (top bottom from to w v : ℕ) (bytes : List ℕ) (f : FrameView) (old new : List ℕ) → from ≡ top * w → w ≡ f.w → to ≡ bottom * v → v ≡ f.w
     → bytes ≡ f.bytes → top ≤ rows.top → ((y : ℕ) → y < f.h → bottom ≤ y → rows.bottom ≤ y) → length new ≡ length old → IsPackedOutside rows f old
     → IsRunPacked from to bytes old new → IsPacked f new

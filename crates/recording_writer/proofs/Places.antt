@@ -1,9 +1,9 @@
--- Entries before a place of a list, at it and behind it.
+-- Entries before a place of a list, at it and after it.
 use Rattle.std.proofs.Common.{◌≡◌, ℕ, zero, suc, ◌+◌, List, [], ◌∷◌, ◌++◌, take, drop, Some, ap, ◌∙◌, arith}
 use Rattle.std.specs.Prelude.{reverse, slice_get}
 use Rattle.std.proofs.lemmas.List.{reverse-append}
 
--- what stands at a place still does where more comes behind
+-- what stands at a place still does where more comes after it
 pub still_there : {X : Type 0} (xs ys : List X) (k : ℕ) (x : X) → slice_get xs k ≡ Some x → slice_get (xs ++ ys) k ≡ Some x
 still_there [] ys k x e = absurd cc
 still_there (y ∷ xs) ys zero x e = e
@@ -21,7 +21,7 @@ next_take [] k x e = absurd cc
 next_take (y ∷ ys) zero x e = let same : y ≡ x = cc in ap (λ z. z ∷ []) same
 next_take (y ∷ ys) (suc k) x e = ap (λ zs. y ∷ zs) (next_take ys k x e)
 
--- what stands at a place is the first behind those before it
+-- what stands at a place is the first after those before it
 pub first_behind : {X : Type 0} (xs : List X) (k : ℕ) (x : X) → slice_get xs k ≡ Some x → drop k xs ≡ x ∷ drop (k + 1) xs
 first_behind xs k x e = let one_more : suc k ≡ k + 1 = omega arith in next_drop xs k x e ∙ ap (λ (n : ℕ). x ∷ drop n xs) one_more
 

@@ -1,4 +1,4 @@
--- Ways that were played and written, one behind the other.
+-- Ways that were played and written, one after another.
 use Rattle.std.proofs.Common.{◌≡◌, ℕ, List, [], ◌∷◌, ◌++◌, length, take, refl, ap, sym, ◌∙◌, append_assoc, append-nil, subst}
 use Rattle.std.specs.Prelude.{reverse, Option, Result, Ok, Err, OnOk}
 use Rattle.std.proofs.lemmas.List.{reverse-append, reverse-reverse, take_at}
@@ -20,7 +20,7 @@ use Rattle.recording_writer.specs.inner.Ways.{IsWritten, HasPlayed, PlaysAll, Wr
 use Rattle.recording_writer.proofs.Gains.{appends_nothing, gains_nothing, gains_longer, parts_join}
 use Rattle.recording_writer.proofs.KeptPictures.{keeps_longer}
 
--- ---- entries, one list behind another
+-- ---- entries, one list after another
 
 -- a past with one list of entries more, and then with another
 past_both : (a b h : List Entry) → reverse (a ++ b) ++ h ≡ reverse b ++ (reverse a ++ h)
@@ -110,7 +110,7 @@ can_after P Q old mid before after lines held x good can first =
     let one : m ≡ past mid.run = (good s).one h m (past mid.run) p from in
     record { end = can.end; way = subst (λ (z : ScriptModel). Q z (past mid.run) can.end) (sym first.plays.script) (subst (λ (g : List Entry). Q s g can.end) one q) }
 
--- nothing was played for want of memory, and nothing written
+-- nothing was played for lack of memory, and nothing written
 pub way_refused : {X E : Type 0} (P : Way) (old new : SingleModel) (before : Option (List ℕ)) (lines : List ℕ) (held : Recorder) (stop : E) → ((s : ScriptModel) → Grows (P s)) → CanFollow P (walk_of old)
     → WritesWay {X = X} {E = E} P old new before before lines held (Err stop)
 way_refused {X} {E} P old new before lines held stop grows can =
@@ -149,7 +149,7 @@ kept_since P old mid r grows written follows =
     (subst (λ (es : List Entry). Keeps old.run.script (past old.run) es r.last) (sym entries)
     (keeps_longer old.run.script (past old.run) old.run.entries news r.last written.keeps)))
 
--- a way was followed, and then the entries behind those that were written were written
+-- a way was followed, and then the entries after those that were written were written
 pub way_written : {X E : Type 0} (P : Way) (old mid new : SingleModel) (before after : Option (List ℕ)) (lines : List ℕ) (r q : Recorder) (result : Result X E)
     → ((s : ScriptModel) → Grows (P s)) → IsWritten old r → Follows P (walk_of old) (walk_of mid) → new.run ≡ mid.run → OnOk result (IsWritten new q)
     → ((news : List Entry) → mid.run.entries ≡ old.run.entries ++ news → mid.written ≡ length old.run.entries → WritesPart before after (lines ++ pieces mid.run.script (past old.run) news) q.lines.items result)

@@ -53,13 +53,13 @@ records_nothing s held accepted =
     let l = lockstep_there s accepted in
     (recording s l.0, (l.0, l.1, refl), gains_nothing held (recording s l.0))
 
--- a front of the lines before the events was written
+-- a prefix of the lines before the events was written
 pub records_front : (s : ScriptModel) (old new : Option (List ℕ)) → IsAccepted s → GainsPrefix old new (header (script_text s)) → (whole : List ℕ) × IsLockstepRecording s whole × GainsPrefix old new whole
 records_front s old new accepted front =
     let l = lockstep_there s accepted in
     (recording s l.0, (l.0, l.1, refl), subst (λ (w : List ℕ). GainsPrefix old new w) (whole_of s l.0) (gains_longer old new (header (script_text s)) (pieces s [] l.0) front))
 
--- what was played is the lockstep history, and what was written is what it adds behind these lines
+-- what was played is the lockstep history, and what was written is what it adds after these lines
 record IsRecorded {X E : Type 0} (s : ScriptModel) (new : SingleModel) (before after : Option (List ℕ)) (lines : List ℕ) (held : Recorder) (result : Result X E) : Type 0 where
   history : List Entry
   lockstep : IsLockstep s history
@@ -82,13 +82,13 @@ module _ {X E : Type 0} (s : ScriptModel) (inputs : List Input) (start new : Sin
         subst (λ (w : List ℕ). WritesPart old after w held.lines.items result) (whole_of s history)
         (parts_join result old before after [] (header (script_text s)) lines (pieces s [] history) held.lines.items front bytes)
 
-    -- a front of the recording was written
+    -- a prefix of the recording was written
     pub run_stopped : (stop : E) → WritesWay {X = X} {E = E} (whole_played inputs) start new before after lines held (Err stop) → (whole : List ℕ) × IsLockstepRecording s whole × GainsPrefix old after whole
     run_stopped stop writes =
         let r = run_recorded (Err stop) writes in
         (recording s r.history, (r.history, r.lockstep, refl), behind_header (Err stop) r.history r.bytes)
 
-    -- all was written but for what was held back, which was put then, or a front of it
+    -- all was written but for what was held back, which was put then, or a prefix of it
     pub run_put : {Y F : Type 0} (x : X) (end : Option (List ℕ)) (result : Result Y F) → WritesWay {X = X} {E = E} (whole_played inputs) start new before after lines held (Ok x)
         → PutsAll after end held.lines.items result → (whole : List ℕ) × IsLockstepRecording s whole × PutsAll old end whole result
     run_put x end result writes puts =

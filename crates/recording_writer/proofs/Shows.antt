@@ -18,7 +18,7 @@ shown_whole s f shows =
     ∙ ap (λ (n : ℕ). image (λ x y. scene_pixel s (pos x) (pos y)) n f.h) shows.size.wide
     ∙ ap (λ (n : ℕ). image (λ x y. scene_pixel s (pos x) (pos y)) s.w n) shows.size.tall
 
--- the head of the image behind some lines, and then the packed pixels
+-- the head of the image after some lines, and then the packed pixels
 pub drawn_image : (s : SceneView) (f : FrameView) (packed lines text : List ℕ) (w h : ℕ) → w ≡ f.w → h ≡ f.h → ShowsWhole s f → IsPacked f packed
     → text ≡ lines ++ image_head w h → text ++ packed ≡ lines ++ scene_image s
 drawn_image s f packed lines text w h wide tall shows is made =

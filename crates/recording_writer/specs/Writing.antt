@@ -6,7 +6,7 @@ use Rattle.player_io.specs.Pieces.{GainsPrefix}
 use Rattle.recording_writer.specs.declared.writing.WriteStop.{WriteStop}
 use Rattle.recording_writer.specs.declared.writing.WriteStop.TheVariants.{Fault, Memory}
 
--- the sink gained all these bytes, or where some were refused, a front of them
+-- the sink gained all these bytes, or where some were refused, a prefix of them
 abbrev pub PutsAll : {X E : Type 0} → Option (List ℕ) → Option (List ℕ) → List ℕ → Result X E → Type 0
 PutsAll old new whole (Ok _) = Appends old new whole
 PutsAll old new whole (Err _) = GainsPrefix old new whole

@@ -21,7 +21,13 @@ fn start_of(row: u32, w: u32) -> usize
 }
 
 // Packs some rows of a frame, of which the others are packed already.
-fn pack_rows<R: Threads + Sync>(rt: &R, packed: &mut [u8], frame: &Frame, rows: FrameRows, parts: usize)
+fn pack_rows<R: Threads + Sync>(
+    rt: &R,
+    packed: &mut [u8],
+    frame: &Frame,
+    rows: FrameRows,
+    parts: usize,
+)
     requires { IsPackedOutside rows frame.now packed.old }
     ensures { IsPacked frame.now packed.new }
 {
@@ -51,7 +57,7 @@ fn packed_len(frame: &Frame) -> usize
     3 * start_of(frame.h(), frame.w())
 }
 
-/// The packed pixels of a frame. An error is want of memory.
+/// The packed pixels of a frame. An error means out of memory.
 fn pack_whole<R: Threads + Sync>(
     rt: &R,
     alloc: Global,
@@ -76,7 +82,7 @@ fn pack_image<R: Threads + Sync>(rt: &R, bytes: &mut [u8], head: &[u8], frame: &
     pack_all(rt, packed, frame, parts);
 }
 
-/// The image of a frame. An error is want of memory.
+/// The image of a frame. An error means out of memory.
 pub(crate) fn image_of<R: Threads + Sync>(
     rt: &R,
     alloc: Global,
@@ -103,7 +109,7 @@ fn can_stay(packed: &[u8], frame: &Frame, w: u32, h: u32) -> bool
 }
 
 /// Packs the pixels of a frame. Where there are those of the frame before it, of this size, only the rows that
-/// changed are packed. An error is want of memory, and there are no packed pixels then.
+/// changed are packed. An error means out of memory, and there are no packed pixels then.
 pub(crate) fn repack<R: Threads + Sync>(
     rt: &R,
     packed: &mut Vec<u8>,

@@ -18,7 +18,7 @@ pub struct ImagePainter {
 }
 
 impl ImagePainter {
-    /// Nothing is painted yet. An error is want of memory.
+    /// Nothing is painted yet. An error means out of memory.
     pub fn new(alloc: Global) -> Result<ImagePainter, AllocError> {
         Ok(ImagePainter {
             painter: Painter::new(alloc, 1, 1)?,
@@ -26,8 +26,8 @@ impl ImagePainter {
         })
     }
 
-    /// The image of a scene, made in so many parts at the most, each by a thread of its own where it can be
-    /// started. Where there is one part, none is started. An error is want of memory.
+    /// The image of a scene, made in at most the given number of parts, each by a thread of its own where it can be
+    /// started. Where there is one part, none is started. An error means out of memory.
     #[tactic(auto, using(crate::proofs::Shows::shown_whole))]
     pub fn paint<R: Threads + Sync>(
         &mut self,

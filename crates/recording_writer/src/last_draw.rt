@@ -23,7 +23,7 @@ pub(crate) struct LastDraw {
     place: Option<usize>,
 }
 
-// Whether what the screen shows stays the same behind an event.
+// Whether what the screen shows stays the same after an event.
 fn is_quiet(event: &Event) -> bool
     ensures { result ≡ is_quiet_of event.now }
 {
@@ -46,7 +46,7 @@ fn have_same_missing(drawn: &Event, event: &Event) -> bool
 }
 
 impl LastDraw {
-    /// Nothing was drawn yet. An error is want of memory.
+    /// Nothing was drawn yet. An error means out of memory.
     pub(crate) fn new(alloc: Global) -> Result<LastDraw, AllocError>
         ensures { IfOk result (λ last. last.place ≡ None) }
     {
@@ -69,9 +69,9 @@ impl LastDraw {
         }
     }
 
-    /// Makes the picture of the draw at a place of the history, whose scene this is, in so many parts at the most.
-    /// Where the draw shows what the last one showed, that picture stays, and nobody looks at the scene. An error
-    /// is want of memory.
+    /// Makes the picture of the draw at a place of the history, whose scene this is, in at most the given
+    /// number of parts. Where the draw shows what the last one showed, that picture stays, and nobody looks
+    /// at the scene. An error means out of memory.
     pub(crate) fn show<R: Threads + Sync>(
         &mut self,
         rt: &R,

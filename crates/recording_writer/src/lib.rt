@@ -1,10 +1,10 @@
 //! Plays a script in lockstep and writes its recording as it is made.
 //!
 //! A compositor on one thread plays what an input brings; then what it entered is written: the line of each
-//! event, and the image of what it shows behind that of a draw. So no more is held than one input brings.
+//! event, and the image of what it shows after that of a draw. So no more is held than one input brings.
 //!
 //! In: an accepted script and a sink. Out: the sink gained the script's recording, or where it failed or memory
-//! was refused, a front of it.
+//! was refused, a prefix of it.
 //!
 //! An [`ImagePainter`] gives the images of scenes to whoever writes a recording in another way.
 #![tactic(auto)]

@@ -153,8 +153,8 @@ fn record_run<R: Threads + Sync, K: Sink>(
     record_end(rt, recorder, single, out)
 }
 
-// The compositor of a script with so many workers, before anything was entered, a recorder that holds the name
-// of the format, and the text of the script.
+// The compositor of a script with the given number of workers, before anything was entered, a recorder that
+// holds the name of the format, and the text of the script.
 fn prepare(
     alloc: Global,
     script: &Arc<Script>,
@@ -172,7 +172,7 @@ fn prepare(
     Ok((single, recorder, text))
 }
 
-// Plays and writes the whole run of a script behind the lines before the events, and puts what is left.
+// Plays and writes the whole run of a script after the lines before the events, and puts what is left.
 fn record_events<R: Threads + Sync, K: Sink>(
     rt: &R,
     recorder: &mut Recorder,
@@ -252,10 +252,10 @@ fn record_with<R: Threads + Sync, K: Sink>(
     end_with(single, written)
 }
 
-/// Plays an accepted script in lockstep with so many workers, and writes its recording as it is made: the two
-/// header lines, the line of each event, and the image of what it shows behind that of a draw. Where it stops
-/// early, the sink gained a front of it. Tiles that come next are made ahead and images are drawn in as many
-/// threads as there are workers; the recording is the same for every number of them.
+/// Plays an accepted script in lockstep with the given number of workers, and writes its recording as it is
+/// made: the two header lines, the line of each event, and the image of what it shows after that of a draw.
+/// Where it stops early, the sink gained a prefix of it. Tiles that come next are made ahead and images are
+/// drawn in as many threads as there are workers; the recording is the same for every number of them.
 pub fn record_lockstep<R: Threads + Sync, K: Sink>(
     rt: &R,
     alloc: Global,

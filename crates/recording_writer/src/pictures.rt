@@ -16,7 +16,7 @@ use viz_scene::Scene;
 #[derive(Drop)]
 pub struct Pictures {
     painter: Painter,
-    // none at first and after want of memory
+    // none at first and when memory runs out
     packed: Vec<u8>,
 }
 
@@ -31,7 +31,7 @@ impl Model for Pictures {
 }
 
 impl Pictures {
-    /// Nothing is shown yet. An error is want of memory.
+    /// Nothing is shown yet. An error means out of memory.
     pub fn new(alloc: Global) -> Result<Pictures, AllocError> {
         let painter = Painter::new(alloc, 1, 1)?;
         Ok(Pictures {
@@ -61,8 +61,8 @@ impl Pictures {
         &self.packed
     }
 
-    /// Makes the picture of a scene, in so many parts at the most, each by a thread of its own where it can be
-    /// started. Where there is one part, none is started. An error is want of memory.
+    /// Makes the picture of a scene, in at most the given number of parts, each by a thread of its own where
+    /// it can be started. Where there is one part, none is started. An error means out of memory.
     pub fn show<R: Threads + Sync>(
         &mut self,
         rt: &R,

@@ -31,7 +31,7 @@ pub(crate) struct Recorder {
     pub(crate) lines: Vec<u8>,
     /// the last draw, with its picture
     pub(crate) last: LastDraw,
-    /// in how many parts a picture is made at the most
+    /// in how many parts a picture is made at most
     parts: usize,
 }
 
@@ -52,7 +52,8 @@ fn next_scene(event: &Event, scenes: &mut IntoIter<Scene, Global>) -> Option<Sce
     if is_draw(event) { scenes.next() } else { None }
 }
 
-/// The two lines before the events: the name of the format, and this text of a script. An error is want of memory.
+/// The two lines before the events: the name of the format, and this text of a script. An error means out of
+/// memory.
 #[tactic(auto, unfolding(model_history::specs::Recordings::header))]
 pub fn header_of(alloc: Global, script: &[u8]) -> Result<Vec<u8>, AllocError>
     ensures { IfOk result (λ lines. lines.items ≡ header script.now) }
@@ -64,8 +65,8 @@ pub fn header_of(alloc: Global, script: &[u8]) -> Result<Vec<u8>, AllocError>
 }
 
 impl Recorder {
-    /// A recorder that holds the name of the format, and makes each picture in so many parts at the most. An error
-    /// is want of memory.
+    /// A recorder that holds the name of the format, and makes each picture in at most the given number of
+    /// parts. An error means out of memory.
     pub(crate) fn new(alloc: Global, parts: usize) -> Result<Recorder, AllocError>
         ensures name { IfOk result (λ recorder. recorder.lines.items ≡ codes "cc1\n") }
         ensures none { IfOk result (λ recorder. recorder.last.place ≡ None) }
@@ -154,7 +155,7 @@ impl Recorder {
         }
     }
 
-    // Writes the line of an entry, and behind that of a draw its image. The next scene is that of the next draw.
+    // Writes the line of an entry, and after that of a draw its image. The next scene is that of the next draw.
     fn write_entry<R: Threads + Sync, K: Sink>(
         &mut self,
         rt: &R,

@@ -58,7 +58,7 @@ pub(crate) fn flush_many<K: Sink>(out: &mut K, lines: &mut Vec<u8>) -> Result<()
     }
 }
 
-/// Puts the lines that were gathered, and some bytes behind them.
+/// Puts the lines that were gathered, and some bytes after them.
 pub(crate) fn put_behind<K: Sink>(
     out: &mut K,
     lines: &mut Vec<u8>,

@@ -196,7 +196,7 @@ pub joined_next : (xs ds bs cs : List LayerChange) (i : ℕ) (d : LayerChange) �
 joined_next xs ds bs cs i d j lt e k =
     subst (λ vs. AreJoined xs vs cs) (sym (take_more ds i d lt ∙ ap (λ z. take i ds ++ z ∷ []) (sym e))) (joined_more xs (take i ds) bs cs d j k)
 
--- an element that was joined, or that was left alone where memory was wanting
+-- an element that was joined, or that was left alone where memory ran out
 at_some : (cs : List LayerChange) (i n : ℕ) (z : LayerChange) → i < length cs → IfSome (slice_get cs i) (λ c. c.layer ≡ n) → (get_or cs i z).layer ≡ n
 at_some [] i n z lt h = absurd (omega arith)
 at_some (c ∷ cs) zero n z lt h = h

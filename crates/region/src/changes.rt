@@ -38,7 +38,7 @@ impl Changes {
         }
     }
 
-    /// Appends `change`, whose layer is above the last one of the list. An error is want of memory: it gives
+    /// Appends `change`, whose layer is above the last one of the list. An error means out of memory: it gives
     /// the change back, and the list is as it was.
     pub fn push(&mut self, change: LayerChange) -> Result<(), (AllocError, LayerChange)>
         requires { IsAboveLast self.old.list change.layer }
@@ -48,7 +48,7 @@ impl Changes {
         push_change(&mut self.list, change)
     }
 
-    /// The same changes. An error is want of memory.
+    /// The same changes. An error means out of memory.
     pub fn copy(&self) -> Result<Changes, AllocError>
         ensures { IfOk result (λ c. c ≡ self.now) }
     {
@@ -89,7 +89,7 @@ impl Changes {
     }
 
     /// Adds the changes of `later`: a layer is listed where one of the two lists it, whole where one of them
-    /// has it whole, with a region that covers what the two cover. An error is want of memory, and the
+    /// has it whole, with a region that covers what the two cover. An error means out of memory, and the
     /// changes are as they were.
     pub fn join(&mut self, later: &Changes) -> Result<(), AllocError>
         ensures ok { OnOk result (AreJoined self.old.list later.now.list self.new.list) }

@@ -17,7 +17,7 @@ pub(crate) fn copy_of(alloc: Global, list: &[LayerChange]) -> Result<Vec<LayerCh
     Ok(copy)
 }
 
-/// Adds the changes of `later` to the list; want of memory leaves it as it was.
+/// Adds the changes of `later` to the list; running out of memory leaves it as it was.
 pub(crate) fn join_lists(
     list: &mut Vec<LayerChange>,
     later: &[LayerChange],
@@ -36,7 +36,7 @@ pub(crate) fn join_lists(
     Ok(())
 }
 
-// adds each change in turn; want of memory leaves a list that is no longer wanted
+// adds each change in turn; running out of memory leaves a list that is no longer wanted
 fn join_each(list: &mut Vec<LayerChange>, later: &[LayerChange]) -> Result<(), AllocError>
     requires { IsRising list.old.items }
     ensures ok { OnOk result (AreJoined list.old.items later.now list.new.items) }
@@ -48,7 +48,7 @@ fn join_each(list: &mut Vec<LayerChange>, later: &[LayerChange]) -> Result<(), A
     Ok(())
 }
 
-// adds one change; want of memory leaves the list as it was
+// adds one change; running out of memory leaves the list as it was
 fn join_one(list: &mut Vec<LayerChange>, change: &LayerChange) -> Result<(), AllocError>
     requires { IsRising list.old.items }
     ensures ok { OnOk result (AreJoined list.old.items (change.now ∷ []) list.new.items) }

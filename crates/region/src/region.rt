@@ -38,7 +38,7 @@ impl Region {
         }
     }
 
-    /// Adds the points of `r`. An error is want of memory, and the region is as it was.
+    /// Adds the points of `r`. An error means out of memory, and the region is as it was.
     pub fn add(&mut self, r: Rect) -> Result<(), AllocError>
         requires { IsSound r }
         ensures ok { OnOk result ((x y : ℤ) → covered self.new x y ≡ (covered self.old x y || covers r x y)) }
@@ -47,7 +47,7 @@ impl Region {
         add_rect(&mut self.rects, &r)
     }
 
-    /// Adds the points of `other`. An error is want of memory, and the region is as it was.
+    /// Adds the points of `other`. An error means out of memory, and the region is as it was.
     pub fn union(&mut self, other: &Region) -> Result<(), AllocError>
         ensures ok { OnOk result ((x y : ℤ) → covered self.new x y ≡ (covered self.old x y || covered other.now x y)) }
         ensures err { OnErr result (self.new ≡ self.old) }
@@ -175,7 +175,7 @@ fn add_rect(rects: &mut Vec<Rect>, r: &Rect) -> Result<(), AllocError>
     Ok(())
 }
 
-// the list with the rects of `others` that it does not hold; want of memory leaves the list as it was
+// the list with the rects of `others` that it does not hold; running out of memory leaves the list as it was
 fn add_rects(rects: &mut Vec<Rect>, others: &[Rect]) -> Result<(), AllocError>
     requires sound { All IsSound rects.old.items }
     requires others_sound { All IsSound others.now }

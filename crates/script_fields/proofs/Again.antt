@@ -1,4 +1,4 @@
--- What is printed reads back: each form of the value that stands for something gives it again.
+-- What is printed reads back: each form of the value that represents something gives it again.
 use Rattle.std.proofs.Common.{◌≡◌, ℕ, suc, ◌+◌, ◌*◌, ◌/◌, ◌%◌, ◌<◌, ◌^◌, List, [], ◌∷◌, Bool, true, false, ◌&&◌, ◌==◌, nat_le, nat_lt, ℤ, pos, negsuc, int_le, Some, length, lit<, refl, ap, ◌∙◌, arith}
 use Rattle.std.proofs.lemmas.Bool.Decides.{nat_tests}
 use Rattle.geom.specs.declared.rect.Rect.{Rect}

@@ -24,7 +24,7 @@ abbrev pub viewed_or_fault : {A B E : Type 0} → (A → B) → Result A E → R
 viewed_or_fault f (Ok x) = Ok (f x)
 viewed_or_fault f (Err e) = Err e
 
--- what a reader that takes memory tells of a value that has this reading: the reading, unless memory was wanting
+-- what a reader that takes memory tells of a value that has this reading: the reading, unless memory ran out
 abbrev pub Gives : {X Y : Type 0} → (X → Y) → Result X Trouble → Result Y FieldFault → Type 0
 Gives view (Ok x) reading = reading ≡ Ok (view x)
 Gives view (Err (trouble.Fault f)) reading = reading ≡ Err f

@@ -59,7 +59,7 @@ abbrev pub member_count : Option Members → ℕ
 member_count None = 0
 member_count (Some ms) = members_len ms
 
--- after so many fields were found, a further member is a fault of field 99: an object has each name once, so it has no
+-- after the given number of fields were found, a further member is a fault of field 99: an object has each name once, so it has no
 -- other members exactly where it has no more than were found
 unfoldable pub no_more_members : ℕ → Data → Result ⊤ FieldFault
 no_more_members fields d = if nat_le (member_count (as_object d)) fields then Ok tt else Err (fault 99)

@@ -1,4 +1,4 @@
--- The forms of the values in a script: what a JSON value of the form stands for, or none.
+-- The forms of the values in a script: what a JSON value of the form represents, or none.
 use Rattle.std.specs.Prelude.{ℕ, ℤ, pos, negsuc, List, Bool, false, ◌&&◌, ◌==◌, nat_le, int_le, Option, Some, None, option_map, option_and_then, if◌then◌else◌}
 use Rattle.geom.specs.declared.rect.Rect.{Rect}
 use Rattle.pixel.specs.Colours.{Parts}

@@ -5,7 +5,7 @@ use Rattle.std.specs.Prelude.{ℕ, zero, suc, ◌+◌, ◌*◌, ◌/◌, ◌%◌
 unfoldable pub next : ℕ → ℕ
 next x = (x * 6364136223846793005 + 1442695040888963407) % (2 ^ 64)
 
--- after so many draws
+-- after the given number of draws
 unfoldable pub after_draws : ℕ → ℕ → ℕ
 after_draws x zero = x
 after_draws x (suc n) = after_draws (next x) n

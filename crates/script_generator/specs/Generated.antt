@@ -48,7 +48,7 @@ layer_commands =
     ∷ command.InsertItem 2 0 (item.Rect (rect 0 0 256 24) (opaque 32 32 64))
     ∷ []
 
--- so many drawn items, put into layer 1 one behind the other from this place on
+-- the given number of drawn items, put into layer 1 one after another from this place on
 unfoldable pub inserts : ℕ → ℕ → ℕ → List Command
 inserts x at zero = []
 inserts x at (suc n) = command.InsertItem 1 at (drawn_item x) ∷ inserts (after_draws x 7) (suc at) n
@@ -74,7 +74,7 @@ later_frame k x =
 abbrev pub frame_draws : ℕ → ℕ
 frame_draws k = cond (is_empty_frame k) 0 (cond (k % 2 == 1) 8 1)
 
--- so many later frames from number k on
+-- the given number of later frames from number k on
 unfoldable pub later_frames : ℕ → ℕ → ℕ → List (List Command)
 later_frames x k zero = []
 later_frames x k (suc n) = later_frame k x ∷ later_frames (after_draws x (frame_draws k)) (suc k) n
@@ -91,7 +91,7 @@ drawn_input x = cond (drawn x 0 4 == 0) (input.Scroll 1 (pos 0) (pos (drawn x 1 
 abbrev pub input_draws : ℕ → ℕ
 input_draws x = cond (drawn x 0 4 == 0) 2 1
 
--- so many of them
+-- the given number of them
 unfoldable pub drawn_inputs : ℕ → ℕ → List Input
 drawn_inputs x zero = []
 drawn_inputs x (suc n) = drawn_input x ∷ drawn_inputs (after_draws x (input_draws x)) n

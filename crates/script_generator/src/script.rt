@@ -49,7 +49,7 @@ fn parts_of_number(alloc: Global, number: u64) -> Result<ScriptParts, AllocError
     })
 }
 
-/// The script of a number. Each number gives one, and the same one everywhere. An error is want of memory.
+/// The script of a number. Each number gives one, and the same one everywhere. An error means out of memory.
 pub fn script_of_number(alloc: Global, number: u64) -> Result<Script, AllocError>
     ensures { IfOk result (λ script. script ≡ spec.script_of_number number) }
 {

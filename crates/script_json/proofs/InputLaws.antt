@@ -157,7 +157,7 @@ unfolding input_at
 input_fits frames draws d few =
     then_any (object_at d) _ _ (λ u. then_any (input_op_at d) _ _ (λ o. input_fields_fits frames draws o d few))
 
--- inputs in their ranges, with at most 4096 draws after so many
+-- inputs in their ranges, with at most 4096 draws after the given number
 pub record AllFit (frames draws n : ℕ) (xs : List Input) : Type 0 where
   pub in_range : list_all (input_in_range frames) xs ≡ true
   pub few : draws + draw_count xs ≤ 4096

@@ -145,7 +145,7 @@ head_fits d =
     then_any (priority_at 9 d) _ _ (λ priority.
     both _ _ (both _ _ (both _ _ (both _ _ (both _ _ (both _ _ (both _ _ (both _ _ h0 h1.w) h1.h) h2) h3) h4) h5) h6) h7))))))))))
 
--- at most so many values
+-- at most the given number of values
 record Short (l : ScriptLists) : Type 0 where
   main : nat_le (items_len l.main) 4096 ≡ true
   inputs : nat_le (items_len l.inputs) 65536 ≡ true

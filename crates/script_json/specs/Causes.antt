@@ -40,7 +40,7 @@ ScriptCause bytes (Err (text.Script frame command fault)) =
     (s : ScriptModel) × IsScriptText bytes s × RefusedAt (blank s) s.main frame command fault
 ScriptCause bytes (Err (text.Memory e)) = ⊤
 
--- an answer that is not want of memory
+-- an answer that is not out of memory
 abbrev pub IsTold : Result ScriptModel TextFault → Type 0
 IsTold (Err (text.Memory e)) = ⊥
 IsTold (Err text.Json) = ⊤

@@ -61,7 +61,7 @@ draw_at draws d = do
   _ ← no_more_members 1 d
   Ok Draw
 
--- the number of one of so many main frames
+-- the number of one of the given number of main frames
 unfoldable pub frame_number : ℕ → ℕ → Option ℕ
 frame_number frames n = if nat_lt n frames then Some n else None
 
@@ -79,7 +79,7 @@ settle_at d = do
   _ ← no_more_members 1 d
   Ok Settle
 
--- the fields of an input with this name, after so many draws, in a script of so many main frames
+-- the fields of an input with this name, after the given number of draws, in a script of the given number of main frames
 abbrev pub input_fields_at : ℕ → ℕ → InputOp → Data → Result Input FieldFault
 input_fields_at frames draws op.Scroll d = scroll_at d
 input_fields_at frames draws op.Wheel d = wheel_at d
@@ -106,7 +106,7 @@ draws_after draws Settle = draws
 abbrev pub then_rest : {A : Type 0} → Result A ShapeFault → (A → Result (List A) ShapeFault) → Result (List A) ShapeFault
 then_rest first rest = first >>= λ x. before_rest (Ok x) (rest x)
 
--- the inputs from the one at `index` on, after so many draws
+-- the inputs from the one at `index` on, after the given number of draws
 abbrev pub inputs_at : ℕ → ℕ → ℕ → Items → Result (List Input) ShapeFault
 inputs_at frames draws index no_items = Ok []
 inputs_at frames draws index (item d ds) =

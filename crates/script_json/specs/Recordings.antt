@@ -10,6 +10,6 @@ use Rattle.script_json.specs.ScriptValue.{parts_data}
 abbrev pub script_text : ScriptModel → List ℕ
 script_text s = compact_text (parts_data s)
 
--- the recording of a script and a history: the name of the format, the script's canonical text, and the line of each entry, with the image of what it shows behind that of a draw
+-- the recording of a script and a history: the name of the format, the script's canonical text, and the line of each entry, with the image of what it shows after that of a draw
 unfoldable pub recording : ScriptModel → List Entry → List ℕ
 recording s history = recorded (script_text s) s history

@@ -17,7 +17,7 @@ use std::alloc::{AllocError, Global};
 /// `Json` comes exactly where the bytes are no JSON text; `Shape` exactly where they are the text of a
 /// value with this first fault; `Script` exactly where they are the text of a script, of whose commands,
 /// applied in order from a blank page on, this is the first that is refused. `Memory` may come at any
-/// text; it also stands for a main frame of 2^32 commands or more (a text of fewer than 2^32 bytes has
+/// text; it also represents a main frame of 2^32 commands or more (a text of fewer than 2^32 bytes has
 /// none).
 pub fn read_script(alloc: Global, bytes: &[u8]) -> Result<Script, TextFault>
     ensures { ScriptCause bytes.now result }

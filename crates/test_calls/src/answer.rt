@@ -16,7 +16,7 @@ pub struct Answer {
     lacks_memory: bool,
 }
 
-/// Adds words and numbers to a text, behind a semicolon where it says something already.
+/// Adds words and numbers to a text, after a semicolon where it says something already.
 fn push_part(
     alloc: Global,
     text: &mut String,
@@ -44,7 +44,7 @@ impl Answer {
         }
     }
 
-    /// Adds a part: words, and numbers behind them.
+    /// Adds a part: words, and numbers after them.
     pub fn say(&mut self, words: &str, numbers: &[i64]) {
         if !self.lacks_memory && push_part(self.alloc, &mut self.text, words, numbers).is_err() {
             self.lacks_memory = true;

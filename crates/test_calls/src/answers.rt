@@ -56,7 +56,12 @@ impl CallTable {
     }
 
     /// Answers a question about the page of the script above.
-    fn ask_page(&self, kind: &str, question: &str, answer: &mut Answer) -> Result<(), CallLineFault> {
+    fn ask_page(
+        &self,
+        kind: &str,
+        question: &str,
+        answer: &mut Answer,
+    ) -> Result<(), CallLineFault> {
         let mut page = page_of(self.alloc, self.script.as_str())?;
         ask_of(self.alloc, &mut page, kind, question, answer)
     }

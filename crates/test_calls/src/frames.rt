@@ -46,7 +46,7 @@ fn say_end(end: &MainEnd, answer: &mut Answer) {
     }
 }
 
-/// Ends the next main frame, which is one of so many, with a pull of scroller 1.
+/// Ends the next main frame, which is one of the given number, with a pull of scroller 1.
 fn end_next(
     alloc: Global,
     host: &mut MainHost,

@@ -25,12 +25,12 @@ fn add_copy(sends: &mut Sends, moves: &Moves) -> Result<(), CallLineFault> {
     }
 }
 
-/// Says whether something stands behind the last.
+/// Says whether something stands after the last.
 fn say_behind(more: bool, answer: &mut Answer) {
     answer.say(if more { "more" } else { "no more" }, &[]);
 }
 
-/// Says how many moves there are, the first of them, and whether there is one behind the last.
+/// Says how many moves there are, the first of them, and whether there is one after the last.
 fn say_moves(moves: &Moves, answer: &mut Answer) {
     answer.say_count("moves", moves.len());
     if let Some(first) = moves.at(0) {
@@ -49,7 +49,7 @@ fn say_sends(sends: &Sends, answer: &mut Answer) -> Result<(), CallLineFault> {
     Ok(())
 }
 
-/// Says how many moves a copy of a copied list has, the first of them, and whether there is one behind the
+/// Says how many moves a copy of a copied list has, the first of them, and whether there is one after the
 /// last.
 pub fn moves(alloc: Global, text: &str, answer: &mut Answer) -> Result<(), CallLineFault> {
     let mut moves = Moves::new(alloc);
@@ -93,7 +93,7 @@ fn add_entries(history: &mut History, actors: &str) -> Result<(), CallLineFault>
     Ok(())
 }
 
-/// Says how many entries there are, the actor of the last one, and whether there is one behind it.
+/// Says how many entries there are, the actor of the last one, and whether there is one after it.
 fn say_entries(history: &History, answer: &mut Answer) {
     let count = history.len();
     answer.say_count("entries", count);
@@ -104,7 +104,7 @@ fn say_entries(history: &History, answer: &mut Answer) {
 }
 
 /// Says how many entries a history has with one of actor 0 and one of each of these, the actor of the last
-/// one, and whether there is one behind it.
+/// one, and whether there is one after it.
 pub fn entries(alloc: Global, actors: &str, answer: &mut Answer) -> Result<(), CallLineFault> {
     let mut history = History::new(alloc);
     add_entries(&mut history, actors)?;

@@ -9,7 +9,7 @@ use page_layers::Move;
 /// Both parts of a pull lie below this bound in absolute value.
 const PULL_BOUND: i64 = 549755813888;
 
-/// The numbers of a text, with blanks between. There have to be exactly so many.
+/// The numbers of a text, with blanks between. There have to be exactly the given number.
 pub fn numbers<const N: usize>(text: &str) -> Result<[i64; N], CallLineFault> {
     let mut words = text.split_whitespace();
     let mut all = [0; N];

@@ -18,7 +18,11 @@ pub fn view(tree: &LayerTree, answer: &mut Answer) {
 }
 
 /// Applies a command, and says what it changes.
-fn apply(tree: &mut LayerTree, command: &Command, answer: &mut Answer) -> Result<(), CallLineFault> {
+fn apply(
+    tree: &mut LayerTree,
+    command: &Command,
+    answer: &mut Answer,
+) -> Result<(), CallLineFault> {
     match tree.apply(command) {
         Ok(changes) => {
             answer.say_changes(&changes);

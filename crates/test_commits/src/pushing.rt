@@ -6,8 +6,7 @@ ghost use Rattle.impl_trees.specs.Trees.{MayFollow};
 use crate::fault::CommitRowFault;
 use crate::frames::Frames;
 use crate::next_tree::NextTree;
-use impl_trees::may_push;
-use impl_trees::{TreeState, Trees};
+use impl_trees::{TreeState, Trees, may_push};
 use model_history::Script;
 use std::alloc::{AllocError, Global};
 

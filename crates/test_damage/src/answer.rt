@@ -12,7 +12,7 @@ pub struct Answer {
     lacks_memory: bool,
 }
 
-/// Adds a word and numbers to a text, behind a semicolon where it says something already.
+/// Adds a word and numbers to a text, after a semicolon where it says something already.
 fn push_part(
     alloc: Global,
     text: &mut String,
@@ -40,7 +40,7 @@ impl Answer {
         }
     }
 
-    /// Adds a part: a word, and numbers behind it.
+    /// Adds a part: a word, and numbers after it.
     pub fn say(&mut self, word: &str, numbers: &[i64]) {
         if !self.lacks_memory && push_part(self.alloc, &mut self.text, word, numbers).is_err() {
             self.lacks_memory = true;

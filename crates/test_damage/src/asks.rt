@@ -72,7 +72,11 @@ pub fn redrawn(
 }
 
 /// Shows a scene, and says its picture.
-pub fn show(painter: &mut Painter, scene: Scene, answer: &mut Answer) -> Result<(), DamageLineFault> {
+pub fn show(
+    painter: &mut Painter,
+    scene: Scene,
+    answer: &mut Answer,
+) -> Result<(), DamageLineFault> {
     painter.paint(scene)?;
     say_pixels(answer, painter.frame().bytes());
     Ok(())

@@ -88,7 +88,11 @@ fn scene_of_page(
 
 /// The scene of the page of a script after all its main frames, whose scrollers stand at their main values, and
 /// where the tile of a number is missing; the text is the number or `none`.
-pub fn scene_of_script(alloc: Global, script: &str, missing: &str) -> Result<Scene, DamageLineFault> {
+pub fn scene_of_script(
+    alloc: Global,
+    script: &str,
+    missing: &str,
+) -> Result<Scene, DamageLineFault> {
     let Ok(script) = read_script(alloc, script.as_bytes()) else {
         return Err(DamageLineFault::NoPage);
     };

@@ -10,8 +10,7 @@ use page_display_list::{DisplayList, Item};
 use std::alloc::{AllocError, Global};
 use std::sync::Arc;
 use tile_raster::{Job, TileImage};
-use viz_scene::scene_of;
-use viz_scene::{Quad, RenderPass, Scene};
+use viz_scene::{Quad, RenderPass, Scene, scene_of};
 
 // an item of one colour
 fn item_of(text: &str) -> Result<Item, DamageLineFault>

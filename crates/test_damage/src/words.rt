@@ -7,7 +7,7 @@ use crate::fault::DamageLineFault;
 use geom::{Point, Rect};
 use pixel::Colour;
 
-/// The numbers of a text, with blanks between. There have to be exactly so many.
+/// The numbers of a text, with blanks between. There have to be exactly the given number.
 pub fn numbers<const N: usize>(text: &str) -> Result<[i32; N], DamageLineFault> {
     let mut words = text.split_whitespace();
     let mut all = [0; N];

@@ -14,7 +14,7 @@ fn key_text(alloc: Global, key: TileKey) -> Result<String, AllocError> {
     Ok(format!(in alloc; "{place}/{stamp}")?)
 }
 
-// The keys of the jobs that come next, at most so many, behind a blank each.
+// The keys of the jobs that come next, at most the given number, after a blank each.
 fn upcoming_text(alloc: Global, run: &mut SingleThread, most: u32) -> Result<String, AllocError> {
     let mut text = String::new(alloc);
     for job in run.upcoming(most)?.as_slice() {
@@ -33,7 +33,7 @@ fn synced_text(alloc: Global, along: Synced) -> Result<String, AllocError> {
     Ok(format!(in alloc; "{active},{},{reflected}", along.pending_base)?)
 }
 
-// The values of a scroller along both axes, behind a blank each.
+// The values of a scroller along both axes, after a blank each.
 fn values_text(alloc: Global, core: &Core, scroller: u32) -> Result<String, AllocError> {
     let (x, y) = core.values(scroller);
     let x = synced_text(alloc, x)?;
@@ -41,9 +41,13 @@ fn values_text(alloc: Global, core: &Core, scroller: u32) -> Result<String, Allo
     Ok(format!(in alloc; " {x} {y}")?)
 }
 
-/// What a compositor answers to `upcoming MOST`, `values SCROLLER` or `used`. An error is want of memory, or a
+/// What a compositor answers to `upcoming MOST`, `values SCROLLER` or `used`. An error means out of memory, or a
 /// question that is none of them.
-pub fn answer(alloc: Global, run: &mut SingleThread, question: &str) -> Result<String, HistoryLineFault> {
+pub fn answer(
+    alloc: Global,
+    run: &mut SingleThread,
+    question: &str,
+) -> Result<String, HistoryLineFault> {
     if question == "used" {
         return Ok(format!(in alloc; " {}", run.core().used())?);
     }

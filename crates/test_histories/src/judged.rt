@@ -27,7 +27,7 @@ fn refused_in(judge: &mut Judge, entries: &[Entry]) -> Result<Option<usize>, All
 }
 
 /// The place of the first entry of a history that may not come after those before it, in a run with 1 to 16
-/// workers; None where the history is legal. A judge is asked about each entry. An error is want of memory, or
+/// workers; None where the history is legal. A judge is asked about each entry. An error means out of memory, or
 /// another number of workers.
 pub fn judged_at(
     alloc: Global,

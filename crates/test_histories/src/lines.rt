@@ -18,7 +18,12 @@ pub fn entries(alloc: Global, lines: &str) -> Result<Vec<Entry>, HistoryLineFaul
 }
 
 /// The lines with some of them, which stand there once, changed into others.
-pub fn changed(alloc: Global, lines: &str, old: &str, new: &str) -> Result<String, HistoryLineFault> {
+pub fn changed(
+    alloc: Global,
+    lines: &str,
+    old: &str,
+    new: &str,
+) -> Result<String, HistoryLineFault> {
     let whole = format!(in alloc; "; {lines}; ")?;
     let old = format!(in alloc; "; {old}; ")?;
     let (before, after) = whole

@@ -15,7 +15,7 @@
 //! | `history TITLE: LINE; LINE; ..` | the lines of a history, which is legal: both go through |
 //! | `    after N upcoming MOST: KEY ..` | after the first N entries of the history above, these are the keys of the first MOST tiles that are made next |
 //! | `    after N values ID: X Y` | after the first N entries, these are the scroll values of scroller ID along both axes, each as `A,D,B,M,P`: active base and delta, pending base, and what of the delta the main frame in flight and the pending base contain |
-//! | `    after N used: COUNT` | after the first N entries, so many tiles are ready or in flight |
+//! | `    after N used: COUNT` | after the first N entries, the given number of tiles are ready or in flight |
 //! | `    LINE; .. => LINE; .. \| N WHAT` | lines of the history above, which stand in it once, become others, and both stop at entry N, counted from 0; WHAT says what is wrong with it |
 //!
 //! Standard output tells how many histories of both kinds, entries and questions there were, so that none gets

@@ -19,7 +19,7 @@ use recording_judge::same_event;
 use std::alloc::{AllocError, Global};
 use std::sync::Arc;
 
-// Whether an actor has events of this kind, where there are so many workers.
+// Whether an actor has events of this kind, where there are that many workers.
 fn has_kind(kind: Kind, actor: u32, workers: u32) -> bool
     ensures { Decides result (HasKind workers kind actor) }
 {
@@ -113,7 +113,7 @@ fn begin(alloc: Global, script: Arc<Script>, workers: u32) -> Result<SingleThrea
 
 /// The place of the first entry of a history that may not come after those before it, in a run with 1 to 16
 /// workers; None where the history is legal. A compositor on one thread is asked for each entry's event. An
-/// error is want of memory, or another number of workers.
+/// error means out of memory, or another number of workers.
 pub fn stops_at(
     alloc: Global,
     script: Arc<Script>,
@@ -126,7 +126,7 @@ pub fn stops_at(
     walk_through(run, entries)
 }
 
-/// What a compositor answers to a question after all entries of a history. An error is want of memory, another
+/// What a compositor answers to a question after all entries of a history. An error means out of memory, another
 /// number of workers than 1 to 16, an entry that may not come, or a question that is none.
 pub fn asked_after(
     alloc: Global,

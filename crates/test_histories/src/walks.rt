@@ -132,11 +132,18 @@ impl Walks {
     }
 
     /// Takes a line with a change of the history above: `OLD => NEW | N WHAT`.
-    fn take_change<R: Print>(&mut self, rt: &R, line: usize, row: &str) -> Result<(), HistoryLineFault> {
+    fn take_change<R: Print>(
+        &mut self,
+        rt: &R,
+        line: usize,
+        row: &str,
+    ) -> Result<(), HistoryLineFault> {
         let (change, end) = row.rsplit_once(" | ").ok_or(HistoryLineFault::NoForm)?;
         let (old, new) = change.split_once(" => ").ok_or(HistoryLineFault::NoForm)?;
         let (place, _) = end.split_once(' ').ok_or(HistoryLineFault::NoForm)?;
-        let place = place.parse::<usize>().map_err(|_| HistoryLineFault::NoForm)?;
+        let place = place
+            .parse::<usize>()
+            .map_err(|_| HistoryLineFault::NoForm)?;
         let Some(history) = &self.history else {
             return Err(HistoryLineFault::NothingAbove);
         };
@@ -146,16 +153,26 @@ impl Walks {
     }
 
     /// Takes a line with a question that is asked inside of the history above: `N QUESTION: ANSWER`.
-    fn take_question<R: Print>(&mut self, rt: &R, line: usize, row: &str) -> Result<(), HistoryLineFault> {
+    fn take_question<R: Print>(
+        &mut self,
+        rt: &R,
+        line: usize,
+        row: &str,
+    ) -> Result<(), HistoryLineFault> {
         let (asked, wanted) = row.split_once(':').ok_or(HistoryLineFault::NoForm)?;
         let (count, question) = asked.split_once(' ').ok_or(HistoryLineFault::NoForm)?;
-        let count = count.parse::<usize>().map_err(|_| HistoryLineFault::NoForm)?;
+        let count = count
+            .parse::<usize>()
+            .map_err(|_| HistoryLineFault::NoForm)?;
         let (Some(script), Some(history)) = (&self.script, &self.history) else {
             return Err(HistoryLineFault::NothingAbove);
         };
         let script = Arc::try_clone(script)?;
         let entries = entries(self.alloc, history.as_str())?;
-        let before = entries.as_slice().get(..count).ok_or(HistoryLineFault::NoForm)?;
+        let before = entries
+            .as_slice()
+            .get(..count)
+            .ok_or(HistoryLineFault::NoForm)?;
         let told = asked_after(self.alloc, script, self.workers, before, question)?;
         if told.as_str() != wanted {
             let _ = rt.println(format_args!("line {line}:{told} for{wanted}"));

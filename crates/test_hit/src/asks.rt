@@ -6,7 +6,7 @@ ghost use Rattle.page_hit_test.specs.Wheels.{IsAmount, AreWithinRanges};
 
 use crate::fault::HitRowFault;
 use geom::Point;
-use page_hit_test::{WheelPart, Wheel, main_values_are_within_ranges};
+use page_hit_test::{Wheel, WheelPart, main_values_are_within_ranges};
 use page_layers::{LayerTree, main_offsets};
 use page_properties::Offsets;
 use std::alloc::{AllocError, Global};
@@ -18,11 +18,11 @@ pub enum Question {
     Target(Point),
     /// Which scrollers take a wheel over a layer.
     Chain(u32),
-    /// What a wheel of so much at a point does.
+    /// What a wheel of this much at a point does.
     Wheel { at: Point, asked: Point },
 }
 
-// Whether so much may be asked along an axis.
+// Whether this much may be asked along an axis.
 fn is_amount(z: i32) -> bool
     ensures { IsTrue result → IsAmount z }
 {
@@ -39,7 +39,7 @@ fn offsets_of(alloc: Global, tree: &LayerTree) -> Result<Offsets, AllocError>
     main_offsets(alloc, tree)
 }
 
-// What a wheel of so much at a point does.
+// What a wheel of this much at a point does.
 fn wheel(alloc: Global, tree: &LayerTree, at: Point, asked: Point) -> Result<Wheel, HitRowFault> {
     let across = is_amount(asked.x);
     let down = is_amount(asked.y);

@@ -94,7 +94,12 @@ impl Questions {
     }
 
     /// Takes a line with a question and its answer, and tells where another one came.
-    fn take_question(&mut self, rt: &HostRuntime, line: usize, text: &str) -> Result<(), HitRowFault> {
+    fn take_question(
+        &mut self,
+        rt: &HostRuntime,
+        line: usize,
+        text: &str,
+    ) -> Result<(), HitRowFault> {
         let (asked, wanted) = text.split_once(" => ").ok_or(HitRowFault::NoForm)?;
         let Some(page) = &self.page else {
             return Err(HitRowFault::NothingAbove);

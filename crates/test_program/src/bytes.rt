@@ -16,7 +16,7 @@ pub fn bytes_of(alloc: Global, text: &str) -> Result<Vec<u8>, ProgramRowFault> {
     Ok(bytes)
 }
 
-/// The bytes of a picture's pixels: six digits a pixel, `N*COLOUR` for so many of a colour.
+/// The bytes of a picture's pixels: six digits a pixel, `N*COLOUR` for that many of a colour.
 fn pixels_of(alloc: Global, text: &str) -> Result<Vec<u8>, ProgramRowFault> {
     let mut pixels = Vec::new(alloc);
     for group in text.split_whitespace() {
@@ -46,7 +46,12 @@ pub fn image_of(alloc: Global, text: &str) -> Result<Vec<u8>, ProgramRowFault> {
 }
 
 /// The bytes with one part, which stands in them once, changed.
-pub fn changed(alloc: Global, bytes: &[u8], old: &[u8], new: &[u8]) -> Result<Vec<u8>, ProgramRowFault> {
+pub fn changed(
+    alloc: Global,
+    bytes: &[u8],
+    old: &[u8],
+    new: &[u8],
+) -> Result<Vec<u8>, ProgramRowFault> {
     let at = place_of(bytes, old).ok_or(ProgramRowFault::NotOnce)?;
     let (before, rest) = bytes.split_at(at.min(bytes.len()));
     let Some(after) = rest.strip_prefix(old) else {

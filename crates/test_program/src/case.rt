@@ -16,9 +16,9 @@ pub enum InjectedFault {
     ReadFails,
     /// The put of this number fails, counted from 0.
     PutFails,
-    /// The sink takes so many bytes.
+    /// The sink takes the given number of bytes.
     Room,
-    /// The source holds only so many bytes of the input.
+    /// The source holds only the given number of bytes of the input.
     Cut,
 }
 
@@ -128,7 +128,12 @@ impl Case {
     }
 
     /// Takes a line of the table that says how the run is made.
-    fn take_setting(&mut self, names: &Names, key: &str, value: &str) -> Result<(), ProgramRowFault> {
+    fn take_setting(
+        &mut self,
+        names: &Names,
+        key: &str,
+        value: &str,
+    ) -> Result<(), ProgramRowFault> {
         match key {
             "words" => self.words = words_of(self.alloc, value)?,
             "input" => {

@@ -10,12 +10,12 @@
 //! |---|---|
 //! | `text NAME` | a text that later values name as `<NAME>` |
 //! | `file NAME` | begins a file that later cases name as their input; its lines and pictures come next |
-//! | `line`, `picture` | the next line of the file; its next picture: width, height, and the colour of each pixel, `N*COLOUR` for so many of it |
+//! | `line`, `picture` | the next line of the file; its next picture: width, height, and the colour of each pixel, `N*COLOUR` for that many of it |
 //! | `case` | begins a case of this title |
 //! | `words` | the words, `""` for an empty one; `step 1` where it is left out |
 //! | `input`, `input hex`, `input file` | what the source holds: a text, bytes in hexadecimal digits, a file that was named |
 //! | `change`, `change hex` | `OLD => NEW`: a part of the input, which stands there once, becomes another |
-//! | `cut` | only so many bytes of the input are given; `0..515` is one run for each number below 515 |
+//! | `cut` | only the given number of bytes of the input are given; `0..515` is one run for each number below 515 |
 //! | `step` | how many bytes one read gives at most; 4096 where it is left out |
 //! | `room`, `reads fail`, `puts fail` | how many bytes the sink takes; which read or put fails. `0..515` is one run for each number below 515 |
 //! | `notes room` | how many bytes the notes take |
@@ -28,8 +28,8 @@
 //! | `changes of` | an input. Below it each line that is indented is a case of its own, with the change as its title: `OLD => NEW \| STATUS NOTE`, or `OLD => NEW \| 0 LENGTH SUM` as in `out sum` |
 //!
 //! A value `N of TEXT` or `A..B of TEXT` repeats the text with commas between, with `{i}` as the number of
-//! the copy and `{i-1}` as the number before it; `N blanks` is so many blanks. A case of status 0 says what
-//! its output is; another that says nothing of it wants none.
+//! the copy and `{i-1}` as the number before it; `N blanks` is the given number of blanks. A case of status 0
+//! says what its output is; another that says nothing of it wants none.
 #![tactic(auto)]
 
 mod bytes;

@@ -23,7 +23,7 @@ enum Extent {
 pub enum Short {
     /// Nothing.
     Never,
-    /// The sink takes no more than so many bytes.
+    /// The sink takes no more than the given number of bytes.
     Room(u64),
     /// A put fails.
     Put,
@@ -62,7 +62,7 @@ impl Output {
         self.bytes.extend_from_slice(bytes)
     }
 
-    /// This line comes next; before the first, `...` stands for anything.
+    /// This line comes next; before the first, `...` represents anything.
     pub fn add_line(&mut self, line: &str) -> Result<(), ProgramRowFault> {
         if line == "..." && self.extent == Extent::Unsaid {
             self.extent = Extent::End;

@@ -27,7 +27,7 @@ has_rank (r ∷ rs) q h = by_test (same_key r.key q) refl h (λ g. has_rank rs q
     by_test true e h later = record { rank = r; one = inl refl; key = one_key r.key q e }
     by_test false e h later = record { rank = (later h).rank; one = inr (later h).one; key = (later h).key }
 
--- c is what the queue stands for and d the choice beside it
+-- c is what the queue represents and d the choice beside it
 
 pub may_start_with : (c d : Choice) → Alike c d → (q : TileKey) (ks : List TileKey) → has_key (map rank_key d.wanted) q ≡ true → AreEvictedFor c q ks → MayStartWith c q ks
 may_start_with c d a q ks h f =

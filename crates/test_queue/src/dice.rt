@@ -1,8 +1,8 @@
-//! Numbers that look as if they were thrown.
+//! Numbers that look random.
 
 ghost use Rattle.std.specs.Prelude.{◌<◌, ◌≤◌};
 
-/// Numbers that look as if they were thrown.
+/// Numbers that look random.
 #[derive(Drop)]
 pub(crate) struct Dice {
     last: u64,
@@ -25,7 +25,7 @@ impl Dice {
         (self.last >> 48) as u32
     }
 
-    /// A number below so many, of which there are at most 2^16.
+    /// A number below the given one, of which there are at most 2^16.
     pub(crate) fn below(&mut self, many: u32) -> u32
         requires { 1 ≤ many }
         ensures { result < many }

@@ -2,11 +2,11 @@
 //!
 //! With no words it goes through the table on standard input; a line that begins with `#` and an empty one
 //! say nothing. A KEY is `LAYER/X/Y/STAMP`, a RANK `KEY:BIN` with the bin `now`, `soon` or `eventually`, and a
-//! TILE is a RANK or a KEY without rank, with `!` behind it where it is pinned.
+//! TILE is a RANK or a KEY without rank, with `!` after it where it is pinned.
 //!
 //! | Line | What it says |
 //! |---|---|
-//! | `queue BUDGET IN_FLIGHT wanted RANK .. ready TILE ..` | the queue stands for these |
+//! | `queue BUDGET IN_FLIGHT wanted RANK .. ready TILE ..` | the queue represents these |
 //! | `start KEY` | the key starts, and what is evicted for it is evicted |
 //! | `finish TILE`, `finish -` | a tile in flight is made; it is ready, or needed no more |
 //! | `first => KEY` | the key that starts first; `-` where none may |
@@ -17,11 +17,11 @@
 //! the table or of the definitions, or a line that can't be taken, ends in status 1 and one line on standard
 //! error.
 //!
-//! - `steps SEED COUNT` takes so many random steps of a queue, and compares its answers with the definitions'
-//!   after each.
-//! - `queue ORDER TILES PAIRS` times a queue of so many wanted and as many ready tiles, over so many pairs of
-//!   a start and its end; in the order `mixed` or `middle` the first key starts, in `last` the worst. The
-//!   script `bench/queue` calls it.
+//! - `steps SEED COUNT` takes the given number of random steps of a queue, and compares its answers with the
+//!   definitions' after each.
+//! - `queue ORDER TILES PAIRS` times a queue of the given number of wanted and as many ready tiles, over the
+//!   given number of pairs of a start and its end; in the order `mixed` or `middle` the first key starts, in
+//!   `last` the worst. The script `bench/queue` calls it.
 #![tactic(auto)]
 
 mod choice;

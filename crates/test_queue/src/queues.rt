@@ -1,4 +1,4 @@
-//! The raster queue beside the plain choice that it stands for: steps of a table, random steps, and times.
+//! The raster queue beside the plain choice that it represents: steps of a table, random steps, and times.
 
 mod agreement;
 mod checked_queue;

@@ -40,7 +40,7 @@ impl Meeting {
         self.taken.fetch_add(1, Ordering::SeqCst);
     }
 
-    /// Waits until so many workers have come to the gate.
+    /// Waits until the given number of workers have come to the gate.
     pub fn wait_for_workers(&self, count: u64) {
         self.wait(&self.come, count);
     }

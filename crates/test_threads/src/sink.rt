@@ -4,8 +4,8 @@ use crate::meeting::Meeting;
 use player_io::{MemSink, PutFault, Sink};
 use std::alloc::Global;
 
-/// A sink in memory that waits once: at the put after which it holds the mark, until so many workers have come
-/// to the gate.
+/// A sink in memory that waits once: at the put after which it holds the mark, until the given number of
+/// workers have come to the gate.
 #[derive(Drop)]
 pub struct WaitingSink<'a> {
     meeting: &'a Meeting,

@@ -49,7 +49,8 @@ fn the_run_goes_on_while_the_sink_waits_at_an_image(rt: HostRuntime) -> Result<(
     Ok(())
 }
 
-// The bytes that a sink with so much room holds of the first script's recording by threads, and how the run ended.
+// The bytes that a sink with this much room holds of the first script's recording by threads, and how the run
+// ended.
 fn first_with_room<R: Threads + Wait + Sync>(
     rt: &R,
     alloc: Global,

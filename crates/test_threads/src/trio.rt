@@ -13,7 +13,7 @@ use std::process::Abort;
 use std::sync::{Arc, Wait};
 use thread_lock::{Pass, TurnLock};
 
-/// A lock round a new core of the first script, and the passes of its three actors.
+/// A lock around a new core of the first script, and the passes of its three actors.
 #[derive(Drop)]
 pub struct Trio {
     pub lock: TurnLock<Core>,
@@ -31,7 +31,7 @@ fn script_of<R: Abort>(rt: &R, alloc: Global) -> Script {
     }
 }
 
-// A lock round a new core of a script with one worker, and its first pass.
+// A lock around a new core of a script with one worker, and its first pass.
 fn lock_of<R: Abort>(rt: &R, alloc: Global, script: Arc<Script>) -> (TurnLock<Core>, Pass<Core>)
     ensures pass { IsFresh result.0 0 result.1 }
     ensures stem { result.1.stem ≡ Some (record { script = script.value; workers = 1 }) }

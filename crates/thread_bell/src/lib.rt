@@ -3,7 +3,7 @@
 //! One who finds nothing to do sleeps at the bell until it is rung; one who has changed something rings. No
 //! wake-up is lost where both keep the order: the sleeper reads [`Bell::rung`] before it looks for work, and
 //! then [`Bell::wait`]s with that number; the other changes, and then [`Bell::ring`]s. A change before the look
-//! was seen by it. A change behind the look is rung behind the number was read, so the count has moved on, and
+//! was seen by it. A change after the look is rung after the number was read, so the count has moved on, and
 //! the wait returns at once, or the ring finds the sleeper and wakes it.
 //!
 //! A bell has three posts at which threads sleep ([`Post`]), and is rung at one of them, so that nobody wakes up who

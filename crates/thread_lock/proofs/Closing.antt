@@ -24,7 +24,7 @@ use Rattle.thread_lock.proofs.Counts.{one_at_most, one_else, times_between, time
 use Rattle.thread_lock.proofs.Keeps.{moved_olds, owned_numbers}
 
 module _ {M E : Type 0} where
-  -- the passes that are left, with the one that was taken in behind them, are the passes that were
+  -- the passes that are left, with the one that was taken in after them, are the passes that were
   pub one_more : (left : List (PassModel M E)) (p : PassModel M E) (olds : List (Old M E)) → map old_of left ++ (old_of p ∷ olds) ≡ map old_of (left ++ p ∷ []) ++ olds
   one_more [] p olds = refl
   one_more (q ∷ qs) p olds = ap (λ (os : List (Old M E)). old_of q ∷ os) (one_more qs p olds)

@@ -6,7 +6,7 @@ use mathlib.Core.List.{IsPrefix}
 use Rattle.thread_lock.specs.Lists.{entries_by}
 
 module _ {E : Type 0} where
-  -- an entry of the actor comes behind its own
+  -- an entry of the actor comes after its own
   pub own_here : (n : ℕ) (e : E) (log : List (ℕ × E)) → entries_by n (log ++ (n, e) ∷ []) ≡ entries_by n log ++ (n, e) ∷ []
   own_here n e log = filter-append _ log ((n, e) ∷ []) ∙ ap (λ (b : Bool). entries_by n log ++ cond b ((n, e) ∷ []) []) (eq-eqb n n refl)
 

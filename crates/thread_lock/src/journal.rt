@@ -59,14 +59,14 @@ impl Journal {
         self.title
     }
 
-    /// The numbers in the order in which they were written, each behind the number of its actor.
+    /// The numbers in the order in which they were written, each after the number of its actor.
     pub fn notes(&self) -> &[(u32, u32)]
         ensures { result.now ≡ self.now.notes }
     {
         self.notes.as_slice()
     }
 
-    /// Writes a number behind all others. For want of memory the journal stays as it was.
+    /// Writes a number after all others. When memory runs out the journal stays as it was.
     pub fn write(&mut self, actor: u32, number: u32) -> Result<(), AllocError>
         ensures ok { OnOk result (self.new ≡ record self.old { notes = self.old.notes ++ (actor, number) ∷ [] }) }
         ensures err { OnErr result (self.new ≡ self.old) }
@@ -75,7 +75,7 @@ impl Journal {
     }
 }
 
-/// Writes a number in one turn. For want of memory the journal goes back as it was.
+/// Writes a number in one turn. When memory runs out the journal goes back as it was.
 pub fn write_note<R: Wait>(
     rt: &R,
     lock: &TurnLock<Journal>,

@@ -1,4 +1,4 @@
-//! A lock round one value with which actors of several threads take turns, and whose history counts afterwards.
+//! A lock around one value with which actors of several threads take turns, and whose history counts afterwards.
 //!
 //! Each actor has a [`Pass`], with a number of its own. It takes the turn and then has the value ([`HeldTurn`]), takes the value out ([`Empty`]), and puts it back with one entry of its own, or none.
 //! At the end [`TurnLock::close`] gives the value back against all passes. What each pass saw is then where the value's history begins, what each made is exactly what the history has under its number, and nobody else is in it.

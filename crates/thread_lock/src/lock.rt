@@ -5,7 +5,7 @@ ghost use Rattle.thread_lock.specs.inner.Steps.{Took, Missed};
 
 use crate::board::{Board, MADE, PassSeat, TURN};
 use crate::pass::{Busy, HeldTurn, Pass, SplitFault};
-use crate::plays::{SplitOff, Draw, Learn, Try};
+use crate::plays::{Draw, Learn, SplitOff, Try};
 use crate::turn::Turn;
 use atomic_table::Table;
 use std::alloc::{AllocError, AllocFailed, Global};
@@ -13,7 +13,7 @@ use std::marker::Model;
 use std::snapshot::Snapshot;
 use std::sync::Wait;
 
-/// A lock round a value that actors take turns with. Threads may share it.
+/// A lock around a value that actors take turns with. Threads may share it.
 #[derive(Drop)]
 pub struct TurnLock<T: Turn> {
     pub(crate) table: Board<T>,
@@ -32,7 +32,7 @@ impl<T: Turn> Model for TurnLock<T> {
 }
 
 impl<T: Turn> TurnLock<T> {
-    /// A lock round `first`, for `most` passes, and the pass of actor 0. For want of memory `first` comes back.
+    /// A lock around `first`, for `most` passes, and the pass of actor 0. When memory runs out `first` comes back.
     pub fn new(
         alloc: Global,
         first: T,

@@ -132,7 +132,7 @@ impl<T: Turn> HeldTurn<T> {
 
 impl<T: Turn> Empty<T> {
     /// Puts the value back and frees the turn.
-    /// The value has its old history, or one entry of this actor behind it, and the stem with which the lock was made.
+    /// The value has its old history, or one entry of this actor after it, and the stem with which the lock was made.
     pub fn put(self, lock: &TurnLock<T>, new: T) -> Pass<T>
         requires lock { self.lock ≡ lock.now.id }
         requires stem { self.stem ≡ Some (T.stem new) }

@@ -12,7 +12,7 @@ type Lock = TurnLock<Journal>;
 
 type Slip = Pass<Journal>;
 
-// A lock round an empty journal, and its first pass.
+// A lock around an empty journal, and its first pass.
 fn locked<R: Abort>(rt: &R, alloc: Global, most: u32) -> (Lock, Slip)
     requires { 0 < most }
     ensures { (result.0.most ≡ most) × IsOf result.0 result.1 × (result.1.mine ≡ []) }

@@ -12,7 +12,7 @@ use Rattle.thread_ring.specs.Answers.{Gained, Filled, answer_for_all}
 use Rattle.thread_ring.specs.declared.ends.Presented.{Presented}
 use Rattle.thread_ring.specs.declared.ends.Presented.TheVariants.{Written, Fault, Memory}
 
--- a front of the bytes is a front of the bytes and more
+-- a prefix of the bytes is a prefix of the bytes and more
 pub front_more : (old new : Option (List ℕ)) (done more : List ℕ) → GainsPrefix old new done → GainsPrefix old new (done ++ more)
 front_more old new done more gains = (gains.0, gains.1 ++ more, sym (append_assoc gains.0 gains.1 more) ∙ ap (λ bytes. bytes ++ more) gains.2, gains.3)
 
@@ -23,11 +23,11 @@ appends_then (Some xs) None new done more a b = absurd a
 appends_then (Some xs) (Some ys) None done more a b = absurd b
 appends_then (Some xs) (Some ys) (Some zs) done more a b = b ∙ ap (λ bytes. bytes ++ more) a ∙ append_assoc xs done more
 
--- all that was, then a front of the piece
+-- all that was, then a prefix of the piece
 pub front_after : (first old new : Option (List ℕ)) (done piece : List ℕ) → Appends first old done → GainsPrefix old new piece → GainsPrefix first new (done ++ piece)
 front_after first old new done piece a gains = (done ++ gains.0, gains.1, append_assoc done gains.0 gains.1 ∙ ap (λ bytes. done ++ bytes) gains.2, appends_then first old new done gains.0 a gains.3)
 
--- a front of the same bytes
+-- a prefix of the same bytes
 pub front_same : (first new : Option (List ℕ)) (held bytes : List ℕ) → held ≡ bytes → GainsPrefix first new held → GainsPrefix first new bytes
 front_same first new held bytes same gains = (gains.0, gains.1, gains.2 ∙ same, gains.3)
 
@@ -44,7 +44,7 @@ gained_of_all Fault false first new held bytes gained filled = front_same first 
 gained_of_all Memory true first new held bytes gained filled = front_same first new held bytes filled gained
 gained_of_all Memory false first new held bytes gained filled = front_same first new (filled.0 ++ filled.1) bytes filled.2 (front_more first new filled.0 filled.1 (front_same first new held filled.0 filled.3 gained))
 
--- a refusal for want of memory left the bytes as they were
+-- a refusal for lack of memory left the bytes as they were
 pub refusal_keeps : (e : PutFault) (old new piece : List ℕ) → PutAppends {X = Unit {0}} (Some old) (Some new) piece (Err e) → NotFailed {X = Unit {0}} (Err e) → new ≡ old
 refusal_keeps put_fault.Failed old new piece appends answers = absurd answers
 refusal_keeps (put_fault.Memory _) old new piece appends answers = appends
@@ -53,6 +53,6 @@ refusal_keeps (put_fault.Memory _) old new piece appends answers = appends
 pub joined_parts : (n : ℕ) (pieces : List (Vec ℕ)) → joined (take n pieces) ++ joined (drop n pieces) ≡ joined pieces
 joined_parts n pieces = sym (flat_map-append (λ piece. piece.items) (take n pieces) (drop n pieces)) ∙ ap (λ all. joined all) (take-append-drop n pieces)
 
--- the first n pieces are a front of all
+-- the first n pieces are a prefix of all
 pub filled_first : (n : ℕ) (pieces : List (Vec ℕ)) (old new : List ℕ) → new ≡ old ++ joined (take n pieces) → Filled false old new (joined pieces)
 filled_first n pieces old new grown = (joined (take n pieces), joined (drop n pieces), joined_parts n pieces, grown)

@@ -17,9 +17,9 @@ const PLACES: usize = 3;
 pub enum Presented {
     /// The sink gained all of them, in order.
     Written,
-    /// The sink failed, and gained a front of their bytes.
+    /// The sink failed, and gained a prefix of their bytes.
     Fault,
-    /// Memory was wanting, and the sink gained a front of their bytes.
+    /// Memory ran out, and the sink gained a prefix of their bytes.
     Memory,
 }
 
@@ -32,7 +32,7 @@ pub struct RingSink {
     /// Rung where there is a piece to take, and closed as the end mark; shared with the presenter.
     pub(crate) bell: Arc<Bell, Global>,
     pub(crate) alloc: Global,
-    /// How many puts were refused for want of memory.
+    /// How many puts were refused for lack of memory.
     pub(crate) refused: u64,
 }
 

@@ -26,7 +26,7 @@ impl RingSink {
         }
     }
 
-    /// A put is refused for want of memory.
+    /// A put is refused for lack of memory.
     fn refuse(&mut self, error: AllocError) -> PutFault
         ensures ring { SameSink self.old self.new }
         ensures bytes { whole self.new ≡ whole self.old }
@@ -39,7 +39,7 @@ impl RingSink {
         PutFault::Memory(error)
     }
 
-    /// Takes in a piece, unless it is empty: into the ring, or behind the kept ones.
+    /// Takes in a piece, unless it is empty: into the ring, or after the kept ones.
     fn take_in(&mut self, piece: Vec<u8>) -> Result<(), PutFault>
         ensures ring { SameSink self.old self.new }
         ensures bytes { PutAppends (Some (whole self.old)) (Some (whole self.new)) piece.items result }

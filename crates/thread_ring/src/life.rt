@@ -16,7 +16,7 @@ use std::thread::{Threads, join_mut};
 ///
 /// `Written`: `out` gained all pieces, in order. `Fault` comes only where the count of faults of
 /// `out` rose in this call, or stands at its last value; `Memory` where the ring, its pieces or `out`
-/// found none. In both `out` gained a front of them.
+/// found none. In both `out` gained a prefix of them.
 pub fn present_from<R: Threads + Wait + Sync, K: Sink + Send>(
     rt: &R,
     alloc: Global,

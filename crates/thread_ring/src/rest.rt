@@ -15,7 +15,7 @@ use rtrb::Consumer;
 ///
 /// `Written`: `out` gained in all exactly what the sink holds. `Fault` comes only where the count of
 /// faults of `out` rose in this call, or stands at its last value, or `served` is `Fault`; `Memory`
-/// where `out` found none or `served` is `Memory`. In both `out` gained in all a front of what the
+/// where `out` found none or `served` is `Memory`. In both `out` gained in all a prefix of what the
 /// sink holds.
 pub fn finish<K: Sink>(
     sink: RingSink,

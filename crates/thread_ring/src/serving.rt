@@ -34,7 +34,7 @@ impl Presenter {
     ///
     /// `Written`: `out` gained exactly the pieces that were taken, in order. `Fault` comes only where
     /// the count of faults of `out` rose in this call, or stands at its last value; `Memory` where
-    /// `out` found none. In both `out` gained a front of the pieces that were taken.
+    /// `out` found none. In both `out` gained a prefix of the pieces that were taken.
     pub fn serve<K: Sink>(&mut self, rt: &impl Wait, out: &mut K) -> Presented
         ensures ring { SamePresenter self.old self.new }
         ensures bytes { Served result (K.held out.old) (K.held out.new) (bytes_taken self.old) (bytes_taken self.new) }

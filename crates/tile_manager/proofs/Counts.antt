@@ -31,7 +31,7 @@ use Rattle.tile_manager.specs.inner.Places.{IsRankAmong}
 use Rattle.tile_manager.proofs.RankedKeys.{find_among}
 use Rattle.tile_manager.proofs.ReadyKeys.{keys_once, keys_ready}
 
--- the best of some ranks, and of one more behind them
+-- the best of some ranks, and of one more after them
 
 least_one : (xs ys : List Rank) (o p : Option Rank) → SameMembers xs ys → IsLeastOf xs o → IsLeastOf ys p → o ≡ p
 least_one xs ys None None same f g = refl

@@ -1,4 +1,4 @@
--- What contracts see of a tile manager, and when it stands for the tiles of a run.
+-- What contracts see of a tile manager, and when it represents the tiles of a run.
 use Rattle.std.specs.Prelude.{◌≡◌, ⊤, ℕ, Bool, true, false, cond, Option, Some, None, List, [], ◌∷◌, filter_map, refl}
 use Rattle.std.specs.Coded.{Coded, code_by, coded×}
 use Rattle.geom.specs.declared.tile.TileKey.{TileKey}
@@ -79,11 +79,11 @@ pub record HoldsTiles (s : ScriptModel) (m : Managed) (made flying pins : List T
   pub images : (q : TileKey) (i : Image) → image_of m.store q ≡ Some i → (i.key ≡ q) × KeyShows s q i.rect i.list
   pub outlook : Foresees m.outlook c live
 
--- it stands for the tiles of a run of the script after this past
+-- it represents the tiles of a run of the script after this past
 abbrev pub Manages : ScriptModel → List Entry → Managed → Type 0
 Manages s h m = HoldsTiles s m (ready s h) (in_flight h) (pinned s h) (choice s h) (live_ranks s h)
 
--- the manager stands for a run in which a worker may start the key now, for which these keys are evicted
+-- the manager represents a run in which a worker may start the key now, for which these keys are evicted
 pub record StartsNow (m : Managed) (q : TileKey) (evicted : List TileKey) : Type 0 where
   pub script : ScriptModel
   pub workers : ℕ
@@ -97,7 +97,7 @@ pub record StartsNow (m : Managed) (q : TileKey) (evicted : List TileKey) : Type
 abbrev pub tile_made : ScriptModel → List Entry → TileKey → Option Tile
 tile_made s h q = cond (has_key (live_keys s h) q) (Some (ready_tile s h q)) None
 
--- the manager stands for a run in which a worker may be done with this image now, which shows its key, and whose tile is this
+-- the manager represents a run in which a worker may be done with this image now, which shows its key, and whose tile is this
 pub record DoneNow (m : Managed) (i : Image) (tile : Option Tile) : Type 0 where
   pub script : ScriptModel
   pub workers : ℕ

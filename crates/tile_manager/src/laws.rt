@@ -8,7 +8,7 @@ ghost use Rattle.model_history.specs.Legal.{Legal};
 ghost use Rattle.model_steps.specs.Events.{send};
 ghost use Rattle.tile_manager.specs.Managers.{Managed, Manages};
 
-/// A manager that stands for a run stands for it after a send too.
+/// A manager that represents a run represents it after a send too.
 pub fn sends_keep_the_tiles()
     ensures { (s : ScriptModel) (workers : ℕ) (h : List Entry) (m : Managed) (actor k : ℕ) (pulls : List Move) → Legal s workers (send actor k pulls ∷ h) → Manages s h m → Manages s (send actor k pulls ∷ h) m }
 {}

@@ -2,7 +2,7 @@
 //!
 //! A [`TileManager`] has the store of tiles, the keys that are pinned, and the raster queue or the ranks of which
 //! it is to be made, and keeps them in step with the history of a run. Where a tree has moved it may be left
-//! without both until the next question. Each call that stands for an event takes
+//! without both until the next question. Each call that represents an event takes
 //! no memory, so it may follow the entry of that event; what needs memory is taken before, by calls of their own.
 //! It knows no page: ranks, live keys and the keys that an activation needs are handed in.
 //!

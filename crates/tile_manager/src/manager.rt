@@ -96,7 +96,7 @@ fn all_ready(store: &TileStore, keys: &Keys, next: Option<TileKey>) -> bool
 }
 
 impl TileManager {
-    /// The tiles of a run in which nothing has come yet, with this budget. An error is want of memory.
+    /// The tiles of a run in which nothing has come yet, with this budget. An error means out of memory.
     pub fn new(alloc: Global, budget: u32) -> Result<TileManager, AllocError>
         ensures tiles { (s : ScriptModel) → s.budget ≡ budget → IfOk result (λ manager. Manages s [] manager) }
         ensures seen { IfOk result (λ manager. is_seen manager.outlook ≡ true) }
@@ -125,7 +125,7 @@ impl TileManager {
         self.outlook.first(&self.store, &self.pins)
     }
 
-    /// The keys that are evicted for the next one, the worst first. An error is want of memory.
+    /// The keys that are evicted for the next one, the worst first. An error means out of memory.
     pub fn evicted(&self, key: TileKey) -> Result<Keys, AllocError>
         requires { is_seen self.now.outlook ≡ true }
         ensures { (s : ScriptModel) (workers : ℕ) (h : List Entry) (r : Ranking) → Legal s workers h → Manages s h self.now → rank_to_start s h ≡ Some r → r.key ≡ key → IfOk result (λ keys. keys ≡ evicted_for s h r) }
@@ -133,7 +133,7 @@ impl TileManager {
         self.outlook.evicted(&self.store, &self.pins, key)
     }
 
-    /// The first ranks that are wanted, at most so many, in rising order. An error is want of memory.
+    /// The first ranks that are wanted, at most the given number, in rising order. An error means out of memory.
     pub fn upcoming(&self, most: u32) -> Result<Vec<Rank>, AllocError>
         requires { is_seen self.now.outlook ≡ true }
         ensures { (s : ScriptModel) (workers : ℕ) (h : List Entry) → Legal s workers h → Manages s h self.now → IfOk result (λ ranks. ranks.items ≡ take most (in_order rank_cmp (wanted s h))) }
@@ -164,7 +164,7 @@ impl TileManager {
         all_ready(&self.store, keys, self.outlook.at_hand())
     }
 
-    /// The keys that have an image, each once, in key order. An error is want of memory.
+    /// The keys that have an image, each once, in key order. An error means out of memory.
     pub fn ready_keys(&self) -> Result<Keys, AllocError>
         ensures order { IfOk result (λ keys. IsInOrder key_cmp keys) }
         ensures once { IfOk result (λ keys. AreDistinctKeys keys) }
@@ -180,7 +180,7 @@ impl TileManager {
         self.store.used()
     }
 
-    /// Makes room for one start and its end. An error is want of memory, and the manager is as it was.
+    /// Makes room for one start and its end. An error means out of memory, and the manager is as it was.
     pub fn reserve(&mut self) -> Result<(), AllocError>
         ensures room { OnOk result (1 ≤ self.new.store.spare) }
         ensures same { (s : ScriptModel) (h : List Entry) → Manages s h self.old → Manages s h self.new }
@@ -232,7 +232,7 @@ impl TileManager {
         self.outlook = Outlook::Unseen;
     }
 
-    /// Makes the queue, where there are ranks alone: the next question costs less. An error is want of memory,
+    /// Makes the queue, where there are ranks alone: the next question costs less. An error means out of memory,
     /// and the manager is as it was.
     pub fn refresh(&mut self) -> Result<(), AllocError>
         ensures same { (s : ScriptModel) (workers : ℕ) (h : List Entry) → Legal s workers h → Manages s h self.old → Manages s h self.new }

@@ -24,7 +24,7 @@ fn order_at(keys: &[TileKey], at: usize, key: TileKey) -> Ordering
     }
 }
 
-// A place at `near` or a few behind it: those between are of keys that are less.
+// A place at `near` or a few after it: those between are of keys that are less.
 fn passed(keys: &[TileKey], near: usize, key: TileKey) -> usize {
     let mut at = near;
     for _ in 0..STEPS {
@@ -111,9 +111,9 @@ fn has_behind(keys: &[TileKey], near: &mut usize, key: TileKey) -> bool
 }
 
 /// Whether a key is one of these, which stand in key order. Where keys are asked for in their order, `near`
-/// carries the place from one question to the next: a key that would stand next to the one before it, or a few
-/// behind, is found or missed without a search. The answer doesn't depend on it; 0 is as good a beginning as
-/// any.
+/// carries the place from one question to the next: a key that would stand next to the one before it, or a
+/// few after it, is found or missed without a search. The answer doesn't depend on it; 0 is as good a
+/// beginning as any.
 pub fn has_near(keys: &[TileKey], near: &mut usize, key: TileKey) -> bool
     requires { IsSorted key_cmp keys.now }
     ensures { result ≡ has_key keys.now key }

@@ -68,7 +68,7 @@ impl Outlook {
         }
     }
 
-    /// The keys that are evicted for a wanted one, the worst first. An error is want of memory.
+    /// The keys that are evicted for a wanted one, the worst first. An error means out of memory.
     pub(crate) fn evicted(
         &self,
         store: &TileStore,
@@ -85,7 +85,7 @@ impl Outlook {
         }
     }
 
-    /// The first ranks that are wanted, at most so many, in rising order. An error is want of memory.
+    /// The first ranks that are wanted, at most the given number, in rising order. An error means out of memory.
     pub(crate) fn wanted(
         &self,
         store: &TileStore,

@@ -1,7 +1,7 @@
 //! What is wanted and what is ready, by the ranks of the live keys.
 //!
 //! Ranks, ready keys and pinned keys stand in key order, or nearly so, and are looked for in each other in that
-//! order: a key next to the one before it, or a few behind, is found or missed without a search.
+//! order: a key next to the one before it, or a few after it, is found or missed without a search.
 
 ghost use Rattle.std.specs.Prelude.{◌≡◌, ◌≤◌, ◌<◌, ℕ, List, true, false, not, ◌&&◌, Some, None, length, get_or, map, filter, IfOk};
 ghost use Rattle.std.specs.declared.cmp.Ordering.TheVariants.{Less, Greater};
@@ -38,7 +38,7 @@ pub(crate) fn in_key_order(ranks: Vec<Rank>) -> Vec<Rank>
     ordered
 }
 
-/// Whether a key is being made, of which there are so many.
+/// Whether a key is being made, of which there are the given number.
 pub(crate) fn is_made_now(store: &TileStore, in_flight: u32, key: TileKey) -> bool
     requires { in_flight ≡ 0 → is_in_flight store.now key ≡ false }
     ensures { result ≡ is_in_flight store.now key }
@@ -50,7 +50,7 @@ pub(crate) fn is_made_now(store: &TileStore, in_flight: u32, key: TileKey) -> bo
 }
 
 /// Those of the ranks whose keys are neither ready, which are these keys in key order, nor being made, of which
-/// there are so many. An error is want of memory.
+/// there are the given number. An error means out of memory.
 pub(crate) fn missing(
     alloc: Global,
     store: &TileStore,
@@ -102,7 +102,7 @@ fn order_at(ranks: &[Rank], at: usize, key: TileKey) -> Ordering
     }
 }
 
-// A place at `near` or a few behind it: those between are of keys that are less.
+// A place at `near` or a few after it: those between are of keys that are less.
 fn passed(ranks: &[Rank], near: usize, key: TileKey) -> usize {
     let mut at = near;
     for _ in 0..STEPS {
@@ -171,8 +171,8 @@ fn rank_at(ranks: &[Rank], key: TileKey, place: Option<usize>) -> Option<Rank>
     }
 }
 
-// A ready key with its rank, which is looked for at `near` first and a few places behind, and whether it is
-// pinned. `near` is set to the place behind the rank, or where it would stand.
+// A ready key with its rank, which is looked for at `near` first and a few places after it, and whether it is
+// pinned. `near` is set to the place after the rank, or where it would stand.
 fn ready_tile(ranks: &[Rank], near: &mut usize, key: TileKey, pinned: bool) -> ReadyTile
     requires { IsSortedByKey rank_key key_cmp ranks.now }
     ensures { (rs : List Ranking) → AreDistinctKeys (map rank_key rs) → SameMembers ranks.now rs → result ≡ record { key = key; rank = rank_among rs key; pinned = pinned } }
@@ -189,7 +189,7 @@ fn ready_tile(ranks: &[Rank], near: &mut usize, key: TileKey, pinned: bool) -> R
 }
 
 /// The ready keys, which are these, with their ranks, each with whether it is pinned. The ranks stand in the
-/// order of their keys. An error is want of memory.
+/// order of their keys. An error means out of memory.
 pub(crate) fn ready_tiles(
     alloc: Global,
     ranks: &[Rank],

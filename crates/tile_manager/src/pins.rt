@@ -38,7 +38,7 @@ impl Pins {
         }
     }
 
-    /// These keys, in whatever order they stand. An error is want of memory.
+    /// These keys, in whatever order they stand. An error means out of memory.
     pub fn of(alloc: Global, keys: &Keys) -> Result<Pins, AllocError>
         ensures { IfOk result (λ pins. (q : Key) → has_key pins q ≡ has_key keys.now q) }
     {

@@ -54,7 +54,8 @@ fn in_flight(store: &TileStore) -> u32
     store.used() - ready_count(store)
 }
 
-// Whether a key is neither ready, which is looked for at `near` first, nor being made, of which there are so many.
+// Whether a key is neither ready, which is looked for at `near` first, nor being made, of which there are the
+// given number.
 fn is_missing(store: &TileStore, near: &mut usize, in_flight: u32, key: TileKey) -> bool
     requires { in_flight ≡ set.len store.now.in_flight }
     ensures { result ≡ store_lacks store.now key }
@@ -105,7 +106,7 @@ impl Ranks {
     }
 
     /// The queue that is to be made of the ranks, where these tiles are there and these keys are not to be given
-    /// up. An error is want of memory.
+    /// up. An error means out of memory.
     pub(crate) fn queue(&self, store: &TileStore, pins: &Pins) -> Result<RasterQueue, AllocError>
         ensures { IfOk result (λ queue. Alike queue (choice_among store.now pins.now self.now)) }
     {
@@ -141,7 +142,7 @@ impl Ranks {
         }
     }
 
-    /// The keys that are evicted for a missing one, the worst first. An error is want of memory.
+    /// The keys that are evicted for a missing one, the worst first. An error means out of memory.
     pub(crate) fn evicted(
         &self,
         store: &TileStore,
@@ -154,7 +155,7 @@ impl Ranks {
         queue.evicted(key)
     }
 
-    /// The first ranks of missing keys, at most so many, in rising order. An error is want of memory.
+    /// The first ranks of missing keys, at most the given number, in rising order. An error means out of memory.
     pub(crate) fn wanted(
         &self,
         store: &TileStore,

@@ -1,4 +1,4 @@
--- A queue that is made of the trees and the tiles of a past stands for its choice.
+-- A queue that is made of the trees and the tiles of a past represents its choice.
 use Rattle.std.proofs.Common.{◌≡◌, ℕ, Bool, true, false, not, ◌&&◌, List, [], ◌∷◌, length, map, filter, filter_map, refl, sym, ◌∙◌, ap, subst}
 use Rattle.geom.specs.declared.tile.TileKey.{TileKey}
 use Rattle.geom.specs.KeyLists.{has_key, AreDistinctKeys}

@@ -30,7 +30,7 @@ pub record RanksNow (s : ScriptModel) (active pending : Option SeenTreeModel) : 
   pub seen_active : IsSeenWhere (active_tree s past) active
   pub seen_pending : IsSeenWhere (pending_tree s past) pending
 
--- the manager stands for a past of a run, after which a commit may be activated now, whose tree is this and needs these keys
+-- the manager represents a past of a run, after which a commit may be activated now, whose tree is this and needs these keys
 pub record PreparedActivates (s : ScriptModel) (pending : SeenTreeModel) (needed : List TileKey) (m : Managed) : Type 0 where
   pub workers : ℕ
   pub past : List Entry
@@ -42,7 +42,7 @@ pub record PreparedActivates (s : ScriptModel) (pending : SeenTreeModel) (needed
   pub seen : IsSeenTree (pending_tree s past) pending
   pub keys : needed ≡ required s past
 
--- what a tile manager that stands for the past takes for the activation: the pins are the keys that it needs, of the ready keys those of its tree are live, and the ranks are those after it
+-- what a tile manager that represents the past takes for the activation: the pins are the keys that it needs, of the ready keys those of its tree are live, and the ranks are those after it
 pub record AreForActivation (s : ScriptModel) (h : List Entry) (actor k : ℕ) (clamps : List Move) (pinned kept : List TileKey) (next : Ranked) : Type 0 where
   pub pins : (q : TileKey) → has_key pinned q ≡ has_key (required s h) q
   pub live : (q : TileKey) → has_key (model.ready s h) q ≡ true → has_key kept q ≡ has_key (keys_of (pending_tree s h)) q

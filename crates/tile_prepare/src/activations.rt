@@ -33,7 +33,7 @@ pub struct Activation {
 
 /// What the activation of a pending tree brings to the tiles: the keys that it needs, which are `required`,
 /// are pinned, of the ready keys those stay that the tree has, and the ranks are those of this tree alone.
-/// An error is want of memory.
+/// An error means out of memory.
 pub fn activation_of(
     alloc: Global,
     script: &Script,

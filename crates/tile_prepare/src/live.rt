@@ -14,7 +14,7 @@ use std::alloc::{AllocError, Global};
 use tile_manager::TileManager;
 use tile_ranks::SeenTree;
 
-/// The ready keys that a tree has, each once, in key order. An error is want of memory.
+/// The ready keys that a tree has, each once, in key order. An error means out of memory.
 pub(crate) fn kept_live(
     alloc: Global,
     manager: &TileManager,

@@ -13,8 +13,8 @@ use std::alloc::{AllocError, Global};
 use tile_manager::Ranks;
 use tile_ranks::{SeenTree, ranked};
 
-/// The ranks for a past, of both trees as they are seen then: for `TileManager::rerank`. An error is want of
-/// memory.
+/// The ranks for a past, of both trees as they are seen then: for `TileManager::rerank`. An error means out
+/// of memory.
 pub fn reranked(
     alloc: Global,
     script: &Script,

@@ -126,7 +126,7 @@ evicted_there c q =
       enough_or_all = front_of c k ws (nat_le k (length ws)) refl refl;
     }
 
--- a front of a list that is of this length, or the whole list and no longer, is what `take` gives
+-- a prefix of a list that is of this length, or the whole list and no longer, is what `take` gives
 only_by : {X : Type 0} (k : ℕ) (es rest ws : List X) → es ++ rest ≡ ws → length es ≤ k → (k ≤ length es) ⊎ (rest ≡ []) → es ≡ take k ws
 only_by k es rest ws e le (inl ge) = let l : length es ≡ k = omega arith in rw (sym e) (sym (take_at es rest k l))
 only_by k es rest ws e le (inr r) =

@@ -104,8 +104,8 @@ least_of (r ∷ rs) = least (Some r) (least_of rs)
 unfoldable pub first : Choice → Option Rank
 first c = least_of (filter (may_start c) c.wanted)
 
--- what is evicted for q: the shortest front of the worst-first list that is enough, or the whole list
--- where no front is enough
+-- what is evicted for q: the shortest prefix of the worst-first list that is enough, or the whole list
+-- where no prefix is enough
 pub record IsEvicted (c : Choice) (q : Rank) (es : List Evictable) : Type 0 where
   pub rest : List Evictable
   pub front : es ++ rest ≡ worst_first c q

@@ -26,8 +26,8 @@ pub fn first_is_the_least()
     ensures { FirstIsOne }
 {}
 
-/// The evicted are the shortest front of the worst-first list that is enough, or the whole list where no
-/// front is.
+/// The evicted are the shortest prefix of the worst-first list that is enough, or the whole list where no
+/// prefix is.
 pub fn evicted_keys_are_a_front()
     ensures { EvictedAreOne }
 {}

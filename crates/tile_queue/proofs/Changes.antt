@@ -287,7 +287,7 @@ start_room wanted rest staying vs f a b d n q ks s e g l =
     let o = s.fits_ranks in
     omega arith
 
--- what the lists are after a start, and what they stand for
+-- what the lists are after a start, and what they represent
 pub record IsStarted (wanted : List Rank) (staying : List Tile) (vs : List Evictable) (f budget a b d : ℕ) (q : TileKey) (ks : List TileKey) (wanted' : List Rank) (vs' : List Evictable) : Type 0 where
   pub queue : IsQueue wanted' staying vs' (f + 1) a b d
   pub alike : Alike (choice_of wanted' staying vs' (f + 1) budget) (choice_after_start (choice_of wanted staying vs f budget) q ks)
@@ -396,7 +396,7 @@ evictable_alike wanted staying vs f budget v n =
     (IsPermutation-middle staying (tile_of v) (map tile_of vs)))
     refl
 
--- what the lists are after the end of a start whose tile is ready, and what they stand for
+-- what the lists are after the end of a start whose tile is ready, and what they represent
 pub record IsFinished (wanted : List Rank) (staying : List Tile) (vs : List Evictable) (f budget a b d : ℕ) (t : Tile) (staying' : List Tile) (vs' : List Evictable) : Type 0 where
   pub queue : IsQueue wanted staying' vs' (f - 1) a b d
   pub alike : Alike (choice_of wanted staying' vs' (f - 1) budget) (finished (choice_of wanted staying vs f budget) (Some t))

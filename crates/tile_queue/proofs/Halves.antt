@@ -97,7 +97,7 @@ halved_is p xs low high s h =
     let w = s.within in
     passes_first p xs low ((λ k d l u. s.front k d u), (λ k d l u. s.back k d (omega arith) u)) (omega arith)
 
--- of elements of which those that pass stand first, one passes where so many pass
+-- of elements of which those that pass stand first, one passes where that many pass
 
 none_pass : {X : Type 0} (p : X → Bool) (xs : List X) → ((k : ℕ) (d : X) → k < length xs → p (get_or xs k d) ≡ false) → length (filter p xs) ≡ 0
 none_pass p [] h = refl

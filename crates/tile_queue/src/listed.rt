@@ -69,7 +69,8 @@ fn store<T: Copy>(slots: &mut Vec<T>, free: &mut Vec<u32>, x: T) -> u32
     }
 }
 
-// The slots of so many elements, one after another, with room for so many. An error is want of memory.
+// The slots of the given number of elements, one after another, with room for the given number. An error
+// means out of memory.
 #[tactic(auto, using(crate::proofs::Slots::up_to_more))]
 fn first_slots(alloc: Global, count: u32, room: usize) -> Result<VecDeque<u32>, AllocError>
     ensures slots { IfOk result (λ order. order.items ≡ up_to count) }
@@ -82,7 +83,7 @@ fn first_slots(alloc: Global, count: u32, room: usize) -> Result<VecDeque<u32>, 
     Ok(order)
 }
 
-// Where the search by halves for an element ends.
+// Where the binary search for an element ends.
 fn search_in<T: Ord + Copy>(
     slots: &[T],
     order: &VecDeque<u32>,
@@ -96,7 +97,7 @@ fn search_in<T: Ord + Copy>(
 }
 
 impl<T: Copy> Listed<T> {
-    /// The list of these elements, with room for so many. An error is want of memory.
+    /// The list of these elements, with room for the given number. An error means out of memory.
     pub(crate) fn of(
         alloc: Global,
         items: Vec<T>,
@@ -161,7 +162,7 @@ impl<T: Copy> Listed<T> {
         Some(self.get(0))
     }
 
-    /// Where the search by halves for an element ends, in a list that is sorted.
+    /// Where the binary search for an element ends, in a list that is sorted.
     pub(crate) fn search(&self, x: &T) -> Result<usize, usize>
     where
         T: Ord,

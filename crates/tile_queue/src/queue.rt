@@ -10,10 +10,10 @@ ghost use Rattle.tile_priority.specs.Choice as choosing;
 ghost use Rattle.tile_priority.specs.Alike.{Alike, choice_after_start, finished};
 ghost use Rattle.tile_queue.specs.Queues.{rank_key, EachKeyOnce, IsNew, AreEvictedFor, MayStartWith};
 
-use crate::listed::Listed;
 use crate::evictable::Evictable;
 use crate::evictables;
 use crate::evictables::{count_up_to, evict, has_for, keep, no_evictables, staying, worst};
+use crate::listed::Listed;
 use crate::wanted::Wanted;
 use geom::{Keys, TileKey};
 use std::alloc::{AllocError, Global};
@@ -61,9 +61,10 @@ impl RasterQueue {
         }
     }
 
-    /// Stands for these wanted ranks and ready tiles, with so many tiles in flight and so many that there
-    /// may be, and makes room for all that can start. No key stands twice in the two lists together. An
-    /// error is want of memory, or 2^32 keys or more: the queue stands for what it stood for.
+    /// Represents these wanted ranks and ready tiles, with the given number of tiles in flight, and the
+    /// number that there may be, and makes room for all that can start. No key stands twice in the two lists
+    /// together. An error means out of memory, or 2^32 keys or more: the queue represents what it
+    /// represented.
     pub fn rebuild(
         &mut self,
         wanted: &[Rank],
@@ -102,7 +103,7 @@ impl RasterQueue {
         }
     }
 
-    /// The first ranks that are wanted, at most so many, in rising order. An error is want of memory.
+    /// The first ranks that are wanted, at most the given number, in rising order. An error means out of memory.
     pub fn wanted(&self, most: u32) -> Result<Vec<Rank>, AllocError>
         ensures { IfOk result (λ ranks. ranks.items ≡ take most (in_order rank_cmp self.now.wanted)) }
     {
@@ -110,7 +111,7 @@ impl RasterQueue {
     }
 
     /// The keys that are evicted for a wanted one, the worst first; none for a key that is not wanted. An
-    /// error is want of memory.
+    /// error means out of memory.
     pub fn evicted(&self, key: TileKey) -> Result<Keys, AllocError>
         ensures wanted { IfOk result (AreEvictedFor self.now key) }
         ensures unwanted { has_key (map rank_key self.now.wanted) key ≡ false → IfOk result (λ keys. keys ≡ []) }

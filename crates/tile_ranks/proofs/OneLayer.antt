@@ -40,7 +40,7 @@ none_left (k ∷ ls) (suc i) le = none_left ls i (omega arith)
 placed_layer : (all : List Layer) (i : ℕ) (l : Layer) → i < length all → l ≡ get_or all i l → slice_get (map parts_of all) i ≡ Some (parts_of l)
 placed_layer all i l below at = get_mapped all i l (slice_get_read all (length all) i l refl below at)
 
--- the layer is not at this place, so it is looked for behind it
+-- the layer is not at this place, so it is looked for after it
 pub other_layer : (all : List Layer) (id i : ℕ) (l : Layer) (o : Option PageLayer) → i < length all → l ≡ get_or all i l → (l.id ≡ id → ⊥) → find (has_id id) (drop i (map parts_of all)) ≡ o → find (has_id id) (drop (i + 1) (map parts_of all)) ≡ o
 other_layer all id i l o below at out before =
     ap (λ n. find (has_id id) (drop n (map parts_of all))) (add-one i)

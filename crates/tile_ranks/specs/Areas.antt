@@ -5,7 +5,7 @@ use Rattle.geom.specs.Common.{meets}
 use Rattle.tile_priority.specs.declared.tile.Borders.{Borders}
 use Rattle.tile_priority.specs.declared.tile.Seen.{Seen}
 
--- a rect with so many pixels more on each side
+-- a rect with the given number of pixels more on each side
 abbrev pub inflated : ℕ → Rect → Rect
 inflated n r = record { x = r.x -ℤ pos n; y = r.y -ℤ pos n; w = r.w +ℤ pos (n + n); h = r.h +ℤ pos (n + n) }
 

@@ -135,7 +135,7 @@ fn all_better(
     Ok(all)
 }
 
-// Ranks, and those of the pending tree behind them whose keys have none in the active tree.
+// Ranks, and those of the pending tree after them whose keys have none in the active tree.
 fn with_alone(
     script: &Script,
     active: Option<&SeenTree<'_>>,
@@ -157,7 +157,7 @@ fn with_alone(
     }
 }
 
-// Ranks, and those others behind them whose keys have none in an active tree of these layers.
+// Ranks, and those others after them whose keys have none in an active tree of these layers.
 fn all_alone(
     borders: &Borders,
     layers: &[SeenLayer<'_>],
@@ -180,7 +180,7 @@ fn all_alone(
 }
 
 /// The ranks of all keys of the two trees that have one, each key once. The work grows with the tiles near
-/// the viewports, not with the size of the layers. An error is want of memory.
+/// the viewports, not with the size of the layers. An error means out of memory.
 pub fn ranked(
     alloc: Global,
     script: &Script,

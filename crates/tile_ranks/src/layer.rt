@@ -152,7 +152,7 @@ impl<'a> SeenLayer<'a> {
 }
 
 impl<'a> SeenLayer<'a> {
-    /// The places that an area of the screen touches, by row and then by column. An error is want of
+    /// The places that an area of the screen touches, by row and then by column. An error means out of
     /// memory.
     pub(crate) fn places_near(&self, alloc: Global, area: Rect) -> Result<Vec<Place>, AllocError>
         requires { IsArea area }
@@ -162,7 +162,7 @@ impl<'a> SeenLayer<'a> {
         self.grid.places_touching(alloc, moved_back(area, self.by))
     }
 
-    /// The keys of its visible places, behind those before. An error is want of memory, and the first few
+    /// The keys of its visible places, after those before. An error means out of memory, and the first few
     /// were added.
     pub(crate) fn push_visible(&self, alloc: Global, keys: &mut Keys) -> Result<(), AllocError>
         ensures { OnOk result (keys.new ≡ keys.old ++ visible_of self.now) }
@@ -175,7 +175,7 @@ impl<'a> SeenLayer<'a> {
     }
 }
 
-// The keys of these places behind those before.
+// The keys of these places after those before.
 fn push_keys(
     keys: &mut Keys,
     tiling: &Tiling,

@@ -57,7 +57,7 @@ fn area_near(borders: &Borders) -> Rect
     area_of(borders)
 }
 
-// Puts a rank behind others, if there is one.
+// Puts a rank after others, if there is one.
 fn push_rank(ranks: &mut Vec<Rank>, rank: Option<Rank>) -> Result<(), AllocError>
     ensures { OnOk result (ranks.new.items ≡ ranks.old.items ++ cons_option rank []) }
 {
@@ -77,7 +77,7 @@ fn place_rank(borders: &Borders, side: Side, layer: &SeenLayer<'_>, place: Place
     rank_in(borders, side, &seen, layer.key_at(place))
 }
 
-// Puts the ranks of these places of a layer behind others.
+// Puts the ranks of these places of a layer after others.
 fn push_places(
     ranks: &mut Vec<Rank>,
     borders: &Borders,
@@ -96,7 +96,7 @@ fn push_places(
     Ok(())
 }
 
-// Puts the ranks of a layer's places near the viewport behind others.
+// Puts the ranks of a layer's places near the viewport after others.
 fn push_layer(
     alloc: Global,
     ranks: &mut Vec<Rank>,
@@ -111,7 +111,7 @@ fn push_layer(
     push_places(ranks, borders, side, layer, places.as_slice())
 }
 
-/// The ranks of the places of these layers near the viewport. An error is want of memory.
+/// The ranks of the places of these layers near the viewport. An error means out of memory.
 pub(crate) fn ranks_near(
     alloc: Global,
     borders: &Borders,

@@ -62,7 +62,7 @@ fn layers_of<'a>(
 
 impl<'a> SeenTree<'a> {
     /// The page at these offsets, each of which is from 0 to 1048576 on both axes, with a tiling for each of
-    /// its layers in their order. An error is want of memory.
+    /// its layers in their order. An error means out of memory.
     pub fn new(
         alloc: Global,
         page: &'a LayerTree,
@@ -106,7 +106,7 @@ impl<'a> SeenTree<'a> {
         self.layers_have(key)
     }
 
-    /// Those of the keys that it has, in their order. An error is want of memory.
+    /// Those of the keys that it has, in their order. An error means out of memory.
     pub fn those_of(&self, alloc: Global, keys: &Keys) -> Result<Keys, AllocError>
         ensures { IfOk result (λ own. (t : Tree) → IsSeenTree t self.now → own ≡ filter (key_lists.has_key (keys_of t)) keys.now) }
     {
@@ -122,7 +122,7 @@ impl<'a> SeenTree<'a> {
         rank_on(&borders(script, self.page), side, layer, key)
     }
 
-    /// The keys of its visible tiles, in key order. An error is want of memory.
+    /// The keys of its visible tiles, in key order. An error means out of memory.
     pub fn visible(&self, alloc: Global) -> Result<Keys, AllocError>
         ensures { IfOk result (λ keys. (t : Tree) → IsSeenTree t self.now → keys ≡ visible_in t) }
     {
@@ -166,7 +166,7 @@ fn visible_keys(
     Ok(keys)
 }
 
-// The keys of the visible tiles of the layer of an id, behind those before.
+// The keys of the visible tiles of the layer of an id, after those before.
 fn push_visible(
     alloc: Global,
     layers: &[SeenLayer<'_>],

@@ -1,4 +1,4 @@
--- An item drawn into the rows that are kept shows at the row of the picture that each of them stands for.
+-- An item drawn into the rows that are kept shows at the row of the picture that each of them represents.
 use Rattle.std.proofs.Common.{◌≡◌, ℕ, zero, suc, ◌<◌, ◌≤◌, ◌+◌, ◌*◌, ◌-◌, inl, inr, pos, ◌+ℤ◌, ◌-ℤ◌, Bool, true, false, ◌&&◌, nat_le, nat_lt, cond, List, slice_index, refl, sym, ◌∙◌, ap, subst, arith}
 use Rattle.std.proofs.lemmas.Bool.{cases_lt}
 use Rattle.std.proofs.lemmas.Bool.Decides.{nat_tests}
@@ -91,7 +91,7 @@ above_top item r part places kept x y (suc t) s last shared xw left right some e
     (λ low level. not_level_top item r part x t shared xw low left right (next ∙ e) some level) in
     subst (λ (n : ℕ). place_of places kept y < place_of places kept n) next up
 
--- the rows of an area have smaller places than the row behind it
+-- the rows of an area have smaller places than the row after it
 before_end : (item : Item) (r : Rect) (part : CoveredArea) (places : List ℕ) (kept x y end : ℕ)
     → AreSteps (IsLevel item r) (near r.h) places → IsCount places kept → IsShared (rect_of_item item) r part → x < near r.w
     → part.at.x ≤ x → x < part.at.x + part.at.w → 0 < part.at.h → end ≡ part.at.y + part.at.h → y < end

@@ -3,7 +3,7 @@ use Rattle.std.proofs.Common.{◌≡◌, ℕ, ◌<◌, ◌≤◌, ◌+◌, ◌-�
 use Rattle.std.proofs.lemmas.Bool.{cases_lt}
 use Rattle.tile_raster.specs.inner.Bands.{IsEnd}
 
--- a row among so many that have one place
+-- a row among the given number that have one place
 end_at : (places : List ℕ) (first n y : ℕ) → first + n ≤ length places
     → ((k : ℕ) → k < n → slice_index places (first + k) ≡ slice_index places first)
     → first ≤ y → y < first + n → IsEnd places y (first + n)
@@ -18,7 +18,7 @@ end_at places first n y inside equal low high = record {
         let is : first + (z - first) ≡ z = omega arith in
         ap (slice_index places) (sym is) ∙ equal (z - first) (omega arith)
 
--- the ends of so many rows more
+-- the ends of the given number of rows more
 pub ends_more : (places old new : List ℕ) (first n : ℕ) → first ≡ length old
     → ((y : ℕ) → y < length old → IsEnd places y (slice_index old y)) → first + n ≤ length places
     → ((k : ℕ) → k < n → slice_index places (first + k) ≡ slice_index places first)

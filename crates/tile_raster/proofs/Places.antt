@@ -113,7 +113,7 @@ steps_map l m rows places s f = record {
 pub place_is : (places : List ℕ) (kept y : ℕ) → y < length places → place_of places kept y ≡ slice_index places y
 place_is places kept y lt = get_or_default places y kept 0 lt
 
--- a row has the place of the row above, or the next; behind the last row it is the next
+-- a row has the place of the row above, or the next; after the last row it is the next
 pub step_of : (level : ℕ → Type 0) (rows : ℕ) (places : List ℕ) (kept y : ℕ) → AreSteps level rows places → IsCount places kept → y < rows
     → ((y + 1 < rows) × (place_of places kept (y + 1) ≡ place_of places kept y) × level y) ⊎ (place_of places kept (y + 1) ≡ place_of places kept y + 1)
 step_of level rows places kept y s last lt =

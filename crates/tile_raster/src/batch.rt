@@ -11,9 +11,9 @@ use std::alloc::{AllocError, Global};
 use std::sync::Arc;
 use std::thread::Threads;
 
-/// Makes the pictures of jobs in at most `workers` parts, 1 to 16, each in a thread of its own; one part is made in
-/// the calling thread. The pictures are in the order of the jobs, whatever the number of parts. An error is want
-/// of memory. The jobs are given up either way.
+/// Makes the pictures of jobs in at most `workers` parts, 1 to 16, each in a thread of its own; one part is
+/// made in the calling thread. The pictures are in the order of the jobs, whatever the number of parts. An
+/// error means out of memory. The jobs are given up either way.
 pub fn run_all<R: Threads + Sync>(
     rt: &R,
     alloc: Global,

@@ -11,7 +11,7 @@ ghost use Rattle.tile_raster.specs.inner.Bands.{IsLevel, AreLevel, AreSteps, Are
 
 use crate::pixels::width_of;
 use geom::Rect;
-use page_display_list::{Bitmap, DisplayList, Item, CoveredArea, shared_part};
+use page_display_list::{Bitmap, CoveredArea, DisplayList, Item, shared_part};
 use pixel::{Area, Colour, colour_over_area, fill_area, image_over_area};
 
 /// Draws what the list shows on the rect into the rows that are kept, which are transparent before.
@@ -91,7 +91,14 @@ fn draw_colour(
 }
 
 // lays the part of a bitmap that the picture shows over an area of rows
-fn draw_bitmap(bytes: &mut [u8], width: usize, kept: usize, at: Area, bitmap: &Bitmap, part: CoveredArea)
+fn draw_bitmap(
+    bytes: &mut [u8],
+    width: usize,
+    kept: usize,
+    at: Area,
+    bitmap: &Bitmap,
+    part: CoveredArea,
+)
     requires size { length bytes.old ≡ 4 * (width * kept) }
     requires inside { IsInside at width kept }
     requires columns { part.left + at.w ≤ near bitmap.now.rect.w }
@@ -149,7 +156,7 @@ fn kept_part(at: Area, places: &[u32], kept: usize) -> Area
     }
 }
 
-// the place of a row; behind the last row, how many are kept
+// the place of a row; after the last row, how many are kept
 fn place_at(places: &[u32], kept: usize, y: usize) -> usize
     ensures { result ≡ place_of places.now kept y }
 {

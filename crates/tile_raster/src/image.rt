@@ -6,8 +6,8 @@ ghost use Rattle.page_display_list.specs.Bitmaps.{near};
 ghost use Rattle.tile_raster.specs.Images.{Image, IsRow, IsOneColour, HasTwoColours};
 ghost use Rattle.tile_raster.specs.Images.{AreSameRows, ShowAlike};
 
-use crate::pixels::{is_same_colour, one_colour, row_at, width_of};
 use crate::picture_rows::{PictureRows, are_same_rows, end_of, kept_rows};
+use crate::pixels::{is_same_colour, one_colour, row_at, width_of};
 use geom::{Rect, TileKey};
 use page_display_list::DisplayList;
 use pixel::Colour;

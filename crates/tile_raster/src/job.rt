@@ -22,7 +22,7 @@ pub struct Job {
 }
 
 impl Job {
-    /// Makes the picture. An error is want of memory: it gives the job back.
+    /// Makes the picture. An error means out of memory: it gives the job back.
     pub fn run(self, alloc: Global) -> Result<Arc<TileImage>, (AllocError, Job)>
         requires { IsSound self.rect }
         ensures ok { IfOk result (λ image. image.value ≡ record { key = self.key; rect = self.rect; list = self.list.value }) }

@@ -10,8 +10,8 @@ mod changes;
 mod draw;
 mod image;
 mod job;
-mod pixels;
 mod picture_rows;
+mod pixels;
 #[cfg(test)]
 mod tests;
 

@@ -19,14 +19,18 @@ use std::alloc::{AllocError, Global};
 pub(crate) struct PictureRows {
     /// For each row of the picture the place of its bytes among the rows that are kept.
     pub(crate) places: Vec<u32>,
-    /// For each row of the picture the row behind the last that is kept as it.
+    /// For each row of the picture the row after the last that is kept as it.
     pub(crate) ends: Vec<u32>,
     /// The bytes of the rows that are kept.
     pub(crate) bytes: Vec<u8>,
 }
 
 /// The rows of what the list shows on the rect.
-pub(crate) fn kept_rows(alloc: Global, list: &DisplayList, rect: Rect) -> Result<PictureRows, AllocError>
+pub(crate) fn kept_rows(
+    alloc: Global,
+    list: &DisplayList,
+    rect: Rect,
+) -> Result<PictureRows, AllocError>
     requires { IsSound rect }
     ensures kept { IfOk result (λ rows. AreKept list.now rect rows.places.items rows.bytes.items) }
     ensures ends { IfOk result (λ rows. AreEnds rows.places.items rows.ends.items) }
@@ -55,7 +59,7 @@ fn places_of(alloc: Global, changes: &[bool]) -> Result<Vec<u32>, AllocError>
     Ok(places)
 }
 
-// the place of the row behind those that have one
+// the place of the row after those that have one
 fn next_place(places: &[u32], changes: &[bool]) -> u32
     requires small { (k : ℕ) → k < length places.now → slice_index places.now k ≤ k }
     requires left { length places.now < length changes.now }
@@ -138,7 +142,7 @@ fn kept_count(places: &[u32]) -> usize
     }
 }
 
-// so many rows of transparent pixels
+// the given number of rows of transparent pixels
 fn clear_rows(alloc: Global, width: usize, rows: usize) -> Result<Vec<u8>, AllocError>
     requires width { width ≤ 2 ^ 29 }
     requires rows { rows ≤ 2 ^ 29 }
@@ -149,7 +153,7 @@ fn clear_rows(alloc: Global, width: usize, rows: usize) -> Result<Vec<u8>, Alloc
     vec![in alloc; 0u8; 4 * (width * rows)]
 }
 
-/// The row behind the last that is kept as row y.
+/// The row after the last that is kept as row y.
 pub(crate) fn end_of(rows: &PictureRows, y: usize) -> u32
     requires ends { AreEnds rows.now.places.items rows.now.ends.items }
     requires inside { y < length rows.now.places.items }

@@ -24,7 +24,7 @@ pub after_parts : (k : TileKey) (front back : List KeyedPlace) → After k (fron
 after_parts k [] back a = (tt, a)
 after_parts k (h ∷ front) back a = let later = after_parts k front back a.1 in ((a.0, later.0), later.1)
 
--- in a list that rises, what stands before a key is below it, and what stands behind it is above it
+-- in a list that rises, what stands before a key is below it, and what stands after it is above it
 pub split_before : (front back : List KeyedPlace) (one : KeyedPlace) → Rises (front ++ one ∷ back) → Before one.key front
 split_before [] back one r = tt
 split_before (h ∷ front) back one r = ((after_parts h.key front (one ∷ back) r.0).1.0, split_before front back one r.1)

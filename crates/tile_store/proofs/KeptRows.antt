@@ -109,7 +109,7 @@ pub made_is_shown : (t : Option Tile) → is_made t ≡ is_some (option_and_then
 made_is_shown None = refl
 made_is_shown (Some t) = mapped (λ a. a.value) t.image
 
--- what the walk makes of a key, where it stands nowhere behind
+-- what the walk makes of a key, where it stands nowhere after it
 step : {A : Type 0} (live : Bool) (x : Option A) (found : Option (Option A)) → found ≡ None → cond (live || not (is_some x)) (Some x) (if_live live found) ≡ if_live live (Some x)
 step true x found none = refl
 step false None found none = refl

@@ -75,7 +75,7 @@ is_other k x = not (eq_by_cmp key_cmp k x)
 others_here : (k : TileKey) (x : Option Image) (rest : List (TileKey × Option Image)) → where_key key_cmp (is_other k) ((k, x) ∷ rest) ≡ where_key key_cmp (is_other k) rest
 others_here k x rest = rw (ties_itself k) refl
 
--- one key, and those before and behind it
+-- one key, and those before and after it
 module _ (g new : ℕ → Option Tile) (front back : List KeyedPlace) (one : KeyedPlace) (others : (q : ℕ) → q ≢ one.place → new q ≡ g q)
     (before : Before one.key front) (after : After one.key back) where
   both_sides : Away one.place front → Away one.place back → (x : Option Image)

@@ -14,7 +14,7 @@ pub record Store : Type 0 where
   pub ready : map.FinMap key_cmp Image
   -- the keys whose images are being made
   pub in_flight : set.FinSet key_cmp
-  -- so many starts need no memory
+  -- the given number of starts need no memory
   pub spare : ℕ
 
 -- a store is coded as the tuple of its fields

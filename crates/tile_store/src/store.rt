@@ -15,7 +15,7 @@ use tile_raster::TileImage;
 /// The tiles that the compositor has: the ready keys with their images, and the keys in flight, whose images
 /// are being made.
 ///
-/// Contracts also see a number, `spare`: so many starts need no memory.
+/// Contracts also see a number, `spare`: the given number of starts need no memory.
 #[derive(Drop)]
 pub struct TileStore {
     table: TileTable,
@@ -50,7 +50,7 @@ impl TileStore {
         }
     }
 
-    /// Makes room for one start and its end; all else stays. An error is want of memory, and the store
+    /// Makes room for one start and its end; all else stays. An error means out of memory, and the store
     /// is as it was. A store that holds 2^32 - 1 keys has no more room.
     pub fn reserve(&mut self) -> Result<(), AllocError>
         ensures room { OnOk result (1 ≤ self.new.spare) }
@@ -61,7 +61,7 @@ impl TileStore {
         self.table.reserve()
     }
 
-    /// The ready keys, in their order. An error is want of memory.
+    /// The ready keys, in their order. An error means out of memory.
     pub fn ready_keys(&self) -> Result<Keys, AllocError>
         ensures { IfOk result (λ keys. keys ≡ map.keys self.now.ready) }
     {

@@ -22,7 +22,7 @@ use tile_raster::TileImage;
 /// The most keys.
 const MOST: usize = u32::MAX as usize;
 
-/// So many keys are taken out one by one; for more of them one walk over all keys costs less.
+/// The given number of keys are taken out one by one; for more of them one walk over all keys costs less.
 const FEW: usize = 4;
 
 /// Keys with their tiles, which contracts see as a map from each key to its image, or to none while that is
@@ -72,7 +72,7 @@ impl TileTable {
         self.held.len() as u32
     }
 
-    /// Makes room for one more key. An error is want of memory, or 2^32 - 1 keys; there is then as much
+    /// Makes room for one more key. An error means out of memory, or 2^32 - 1 keys; there is then as much
     /// room as before.
     pub(crate) fn reserve(&mut self) -> Result<(), AllocError>
         ensures room { OnOk result (1 ≤ self.new.spare) }
@@ -100,7 +100,7 @@ impl TileTable {
         self.get_near(&mut 0, key)
     }
 
-    /// The same. `near` is where the tile is looked for first, and is set to the place behind it.
+    /// The same. `near` is where the tile is looked for first, and is set to the place after it.
     pub(crate) fn get_near(&self, near: &mut usize, key: TileKey) -> Option<&Tile>
         ensures { option_map (λ t. shown t.now) result ≡ fin.get self.now.held key }
     {
@@ -200,7 +200,7 @@ impl TileTable {
         self.sift(live, true);
     }
 
-    /// The keys that have an image, in their order. An error is want of memory.
+    /// The keys that have an image, in their order. An error means out of memory.
     pub(crate) fn ready_keys(&self, alloc: Global) -> Result<Keys, AllocError>
         ensures { IfOk result (λ keys. keys ≡ fin.keys (ready_of self.now.held)) }
     {

@@ -20,7 +20,7 @@ fn mark_all(held: &mut [KeyedPlace], live: bool)
 }
 
 /// Says of this key whether it is live, where it is there. A key that stands at index `near` is found without a
-/// search, and `near` is then the index behind it.
+/// search, and `near` is then the index after it.
 fn mark_one(held: &mut [KeyedPlace], near: &mut usize, key: TileKey, live: bool)
     requires { Rises held.old }
     ensures { held.new ≡ map (marked_one key live) held.old }

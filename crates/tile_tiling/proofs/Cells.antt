@@ -19,7 +19,7 @@ use Rattle.tile_tiling.specs.Tiles.{index_of, HasStamps, shows_in}
 use Rattle.region.specs.declared.change.LayerChange.{LayerChange}
 use Rattle.tile_tiling.specs.inner.Writes.{in_run, WritesRow, WritesCells, WritesPlaces}
 
--- a row that is above another lies behind it
+-- a row that is above another lies after it
 pub row_behind : (w y r : ℕ) → y < r → y * w + w ≤ r * w
 row_behind w y r h = let k : w * (y + 1) ≤ w * r = mul-le-mul_left w (omega arith) in grind arith
 

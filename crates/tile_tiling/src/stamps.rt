@@ -8,7 +8,7 @@ ghost use Rattle.region.specs.Points.{touched};
 ghost use Rattle.tile_tiling.specs.Tiles.{key_of, shows_in, IsWhole};
 ghost use Rattle.tile_tiling.specs.inner.Writes.{WritesPlaces, WritesCells, WritesRow, in_run};
 
-use geom::{Grid, Place, Rect, IndexRange, TileKey};
+use geom::{Grid, IndexRange, Place, Rect, TileKey};
 use region::LayerChange;
 use std::alloc::{AllocError, Global};
 
@@ -33,7 +33,7 @@ pub(crate) fn key_in(stamps: &[u32], grid: Grid, layer: u32, place: Place) -> Ti
     }
 }
 
-/// The keys of these places. An error is want of memory.
+/// The keys of these places. An error means out of memory.
 pub(crate) fn keys_in(
     alloc: Global,
     stamps: &[u32],

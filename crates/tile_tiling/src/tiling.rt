@@ -30,7 +30,7 @@ impl Model for Tiling {
 }
 
 impl Tiling {
-    /// The places of this grid, all with this stamp. An error is want of memory.
+    /// The places of this grid, all with this stamp. An error means out of memory.
     pub fn new(alloc: Global, grid: Grid, stamp: u32) -> Result<Tiling, AllocError>
         ensures { IfOk result (λ t. HasStamps t grid (λ _. stamp)) }
     {
@@ -38,7 +38,7 @@ impl Tiling {
         Ok(Tiling { grid, stamps })
     }
 
-    /// Cuts the layer anew, with this stamp for all places. An error is want of memory, and the tiling is as
+    /// Cuts the layer anew, with this stamp for all places. An error means out of memory, and the tiling is as
     /// it was.
     pub fn resize(&mut self, grid: Grid, stamp: u32) -> Result<(), AllocError>
         ensures ok { OnOk result (HasStamps self.new grid (λ _. stamp)) }
@@ -49,7 +49,7 @@ impl Tiling {
         Ok(())
     }
 
-    /// The same tiling. An error is want of memory.
+    /// The same tiling. An error means out of memory.
     pub fn copy(&self) -> Result<Tiling, AllocError>
         ensures { IfOk result (λ t. t ≡ self.now) }
     {
@@ -76,7 +76,7 @@ impl Tiling {
         key_in(&self.stamps, self.grid, layer, place)
     }
 
-    /// The keys of the places that share a point with `area`, by row and then by column. An error is want
+    /// The keys of the places that share a point with `area`, by row and then by column. An error means out
     /// of memory.
     pub fn covering(&self, layer: u32, area: Rect) -> Result<Vec<TileKey>, AllocError>
         requires { IsSound area }

@@ -42,7 +42,7 @@ fn moved_back(rect: Rect, by: Point) -> Rect
 /// The places of a layer of the tree whose tiles are seen at these offsets, by row and then by column:
 /// those whose screen rect, the layer's clip and the viewport have a common pixel, if no effect in the
 /// layer's chain is 0. Each offset is from 0 to 1048576 on both axes, and both sides of the layer are 1
-/// to 16384. An error is want of memory.
+/// to 16384. An error means out of memory.
 pub fn visible_places(
     alloc: Global,
     tree: &LayerTree,
@@ -104,7 +104,7 @@ fn keys_of(
 }
 
 /// The keys of all places of the tree whose tiles are seen at these offsets, with this stamp, in key
-/// order. Each offset is from 0 to 1048576 on both axes. An error is want of memory.
+/// order. Each offset is from 0 to 1048576 on both axes. An error means out of memory.
 #[tactic(auto, unfolding(crate::specs::Visible::visible_keys))]
 pub fn visible_keys(
     alloc: Global,

@@ -17,7 +17,7 @@ use Rattle.viz_damage.specs.inner.Alike.{ActAlike, ActListsAlike, GoOnAlike, Act
 use Rattle.viz_damage.proofs.AreaSteps.{neither, neither_of}
 use Rattle.viz_damage.proofs.QuadSteps.{over_more}
 
--- quads that act alike behind two fronts
+-- quads that act alike after two prefixes
 pub go_on : (olds news : List Quad) (i j : ℕ) (q r : Quad) → i < length olds → j < length news → q ≡ get_or olds i q → r ≡ get_or news j r
     → ActAlike (quad_view q) (quad_view r) → GoOnAlike (quads_view olds) i (quads_view news) j
 go_on olds news i j q r lt less e f act passes x y below same =

@@ -106,7 +106,7 @@ fn waste_of(a: Rect, b: Rect) -> i32 {
         .saturating_sub(b.w.saturating_mul(b.h))
 }
 
-// the number behind a span
+// the number after a span
 fn reach_end(at: i32, len: i32) -> i32 {
     at.saturating_add(len)
 }

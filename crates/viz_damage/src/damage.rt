@@ -18,7 +18,7 @@ use std::alloc::{AllocError, Global};
 use viz_scene::{RenderPass, Scene};
 
 /// The damage from one scene to another of the same size: at each point of the screen outside it their pixels
-/// are equal. An error is want of memory.
+/// are equal. An error means out of memory.
 pub fn damage_of(alloc: Global, old: &Scene, new: &Scene) -> Result<Region, AllocError>
     requires wide { old.now.w ≡ new.now.w }
     requires tall { old.now.h ≡ new.now.h }

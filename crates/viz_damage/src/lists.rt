@@ -16,7 +16,7 @@ use viz_scene::Quad;
 // how far ahead a quad is looked for that stands in both lists
 const MOST_AHEAD: usize = 64;
 
-// the same where both quads are rects of one colour: once they have moved, none stands for another
+// the same where both quads are rects of one colour: once they have moved, none represents another
 const FEW_AHEAD: usize = 4;
 
 /// Adds to damage where two lists of quads differ, where the passes before them have these reaches.
@@ -146,7 +146,7 @@ struct ListStep {
 }
 
 // how two lists go on: by one quad in each that acts alike, or by what has to go and to come until two quads
-// stand for one thing
+// represent one thing
 fn step_at(old: &[Quad], i: usize, new: &[Quad], j: usize, passes: usize) -> ListStep
     requires old { All (QuadFits 2048 2048 passes) (quads_view old.now) }
     requires i { i < length old.now }
@@ -166,7 +166,7 @@ fn step_at(old: &[Quad], i: usize, new: &[Quad], j: usize, passes: usize) -> Lis
     step_over(old, i, new, j)
 }
 
-// how far ahead is looked for a quad that stands for one of these two
+// how far ahead is looked for a quad that represents one of these two
 fn most_ahead(a: &Quad, b: &Quad) -> usize {
     match (a, b) {
         (Quad::Solid { .. }, Quad::Solid { .. }) => FEW_AHEAD,
@@ -174,7 +174,7 @@ fn most_ahead(a: &Quad, b: &Quad) -> usize {
     }
 }
 
-// how many quads have to go and to come until two quads stand for one thing
+// how many quads have to go and to come until two quads represent one thing
 fn step_over(old: &[Quad], i: usize, new: &[Quad], j: usize) -> ListStep
     requires i { i < length old.now }
     requires j { j < length new.now }
@@ -211,7 +211,7 @@ fn step_over(old: &[Quad], i: usize, new: &[Quad], j: usize) -> ListStep
     changed
 }
 
-// adds the areas that so many quads from a place on act on
+// adds the areas that the given number of quads from a place on act on
 fn add_areas(
     quads: &[Quad],
     start: usize,

@@ -9,8 +9,7 @@ ghost use Rattle.viz_damage.specs.inner.Alike.{AreSameImages, ActAlike, ActWithi
 use crate::images::{are_same_images, is_same_colour, is_same_point, is_same_rect};
 use geom::{Point, Rect};
 use tile_raster::TileImage;
-use viz_scene::hull;
-use viz_scene::Quad;
+use viz_scene::{Quad, hull};
 
 /// Whether two quads act alike: tiles and solids that lie on one rect and show the same there, or groups of
 /// one pass with one opacity.
@@ -53,7 +52,7 @@ fn show_one_part(image: &TileImage, from: Point, other: &TileImage, start: Point
     is_same_point(from, start) && are_same_images(image, other)
 }
 
-/// Whether two quads stand for one thing that may have changed: a tile of one place of a layer, a rect of one
+/// Whether two quads represent one thing that may have changed: a tile of one place of a layer, a rect of one
 /// colour that may be another one, or a group of one pass.
 pub(crate) fn stand_for_one(a: &Quad, b: &Quad) -> bool {
     match (a, b) {

@@ -26,7 +26,7 @@ shuffled true d s w = refl
 shuffled false d true w = or-true d
 shuffled false d false w = refl
 
--- a rect of the list that makes one rect with another stands for both
+-- a rect of the list that makes one rect with another represents both
 pub joined_same : (rs rest : List Rect) (i : ℕ) (s whole union : Rect) → i < length rs → s ≡ get_or rs i s → rest ≡ take i rs ++ drop (i + 1) rs
     → IsUnion s whole union → (x y : ℤ) → (covered rest x y || covers union x y) ≡ (covered rs x y || covers whole x y)
 joined_same rs rest i s whole union lt e f is x y =

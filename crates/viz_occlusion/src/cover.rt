@@ -61,7 +61,7 @@ pub(crate) fn is_covered(area: Rect, cover: &[Rect]) -> bool
     are_rows_covered(area.x, right, area.y, bottom, cover)
 }
 
-// the number behind a span
+// the number after a span
 fn end_of(at: i32, len: i32) -> i32
     requires start { pos 0 ≤ℤ at }
     requires end { (at +ℤ len) ≤ℤ pos 2048 }

@@ -15,7 +15,7 @@ use viz_scene::{Quad, RenderPass, Scene};
 
 /// The scene without the tiles and solids that later opaque ones of their pass hide. It has the same pixels,
 /// the same passes and groups, and the quads that stay are in order; a tile whose image has one colour becomes
-/// a rect of that colour. An error is want of memory.
+/// a rect of that colour. An error means out of memory.
 pub fn cull(alloc: Global, scene: &Scene) -> Result<Scene, AllocError>
     ensures { IfOk result (λ culled. IsCulled scene.now culled) }
 {
@@ -57,7 +57,7 @@ fn kept_quads(alloc: Global, quads: &[Quad]) -> Result<Vec<Quad>, AllocError>
     Ok(kept)
 }
 
-// keeps a quad behind those that were kept, unless the area hides it, and adds what it hides
+// keeps a quad after those that were kept, unless the area hides it, and adds what it hides
 fn keep_quad(quad: &Quad, cover: &mut Vec<Rect>, kept: &mut Vec<Quad>) -> Result<(), AllocError>
     requires fits { IsFit (quad_view quad.now) }
     requires cover { All IsOnScreen cover.old.items }

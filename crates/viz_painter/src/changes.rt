@@ -56,7 +56,7 @@ fn rows_of_rect(rect: Rect) -> FrameRows
     rows_of_span(rect.y, rect.h)
 }
 
-// the rows of so many from one on, of which some may lie above the frame
+// the given number of rows from one on, of which some may lie above the frame
 fn rows_of_span(at: i32, len: i32) -> FrameRows
     requires { IsSpan at len }
     ensures { (y : ℕ) → has_row result y ≡ false → within at len (pos y) ≡ false }

@@ -5,6 +5,6 @@
 pub struct FrameRows {
     /// The uppermost row.
     pub top: u32,
-    /// The row behind the lowest. It may lie below the frame.
+    /// The row after the lowest. It may lie below the frame.
     pub bottom: u32,
 }

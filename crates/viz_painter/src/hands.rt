@@ -11,7 +11,7 @@ use std::thread::Threads;
 use viz_render::{Frame, render, render_in_parts, render_region, render_region_in_parts};
 use viz_scene::Scene;
 
-/// Who draws scenes into a frame. An error is want of memory.
+/// Who draws scenes into a frame. An error means out of memory.
 pub(crate) trait Hands {
     /// What they need, to draw.
     ghost can_draw: { Self → Type 0 };
@@ -57,7 +57,7 @@ impl Hands for OneThread {
     }
 }
 
-/// So many threads at the most, each for a part.
+/// At most the given number of threads, each for a part.
 #[derive(Drop)]
 pub(crate) struct ManyThreads<'r, R> {
     pub(crate) rt: &'r R,

@@ -31,7 +31,7 @@ impl Model for HeldScene {
 }
 
 impl HeldScene {
-    /// A scene, whose hidden quads are left out. An error is want of memory.
+    /// A scene, whose hidden quads are left out. An error means out of memory.
     pub(crate) fn new(alloc: Global, scene: Scene) -> Result<HeldScene, AllocError>
         ensures scene { IfOk result (λ held. held.scene ≡ scene) }
         ensures culled { IfOk result (λ held. IsCulled scene held.culled) }

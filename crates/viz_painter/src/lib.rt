@@ -5,17 +5,17 @@
 //! scene is held, or one of another size, the whole is drawn. One thread draws, or several do, each a part of the
 //! rows.
 //!
-//! In: scenes. Out: the frame, which shows the last one, and the rows that drawing it may have changed. Want of
-//! memory costs the held scene, so the next one is drawn whole.
+//! In: scenes. Out: the frame, which shows the last one, and the rows that drawing it may have changed. Out
+//! of memory costs the held scene, so the next one is drawn whole.
 #![tactic(auto)]
 
 mod changes;
+mod frame_rows;
 mod hands;
 mod held_scene;
 mod painting;
 mod redrawing;
-mod frame_rows;
 mod worth;
 
-pub use painting::Painter;
 pub use frame_rows::FrameRows;
+pub use painting::Painter;

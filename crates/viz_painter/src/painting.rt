@@ -6,10 +6,10 @@ ghost use Rattle.viz_render.specs.Frames.{IsOfSize, EachIs, black};
 ghost use Rattle.viz_painter.specs.Painters.{ShowsWhole, HoldsCulled, IsKeptOutside};
 
 use crate::changes::{all_rows, no_rows};
+use crate::frame_rows::FrameRows;
 use crate::hands::{Hands, ManyThreads, OneThread};
 use crate::held_scene::{HeldScene, is_held};
 use crate::redrawing::show_next;
-use crate::frame_rows::FrameRows;
 use std::alloc::{AllocError, Global};
 use std::marker::{Model, Sync};
 use std::thread::Threads;
@@ -40,7 +40,7 @@ impl Model for Painter {
 
 impl Painter {
     /// A painter that holds no scene. Its frame has these sides, 1 to 2048 pixels each, and is black and
-    /// opaque. An error is want of memory.
+    /// opaque. An error means out of memory.
     pub fn new(alloc: Global, w: u32, h: u32) -> Result<Painter, AllocError>
         requires wide { IsSceneSide w }
         requires tall { IsSceneSide h }
@@ -75,7 +75,7 @@ impl Painter {
 
     /// Draws a scene: the frame then has the scene's size and pixels. Where the painter holds that scene,
     /// nothing is drawn; where it holds another one of that size, only the damage is; else the whole is, into
-    /// a new frame where the size differs. An error is want of memory: the painter then holds no scene, and the
+    /// a new frame where the size differs. An error means out of memory: the painter then holds no scene, and the
     /// next one is drawn whole.
     pub fn paint(&mut self, scene: Scene) -> Result<(), AllocError>
         ensures shown { OnOk result (ShowsWhole scene self.new.frame) }
@@ -86,8 +86,8 @@ impl Painter {
         self.paint_by(&OneThread, scene)
     }
 
-    /// Draws a scene as `paint` does, in so many parts at the most, each by a thread of its own where it can be
-    /// started. Where there is one part, none is started.
+    /// Draws a scene as `paint` does, in at most the given number of parts, each by a thread of its own where
+    /// it can be started. Where there is one part, none is started.
     pub fn paint_in_parts<R: Threads + Sync>(
         &mut self,
         rt: &R,

@@ -8,9 +8,9 @@ ghost use Rattle.viz_painter.specs.Painters.{ShowsWhole, IsKeptOutside};
 ghost use Rattle.viz_painter.specs.inner.Helds.{culled_of};
 
 use crate::changes::{all_rows, rows_of};
+use crate::frame_rows::FrameRows;
 use crate::hands::Hands;
 use crate::held_scene::HeldScene;
-use crate::frame_rows::FrameRows;
 use crate::worth::pays;
 use std::alloc::{AllocError, Global};
 use viz_damage::damage_of;
@@ -19,7 +19,7 @@ use viz_scene::Scene;
 use viz_scroll_damage::{Shift, damage_of_shift, shift_of};
 
 /// Makes a frame show a scene, which is then held, and tells the rows outside of which its pixels are those
-/// before. An error is want of memory, and the frame then shows nothing for sure.
+/// before. An error means out of memory, and the frame may then show anything.
 pub(crate) fn show_next<H: Hands>(
     hands: &H,
     alloc: Global,

@@ -41,7 +41,7 @@ act_behind rs qs ss ps a b = record {
       ∙ sym (quads_append passes x y below qs ps);
 }
 
--- a quad that acts as the last of some quads and one behind them
+-- a quad that acts as the last of some quads and one after them
 pub act_last : (quads front : List Quad) (last quad : Quad) (union : Option Quad) → quads ≡ front ++ last ∷ [] → length front + 1 ≡ length quads → IfSome union (λ u. ActAs (quad_view u ∷ []) (quad_view last ∷ quad_view quad ∷ []))
     → IfSome union (λ u. ActAs (quads_view (take (length quads - 1) quads) ++ quad_view u ∷ []) (quads_view quads ++ quad_view quad ∷ []))
 act_last quads front last quad None e n a = tt

@@ -20,7 +20,7 @@ use Rattle.viz_quads.specs.declared.parts.LayerParts.{LayerParts}
 use Rattle.viz_quads.specs.inner.Passes.{groups_of, own_quads, own_colour, IsLayer, HaveOpacities, AreBuilt}
 use Rattle.viz_quads.proofs.Lists.{index_front, index_last}
 
--- ---- passes that are added behind do not change what quads show
+-- ---- passes that are added later do not change what quads show
 
 same_quad : (w h : ℕ) (x y : ℤ) (below : Parts) (before more : List Parts) (q : QuadView) → QuadFits w h (length before) q → quad_over (before ++ more) x y below q ≡ quad_over before x y below q
 same_quad w h x y below before more (tiled image at from) f = refl
@@ -41,7 +41,7 @@ passes_begin x y before (p ∷ ps) =
     let rest = passes_begin x y (before ++ c ∷ []) ps in
     (c ∷ rest.0, rest.1 ∙ append_assoc before (c ∷ []) rest.0)
 
--- quads that may stand behind some passes show the same with more passes behind those
+-- quads that may stand after some passes show the same with more passes after those
 pub over_later : (w h : ℕ) (x y : ℤ) (below : Parts) (ps more : List (List QuadView)) (qs : List QuadView) → All (QuadFits w h (length ps)) qs
     → quads_over (passes_at x y [] (ps ++ more)) x y below qs ≡ quads_over (passes_at x y [] ps) x y below qs
 over_later w h x y below ps more qs f =
@@ -52,7 +52,7 @@ over_later w h x y below ps more qs f =
 
 -- ---- the state of the building
 
--- some quads, and passes behind those that were there, show the layers that come before the rest
+-- some quads, and passes after those that were there, show the layers that come before the rest
 pub record Building (w h : ℕ) (view : Rect) (depth : ℕ) (layers rest : List LayerParts) (old new : List (List QuadView)) (quads : List QuadView) : Type 0 where
   pub left : All (IsLayer w h view) rest
   pub added : List (List QuadView)
@@ -122,7 +122,7 @@ run_not_empty depth n rest tail first g is lt here len =
     let some : 1 ≤ prefix_len (lies_in groups_of depth g.effect) rest = run_some (lies_in groups_of depth g.effect) rest first tail is (lies_here first depth g lt here) in
     omega (arith, len, some)
 
--- passes of a group behind others, and the group itself
+-- passes of a group after others, and the group itself
 group_sound : (w h : ℕ) (old new mid more : List (List QuadView)) (added inner_added : List (List QuadView)) (inner : List QuadView) → new ≡ old ++ added → mid ≡ new ++ inner_added → AreSound w h (length old) added → AreSound w h (length new) inner_added → All (QuadFits w h (length mid)) inner
     → AreSound w h (length old) (added ++ (inner_added ++ inner ∷ []))
 group_sound w h old new mid more added inner_added inner grown mid_grown sound inner_sound fit =

@@ -101,7 +101,7 @@ tiles_rise p offset shown right =
     non_decreasing (λ s. s.key.layer) shown
     (subst AreRising (sym (layers_same shown ∙ ap (map (λ k. k.layer)) right.keys)) (keys_rise p offset right.stamp))
 
--- of tiles by rising layer those of one layer stand behind those of smaller ids, and before those of greater ones
+-- of tiles by rising layer those of one layer stand after those of smaller ids, and before those of greater ones
 cut_out : (id : ℕ) (xs : List ShownTile) (i j : ℕ)
     → IsPartitionPoint (λ s. nat_lt s.key.layer id ≡ true) (λ s. nat_lt s.key.layer id ≡ false) xs i → i ≤ length xs
     → IsPartitionPoint (λ s. nat_le s.key.layer id ≡ true) (λ s. nat_le s.key.layer id ≡ false) (drop i xs) j → j ≤ length (drop i xs)
@@ -133,7 +133,7 @@ cut_twice id xs rest own i j e f s h t g =
     f ∙ ap (λ (ys : List ShownTile). take j ys) e
     ∙ cut_out id xs i j s h (subst (λ (ys : List ShownTile). IsPartitionPoint (λ s. nat_le s.key.layer id ≡ true) (λ s. nat_le s.key.layer id ≡ false) ys j) e t) (subst (λ (ys : List ShownTile). j ≤ length ys) e g)
 
--- tiles behind some others stand by rising layer too
+-- tiles after some others stand by rising layer too
 pub rest_rises : (xs rest : List ShownTile) (i : ℕ) → rest ≡ drop i xs → IsNonDecreasingBy (λ s. s.key.layer) xs → IsNonDecreasingBy (λ s. s.key.layer) rest
 rest_rises xs rest i e r = subst (λ (ys : List ShownTile). IsNonDecreasingBy (λ s. s.key.layer) ys) (sym e) (IsNonDecreasingBy-drop (λ s. s.key.layer) i xs r)
 

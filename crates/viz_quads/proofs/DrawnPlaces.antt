@@ -20,7 +20,7 @@ use Rattle.tile_visible.specs.Visible.{viewport, grid_of, cut_by, seen, visible_
 use Rattle.tile_priority.specs.Bins.{is_visible}
 use Rattle.viz_quads.specs.inner.LayerQuads.{Spot, spot_of, screen_of, drawn_part}
 
--- a narrower filter behind a wider one
+-- a narrower filter after a wider one
 pub filter_inner : {A : Type 0} (p q : A → Bool) → ((x : A) → p x ≡ true → q x ≡ true) → (xs : List A) → filter p (filter q xs) ≡ filter p xs
 filter_inner p q h [] = refl
 filter_inner {A} p q h (x ∷ xs) = go (p x) (q x) refl refl (filter_inner p q h xs)

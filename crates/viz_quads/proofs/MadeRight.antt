@@ -39,7 +39,7 @@ keys_made p offset (l ∷ ls) =
     ∙ ap (λ (ks : List TileKey). ks ++ map (λ (t : PageTile). t.key) (flat_map (made_of p offset) ls)) (map-map (λ (t : PageTile). t.key) (made_tile p l) (visible_places p offset l))
     ∙ ap (λ (ks : List TileKey). map (key_at (λ _ _. 0) l.id) (visible_places p offset l) ++ ks) (keys_made p offset ls)
 
--- each image may stand for its tile
+-- each image may represent its tile
 image_stands : (p : Page) (l : PageLayer) (q : Place) → find (has_id l.id) p.layers ≡ Some l → ImageMayStand p (made_tile p l q)
 image_stands p l q found k other =
     let same : l ≡ k = let e : Some l ≡ Some k = sym found ∙ other in cc in

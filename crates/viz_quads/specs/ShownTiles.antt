@@ -41,7 +41,7 @@ pub record IsImageOf (p : Page) (l : PageLayer) (place : Place) (image : Image) 
 abbrev pub ImageMayStand : Page → PageTile → Type 0
 ImageMayStand p t = IfSome t.image (λ image. (l : PageLayer) → find (has_id t.key.layer) p.layers ≡ Some l → IsImageOf p l (place_of_tile t) image)
 
--- the tiles are those that the page shows at these offsets, in key order, each once, whatever the stamps of their keys; and their images may stand for them
+-- the tiles are those that the page shows at these offsets, in key order, each once, whatever the stamps of their keys; and their images may represent them
 pub record AreShownTiles (p : Page) (offset : ℕ → Point) (tiles : List PageTile) : Type 0 where
   pub stamp : ℕ → Place → ℕ
   pub keys : map (λ t. t.key) tiles ≡ visible_keys p offset stamp

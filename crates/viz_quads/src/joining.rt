@@ -9,8 +9,8 @@ use pixel::Colour;
 use std::alloc::AllocError;
 use viz_scene::Quad;
 
-/// Adds a quad behind others, as part of the last ones where they are together one rect of one colour. An
-/// error is want of memory.
+/// Adds a quad after others, as part of the last ones where they are together one rect of one colour. An
+/// error means out of memory.
 pub(crate) fn add_quad(quads: &mut Vec<Quad>, quad: Quad) -> Result<(), AllocError>
     ensures { OnOk result (ActAs (quads_view quads.new.items) (quads_view quads.old.items ++ quad_view quad ∷ [])) }
 {
@@ -23,7 +23,7 @@ pub(crate) fn add_quad(quads: &mut Vec<Quad>, quad: Quad) -> Result<(), AllocErr
     Ok(())
 }
 
-// One quad for the last of these and the quad behind them.
+// One quad for the last of these and the quad after them.
 fn joined_last(quads: &[Quad], quad: &Quad) -> Option<Quad>
     ensures some { IfSome result (λ union. 0 < length quads.now) }
     ensures acts { IfSome result (λ union. ActAs (quads_view (take (length quads.now - 1) quads.now) ++ quad_view union ∷ []) (quads_view quads.now ++ quad_view quad.now ∷ [])) }

@@ -149,7 +149,7 @@ fn quads_at(alloc: Global, spot: &LayerSpot, tiles: &[ShownTile]) -> Result<Vec<
 /// Quads that show the tiles of the layer with this id, which lies so; tiles of one colour that are
 /// neighbours make one quad. The tiles stand by rising layer, and those of this layer are looked up among
 /// them: the work grows with the logarithm of their number, and with the number of the layer's own. The
-/// layer's grid is to have the places of its tiles. An error is want of memory.
+/// layer's grid is to have the places of its tiles. An error means out of memory.
 pub(crate) fn quads_on(
     alloc: Global,
     spot: &LayerSpot,

@@ -19,7 +19,12 @@ use tile_raster::Job;
 use tile_visible::{OrderedLayer, by_id, grid_of, visible_places};
 
 // The tile of a place of the layer.
-fn made(alloc: Global, tree: &LayerTree, layer: &Layer, place: Place) -> Result<ShownTile, AllocError>
+fn made(
+    alloc: Global,
+    tree: &LayerTree,
+    layer: &Layer,
+    place: Place,
+) -> Result<ShownTile, AllocError>
     requires sized { IsLayerSide layer.now.w × IsLayerSide layer.now.h }
     requires there { IsTrue (has (visible.grid_of tree.now (parts_of layer.now)) place) }
     ensures { IfOk result (λ tile. tile_of tile ≡ spec.made_tile tree.now (parts_of layer.now) place) }
@@ -80,7 +85,7 @@ fn made_in(
 }
 
 /// Makes all tiles that a tree shows at these offsets, in key order, with the stamp 0. Each offset is from 0
-/// to 1048576 on both axes. An error is want of memory.
+/// to 1048576 on both axes. An error means out of memory.
 pub fn make_all(
     alloc: Global,
     tree: &LayerTree,

@@ -53,7 +53,7 @@ fn parts_in(
 }
 
 /// The share of each layer of the tree, in the order of painting. The offsets are from 0 to 1048576 on both
-/// axes. An error is want of memory.
+/// axes. An error means out of memory.
 pub(crate) fn layer_parts(
     alloc: Global,
     tree: &LayerTree,

@@ -23,7 +23,7 @@ fn lies_inside(layer: &LayerParts, depth: usize, effect: u32) -> bool
     }
 }
 
-// How many layers from the front on lie in this effect's group.
+// How many layers from the first on lie in this effect's group.
 fn run_len(layers: &[LayerParts], depth: usize, effect: u32) -> usize
     ensures value { result ≡ prefix_len (lies_in groups_of depth effect) layers.now }
     ensures within { result ≤ length layers.now }
@@ -66,7 +66,7 @@ fn push_group(
 }
 
 /// The quads of these layers, those of one effect with their groups from a depth on. The layers that stand
-/// together in a group are a pass of their own, which is added to the passes behind those that its own
+/// together in a group are a pass of their own, which is added to the passes after those that its own
 /// groups make, and is drawn as one quad at the group's opacity.
 pub(crate) fn quads_from(
     alloc: Global,

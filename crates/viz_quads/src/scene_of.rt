@@ -21,7 +21,7 @@ use viz_scene::{RenderPass, Scene};
 /// 1048576 on both axes; `w`, `h` and `tile` are those of the tree's view. `shown` are the tiles that the
 /// tree shows there, in key order. At each point of the viewport the scene has the colour of the direct
 /// painting, with the tiles without an image as missing. The scene shares the images and keeps them and its
-/// colours, whatever becomes of the tree. An error is want of memory.
+/// colours, whatever becomes of the tree. An error means out of memory.
 pub fn quads_of(
     alloc: Global,
     tree: &LayerTree,

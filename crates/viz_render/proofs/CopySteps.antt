@@ -37,7 +37,7 @@ row_same from to n y e = elim (cases_lt y to) as (λ _. row_before from to n y �
   ]
 ]
 
--- the row behind those that went up goes up too
+-- the row after those that went up goes up too
 row_up : (from to n y : ℕ) → to < from → row_before from to n (row_before (from + n) (to + n) 1 y) ≡ row_before from to (n + 1) y
 row_up from to n y higher =
     let Goal : Type 0 = row_before from to n (row_before (from + n) (to + n) 1 y) ≡ row_before from to (n + 1) y in
@@ -117,7 +117,7 @@ more_down w h from to n old mid new lower there first second x y xw yh =
 
 -- ---- one row, between the two parts of a picture that is cut above the lower of both rows
 
--- a row that lies lower begins behind
+-- a row that lies lower begins after it
 lower_row : (w x row y : ℕ) → row < y → w * row + w ≤ y * w + x
 lower_row w x row y lt =
     let place : y * w + x ≡ w * (row + 1) + ((y - (row + 1)) * w + x) = place_below w x (row + 1) (y - (row + 1)) y (omega arith) in

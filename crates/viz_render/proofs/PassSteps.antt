@@ -19,7 +19,7 @@ use Rattle.viz_render.specs.inner.Drawing.{SurfaceView, colour_of, colours, CanB
 use Rattle.viz_render.proofs.QuadSteps.{place_below}
 use Rattle.viz_render.proofs.Hulls.{place_in}
 
--- the first bytes, with other bytes behind them
+-- the first bytes, with other bytes after them
 byte_front : (xs ys : List ℕ) (i : ℕ) → i < length xs → slice_index (xs ++ ys) i ≡ slice_index xs i
 byte_front xs ys i lt = get_or_append_left xs ys 0 i lt
 
@@ -124,7 +124,7 @@ pass_drawable passes i pass can lt e =
     let here : get_or (passes_view passes) i [] ≡ pass_view pass = get_or-map pass_view passes i pass [] lt ∙ ap pass_view (sym e) in
     subst (All (CanBeDrawn i)) here (can i (omega arith))
 
--- the first surface behind those of the passes before has room
+-- the first surface after those of the passes before has room
 pub room_behind : (n : ℕ) (surfaces rest : List SurfaceView) (i : ℕ) (d : SurfaceView) → AreRoomy n surfaces → i < length surfaces → rest ≡ drop i surfaces
     → n ≤ length (get_or rest 0 d).bytes
 room_behind n surfaces rest i d room lt e =

@@ -9,7 +9,7 @@ use Rattle.pixel.specs.declared.Area.{Area}
 use Rattle.viz_render.specs.inner.Drawing.{rows_from, columns_from}
 use Rattle.viz_render.specs.inner.Masks.{EachOpen}
 
--- the first rows and those behind them
+-- the first rows and those after them
 rows_joined : (at : Area) (r n x y : ℕ) → in_rows at (r + n) x y ≡ in_rows at r x y || in_rows (rows_from at r n) n x y
 rows_joined at r n x y = grind (arith, nat_tests)
 
@@ -41,7 +41,7 @@ columns_more w h tops number at c n g start old new before after x y xw yh seen 
     (pixel start (y * w + x)) (pixel old (y * w + x)) (pixel new (y * w + x)) (pixel new (y * w + x)) (g x y)
     (columns_joined at c n at.h x y) (columns_apart at c n at.h x y) (before x y xw yh seen) (after x y xw yh seen)
 
--- what is drawn in the rows so far, and then in the rows behind them, is drawn in all of them, where it is seen
+-- what is drawn in the rows so far, and then in the rows after them, is drawn in all of them, where it is seen
 pub rows_more : (w h : ℕ) (tops : List ℕ) (number : ℕ) (at : Area) (r n : ℕ) (g : ℕ → ℕ → Parts → Parts) (start old new : List ℕ)
     → EachOpen w h tops number (within_rows at r g) start old
     → EachOpen w h tops number (within_rows (rows_from at r n) n g) old new

@@ -147,7 +147,7 @@ above_rows w x y top xw less = grind arith
 pub rows_end : (w top n end : ℕ) → top + n ≤ end → top * w + w * n ≤ w * end
 rows_end w top n end le = omega (arith, mul-le-mul_left w le)
 
--- a pixel below some rows stands behind their last
+-- a pixel below some rows stands after their last
 below_rows : (w x y top n : ℕ) → top + n ≤ y → top * w + w * n ≤ y * w + x
 below_rows w x y top n le = omega (arith, rows_end w top n y le)
 

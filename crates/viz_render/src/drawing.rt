@@ -18,7 +18,7 @@ use std::marker::Sync;
 use std::thread::Threads;
 use viz_scene::Scene;
 
-/// Draws a scene into a frame of its size: each pixel of the frame is then the scene's. An error is want of
+/// Draws a scene into a frame of its size: each pixel of the frame is then the scene's. An error means out of
 /// memory, and the frame is as it was.
 pub fn render(scene: &Scene, frame: &mut Frame) -> Result<(), AllocError>
     requires { IsOfSize scene.now.w scene.now.h frame.old }
@@ -29,8 +29,8 @@ pub fn render(scene: &Scene, frame: &mut Frame) -> Result<(), AllocError>
     render_by(&OneThread, scene, frame)
 }
 
-/// Draws a scene as `render` does, in so many parts at the most, each by a thread of its own where it can be
-/// started. A part has rows enough to be worth a thread; where there is one part, none is started.
+/// Draws a scene as `render` does, in at most the given number of parts, each by a thread of its own where it
+/// can be started. A part has rows enough to be worth a thread; where there is one part, none is started.
 pub fn render_in_parts<R: Threads + Sync>(
     rt: &R,
     scene: &Scene,
@@ -66,7 +66,7 @@ fn render_by<H: Hands>(hands: &H, scene: &Scene, frame: &mut Frame) -> Result<()
 }
 
 /// Draws a scene into the part of a frame of its size that a region covers: there each pixel is then the
-/// scene's, and the others stay. An error is want of memory, and the frame is as it was.
+/// scene's, and the others stay. An error means out of memory, and the frame is as it was.
 pub fn render_region(scene: &Scene, frame: &mut Frame, region: &Region) -> Result<(), AllocError>
     requires { IsOfSize scene.now.w scene.now.h frame.old }
     ensures size { IsOfSize scene.now.w scene.now.h frame.new }
@@ -76,8 +76,8 @@ pub fn render_region(scene: &Scene, frame: &mut Frame, region: &Region) -> Resul
     render_region_by(&OneThread, scene, frame, region)
 }
 
-/// Draws a scene as `render_region` does, and each rect of the region that is large enough in so many parts at
-/// the most, each by a thread of its own where it can be started.
+/// Draws a scene as `render_region` does, and each rect of the region that is large enough in at most the
+/// given number of parts, each by a thread of its own where it can be started.
 pub fn render_region_in_parts<R: Threads + Sync>(
     rt: &R,
     scene: &Scene,

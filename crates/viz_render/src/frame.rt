@@ -31,7 +31,7 @@ impl Model for Frame {
 }
 
 impl Frame {
-    /// A frame that is black and opaque. An error is want of memory.
+    /// A frame that is black and opaque. An error means out of memory.
     pub fn new(alloc: Global, w: u32, h: u32) -> Result<Frame, AllocError>
         requires wide { IsSceneSide w }
         requires tall { IsSceneSide h }
@@ -88,7 +88,7 @@ impl Frame {
     }
 }
 
-// so many black pixels
+// the given number of black pixels
 fn black_pixels(alloc: Global, count: usize) -> Result<Vec<u8>, AllocError>
     requires { count ≤ 2 ^ 22 }
     ensures size { IfOk result (λ bytes. length bytes.items ≡ 4 * count) }

@@ -18,7 +18,7 @@ use page_display_list::shared_part;
 use pixel::Area;
 use viz_scene::Quad;
 
-/// Columns and rows of an area, counted from its top left corner; none where an end is not behind its start.
+/// Columns and rows of an area, counted from its top left corner; none where an end is not after its start.
 #[derive(Clone, Copy, Debug)]
 pub(crate) struct Hull {
     pub(crate) left: usize,
@@ -130,7 +130,7 @@ fn start_in(at: i32, start: usize, end: usize) -> i32
     moved(at, first)
 }
 
-// a number so much further on
+// a number this much further on
 fn moved(at: i32, by: usize) -> i32
     requires low { pos 0 ≤ℤ at }
     requires high { at ≤ℤ pos 2048 }

@@ -103,7 +103,8 @@ fn mark_part(tops: &mut [usize], image: &TileImage, part: CoveredArea, number: u
     }
 }
 
-// marks where so many rows of a part of an image, from its row `row` on, are opaque, which are all equal
+// marks where the given number of rows of a part of an image, from its row `row` on, are opaque, which are
+// all equal
 fn mark_band(
     tops: &mut [usize],
     image: &TileImage,

@@ -20,7 +20,7 @@ pub(crate) trait Hands {
     /// What they need, to draw.
     ghost can_draw: { Self → Type 0 };
 
-    /// How many parts an area of so many pixels of a scene is drawn in.
+    /// How many parts an area of the given number of pixels of a scene is drawn in.
     fn parts_of(&self, scene: &Scene, pixels: usize) -> usize
         ensures { 1 ≤ result };
 
@@ -57,7 +57,7 @@ impl Hands for OneThread {
     }
 }
 
-/// So many threads at the most.
+/// At most the given number of threads.
 #[derive(Drop)]
 pub(crate) struct ManyThreads<'r, R> {
     pub(crate) rt: &'r R,
@@ -83,7 +83,7 @@ impl<'r, R: Threads + Sync> Hands for ManyThreads<'r, R> {
     }
 }
 
-/// Takes the memory for so many parts.
+/// Takes the memory for the given number of parts.
 pub(crate) fn surfaces_of(
     alloc: Global,
     scene: &Scene,
@@ -107,12 +107,12 @@ pub(crate) fn pixels_of(at: Area) -> usize
     at.w * at.h
 }
 
-// how many parts are worth a thread each where so many pixels of a scene are drawn
+// how many parts are worth a thread each where the given number of pixels of a scene are drawn
 fn parts_worth(scene: &Scene, pixels: usize) -> usize {
     pixels.saturating_mul(scene.passes().len()) / LEAST_PIXELS
 }
 
-// how many of some rows the first of so many parts have
+// how many of some rows the first of the given number of parts have
 fn share_of(rows: usize, parts: usize, first: usize) -> usize
     requires some { 1 ≤ parts }
     requires first { first ≤ parts }
@@ -157,7 +157,7 @@ fn upper_of(band: Band, at: Area, rows: usize) -> BandArea
     }
 }
 
-// the rows of an area behind the first, in a band that begins with them
+// the rows of an area after the first, in a band that begins with them
 fn lower_of(band: Band, at: Area, rows: usize) -> BandArea
     requires end { band.top + band.rows ≤ 2048 }
     requires inside { at.y + at.h ≤ band.rows }

@@ -35,7 +35,7 @@ pub(crate) struct Surfaces {
     // those of the passes before the root
     passes: Vec<Surface>,
     root: Surface,
-    // what opaque quads hide of the pass in hand
+    // what opaque quads hide of the current pass
     mask: Mask,
     // the most rows of a strip
     rows: usize,
@@ -59,7 +59,7 @@ impl Surfaces {
     }
 }
 
-// how many rows a strip has where so many surfaces of this width are drawn
+// how many rows a strip has where the given number of surfaces of this width are drawn
 fn rows_of_strip(width: usize, surfaces: usize) -> usize
     requires width { 1 ≤ width }
     requires narrow { width ≤ 2048 }
@@ -71,7 +71,7 @@ fn rows_of_strip(width: usize, surfaces: usize) -> usize
     rows.max(LEAST_ROWS).min(MOST_ROWS)
 }
 
-// so many surfaces of so many pixels
+// the given number of surfaces of the given number of pixels
 fn inner_surfaces(alloc: Global, count: usize, pixels: usize) -> Result<Vec<Surface>, AllocError>
     requires { pixels ≤ 2 ^ 60 }
     ensures count { IfOk result (λ surfaces. length surfaces.items ≡ count) }

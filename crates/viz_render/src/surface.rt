@@ -9,7 +9,7 @@ use geom::Rect;
 use std::alloc::{AllocError, Global};
 use std::marker::Model;
 
-/// The pixels of a pass on a rect of the screen, row by row from the top, with room behind them. Everywhere
+/// The pixels of a pass on a rect of the screen, row by row from the top, with room after them. Everywhere
 /// else the pass is transparent.
 #[derive(Drop)]
 pub(crate) struct Surface {
@@ -29,7 +29,7 @@ impl Model for Surface {
 }
 
 impl Surface {
-    /// A surface with room for so many pixels, which has none.
+    /// A surface with room for the given number of pixels, which has none.
     pub(crate) fn new(alloc: Global, pixels: usize) -> Result<Surface, AllocError>
         requires { pixels ≤ 2 ^ 60 }
         ensures { IfOk result (λ surface. length surface.bytes ≡ 4 * pixels) }
@@ -54,7 +54,7 @@ impl Surface {
         self.rect
     }
 
-    /// The bytes of its pixels, and those behind them.
+    /// The bytes of its pixels, and those after them.
     pub(crate) fn bytes(&self) -> &[u8]
         ensures value { result.now ≡ self.now.bytes }
         ensures room { byte_count self.now.rect.w self.now.rect.h ≤ length result.now }

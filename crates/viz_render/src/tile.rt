@@ -75,7 +75,7 @@ pub(crate) fn taken_part(part: CoveredArea, from: Point) -> CoveredArea
     }
 }
 
-// a place so much further to the right or downwards
+// a place this much further to the right or downwards
 fn later(place: usize, by: i32) -> usize
     requires by { pos 0 ≤ℤ by }
     requires place { place ≤ 2 ^ 29 }
@@ -123,7 +123,7 @@ pub(crate) fn row_number(image: &TileImage, part: CoveredArea, row: usize) -> u3
     (part.above + row) as u32
 }
 
-// how many rows of an image, from a row on, are kept as that row, at most so many
+// how many rows of an image, from a row on, are kept as that row, at most the given number
 pub(crate) fn equal_rows_at(image: &TileImage, row: u32, most: usize) -> usize
     requires row { row < near image.now.rect.h }
     requires some { 1 ≤ most }
@@ -135,7 +135,7 @@ pub(crate) fn equal_rows_at(image: &TileImage, row: u32, most: usize) -> usize
     equal.min(most)
 }
 
-// draws so many rows of a part of an image, from its row `row` on, which are all equal
+// draws the given number of rows of a part of an image, from its row `row` on, which are all equal
 fn draw_band(
     surface: &mut [u8],
     width: usize,

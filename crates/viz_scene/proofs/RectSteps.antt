@@ -53,7 +53,7 @@ both_on_screen r s i j = record {
   bottom = omega (arith, ints, clamps);
 }
 
--- a number outside a span lies before or behind it
+-- a number outside a span lies before or after it
 outside_by : (a m p : ℤ) (t : Bool) → int_le a p ≡ t → (t && int_lt p (a +ℤ m)) ≡ false → (p <ℤ a) ⊎ ((a +ℤ m) ≤ℤ p)
 outside_by a m p true e h = inr (grind (arith, ints))
 outside_by a m p false e h = inl (grind (arith, ints))

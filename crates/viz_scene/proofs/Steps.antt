@@ -8,12 +8,12 @@ use Rattle.viz_scene.specs.Views.{QuadView, tiled, plain, grouped, SceneView}
 use Rattle.viz_scene.specs.Pixels.{quad_over, quads_over, passes_at, root_pixel, scene_pixel}
 use Rattle.viz_scene.specs.Sound.{QuadFits, AreSound}
 
--- quads behind others are laid over what those show
+-- quads after others are laid over what those show
 pub quads_append : (passes : List Parts) (x y : ℤ) (below : Parts) (qs rs : List QuadView)
     → quads_over passes x y below (qs ++ rs) ≡ quads_over passes x y (quads_over passes x y below qs) rs
 quads_append passes x y below qs rs = fold-append (quad_over passes x y) below qs rs
 
--- passes behind others see the colours of those
+-- passes after others see the colours of those
 pub passes_append : (x y : ℤ) (before : List Parts) (ps qs : List (List QuadView))
     → passes_at x y before (ps ++ qs) ≡ passes_at x y (passes_at x y before ps) qs
 passes_append x y before [] qs = refl
@@ -53,7 +53,7 @@ fits_later w h i j (tiled image at from) le f = f
 fits_later w h i j (plain at colour) le f = f
 fits_later w h i j (grouped pass opacity) le f = omega arith
 
--- passes behind others
+-- passes after others
 pub sound_append : (w h i : ℕ) (ps qs : List (List QuadView)) → AreSound w h i ps → AreSound w h (i + length ps) qs
     → AreSound w h i (ps ++ qs)
 sound_append w h i [] qs s t = rw (← add-zero i) t

@@ -24,7 +24,7 @@ quad_over passes x y below (grouped pass opacity) = blend below (scaled (slice_i
 abbrev pub quads_over : List Parts → ℤ → ℤ → Parts → List QuadView → Parts
 quads_over passes x y below quads = fold (quad_over passes x y) below quads
 
--- the colours of passes at a point, behind those of the passes before them: each begins transparent
+-- the colours of passes at a point, after those of the passes before them: each begins transparent
 abbrev pub passes_at : ℤ → ℤ → List Parts → List (List QuadView) → List Parts
 passes_at x y before [] = before
 passes_at x y before (p ∷ more) = passes_at x y (before ++ quads_over before x y clear p ∷ []) more

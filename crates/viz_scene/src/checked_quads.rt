@@ -9,7 +9,7 @@ use crate::Quad;
 use geom::{Point, Rect};
 use tile_raster::TileImage;
 
-// the number behind a span
+// the number after a span
 fn end_of(at: i32, len: i32) -> i64
     ensures { result ≡ at +ℤ len }
 {
@@ -26,7 +26,7 @@ fn is_span_in(at: i32, len: i32, side: u32) -> bool
     0 <= at && long
 }
 
-// whether so much from a number on lies in a length
+// whether this much from a number on lies in a length
 #[tactic(auto, unfolding(crate::specs::inner::Tests::is_part_of))]
 fn is_part_of(from: i32, len: i32, whole: i32) -> bool
     ensures { result ≡ Tests.is_part_of from len whole }

@@ -120,7 +120,7 @@ fn starts_in_time(at: i32, other_at: i32, other_len: i32) -> bool
     at <= end
 }
 
-// whether neither of two spans starts behind the end of the other
+// whether neither of two spans starts after the end of the other
 fn have_no_gap(at: i32, len: i32, other_at: i32, other_len: i32) -> bool
     requires start { pos 0 ≤ℤ at }
     requires end { (at +ℤ len) ≤ℤ pos 2048 }

@@ -45,7 +45,7 @@ pub struct RenderPass {
 }
 
 impl Quad {
-    /// The same quad, which shares a tile's image. An error is want of memory.
+    /// The same quad, which shares a tile's image. An error means out of memory.
     pub fn copy(&self) -> Result<Quad, AllocError>
         ensures { IfOk result (λ quad. quad_view quad ≡ quad_view self.now) }
     {

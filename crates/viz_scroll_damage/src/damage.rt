@@ -13,7 +13,7 @@ use viz_damage::damage_of;
 use viz_scene::Scene;
 
 /// The damage that is left where rows of a frame that shows one scene went to other rows, and it is to show
-/// another scene of the same size. An error is want of memory.
+/// another scene of the same size. An error means out of memory.
 pub fn damage_of_shift(
     alloc: Global,
     old: &Scene,

@@ -68,7 +68,7 @@ fn has_bitmap(image: &TileImage) -> bool {
     false
 }
 
-// the rows that stand so much lower in another scene
+// the rows that stand this much lower in another scene
 fn shift_by(old: &Scene, new: &Scene, by: i32, height: u32) -> Option<Shift>
     requires { height ≤ 2048 }
     ensures { IfSome result (λ shift. IsShift height shift) }
@@ -82,7 +82,7 @@ fn shift_by(old: &Scene, new: &Scene, by: i32, height: u32) -> Option<Shift>
     shift_within(from, to, count_of(end.saturating_sub(top)), height)
 }
 
-// so many rows, from a row on and to a row; None where there are none or they are not a screen's
+// the given number of rows, from a row on and to a row; None where there are none or they are not a screen's
 fn shift_within(from: u32, to: u32, count: u32, height: u32) -> Option<Shift>
     ensures { IfSome result (λ shift. IsShift height shift) }
 {

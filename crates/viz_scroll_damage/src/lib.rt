@@ -8,9 +8,9 @@
 //! page was scrolled is guessed by a few tiles; a guess that is wrong costs a larger region.
 #![tactic(auto)]
 
-mod moved_rows;
 mod damage;
 mod guess;
+mod moved_rows;
 mod scene;
 mod shift;
 

@@ -19,11 +19,11 @@ pub(crate) struct MovedRows {
     pub(crate) by: i32,
     /// The first row that is kept.
     pub(crate) top: i32,
-    /// The row behind the last that is kept.
+    /// The row after the last that is kept.
     pub(crate) end: i32,
 }
 
-/// What is left of a quad once it is moved and cut; None where nothing is. An error is want of memory.
+/// What is left of a quad once it is moved and cut; None where nothing is. An error means out of memory.
 pub(crate) fn moved_quad(quad: &Quad, cut: MovedRows) -> Result<Option<Quad>, AllocError>
     requires cut { IsCut cut.by cut.top cut.end }
     requires shown { IsShown (quad_view quad.now) }
@@ -136,7 +136,7 @@ fn first_row(at: i32, by: i32, top: i32) -> i32
     (at + by).max(top)
 }
 
-// the row behind the last of a span that is moved and cut
+// the row after the last of a span that is moved and cut
 fn last_row(at: i32, len: i32, by: i32, end: i32) -> i32
     requires low { pos 0 ≤ℤ at }
     requires len { pos 0 ≤ℤ len }

@@ -8,7 +8,8 @@ use crate::moved_rows::{MovedRows, moved_quad};
 use std::alloc::{AllocError, Global};
 use viz_scene::{Quad, RenderPass, Scene};
 
-/// A scene that shows between some rows what another shows so many rows higher. An error is want of memory.
+/// A scene that shows between some rows what another shows the given number of rows higher. An error means
+/// out of memory.
 pub(crate) fn moved(alloc: Global, scene: &Scene, cut: MovedRows) -> Result<Scene, AllocError>
     requires cut { IsCut cut.by cut.top cut.end }
     requires end { cut.end ≤ℤ pos scene.now.h }
@@ -56,7 +57,7 @@ fn moved_quads(alloc: Global, quads: &[Quad], cut: MovedRows) -> Result<Vec<Quad
     Ok(after)
 }
 
-// adds a quad that is moved and cut behind others
+// adds a quad that is moved and cut after others
 fn add_moved(quad: &Quad, cut: MovedRows, after: &mut Vec<Quad>) -> Result<(), AllocError>
     requires cut { IsCut cut.by cut.top cut.end }
     requires shown { IsShown (quad_view quad.now) }

@@ -1,4 +1,4 @@
--- Runs of pixels one behind the other, and columns of an area one beside the other.
+-- Runs of pixels one after another, and columns of an area side by side.
 use Rattle.std.specs.Prelude.{ℕ, ◌+◌, ◌-◌, ◌*◌, ◌<◌, ◌≤◌, ◌≡◌, Bool, true, false, cond, ◌&&◌, ◌||◌, List, slice_index, refl}
 use Rattle.std.proofs.Common.{arith, ◌∙◌, ap, sym, subst, inl, inr}
 use Rattle.std.proofs.lemmas.Bool.{cases_lt}
@@ -24,7 +24,7 @@ nothing_changed k g old = record {
   premultiplied = λ ready. ready;
 }
 
--- the run behind was changed too
+-- the run after it was changed too
 pub part_more : (k n m : ℕ) (g h : ℕ → Parts → Parts) (old mid new : List ℕ) → IsPart k n g old mid → IsPart (k + n) m h mid new
     → ((j : ℕ) (below : Parts) → j < m → h j below ≡ g (n + j) below) → IsPart k (n + m) g old new
 part_more k n m g h old mid new one two same = record {
@@ -43,7 +43,7 @@ part_more k n m g h old mid new one two same = record {
   premultiplied = λ ready. two.premultiplied (one.premultiplied ready);
 }
 
--- the same at the front
+-- the same at the start
 pub part_more_front : (n m : ℕ) (g h : ℕ → Parts → Parts) (old mid new : List ℕ) → IsPart 0 n g old mid → IsPart n m h mid new
     → ((j : ℕ) (below : Parts) → j < m → h j below ≡ g (n + j) below) → IsPart 0 (n + m) g old new
 part_more_front n m g h old mid new one two same =
@@ -169,7 +169,7 @@ one_row w h at place g f old new inside one there part same =
     (no_row w h at g old) part same in
     subst (λ (n : ℕ). EachPixel w h (within_rows at n g) old new) (sym one) step
 
--- what holds of pixels, and of those behind them, holds of both
+-- what holds of pixels, and of those after them, holds of both
 pub of_both : (P : ℕ → Type 0) (k n m : ℕ) → ((j : ℕ) → j < n → P (k + j)) → ((j : ℕ) → j < m → P (k + n + j)) → (j : ℕ) → j < n + m → P (k + j)
 of_both P k n m first second j lt =
     elim (cases_lt j n) as (λ _. P (k + j)) [

@@ -10,7 +10,7 @@ use Rattle.model_steps.specs.Events.{commit}
 use Rattle.impl_host.specs.Hosts.{ImplHostModel, Hosts}
 use Rattle.impl_core.specs.inner.Cores.{IsPrepared}
 
--- the host stands for a run in which the commit of the frame may come now, and this is the commit
+-- the host represents a run in which the commit of the frame may come now, and this is the commit
 pub record PushesNow (s : ScriptModel) (host : ImplHostModel) (k : ℕ) (prepared : Option CommitModel) : Type 0 where
   pub workers : ℕ
   pub past : List Entry

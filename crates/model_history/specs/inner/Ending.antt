@@ -20,7 +20,7 @@ use Rattle.model_history.specs.SameChanges.{SameChanges}
 abbrev pub with_next : Page → Command → Changed → Changed
 with_next p c done = record { list = with_command p c done.list; retiled = done.retiled || retiles p c }
 
--- what a command lists was noted behind what was noted before: where that was right, so is this
+-- what a command lists was noted after what was noted before: where that was right, so is this
 abbrev pub Noted : Command → Changed → Changed → Changed → Type 0
 Noted c listed old new = (p : Page) (done : Changed) → ListsChange (layer_change_of p c) (retiles p c) listed → SameChanges old done → SameChanges new (with_next p c done)
 

@@ -10,10 +10,10 @@ use region::Changes;
 impl LayerTree {
     /// Applies a command, and answers which layers it changed.
     ///
-    /// A layer that was added or resized is listed whole; a layer in which an item was inserted,
-    /// removed or replaced is listed with the old and the new rect. The command is refused with the
-    /// first fault, in the order of `EditFault`, that it has in this tree. After any error, want of
-    /// memory included, the tree is as it was.
+    /// A layer that was added or resized is listed whole; a layer in which an item was inserted, removed or
+    /// replaced is listed with the old and the new rect. The command is refused with the first fault, in the
+    /// order of `EditFault`, that it has in this tree. After any error, out of memory included, the tree is
+    /// as it was.
     pub fn apply(&mut self, command: &Command) -> Result<Changes, EditError>
         ensures { Outcome self.old command.now self.new result }
     {

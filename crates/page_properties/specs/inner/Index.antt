@@ -24,7 +24,7 @@ abbrev pub listed_place : ℕ → List IndexEntry → Option ℕ
 listed_place id [] = None
 listed_place id (s ∷ ss) = cond (s.id == id) (Some s.place) (listed_place id ss)
 
--- each id is smaller than those behind it
+-- each id is smaller than those after it
 abbrev pub AreAbove : ℕ → List IndexEntry → Type 0
 AreAbove id [] = Unit {0}
 AreAbove id (s ∷ ss) = (id < s.id) × AreAbove id ss
@@ -33,7 +33,7 @@ abbrev pub AreRising : List IndexEntry → Type 0
 AreRising [] = Unit {0}
 AreRising (s ∷ ss) = AreAbove s.id ss × AreRising ss
 
--- how many entries of the front have a smaller id
+-- how many of the first entries have a smaller id
 unfoldable pub front : ℕ → List IndexEntry → ℕ
 front id entries = prefix_len (λ s. nat_lt s.id id) entries
 

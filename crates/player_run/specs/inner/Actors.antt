@@ -53,19 +53,19 @@ pub record Drove (p q : Seat) (old new : Option (List ℕ)) (ending : Ending) : 
   pub turns : Driven p q 0 old new ending.last
   pub over : KnowsEnd (Some q) ending.over ending.last
 
--- the compositor put its part into the ring behind what was there, and the sink gained what the presenter took
+-- the compositor put its part into the ring after what was there, and the sink gained what the presenter took
 pub record HasRun (p : Seat) (before : List ℕ) (ran : Ran) (old new : Option (List ℕ)) : Type 0 where
   pub ring : OneRing ran.sink ran.presenter
   pub drove : Drove p ran.pass (Some before) (Some (whole ran.sink)) ran.ending
   pub calm : FaultCause 0 0 ran.ending.last
   pub gained : Gained ran.served old new (bytes_taken ran.presenter)
 
--- a legal run of this script and so many workers
+-- a legal run of this script and the given number of workers
 pub record IsRunAt (o : Origin) (r : Run) : Type 0 where
   pub origin : o ≡ origin_of r
   pub legal : Legal r.script r.workers (past r)
 
--- what was there, and the part of the recording for all entries of a run that was played to its end; or a front of that of a run
+-- what was there, and the part of the recording for all entries of a run that was played to its end; or a prefix of that of a run
 abbrev pub PlayEnds : Origin → List ℕ → Option (List ℕ) → Option (List ℕ) → Outcome → Type 0
 PlayEnds o before old new Done = (r : Run) × IsRunAt o r × (is_played r.entries ≡ true) × Appends old new (before ++ part r.script [] (pairs r.entries))
 PlayEnds o before old new WriteFault = (r : Run) × IsRunAt o r × GainsPrefix old new (before ++ part r.script [] (pairs r.entries))

@@ -13,7 +13,7 @@ use Rattle.player_run.specs.declared.words.Use.TheVariants.{Frames}
 use Rattle.player_run.specs.inner.Scripts.{IsStopped}
 use Rattle.player_run.specs.Runs.{recording_limit, CauseOf, ReadToEnd}
 
--- the images, one behind the other
+-- the images, one after another
 abbrev pub images_of : Images → List ℕ
 images_of i = flat_map (span_bytes i.bytes.items) i.spans.items
 
@@ -28,7 +28,7 @@ abbrev pub RecordingFrom : Option (List ℕ) → Option (List ℕ) → Result Im
 RecordingFrom old new (Ok i) = HasImages i × IfSome old (λ bytes. bytes ≡ i.bytes.items) × IsAtEnd new
 RecordingFrom old new (Err o) = IfSome old (λ bytes. CauseOf Frames bytes o) × ReadToEnd Frames new o × IsStopped o
 
--- these bytes were written; or a front of them
+-- these bytes were written; or a prefix of them
 abbrev pub WritesImages : Option (List ℕ) → Option (List ℕ) → List ℕ → Outcome → Type 0
 WritesImages old new whole Done = Appends old new whole
 WritesImages old new whole WriteFault = GainsPrefix old new whole

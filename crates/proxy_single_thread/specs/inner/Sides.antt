@@ -96,7 +96,7 @@ AreWorkers r ws = HaveJobs r ws.jobs.items × ArePrepared r.script ws.prepared.i
 
 -- ---- what was drawn
 
--- the scenes are those of the draws among the entries behind the written ones
+-- the scenes are those of the draws among the entries after the written ones
 pub record IsShown (r : Run) (shown : UnwrittenScenes) : Type 0 where
   pub fresh : ℕ
   pub count : length r.entries ≡ fresh + shown.written

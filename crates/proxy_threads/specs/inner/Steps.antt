@@ -66,7 +66,7 @@ abbrev pub lines_of : List Entry → List ℕ
 lines_of [] = []
 lines_of (e ∷ es) = event_line e.event ++ lines_of es
 
--- the lines are those of the entries behind the written ones, and all entries are taken for written
+-- the lines are those of the entries after the written ones, and all entries are taken for written
 pub record GathersAll (from : ℕ) (entries : List Entry) (new : Lines) : Type 0 where
   pub text : new.text.items ≡ lines_of (drop from entries)
   pub written : new.written ≡ length entries

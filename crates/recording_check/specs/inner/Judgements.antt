@@ -28,7 +28,7 @@ pub record JudgesNext (bytes : List ℕ) (old : Run) (wrong : Option ℕ) (index
   pub workers : new.workers ≡ old.workers
   pub judged : (ps : List Piece) (image : List ℕ) → IsImageAt bytes step.image image → index ≡ length ps → AreJudged ps old wrong → AreJudged (ps ++ record { event = step.event; image = image } ∷ []) new now
 
--- what stands behind so many bytes is pieces, all of them right; or this one is the first that is wrong; or a part that is not of its form begins here
+-- what stands after the given number of bytes is pieces, all of them right; or this one is the first that is wrong; or a part that is not of its form begins here
 abbrev pub JudgesParts : List ℕ → ScriptModel → ℕ → ViewTable → ℕ → Result Verdict ℕ → Type 0
 JudgesParts bytes s workers t start (Ok Good) = (ps : List Piece) × ArePiecesFrom bytes t start ps × AreRightPieces s workers [] ps
 JudgesParts bytes s workers t start (Ok (No place)) = (ps : List Piece) × ArePiecesFrom bytes t start ps × IsWrongAt s workers ps place

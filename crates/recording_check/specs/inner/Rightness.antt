@@ -27,11 +27,11 @@ abbrev pub TellsDrawn : ScriptModel → List Entry → List TileKey → List ℕ
 TellsDrawn s h missing image true = image ≡ shown_image s h missing
 TellsDrawn s h missing image false = image ≡ shown_image s h missing → active h ≡ None
 
--- the bytes may stand behind the line of the event, as far as their form goes
+-- the bytes may stand after the line of the event, as far as their form goes
 abbrev pub CanHave : Event → List ℕ → Type 0
 CanHave e image = (v : View) × HasImage v e image
 
--- the bytes are what a recording has behind the line of the event after a past; or they are not, or the event may not come
+-- the bytes are what a recording has after the line of the event after a past; or they are not, or the event may not come
 abbrev pub TellsImage : ScriptModel → List Entry → Event → List ℕ → Bool → Type 0
 TellsImage s h e image true = image ≡ image_behind s h e
 TellsImage s h e image false = (workers : ℕ) → image ≡ image_behind s h e → Next s workers h (entry_of e) → ⊥

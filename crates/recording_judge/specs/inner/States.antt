@@ -21,7 +21,7 @@ use Rattle.recording_judge.specs.declared.state.State.{State}
 use Rattle.recording_judge.specs.inner.Tiles.{Holds}
 use Rattle.recording_judge.specs.inner.Mains.{IsMain}
 
--- they are the host, the tiles and the main side of a run of the script with so many workers after this past
+-- they are the host, the tiles and the main side of a run of the script with the given number of workers after this past
 pub record Keeps (s : ScriptModel) (n : ℕ) (h : List Entry) (stands : ImplHostModel) (keys : TileKeys) (side : JudgedMain) : Type 0 where
   pub host : Hosts s h stands
   pub tiles : Holds s n h keys
@@ -63,7 +63,7 @@ abbrev pub listed : Option Move → List Move
 listed None = []
 listed (Some m) = m ∷ []
 
--- the actor has events of this kind, where there are so many workers: the main side, a worker, anybody, or the compositor
+-- the actor has events of this kind, where there are that many workers: the main side, a worker, anybody, or the compositor
 abbrev pub HasKind : ℕ → Kind → ℕ → Type 0
 HasKind n kind.Ready a = a ≡ 1
 HasKind n kind.Abort a = a ≡ 1

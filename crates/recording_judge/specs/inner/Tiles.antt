@@ -20,7 +20,7 @@ use Rattle.tile_ranks.specs.SeenTrees.{SeenTreeModel, IsSeenWhere}
 use Rattle.tile_manager.specs.Managers.{HaveSameTiles, tile_made}
 use Rattle.recording_judge.specs.declared.tile_keys.TileKeys.{TileKeys}
 
--- these keys are ready, these pinned, each of so many workers holds this, and the queue is for this choice, where there is one
+-- these keys are ready, these pinned, each of the given number of workers holds this, and the queue is for this choice, where there is one
 pub record HoldsKeys (n : ℕ) (t : TileKeys) (made pins : List TileKey) (holder : ℕ → Option TileKey) (c : Choice) : Type 0 where
   pub ready : (q : TileKey) → has_key t.ready q ≡ has_key made q
   pub pinned : (q : TileKey) → has_key t.pins q ≡ has_key pins q
@@ -28,7 +28,7 @@ pub record HoldsKeys (n : ℕ) (t : TileKeys) (made pins : List TileKey) (holder
   pub held : (w : ℕ) → w < n → slice_index_or t.held.items w None ≡ holder w
   pub queue : IfSome t.queue (λ (q : Choice). Alike q c)
 
--- the same of the tiles of a run with so many workers after this past
+-- the same of the tiles of a run with the given number of workers after this past
 abbrev pub Holds : ScriptModel → ℕ → List Entry → TileKeys → Type 0
 Holds s n h t = HoldsKeys n t (model.ready s h) (model.pinned s h) (λ w. held w h) (choice s h)
 
@@ -42,7 +42,7 @@ held_keys (Some q ∷ os) = q ∷ held_keys os
 abbrev pub store_of : List TileKey → Store
 store_of ks = record { ready = map.empty; in_flight = set.from_list ks; spare = 0 }
 
--- all of so many workers hold nothing
+-- all of the given number of workers hold nothing
 abbrev pub AreFree : ℕ → List (Option TileKey) → Type 0
 AreFree n os = (length os ≡ n) × ((w : ℕ) → slice_index_or os w None ≡ None)
 
@@ -58,7 +58,7 @@ Finished None new tile = new ≡ None
 Finished (Some c) None tile = ⊥
 Finished (Some c) (Some d) tile = Alike d (finished c tile)
 
--- there is a run whose tiles and whose two trees these are, with so many tiles in flight
+-- there is a run whose tiles and whose two trees these are, with the given number of tiles in flight
 pub record QueuesNow (s : ScriptModel) (active pending : Option SeenTreeModel) (t : TileKeys) (flying : ℕ) : Type 0 where
   pub workers : ℕ
   pub past : List Entry

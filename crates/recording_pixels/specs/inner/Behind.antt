@@ -1,4 +1,4 @@
--- What stands behind a front of bytes, and what the pixels of a painting are as bytes.
+-- What stands after a prefix of bytes, and what the pixels of a painting are as bytes.
 use Rattle.std.specs.Prelude.{ℕ, zero, suc, pos, ◌==◌, cond, List, [], ◌∷◌, Option, Some, None, option_and_then}
 use Rattle.geom.specs.declared.rect.Point.{Point}
 use Rattle.geom.specs.declared.tile.TileKey.{TileKey}
@@ -7,13 +7,13 @@ use Rattle.page_layers.specs.Pages.{Page}
 use Rattle.page_layers.specs.TreePainting.{paint}
 use Rattle.model_history.specs.Recordings.{rgb, image_row}
 
--- what stands behind a front; none where the bytes do not begin with it
+-- what stands after a prefix; none where the bytes do not begin with it
 abbrev pub behind : List ℕ → List ℕ → Option (List ℕ)
 behind [] xs = Some xs
 behind (c ∷ cs) [] = None
 behind (c ∷ cs) (x ∷ xs) = cond (c == x) (behind cs xs) None
 
--- what stands behind f 0, f 1, .., f (n - 1), one after another
+-- what stands after f 0, f 1, .., f (n - 1), one after another
 abbrev pub behind_each : ℕ → (ℕ → List ℕ) → List ℕ → Option (List ℕ)
 behind_each zero f xs = Some xs
 behind_each (suc n) f xs = option_and_then (behind (f n)) (behind_each n f xs)

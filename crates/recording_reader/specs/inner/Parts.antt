@@ -1,4 +1,4 @@
--- Reading the parts of a recording behind its two first lines, in order.
+-- Reading the parts of a recording after its first two lines, in order.
 use Rattle.std.specs.Prelude.{ℕ, zero, suc, ◌+◌, ◌-◌, Bool, true, false, if◌then◌else◌, List, [], ◌∷◌, ◌++◌, length, drop, Option, Some, None, IfSome, ◌≤◌, Result, Ok, Err}
 use Rattle.page_layers.specs.declared.view.View.{View}
 use Rattle.model_history.specs.declared.event.Event.{Event}
@@ -28,7 +28,7 @@ or_bad place None = Err place
 abbrev pub line_length : Event → ℕ
 line_length e = length (event_line e)
 
--- a draw with the image behind its line, of the size of this view
+-- a draw with the image after its line, of the size of this view
 unfoldable pub with_image : View → List ℕ → Event → Result RecordingPart ℕ
 with_image v xs e = do
   n ← or_bad (line_length e) (image_length v.w v.h (drop (line_length e) xs))
@@ -42,7 +42,7 @@ abbrev pub is_nil : List ℕ → Bool
 is_nil [] = true
 is_nil (x ∷ xs) = false
 
--- the end, with nothing behind its line
+-- the end, with nothing after its line
 unfoldable pub at_end : List ℕ → Event → Result RecordingPart ℕ
 at_end xs e = if is_nil (drop (line_length e) xs) then Ok (bare e) else Err (line_length e)
 
@@ -53,7 +53,7 @@ part_of v xs (event.Stop actor) = Err 0
 part_of v xs event.End = at_end xs event.End
 part_of v xs e = Ok (bare e)
 
--- the part at the front of these bytes, where images are of the size of this view; or the place in it of what is bad
+-- the part at the start of these bytes, where images are of the size of this view; or the place in it of what is bad
 unfoldable pub part_at : View → List ℕ → Result RecordingPart ℕ
 part_at v xs = do
   e ← or_bad 0 (event_at xs)
@@ -68,7 +68,7 @@ images_in index at size (Some front) = record { event = index; at = at + front; 
 abbrev pub Begins : Option ℕ → ℕ → Type 0
 Begins front size = IfSome front (λ n. n ≤ size)
 
--- what is read behind the two first lines
+-- what is read after the first two lines
 pub record Body : Type 0 where
   pub entries : List Entry
   pub images : List ImageSpan
@@ -81,13 +81,13 @@ abbrev pub behind : List Entry → List ImageSpan → Result Body ℕ → Result
 behind es ms (Ok r) = Ok (record { entries = es ++ r.entries; images = ms ++ r.images })
 behind es ms (Err place) = Err place
 
--- a part and what is read behind it
+-- a part and what is read after it
 abbrev pub led : Option ℕ → ℕ → ℕ → Result RecordingPart ℕ → (Option ℕ → ℕ → Result Body ℕ) → Result Body ℕ
 led shown index at (Err place) next = Err (at + place)
 led shown index at (Ok p) next =
     behind (entry_of p.event ∷ []) (images_in index at p.size p.image) (if is_end p.event then no_more else next (shown_after shown p.event) p.size)
 
--- the parts of these bytes of a recording with these views, where this frame was activated last, so many events came before, and the bytes stand at `at`; the first bytes, so many of them, belong to a part before
+-- the parts of these bytes of a recording with these views, where this frame was activated last, the given number of events came before, and the bytes stand at `at`; the first bytes, the given number of them, belong to a part before
 unfoldable pub body : List ℕ → ViewTable → Option ℕ → ℕ → ℕ → ℕ → Result Body ℕ
 body [] t shown index at skip = Err at
 body (c ∷ xs) t shown index at (suc skip) = body xs t shown index at skip

@@ -7,7 +7,7 @@ use Rattle.recording_reader.specs.Views.{ViewTable}
 use Rattle.recording_reader.specs.inner.Parts.{behind, images_in, no_more, read_from}
 use Rattle.recording_reader.specs.Pieces.{entry_of, is_end, shown_after}
 
--- the cursor went on behind a part
+-- the cursor went on after a part
 pub record Moves (p : RecordingPart) (old new : Cursor) (step : EventSpan) : Type 0 where
   pub event : step.event ≡ p.event
   pub image : option_to_list step.image ≡ images_in old.index old.at p.size p.image

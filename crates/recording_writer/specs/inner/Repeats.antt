@@ -49,7 +49,7 @@ KeepsFrom s h entries picture (Some place) = KeepsAt s h entries picture place
 abbrev pub Keeps : ScriptModel → List Entry → List Entry → LastDraw → Type 0
 Keeps s h entries last = KeepsFrom s h entries last.pictures last.place
 
--- the picture is what stands behind the line of an event after this past
+-- the picture is what stands after the line of an event after this past
 pub record Shows (s : ScriptModel) (h entries : List Entry) (e : Event) (last : LastDraw) : Type 0 where
   pub image : image_of last.pictures ≡ image_behind s h e
   pub keeps : Keeps s h entries last

@@ -41,7 +41,7 @@ abbrev pub PlaysAll : {X E : Type 0} → Run → List Entry → SingleModel → 
 PlaysAll old news new r (Ok _) = HasPlayed old news new r
 PlaysAll old news new r (Err _) = ⊤
 
--- a way was played and written, but for the lines that are held back; or where writing stopped, a front of it was written
+-- a way was played and written, but for the lines that are held back; or where writing stopped, a prefix of it was written
 pub record WritesWay {X E : Type 0} (P : Way) (old new : SingleModel) (before after : Option (List ℕ)) (lines : List ℕ) (r : Recorder) (result : Result X E) : Type 0 where
   -- the entries that the way brings, the oldest first
   pub news : List Entry

@@ -49,7 +49,7 @@ fn wheel(value: &Value) -> Result<Input, FieldFault>
     Ok(Input::Wheel { x, y, dx, dy })
 }
 
-// A draw after so many others.
+// A draw after the given number of others.
 #[tactic(auto, unfolding(crate::specs::InputReading::draw_at))]
 fn draw(draws: u32, value: &Value) -> Result<Input, FieldFault>
     ensures { result ≡ draw_at draws (view value.now) }
@@ -61,7 +61,7 @@ fn draw(draws: u32, value: &Value) -> Result<Input, FieldFault>
     Ok(Input::Draw)
 }
 
-// The number of one of so many main frames.
+// The number of one of the given number of main frames.
 #[tactic(auto, unfolding(crate::specs::InputReading::frame_number))]
 fn frame_number(frames: u32, n: u32) -> Option<u32>
     ensures { result ≡ frame_number frames n }
@@ -100,7 +100,7 @@ fn fields_of(frames: u32, draws: u32, op: InputOp, value: &Value) -> Result<Inpu
     }
 }
 
-// An input after so many draws, in a script of so many main frames.
+// An input after the given number of draws, in a script of the given number of main frames.
 #[tactic(auto, unfolding(crate::specs::InputReading::input_at))]
 fn input(frames: u32, draws: u32, value: &Value) -> Result<Input, FieldFault>
     ensures { result ≡ input_at frames draws (view value.now) }
@@ -136,7 +136,7 @@ fn placed_input(frames: u32, draws: u32, index: u32, value: &Value) -> Result<In
     }
 }
 
-/// The inputs, of which there are at most 65536, in a script of so many main frames.
+/// The inputs, of which there are at most 65536, in a script of the given number of main frames.
 pub(crate) fn inputs(alloc: Global, frames: u32, values: &[Value]) -> Result<Vec<Input>, Stop>
     requires { length values.now ≤ 65536 }
     ensures { GivesPart (λ v. v.items) result (inputs_at frames 0 0 (items_view values.now)) }

@@ -6,8 +6,8 @@ ghost use Rattle.tile_priority.specs.Choice as choosing;
 ghost use Rattle.tile_priority.specs.Choice.{evictable_of, evictable_key};
 ghost use Rattle.tile_priority.specs.Alike as alike;
 
+use crate::choice::evictables::{evictables_in, keys_of_front};
 use crate::choice::steps::{evicted_ranks, staying, with_ready, without};
-use crate::choice::evictables::{keys_of_front, evictables_in};
 use geom::{Keys, TileKey};
 use std::alloc::{AllocError, Global};
 use std::marker::Model;
@@ -35,8 +35,8 @@ impl Model for PlainChoice {
 }
 
 impl PlainChoice {
-    /// The choice from these wanted ranks and these ready tiles, with so many tiles in flight and so many
-    /// that there may be.
+    /// The choice from these wanted ranks and these ready tiles, with the given number of tiles in flight,
+    /// and the number that there may be.
     pub fn new(
         wanted: Vec<Rank>,
         ready: Vec<ReadyTile>,
@@ -82,7 +82,7 @@ impl PlainChoice {
     }
 
     /// The choice once a key starts and these keys are evicted for it. Fewer than 2^63 tiles are in
-    /// flight. An error is want of memory.
+    /// flight. An error means out of memory.
     pub fn started(
         &self,
         alloc: Global,
@@ -104,7 +104,7 @@ impl PlainChoice {
         })
     }
 
-    /// The choice once a tile in flight is made, which is ready where it is given. An error is want of
+    /// The choice once a tile in flight is made, which is ready where it is given. An error means out of
     /// memory.
     pub fn finished(
         &self,
@@ -197,7 +197,7 @@ impl PlainChoice {
         Ok(best)
     }
 
-    /// The rank that starts first; None exactly where no wanted rank may start. An error is want of memory.
+    /// The rank that starts first; None exactly where no wanted rank may start. An error means out of memory.
     #[tactic(auto, unfolding(tile_priority::specs::Choice::first))]
     pub fn first(&self, alloc: Global) -> Result<Option<Rank>, AllocError>
         ensures { IfOk result (λ best. best ≡ choosing.first self.now) }
@@ -205,7 +205,7 @@ impl PlainChoice {
         self.best_of(alloc, self.wanted.as_slice())
     }
 
-    /// The keys of those that are evicted for a rank, the worst first. An error is want of memory.
+    /// The keys of those that are evicted for a rank, the worst first. An error means out of memory.
     pub fn evicted(&self, alloc: Global, rank: Rank) -> Result<Vec<TileKey>, AllocError>
         ensures { IfOk result (λ keys. keys.items ≡ map evictable_key (choosing.evicted self.now rank)) }
     {

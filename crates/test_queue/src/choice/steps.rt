@@ -16,7 +16,7 @@ fn has(keys: &Keys, key: TileKey) -> bool
     keys.as_slice().iter().any(|own| *own == key)
 }
 
-/// The ranks without those of a key. An error is want of memory.
+/// The ranks without those of a key. An error means out of memory.
 pub(crate) fn without(alloc: Global, ranks: &[Rank], key: TileKey) -> Result<Vec<Rank>, AllocError>
     ensures { IfOk result (λ rest. rest.items ≡ filter (λ r. not (is_of key r)) ranks.now) }
 {
@@ -27,7 +27,7 @@ pub(crate) fn without(alloc: Global, ranks: &[Rank], key: TileKey) -> Result<Vec
         .collect(alloc)
 }
 
-/// The ranks of those of the tiles whose keys are evicted. An error is want of memory.
+/// The ranks of those of the tiles whose keys are evicted. An error means out of memory.
 pub(crate) fn evicted_ranks(
     alloc: Global,
     ready: &[ReadyTile],
@@ -42,7 +42,7 @@ pub(crate) fn evicted_ranks(
         .collect(alloc)
 }
 
-/// The tiles whose keys are not evicted. An error is want of memory.
+/// The tiles whose keys are not evicted. An error means out of memory.
 pub(crate) fn staying(
     alloc: Global,
     ready: &[ReadyTile],
@@ -57,7 +57,7 @@ pub(crate) fn staying(
         .collect(alloc)
 }
 
-/// The tiles with one more, where there is one. An error is want of memory.
+/// The tiles with one more, where there is one. An error means out of memory.
 pub(crate) fn with_ready(
     alloc: Global,
     tile: Option<ReadyTile>,

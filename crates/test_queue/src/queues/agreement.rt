@@ -10,7 +10,7 @@ fn is_first(queue: &CheckedQueue) -> Result<bool, StepFault> {
     Ok(queue.queue().first() == first)
 }
 
-/// Whether the first wanted ranks, at most so many, are those of the choice in rising order.
+/// Whether the first wanted ranks, at most the given number, are those of the choice in rising order.
 fn are_wanted(queue: &CheckedQueue, most: u32) -> Result<bool, StepFault> {
     let ranks = queue.queue().wanted(most)?;
     let mut all = Vec::from_slice(queue.alloc(), queue.plain().wanted())?;

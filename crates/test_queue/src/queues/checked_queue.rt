@@ -1,4 +1,4 @@
-//! A raster queue that goes its steps beside the choice that it stands for.
+//! A raster queue that goes its steps beside the choice that it represents.
 
 ghost use Rattle.std.specs.Prelude.{◌≡◌, IfOk, OnOk, OnErr};
 ghost use Rattle.tile_priority.specs.Alike.{Alike};
@@ -16,7 +16,7 @@ use tile_queue::RasterQueue;
 /// The greatest number of tiles in flight.
 const MOST_IN_FLIGHT: usize = 1000000;
 
-/// A raster queue, and beside it the choice that it stands for, as plain lists. What a call of the queue
+/// A raster queue, and beside it the choice that it represents, as plain lists. What a call of the queue
 /// requires is tested on these lists.
 #[derive(Drop)]
 pub(crate) struct CheckedQueue {
@@ -55,7 +55,7 @@ fn since(rt: &HostRuntime, begin: Instant) -> Duration {
     begin.elapsed(rt).unwrap_or(Duration::ZERO)
 }
 
-/// Lets a queue stand for a choice, and tells how long it took.
+/// Lets a queue represent a choice, and tells how long it took.
 fn rebuild(
     rt: &HostRuntime,
     queue: &mut RasterQueue,
@@ -152,7 +152,7 @@ impl CheckedQueue {
         &self.plain
     }
 
-    /// Lets the queue stand for a choice, and tells how long that took.
+    /// Lets the queue represent a choice, and tells how long that took.
     pub(crate) fn rebuild(
         &mut self,
         rt: &HostRuntime,

@@ -1,4 +1,4 @@
-//! Whether a call of the queue may be made: its conditions, tested on the choice that the queue stands for.
+//! Whether a call of the queue may be made: its conditions, tested on the choice that the queue represents.
 
 ghost use Rattle.std.specs.Prelude.{◌≡◌, ◌≤◌, ◌++◌, map, IsTrue, IfOk, IfSome, OnOk};
 ghost use Rattle.geom.specs.KeyLists.{has_key, AreDistinctKeys};
@@ -61,7 +61,7 @@ fn are_distinct(keys: &[TileKey]) -> bool
     true
 }
 
-/// Whether a queue may stand for this choice: no key stands twice in its lists. An error is want of memory.
+/// Whether a queue may represent this choice: no key stands twice in its lists. An error means out of memory.
 #[tactic(auto, using(crate::proofs::KeyTests::each_once))]
 pub(crate) fn has_each_key_once(alloc: Global, plain: &PlainChoice) -> Result<bool, AllocError>
     ensures { IfOk result (λ yes. IsTrue yes → EachKeyOnce plain.now.wanted plain.now.ready) }
@@ -71,7 +71,7 @@ pub(crate) fn has_each_key_once(alloc: Global, plain: &PlainChoice) -> Result<bo
     Ok(yes)
 }
 
-/// Whether a key is neither wanted nor ready. An error is want of memory.
+/// Whether a key is neither wanted nor ready. An error means out of memory.
 #[tactic(auto, using(crate::proofs::KeyTests::new_key))]
 fn is_new(alloc: Global, plain: &PlainChoice, key: TileKey) -> Result<bool, AllocError>
     ensures { IfOk result (λ yes. IsTrue yes → IsNew plain.now key) }
@@ -81,7 +81,7 @@ fn is_new(alloc: Global, plain: &PlainChoice, key: TileKey) -> Result<bool, Allo
     Ok(!there)
 }
 
-/// Whether the tile of a start may be made, and is this one. An error is want of memory.
+/// Whether the tile of a start may be made, and is this one. An error means out of memory.
 pub(crate) fn may_finish(
     alloc: Global,
     plain: &PlainChoice,
@@ -99,7 +99,7 @@ pub(crate) fn may_finish(
     }
 }
 
-/// Whether a key is wanted. An error is want of memory.
+/// Whether a key is wanted. An error means out of memory.
 pub(crate) fn is_wanted(
     alloc: Global,
     plain: &PlainChoice,

@@ -1,4 +1,4 @@
-//! Ranks and ready tiles that look as if they were thrown.
+//! Ranks and ready tiles that look random.
 
 ghost use Rattle.std.specs.Prelude.{◌≡◌};
 

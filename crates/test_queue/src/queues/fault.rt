@@ -15,7 +15,7 @@ pub(crate) enum StepFault {
     /// The line is none of the forms of a line.
     #[error("this line has none of the forms of a line")]
     NoForm,
-    /// A key stands twice in what a queue is to stand for.
+    /// A key stands twice in what a queue is to represent.
     #[error("a key stands twice")]
     KeyTwice,
     /// A key that is to start is not wanted.

@@ -48,7 +48,7 @@ fn mixed_bin(mixed: u32) -> Bin {
     }
 }
 
-/// The rank of the tile at a place below so many, wanted or ready.
+/// The rank of the tile at a place below the given one, wanted or ready.
 fn rank_of(order: Order, place: u32, tiles: u32, wanted: bool) -> Rank {
     let key = TileKey {
         layer: if wanted { 1 } else { 2 },
@@ -90,7 +90,8 @@ fn tile_of(rank: Rank) -> ReadyTile {
     }
 }
 
-/// A choice of so many wanted and as many ready tiles. With one more it would be over its budget by two.
+/// A choice of the given number of wanted and as many ready tiles. With one more it would be over its budget
+/// by two.
 fn choice_of(alloc: Global, order: Order, tiles: u32) -> Result<PlainChoice, AllocError> {
     let mut wanted = Vec::with_capacity(alloc, tiles as usize)?;
     let mut ready = Vec::with_capacity(alloc, tiles as usize)?;
@@ -148,7 +149,7 @@ impl QueueTimes {
     }
 }
 
-/// Times a queue of so many wanted and as many ready tiles, and up to so many pairs.
+/// Times a queue of the given number of wanted and as many ready tiles, and up to the given number of pairs.
 pub(crate) fn queue_times(
     rt: &HostRuntime,
     order: Order,

@@ -162,7 +162,7 @@ impl Trial {
     }
 }
 
-/// Takes so many random steps, up to the first after which the queue answers otherwise.
+/// Takes the given number of random steps, up to the first after which the queue answers otherwise.
 pub(crate) fn try_steps(rt: &HostRuntime, seed: u64, steps: u64) -> Result<Counts, StepFault> {
     let mut trial = Trial {
         dice: Dice::of(seed),

@@ -33,7 +33,7 @@ module _ {M E T : Type 0} where
   abbrev pub tried : (T → M) → (T → List (ℕ × E)) → Step (Option T) → Who M E T → ℕ → Who M E T → Type 0
   tried stem_of history_of st m found m' = (found ≡ 0 → Took stem_of history_of m m') × (found ≢ 0 → Missed m m')
 
-  -- What the holder brings back: a value, in hand, with the history that it saw, or with one entry of its own behind that; and both counts of entries
+  -- What the holder brings back: a value, in hand, with the history that it saw, or with one entry of its own after that; and both counts of entries
   pub record Brings (history_of : T → List (ℕ × E)) (count entries : ℕ) (me : Who M E T) : Type 0 where
     pub value : T
     pub actor : ℕ

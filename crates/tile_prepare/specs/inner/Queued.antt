@@ -12,7 +12,7 @@ use Rattle.model_history.specs.Tiles.{active_tree, pending_tree}
 use Rattle.model_history.specs.Tiles as model
 use Rattle.tile_ranks.specs.SeenTrees.{SeenTreeModel, IsSeenWhere}
 
--- the ready keys after this past are these, each once, in key order; the store's keys in flight are those after the past, so many; and the pinned keys are these
+-- the ready keys after this past are these, each once, in key order; the store's keys in flight are those after the past, the given number; and the pinned keys are these
 pub record AreTilesAt (s : ScriptModel) (h : List Entry) (store : Store) (kept pins : List TileKey) (flying : ℕ) : Type 0 where
   pub once : AreDistinctKeys kept
   pub order : IsSorted key_cmp kept

@@ -24,7 +24,7 @@ up_to (suc n) = up_to n ++ n ∷ []
 abbrev pub place_in : ℕ → ℕ
 place_in w = w % 4194304
 
--- each slot stands once in the order or among the free ones, and nothing else does; there is room for so many
+-- each slot stands once in the order or among the free ones, and nothing else does; there is room for the given number
 pub record IsListing {T : Type 0} (slots : List T) (order free : List ℕ) (room slots_room order_room free_room : ℕ) : Type 0 where
   pub once : (i : ℕ) → uses i order + uses i free ≡ one_if (nat_lt i (length slots))
   pub all : length order + length free ≡ length slots

@@ -44,6 +44,6 @@ pub record IsQueue (wanted : List Rank) (staying : List Tile) (evictables : List
   pub fits_evictables : keys wanted staying evictables in_flight ≤ evictables_room
   pub few : keys wanted staying evictables in_flight < 2 ^ 62
 
--- the choice that the lists stand for
+-- the choice that the lists represent
 abbrev pub choice_of : List Rank → List Tile → List Evictable → ℕ → ℕ → Choice
 choice_of wanted staying evictables in_flight budget = record { wanted = wanted; ready = staying ++ map tile_of evictables; in_flight = in_flight; budget = budget }

@@ -25,7 +25,7 @@ abbrev pub IsStep : (ℕ → Type 0) → List ℕ → ℕ → Type 0
 IsStep level places y =
     ((slice_index places (y + 1) ≡ slice_index places y) × level y) ⊎ (slice_index places (y + 1) ≡ slice_index places y + 1)
 
--- the places of so many rows among the rows that are kept, in order
+-- the places of the given number of rows among the rows that are kept, in order
 pub record AreSteps (level : ℕ → Type 0) (rows : ℕ) (places : List ℕ) : Type 0 where
   pub count : length places ≡ rows
   pub small : (y : ℕ) → y < rows → slice_index places y ≤ y
@@ -35,7 +35,7 @@ pub record AreSteps (level : ℕ → Type 0) (rows : ℕ) (places : List ℕ) : 
 abbrev pub IsCount : List ℕ → ℕ → Type 0
 IsCount places kept = (k : ℕ) → k + 1 ≡ length places → kept ≡ slice_index places k + 1
 
--- the place of a row; behind the last row, how many are kept
+-- the place of a row; after the last row, how many are kept
 abbrev pub place_of : List ℕ → ℕ → ℕ → ℕ
 place_of places kept y = slice_index_or places y kept
 

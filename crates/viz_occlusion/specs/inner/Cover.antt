@@ -75,7 +75,7 @@ pub record HasOtherAlpha (image : Image) (part : ImagePart) : Type 0 where
   pub down : y < part.h
   pub other : (list_colour image.list image.rect (part.left + x) (part.top + y)).a ≢ 255
 
--- a quad was kept or left out as it has to be, whatever is behind it: the area and the quads that were kept, last first
+-- a quad was kept or left out as it has to be, whatever comes after it: the area and the quads that were kept, last first
 pub record IsPassed (q : QuadView) (old_cover new_cover : List Rect) (old_kept new_kept : List Quad) : Type 0 where
   pub cover : (later : List QuadView) → IsCover later old_cover → IsCover (q ∷ later) new_cover
   pub kept : (later : List QuadView) → IsCover later old_cover → AreKept later (quads_view (reverse old_kept))

@@ -41,7 +41,7 @@ HaveQuads (qs ∷ more) (l ∷ ls) = ActAs (own_quads l) qs × HaveQuads more ls
 abbrev pub HaveOpacities : (ℕ → ℕ) → List LayerParts → Type 0
 HaveOpacities opacity layers = All (λ l. All (λ g. opacity g.effect ≡ g.opacity) l.groups.items) layers
 
--- some quads, and passes behind those that were there, show the layers from a depth of their groups on
+-- some quads, and passes after those that were there, show the layers from a depth of their groups on
 pub record AreBuilt (w h : ℕ) (view : Rect) (depth : ℕ) (layers : List LayerParts) (old new : List (List QuadView)) (quads : List QuadView) : Type 0 where
   pub added : List (List QuadView)
   pub grown : new ≡ old ++ added

@@ -28,7 +28,7 @@ part_pixel image part x y = list_colour image.list image.rect (x - part.at.x + p
 abbrev pub laid_on : Rect → (ℤ → ℤ → Parts) → ℤ → ℤ → Parts → Parts
 laid_on at c x y below = cond (covers at x y) (blend below (c x y)) below
 
--- the pixels of a pass on a rect of the screen, as bytes row by row from the top; the bytes behind them say nothing
+-- the pixels of a pass on a rect of the screen, as bytes row by row from the top; the bytes after them say nothing
 pub record SurfaceView : Type 0 where
   pub rect : Rect
   pub bytes : List ℕ
@@ -47,13 +47,13 @@ colour_of s x y = cond (covers s.rect x y) (pixel s.bytes (near (y -ℤ s.rect.y
 abbrev pub colours : List SurfaceView → ℤ → ℤ → List Parts
 colours surfaces x y = map (λ (s : SurfaceView). colour_of s x y) surfaces
 
--- a quad that can be drawn where there are surfaces of so many passes
+-- a quad that can be drawn where there are surfaces of the given number of passes
 abbrev pub CanBeDrawn : ℕ → QuadView → Type 0
 CanBeDrawn n (tiled image at from) = IsSound at × IsTaken image at from
 CanBeDrawn n (plain at colour) = IsSound at
 CanBeDrawn n (grouped pass opacity) = pass < n
 
--- each surface has so many bytes at least
+-- each surface has at least the given number of bytes
 abbrev pub AreRoomy : ℕ → List SurfaceView → Type 0
 AreRoomy n surfaces = All (λ (s : SurfaceView). n ≤ length s.bytes) surfaces
 

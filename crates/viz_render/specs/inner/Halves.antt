@@ -11,7 +11,7 @@ upper_place band at rows = record {
   at = record { x = at.x; y = at.y; w = at.w; h = rows };
 }
 
--- the rows of an area behind the first, in a band that begins with them
+-- the rows of an area after the first, in a band that begins with them
 abbrev pub lower_place : Band → Area → ℕ → BandArea
 lower_place band at rows = record {
   band = record { top = band.top + (at.y + rows); rows = band.rows - (at.y + rows) };

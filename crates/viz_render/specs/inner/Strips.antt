@@ -9,7 +9,7 @@ use Rattle.viz_scene.specs.Pixels.{scene_pixel}
 use Rattle.viz_render.specs.declared.strip.Surfaces.{Surfaces}
 use Rattle.viz_render.specs.inner.Drawing.{AreRoomy}
 
--- so many passes have a surface each, and each surface has so many bytes at least
+-- the given number of passes have a surface each, and each surface has at least the given number of bytes
 pub record HasRoom (n passes : ℕ) (s : Surfaces) : Type 0 where
   pub count : length s.passes.items + 1 ≡ passes
   pub inner : AreRoomy n s.passes.items

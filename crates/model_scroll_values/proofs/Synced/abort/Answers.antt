@@ -1,4 +1,4 @@
--- Each field is within the range of an i64, so what it stands for is itself.
+-- Each field is within the range of an i64, so what it represents is itself.
 use Rattle.std.proofs.Common.{rules, w64, ◌+ℤ◌, ◌-ℤ◌, FitsSigned}
 use Rattle.std.proofs.lemmas.Int.{to_z-of_z}
 use Rattle.model_scroll_values.proofs.Synced.abort.Goals as goal

@@ -1,4 +1,4 @@
--- What was written is a front of the line.
+-- What was written is a prefix of the line.
 use Rattle.std.proofs.Common.{inr}
 use Rattle.player_io.specs.Pieces.{GainsPrefix}
 use Rattle.script_generator.specs.Generated.{script_of_number}

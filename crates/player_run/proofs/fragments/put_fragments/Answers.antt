@@ -1,4 +1,4 @@
--- The fragments before, the fragment in hand and those left are the whole.
+-- The fragments before, the current fragment and those left are the whole.
 use Rattle.std.proofs.Common.{◌++◌, arith}
 use Rattle.std.specs.List.{flat_map}
 use Rattle.player_run.specs.inner.Fragments.{fragment_text}

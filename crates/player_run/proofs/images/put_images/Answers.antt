@@ -1,4 +1,4 @@
--- The images before, the image in hand and those left are all.
+-- The images before, the current image and those left are all.
 use Rattle.std.proofs.Common.{◌++◌, length, subst, arith}
 use Rattle.std.specs.List.{flat_map}
 use Rattle.recording_reader.specs.Spans.{span_bytes, AreWithin}

@@ -1,4 +1,4 @@
--- What the actors wrote is the recording of the script, or a front of one.
+-- What the actors wrote is the recording of the script, or a prefix of one.
 use Rattle.std.proofs.Common.{◌≡◌, ◌∙◌, ap, subst, rules}
 use Rattle.thread_ring.specs.Ring.{whole}
 use Rattle.model_history.specs.Accepted.{IsAccepted}

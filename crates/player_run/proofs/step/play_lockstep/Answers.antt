@@ -1,4 +1,4 @@
--- What was written is the recording of a history that keeps what is promised, or a front of it.
+-- What was written is the recording of a history that keeps what is promised, or a prefix of it.
 use Rattle.std.proofs.Common.{ℕ, List, inr, subst, sym}
 use Rattle.std.specs.Io.KnownBytes.{Appends}
 use Rattle.model_history.specs.Accepted.{IsAccepted}

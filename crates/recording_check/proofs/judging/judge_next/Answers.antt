@@ -1,4 +1,4 @@
--- A piece more, behind a wrong one or behind right ones.
+-- A piece more, after a wrong one or after right ones.
 use Rattle.std.proofs.Common.{sym, ◌∙◌, subst}
 use Rattle.std.specs.Prelude.{Bool}
 use Rattle.recording_check.specs.inner.Judgements.{JudgesNext}

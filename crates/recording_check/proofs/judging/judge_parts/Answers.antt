@@ -1,4 +1,4 @@
--- The step is judged behind the pieces before it.
+-- The step is judged after the pieces before it.
 use Rattle.std.proofs.Common.{ℕ, [], ◌∷◌, ◌++◌, sym, ◌∙◌, subst, Ok, Err}
 use Rattle.std.specs.Prelude.{Result}
 use Rattle.recording_reader.specs.declared.cursor.EventSpan.{EventSpan}

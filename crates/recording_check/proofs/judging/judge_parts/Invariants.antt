@@ -1,4 +1,4 @@
--- The pieces so far are judged, and what is left stands behind them.
+-- The pieces so far are judged, and what is left stands after them.
 use Rattle.std.proofs.Common.{◌≡◌, ◌-◌, List, length}
 use Rattle.recording_reader.specs.Pieces.{Piece}
 use Rattle.recording_reader.specs.Taking.{IsAmong}

@@ -1,4 +1,4 @@
--- The first bad part of the whole is that of what stands behind the two lines.
+-- The first bad part of the whole is that of what stands after the two lines.
 use Rattle.recording_check.proofs.Wholes.{bad_read, bad_found}
 use Rattle.recording_check.proofs.recording.read_images.Goals as goal
 

@@ -1,4 +1,4 @@
--- The first bad part of the whole is that of what stands behind the two lines.
+-- The first bad part of the whole is that of what stands after the two lines.
 use Rattle.std.proofs.Common.{ℕ, Err, subst}
 use Rattle.std.specs.Prelude.{Result}
 use Rattle.recording_reader.specs.declared.body.Body.{Body}

@@ -1,4 +1,4 @@
--- So many workers hold nothing.
+-- The given number of workers hold nothing.
 use Rattle.std.proofs.Common.{◌≡◌, ℕ, length, None}
 use Rattle.std.specs.Prelude.{slice_index_or}
 use Rattle.recording_judge.proofs.tile_keys.free_workers.Given as goal

@@ -1,4 +1,4 @@
--- The rest of the front stands before what is left.
+-- The rest of the prefix stands before what is left.
 use Rattle.std.proofs.Common.{◌≡◌, length}
 use Rattle.recording_pixels.specs.inner.Behind.{behind}
 use Rattle.recording_pixels.proofs.fronts.behind_front.Given as goal

@@ -1,4 +1,4 @@
--- No head, no rows, or whether anything stands behind them.
+-- No head, no rows, or whether anything stands after them.
 use Rattle.std.proofs.Common.{rules, ◌≡◌, ◌==◌, ℕ, false, List, length, Some, None, sym, ◌∙◌, ap, subst}
 use Rattle.std.specs.Prelude.{option_copied}
 use Rattle.std.specs.Bool.{Decides}

@@ -1,4 +1,4 @@
--- The step is read behind what was read before.
+-- The step is read after what was read before.
 use Rattle.std.proofs.Common.{◌≡◌, ℕ, List, ◌++◌, ◌∷◌, [], map, ap, sym, ◌∙◌, subst, Ok}
 use mathlib.Core.List.{map-append}
 use Rattle.std.specs.Prelude.{Result, option_to_list}

@@ -1,4 +1,4 @@
--- The step is read behind what was read before.
+-- The step is read after what was read before.
 use Rattle.std.proofs.Common.{◌≡◌, ℕ, false, List, ◌++◌, ◌∷◌, [], ap, sym, ◌∙◌, subst, Ok}
 use Rattle.std.specs.Prelude.{Result, option_to_list}
 use Rattle.recording_reader.specs.declared.cursor.ImageSpan.{ImageSpan}

@@ -1,4 +1,4 @@
--- The part at the cursor, and what is read behind it.
+-- The part at the cursor, and what is read after it.
 use Rattle.std.proofs.Common.{ℕ, drop, length, sym, ◌∙◌, subst, Ok}
 use Rattle.std.specs.Prelude.{Result}
 use Rattle.recording_reader.specs.declared.part.RecordingPart.{RecordingPart}

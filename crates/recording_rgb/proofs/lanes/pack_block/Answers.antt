@@ -1,4 +1,4 @@
--- Four times four pixels, one behind the other.
+-- Four times four pixels, one after another.
 use Rattle.recording_rgb.proofs.Joins.{packed_at, packed_more}
 use Rattle.recording_rgb.proofs.lanes.pack_block.Goals as goal
 

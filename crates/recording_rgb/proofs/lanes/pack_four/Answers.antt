@@ -1,4 +1,4 @@
--- The colours of sixteen bytes were put, and their alphas behind them.
+-- The colours of sixteen bytes were put, and their alphas after them.
 use Rattle.recording_rgb.proofs.Fours.{packed_four}
 use Rattle.recording_rgb.proofs.lanes.pack_four.Goals as goal
 

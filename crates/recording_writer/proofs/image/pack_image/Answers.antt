@@ -1,4 +1,4 @@
--- The head, and behind it the packed pixels.
+-- The head, and after it the packed pixels.
 use Rattle.std.proofs.Common.{List, ℕ, ◌++◌, ap, ◌∙◌}
 use Rattle.recording_writer.proofs.PackedFrames.{packed_image}
 use Rattle.recording_writer.proofs.image.pack_image.Goals as goal

@@ -1,4 +1,4 @@
--- Each sum is within the range of an i32, so what it stands for is itself.
+-- Each sum is within the range of an i32, so what it represents is itself.
 use Rattle.std.proofs.Common.{rules, w32, ◌+ℤ◌, ◌≤ℤ◌, FitsSigned}
 use Rattle.std.proofs.lemmas.Int.{to_z-of_z}
 use Rattle.region.proofs.Covering.{end_decides}

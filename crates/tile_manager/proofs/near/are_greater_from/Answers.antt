@@ -1,4 +1,4 @@
--- The key at the place tells of those behind it.
+-- The key at the place tells of those after it.
 use Rattle.std.proofs.Common.{sym, ◌∙◌}
 use Rattle.geom.specs.declared.tile.TileKey.{TileKey}
 use Rattle.tile_manager.proofs.Neighbours.{told_greater, greater_from}

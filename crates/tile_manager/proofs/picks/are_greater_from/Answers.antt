@@ -1,4 +1,4 @@
--- The rank at the place tells of those behind it.
+-- The rank at the place tells of those after it.
 use Rattle.std.proofs.Common.{sym, ◌∙◌}
 use Rattle.tile_queue.specs.Queues.{rank_key}
 use Rattle.tile_manager.proofs.Neighbours.{told_greater, greater_from}

@@ -1,4 +1,4 @@
--- The ranks so far were put behind.
+-- The ranks so far were put at the end.
 use Rattle.std.proofs.Common.{◌≡◌, ◌++◌, take}
 use Rattle.tile_queue.proofs.wanted.append.Given as goal
 

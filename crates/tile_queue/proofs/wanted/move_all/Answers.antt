@@ -1,4 +1,4 @@
--- The others stand sorted behind those in front.
+-- The others stand sorted after those in front.
 use Rattle.std.proofs.Common.{◌∙◌, List, ◌++◌, ap, sym, subst}
 use Rattle.tile_priority.specs.declared.rank.Rank.{Rank}
 use Rattle.tile_queue.specs.inner.Waiting.{IsMoved}

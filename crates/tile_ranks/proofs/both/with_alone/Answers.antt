@@ -1,4 +1,4 @@
--- Where no tree is active all ranks are put behind.
+-- Where no tree is active all ranks are put at the end.
 use Rattle.std.proofs.Common.{◌≡◌, ◌++◌, ◌∙◌, List, filter_map, refl, ap, sym, subst}
 use Rattle.std.specs.Prelude.{option_copied}
 use Rattle.tile_priority.specs.declared.rank.Rank.{Rank}

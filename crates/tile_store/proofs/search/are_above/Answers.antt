@@ -1,4 +1,4 @@
--- The key at the index tells of those behind it.
+-- The key at the index tells of those after it.
 use Rattle.std.proofs.Common.{sym, ◌∙◌, ap}
 use Rattle.geom.specs.KeyOrder.{key_cmp}
 use Rattle.tile_store.specs.declared.held.KeyedPlace.{KeyedPlace}

@@ -1,4 +1,4 @@
--- A joint stands for both.
+-- A joint represents both.
 use Rattle.std.proofs.Common.{◌+◌, ◌∙◌, take, drop, sym, subst}
 use Rattle.std.specs.Prelude.{All}
 use Rattle.std.proofs.lemmas.List.Elements.{All-append, All-take, All-drop}

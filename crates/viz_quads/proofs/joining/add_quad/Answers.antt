@@ -1,4 +1,4 @@
--- The union stands for the last quad and the whole.
+-- The union represents the last quad and the whole.
 use Rattle.std.proofs.Common.{ℕ, ◌≡◌, ◌-◌, List, ◌∷◌, ◌++◌, [], length, take, ap, sym, ◌∙◌, subst, rules}
 use Rattle.std.specs.Prelude.{vec_len}
 use Rattle.viz_scene.specs.declared.quad.Quad.{Quad}

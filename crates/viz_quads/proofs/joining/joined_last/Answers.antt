@@ -1,4 +1,4 @@
--- What acts as the last quad and another acts so behind the rest.
+-- What acts as the last quad and another acts so after the rest.
 use Rattle.viz_quads.proofs.Acts.{act_last}
 use Rattle.viz_quads.proofs.joining.joined_last.Goals as goal
 

@@ -1,4 +1,4 @@
--- The quads are drawn over the colour, and the bytes behind them stay.
+-- The quads are drawn over the colour, and the bytes after them stay.
 use Rattle.std.proofs.Common.{◌≡◌, ◌*◌, drop, arith, refl}
 use Rattle.std.proofs.lemmas.List.{length-take}
 use Rattle.std.proofs.lemmas.Int.{clamps}

@@ -1,4 +1,4 @@
--- The first quad of the rest decides, or the rest behind it.
+-- The first quad of the rest decides, or the rest after it.
 use Rattle.viz_scene.proofs.Rests.{quads_rest, quads_fail, both_ways}
 use Rattle.viz_scene.proofs.checked_scene.all_fit.Goals as goal
 

@@ -1,4 +1,4 @@
--- Four times four pixels, one behind the other.
+-- Four times four pixels, one after another.
 use Rattle.std.proofs.Common.{ℕ, ◌+◌, refl}
 use Rattle.pixel.specs.Colours.{Parts, blend, scaled}
 use Rattle.pixel.specs.Rows.{pixel}

@@ -1,4 +1,4 @@
--- The scenes of the draws behind the written entries, and none is left.
+-- The scenes of the draws after the written entries, and none is left.
 use Rattle.std.proofs.Common.{◌-◌, List, length, sym, ◌∙◌, ap, subst, Vec, Global}
 use Rattle.viz_scene.specs.declared.scene.Scene.{Scene}
 use Rattle.viz_scene.specs.Views.{SceneView}

@@ -1,4 +1,4 @@
--- So many workers were made, and none holds a job.
+-- The given number of workers were made, and none holds a job.
 use Rattle.std.proofs.Common.{◌≡◌, ℕ, length, None}
 use Rattle.std.specs.Prelude.{slice_index_or}
 use Rattle.proxy_single_thread.proofs.workers.Workers.new.Given as goal

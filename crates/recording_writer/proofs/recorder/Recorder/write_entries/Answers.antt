@@ -1,4 +1,4 @@
--- The entries before, the entry in hand and those left are the whole.
+-- The entries before, the current entry and those left are the whole.
 use Rattle.std.proofs.Common.{◌≡◌, ℕ, ◌+◌, ◌≤◌, List, [], ◌++◌, length, take, drop, rules, refl, ap, sym, ◌∙◌, append-nil, subst, arith}
 use Rattle.std.specs.Prelude.{reverse, slice_get, Some, ⊤, Ok}
 use Rattle.std.specs.Vec.Iter.{into_iter_items}

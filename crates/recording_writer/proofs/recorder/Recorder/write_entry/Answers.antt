@@ -1,4 +1,4 @@
--- The line, and then what stands behind it.
+-- The line, and then what stands after it.
 use Rattle.std.proofs.Common.{ℕ, List, ap, ◌∙◌, subst}
 use Rattle.recording_writer.specs.inner.Scenes.{image_if}
 use Rattle.recording_writer.specs.inner.Steps.{WritesOn}

@@ -1,4 +1,4 @@
--- Nothing stands behind the line of an entry that has no scene.
+-- Nothing stands after the line of an entry that has no scene.
 use Rattle.std.proofs.Common.{ℕ, List, ◌++◌, ap, sym, ◌∙◌, append-nil, subst}
 use Rattle.recording_writer.specs.inner.Parts.{WritesPart}
 use Rattle.recording_writer.specs.inner.Scenes.{image_if}

@@ -1,4 +1,4 @@
--- The best stand in front, and all others in order behind them.
+-- The best stand in front, and all others in order after them.
 use Rattle.std.proofs.Common.{◌≡◌, List, ◌++◌, ◌∙◌, take, ap, subst, arith}
 use Rattle.std.specs.List.Sorted.{IsPermutation}
 use Rattle.std.proofs.lemmas.List.{take_all}
