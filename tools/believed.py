@@ -8,7 +8,8 @@ follows each to its definition, by the `ghost use` lines of the source and the `
 through the names in those definitions. It prints each file of specs/ with the lines of it that count, and the whole
 in lines and in pages of 50 lines; with --words each word too. With --word step (play, gen, demo, frames, check) it
 leaves out the cases of the program's other words; --table writes a row for each of them. It fails where a word that
-the clauses themselves name does not stand in docs/DEFINITIONS.md, or where a name leads nowhere.
+the clauses themselves name does not stand in docs/DEFINITIONS.md, where the files that `step` rests on are not those
+of its table, or where a name leads nowhere.
 """
 import argparse
 import collections
@@ -218,6 +219,13 @@ def world_of(word, text, names, short):
     return world
 
 
+def files_told(page):
+    """The files of the table of DEFINITIONS, as (crate, name)."""
+    table = page.partition("| Crate | Files that `step` rests on |")[2].partition("\n\n")[0]
+    rows = (re.findall(r"`(\w+)`", line) for line in table.splitlines())
+    return {(row[0], name) for row in rows if row for name in row[1:]}
+
+
 def print_table(text, names, short):
     """A row for each word of the program."""
     print("| Word | Definitions | Files | Lines | Pages |\n|---|---|---|---|---|")
@@ -254,6 +262,9 @@ def main():
     wrong = [f"a name that leads nowhere: {'.'.join(it)}" for it in sorted(world.lost)]
     page = DEFINITIONS.read_text()
     wrong += [f"docs/DEFINITIONS.md lacks `{name}`" for name in told if not re.search(rf"`(?:\w+\.)*{re.escape(name)}[`( ]", page)]
+    step = world_of("Step", text, names, short).by_file()
+    of_step = {(pathlib.Path(it).parts[1], pathlib.Path(it).stem) for it in step}
+    wrong += [f"docs/DEFINITIONS.md: the files of `step` differ at {'/'.join(it)}" for it in sorted(of_step ^ files_told(page))]
     for line in wrong:
         print(f"believed: {line}", file=sys.stderr)
     return 1 if wrong else 0
