@@ -6,8 +6,8 @@ usage: tools/test.py [--jobs N] [--crate CRATE].. [WORD]
 Each program with a file stdout beside src/, and each crate with #[test] functions, is built and run by `rt try`; a
 program must write what its file stdout has and end with the status of its file status (none: 0). test_program, whose
 table is by far the longest, runs in parts, and their counts must add up to its stdout. With a WORD only those cases
-run that have it in their titles, and with --crate only those crates. It prints a line for each, and a last line `N passed, N failed`; the status is 1
-where one failed.
+run that have it in their titles, and with --crate only those crates. It prints a line for each, and a last line
+`N passed, N failed`; the status is 1 where one failed.
 
 As many run side by side as there are processors and memory for; --jobs says another number. Nothing that it builds
 is kept, and nothing that it says is proved: `make check` is the gate.
@@ -29,7 +29,7 @@ CRATES = ROOT / "crates"
 TITLED = ("test_program", "test_histories")
 # The program that runs in parts, and in how many.
 SPLIT, PARTS = "test_program", 4
-TOOLS = ("check_examples.py", "believed.py", "audit.py --look", "try_recordings.py")
+TOOLS = ("check_examples.py", "check_words.py", "believed.py", "audit.py --look", "try_recordings.py")
 # What one `rt try` takes, with the check of names that runs beside it.
 MEMORY = 4 << 30
 # No interpreter, which could not end any of these, and time enough for code that is checked at each step.
