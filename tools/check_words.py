@@ -55,7 +55,8 @@ def leads_nowhere(token, known, specs):
 
 
 def main():
-    sources, specs = {path: words_of(path) for path in tracked(*SOURCES)}, {}
+    sources = {path: words_of(path) for path in tracked(*SOURCES) if path != pathlib.Path(__file__).resolve()}
+    specs = {}
     known = set().union(*sources.values(), *(path.relative_to(ROOT).with_suffix("").parts for path in tracked()))
     for path, words in sources.items():
         if "specs" in path.parts:
