@@ -15,7 +15,7 @@ build: $(PLAYER)
 help:
 	@echo 'make           the program, $(PLAYER): as `make check` built it, or else proved and built (about half an hour)'
 	@echo 'make demo      plays examples/first.json without the proofs, and leaves its picture in build/ (a minute)'
-	@echo 'make test      runs all rows and tests without the proofs (five minutes); ONLY=scroll: cases with this word in their titles'
+	@echo 'make test      runs all rows and tests without the proofs (minutes); ONLY=scroll: cases with this word in their titles'
 	@echo 'make pictures  plays every script in examples/ and leaves each picture in build/ as .ppm and .png'
 	@echo 'make film      plays an example (FILM=list) into build/ as an animated PNG, and names the viewer'"'"'s address'
 	@echo 'make view      opens the viewer in a browser'
