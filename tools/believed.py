@@ -20,6 +20,8 @@ import sys
 ROOT = pathlib.Path(__file__).resolve().parent.parent
 CRATES, DEFINITIONS = ROOT / "crates", ROOT / "docs" / "DEFINITIONS.md"
 PAGE = 50
+# The call whose contract is the theorem.
+RUN = "player_run/program.rt:run"
 # The words of the program, as cases of the type `Use` name them.
 WORDS = ("Step", "Play", "Gen", "Demo", "Frames", "Check")
 
@@ -242,7 +244,7 @@ def main():
     words.add_argument("--words", action="store_true", help="each word too")
     words.add_argument("--word", choices=[it.lower() for it in WORDS], help="what the answers of one word rest on")
     words.add_argument("--table", action="store_true", help="a row for each word of the program")
-    words.add_argument("--of", default="player_run/program.rt:run", help="CRATE/FILE:FUNCTION, the file below src/")
+    words.add_argument("--of", default=RUN, help="CRATE/FILE:FUNCTION, the file below src/")
     words = words.parse_args()
     file, function = words.of.rsplit(":", 1)
     crate, rest = file.split("/", 1)
@@ -262,9 +264,10 @@ def main():
     wrong = [f"a name that leads nowhere: {'.'.join(it)}" for it in sorted(world.lost)]
     page = DEFINITIONS.read_text()
     wrong += [f"docs/DEFINITIONS.md lacks `{name}`" for name in told if not re.search(rf"`(?:\w+\.)*{re.escape(name)}[`( ]", page)]
-    step = world_of("Step", text, names, short).by_file()
-    of_step = {(pathlib.Path(it).parts[1], pathlib.Path(it).stem) for it in step}
-    wrong += [f"docs/DEFINITIONS.md: the files of `step` differ at {'/'.join(it)}" for it in sorted(of_step ^ files_told(page))]
+    if words.of == RUN:
+        step = world_of("Step", text, names, short).by_file()
+        of_step = {(pathlib.Path(it).parts[1], pathlib.Path(it).stem) for it in step}
+        wrong += [f"docs/DEFINITIONS.md: the files of `step` differ at {'/'.join(it)}" for it in sorted(of_step ^ files_told(page))]
     for line in wrong:
         print(f"believed: {line}", file=sys.stderr)
     return 1 if wrong else 0
