@@ -5,6 +5,7 @@ pub mod RightWords
 pub mod Tallies
 pub mod Summed
 pub mod Outputs
+pub mod Answered
 pub mod ScriptsPlayed
 pub mod ImagesWritten
 pub mod Completeness

@@ -1,10 +1,10 @@
 -- What a run of the program does with its words, its input and its output.
-use Rattle.std.specs.Prelude.{◌≡◌, ℕ, ◌<◌, ◌≤◌, ◌+◌, ◌⊎◌, List, [], ◌++◌, length, codes, ⊤, Option, None, IfSome, Result, Ok, Err}
+use Rattle.std.specs.Prelude.{◌≡◌, ℕ, Bool, true, ◌<◌, ◌≤◌, ◌+◌, ◌⊎◌, List, [], ◌++◌, length, codes, ⊤, Option, None, IfSome, Result, Ok, Err}
 use Rattle.std.specs.Str.{IsUtf8}
 use Rattle.std.specs.Io.KnownBytes.{Consumes, Appends, IsAtEnd}
 use Rattle.serde_json.specs.Data.{Data}
 use Rattle.serde_json.specs.Read.{read}
-use Rattle.player_io.specs.Counts.{Rose}
+use Rattle.player_io.specs.Counts.{Rose, raised}
 use Rattle.player_io.specs.Pieces.{GainsPrefix}
 use Rattle.model_history.specs.Scripts.{ScriptModel}
 use Rattle.model_history.specs.Frames.{blank}
@@ -103,6 +103,36 @@ IsUnread WriteFault = ⊤
 IsUnread Memory = ⊤
 IsUnread _ = ⊥
 
+-- the answers of a use that reads a script
+abbrev pub AnswersScript : Outcome → Type 0
+AnswersScript (Usage word) = ⊥
+AnswersScript (TooLong limit) = limit ≡ script_limit
+AnswersScript (BadRecording place) = ⊥
+AnswersScript (No event) = ⊥
+AnswersScript _ = ⊤
+
+-- the answers of `frames`
+abbrev pub AnswersImages : Outcome → Type 0
+AnswersImages ReadFault = ⊤
+AnswersImages (TooLong limit) = limit ≡ recording_limit
+AnswersImages (BadRecording place) = ⊤
+AnswersImages result = IsUnread result
+
+-- the answers of `check`, which writes nothing
+abbrev pub AnswersJudged : Outcome → Type 0
+AnswersJudged WriteFault = ⊥
+AnswersJudged (No event) = ⊤
+AnswersJudged result = AnswersImages result
+
+-- which answers a use may give at all, whatever its source tells
+abbrev pub MayAnswer : Use → Outcome → Type 0
+MayAnswer (Step workers) result = AnswersScript result
+MayAnswer (Play workers) result = AnswersScript result
+MayAnswer (Gen number) result = IsUnread result
+MayAnswer (Demo number) result = IsUnread result
+MayAnswer Frames result = AnswersImages result
+MayAnswer Check result = AnswersJudged result
+
 -- why this is the answer of a use: for a use that reads, where the source tells its bytes
 abbrev pub CauseFrom : Use → Option (List ℕ) → Outcome → Type 0
 CauseFrom (Gen number) source result = IsUnread result
@@ -190,6 +220,11 @@ abbrev pub Causes : ℕ → ℕ → ℕ → ℕ → Outcome → Type 0
 Causes source_old source_new out_old out_new ReadFault = Rose source_old source_new
 Causes source_old source_new out_old out_new WriteFault = Rose out_old out_new
 Causes source_old source_new out_old out_new _ = ⊤
+
+-- where the source's fault is answered, just one read of it failed, and that was the last call of it; else none failed
+abbrev pub StopsAtFault : ℕ → ℕ → Bool → Outcome → Type 0
+StopsAtFault old new failed ReadFault = (new ≡ raised old) × (failed ≡ true)
+StopsAtFault old new failed _ = new ≡ old
 
 -- all was done, or there was no memory
 abbrev pub IsDone : Outcome → Type 0

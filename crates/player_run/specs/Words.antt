@@ -1,5 +1,5 @@
 -- Which words the program takes, and what they ask for: `step N`, `play N`, `gen NUMBER`, `demo NUMBER`, `frames`, `check`.
-use Rattle.std.specs.Prelude.{ℕ, ◌+◌, ◌-◌, ◌*◌, ◌^◌, ◌&&◌, nat_le, nat_lt, List, [], ◌∷◌, Option, Some, None, Result, Ok, Err, codes, decimal, if◌then◌else◌}
+use Rattle.std.specs.Prelude.{ℕ, Bool, true, false, ◌+◌, ◌-◌, ◌*◌, ◌^◌, ◌&&◌, nat_le, nat_lt, List, [], ◌∷◌, Option, Some, None, Result, Ok, Err, codes, decimal, if◌then◌else◌}
 use Rattle.std.specs.Str.{bytes_eq}
 use Rattle.player_run.specs.declared.words.Use.{Use}
 use Rattle.player_run.specs.declared.words.Use.TheVariants.{Step, Play, Gen, Demo, Frames, Check}
@@ -65,3 +65,13 @@ after_other w ws =
 abbrev pub use_of : List (List ℕ) → Result Use ℕ
 use_of [] = Err 0
 use_of (w ∷ ws) = if bytes_eq w (codes "step") then after_step ws else after_other w ws
+
+-- the use is `play N`, the only one that may wait without end
+abbrev pub is_play : Use → Bool
+is_play (Play workers) = true
+is_play _ = false
+
+-- the words are those of `play N`
+abbrev pub asks_play : Result Use ℕ → Bool
+asks_play (Ok wanted) = is_play wanted
+asks_play (Err word) = false

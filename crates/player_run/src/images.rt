@@ -1,10 +1,10 @@
 //! The images of a recording, written one after another.
 
-ghost use Rattle.std.specs.Prelude.{◌≡◌, ℕ, ◌≤◌, List, length, flat_map, Ok, IfSome};
+ghost use Rattle.std.specs.Prelude.{◌≡◌, ℕ, ◌≤◌, List, length, flat_map, Ok, IfSome, IfErr};
 ghost use Rattle.recording_writer.specs.Writing.{PutsAll, WriteCause};
 ghost use Rattle.recording_reader.specs.Spans.{AreWithin, IsWithinBytes, span_bytes};
-ghost use Rattle.player_run.specs.Runs.{TellsMisfit, CauseFrom, Reads, ReadToEnd, Writes, Causes};
-ghost use Rattle.player_run.specs.inner.Scripts.{RefusedBy};
+ghost use Rattle.player_run.specs.Runs.{TellsMisfit, CauseFrom, AnswersImages, MayAnswer, Reads, ReadToEnd, Writes, Causes, StopsAtFault};
+ghost use Rattle.player_run.specs.inner.Scripts.{RefusedBy, RefusedAtFault};
 ghost use Rattle.player_run.specs.inner.Recordings.{RecordingFrom, WritesImages, images_of};
 
 use crate::input::{RECORDING_LIMIT, ReadStop, read_all};
@@ -65,6 +65,8 @@ fn find_images<S: Source>(alloc: Global, source: &mut S) -> Result<Images, Outco
     ensures reads { Reads Use.Frames (S.left source.old) (S.left source.new) }
     ensures grows { S.faults source.old ≤ S.faults source.new }
     ensures cause { RefusedBy (S.faults source.old) (S.faults source.new) result }
+    ensures answers { IfErr result AnswersImages }
+    ensures stops { RefusedAtFault (S.faults source.old) (S.faults source.new) (S.has_failed source.new) result }
 {
     let bytes = match read_all(alloc, source, RECORDING_LIMIT) {
         Ok(bytes) => bytes,
@@ -95,7 +97,7 @@ fn write_images<K: Sink>(out: &mut K, images: &Images) -> Outcome
 
 /// Writes the images of the source's recording, in order. All bytes are read and judged before the first
 /// image is written.
-#[tactic(auto, using(crate::proofs::ImagesWritten::images_output, crate::proofs::ImagesWritten::images_cause, crate::proofs::ImagesWritten::images_words))]
+#[tactic(auto, using(crate::proofs::ImagesWritten::images_output, crate::proofs::ImagesWritten::images_cause, crate::proofs::ImagesWritten::images_words, crate::proofs::Answered::images_answers, crate::proofs::Answered::images_stops))]
 pub fn run_frames<S: Source, K: Sink>(alloc: Global, source: &mut S, out: &mut K) -> Outcome
     ensures words { TellsMisfit (Ok Use.Frames) result }
     ensures input { CauseFrom Use.Frames (S.left source.old) result }
@@ -103,6 +105,8 @@ pub fn run_frames<S: Source, K: Sink>(alloc: Global, source: &mut S, out: &mut K
     ensures end { ReadToEnd Use.Frames (S.left source.new) result }
     ensures output { Writes Use.Frames (S.left source.old) (K.held out.old) (K.held out.new) result }
     ensures cause { Causes (S.faults source.old) (S.faults source.new) (K.faults out.old) (K.faults out.new) result }
+    ensures answers { MayAnswer Use.Frames result }
+    ensures stops { StopsAtFault (S.faults source.old) (S.faults source.new) (S.has_failed source.new) result }
 {
     match find_images(alloc, source) {
         Ok(images) => write_images(out, &images),

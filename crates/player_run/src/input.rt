@@ -3,7 +3,7 @@
 ghost use Rattle.std.specs.Prelude.{◌≡◌, ℕ, ◌+◌, ◌-◌, ◌<◌, ◌≤◌, ◌^◌, ◌++◌, List, length, vec_len, IfOk, MatchResult};
 ghost use Rattle.std.specs.Io.KnownBytes.{Consumes, IsAtEnd};
 ghost use Rattle.player_run.specs.Runs.{TakenAtMost};
-ghost use Rattle.player_run.specs.inner.Inputs.{ReadWhole, StoppedAt, ReadCause, ReadMore, NotTooLong};
+ghost use Rattle.player_run.specs.inner.Inputs.{ReadWhole, StoppedAt, ReadCause, ReadMore, ReadStops, NotTooLong};
 
 use player_io::Source;
 use std::alloc::{AllocError, Global};
@@ -43,6 +43,7 @@ fn read_piece<S: Source>(
     ensures reads { TakenAtMost (length buffer.old) (S.left source.old) (S.left source.new) }
     ensures grows { S.faults source.old ≤ S.faults source.new }
     ensures cause { ReadCause (S.faults source.old) (S.faults source.new) result }
+    ensures stops { ReadStops (S.faults source.old) (S.faults source.new) (S.has_failed source.new) result }
 {
     let taken = match source.read(buffer) {
         Ok(taken) => taken,
@@ -64,6 +65,7 @@ pub fn read_all<S: Source>(alloc: Global, source: &mut S, limit: usize) -> Resul
     ensures reads { TakenAtMost (limit + 1) (S.left source.old) (S.left source.new) }
     ensures grows { S.faults source.old ≤ S.faults source.new }
     ensures cause { ReadCause (S.faults source.old) (S.faults source.new) result }
+    ensures stops { ReadStops (S.faults source.old) (S.faults source.new) (S.has_failed source.new) result }
 {
     let mut bytes = Vec::new(alloc);
     let mut buffer = match blank(alloc, PIECE) {

@@ -1,7 +1,7 @@
 //! The recording in the source, judged.
 
-ghost use Rattle.std.specs.Prelude.{ℕ, ◌≤◌, length, Ok};
-ghost use Rattle.player_run.specs.Runs.{CauseFrom, Causes, ReadToEnd, Reads, TellsMisfit, recording_limit};
+ghost use Rattle.std.specs.Prelude.{◌≡◌, ℕ, ◌≤◌, Bool, length, Ok};
+ghost use Rattle.player_run.specs.Runs.{AnswersJudged, CauseFrom, Causes, MayAnswer, ReadToEnd, Reads, StopsAtFault, TellsMisfit, recording_limit};
 ghost use Rattle.player_run.specs.inner.Judged.{IsJudgement, IsSilent};
 
 use crate::input::{RECORDING_LIMIT, ReadStop, read_all};
@@ -14,7 +14,9 @@ use std::alloc::Global;
 // What is said of the bytes of a recording.
 fn outcome_of(alloc: Global, bytes: &[u8]) -> Outcome
     requires { length bytes.now ≤ recording_limit }
-    ensures { IsJudgement bytes.now result }
+    ensures judged { IsJudgement bytes.now result }
+    ensures answers { AnswersJudged result }
+    ensures stops { (before after : ℕ) (failed : Bool) → after ≡ before → StopsAtFault before after failed result }
 {
     match check(alloc, bytes) {
         Ok(Verdict::Good) => Outcome::Done,
@@ -34,6 +36,8 @@ pub fn run_check<S: Source>(alloc: Global, source: &mut S) -> Outcome
     ensures grows { S.faults source.old ≤ S.faults source.new }
     ensures silent { IsSilent result }
     ensures cause { (p q : ℕ) → Causes (S.faults source.old) (S.faults source.new) p q result }
+    ensures answers { MayAnswer Use.Check result }
+    ensures stops { StopsAtFault (S.faults source.old) (S.faults source.new) (S.has_failed source.new) result }
 {
     match read_all(alloc, source, RECORDING_LIMIT) {
         Ok(bytes) => outcome_of(alloc, bytes.as_slice()),

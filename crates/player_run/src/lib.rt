@@ -26,4 +26,4 @@ mod threads;
 mod words;
 
 pub use outcome::Outcome;
-pub use program::run;
+pub use program::{run, run_alone};

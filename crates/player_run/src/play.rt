@@ -4,7 +4,7 @@ ghost use Rattle.std.specs.Prelude.{◌≡◌, ◌≤◌, [], Ok, IfOk, IfSome, 
 ghost use Rattle.thread_ring.specs.Ring.{OneRing, bytes_taken, whole};
 ghost use Rattle.model_history.specs.Recordings.{header};
 ghost use Rattle.script_json.specs.Recordings.{script_text};
-ghost use Rattle.player_run.specs.Runs.{TellsMisfit, CauseFrom, IsPlayOf, IsPlayUpTo, Reads, ReadToEnd, Writes, Causes};
+ghost use Rattle.player_run.specs.Runs.{TellsMisfit, CauseFrom, MayAnswer, IsPlayOf, IsPlayUpTo, Reads, ReadToEnd, Writes, Causes, StopsAtFault};
 ghost use Rattle.player_run.specs.inner.Outputs.{WritesOrBegins};
 
 use crate::crew::crew_of;
@@ -87,7 +87,7 @@ fn play<R: Threads + Wait + Sync, K: Sink + Send, G: Gate + Sync>(
 
 /// Plays the script of the source by actors on threads, the given number of raster workers among them, and
 /// writes its recording.
-#[tactic(auto, using(crate::proofs::ScriptsActed::acted_output, crate::proofs::ScriptsActed::acted_cause, crate::proofs::ScriptsActed::acted_words))]
+#[tactic(auto, using(crate::proofs::ScriptsActed::acted_output, crate::proofs::ScriptsActed::acted_cause, crate::proofs::ScriptsActed::acted_words, crate::proofs::Answered::begun_script, crate::proofs::Answered::begun_stops))]
 pub fn run_play<R: Threads + Wait + Sync, S: Source, K: Sink + Send, G: Gate + Sync>(
     rt: &R,
     alloc: Global,
@@ -103,6 +103,8 @@ pub fn run_play<R: Threads + Wait + Sync, S: Source, K: Sink + Send, G: Gate + S
     ensures end { ReadToEnd (Use.Play workers) (S.left source.new) result }
     ensures output { Writes (Use.Play workers) (S.left source.old) (K.held out.old) (K.held out.new) result }
     ensures cause { Causes (S.faults source.old) (S.faults source.new) (K.faults out.old) (K.faults out.new) result }
+    ensures answers { MayAnswer (Use.Play workers) result }
+    ensures stops { StopsAtFault (S.faults source.old) (S.faults source.new) (S.has_failed source.new) result }
 {
     match read_script_from(alloc, source) {
         Ok(script) => play(rt, alloc, script, workers, out, gate),

@@ -1,9 +1,9 @@
 //! The words, the input and the output of one run.
 
-ghost use Rattle.std.specs.Prelude.{◌≡◌, Ok, IfOk, OnErr, map, string_bytes};
-ghost use Rattle.player_run.specs.Words.{use_of as use_in};
+ghost use Rattle.std.specs.Prelude.{◌≡◌, Ok, true, is_none, IfNone, IfOk, IfSome, OnErr, map, string_bytes};
+ghost use Rattle.player_run.specs.Words.{asks_play, is_play, use_of as use_in};
 ghost use Rattle.player_run.specs.Outcomes.{line_of, Told};
-ghost use Rattle.player_run.specs.Runs.{TellsMisfit, CauseFrom, Reads, ReadToEnd, Writes, Causes, IsComplete};
+ghost use Rattle.player_run.specs.Runs.{TellsMisfit, CauseFrom, MayAnswer, Reads, ReadToEnd, Writes, Causes, StopsAtFault, IsComplete};
 ghost use Rattle.player_run.specs.inner.Uses.{IsFew};
 
 use crate::demo::run_demo;
@@ -14,43 +14,108 @@ use crate::notes::tell;
 use crate::outcome::Outcome;
 use crate::play::run_play;
 use crate::step::run_step;
-use crate::words::{Use, use_of};
+use crate::words::{Use, players, use_of};
 use player_io::{Gate, Sink, Source};
 use std::alloc::Global;
 use std::marker::Send;
 use std::sync::Wait;
 use std::thread::Threads;
 
-// Does what a use asks for, but for the line to the notes.
-#[tactic(auto, using(crate::proofs::Outputs::some_words, crate::proofs::Outputs::some_unread, crate::proofs::Outputs::some_output))]
-fn run_use<R: Threads + Wait + Sync, S: Source, K: Sink + Send, G: Gate + Sync>(
+// Does what a use asks for, but for the line to the notes. None where it is `play N`; then nothing was read
+// and nothing written.
+#[tactic(auto, using(crate::proofs::Outputs::some_words, crate::proofs::Outputs::some_unread, crate::proofs::Outputs::some_output, crate::proofs::Answered::some_stops))]
+fn run_use<R: Threads + Sync, S: Source, K: Sink>(
     rt: &R,
     alloc: Global,
     wanted: Use,
     source: &mut S,
     out: &mut K,
-    gate: &G,
-) -> Outcome
+) -> Option<Outcome>
     requires { IsFew wanted }
-    ensures words { TellsMisfit (Ok wanted) result }
-    ensures input { CauseFrom wanted (S.left source.old) result }
-    ensures reads { Reads wanted (S.left source.old) (S.left source.new) }
-    ensures end { ReadToEnd wanted (S.left source.new) result }
-    ensures output { Writes wanted (S.left source.old) (K.held out.old) (K.held out.new) result }
-    ensures cause { Causes (S.faults source.old) (S.faults source.new) (K.faults out.old) (K.faults out.new) result }
+    ensures none { is_none result ≡ is_play wanted }
+    ensures idle { IfNone result ((source.new ≡ source.old) × (out.new ≡ out.old)) }
+    ensures words { IfSome result (TellsMisfit (Ok wanted)) }
+    ensures input { IfSome result (CauseFrom wanted (S.left source.old)) }
+    ensures reads { IfSome result (λ _. Reads wanted (S.left source.old) (S.left source.new)) }
+    ensures end { IfSome result (ReadToEnd wanted (S.left source.new)) }
+    ensures output { IfSome result (Writes wanted (S.left source.old) (K.held out.old) (K.held out.new)) }
+    ensures cause { IfSome result (Causes (S.faults source.old) (S.faults source.new) (K.faults out.old) (K.faults out.new)) }
+    ensures answers { IfSome result (MayAnswer wanted) }
+    ensures stops { IfSome result (StopsAtFault (S.faults source.old) (S.faults source.new) (S.has_failed source.new)) }
 {
     match wanted {
-        Use::Step { workers } => run_step(rt, alloc, workers, source, out),
-        Use::Play { workers } => run_play(rt, alloc, workers, source, out, gate),
-        Use::Gen { number } => run_gen(alloc, number, out),
-        Use::Demo { number } => run_demo(rt, alloc, number, out),
-        Use::Frames => run_frames(alloc, source, out),
-        Use::Check => run_check(alloc, source),
+        Use::Step { workers } => Some(run_step(rt, alloc, workers, source, out)),
+        Use::Play { .. } => None,
+        Use::Gen { number } => Some(run_gen(alloc, number, out)),
+        Use::Demo { number } => Some(run_demo(rt, alloc, number, out)),
+        Use::Frames => Some(run_frames(alloc, source, out)),
+        Use::Check => Some(run_check(alloc, source)),
     }
 }
 
-// Does what the words ask for, but for the line to the notes.
-fn run_words<R: Threads + Wait + Sync, S: Source, K: Sink + Send, G: Gate + Sync>(
+// Does what the words ask for, but for the line to the notes. None where they are `play N`.
+fn run_words<R: Threads + Sync, S: Source, K: Sink>(
+    rt: &R,
+    alloc: Global,
+    words: &[String],
+    source: &mut S,
+    out: &mut K,
+) -> Option<Outcome>
+    ensures none { is_none result ≡ asks_play (use_in (map string_bytes words.now)) }
+    ensures idle { IfNone result ((source.new ≡ source.old) × (out.new ≡ out.old)) }
+    ensures words { IfSome result (TellsMisfit (use_in (map string_bytes words.now))) }
+    ensures untouched { OnErr (use_in (map string_bytes words.now)) ((source.new ≡ source.old) × (out.new ≡ out.old)) }
+    ensures input { IfOk (use_in (map string_bytes words.now)) (λ wanted. IfSome result (CauseFrom wanted (S.left source.old))) }
+    ensures reads { IfOk (use_in (map string_bytes words.now)) (λ wanted. IfSome result (λ _. Reads wanted (S.left source.old) (S.left source.new))) }
+    ensures end { IfOk (use_in (map string_bytes words.now)) (λ wanted. IfSome result (ReadToEnd wanted (S.left source.new))) }
+    ensures output { IfOk (use_in (map string_bytes words.now)) (λ wanted. IfSome result (Writes wanted (S.left source.old) (K.held out.old) (K.held out.new))) }
+    ensures cause { IfSome result (Causes (S.faults source.old) (S.faults source.new) (K.faults out.old) (K.faults out.new)) }
+    ensures answers { IfOk (use_in (map string_bytes words.now)) (λ wanted. IfSome result (MayAnswer wanted)) }
+    ensures stops { IfSome result (StopsAtFault (S.faults source.old) (S.faults source.new) (S.has_failed source.new)) }
+{
+    match use_of(words) {
+        Ok(wanted) => run_use(rt, alloc, wanted, source, out),
+        Err(word) => Some(Outcome::Usage { word }),
+    }
+}
+
+/// Runs the program for all words but `play N`, with all that [`run`] promises, and returns: it may start
+/// threads, but is given nothing by which it could wait without end.
+///
+/// None where the words are `play N`; then nothing was read and nothing was written, to the notes neither.
+pub fn run_alone<R: Threads + Sync, S: Source, K: Sink, E: Sink>(
+    rt: &R,
+    alloc: Global,
+    words: &[String],
+    source: &mut S,
+    out: &mut K,
+    notes: &mut E,
+) -> Option<Outcome>
+    ensures none { is_none result ≡ asks_play (use_in (map string_bytes words.now)) }
+    ensures idle { IfNone result ((source.new ≡ source.old) × (out.new ≡ out.old) × (notes.new ≡ notes.old)) }
+    ensures words { IfSome result (TellsMisfit (use_in (map string_bytes words.now))) }
+    ensures untouched { OnErr (use_in (map string_bytes words.now)) ((source.new ≡ source.old) × (out.new ≡ out.old)) }
+    ensures input { IfOk (use_in (map string_bytes words.now)) (λ wanted. IfSome result (CauseFrom wanted (S.left source.old))) }
+    ensures reads { IfOk (use_in (map string_bytes words.now)) (λ wanted. IfSome result (λ _. Reads wanted (S.left source.old) (S.left source.new))) }
+    ensures end { IfOk (use_in (map string_bytes words.now)) (λ wanted. IfSome result (ReadToEnd wanted (S.left source.new))) }
+    ensures output { IfOk (use_in (map string_bytes words.now)) (λ wanted. IfSome result (Writes wanted (S.left source.old) (K.held out.old) (K.held out.new))) }
+    ensures cause { IfSome result (Causes (S.faults source.old) (S.faults source.new) (K.faults out.old) (K.faults out.new)) }
+    ensures answers { IfOk (use_in (map string_bytes words.now)) (λ wanted. IfSome result (MayAnswer wanted)) }
+    ensures stops { IfSome result (StopsAtFault (S.faults source.old) (S.faults source.new) (S.has_failed source.new)) }
+    ensures complete { IfOk (use_in (map string_bytes words.now)) (λ wanted. IfSome result (IsComplete wanted (S.left source.old) (S.faults source.old) (S.faults source.new) (K.faults out.old) (K.faults out.new))) }
+    ensures told { IfSome result (λ outcome. Told (E.held notes.old) (E.held notes.new) (E.faults notes.old) (E.faults notes.new) (E.refusals notes.old) (E.refusals notes.new) (line_of outcome)) }
+{
+    match run_words(rt, alloc, words, source, out) {
+        Some(outcome) => {
+            tell(notes, outcome);
+            Some(outcome)
+        }
+        None => None,
+    }
+}
+
+// Plays, where the words are `play N`, but for the line to the notes.
+fn run_players<R: Threads + Wait + Sync, S: Source, K: Sink + Send, G: Gate + Sync>(
     rt: &R,
     alloc: Global,
     words: &[String],
@@ -58,6 +123,7 @@ fn run_words<R: Threads + Wait + Sync, S: Source, K: Sink + Send, G: Gate + Sync
     out: &mut K,
     gate: &G,
 ) -> Outcome
+    requires { asks_play (use_in (map string_bytes words.now)) ≡ true }
     ensures words { TellsMisfit (use_in (map string_bytes words.now)) result }
     ensures untouched { OnErr (use_in (map string_bytes words.now)) ((source.new ≡ source.old) × (out.new ≡ out.old)) }
     ensures input { IfOk (use_in (map string_bytes words.now)) (λ wanted. CauseFrom wanted (S.left source.old) result) }
@@ -65,10 +131,12 @@ fn run_words<R: Threads + Wait + Sync, S: Source, K: Sink + Send, G: Gate + Sync
     ensures end { IfOk (use_in (map string_bytes words.now)) (λ wanted. ReadToEnd wanted (S.left source.new) result) }
     ensures output { IfOk (use_in (map string_bytes words.now)) (λ wanted. Writes wanted (S.left source.old) (K.held out.old) (K.held out.new) result) }
     ensures cause { Causes (S.faults source.old) (S.faults source.new) (K.faults out.old) (K.faults out.new) result }
+    ensures answers { IfOk (use_in (map string_bytes words.now)) (λ wanted. MayAnswer wanted result) }
+    ensures stops { StopsAtFault (S.faults source.old) (S.faults source.new) (S.has_failed source.new) result }
 {
-    match use_of(words) {
-        Ok(wanted) => run_use(rt, alloc, wanted, source, out, gate),
-        Err(word) => Outcome::Usage { word },
+    match players(words) {
+        Some(workers) => run_play(rt, alloc, workers, source, out, gate),
+        None => unreachable!(),
     }
 }
 
@@ -88,7 +156,7 @@ fn run_words<R: Threads + Wait + Sync, S: Source, K: Sink + Send, G: Gate + Sync
 /// the limit, and what the bytes are: JSON, a script, one whose commands are all taken; or a recording.
 /// Before any of them nothing is written to `out`. The outcome's line goes to `notes`; what `notes`
 /// answers changes no outcome. The raster workers of `play` pass `gate` between the start of a tile and its end.
-#[tactic(auto, using(crate::proofs::Completeness::complete))]
+/// For `play N` it may wait; all other words are done by [`run_alone`], which can't.
 pub fn run<R: Threads + Wait + Sync, S: Source, K: Sink + Send, E: Sink, G: Gate + Sync>(
     rt: &R,
     alloc: Global,
@@ -105,10 +173,17 @@ pub fn run<R: Threads + Wait + Sync, S: Source, K: Sink + Send, E: Sink, G: Gate
     ensures end { IfOk (use_in (map string_bytes words.now)) (λ wanted. ReadToEnd wanted (S.left source.new) result) }
     ensures output { IfOk (use_in (map string_bytes words.now)) (λ wanted. Writes wanted (S.left source.old) (K.held out.old) (K.held out.new) result) }
     ensures cause { Causes (S.faults source.old) (S.faults source.new) (K.faults out.old) (K.faults out.new) result }
+    ensures answers { IfOk (use_in (map string_bytes words.now)) (λ wanted. MayAnswer wanted result) }
+    ensures stops { StopsAtFault (S.faults source.old) (S.faults source.new) (S.has_failed source.new) result }
     ensures complete { IfOk (use_in (map string_bytes words.now)) (λ wanted. IsComplete wanted (S.left source.old) (S.faults source.old) (S.faults source.new) (K.faults out.old) (K.faults out.new) result) }
     ensures told { Told (E.held notes.old) (E.held notes.new) (E.faults notes.old) (E.faults notes.new) (E.refusals notes.old) (E.refusals notes.new) (line_of result) }
 {
-    let outcome = run_words(rt, alloc, words, source, out, gate);
-    tell(notes, outcome);
-    outcome
+    match run_alone(rt, alloc, words, source, out, notes) {
+        Some(outcome) => outcome,
+        None => {
+            let outcome = run_players(rt, alloc, words, source, out, gate);
+            tell(notes, outcome);
+            outcome
+        }
+    }
 }

@@ -1,8 +1,8 @@
 //! The script in the source.
 
-ghost use Rattle.std.specs.Prelude.{ℕ, ◌+◌, ◌≤◌, length};
-ghost use Rattle.player_run.specs.Runs.{script_limit, TakenAtMost};
-ghost use Rattle.player_run.specs.inner.Scripts.{ScriptIn, ScriptFrom, RefusedBy};
+ghost use Rattle.std.specs.Prelude.{◌≡◌, ℕ, ◌+◌, ◌≤◌, Bool, length, IfErr};
+ghost use Rattle.player_run.specs.Runs.{script_limit, AnswersScript, TakenAtMost};
+ghost use Rattle.player_run.specs.inner.Scripts.{ScriptIn, ScriptFrom, RefusedBy, RefusedAtFault};
 
 use crate::input::{ReadStop, read_all};
 use crate::outcome::Outcome;
@@ -17,7 +17,9 @@ const SCRIPT_LIMIT: usize = 16777216;
 // The script in a text, or why there is none.
 fn script_in(alloc: Global, bytes: &[u8]) -> Result<Script, Outcome>
     requires { length bytes.now ≤ script_limit }
-    ensures { ScriptIn bytes.now result }
+    ensures script { ScriptIn bytes.now result }
+    ensures answers { IfErr result AnswersScript }
+    ensures stops { (before after : ℕ) (failed : Bool) → after ≡ before → RefusedAtFault before after failed result }
 {
     match read_script(alloc, bytes) {
         Ok(script) => Ok(script),
@@ -44,6 +46,8 @@ pub fn read_script_from<S: Source>(alloc: Global, source: &mut S) -> Result<Scri
     ensures reads { TakenAtMost (script_limit + 1) (S.left source.old) (S.left source.new) }
     ensures grows { S.faults source.old ≤ S.faults source.new }
     ensures cause { RefusedBy (S.faults source.old) (S.faults source.new) result }
+    ensures answers { IfErr result AnswersScript }
+    ensures stops { RefusedAtFault (S.faults source.old) (S.faults source.new) (S.has_failed source.new) result }
 {
     match read_all(alloc, source, SCRIPT_LIMIT) {
         Ok(bytes) => script_in(alloc, bytes.as_slice()),

@@ -1,7 +1,7 @@
 //! A script of the source, played in lockstep.
 
 ghost use Rattle.std.specs.Prelude.{◌≡◌, ℕ, ◌≤◌, Ok};
-ghost use Rattle.player_run.specs.Runs.{TellsMisfit, CauseFrom, IsRunOf, Reads, ReadToEnd, Writes, Causes};
+ghost use Rattle.player_run.specs.Runs.{TellsMisfit, CauseFrom, MayAnswer, IsRunOf, Reads, ReadToEnd, Writes, Causes, StopsAtFault};
 ghost use Rattle.player_run.specs.inner.Outputs.{WritesSome};
 
 use crate::outcome::Outcome;
@@ -62,7 +62,7 @@ fn play<R: Threads + Sync, K: Sink>(
 }
 
 /// Plays the script of the source in lockstep with the given number of raster workers, and writes its recording.
-#[tactic(auto, using(crate::proofs::ScriptsPlayed::script_output, crate::proofs::ScriptsPlayed::script_cause, crate::proofs::Outputs::some_words))]
+#[tactic(auto, using(crate::proofs::ScriptsPlayed::script_output, crate::proofs::ScriptsPlayed::script_cause, crate::proofs::Outputs::some_words, crate::proofs::Answered::some_script, crate::proofs::Answered::some_stops))]
 pub fn run_step<R: Threads + Sync, S: Source, K: Sink>(
     rt: &R,
     alloc: Global,
@@ -77,6 +77,8 @@ pub fn run_step<R: Threads + Sync, S: Source, K: Sink>(
     ensures end { ReadToEnd (Use.Step workers) (S.left source.new) result }
     ensures output { Writes (Use.Step workers) (S.left source.old) (K.held out.old) (K.held out.new) result }
     ensures cause { Causes (S.faults source.old) (S.faults source.new) (K.faults out.old) (K.faults out.new) result }
+    ensures answers { MayAnswer (Use.Step workers) result }
+    ensures stops { StopsAtFault (S.faults source.old) (S.faults source.new) (S.has_failed source.new) result }
 {
     match read_script_from(alloc, source) {
         Ok(script) => play(rt, alloc, script, workers, out),

@@ -1,6 +1,6 @@
 //! The words of the command line.
 
-ghost use Rattle.std.specs.Prelude.{◌≡◌, ◌≤◌, ◌^◌, ◌+◌, ◌-◌, ◌*◌, IfOk, MatchOption, decimal, map, string_bytes};
+ghost use Rattle.std.specs.Prelude.{◌≡◌, ◌≤◌, ◌^◌, ◌+◌, ◌-◌, ◌*◌, Ok, is_some, IfOk, IfSome, MatchOption, decimal, map, string_bytes};
 ghost use Rattle.std.specs.Str.{bytes_eq};
 ghost use Rattle.player_run.specs.Words as words;
 ghost use Rattle.player_run.specs.inner.Uses.{IsFew};
@@ -34,6 +34,22 @@ pub enum Use {
     Frames,
     /// `check`: judges a recording without the core and what draws.
     Check,
+}
+
+impl Use {
+    // The number of raster workers of `play N`; None for other uses.
+    fn players(self) -> Option<u32>
+        requires { IsFew self }
+        ensures play { is_some result ≡ words.is_play self }
+        ensures workers { IfSome result (λ workers. self ≡ Use.Play workers) }
+        ensures few { IfSome result (λ workers. (1 ≤ workers) × (workers ≤ 16)) }
+    {
+        match self {
+            Use::Play { workers } => Some(workers),
+            Use::Step { .. } | Use::Gen { .. } | Use::Demo { .. } | Use::Frames | Use::Check =>
+                None,
+        }
+    }
 }
 
 // Whether two texts are the same.
@@ -192,5 +208,17 @@ pub fn use_of(given: &[String]) -> Result<Use, u32>
         [first, rest @ ..] if is_same(first.as_str(), "step") => after_step(rest),
         [first, rest @ ..] => after_other(first.as_str(), rest),
         _ => Err(0),
+    }
+}
+
+/// The number of raster workers of `play N`; None where the words are others.
+pub fn players(given: &[String]) -> Option<u32>
+    ensures play { is_some result ≡ words.asks_play (words.use_of (map string_bytes given.now)) }
+    ensures workers { IfSome result (λ workers. words.use_of (map string_bytes given.now) ≡ Ok (Use.Play workers)) }
+    ensures few { IfSome result (λ workers. (1 ≤ workers) × (workers ≤ 16)) }
+{
+    match use_of(given) {
+        Ok(wanted) => wanted.players(),
+        Err(_) => None,
     }
 }

@@ -1,7 +1,7 @@
 -- What reading a source to its end gives.
-use Rattle.std.specs.Prelude.{◌≡◌, ℕ, ◌+◌, ◌<◌, ◌≤◌, List, ◌++◌, length, ⊤, Option, Result, Ok, Err}
+use Rattle.std.specs.Prelude.{◌≡◌, ℕ, Bool, true, ◌+◌, ◌<◌, ◌≤◌, List, ◌++◌, length, ⊤, Option, Result, Ok, Err}
 use Rattle.std.specs.Io.KnownBytes.{Consumes, IsAtEnd}
-use Rattle.player_io.specs.Counts.{Rose}
+use Rattle.player_io.specs.Counts.{Rose, raised}
 use Rattle.player_run.specs.declared.input.ReadStop.{ReadStop}
 use Rattle.player_run.specs.declared.input.ReadStop.TheVariants.{TooLong, Fault, Memory}
 
@@ -40,3 +40,10 @@ ReadCause old new (Ok _) = ⊤
 ReadCause old new (Err TooLong) = ⊤
 ReadCause old new (Err Fault) = Rose old new
 ReadCause old new (Err Memory) = ⊤
+
+-- just one read failed where that is the answer, and it was the last call of the source; else none failed
+abbrev pub ReadStops : {X : Type 0} → ℕ → ℕ → Bool → Result X ReadStop → Type 0
+ReadStops old new failed (Ok _) = new ≡ old
+ReadStops old new failed (Err TooLong) = new ≡ old
+ReadStops old new failed (Err Fault) = (new ≡ raised old) × (failed ≡ true)
+ReadStops old new failed (Err Memory) = new ≡ old

@@ -1,5 +1,5 @@
 -- A script on its way from the source.
-use Rattle.std.specs.Prelude.{ℕ, ◌≤◌, List, length, ⊤, Option, IfSome, Result, Ok, Err}
+use Rattle.std.specs.Prelude.{◌≡◌, ℕ, Bool, ◌≤◌, List, length, ⊤, Option, IfSome, Result, Ok, Err}
 use Rattle.std.specs.Io.KnownBytes.{IsAtEnd}
 use Rattle.player_io.specs.Counts.{Rose}
 use Rattle.model_history.specs.Accepted.{IsAccepted}
@@ -7,7 +7,7 @@ use Rattle.model_history.specs.Scripts.{ScriptModel}
 use Rattle.script_json.specs.Causes.{IsScriptText}
 use Rattle.player_run.specs.declared.outcome.Outcome.{Outcome}
 use Rattle.player_run.specs.declared.outcome.Outcome.TheVariants.{Done, Usage, ReadFault, WriteFault, Memory}
-use Rattle.player_run.specs.Runs.{script_limit, RefusedScript, IsJudgedWhole}
+use Rattle.player_run.specs.Runs.{script_limit, RefusedScript, IsJudgedWhole, StopsAtFault}
 
 -- nothing is to be written
 abbrev pub IsStopped : Outcome → Type 0
@@ -41,3 +41,8 @@ abbrev pub RefusedBy : {X : Type 0} → ℕ → ℕ → Result X Outcome → Typ
 RefusedBy old new (Ok _) = ⊤
 RefusedBy old new (Err ReadFault) = Rose old new
 RefusedBy old new (Err _) = ⊤
+
+-- where the source's fault is told, just one read of it failed, and that was the last call of it; else none failed
+abbrev pub RefusedAtFault : {X : Type 0} → ℕ → ℕ → Bool → Result X Outcome → Type 0
+RefusedAtFault old new failed (Ok _) = new ≡ old
+RefusedAtFault old new failed (Err o) = StopsAtFault old new failed o

@@ -6,7 +6,7 @@ use Rattle.player_run.proofs.input.read_all.Given as goal
 abbrev pub invariant-loop-bytes : goal.invariant-loop-bytes
 invariant-loop-bytes g l =
     Consumes (g.S.Source.left l.fn.source) (g.S.Source.left l.source) l.bytes.items
-    × (g.S.Source.faults l.fn.source ≤ g.S.Source.faults l.source)
+    × (g.S.Source.faults l.source ≡ g.S.Source.faults l.fn.source)
     × (vec_len l.bytes ≤ l.limit + 1)
     × (vec_len l.buffer ≡ 65536)
 

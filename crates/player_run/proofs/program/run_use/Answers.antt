@@ -20,7 +20,3 @@ returns-in-Check-clause-output g c =
 
 pub returns-in-Check-clause-cause : goal.returns-in-Check-clause-cause
 returns-in-Check-clause-cause g c = c.run_check.ensures.cause (g.K.Sink.faults c.args.out.now) (g.K.Sink.faults c.args.out.now)
-
-pub returns-in-Play-clause-output : goal.returns-in-Play-clause-output
-returns-in-Play-clause-output g c =
-    subst (λ (u : Use). Writes u (g.S.Source.left c.args.source.now) (g.K.Sink.held c.args.out.now) (g.K.Sink.held c.run_play.new.out) c.run_play.result) (sym c.in-Play.is) c.run_play.ensures.output
