@@ -22,6 +22,17 @@ pub enum InjectedFault {
     Cut,
 }
 
+/// The call that makes the runs of a case.
+#[derive(Clone, Copy, PartialEq)]
+pub enum Call {
+    /// `run`.
+    Run,
+    /// `run_alone`, which answers how the run ended.
+    Alone,
+    /// `run_alone`, which answers None.
+    Declined,
+}
+
 /// A case of the table.
 #[derive(Drop)]
 pub struct Case {
@@ -30,6 +41,7 @@ pub struct Case {
     pub line: usize,
     pub title: String,
     pub words: Vec<String>,
+    pub call: Call,
     /// What the source holds; none where the case does not say it.
     pub input: Option<Vec<u8>>,
     /// The most bytes of one read.
@@ -65,6 +77,7 @@ impl Case {
             line,
             title: title.to_string(alloc)?,
             words: words_of(alloc, "step 1")?,
+            call: Call::Run,
             input: None,
             step: 4096,
             trouble: InjectedFault::Nothing,
@@ -116,6 +129,16 @@ impl Case {
         self.change_bytes(old.as_slice(), new.as_slice())
     }
 
+    /// Sets that `run_alone` makes the runs: `ends`, or `none` where it answers so.
+    fn set_alone(&mut self, value: &str) -> Result<(), ProgramRowFault> {
+        self.call = match value {
+            "ends" => Call::Alone,
+            "none" => Call::Declined,
+            _ => return Err(ProgramRowFault::NoCall),
+        };
+        Ok(())
+    }
+
     /// Sets how the run ends: `0 LENGTH SUM` of its output, or `STATUS NOTE` with the line in the notes.
     pub fn set_end(&mut self, text: &str) -> Result<(), ProgramRowFault> {
         let (number, rest) = text.split_once(' ').ok_or(ProgramRowFault::NoChange)?;
@@ -136,6 +159,7 @@ impl Case {
     ) -> Result<(), ProgramRowFault> {
         match key {
             "words" => self.words = words_of(self.alloc, value)?,
+            "alone" => self.set_alone(value)?,
             "input" => {
                 let text = names.built(value)?;
                 self.set_input(text.as_str())?;

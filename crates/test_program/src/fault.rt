@@ -24,6 +24,9 @@ pub enum ProgramRowFault {
     /// The case ends in status 0, and says nothing of its output.
     #[error("the case has status 0 and says nothing of its output")]
     NoOutput,
+    /// What is said of `run_alone` is none of its answers.
+    #[error("`run_alone` either `ends` or answers `none`")]
+    NoCall,
     /// A number is none, or too large.
     #[error("this is no number, or it is too large")]
     NoNumber,

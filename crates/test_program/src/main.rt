@@ -13,6 +13,7 @@
 //! | `line`, `picture` | the next line of the file; its next picture: width, height, and the colour of each pixel, `N*COLOUR` for that many of it |
 //! | `case` | begins a case of this title |
 //! | `words` | the words, `""` for an empty one; `step 1` where it is left out |
+//! | `alone` | `run_alone` makes the runs, where `run` does else: `ends` where it answers how a run ended, `none` where it answers None |
 //! | `input`, `input hex`, `input file` | what the source holds: a text, bytes in hexadecimal digits, a file that was named |
 //! | `change`, `change hex` | `OLD => NEW`: a part of the input, which stands there once, becomes another |
 //! | `cut` | only the given number of bytes of the input are given; `0..515` is one run for each number below 515 |

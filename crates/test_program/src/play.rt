@@ -1,9 +1,9 @@
 //! One run of a case.
 
-use crate::case::{Case, InjectedFault};
+use crate::case::{Call, Case, InjectedFault};
 use crate::output::Short;
 use player_io::{MemSink, MemSource, OpenGate};
-use player_run::{Outcome, run};
+use player_run::{Outcome, run, run_alone};
 use std::alloc::{AllocError, Global};
 use std::fmt;
 use std::sync::Wait;
@@ -12,7 +12,8 @@ use std::thread::Threads;
 /// What a run left behind.
 #[derive(Drop)]
 pub struct RunOutput {
-    outcome: Outcome,
+    // how it ended; None where `run_alone` answers so
+    outcome: Option<Outcome>,
     // the output, or its pictures where the case asks for a legal recording
     out: MemSink,
     notes: MemSink,
@@ -117,6 +118,22 @@ fn pictures_of<R: Threads + Wait + Sync>(
     Ok(Some(pictures))
 }
 
+/// Makes a run by the call that the case names.
+fn called<R: Threads + Wait + Sync>(
+    rt: &R,
+    alloc: Global,
+    case: &Case,
+    source: &mut MemSource,
+    out: &mut MemSink,
+    notes: &mut MemSink,
+) -> Option<Outcome> {
+    let words = case.words.as_slice();
+    match case.call {
+        Call::Run => Some(run(rt, alloc, words, source, out, notes, &OpenGate)),
+        Call::Alone | Call::Declined => run_alone(rt, alloc, words, source, out, notes),
+    }
+}
+
 /// The run of this number.
 pub fn play<R: Threads + Wait + Sync>(
     rt: &R,
@@ -128,15 +145,7 @@ pub fn play<R: Threads + Wait + Sync>(
     let mut source = source_of(alloc, case, input, number)?;
     let mut out = sink_of(alloc, case, number)?;
     let mut notes = notes_of(alloc, case);
-    let outcome = run(
-        rt,
-        alloc,
-        case.words.as_slice(),
-        &mut source,
-        &mut out,
-        &mut notes,
-        &OpenGate,
-    );
+    let outcome = called(rt, alloc, case, &mut source, &mut out, &mut notes);
     let mut accepted = true;
     if case.recording {
         match pictures_of(rt, alloc, out.bytes())? {
@@ -176,8 +185,11 @@ fn holds_line(held: &[u8], line: Option<&str>, room: Option<u64>) -> bool {
 impl RunOutput {
     /// What of the run of this number is not as the case says.
     pub fn difference(&self, case: &Case, number: u64) -> Option<Difference> {
-        let status = self.outcome.status();
-        if status != case.status {
+        let ended = match self.outcome {
+            Some(outcome) => case.call != Call::Declined && outcome.status() == case.status,
+            None => case.call == Call::Declined,
+        };
+        if !ended {
             return Some(Difference::Status);
         }
         let line = case.note.as_ref().map(|line| line.as_str());
@@ -196,12 +208,12 @@ impl RunOutput {
 
 impl fmt::Display for RunOutput {
     fn fmt<W: fmt::Write>(&self, f: &mut fmt::Formatter<W>) -> fmt::Result {
-        let status = self.outcome.status();
+        match self.outcome {
+            Some(outcome) => write!(f, "status {}, ", outcome.status())?,
+            None => write!(f, "no answer, ")?,
+        }
         let notes = str::from_utf8(self.notes.bytes()).unwrap_or("not text");
         let length = self.out.bytes().len();
-        write!(
-            f,
-            "status {status}, notes {notes:?}, output of {length} bytes"
-        )
+        write!(f, "notes {notes:?}, output of {length} bytes")
     }
 }

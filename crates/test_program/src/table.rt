@@ -1,6 +1,6 @@
 //! The lines of the table, one after another.
 
-use crate::case::Case;
+use crate::case::{Call, Case};
 use crate::fault::ProgramRowFault;
 use crate::names::Names;
 use crate::play::play;
@@ -62,7 +62,7 @@ fn play_case<R: Threads + Wait + Sync + Print>(
     let Some(input) = &case.input else {
         return Err(ProgramRowFault::NoInput);
     };
-    if case.status == 0 && !case.output.is_said() {
+    if case.call != Call::Declined && case.status == 0 && !case.output.is_said() {
         return Err(ProgramRowFault::NoOutput);
     }
     for number in case.numbers.start..case.numbers.end {
