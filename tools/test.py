@@ -29,7 +29,7 @@ from crate_list import CRATES, ROOT, CrateList
 # The programs that take words and try the cases whose titles have one of them.
 TITLED = ("test_program", "test_histories")
 # The program that runs in parts, and in how many.
-SPLIT, PARTS = "test_program", 4
+SPLIT, PARTS = "test_program", 2
 TOOLS = ("map.py", "check_examples.py", "check_words.py", "believed.py", "audit.py --look", "try_recordings.py")
 # What one `rt try` takes, with the check of names that runs beside it.
 MEMORY = 4 << 30
