@@ -95,6 +95,8 @@ def read(path):
     for line in path.read_text().splitlines():
         at, _, text = line.strip().partition(" ")
         text = text.strip()
+        if not re.fullmatch(r"\d+\.\d", at):
+            sys.exit(f"gate_times: {path} has lines without their times: it is no log of --stamp")
         marks["all"] = float(at)
         if found := re.fullmatch(r"cpu (\S+) (\w+) ([\d.]+)", text):
             used[found[1]][found[2]] = float(found[3])
