@@ -20,12 +20,12 @@ help:
 	@echo 'make film      plays an example (FILM=list) into build/ as an animated PNG, and names the viewer'"'"'s address'
 	@echo 'make view      opens the viewer in a browser'
 	@echo 'make bench     times step 1 on large pages'
-	@echo 'make check     the gate: all proofs from nothing, edits, tests and programs, and our own checks (an hour)'
+	@echo 'make check     the gate: all proofs, edits, tests and programs, and our own checks (an hour at first, then what changed)'
 	@echo 'make audit     tries all must-fail edits, also those that the gate leaves out (hours); ONLY="geom pixel": of these crates; JOBS=2'
 	@echo 'make clean     removes build/'
 
 kit:
-	@command -v rt > /dev/null || { echo 'rt is missing: install the Rattle kit (rattle-kit-13b) and put its bin/ on the PATH' >&2; exit 1; }
+	@command -v rt > /dev/null || { echo 'rt is missing: install the Rattle kit (rattle-kit-13f) and put its bin/ on the PATH' >&2; exit 1; }
 
 python:
 	@command -v python3 > /dev/null || { echo 'python3 is missing: tools/ and bench/ need it' >&2; exit 1; }

@@ -23,41 +23,17 @@ import sys
 import tempfile
 import threading
 
-ROOT = pathlib.Path(__file__).resolve().parent.parent
+sys.dont_write_bytecode = True
+from crate_list import CRATES, ROOT, CrateList
+
 FOLDERS = ("must-fail", "audit")
 # What rt keeps of a proved library, and looks at by a sum of the text that it was made from.
 KEPT = "out/rlib"
 
 
-def dependencies():
-    """The crates, each with the crates that it uses, as crates.txt tells them."""
-    listed = {}
-    for line in (ROOT / "crates.txt").read_text().splitlines():
-        name, colon, below = line.partition("#")[0].partition(":")
-        if colon:
-            listed[name.split()[0]] = below.split()
-    return {name: [it for it in below if it in listed] for name, below in listed.items()}
-
-
-def below(listed, names):
-    """All crates below some, lowest first."""
-    order = []
-
-    def visit(name):
-        for it in listed[name]:
-            visit(it)
-        if name not in order:
-            order.append(name)
-
-    for name in names:
-        for it in listed[name]:
-            visit(it)
-    return order
-
-
 def edits_of(crate):
     """The crate's edits, of the gate and of the audit."""
-    return sorted(it for folder in FOLDERS for it in (ROOT / "crates" / crate / folder).glob("*.edit"))
+    return sorted(it for folder in FOLDERS for it in (CRATES / crate / folder).glob("*.edit"))
 
 
 def fault_of(edit):
@@ -86,7 +62,7 @@ def fault_of(edit):
 
 def look():
     """Says which edits of the audit can't be applied, and which have the name of one of the gate."""
-    edits = sorted((ROOT / "crates").glob("*/audit/*"))
+    edits = sorted(CRATES.glob("*/audit/*"))
     wrong = [(it, fault_of(it) if it.suffix == ".edit" else "it is no .edit file") for it in edits]
     wrong += [(it, "must-fail/ has one of this name") for it in edits if (it.parent.parent / "must-fail" / it.name).exists()]
     wrong = [(it, why) for it, why in wrong if why]
@@ -105,8 +81,8 @@ def copy_tree(to, names):
             target.parent.mkdir(parents=True, exist_ok=True)
             shutil.copyfile(ROOT / name, target)
     for name in names:
-        if (ROOT / "crates" / name / KEPT / "stamp").is_file():
-            shutil.copytree(ROOT / "crates" / name / KEPT, to / "crates" / name / KEPT)
+        if (CRATES / name / KEPT / "stamp").is_file():
+            shutil.copytree(CRATES / name / KEPT, to / "crates" / name / KEPT)
 
 
 class Lanes:
@@ -156,12 +132,12 @@ class Lanes:
                     os.killpg(process.pid, signal.SIGTERM)
 
 
-def build(lanes, listed, names):
+def build(lanes, crates, names):
     """Builds the libraries below some crates, each after those below it."""
-    left, running, built = below(listed, names), {}, set()
+    left, running, built = crates.below(names), {}, set()
     with concurrent.futures.ThreadPoolExecutor(len(lanes.folders)) as pool:
         while left or running:
-            for name in [it for it in left if built.issuperset(listed[it])]:
+            for name in [it for it in left if built.issuperset(crates.own(it))]:
                 left.remove(name)
                 running[pool.submit(library, lanes, name)] = name
             for it in concurrent.futures.wait(running, return_when=concurrent.futures.FIRST_COMPLETED).done:
@@ -194,10 +170,10 @@ def try_crate(lanes, name):
     return told, refused, count - refused
 
 
-def try_all(lanes, listed, names):
+def try_all(lanes, crates, names):
     """Tries the edits of some crates: how many were refused, and how many were not."""
     passed = failed = 0
-    build(lanes, listed, names)
+    build(lanes, crates, names)
     with concurrent.futures.ThreadPoolExecutor(len(lanes.folders)) as pool:
         for done in concurrent.futures.as_completed([pool.submit(try_crate, lanes, it) for it in names]):
             told, refused, others = done.result()
@@ -214,19 +190,19 @@ def main():
     words = words.parse_args()
     if words.look:
         return look()
-    listed = dependencies()
-    unknown = [it for it in words.crates if it not in listed]
+    crates = CrateList()
+    unknown = [it for it in words.crates if it not in crates.uses]
     if unknown:
         sys.exit(f"audit: crates.txt has no {' '.join(unknown)}")
-    names = [it for it in below({**listed, "": list(listed)}, [""]) if edits_of(it) and (not words.crates or it in words.crates)]
+    names = [it for it in crates.lowest_first(crates.uses) if edits_of(it) and (not words.crates or it in words.crates)]
     # Ends by a signal are ends like others: the copy goes.
     for number in (signal.SIGTERM, signal.SIGHUP):
         signal.signal(number, lambda *_: sys.exit(1))
     passed, failed = 0, 1
     with tempfile.TemporaryDirectory(prefix="audit-") as top:
-        lanes = Lanes(pathlib.Path(top), max(words.jobs, 1), below(listed, names))
+        lanes = Lanes(pathlib.Path(top), max(words.jobs, 1), crates.below(names))
         try:
-            passed, failed = try_all(lanes, listed, names)
+            passed, failed = try_all(lanes, crates, names)
         except RuntimeError as error:
             print(f"audit: {error}", file=sys.stderr)
         finally:

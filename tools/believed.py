@@ -48,10 +48,8 @@ class Module:
 
     def read_uses(self, lines):
         """The names that the file's `use` lines bring in."""
-        for line in joined(lines):
-            found = USE.match(line)
-            if found:
-                note_use(found, self.names, self.short)
+        for found in uses_in(lines):
+            note_use(found, self.names, self.short)
 
     def read_items(self, lines):
         """The definitions: each runs from its head to the next one's comment."""
@@ -79,6 +77,11 @@ def joined(lines):
             continue
         yield re.sub(r"\s+", " ", whole).strip()
         whole = ""
+
+
+def uses_in(lines):
+    """The `use` lines of a file that name something of a crate's specs."""
+    return filter(None, map(USE.match, joined(lines)))
 
 
 def outdented(lines):
@@ -192,10 +195,8 @@ def clauses_of(path, function):
     """The `ensures` and `requires` clauses of a function, and the names that its file's `ghost use` lines bring in."""
     lines = path.read_text().split("\n")
     names, short = {}, {}
-    for line in joined(lines):
-        found = USE.match(line)
-        if found:
-            note_use(found, names, short)
+    for found in uses_in(lines):
+        note_use(found, names, short)
     first = next((at for at, line in enumerate(lines) if re.match(rf"\s*pub fn {function}\b", line)), None)
     if first is None:
         sys.exit(f"believed: {path} has no public function {function}")

@@ -12,13 +12,13 @@ pictures anew, to be looked at before they are committed.
 import argparse
 import pathlib
 import re
-import struct
 import subprocess
 import sys
 import zlib
 
 sys.dont_write_bytecode = True
 import recording
+from png_chunks import chunks_of
 
 ROOT = pathlib.Path(__file__).resolve().parent.parent
 TEXT, FOLDER = ROOT / "docs" / "TUTORIAL.md", ROOT / "docs" / "tutorial"
@@ -46,13 +46,10 @@ def picture_of(played_step, number):
 
 def content(file):
     """The chunks of a PNG file, with the data of images unpacked: how well they are packed is left to zlib."""
-    at, chunks = 8, []
-    while at < len(file):
-        size, kind = struct.unpack(">I4s", file[at:at + 8])
-        data, skipped = file[at + 8:at + 8 + size], 4 if kind == b"fdAT" else 0
-        is_image = kind in (b"IDAT", b"fdAT")
+    chunks = []
+    for kind, data in chunks_of(file):
+        skipped, is_image = 4 if kind == b"fdAT" else 0, kind in (b"IDAT", b"fdAT")
         chunks.append((kind, data[:skipped], zlib.decompress(data[skipped:]) if is_image else data))
-        at += 12 + size
     return chunks
 
 
@@ -108,7 +105,7 @@ def main():
     try:
         steps = {name: played(words.program, script) for name, script in scripts.items()}
         wrong = [*wrong_quotes(text, scripts, steps), *wrong_pictures(text, steps, words.store)]
-    except (OSError, recording.Bad, recording.Trouble, KeyError, IndexError) as fault:
+    except (OSError, recording.Bad, recording.Trouble, KeyError, IndexError, ValueError) as fault:
         wrong, steps = [f"{type(fault).__name__}: {fault}"], {}
     for line in wrong:
         print(f"check_tutorial: {line}", file=sys.stderr)

@@ -27,9 +27,9 @@ FOREIGN = {"SingleThreadProxy", "ProxyImpl", "ProxyMain"}
 
 
 def tracked(*patterns):
-    """The tracked files of these patterns."""
+    """The tracked files of these patterns that are there."""
     told = subprocess.run(["git", "ls-files", "--", *patterns], cwd=ROOT, capture_output=True, text=True, check=True)
-    return [ROOT / line for line in told.stdout.splitlines()]
+    return [ROOT / line for line in told.stdout.splitlines() if (ROOT / line).is_file()]
 
 
 def words_of(path):

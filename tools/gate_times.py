@@ -8,7 +8,8 @@ usage: .ci/run 2>&1 | tools/gate_times.py --stamp LOG
 processor seconds of the proofs, tests and edits of each crate: it looks each half second at what the provers of this
 session have used. Where LOG can't be written it says so and goes on.
 
-With a LOG it prints the table of the budget as Markdown, or puts it into PAGE between the lines of MARKS.
+With a LOG it prints the table of the budget as Markdown, or puts it into PAGE between the lines of MARKS: only that of
+a run from nothing, in which no proof and no edit was kept from an earlier run on the machine.
 """
 import argparse
 import collections
@@ -89,11 +90,13 @@ def stamp(path):
 
 
 def read(path):
-    """What a log tells: the seconds of each crate by kind, how many edits each has, the processors, and the times."""
-    used, edits, marks = collections.defaultdict(dict), {}, {}
+    """What a log tells: the seconds of each crate by kind, how many edits each has, and the processors, the times and the crates that were kept."""
+    used, edits, marks = collections.defaultdict(dict), {}, {"kept": set()}
     for line in path.read_text().splitlines():
         at, _, text = line.strip().partition(" ")
         text = text.strip()
+        if not re.fullmatch(r"\d+\.\d", at):
+            sys.exit(f"gate_times: {path} has lines without their times: it is no log of --stamp")
         marks["all"] = float(at)
         if found := re.fullmatch(r"cpu (\S+) (\w+) ([\d.]+)", text):
             used[found[1]][found[2]] = float(found[3])
@@ -101,6 +104,8 @@ def read(path):
             marks["cpus"] = int(found[1])
         elif found := re.fullmatch(r"rt: (\S+): trying its must-fail edits \((\d+)\)", text):
             edits[found[1]] = int(found[2])
+        elif found := re.match(r"rt: (\S+)(?: is kept:|: \d+ of its \d+ must-fail edits were tried by an earlier run)", text):
+            marks["kept"].add(found[1])
         elif text.startswith("rt: ") and text.endswith(" proved"):
             marks["proved"] = float(at)
         elif found := re.fullmatch(r"(\d+ passed, \d+ failed)", text):
@@ -115,7 +120,7 @@ def row(name, seconds, edits):
 
 
 def table(path):
-    """The table of a log."""
+    """The table of a log, and whether the run began from nothing."""
     used, edits, marks = read(path)
     if not used:
         sys.exit(f"gate_times: {path} has no processor seconds: it is no log of --stamp, or the run was cut")
@@ -131,9 +136,10 @@ def table(path):
     whole, cpus = sum(summed(order).values()) / 60, marks.get("cpus", 1)
     verdict = f" ({marks['verdict']})" if "verdict" in marks else ""
     proved = f"; the last proof ended after {marks['proved'] / 60:.0f}" if "proved" in marks else ""
-    told = (f"Processor seconds of a run from nothing on {cpus} processors, with nothing else at work. It took {marks['all'] / 60:.0f} minutes{verdict}"
+    begun = "over what earlier runs kept" if marks["kept"] else "from nothing"
+    told = (f"Processor seconds of a run {begun} on {cpus} processors, with nothing else at work. It took {marks['all'] / 60:.0f} minutes{verdict}"
             f"{proved}. In all {whole:.0f} processor minutes: at least {whole / 2:.0f} minutes on two processors.")
-    return "\n".join([told, "", *lines])
+    return "\n".join([told, "", *lines]), not marks["kept"]
 
 
 def write(page, text):
@@ -153,7 +159,9 @@ def main():
     words = words.parse_args()
     if words.stamp:
         return stamp(words.log)
-    text = table(words.log)
+    text, is_whole = table(words.log)
+    if words.write and not is_whole:
+        sys.exit(f"gate_times: {words.log} is of a run that took proofs from earlier ones: the budget is that of a run from nothing")
     if words.write:
         write(words.write, text)
     else:

@@ -14,15 +14,15 @@ dependencies have a cycle, or a chain of more than 14 crates; and where a crate'
 line of crates.txt lacks, or name nothing of one that it lists. Both ways it prints the longest chain.
 """
 import argparse
-import pathlib
 import re
 import sys
 
-ROOT = pathlib.Path(__file__).resolve().parent.parent
-CRATES, LIST, MAP = ROOT / "crates", ROOT / "crates.txt", ROOT / "crates" / "README.md"
+sys.dont_write_bytecode = True
+from crate_list import CRATES, ROOT, CrateList
+
+MAP = CRATES / "README.md"
 MOST_LINES, MOST_CHAIN = 60, 14
 
-HEADING = re.compile(r"# (\w+): (.+)")
 MARKED = re.compile(r"(<!-- map: (\w+) -->\n).*?(<!-- end of \2 -->)", re.S)
 SENTENCE = re.compile(r".*?[.?!](?=\s|$)", re.S)
 LINK = re.compile(r"\]\(([^)\s]+)\)")
@@ -32,42 +32,12 @@ PATH, LOGIC = re.compile(r"(?<![\w:.])(\w+)::"), re.compile(r"\bRattle\.(\w+)")
 WHOLE, MODULE = re.compile(r"\buse (\w+);"), re.compile(r"\bmod (\w+)")
 
 
-class Crates:
-    """What crates.txt says: the families with their purpose and crates, and what each crate uses."""
-
-    def __init__(self):
-        self.families, self.purpose, self.uses, self.faults = {}, {}, {}, []
-        family = None
-        for number, line in enumerate(LIST.read_text().splitlines(), 1):
-            heading = HEADING.fullmatch(line)
-            if heading:
-                family = heading[1]
-                self.families[family], self.purpose[family] = [], heading[2]
-            elif line and not line.startswith("#"):
-                self.add(family, number, line)
-        self.family = {name: family for family, names in self.families.items() for name in names}
-
-    def add(self, family, number, line):
-        """A line `NAME: LIBRARY ..` below the heading of a family."""
-        name, _, uses = line.partition(":")
-        if family is None:
-            self.faults.append(f"crates.txt:{number}: {name} stands below no heading")
-            return
-        if name in self.uses:
-            self.faults.append(f"crates.txt:{number}: {name} stands twice")
-        self.families[family].append(name)
-        self.uses[name] = uses.split()
-
-    def own(self, name):
-        """The crates of this repository that a crate uses, in the order of crates.txt."""
-        return [it for it in self.uses if it in self.uses[name]]
-
-    def misplaced(self):
-        """Faults of crates whose name begins with another family than their heading's."""
-        for name, family in self.family.items():
-            prefix = name.partition("_")[0]
-            if prefix in self.families and prefix != family:
-                yield f"crates.txt: {name} stands below the heading of {family}"
+def misplaced(crates):
+    """Faults of crates whose name begins with another family than their heading's."""
+    for name, family in crates.family.items():
+        prefix = name.partition("_")[0]
+        if prefix in crates.families and prefix != family:
+            yield f"crates.txt: {name} stands below the heading of {family}"
 
 
 def longest_chain(crates):
@@ -209,7 +179,7 @@ def faults_of_readmes():
 
 def all_faults(crates, chain, cycle):
     """All that does not agree, but the marked parts of the map."""
-    faults = [*crates.faults, *crates.misplaced(), *faults_of_folders(crates), *faults_of_readmes()]
+    faults = [*crates.faults, *misplaced(crates), *faults_of_folders(crates), *faults_of_readmes()]
     if cycle:
         faults.append(f"crates.txt: a cycle: {cycle}")
     if len(chain) > MOST_CHAIN:
@@ -221,7 +191,7 @@ def main():
     words = argparse.ArgumentParser(description="Draws and checks the map of the crates.")
     words.add_argument("--write", action="store_true", help="make the marked parts of crates/README.md anew")
     asked = words.parse_args()
-    crates = Crates()
+    crates = CrateList()
     chain, cycle = longest_chain(crates)
     text = MAP.read_text() if MAP.is_file() else ""
     made, lacking = drawn(crates, text)

@@ -23,13 +23,14 @@ import sys
 import threading
 import time
 
-ROOT = pathlib.Path(__file__).resolve().parent.parent
-CRATES = ROOT / "crates"
+sys.dont_write_bytecode = True
+from crate_list import CRATES, ROOT, CrateList
+
 # The programs that take words and try the cases whose titles have one of them.
 TITLED = ("test_program", "test_histories")
 # The program that runs in parts, and in how many.
-SPLIT, PARTS = "test_program", 4
-TOOLS = ("check_examples.py", "check_words.py", "believed.py", "audit.py --look", "try_recordings.py")
+SPLIT, PARTS = "test_program", 2
+TOOLS = ("map.py", "check_examples.py", "check_words.py", "believed.py", "audit.py --look", "try_recordings.py")
 # What one `rt try` takes, with the check of names that runs beside it.
 MEMORY = 4 << 30
 # No interpreter, which could not end any of these, and time enough for code that is checked at each step.
@@ -49,12 +50,6 @@ def call(words, folder, given=b""):
     with LOCK:
         RUNNING.discard(process)
     return Run(process.returncode, out, said.decode(errors="replace"), time.monotonic() - begin)
-
-
-def crates():
-    """The crates in the order of crates.txt: those that stand on many others come last."""
-    lines = [line.partition("#")[0] for line in (ROOT / "crates.txt").read_text().splitlines()]
-    return [line.split(":")[0].split()[0] for line in lines if ":" in line]
 
 
 def file_of(crate, name):
@@ -125,7 +120,7 @@ def added(outs):
 
 def tasks(word, named):
     """What is run, the longest first: a title and a call for each."""
-    found, order = [], [it for it in reversed(crates()) if not named or it in named]
+    found, order = [], [it for it in reversed(CrateList().uses) if not named or it in named]
     for crate in order:
         if not (CRATES / crate / "src" / "main.rt").is_file() or word and crate not in TITLED:
             continue
@@ -186,6 +181,9 @@ def main():
     words.add_argument("--crate", action="append", default=[], help="runs only this crate; may be given again")
     words.add_argument("word", nargs="?", metavar="WORD", help="runs only the cases that have it in their titles")
     words = words.parse_args()
+    unknown = [it for it in words.crate if it not in CrateList().uses]
+    if unknown:
+        sys.exit(f"test: crates.txt has no {' '.join(unknown)}")
     if words.word:
         print(f"only {', '.join(TITLED)}: the other programs and tests have no titles")
     try:

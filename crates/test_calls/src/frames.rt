@@ -4,15 +4,16 @@ ghost use Rattle.std.specs.Prelude.{◌≡◌, length, IfOk};
 ghost use Rattle.model_scroll_values.specs.Bounds.{IsBoundedNumber};
 ghost use Rattle.model_history.specs.Ended.{AreBounded};
 
-use crate::answer::Answer;
+use crate::changes::{say_changes, say_point};
 use crate::fault::CallLineFault;
-use crate::numbers::pull_of;
+use crate::moves::pull_of;
 use crate::texts::script_of;
 use main_host::{MainEnd, MainHost};
 use model_history::{Commit, Moves, Script};
 use page_layers::Move;
 use std::alloc::{AllocError, Global};
 use std::sync::Arc;
+use test_table::Answer;
 
 /// The pulls of a frame: one, or none where it is 0 0.
 fn pulls_of(alloc: Global, by: Move) -> Result<Moves, AllocError>
@@ -34,8 +35,8 @@ fn pulls_of(alloc: Global, by: Move) -> Result<Moves, AllocError>
 fn say_commit(commit: &Commit, answer: &mut Answer) {
     answer.say("ready", &[i64::from(commit.frame())]);
     answer.say_count("sends", commit.sends().len());
-    answer.say_point("at", commit.tree().value(1));
-    answer.say_changes(commit.changes());
+    say_point("at", commit.tree().value(1), answer);
+    say_changes(commit.changes(), answer);
 }
 
 /// Says how a frame ended.

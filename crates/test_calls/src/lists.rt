@@ -1,10 +1,10 @@
 //! What is asked of lists of moves and of histories.
 
-use crate::answer::Answer;
 use crate::fault::CallLineFault;
-use crate::numbers::{move_of, numbers, whole};
+use crate::moves::move_of;
 use model_history::{Entry, Event, History, Moves, Sends};
 use std::alloc::{AllocError, Global};
+use test_table::{Answer, numbers, whole};
 
 /// Adds the moves of a text.
 fn add_moves(moves: &mut Moves, text: &str) -> Result<(), CallLineFault> {

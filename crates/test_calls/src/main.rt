@@ -25,20 +25,20 @@
 //! these, or a line that can't be read, ends in status 1 and one line on standard error.
 #![tactic(auto)]
 
-mod answer;
 mod answers;
+mod changes;
 mod fault;
 mod frames;
 mod lists;
 mod missing;
-mod numbers;
+mod moves;
 mod pages;
 mod texts;
 
-use crate::answers::CallTable;
+use crate::answers::Calls;
 use std::process::ExitCode;
-use test_table::check_table;
+use test_table::check_questions;
 
 fn main(rt: HostRuntime) -> ExitCode {
-    check_table(&rt, &mut CallTable::new(rt.alloc()))
+    check_questions(&rt, Calls::new(rt.alloc()))
 }

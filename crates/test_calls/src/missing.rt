@@ -1,15 +1,14 @@
 //! What is asked of points with tiles missing.
 
-ghost use Rattle.std.specs.Prelude.{IsTrue, IfSome};
+ghost use Rattle.std.specs.Prelude.{IsTrue, IfOk};
 ghost use Rattle.page_layers.specs.Paintings.{IsScreenPoint};
 
-use crate::answer::Answer;
 use crate::fault::CallLineFault;
-use crate::numbers::{numbers, whole};
 use geom::{Keys, Point, TileKey};
 use page_layers::{LayerTree, main_offsets, paint_at};
 use pixel::Colour;
 use std::alloc::{AllocError, Global};
+use test_table::{Answer, LineFault, numbers, signed, whole};
 
 /// A key, as `1 0 2 0`: the layer, the column, the row and the stamp.
 fn key_of(text: &str) -> Result<TileKey, CallLineFault> {
@@ -39,16 +38,15 @@ fn is_on_screen(x: i32, y: i32) -> bool
 }
 
 /// A point of the largest screen.
-fn on_screen(x: i64, y: i64) -> Option<Point>
-    ensures { IfSome result (λ p. IsScreenPoint p.x p.y) }
+fn on_screen(at: [i64; 2]) -> Result<Point, LineFault>
+    ensures { IfOk result (λ p. IsScreenPoint p.x p.y) }
 {
-    let (Ok(x), Ok(y)) = (i32::try_from(x), i32::try_from(y)) else {
-        return None;
-    };
+    let [x, y] = at;
+    let (x, y) = (signed(x)?, signed(y)?);
     if is_on_screen(x, y) {
-        return Some(Point { x, y });
+        return Ok(Point { x, y });
     }
-    None
+    Err(LineFault::NoNumber)
 }
 
 /// Says which colour a point of the page, as `10 4`, has with these tiles missing, over black.
@@ -59,12 +57,11 @@ fn say_pixel(
     at: &str,
     answer: &mut Answer,
 ) -> Result<(), CallLineFault> {
-    let [x, y] = numbers::<2>(at)?;
-    let at = on_screen(x, y).ok_or(CallLineFault::NoNumber)?;
+    let at = on_screen(numbers::<2>(at)?)?;
     let offsets = main_offsets(alloc, tree)?;
     let black = Colour::new(0, 0, 0, 255).unwrap_or(Colour::CLEAR);
     let colour = paint_at(alloc, tree, &offsets, missing, black, at.x, at.y)?;
-    answer.say_colour(colour);
+    answer.say_colour("colour", colour);
     Ok(())
 }
 
@@ -89,7 +86,7 @@ pub fn missing(
     question: &str,
     answer: &mut Answer,
 ) -> Result<(), CallLineFault> {
-    let (keys, points) = question.split_once(" | ").ok_or(CallLineFault::NoForm)?;
+    let (keys, points) = question.split_once(" | ").ok_or(LineFault::NoForm)?;
     let mut missing = Keys::new(alloc);
     add_keys(&mut missing, keys)?;
     say_pixels(alloc, tree, missing.as_slice(), points, answer)

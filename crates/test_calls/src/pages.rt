@@ -2,13 +2,14 @@
 
 ghost use Rattle.model_scroll_values.specs.Bounds.{IsBoundedNumber};
 
-use crate::answer::Answer;
+use crate::changes::{say_changes, say_point};
 use crate::fault::CallLineFault;
-use crate::numbers::pull_of;
+use crate::moves::pull_of;
 use crate::texts::commands_of;
 use page_layers::{Command, EditError, Layer, LayerTree, Move};
 use page_properties::PropertyTrees;
 use std::alloc::{AllocError, Global};
+use test_table::Answer;
 
 /// Says how large a page is, and its tiles.
 pub fn view(tree: &LayerTree, answer: &mut Answer) {
@@ -25,7 +26,7 @@ fn apply(
 ) -> Result<(), CallLineFault> {
     match tree.apply(command) {
         Ok(changes) => {
-            answer.say_changes(&changes);
+            say_changes(&changes, answer);
             Ok(())
         }
         Err(EditError::Refused(_)) => Err(CallLineFault::Refused),
@@ -64,7 +65,7 @@ fn pull(tree: &mut LayerTree, by: Move, answer: &mut Answer) -> Result<(), CallL
     if tree.props().scroller(1).is_none() {
         return Err(CallLineFault::Refused);
     }
-    answer.say_point("moved", tree.pull(1, by.dx, by.dy));
+    say_point("moved", tree.pull(1, by.dx, by.dy), answer);
     Ok(())
 }
 
@@ -73,8 +74,8 @@ pub fn pulls(tree: &mut LayerTree, pulls: &str, answer: &mut Answer) -> Result<(
     for by in pulls.split("; ") {
         pull(tree, pull_of(by)?, answer)?;
     }
-    answer.say_point("scroller 1 at", tree.value(1));
-    answer.say_point("scroller 2 at", tree.value(2));
+    say_point("scroller 1 at", tree.value(1), answer);
+    say_point("scroller 2 at", tree.value(2), answer);
     Ok(())
 }
 
@@ -82,7 +83,7 @@ pub fn pulls(tree: &mut LayerTree, pulls: &str, answer: &mut Answer) -> Result<(
 fn say_layer(layer: &Layer, answer: &mut Answer) {
     let (id, w, h) = (layer.id, layer.w, layer.h);
     answer.say("layer", &[i64::from(id), i64::from(w), i64::from(h)]);
-    answer.say_colour(layer.colour);
+    answer.say_colour("colour", layer.colour);
     answer.say_count("items", layer.list.len());
     if let Some(item) = layer.list.item(0) {
         answer.say_rect("first", item.rect());

@@ -1,11 +1,11 @@
 //! Scripts and commands out of their texts, and what is asked of the texts.
 
-use crate::answer::Answer;
 use crate::fault::CallLineFault;
 use model_history::Script;
 use page_layers::{Command, LayerTree};
 use script_json::{TextFault, print_parts, read_parts, read_script};
 use std::alloc::{AllocError, Global};
+use test_table::Answer;
 
 /// The text of a script of one main frame with these commands, which have commas between.
 pub fn script_text(alloc: Global, commands: &str) -> Result<String, AllocError> {

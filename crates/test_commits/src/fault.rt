@@ -8,7 +8,7 @@ use thiserror::Error;
 pub enum CommitRowFault {
     /// There was no memory.
     #[error("memory ran out")]
-    Memory(AllocError),
+    Memory(#[from] AllocError),
     /// The line is none of the forms of a line.
     #[error("this line has none of the forms of a line")]
     NoForm,
@@ -27,10 +27,4 @@ pub enum CommitRowFault {
     /// The commit may not follow the active tree.
     #[error("the commit may not follow the active tree")]
     NotNext,
-}
-
-impl From<AllocError> for CommitRowFault {
-    fn from(error: AllocError) -> CommitRowFault {
-        CommitRowFault::Memory(error)
-    }
 }

@@ -16,8 +16,6 @@ pub struct Pushes {
     pushing: Option<Pushing>,
     /// How many scripts there were.
     scripts: usize,
-    /// How many answers.
-    answers: usize,
     tally: Tally,
 }
 
@@ -51,7 +49,6 @@ impl Pushes {
             alloc,
             pushing: None,
             scripts: 0,
-            answers: 0,
             tally: Tally::NONE,
         }
     }
@@ -78,12 +75,7 @@ impl Pushes {
             return Err(CommitRowFault::NoFrame);
         };
         let told = told(self.alloc, pushing, question)?;
-        if told.as_str() != wanted {
-            let told = told.as_str();
-            let _ = rt.println(format_args!("line {line}: {told} for {wanted}"));
-            self.tally.count_wrong(line);
-        }
-        self.answers = self.answers.saturating_add(1);
+        self.tally.compare(rt, line, told.as_str(), wanted);
         Ok(())
     }
 
@@ -107,18 +99,13 @@ impl<R: Print> Table<R> for Pushes {
         }
     }
 
-    fn end(&mut self, rt: &R) -> Result<(), CommitRowFault> {
-        let _ = rt;
-        Ok(())
-    }
-
     fn tally(&self) -> Tally {
         self.tally
     }
 
     fn tell(&self, rt: &R) -> io::Result<()> {
         let scripts = self.scripts;
-        let answers = self.answers;
+        let answers = self.tally.answers();
         println!(rt; "{scripts} scripts, {answers} answers")
     }
 }

@@ -2,10 +2,10 @@
 
 ghost use Rattle.std.specs.Prelude.{◌≡◌, IsTrue};
 
-use crate::answer::Answer;
 use crate::fault::DamageLineFault;
 use crate::pictures::{differing, drawn, point_count, say_pixels};
 use std::alloc::Global;
+use test_table::Answer;
 use tile_raster::TileImage;
 use viz_damage::damage_of;
 use viz_occlusion::cull;

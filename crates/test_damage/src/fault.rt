@@ -1,6 +1,7 @@
 //! Why a line of the table can't be read.
 
 use std::alloc::AllocError;
+use test_table::LineFault;
 use thiserror::Error;
 
 /// Why a line of the table can't be read.
@@ -8,13 +9,10 @@ use thiserror::Error;
 pub enum DamageLineFault {
     /// There was no memory.
     #[error("memory ran out")]
-    Memory(AllocError),
-    /// The line is none of the forms of a line.
-    #[error("this line has none of the forms of a line")]
-    NoForm,
-    /// A number is none, or out of its range.
-    #[error("a number is none, or out of its range")]
-    NoNumber,
+    Memory(#[from] AllocError),
+    /// The line, or a number in it, has no form that a table knows.
+    #[error(transparent)]
+    Line(#[from] LineFault),
     /// The parts of a scene make none.
     #[error("the parts of a scene above this line make none")]
     NoScene,
@@ -24,10 +22,4 @@ pub enum DamageLineFault {
     /// The two scenes are of different sizes.
     #[error("the scenes above this line are of different sizes")]
     OtherSize,
-}
-
-impl From<AllocError> for DamageLineFault {
-    fn from(error: AllocError) -> DamageLineFault {
-        DamageLineFault::Memory(error)
-    }
 }

@@ -28,7 +28,6 @@
 //! these, or a line that can't be read, ends in status 1 and one line on standard error.
 #![tactic(auto)]
 
-mod answer;
 mod answers;
 mod asks;
 mod fault;
@@ -37,10 +36,10 @@ mod parts;
 mod pictures;
 mod words;
 
-use crate::answers::DamageTable;
+use crate::answers::Scenes;
 use std::process::ExitCode;
-use test_table::check_table;
+use test_table::check_questions;
 
 fn main(rt: HostRuntime) -> ExitCode {
-    check_table(&rt, &mut DamageTable::new(rt.alloc()))
+    check_questions(&rt, Scenes::new(rt.alloc()))
 }

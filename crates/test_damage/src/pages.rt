@@ -7,12 +7,12 @@ ghost use Rattle.page_layers.specs.Pages.{Page};
 ghost use Rattle.viz_quads.specs.ShownTiles.{tile_of, AreShownTiles};
 
 use crate::fault::DamageLineFault;
-use crate::words::{numbers, whole};
 use page_layers::{LayerTree, main_offsets};
 use page_properties::Offsets;
 use pixel::Colour;
 use script_json::read_script;
 use std::alloc::{AllocError, Global};
+use test_table::{numbers, whole};
 use viz_quads::{ShownTile, make_all, quads_of};
 use viz_scene::Scene;
 

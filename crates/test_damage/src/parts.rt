@@ -4,11 +4,12 @@ ghost use Rattle.std.specs.Prelude.{IfOk};
 ghost use Rattle.page_display_list.specs.Content.{IsSoundItem};
 
 use crate::fault::DamageLineFault;
-use crate::words::{byte, colour, numbers, point, rect, whole};
+use crate::words::{byte, colour, point, rect};
 use geom::TileKey;
 use page_display_list::{DisplayList, Item};
 use std::alloc::{AllocError, Global};
 use std::sync::Arc;
+use test_table::{LineFault, numbers, whole};
 use tile_raster::{Job, TileImage};
 use viz_scene::{Quad, RenderPass, Scene, scene_of};
 
@@ -28,7 +29,7 @@ fn push_item(list: &mut DisplayList, item: Item) -> Result<(), DamageLineFault>
 {
     let at = list.len();
     if at >= 256 {
-        return Err(DamageLineFault::NoNumber);
+        return Err(LineFault::NoNumber.into());
     }
     match list.insert(at, item) {
         Ok(()) => Ok(()),
@@ -47,7 +48,7 @@ fn list_of(alloc: Global, items: &str) -> Result<DisplayList, DamageLineFault> {
 
 /// The image of a text: `LAYER COLUMN ROW STAMP W H; ITEM; ..`.
 pub fn image_of(alloc: Global, text: &str) -> Result<Arc<TileImage>, DamageLineFault> {
-    let (head, items) = text.split_once("; ").ok_or(DamageLineFault::NoForm)?;
+    let (head, items) = text.split_once("; ").ok_or(LineFault::NoForm)?;
     let [layer, x, y, stamp, w, h] = numbers::<6>(head)?;
     let key = TileKey {
         layer: whole(layer)?,
@@ -73,7 +74,7 @@ fn tile_of(images: &[Arc<TileImage>], text: &str) -> Result<Quad, DamageLineFaul
     let from = point([from_x, from_y])?;
     let image = images
         .get(whole(image)? as usize)
-        .ok_or(DamageLineFault::NoNumber)?;
+        .ok_or(LineFault::NoNumber)?;
     let image = Arc::try_clone(image)?;
     Ok(Quad::Tile { image, at, from })
 }
@@ -100,7 +101,7 @@ fn quad_of(images: &[Arc<TileImage>], text: &str) -> Result<Quad, DamageLineFaul
         Some(("tile", rest)) => tile_of(images, rest),
         Some(("solid", rest)) => solid_of(rest),
         Some(("group", rest)) => group_of(rest),
-        _ => Err(DamageLineFault::NoForm),
+        _ => Err(LineFault::NoForm.into()),
     }
 }
 
@@ -134,7 +135,7 @@ pub fn scene_of_text(
     images: &[Arc<TileImage>],
     text: &str,
 ) -> Result<Scene, DamageLineFault> {
-    let (head, parts) = text.split_once("; ").ok_or(DamageLineFault::NoForm)?;
+    let (head, parts) = text.split_once("; ").ok_or(LineFault::NoForm)?;
     let [w, h, r, g, b, a] = numbers::<6>(head)?;
     let background = colour([r, g, b, a])?;
     let passes = passes_of(alloc, images, parts)?;

@@ -3,10 +3,10 @@
 ghost use Rattle.std.specs.Prelude.{IfOk};
 ghost use Rattle.viz_render.specs.Frames.{IsOfSize};
 
-use crate::answer::Answer;
 use geom::Point;
 use region::Region;
 use std::alloc::{AllocError, Global};
+use test_table::Answer;
 use viz_render::{Frame, render};
 use viz_scene::Scene;
 

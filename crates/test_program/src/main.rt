@@ -42,23 +42,10 @@ mod output;
 mod play;
 mod table;
 
-use crate::table::{ProgramTally, play_table};
+use crate::table::play_table;
 use std::io;
 use std::process::ExitCode;
-use test_table::Titles;
-
-/// Tells how many cases there were, and which were wrong.
-fn tell(rt: &HostRuntime, tally: &ProgramTally) -> io::Result<bool> {
-    println!(rt; "{} cases, {} runs", tally.cases, tally.runs)?;
-    if let Some(line) = tally.first_wrong {
-        eprintln!(rt;
-            "{} of {} cases are wrong, the first at line {line}",
-            tally.wrong, tally.cases
-        )?;
-        return Ok(false);
-    }
-    Ok(true)
-}
+use test_table::{Titles, end_counted, end_unread};
 
 fn main(rt: HostRuntime) -> ExitCode {
     let (Ok(titles), Ok(text)) = (
@@ -69,13 +56,10 @@ fn main(rt: HostRuntime) -> ExitCode {
         return ExitCode::from(1);
     };
     match play_table(&rt, rt.alloc(), titles, text.as_str()) {
-        Ok(tally) => match tell(&rt, &tally) {
-            Ok(true) => ExitCode::from(0),
-            _ => ExitCode::from(1),
-        },
-        Err((line, fault)) => {
-            let _ = rt.eprintln(format_args!("line {line}: {fault}"));
-            ExitCode::from(1)
+        Ok(played) => {
+            let told = println!(rt; "{} cases, {} runs", played.cases, played.runs);
+            end_counted(&rt, told, played.tally)
         }
+        Err((line, fault)) => end_unread(&rt, line, fault),
     }
 }

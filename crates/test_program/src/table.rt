@@ -7,17 +7,14 @@ use crate::play::play;
 use std::alloc::Global;
 use std::sync::Wait;
 use std::thread::Threads;
-use test_table::Titles;
+use test_table::{Tally, Titles, key_and_value, says_something};
 
-/// What was counted.
+/// What was played.
 #[derive(Clone, Copy)]
-pub struct ProgramTally {
+pub struct Played {
     pub cases: usize,
     pub runs: u64,
-    /// How many cases are wrong.
-    pub wrong: usize,
-    /// The line of the first wrong case.
-    pub first_wrong: Option<usize>,
+    pub tally: Tally,
 }
 
 /// What was read of the table so far.
@@ -31,33 +28,16 @@ struct ProgramTable {
     base: Option<String>,
     /// The case whose lines are being read.
     case: Option<Case>,
-    tally: ProgramTally,
+    played: Played,
 }
 
-impl ProgramTally {
-    /// Nothing was counted.
-    const NONE: ProgramTally = ProgramTally {
-        cases: 0,
-        runs: 0,
-        wrong: 0,
-        first_wrong: None,
-    };
-
-    /// Counts a wrong case that begins at this line.
-    fn count_wrong(&mut self, line: usize) {
-        self.wrong = self.wrong.saturating_add(1);
-        if self.first_wrong.is_none() {
-            self.first_wrong = Some(line);
-        }
-    }
-}
-
-/// Plays the runs of a case up to the first that is wrong, which is printed. Answers whether all are right.
+/// Plays the runs of a case up to the first that is wrong, which is printed, and counts them. Answers whether all are
+/// right.
 fn play_case<R: Threads + Wait + Sync + Print>(
     rt: &R,
     alloc: Global,
     case: &Case,
-    tally: &mut ProgramTally,
+    runs: &mut u64,
 ) -> Result<bool, ProgramRowFault> {
     let Some(input) = &case.input else {
         return Err(ProgramRowFault::NoInput);
@@ -67,7 +47,7 @@ fn play_case<R: Threads + Wait + Sync + Print>(
     }
     for number in case.numbers.start..case.numbers.end {
         let played = play(rt, alloc, case, input.as_slice(), number)?;
-        tally.runs = tally.runs.saturating_add(1);
+        *runs = runs.saturating_add(1);
         if let Some(difference) = played.difference(case, number) {
             let line = case.line;
             let title = case.title.as_str();
@@ -81,6 +61,22 @@ fn play_case<R: Threads + Wait + Sync + Print>(
 }
 
 impl ProgramTable {
+    /// Nothing was read; the cases of these titles are to be played.
+    fn new(alloc: Global, titles: Titles) -> ProgramTable {
+        ProgramTable {
+            alloc,
+            titles,
+            names: Names::new(alloc),
+            base: None,
+            case: None,
+            played: Played {
+                cases: 0,
+                runs: 0,
+                tally: Tally::NONE,
+            },
+        }
+    }
+
     /// Plays the case whose lines were read.
     fn close<R: Threads + Wait + Sync + Print>(&mut self, rt: &R) -> Result<(), ProgramRowFault> {
         let Some(case) = self.case.take() else {
@@ -89,9 +85,9 @@ impl ProgramTable {
         if !self.titles.has(case.title.as_str()) {
             return Ok(());
         }
-        self.tally.cases = self.tally.cases.saturating_add(1);
-        if !play_case(rt, self.alloc, &case, &mut self.tally)? {
-            self.tally.count_wrong(case.line);
+        self.played.cases = self.played.cases.saturating_add(1);
+        if !play_case(rt, self.alloc, &case, &mut self.played.runs)? {
+            self.played.tally.count_wrong(case.line);
         }
         Ok(())
     }
@@ -151,26 +147,18 @@ impl ProgramTable {
         Ok(())
     }
 
-    /// Takes a line.
+    /// Takes a line that says something.
     fn take<R: Threads + Wait + Sync + Print>(
         &mut self,
         rt: &R,
         line: usize,
         text: &str,
     ) -> Result<(), ProgramRowFault> {
-        if text.is_empty() || text.starts_with('#') {
-            return Ok(());
-        }
         if let Some(row) = text.strip_prefix("    ") {
             return self.take_change(rt, line, row);
         }
-        if let Some((key, value)) = text.split_once(": ") {
-            return self.take_key(rt, line, key, value);
-        }
-        match text.strip_suffix(':') {
-            Some(key) => self.take_key(rt, line, key, ""),
-            None => Err(ProgramRowFault::NoKey),
-        }
+        let (key, value) = key_and_value(text).ok_or(ProgramRowFault::NoKey)?;
+        self.take_key(rt, line, key, value)
     }
 }
 
@@ -180,24 +168,20 @@ pub fn play_table<R: Threads + Wait + Sync + Print>(
     alloc: Global,
     titles: Titles,
     text: &str,
-) -> Result<ProgramTally, (usize, ProgramRowFault)> {
-    let mut table = ProgramTable {
-        alloc,
-        titles,
-        names: Names::new(alloc),
-        base: None,
-        case: None,
-        tally: ProgramTally::NONE,
-    };
+) -> Result<Played, (usize, ProgramRowFault)> {
+    let mut table = ProgramTable::new(alloc, titles);
     let mut last = 0usize;
     for (index, line) in text.lines().enumerate() {
         last = index.saturating_add(1);
+        if !says_something(line) {
+            continue;
+        }
         if let Err(fault) = table.take(rt, last, line) {
             return Err((last, fault));
         }
     }
     match table.close(rt) {
-        Ok(()) => Ok(table.tally),
+        Ok(()) => Ok(table.played),
         Err(fault) => Err((last, fault)),
     }
 }

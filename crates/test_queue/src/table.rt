@@ -35,14 +35,6 @@ impl QueueTable {
         }
     }
 
-    /// Compares an answer with the one that is wanted.
-    fn compare(&mut self, rt: &HostRuntime, line: usize, told: &str, wanted: &str) {
-        if told != wanted {
-            let _ = rt.println(format_args!("line {line}: {told} for {wanted}"));
-            self.tally.count_wrong(line);
-        }
-    }
-
     /// Whether the queue answers as the definitions say.
     fn agrees(&self) -> Result<bool, StepFault> {
         let key = self.queue.queue().first().unwrap_or(NO_KEY);
@@ -56,7 +48,8 @@ impl QueueTable {
         let seed = seed.parse::<u64>().map_err(|_| StepFault::NoForm)?;
         let count = count.parse::<u64>().map_err(|_| StepFault::NoForm)?;
         if try_steps(rt, seed, count)?.differs.is_some() {
-            self.compare(rt, line, "otherwise", "as the definitions say");
+            self.tally
+                .compare(rt, line, "otherwise", "as the definitions say");
         }
         Ok(())
     }
@@ -92,7 +85,7 @@ impl Table<HostRuntime> for QueueTable {
         self.count = self.count.saturating_add(1);
         if let Some((question, wanted)) = text.split_once(" => ") {
             let told = answer(self.queue.alloc(), self.queue.queue(), question)?;
-            self.compare(rt, line, told.as_str(), wanted);
+            self.tally.compare(rt, line, told.as_str(), wanted);
             return Ok(());
         }
         let (name, row) = text.split_once(' ').ok_or(StepFault::NoForm)?;
@@ -101,13 +94,9 @@ impl Table<HostRuntime> for QueueTable {
         }
         self.step(rt, name, row)?;
         if !self.agrees()? {
-            self.compare(rt, line, "otherwise", "as the definitions say");
+            self.tally
+                .compare(rt, line, "otherwise", "as the definitions say");
         }
-        Ok(())
-    }
-
-    fn end(&mut self, rt: &HostRuntime) -> Result<(), StepFault> {
-        let _ = rt;
         Ok(())
     }
 

@@ -2,10 +2,18 @@
 //! how many are wrong, and how the program ends.
 #![tactic(auto)]
 
+mod answer;
+mod fault;
 mod lines;
+mod questions;
 mod tally;
 mod titles;
+mod values;
 
-pub use lines::{Table, check_table};
+pub use answer::Answer;
+pub use fault::LineFault;
+pub use lines::{Table, check_table, end_counted, end_unread, says_something};
+pub use questions::{Subject, check_questions};
 pub use tally::Tally;
 pub use titles::Titles;
+pub use values::{key_and_value, numbers, signed, whole};

@@ -13,7 +13,10 @@ pub trait Table<R: Print> {
     fn take(&mut self, rt: &R, line: usize, text: &str) -> Result<(), Self::Fault>;
 
     /// Takes the end of the table.
-    fn end(&mut self, rt: &R) -> Result<(), Self::Fault>;
+    fn end(&mut self, rt: &R) -> Result<(), Self::Fault> {
+        let _ = rt;
+        Ok(())
+    }
 
     /// How many cases are wrong.
     fn tally(&self) -> Tally;
@@ -22,7 +25,12 @@ pub trait Table<R: Print> {
     fn tell(&self, rt: &R) -> io::Result<()>;
 }
 
-/// Takes all lines but empty ones and those that begin with `#`. An error tells its line.
+/// Whether a line says something: it is not empty and does not begin with `#`.
+pub fn says_something(line: &str) -> bool {
+    !line.is_empty() && !line.starts_with('#')
+}
+
+/// Takes all lines that say something. An error tells its line.
 fn take_all<R: Print, T: Table<R>>(
     rt: &R,
     table: &mut T,
@@ -31,7 +39,7 @@ fn take_all<R: Print, T: Table<R>>(
     let mut last = 0usize;
     for (index, line) in text.lines().enumerate() {
         last = index.saturating_add(1);
-        if line.is_empty() || line.starts_with('#') {
+        if !says_something(line) {
             continue;
         }
         if let Err(fault) = table.take(rt, last, line) {
@@ -44,23 +52,28 @@ fn take_all<R: Print, T: Table<R>>(
     }
 }
 
-/// Tells what was counted. Answers whether it could be told and all cases are right.
-fn is_right<R: Print + Eprint, T: Table<R>>(rt: &R, table: &T) -> bool {
-    let told = table.tell(rt).is_ok();
-    let tally = table.tally();
+/// Ends a program that went through its table, and told on standard output what it counted. Wrong cases are told
+/// on standard error; the status is 0 where there are none and all was told, otherwise 1.
+pub fn end_counted<R: Eprint>(rt: &R, told: io::Result<()>, tally: Tally) -> ExitCode {
     match tally.first() {
-        None => told,
+        None => ExitCode::from(if told.is_ok() { 0 } else { 1 }),
         Some(line) => {
             let wrong = tally.wrong();
             let _ = rt.eprintln(format_args!("{wrong} cases are wrong, the first at line {line}"));
-            false
+            ExitCode::from(1)
         }
     }
 }
 
-/// Takes the lines of the table on standard input, but empty ones and those that begin with `#`, and tells
-/// how many cases there were. The status is 0 where all cases are right; it is 1, with one line on standard
-/// error, where one is wrong or a line can't be read.
+/// Ends a program that can't read a line of its table, which is told on standard error, in status 1.
+pub fn end_unread<R: Eprint, F: fmt::Display + Copy>(rt: &R, line: usize, fault: F) -> ExitCode {
+    let _ = rt.eprintln(format_args!("line {line}: {fault}"));
+    ExitCode::from(1)
+}
+
+/// Takes the lines of the table on standard input that say something, and tells how many cases there were. The
+/// status is 0 where all cases are right; it is 1, with one line on standard error, where one is wrong or a line
+/// can't be read.
 pub fn check_table<R: Print + Eprint + Input + Alloc, T: Table<R>>(
     rt: &R,
     table: &mut T,
@@ -70,11 +83,7 @@ pub fn check_table<R: Print + Eprint + Input + Alloc, T: Table<R>>(
         return ExitCode::from(1);
     };
     match take_all(rt, table, text.as_str()) {
-        Ok(()) if is_right(rt, table) => ExitCode::from(0),
-        Ok(()) => ExitCode::from(1),
-        Err((line, fault)) => {
-            let _ = rt.eprintln(format_args!("line {line}: {fault}"));
-            ExitCode::from(1)
-        }
+        Ok(()) => end_counted(rt, table.tell(rt), table.tally()),
+        Err((line, fault)) => end_unread(rt, line, fault),
     }
 }

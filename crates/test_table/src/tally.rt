@@ -1,16 +1,18 @@
 //! How many cases of a table are wrong.
 
-/// How many cases of a table are wrong.
+/// How many answers of a table were compared, and how many of its cases are wrong.
 #[derive(Clone, Copy)]
 pub struct Tally {
+    answers: usize,
     wrong: usize,
     /// The line of the first wrong case.
     first: Option<usize>,
 }
 
 impl Tally {
-    /// No case is wrong.
+    /// No answer was compared, and no case is wrong.
     pub const NONE: Tally = Tally {
+        answers: 0,
         wrong: 0,
         first: None,
     };
@@ -21,6 +23,20 @@ impl Tally {
         if self.first.is_none() {
             self.first = Some(line);
         }
+    }
+
+    /// Counts the answer of a line, which is wrong where it is not the one that is wanted; both are told then.
+    pub fn compare<R: Print>(&mut self, rt: &R, line: usize, told: &str, wanted: &str) {
+        self.answers = self.answers.saturating_add(1);
+        if told != wanted {
+            let _ = rt.println(format_args!("line {line}: {told} for {wanted}"));
+            self.count_wrong(line);
+        }
+    }
+
+    /// How many answers were compared.
+    pub fn answers(&self) -> usize {
+        self.answers
     }
 
     /// How many cases are wrong.

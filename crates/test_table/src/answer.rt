@@ -1,12 +1,8 @@
 //! An answer as text.
 
-use geom::{Point, Rect};
+use geom::Rect;
 use pixel::Colour;
-use region::{Changes, LayerChange};
 use std::alloc::{AllocError, Global};
-
-/// The side of the square whose points are looked at in a changed region.
-const LOOKED_AT: i32 = 8;
 
 /// An answer, part by part. Where memory ran out it takes no more parts, and has no text.
 #[derive(Drop)]
@@ -56,19 +52,6 @@ impl Answer {
         self.say(words, &[i64::try_from(count).unwrap_or(i64::MAX)]);
     }
 
-    /// The text of all parts.
-    pub fn text(&self) -> Result<&str, AllocError> {
-        if self.lacks_memory {
-            return Err(AllocError);
-        }
-        Ok(self.text.as_str())
-    }
-
-    /// Adds where something stands.
-    pub fn say_point(&mut self, words: &str, at: Point) {
-        self.say(words, &[i64::from(at.x), i64::from(at.y)]);
-    }
-
     /// Adds a rect: its corner, its width and its height.
     pub fn say_rect(&mut self, words: &str, rect: Rect) {
         let (x, y, w, h) = (rect.x, rect.y, rect.w, rect.h);
@@ -79,44 +62,19 @@ impl Answer {
     }
 
     /// Adds a colour: red, green, blue and alpha.
-    pub fn say_colour(&mut self, colour: Colour) {
+    pub fn say_colour(&mut self, words: &str, colour: Colour) {
         let (r, g, b, a) = (colour.r(), colour.g(), colour.b(), colour.a());
         self.say(
-            "colour",
+            words,
             &[i64::from(r), i64::from(g), i64::from(b), i64::from(a)],
         );
     }
 
-    /// Adds a changed layer: whether it changed whole, and the points near its corner that its region
-    /// covers.
-    fn say_change(&mut self, change: &LayerChange) {
-        let words = if change.whole {
-            "whole layer"
-        } else {
-            "part of layer"
-        };
-        self.say(words, &[i64::from(change.layer)]);
-        for y in 0..LOOKED_AT {
-            for x in 0..LOOKED_AT {
-                let at = Point { x, y };
-                if change.region.covers(at) {
-                    self.say_point("point", at);
-                }
-            }
+    /// The text of all parts.
+    pub fn text(&self) -> Result<&str, AllocError> {
+        if self.lacks_memory {
+            return Err(AllocError);
         }
-    }
-
-    /// Adds what changed.
-    pub fn say_changes(&mut self, changes: &Changes) {
-        if changes.retiled() {
-            self.say("other tiles", &[]);
-        } else if changes.len() == 0 {
-            self.say("nothing", &[]);
-        }
-        for i in 0..changes.len() {
-            if let Some(change) = changes.at(i) {
-                self.say_change(change);
-            }
-        }
+        Ok(self.text.as_str())
     }
 }

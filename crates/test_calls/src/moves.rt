@@ -1,32 +1,14 @@
-//! Numbers as the table writes them.
+//! Moves and pulls as the table writes them.
 
 ghost use Rattle.std.specs.Prelude.{IsTrue, IfOk};
 ghost use Rattle.model_scroll_values.specs.Bounds.{IsBoundedNumber};
 
 use crate::fault::CallLineFault;
 use page_layers::Move;
+use test_table::{LineFault, numbers, whole};
 
 /// Both parts of a pull lie below this bound in absolute value.
 const PULL_BOUND: i64 = 549755813888;
-
-/// The numbers of a text, with blanks between. There have to be exactly the given number.
-pub fn numbers<const N: usize>(text: &str) -> Result<[i64; N], CallLineFault> {
-    let mut words = text.split_whitespace();
-    let mut all = [0; N];
-    for number in &mut all {
-        let word = words.next().ok_or(CallLineFault::NoNumber)?;
-        *number = word.parse::<i64>().map_err(|_| CallLineFault::NoNumber)?;
-    }
-    match words.next() {
-        None => Ok(all),
-        Some(_) => Err(CallLineFault::NoNumber),
-    }
-}
-
-/// A number that is not negative.
-pub fn whole(number: i64) -> Result<u32, CallLineFault> {
-    u32::try_from(number).map_err(|_| CallLineFault::NoNumber)
-}
 
 /// Whether a part of a pull is within its bound.
 fn is_bounded(part: i64) -> bool
@@ -56,5 +38,5 @@ pub fn pull_of(text: &str) -> Result<Move, CallLineFault>
             dy,
         });
     }
-    Err(CallLineFault::NoNumber)
+    Err(LineFault::NoNumber.into())
 }
