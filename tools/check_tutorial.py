@@ -18,6 +18,7 @@ import sys
 import zlib
 
 sys.dont_write_bytecode = True
+import png
 import recording
 
 ROOT = pathlib.Path(__file__).resolve().parent.parent
@@ -39,9 +40,9 @@ def picture_of(played_step, number):
     images = list(played_step.images())
     if number is not None:
         image = images[int(number)]
-        return recording.png(image.width, image.height, played_step.pixels(image))
+        return png.whole(image.width, image.height, played_step.pixels(image))
     pictures = ((it.width, it.height, played_step.pixels(it)) for it in images)
-    return b"".join(recording.Film([(it.width, it.height) for it in images], 100).pieces(pictures))
+    return b"".join(png.Film([(it.width, it.height) for it in images], 100).pieces(pictures))
 
 
 def content(file):
