@@ -3,14 +3,17 @@
 
 usage: tools/check_examples.py
 
-The schema must be one of its draft, each example must be valid by it, and each of the changed scripts
-below must not be. It needs the Python package jsonschema (Debian's python3-jsonschema); where that is not
-to be had, it says so and checks nothing.
+The schema must be one of its draft and have the fields that script_shape.py has, and each example must be valid by
+it. Of each of the changed scripts below it must say one fault, at the place of the change. It needs the Python package
+jsonschema (Debian's python3-jsonschema); where that is not to be had, it says so and checks nothing.
 """
 import copy
 import json
 import pathlib
 import sys
+
+sys.dont_write_bytecode = True
+import script_shape
 
 ROOT = pathlib.Path(__file__).resolve().parent.parent
 
@@ -44,6 +47,8 @@ CHANGES = [
     ("an item of both paints", ["main", 0, 1, "pixels"], "ff0000ff"),
     ("an item of no paint", ["main", 0, 1, "colour"], None),
     ("a main frame that is no list", ["main", 0], {}),
+    ("a view in version 1", ["main", 0, 1], {"op": "set_view", "w": 4, "h": 4, "tile": 16}),
+    ("a viewport that version 1 does not have", ["viewport"], [1025, 4]),
     ("an input that is not there", ["inputs", 1, "op"], "touch"),
 ]
 
@@ -61,6 +66,21 @@ def changed(place, value):
     return script
 
 
+def is_told(errors, place):
+    """Whether the one fault is at a place, or is that its object lacks it or has it."""
+    paths = [list(it.absolute_path) for it in errors]
+    return len(paths) == 1 and (paths[0] == place[:-1] or paths[0][:len(place)] == place)
+
+
+def other_fields(schema):
+    """The commands and inputs whose fields in the schema are not those of the tables."""
+    tables = [("", script_shape.COMMANDS), ("input_", script_shape.INPUTS)]
+    for name, fields, key in ((name, fields, begins + name) for begins, table in tables for name, fields in table.items()):
+        wanted = {"op"} | {it for field, _ in fields for it in (script_shape.PAINT if field == "paint" else [field])}
+        if set(schema["$defs"][key]["properties"]) != wanted:
+            yield name
+
+
 def main():
     try:
         import jsonschema
@@ -70,11 +90,16 @@ def main():
     schema = json.loads((ROOT / "docs" / "script.schema.json").read_text())
     draft = jsonschema.Draft202012Validator
     draft.check_schema(schema)
-    is_valid = draft(schema).is_valid
+    validator = draft(schema)
+    is_valid = validator.is_valid
     examples = sorted([*(ROOT / "examples").glob("*.json"), *(ROOT / "docs" / "tutorial").glob("*.json")])
     wrong = [f"{path.name} is refused" for path in examples if not is_valid(json.loads(path.read_text()))]
     wrong += [] if is_valid(BASE) else ["the script to be changed is refused"]
-    wrong += [f"accepted: {what}" for what, place, value in CHANGES if is_valid(changed(place, value))]
+    for what, place, value in CHANGES:
+        errors = list(validator.iter_errors(changed(place, value)))
+        if not is_told(errors, place):
+            wrong.append(f"not told at its place: {what}, but at {[list(it.absolute_path) for it in errors]}")
+    wrong += [f"other fields than in script_shape.py: {name}" for name in other_fields(schema)]
     for line in wrong:
         print(f"check_examples: {line}", file=sys.stderr)
     print(f"check_examples: {len(examples)} examples, {len(CHANGES)} changed scripts, {len(wrong)} wrong")

@@ -1,13 +1,14 @@
 #!/usr/bin/env python3
-"""Checks docs/TUTORIAL.md against the program: scripts, pictures, and what the text quotes of them.
+"""Checks docs/TUTORIAL.md and docs/BLOG.md against the program: scripts, pictures, and what the texts quote of them.
 
 usage: tools/check_tutorial.py [PROGRAM] [--store]
 
 PROGRAM (crates/cc_player/out/cc_player, which the gate builds) must play each script of docs/tutorial/. Each picture
 that the text shows must be what the program draws: stepN-K.png is picture K of stepN.json, from 0, and stepN.png the
 film of all its pictures. In the section of step N the lines of a json block must stand in stepN.json and those of a
-text block in the events of its recording, one right after the other; a line `..` leaves lines out. --store writes the
-pictures anew, to be looked at before they are committed.
+text block in the events of its recording, one right after the other; a line `..` leaves lines out. The same of BLOG.md
+and examples/blog.json, whose film is docs/blog.png; its page blocks stand in examples/blog.page and its draws block is
+what `recording.py draws` tells. --store writes the pictures anew, to be looked at before they are committed.
 """
 import argparse
 import pathlib
@@ -17,13 +18,15 @@ import sys
 import zlib
 
 sys.dont_write_bytecode = True
+import png
 import recording
 from png_chunks import chunks_of
 
 ROOT = pathlib.Path(__file__).resolve().parent.parent
 TEXT, FOLDER = ROOT / "docs" / "TUTORIAL.md", ROOT / "docs" / "tutorial"
 SECTION, LINK = re.compile(r"^## (\d+)\. ", re.M), re.compile(r"\]\(tutorial/(step(\d+)(?:-(\d+))?\.png)\)")
-BLOCK = re.compile(r"^```(json|text)\n(.*?)^```$", re.M | re.S)
+BLOCK = re.compile(r"^```(json|text|page|draws)\n(.*?)^```$", re.M | re.S)
+BLOG, BLOG_FILM, BLOG_SCRIPT = ROOT / "docs" / "BLOG.md", ROOT / "docs" / "blog.png", ROOT / "examples" / "blog.json"
 
 
 def played(program, script):
@@ -34,14 +37,14 @@ def played(program, script):
     return recording.Recording(ran.stdout)
 
 
-def picture_of(played_step, number):
+def picture_of(played_step, number, delay=100):
     """The PNG file of a picture, or the film where there is no number."""
     images = list(played_step.images())
     if number is not None:
         image = images[int(number)]
-        return recording.png(image.width, image.height, played_step.pixels(image))
+        return png.whole(image.width, image.height, played_step.pixels(image))
     pictures = ((it.width, it.height, played_step.pixels(it)) for it in images)
-    return b"".join(recording.Film([(it.width, it.height) for it in images], 100).pieces(pictures))
+    return b"".join(png.Film([(it.width, it.height) for it in images], delay).pieces(pictures))
 
 
 def content(file):
@@ -57,7 +60,7 @@ def run_not_in(quoted, lines):
     """The first line of the first run of quoted lines, parted by `..`, that does not stand in these lines after the
     run before it; None where all do."""
     lines, runs, at = [it.strip() for it in lines], [[]], 0
-    for line in (it.strip() for it in quoted.splitlines()):
+    for line in filter(None, (it.strip() for it in quoted.splitlines())):
         runs = [*runs, []] if line == ".." else [*runs[:-1], [*runs[-1], line]]
     for run in filter(None, runs):
         found = next((it for it in range(at, len(lines)) if lines[it:it + len(run)] == run), None)
@@ -75,11 +78,30 @@ def wrong_quotes(text, scripts, steps):
         if name not in steps:
             yield f"section {start[1]} has no {name}.json"
             continue
-        lines = {"json": scripts[name].read_text().splitlines(), "text": [it.line for it in steps[name].events()]}
-        for block in BLOCK.finditer(text, start.end(), end):
-            line = run_not_in(block[2], lines[block[1]])
-            if line is not None:
-                yield f"section {start[1]}: the {block[1]} that begins with {line} does not stand there"
+        yield from (f"section {start[1]}: {told}" for told in wrong_blocks(text[start.end():end], scripts[name], steps[name]))
+
+
+def wrong_blocks(text, script, step):
+    """The blocks of a text that do not stand in a script, in its description or in its recording."""
+    page = script.with_suffix(".page")
+    described = [it for it in page.read_text().splitlines() if it and not it.startswith("#")] if page.exists() else []
+    lines = {"json": script.read_text().splitlines(), "text": [it.line for it in step.events()],
+             "draws": list(recording.draw_lines(step)), "page": described}
+    for block in BLOCK.finditer(text):
+        line = run_not_in(block[2], lines[block[1]])
+        if line is not None:
+            yield f"the {block[1]} that begins with {line} does not stand there"
+
+
+def wrong_blog(program, is_stored):
+    """What BLOG.md quotes or shows and is not so."""
+    step = played(program, BLOG_SCRIPT)
+    yield from (f"BLOG.md: {told}" for told in wrong_blocks(BLOG.read_text(), BLOG_SCRIPT, step))
+    film = picture_of(step, None, 700)
+    if is_stored:
+        BLOG_FILM.write_bytes(film)
+    elif content(BLOG_FILM.read_bytes()) != content(film):
+        yield f"{BLOG_FILM.name} is not what the program draws"
 
 
 def wrong_pictures(text, steps, is_stored):
@@ -104,7 +126,7 @@ def main():
     text, scripts = TEXT.read_text(), {it.stem: it for it in sorted(FOLDER.glob("*.json"))}
     try:
         steps = {name: played(words.program, script) for name, script in scripts.items()}
-        wrong = [*wrong_quotes(text, scripts, steps), *wrong_pictures(text, steps, words.store)]
+        wrong = [*wrong_quotes(text, scripts, steps), *wrong_pictures(text, steps, words.store), *wrong_blog(words.program, words.store)]
     except (OSError, recording.Bad, recording.Trouble, KeyError, IndexError, ValueError) as fault:
         wrong, steps = [f"{type(fault).__name__}: {fault}"], {}
     for line in wrong:

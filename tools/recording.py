@@ -5,8 +5,10 @@ usage: recording.py pictures RECORDING PREFIX      PREFIX-n.ppm and PREFIX-n.png
        recording.py film RECORDING FILE [--delay MS] [--scale N]
                                                    one animated PNG of all pictures; FILE ending in .mkv, .mp4 or
                                                    .webm: a video, made by ffmpeg, which has to be there
-       recording.py events RECORDING               the lines of the events, without the images
-       recording.py stats RECORDING                events by kind, missing tiles, tiles made and given up, bytes
+       recording.py events RECORDING [--number]    the lines of the events, without the images
+       recording.py draws RECORDING                for each draw its input, its picture and the main frame that it shows
+       recording.py missing RECORDING              for each picture the missing tiles: layer, how many, and why
+       recording.py stats RECORDING                events by kind, draws without a picture, missing tiles, bytes
        recording.py trace RECORDING                a timeline in the trace event format, for browsers' viewers
 
 A recording is what cc_player writes; docs/FORMAT.md describes it. RECORDING may be - for standard input. A file
@@ -19,10 +21,11 @@ import json
 import mmap
 import re
 import shutil
-import struct
 import subprocess
 import sys
-import zlib
+
+sys.dont_write_bytecode = True
+import png
 
 NUMBER, SIGNED = r"(?:0|[1-9][0-9]*)", r"(?:0|-?[1-9][0-9]*)"
 KEYS = rf"(?: {NUMBER}/{NUMBER}/{NUMBER}/{NUMBER})*"
@@ -76,7 +79,7 @@ class Recording:
     def __init__(self, data):
         self.data = data
         if data[:4] != b"cc1\n":
-            raise Bad(0, "the line cc1 does not stand first")
+            raise Bad(0, "the line cc1 does not stand first" + ("; this looks like a script: play it first" if data[:1] == b"{" else ""))
         end = data.find(b"\n", 4)
         if end < 0:
             raise Bad(4, "the script's line has no end")
@@ -118,14 +121,14 @@ class Recording:
             if line.startswith("draw "):
                 image = self.image_at(end + 1, self.size_at(frame))
                 if not image:
-                    raise Bad(place, "a draw without an image of the right size")
+                    raise Bad(end + 1, "no image of %d by %d pixels after the draw" % self.size_at(frame))
             elif line.startswith("activate "):
                 frame = int(line.split(" ")[1])
             yield Event(index, place, line, image)
             place, index = (image.end if image else end + 1), index + 1
             if line == "end":
                 if place < len(data):
-                    raise Bad(place, "bytes behind the end")
+                    raise Bad(place, "bytes after the end")
                 return
 
     def pixels(self, image):
@@ -135,6 +138,16 @@ class Recording:
     def images(self):
         """The images of the draws in order."""
         return (event.image for event in self.events() if event.image)
+
+
+def first_fault(data):
+    """What is wrong with bytes that are to be a recording, or None."""
+    try:
+        for _ in Recording(data).events():
+            pass
+    except Bad as fault:
+        return str(fault)
+    return None
 
 
 def script_of(line):
@@ -192,117 +205,6 @@ def write_file(name, pieces):
         raise Trouble(f"{name}: {fault.strerror}") from fault
 
 
-# PNG
-
-def chunk(kind, data):
-    """A chunk of a PNG file."""
-    return struct.pack(">I", len(data)) + kind + data + struct.pack(">I", zlib.crc32(kind + data))
-
-
-def head(width, height, channels):
-    """The signature of a PNG file and its header, for 3 or 4 bytes a pixel."""
-    kind = 2 if channels == 3 else 6
-    return b"\x89PNG\r\n\x1a\n" + chunk(b"IHDR", struct.pack(">IIBBBBB", width, height, 8, kind, 0, 0, 0))
-
-
-def packed(rows):
-    """Rows of pixels as the data of a PNG file; each row is unfiltered."""
-    return zlib.compress(b"".join(b"\0" + row for row in rows), 9)
-
-
-def rows_of(pixels, width, channels=3):
-    """Pixels cut into their rows."""
-    return [pixels[at:at + channels * width] for at in range(0, len(pixels), channels * width)]
-
-
-def png(width, height, pixels):
-    """A PNG file of pixels of three bytes."""
-    return head(width, height, 3) + chunk(b"IDAT", packed(rows_of(pixels, width))) + chunk(b"IEND", b"")
-
-
-def changed_box(before, after, width):
-    """The smallest box of pixels that differ between two pictures of one size: x, y, width, height. The first pixel
-    where none does."""
-    rows = [y for y, (one, other) in enumerate(zip(rows_of(before, width), rows_of(after, width))) if one != other]
-    if not rows:
-        return 0, 0, 1, 1
-    left, right = width, 0
-    for y in rows:
-        one, other = before[3 * width * y:3 * width * (y + 1)], after[3 * width * y:3 * width * (y + 1)]
-        first = next(at for at in range(3 * width) if one[at] != other[at])
-        last = next(at for at in range(3 * width - 1, -1, -1) if one[at] != other[at])
-        left, right = min(left, first // 3), max(right, last // 3)
-    return left, rows[0], right - left + 1, rows[-1] - rows[0] + 1
-
-
-def scaled(picture, scale):
-    """A picture with each pixel as a square of this side."""
-    width, height, pixels = picture
-    if scale == 1:
-        return picture
-    rows = []
-    for row in rows_of(pixels, width):
-        wide = b"".join(row[at:at + 3] * scale for at in range(0, 3 * width, 3))
-        rows.append(wide * scale)
-    return width * scale, height * scale, b"".join(rows)
-
-
-def on_canvas(picture, width, height):
-    """A picture in the upper left of a canvas of pixels of four bytes; what it leaves is transparent."""
-    own, _, pixels = picture
-    rows = [b"".join(row[at:at + 3] + b"\xff" for at in range(0, 3 * own, 3)) + bytes(4 * (width - own))
-            for row in rows_of(pixels, own)]
-    return rows + [bytes(4 * width)] * (height - len(rows))
-
-
-class Film:
-    """The frames of an animated PNG file, each with its delay in milliseconds. Pictures of one size are told by what
-    changed; where sizes differ, each stands whole on a canvas that is as large as the largest."""
-
-    def __init__(self, sizes, delay):
-        self.width, self.height = max(w for w, _ in sizes), max(h for _, h in sizes)
-        self.is_even, self.delay = len(set(sizes)) == 1, delay
-        self.count, self.number, self.before, self.total = 0, 0, None, len(sizes)
-
-    def control(self, box):
-        """The chunk before a frame's data: its box, its delay; it takes the place of what is there."""
-        x, y, width, height = box
-        told = struct.pack(">IIIIIHHBB", self.number, width, height, x, y, self.delay, 1000, 0, 0)
-        self.number += 1
-        return chunk(b"fcTL", told)
-
-    def data(self, rows):
-        """A frame's data, which for the first one is that of the still picture too."""
-        if self.count == 0:
-            return chunk(b"IDAT", packed(rows))
-        self.number += 1
-        return chunk(b"fdAT", struct.pack(">I", self.number - 1) + packed(rows))
-
-    def frame(self, picture):
-        """The chunks of one more frame."""
-        width, height, pixels = picture
-        box = (0, 0, self.width, self.height)
-        if not self.is_even:
-            rows = on_canvas(picture, self.width, self.height)
-        elif self.before is None:
-            rows = rows_of(pixels, width)
-        else:
-            box = changed_box(self.before, pixels, width)
-            x, y, wide, high = box
-            rows = [pixels[3 * (width * at + x):3 * (width * at + x + wide)] for at in range(y, y + high)]
-        told = self.control(box) + self.data(rows)
-        self.before, self.count = pixels, self.count + 1
-        return told
-
-    def pieces(self, pictures):
-        """The whole file."""
-        yield head(self.width, self.height, 3 if self.is_even else 4)
-        yield chunk(b"acTL", struct.pack(">II", self.total, 0))
-        for picture in pictures:
-            yield self.frame(picture)
-        yield chunk(b"IEND", b"")
-
-
 # The words
 
 def write_pictures(recording, words):
@@ -310,7 +212,7 @@ def write_pictures(recording, words):
     for number, image in enumerate(recording.images()):
         name = f"{words.prefix}-{number}"
         write_file(name + ".ppm", [bytes(recording.data[image.at:image.end])])
-        write_file(name + ".png", [png(image.width, image.height, recording.pixels(image))])
+        write_file(name + ".png", [png.whole(image.width, image.height, recording.pixels(image))])
         print(name + ".ppm", name + ".png")
 
 
@@ -350,16 +252,94 @@ def write_film(recording, words):
     if words.file.endswith((".mkv", ".mp4", ".webm")):
         write_video(recording, images, words)
     else:
-        pictures = (scaled((it.width, it.height, recording.pixels(it)), words.scale) for it in images)
+        pictures = (png.scaled((it.width, it.height, recording.pixels(it)), words.scale) for it in images)
         sizes = [(it.width * words.scale, it.height * words.scale) for it in images]
-        write_file(words.file, Film(sizes, words.delay).pieces(pictures))
+        write_file(words.file, png.Film(sizes, words.delay).pieces(pictures))
     print(f"{words.file}: {len(images)} pictures")
 
 
 def write_events(recording, words):
-    """events: the lines."""
+    """events: the lines, without the images."""
     for event in recording.events():
-        print(event.line)
+        print(f"{event.index} {event.line}" if words.number else event.line)
+
+
+def draws_of(recording):
+    """Each draw that a script asked for: its event, the number of its picture, or None where it was skipped, and the
+    main frame that was active."""
+    frame, pictures = None, 0
+    for event in recording.events():
+        word, *fields = event.line.split(" ")
+        if word == "activate":
+            frame = int(fields[0])
+        if word in ("draw", "skip"):
+            yield event, pictures if event.image else None, frame
+        pictures += word == "draw"
+
+
+def draw_lines(recording):
+    """A line for each draw: its input, its picture, the main frame that it shows, its missing tiles."""
+    for event, picture, frame in draws_of(recording):
+        _, number, *missing = event.line.split(" ")
+        if picture is None:
+            yield f"input {number}: no picture, since no main frame was active yet (event {event.index})"
+        else:
+            size = f"{event.image.width} by {event.image.height}"
+            yield f"input {number}: picture {picture}, main frame {frame}, {size}, {len(missing)} missing (event {event.index})"
+
+
+def write_draws(recording, words):
+    """draws: a line for each draw: its input, its picture, the main frame that it shows, its missing tiles."""
+    for line in draw_lines(recording):
+        print(line)
+
+
+class Tiles:
+    """What became of the tiles of a recording so far, by their keys."""
+
+    def __init__(self):
+        self.made, self.started, self.given_up, self.known = set(), {}, {}, set()
+
+    def enter(self, event):
+        """Follows an event."""
+        word, *fields = event.line.split(" ")
+        if word == "start":
+            self.started[fields[1]] = event.index
+            for key in fields[2:]:
+                self.made.discard(key)
+                self.given_up[key] = event.index
+        elif word == "done":
+            self.started.pop(fields[1], None)
+            self.made.add(fields[1])
+            self.known.add(fields[1].rsplit("/", 1)[0])
+
+    def why_missing(self, key):
+        """Why a tile can't be drawn."""
+        if key in self.started:
+            return f"being made since event {self.started[key]}"
+        if key in self.given_up:
+            return f"given up at event {self.given_up[key]}"
+        place, stamp = key.rsplit("/", 1)
+        return f"not made anew since main frame {stamp} changed it" if place in self.known else "not made yet"
+
+
+def missing_of(recording):
+    """The missing tiles of each picture: its number, its event, the layer, why, and how many."""
+    tiles, picture = Tiles(), 0
+    for event in recording.events():
+        tiles.enter(event)
+        if event.image:
+            keys = event.line.split(" ")[2:]
+            found = collections.Counter((int(key.split("/")[0]), tiles.why_missing(key)) for key in keys)
+            for (layer, why), count in found.items():
+                yield picture, event, layer, why, count
+            picture += 1
+
+
+def write_missing(recording, words):
+    """missing: which pictures lack tiles: the layer, how many, and why."""
+    for picture, event, layer, why, count in missing_of(recording):
+        print(f"picture {picture}, event {event.index}, layer {layer}: {count} {'tile' if count == 1 else 'tiles'}, {why}")
 
 
 def stats_of(recording):
@@ -387,6 +367,7 @@ def stats_of(recording):
     yield "pictures", kinds["draw"]
     for size, count in sizes.items():
         yield f"  {size}", count
+    yield "draws that gave no picture", kinds["skip"]
     yield "draws with missing tiles", lacking
     yield "missing tiles in all", missing
     yield "tiles made", kinds["done"]
@@ -454,12 +435,14 @@ def parser():
     words = argparse.ArgumentParser(description=__doc__, formatter_class=argparse.RawDescriptionHelpFormatter)
     verbs = words.add_subparsers(dest="verb", required=True)
     for verb, does in (("pictures", write_pictures), ("film", write_film), ("events", write_events),
-                       ("stats", write_stats), ("trace", write_trace)):
+                       ("draws", write_draws), ("missing", write_missing), ("stats", write_stats), ("trace", write_trace)):
         own = verbs.add_parser(verb, help=does.__doc__.split(": ", 1)[1])
         own.set_defaults(does=does)
         own.add_argument("recording")
         if verb == "pictures":
             own.add_argument("prefix")
+        if verb == "events":
+            own.add_argument("--number", action="store_true", help="the number of each event before its line, from 0")
         if verb == "film":
             own.add_argument("file")
             own.add_argument("--delay", type=float, default=100, help="milliseconds a picture, 1 to 65535 (100)")

@@ -30,7 +30,8 @@ from crate_list import CRATES, ROOT, CrateList
 TITLED = ("test_program", "test_histories")
 # The program that runs in parts, and in how many.
 SPLIT, PARTS = "test_program", 2
-TOOLS = ("map.py", "check_examples.py", "check_words.py", "believed.py", "audit.py --look", "try_recordings.py")
+TOOLS = ("map.py", "check_examples.py", "check_words.py", "believed.py", "audit.py --look", "try_recordings.py",
+         "try_explain.py --alone")
 # What one `rt try` takes, with the check of names that runs beside it.
 MEMORY = 4 << 30
 # No interpreter, which could not end any of these, and time enough for code that is checked at each step.
