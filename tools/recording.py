@@ -6,7 +6,8 @@ usage: recording.py pictures RECORDING PREFIX      PREFIX-n.ppm and PREFIX-n.png
                                                    one animated PNG of all pictures; FILE ending in .mkv, .mp4 or
                                                    .webm: a video, made by ffmpeg, which has to be there
        recording.py events RECORDING [--number]    the lines of the events, without the images
-       recording.py draws RECORDING                for each draw its input, its picture and the main frame that it shows
+       recording.py draws RECORDING                for each draw its input, its picture and the main frame that it shows;
+                                                   at the end the main frames that no picture shows
        recording.py missing RECORDING              for each picture the missing tiles: layer, how many, and why
        recording.py stats RECORDING                events by kind, draws without a picture, missing tiles, bytes
        recording.py trace RECORDING                a timeline in the trace event format, for browsers' viewers
@@ -277,8 +278,25 @@ def draws_of(recording):
         pictures += word == "draw"
 
 
+def unseen_frames(recording):
+    """The first and the last main frame that was committed and is in no picture, or None. A picture shows the active
+    frame and all before it; a frame that was aborted changed nothing."""
+    shown, active, committed = -1, -1, []
+    for event in recording.events():
+        word, *fields = event.line.split(" ")
+        if word == "commit":
+            committed.append(int(fields[0]))
+        elif word == "activate":
+            active = int(fields[0])
+        elif event.image:
+            shown = active
+    unseen = [frame for frame in committed if frame > shown]
+    return (unseen[0], unseen[-1]) if unseen else None
+
+
 def draw_lines(recording):
-    """A line for each draw: its input, its picture, the main frame that it shows, its missing tiles."""
+    """A line for each draw: its input, its picture, the main frame that it shows, its missing tiles; and one for the
+    main frames that no picture shows."""
     for event, picture, frame in draws_of(recording):
         _, number, *missing = event.line.split(" ")
         if picture is None:
@@ -286,10 +304,16 @@ def draw_lines(recording):
         else:
             size = f"{event.image.width} by {event.image.height}"
             yield f"input {number}: picture {picture}, main frame {frame}, {size}, {len(missing)} missing (event {event.index})"
+    unseen = unseen_frames(recording)
+    if unseen:
+        first, last = unseen
+        which = f"main frame {first} is" if first == last else f"main frames {first} to {last} are"
+        yield f"{which} in no picture: no draw came after the activation; put an await of frame {last} before the last draw, or add draws"
 
 
 def write_draws(recording, words):
-    """draws: a line for each draw: its input, its picture, the main frame that it shows, its missing tiles."""
+    """draws: a line for each draw: its input, its picture, the main frame that it shows, its missing tiles; and one for
+    the main frames that no picture shows."""
     for line in draw_lines(recording):
         print(line)
 
