@@ -13,6 +13,8 @@ DEEPEST = 127
 SPACE = re.compile(r"[ \t\n\r]*")
 NUMBER = re.compile(r"-?(?:0|[1-9][0-9]*)(\.[0-9]+)?([eE][+-]?[0-9]+)?", re.ASCII)
 WORDS = {"true": True, "false": False, "null": None}
+# What the next element of a list, or the next member of an object, begins with.
+NEXT = {"]": re.compile(r'["{\[]|-?[0-9]|(?:true|false|null)\b'), "}": re.compile('"')}
 SURROGATE = re.compile("[\ud800-\udfff]")
 
 
@@ -103,11 +105,15 @@ class Reader:
         if sign == closing:
             return at + 1, True
         if sign != ",":
-            self.fail(at, f"a comma or {closing} is due")
+            self.fail(self.due_at(at, closing), f"a comma or {closing} is due")
         at = self.space(at + 1)
         if self.text[at:at + 1] == closing:
             self.fail(at, f"a comma stands before {closing}, where no element follows")
         return at, False
+
+    def due_at(self, at, closing):
+        """Where a comma is due: right after the element before, if a further one follows; else at what stands there."""
+        return len(self.text[:at].rstrip(" \t\n\r")) if NEXT[closing].match(self.text, at) else at
 
     def string(self, at):
         try:

@@ -51,10 +51,27 @@ def for_json(text, fault):
     if "before" in fault.why:
         return "take out the comma before the closing bracket"
     if "comma" in fault.why:
-        return "put a comma between the element before and this one, or close the list"
+        return for_comma(text, fault)
     if "deep" in fault.why:
         return "take out the nested value: no script is more than five deep"
     return OTHERS.get(fault.why, "write it as JSON: docs/FORMAT.md begins with an example")
+
+
+def for_comma(text, fault):
+    """What to do where neither a comma nor the closing bracket comes after an element."""
+    what, closing, part = ("object", "}", "member") if "}" in fault.why else ("list", "]", "element")
+    follows = json_places.SPACE.match(text, fault.at).end()
+    if re.compile("0[0-9xX]").match(text, fault.at - 1):
+        return "write the number in plain decimal, without leading zeros or a prefix"
+    if what == "list" and re.compile(r':|"[^"\n]*"\s*:').match(text, follows):
+        return "close the list before this name: names with a colon stand in objects alone"
+    if json_places.NEXT[closing].match(text, follows):
+        line, _ = json_places.line_and_column(text, follows)
+        is_below = line > json_places.line_and_column(text, fault.at)[0]
+        return f"put a comma here: another {part} follows" + (f", on line {line}" if is_below else "")
+    if text[follows:follows + 1] in ("]", "}"):
+        return f"close the {what} with {closing} before this bracket"
+    return f"take out what stands here: after the {part} before it a comma or {closing} is due"
 
 
 COMMON = {
