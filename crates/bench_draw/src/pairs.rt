@@ -1,8 +1,8 @@
-//! Pairs of random scenes: the damage from one to the other is drawn over the frame of the first.
+//! Pairs of random scenes: the damage from one to the other is drawn over the picture of the first.
 
 ghost use Rattle.std.specs.Prelude.{◌≡◌, IsTrue, IfOk};
 ghost use Rattle.viz_scene.specs.Views.{SceneView};
-ghost use Rattle.viz_render.specs.Frames.{IsOfSize};
+ghost use Rattle.viz_canvas.specs.Canvases.{IsOfSize};
 
 use crate::pool::pool_of;
 use crate::scenes::Dice;
@@ -13,10 +13,10 @@ use std::alloc::{AllocError, Global};
 use std::io;
 use std::sync::Arc;
 use tile_raster::TileImage;
+use viz_canvas::{Canvas, Rgba};
 use viz_damage::damage_of;
 use viz_occlusion::cull;
 use viz_painter::Painter;
-use viz_render::{Frame, render, render_region};
 use viz_scene::Scene;
 
 /// What came out of some pairs.
@@ -26,7 +26,7 @@ struct PairCounts {
     pairs: u64,
     /// How many sketches made no scene.
     skipped: u64,
-    /// How many pairs have another frame than that of the second scene after its damage was drawn.
+    /// How many pairs have another picture than that of the second scene after its damage was drawn.
     wrong: u64,
     /// How many a painter shows otherwise.
     shown_otherwise: u64,
@@ -46,20 +46,20 @@ struct PairResult {
     changed: u64,
 }
 
-// the frame of a scene
-fn drawn(alloc: Global, scene: &Scene) -> Result<Frame, AllocError>
-    ensures { IfOk result (λ frame. IsOfSize scene.now.w scene.now.h frame) }
+// the picture of a scene
+fn drawn(alloc: Global, scene: &Scene) -> Result<Canvas<Rgba>, AllocError>
+    ensures { IfOk result (λ canvas. IsOfSize scene.now.w scene.now.h canvas) }
 {
-    let mut frame = Frame::new(alloc, scene.w(), scene.h())?;
-    render(scene, &mut frame)?;
-    Ok(frame)
+    let mut canvas = Canvas::new(alloc, scene.w(), scene.h())?;
+    canvas.draw(scene)?;
+    Ok(canvas)
 }
 
-// the points of a region on a frame
-fn area_of(region: &Region, frame: &Frame) -> u64 {
+// the points of a region on a canvas
+fn area_of(region: &Region, canvas: &Canvas<Rgba>) -> u64 {
     let mut area = 0u64;
-    for y in 0..frame.h() {
-        for x in 0..frame.w() {
+    for y in 0..canvas.h() {
+        for x in 0..canvas.w() {
             let at = Point {
                 x: x as i32,
                 y: y as i32,
@@ -98,28 +98,28 @@ fn differing(a: &[u8], b: &[u8]) -> u64 {
     count
 }
 
-// draws the damage of the second scene over the frame of the first
+// draws the damage of the second scene over the picture of the first
 fn try_damage(alloc: Global, old: &Scene, new: &Scene) -> Result<PairResult, AllocError>
     requires wide { old.now.w ≡ new.now.w }
     requires tall { old.now.h ≡ new.now.h }
 {
     let before = drawn(alloc, old)?;
     let after = drawn(alloc, new)?;
-    let mut frame = drawn(alloc, old)?;
+    let mut canvas = drawn(alloc, old)?;
     let region = damage_of(alloc, old, new)?;
-    render_region(new, &mut frame, &region)?;
+    canvas.draw_region(new, &region)?;
     Ok(PairResult {
-        is_right: frame.bytes() == after.bytes(),
+        is_right: canvas.bytes() == after.bytes(),
         damaged: area_of(&region, &after),
         changed: differing(before.bytes(), after.bytes()),
     })
 }
 
-// whether a painter that shows the scene has the right frame
-fn shows(alloc: Global, painter: &mut Painter, scene: Scene) -> Result<bool, AllocError> {
+// whether a painter that shows the scene has the right picture
+fn shows(alloc: Global, painter: &mut Painter<Rgba>, scene: Scene) -> Result<bool, AllocError> {
     let wanted = drawn(alloc, &scene)?;
     painter.paint(scene)?;
-    Ok(painter.frame().bytes() == wanted.bytes())
+    Ok(painter.canvas().bytes() == wanted.bytes())
 }
 
 // whether two scenes are of one size
@@ -170,7 +170,7 @@ fn try_culled(alloc: Global, old: &Scene, new: &Scene) -> Result<PairResult, All
 // tries a pair in each way
 fn try_pair(
     alloc: Global,
-    painter: &mut Painter,
+    painter: &mut Painter<Rgba>,
     old: Scene,
     new: Scene,
     figures: &mut PairCounts,
@@ -191,7 +191,7 @@ fn try_pair(
 fn try_throw(
     alloc: Global,
     pool: &[Arc<TileImage>],
-    painter: &mut Painter,
+    painter: &mut Painter<Rgba>,
     seed: u64,
     figures: &mut PairCounts,
 ) -> Result<(), AllocError> {

@@ -13,7 +13,7 @@ use pixel::Colour;
 use std::alloc::{AllocError, Global};
 use std::sync::Arc;
 use tile_raster::Job;
-use viz_render::{Frame, render};
+use viz_canvas::{Canvas, Rgb};
 use viz_scene::{Quad, RenderPass, Scene};
 
 /// Numbers that look random.
@@ -184,11 +184,11 @@ pub(crate) fn draw(
     } else {
         flat(alloc, items, layers)?
     };
-    let mut frame = Frame::new(alloc, 1024, 1024)?;
+    let mut canvas = Canvas::<Rgb>::new(alloc, 1024, 1024)?;
     for _turn in 0..times {
-        render(&scene, &mut frame)?;
+        canvas.draw(&scene)?;
     }
-    match frame.bytes().first() {
+    match canvas.bytes().first() {
         Some(first) => Ok(*first as u64),
         None => Ok(0),
     }

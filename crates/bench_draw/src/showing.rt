@@ -5,6 +5,7 @@ ghost use Rattle.bench_draw.specs.Jobs.{IsLarge};
 
 use crate::large::layered;
 use std::alloc::{AllocError, Global};
+use viz_canvas::Rgb;
 use viz_damage::damage_of;
 use viz_occlusion::cull;
 use viz_painter::Painter;
@@ -86,13 +87,13 @@ fn damages(alloc: Global, old: &Scene, new: &Scene, times: u32) -> Result<u64, A
     Ok(sum)
 }
 
-// shows a copy of a scene, and gives the first byte of the frame
-fn show_copy(alloc: Global, painter: &mut Painter, scene: &Scene) -> Result<u64, AllocError> {
+// shows a copy of a scene, and gives the first byte of the canvas
+fn show_copy(alloc: Global, painter: &mut Painter<Rgb>, scene: &Scene) -> Result<u64, AllocError> {
     let Some(copy) = copied(alloc, scene)? else {
         return Ok(0);
     };
     painter.paint(copy)?;
-    match painter.frame().bytes().first() {
+    match painter.canvas().bytes().first() {
         Some(first) => Ok(*first as u64),
         None => Ok(0),
     }

@@ -8,7 +8,7 @@ use Rattle.model_history.specs.declared.history.Entry.{Entry}
 use Rattle.model_history.specs.Scripts.{ScriptModel}
 use Rattle.model_history.specs.Recordings.{image_head, shown_image, image_behind}
 use Rattle.recording_writer.specs.declared.last_draw.LastDraw.{LastDraw}
-use Rattle.recording_writer.specs.inner.Packed.{PicturesView}
+use Rattle.viz_canvas.specs.Canvases.{CanvasView}
 use Rattle.recording_writer.specs.inner.Repeats.{missing_in, image_of, KeepsAt, KeepsFrom, Keeps}
 use Rattle.recording_writer.proofs.Places.{still_there}
 
@@ -18,7 +18,7 @@ behind_draw s h (event.Draw i lacks) missing lists = let same : missing ≡ lack
 behind_draw s h _ missing lists = absurd cc
 
 -- what was drawn now is kept
-pub kept_here : (s : ScriptModel) (h entries : List Entry) (picture : PicturesView) (at : ℕ) (e : Entry) → slice_get entries at ≡ Some e → image_of picture ≡ image_behind s h e.event
+pub kept_here : (s : ScriptModel) (h entries : List Entry) (picture : CanvasView) (at : ℕ) (e : Entry) → slice_get entries at ≡ Some e → image_of picture ≡ image_behind s h e.event
     → KeepsAt s h entries picture at
 kept_here s h entries picture at e there image = record {
   drawn = e;
@@ -27,7 +27,7 @@ kept_here s h entries picture at e there image = record {
 }
 
 -- it is kept where more comes after the entries
-from_longer : (s : ScriptModel) (h entries news : List Entry) (picture : PicturesView) (place : Option ℕ) → KeepsFrom s h entries picture place → KeepsFrom s h (entries ++ news) picture place
+from_longer : (s : ScriptModel) (h entries news : List Entry) (picture : CanvasView) (place : Option ℕ) → KeepsFrom s h entries picture place → KeepsFrom s h (entries ++ news) picture place
 from_longer s h entries news picture None keeps = tt
 from_longer s h entries news picture (Some at) keeps = record {
   drawn = keeps.drawn;
@@ -36,14 +36,14 @@ from_longer s h entries news picture (Some at) keeps = record {
 }
 
 pub keeps_longer : (s : ScriptModel) (h entries news : List Entry) (last : LastDraw) → Keeps s h entries last → Keeps s h (entries ++ news) last
-keeps_longer s h entries news last keeps = from_longer s h entries news last.pictures last.place keeps
+keeps_longer s h entries news last keeps = from_longer s h entries news last.painter.canvas last.place keeps
 
 -- the head of the image after some lines, and then the packed pixels
-pub drawn_text : (p : PicturesView) (lines text behind : List ℕ) (w h : ℕ) → w ≡ p.frame.w → h ≡ p.frame.h → text ≡ lines ++ image_head w h → image_of p ≡ behind
-    → text ++ p.packed ≡ lines ++ behind
+pub drawn_text : (p : CanvasView) (lines text behind : List ℕ) (w h : ℕ) → w ≡ p.w → h ≡ p.h → text ≡ lines ++ image_head w h → image_of p ≡ behind
+    → text ++ p.bytes ≡ lines ++ behind
 drawn_text p lines text behind w h wide tall made is =
-    ap (λ (xs : List ℕ). xs ++ p.packed) (made ∙ ap (λ (n : ℕ). lines ++ image_head n h) wide ∙ ap (λ (n : ℕ). lines ++ image_head p.frame.w n) tall)
-    ∙ append_assoc lines (image_head p.frame.w p.frame.h) p.packed
+    ap (λ (xs : List ℕ). xs ++ p.bytes) (made ∙ ap (λ (n : ℕ). lines ++ image_head n h) wide ∙ ap (λ (n : ℕ). lines ++ image_head p.w n) tall)
+    ∙ append_assoc lines (image_head p.w p.h) p.bytes
     ∙ ap (λ (xs : List ℕ). lines ++ xs) is
 
 -- what is kept is kept however writing ends

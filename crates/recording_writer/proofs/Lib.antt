@@ -1,10 +1,9 @@
 pub mod DrawnScenes
 pub mod Gains
 pub mod KeptPictures
-pub mod PackedFrames
 pub mod Places
 pub mod PlayedWays
 pub mod QuietEvents
 pub mod RecordedRuns
 pub mod Rows
-pub mod Shows
+pub mod ShownImages

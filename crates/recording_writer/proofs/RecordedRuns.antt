@@ -33,7 +33,7 @@ pub fresh_written : (s : ScriptModel) (m : SingleModel) (r : Recorder) → IsFre
 fresh_written s m r (n, is) none =
     subst (λ (z : SingleModel). IsWritten z r) (sym is) (record {
       all = refl;
-      keeps = subst (λ (o : Option ℕ). KeepsFrom s [] [] r.last.pictures o) (sym none) tt;
+      keeps = subst (λ (o : Option ℕ). KeepsFrom s [] [] r.last.painter.canvas o) (sym none) tt;
     })
 
 -- it can play the whole run

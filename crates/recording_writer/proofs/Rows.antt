@@ -1,6 +1,5 @@
 -- Rows and pixels, one after another.
-use Rattle.std.proofs.Common.{◌≡◌, ℕ, zero, suc, ◌+◌, ◌*◌, ◌<◌, ◌≤◌, List, ◌++◌, refl, ap, ◌∙◌, arith}
-use Rattle.std.proofs.lemmas.Nat.{mul-le}
+use Rattle.std.proofs.Common.{◌≡◌, ℕ, zero, suc, ◌<◌, List, ◌++◌, refl, ap, ◌∙◌, arith}
 use Rattle.pixel.specs.Colours.{Parts}
 use Rattle.model_history.specs.Recordings.{joined_to, rgb, image_head, image_row, image}
 
@@ -19,11 +18,3 @@ image_alike w h c d same =
     ap (λ (rows : List ℕ). image_head w h ++ rows)
     (first_alike h (λ y. joined_to w (λ x. rgb (c x y))) (λ y. joined_to w (λ x. rgb (d x y)))
     (λ y down. first_alike w (λ x. rgb (c x y)) (λ x. rgb (d x y)) (λ x across. ap rgb (same x y across down))))
-
--- a row ends within the picture
-pub row_end : (w h y : ℕ) → y < h → y * w + w ≤ w * h
-row_end w h y lt =
-    let rows : (y + 1) * w ≤ h * w = mul-le (y + 1) w h w (omega (arith, lt)) (omega arith) in
-    let one : (y + 1) * w ≡ y * w + w = grind arith in
-    let turned : h * w ≡ w * h = grind arith in
-    omega (arith, rows, one, turned)

@@ -1,4 +1,3 @@
-pub mod Packed
 pub mod Parts
 pub mod Repeats
 pub mod Scenes

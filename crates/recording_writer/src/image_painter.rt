@@ -7,13 +7,14 @@ use crate::image::image_of;
 use std::alloc::{AllocError, Global};
 use std::marker::Sync;
 use std::thread::Threads;
+use viz_canvas::Rgb;
 use viz_painter::Painter;
 use viz_scene::Scene;
 
 /// A painter that gives the image of each scene away.
 #[derive(Drop)]
 pub struct ImagePainter {
-    painter: Painter,
+    painter: Painter<Rgb>,
     alloc: Global,
 }
 
@@ -28,7 +29,7 @@ impl ImagePainter {
 
     /// The image of a scene, made in at most the given number of parts, each by a thread of its own where it can be
     /// started. Where there is one part, none is started. An error means out of memory.
-    #[tactic(auto, using(crate::proofs::Shows::shown_whole))]
+    #[tactic(auto, using(crate::proofs::ShownImages::shown_image))]
     pub fn paint<R: Threads + Sync>(
         &mut self,
         rt: &R,
@@ -38,6 +39,6 @@ impl ImagePainter {
         ensures { IfOk result (λ bytes. bytes.items ≡ scene_image scene) }
     {
         self.painter.paint_in_parts(rt, scene, parts)?;
-        image_of(rt, self.alloc, self.painter.frame(), parts)
+        image_of(self.alloc, self.painter.canvas())
     }
 }

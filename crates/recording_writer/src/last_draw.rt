@@ -7,18 +7,19 @@ ghost use Rattle.model_history.specs.declared.history.Entry.{Entry};
 ghost use Rattle.recording_writer.specs.inner.Scenes.{scene_image};
 ghost use Rattle.recording_writer.specs.inner.Repeats.{HaveSameMissing, Keeps, Shows, StaysShown, image_of, is_quiet as is_quiet_of};
 
-use crate::pictures::Pictures;
 use model_history::{Entry, Event, History};
 use std::alloc::{AllocError, Global};
 use std::marker::Sync;
 use std::thread::Threads;
+use viz_canvas::Rgb;
+use viz_painter::Painter;
 use viz_scene::Scene;
 
 /// The picture of the last draw, and where that draw stands in the history.
 #[derive(Drop)]
 pub(crate) struct LastDraw {
-    /// the picture of that draw
-    pub(crate) pictures: Pictures,
+    /// its canvas has the picture of that draw
+    pub(crate) painter: Painter<Rgb>,
     /// the place of that draw; None before the first one, and where something has moved since
     place: Option<usize>,
 }
@@ -51,14 +52,14 @@ impl LastDraw {
         ensures { IfOk result (λ last. last.place ≡ None) }
     {
         Ok(LastDraw {
-            pictures: Pictures::new(alloc)?,
+            painter: Painter::new(alloc, 1, 1)?,
             place: None,
         })
     }
 
     // Whether a draw shows the picture that is there.
     fn is_again(&self, history: &History, event: &Event) -> bool
-        ensures { IsTrue result → (s : ScriptModel) (h : List Entry) → Keeps s h history.now.entries self.now → image_of self.now.pictures ≡ image_behind s h event.now }
+        ensures { IsTrue result → (s : ScriptModel) (h : List Entry) → Keeps s h history.now.entries self.now → image_of self.now.painter.canvas ≡ image_behind s h event.now }
     {
         let Some(place) = self.place else {
             return false;
@@ -88,7 +89,7 @@ impl LastDraw {
             return Ok(());
         }
         self.place = None;
-        self.pictures.show(rt, scene, parts)?;
+        self.painter.paint_in_parts(rt, scene, parts)?;
         self.place = Some(at);
         Ok(())
     }

@@ -13,7 +13,6 @@ mod image;
 mod image_painter;
 mod last_draw;
 mod lockstep;
-mod pictures;
 mod recorder;
 mod writing;
 

@@ -109,7 +109,8 @@ impl Recorder {
         ensures { OnOk result ((s : ScriptModel) (h : List Entry) → Keeps s h history.now.entries self.old.last → scene_image scene ≡ image_behind s h entry.now.event → DrawsOn s h history.now.entries (self.old.lines.items ++ image_behind s h entry.now.event) self.new) }
     {
         self.last.show(rt, history, at, entry, scene, self.parts)?;
-        let (w, h) = (self.last.pictures.w(), self.last.pictures.h());
+        let canvas = self.last.painter.canvas();
+        let (w, h) = (canvas.w(), canvas.h());
         push_image_head(&mut self.lines, w, h)
     }
 
@@ -129,7 +130,7 @@ impl Recorder {
         ensures cause { WriteCause (K.faults out.old) (K.faults out.new) result }
     {
         match self.draw(rt, history, at, entry, scene) {
-            Ok(()) => put_behind(out, &mut self.lines, self.last.pictures.packed()),
+            Ok(()) => put_behind(out, &mut self.lines, self.last.painter.canvas().bytes()),
             Err(_) => Err(WriteStop::Memory),
         }
     }

@@ -7,10 +7,10 @@ use crate::pictures::{differing, drawn, point_count, say_pixels};
 use std::alloc::Global;
 use test_table::Answer;
 use tile_raster::TileImage;
+use viz_canvas::Rgba;
 use viz_damage::damage_of;
 use viz_occlusion::cull;
 use viz_painter::Painter;
-use viz_render::render_region;
 use viz_scene::{Quad, Scene};
 
 // whether two scenes are of one size
@@ -64,21 +64,21 @@ pub fn redrawn(
     if !are_of_one_size(old, new) {
         return Err(DamageLineFault::OtherSize);
     }
-    let mut frame = drawn(alloc, old)?;
+    let mut canvas = drawn(alloc, old)?;
     let region = damage_of(alloc, old, new)?;
-    render_region(new, &mut frame, &region)?;
-    say_pixels(answer, frame.bytes());
+    canvas.draw_region(new, &region)?;
+    say_pixels(answer, canvas.bytes());
     Ok(())
 }
 
 /// Shows a scene, and says its picture.
 pub fn show(
-    painter: &mut Painter,
+    painter: &mut Painter<Rgba>,
     scene: Scene,
     answer: &mut Answer,
 ) -> Result<(), DamageLineFault> {
     painter.paint(scene)?;
-    say_pixels(answer, painter.frame().bytes());
+    say_pixels(answer, painter.canvas().bytes());
     Ok(())
 }
 

@@ -1,22 +1,22 @@
 //! Pictures: what is drawn of scenes, as text.
 
 ghost use Rattle.std.specs.Prelude.{IfOk};
-ghost use Rattle.viz_render.specs.Frames.{IsOfSize};
+ghost use Rattle.viz_canvas.specs.Canvases.{IsOfSize};
 
 use geom::Point;
 use region::Region;
 use std::alloc::{AllocError, Global};
 use test_table::Answer;
-use viz_render::{Frame, render};
+use viz_canvas::{Canvas, Rgba};
 use viz_scene::Scene;
 
-/// The frame of a scene.
-pub fn drawn(alloc: Global, scene: &Scene) -> Result<Frame, AllocError>
-    ensures { IfOk result (λ frame. IsOfSize scene.now.w scene.now.h frame) }
+/// The picture of a scene.
+pub fn drawn(alloc: Global, scene: &Scene) -> Result<Canvas<Rgba>, AllocError>
+    ensures { IfOk result (λ canvas. IsOfSize scene.now.w scene.now.h canvas) }
 {
-    let mut frame = Frame::new(alloc, scene.w(), scene.h())?;
-    render(scene, &mut frame)?;
-    Ok(frame)
+    let mut canvas = Canvas::new(alloc, scene.w(), scene.h())?;
+    canvas.draw(scene)?;
+    Ok(canvas)
 }
 
 // adds a colour, and how many pixels in a row have it
@@ -71,11 +71,11 @@ pub fn say_pixels(answer: &mut Answer, bytes: &[u8]) {
     }
 }
 
-/// How many points of a frame a region covers.
-pub fn point_count(region: &Region, frame: &Frame) -> i64 {
+/// How many points of a canvas a region covers.
+pub fn point_count(region: &Region, canvas: &Canvas<Rgba>) -> i64 {
     let mut count = 0i64;
-    for y in 0..frame.h() {
-        for x in 0..frame.w() {
+    for y in 0..canvas.h() {
+        for x in 0..canvas.w() {
             let at = Point {
                 x: x as i32,
                 y: y as i32,

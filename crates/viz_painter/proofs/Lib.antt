@@ -1,2 +1,1 @@
-pub mod ChangedRows
 pub mod Redrawn

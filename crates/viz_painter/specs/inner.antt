@@ -1,1 +1,2 @@
 pub mod Helds
+pub mod Rests

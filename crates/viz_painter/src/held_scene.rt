@@ -1,4 +1,4 @@
-//! The scene that a frame shows.
+//! The scene that a canvas shows.
 
 ghost use Rattle.std.specs.Prelude.{◌≡◌, IfOk, IsTrue};
 ghost use Rattle.viz_occlusion.specs.Culled.{IsCulled};

@@ -1,21 +1,17 @@
-//! Drawing scenes one after another into one frame, where only what changed is drawn again.
+//! Drawing scenes one after another onto one canvas, where only what changed is drawn again.
 //!
-//! A painter holds the scene that its frame shows. Where the new scene is the held one, nothing is done. Else
+//! A painter holds the scene that its canvas shows. Where the new scene is the held one, nothing is done. Else
 //! its hidden quads are left out, it is compared with the held one, and the damage alone is drawn. Where no
 //! scene is held, or one of another size, the whole is drawn. One thread draws, or several do, each a part of the
 //! rows.
 //!
-//! In: scenes. Out: the frame, which shows the last one, and the rows that drawing it may have changed. Out
-//! of memory costs the held scene, so the next one is drawn whole.
+//! In: scenes. Out: the canvas, which shows the last one, in the bytes of its pixel format. Out of memory costs the
+//! held scene, so the next one is drawn whole.
 #![tactic(auto)]
 
-mod changes;
-mod frame_rows;
-mod hands;
 mod held_scene;
 mod painting;
 mod redrawing;
 mod worth;
 
-pub use frame_rows::FrameRows;
 pub use painting::Painter;

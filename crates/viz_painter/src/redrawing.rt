@@ -1,63 +1,59 @@
-//! Drawing a scene into a frame that may show another one.
+//! What is left to draw of a scene on a canvas that may show another one.
 
-ghost use Rattle.std.specs.Prelude.{◌≡◌, IfSome, IfOk, OnOk, IsTrue};
-ghost use Rattle.viz_render.specs.Frames.{IsOfSize};
+ghost use Rattle.std.specs.Prelude.{◌≡◌, ℤ, false, IfSome, IfOk, OnOk, IsTrue};
+ghost use Rattle.geom.specs.Covers.{covers};
+ghost use Rattle.region.specs.Points.{covered};
+ghost use Rattle.viz_canvas.specs.Canvases.{IsOfSize};
+ghost use Rattle.viz_damage.specs.Damage.{screen};
 ghost use Rattle.viz_scroll_damage.specs.Moved.{IsShift};
 ghost use Rattle.viz_occlusion.specs.Culled.{IsCulled};
-ghost use Rattle.viz_painter.specs.Painters.{ShowsWhole, IsKeptOutside};
+ghost use Rattle.viz_painter.specs.Painters.{ShowsWhole};
 ghost use Rattle.viz_painter.specs.inner.Helds.{culled_of};
+ghost use Rattle.viz_painter.specs.inner.Rests.{ShowsOutside};
 
-use crate::changes::{all_rows, rows_of};
-use crate::frame_rows::FrameRows;
-use crate::hands::Hands;
 use crate::held_scene::HeldScene;
 use crate::worth::pays;
+use geom::Rect;
+use region::Region;
 use std::alloc::{AllocError, Global};
+use viz_canvas::{Canvas, PixelFormat};
 use viz_damage::damage_of;
-use viz_render::Frame;
 use viz_scene::Scene;
 use viz_scroll_damage::{Shift, damage_of_shift, shift_of};
 
-/// Makes a frame show a scene, which is then held, and tells the rows outside of which its pixels are those
-/// before. An error means out of memory, and the frame may then show anything.
-pub(crate) fn show_next<H: Hands>(
-    hands: &H,
+/// The next scene without its hidden quads, and what is left to draw of it: elsewhere the canvas, which then has the
+/// scene's size, shows it already. An error means out of memory, and the canvas may then show anything.
+pub(crate) fn begin<F: PixelFormat>(
     alloc: Global,
-    frame: &mut Frame,
+    canvas: &mut Canvas<F>,
     held: Option<HeldScene>,
     scene: Scene,
-) -> Result<(HeldScene, FrameRows), AllocError>
-    requires can { H.can_draw hands.now }
-    requires shown { IfSome (culled_of held) (λ old. ShowsWhole old frame.old) }
+) -> Result<(HeldScene, Region), AllocError>
+    requires { IfSome (culled_of held) (λ old. ShowsWhole F.DEPTH F.bytes_of old canvas.old) }
     ensures scene { IfOk result (λ next. next.0.scene ≡ scene) }
     ensures culled { IfOk result (λ next. IsCulled scene next.0.culled) }
-    ensures shown { IfOk result (λ next. ShowsWhole next.0.culled frame.new) }
-    ensures kept { IfOk result (λ next. IsKeptOutside next.1 frame.old frame.new) }
+    ensures rest { IfOk result (λ next. ShowsOutside F.DEPTH F.bytes_of next.0.culled next.1 canvas.new) }
 {
     let next = HeldScene::new(alloc, scene)?;
-    let changed = redraw(hands, alloc, frame, held, next.culled())?;
-    Ok((next, changed))
+    let rest = rest_of(alloc, canvas, held, next.culled())?;
+    Ok((next, rest))
 }
 
-// makes a frame show a scene, and tells the rows outside of which its pixels are those before; where it shows one
-// of the same size before, only the damage is drawn
-fn redraw<H: Hands>(
-    hands: &H,
+// what is left to draw of a scene; where the canvas shows one of the same size, that is the damage or less
+fn rest_of<F: PixelFormat>(
     alloc: Global,
-    frame: &mut Frame,
+    canvas: &mut Canvas<F>,
     held: Option<HeldScene>,
     scene: &Scene,
-) -> Result<FrameRows, AllocError>
-    requires can { H.can_draw hands.now }
-    requires shown { IfSome (culled_of held) (λ old. ShowsWhole old frame.old) }
-    ensures shown { OnOk result (ShowsWhole scene.now frame.new) }
-    ensures kept { IfOk result (λ rows. IsKeptOutside rows frame.old frame.new) }
+) -> Result<Region, AllocError>
+    requires { IfSome (culled_of held) (λ old. ShowsWhole F.DEPTH F.bytes_of old canvas.old) }
+    ensures { IfOk result (λ rest. ShowsOutside F.DEPTH F.bytes_of scene.now rest canvas.new) }
 {
     match held {
         Some(old) if are_of_one_size(old.culled(), scene) => {
-            draw_change(hands, alloc, frame, old.culled(), scene)
+            rest_of_change(alloc, canvas, old.culled(), scene)
         }
-        _ => draw_whole(hands, alloc, frame, scene),
+        _ => rest_of_whole(alloc, canvas, scene),
     }
 }
 
@@ -69,100 +65,89 @@ fn are_of_one_size(a: &Scene, b: &Scene) -> bool
     a.w() == b.w() && a.h() == b.h()
 }
 
-// draws the whole of a scene
-#[tactic(auto, using(crate::proofs::Redrawn::all_kept))]
-fn draw_whole<H: Hands>(
-    hands: &H,
+// the whole of a scene, for which the canvas is made to fit
+fn rest_of_whole<F: PixelFormat>(
     alloc: Global,
-    frame: &mut Frame,
+    canvas: &mut Canvas<F>,
     scene: &Scene,
-) -> Result<FrameRows, AllocError>
-    requires { H.can_draw hands.now }
-    ensures shown { OnOk result (ShowsWhole scene.now frame.new) }
-    ensures kept { IfOk result (λ rows. IsKeptOutside rows frame.old frame.new) }
+) -> Result<Region, AllocError>
+    ensures { IfOk result (λ rest. ShowsOutside F.DEPTH F.bytes_of scene.now rest canvas.new) }
 {
-    fit(alloc, frame, scene)?;
-    hands.draw_whole(scene, frame)?;
-    Ok(all_rows(frame))
+    fit(alloc, canvas, scene)?;
+    let screen = whole_screen(alloc, scene)?;
+    Ok(screen)
 }
 
-// takes a new frame where the old one is not of a scene's size
-fn fit(alloc: Global, frame: &mut Frame, scene: &Scene) -> Result<(), AllocError>
-    ensures { OnOk result (IsOfSize scene.now.w scene.now.h frame.new) }
+// the region of all points of the screen
+fn whole_screen(alloc: Global, scene: &Scene) -> Result<Region, AllocError>
+    ensures { IfOk result (λ region. (x y : ℤ) → covered region x y ≡ false → covers (screen scene.now) x y ≡ false) }
 {
-    if frame.w() == scene.w() && frame.h() == scene.h() {
+    let mut region = Region::new(alloc);
+    region.add(Rect {
+        x: 0,
+        y: 0,
+        w: scene.w() as i32,
+        h: scene.h() as i32,
+    })?;
+    Ok(region)
+}
+
+// takes a new canvas where the old one is not of a scene's size
+fn fit<F: PixelFormat>(
+    alloc: Global,
+    canvas: &mut Canvas<F>,
+    scene: &Scene,
+) -> Result<(), AllocError>
+    ensures { OnOk result (IsOfSize scene.now.w scene.now.h canvas.new) }
+{
+    if canvas.w() == scene.w() && canvas.h() == scene.h() {
         return Ok(());
     }
-    let new = Frame::new(alloc, scene.w(), scene.h())?;
-    *frame = new;
+    let new = Canvas::new(alloc, scene.w(), scene.h())?;
+    *canvas = new;
     Ok(())
 }
 
-// draws where a scene differs from the one of its size that the frame shows, which may have been scrolled
-fn draw_change<H: Hands>(
-    hands: &H,
+// what is left to draw where the canvas shows a scene of the same size, which may have been scrolled
+fn rest_of_change<F: PixelFormat>(
     alloc: Global,
-    frame: &mut Frame,
+    canvas: &mut Canvas<F>,
     old: &Scene,
     scene: &Scene,
-) -> Result<FrameRows, AllocError>
-    requires can { H.can_draw hands.now }
+) -> Result<Region, AllocError>
     requires wide { old.now.w ≡ scene.now.w }
     requires tall { old.now.h ≡ scene.now.h }
-    requires shown { ShowsWhole old.now frame.old }
-    ensures shown { OnOk result (ShowsWhole scene.now frame.new) }
-    ensures kept { IfOk result (λ rows. IsKeptOutside rows frame.old frame.new) }
+    requires shown { ShowsWhole F.DEPTH F.bytes_of old.now canvas.old }
+    ensures { IfOk result (λ rest. ShowsOutside F.DEPTH F.bytes_of scene.now rest canvas.new) }
 {
     match shift_of(old, scene) {
-        Some(shift) => draw_shift(hands, alloc, frame, old, scene, shift),
-        None => draw_damage(hands, alloc, frame, old, scene),
+        Some(shift) => rest_of_shift(alloc, canvas, old, scene, shift),
+        None => {
+            let damage = damage_of(alloc, old, scene)?;
+            Ok(damage)
+        }
     }
 }
 
-// moves rows of the frame and draws the rest, where that is less than the damage; else draws the damage
-fn draw_shift<H: Hands>(
-    hands: &H,
+// moves rows of the canvas where less is left then than the damage
+fn rest_of_shift<F: PixelFormat>(
     alloc: Global,
-    frame: &mut Frame,
+    canvas: &mut Canvas<F>,
     old: &Scene,
     scene: &Scene,
     shift: Shift,
-) -> Result<FrameRows, AllocError>
-    requires can { H.can_draw hands.now }
+) -> Result<Region, AllocError>
     requires wide { old.now.w ≡ scene.now.w }
     requires tall { old.now.h ≡ scene.now.h }
     requires shift { IsShift scene.now.h shift }
-    requires shown { ShowsWhole old.now frame.old }
-    ensures shown { OnOk result (ShowsWhole scene.now frame.new) }
-    ensures kept { IfOk result (λ rows. IsKeptOutside rows frame.old frame.new) }
+    requires shown { ShowsWhole F.DEPTH F.bytes_of old.now canvas.old }
+    ensures { IfOk result (λ rest. ShowsOutside F.DEPTH F.bytes_of scene.now rest canvas.new) }
 {
     let rest = damage_of_shift(alloc, old, scene, shift)?;
     let damage = damage_of(alloc, old, scene)?;
     if !pays(&rest, &damage) {
-        hands.draw_region(scene, frame, &damage)?;
-        return Ok(rows_of(&damage));
+        return Ok(damage);
     }
-    frame.copy_rows(shift.from, shift.to, shift.count);
-    hands.draw_region(scene, frame, &rest)?;
-    Ok(all_rows(frame))
-}
-
-// draws where a scene differs from the one of its size that the frame shows
-fn draw_damage<H: Hands>(
-    hands: &H,
-    alloc: Global,
-    frame: &mut Frame,
-    old: &Scene,
-    scene: &Scene,
-) -> Result<FrameRows, AllocError>
-    requires can { H.can_draw hands.now }
-    requires wide { old.now.w ≡ scene.now.w }
-    requires tall { old.now.h ≡ scene.now.h }
-    requires shown { ShowsWhole old.now frame.old }
-    ensures shown { OnOk result (ShowsWhole scene.now frame.new) }
-    ensures kept { IfOk result (λ rows. IsKeptOutside rows frame.old frame.new) }
-{
-    let region = damage_of(alloc, old, scene)?;
-    hands.draw_region(scene, frame, &region)?;
-    Ok(rows_of(&region))
+    canvas.copy_rows(shift.from, shift.to, shift.count);
+    Ok(rest)
 }

@@ -1,4 +1,4 @@
-//! Whether moving rows of a frame is worth it.
+//! Whether moving rows of a canvas is worth it.
 
 use region::Region;
 

@@ -7,6 +7,3 @@ pub mod QuadSteps
 pub mod Groups
 pub mod PassSteps
 pub mod SceneSteps
-pub mod FrameSteps
-pub mod Halves
-pub mod CopySteps

@@ -1,3 +1,2 @@
-pub mod CopiedRows
-pub mod Frames
+pub mod Surfaces
 pub mod inner

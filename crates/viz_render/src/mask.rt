@@ -42,15 +42,23 @@ impl Model for Mask {
 }
 
 impl Mask {
-    /// Takes the memory for the masks of a scene.
+    /// Takes the memory for the masks of a scene. An error means out of memory.
     pub(crate) fn new(alloc: Global, scene: &Scene) -> Result<Mask, AllocError> {
         let tops = vec![in alloc; 0usize; COUNT]?;
-        let deep = deep_passes(alloc, scene)?;
+        let mut deep = vec![in alloc; false; scene.passes().len()]?;
+        measure_passes(deep.as_mut_slice(), scene);
         Ok(Mask {
             tops,
             highest: 0,
             deep,
         })
+    }
+
+    /// Looks in which passes of a scene a mask pays.
+    pub(crate) fn measure(&mut self, scene: &Scene)
+        ensures { self.new ≡ self.old }
+    {
+        measure_passes(self.deep.as_mut_slice(), scene);
     }
 
     /// The numbers, row by row of blocks.
@@ -167,14 +175,14 @@ fn highest_of(tops: &[usize]) -> usize
     highest
 }
 
-// of each pass of a scene, whether its tiles and rects lie above one another in many places
-fn deep_passes(alloc: Global, scene: &Scene) -> Result<Vec<bool>, AllocError> {
+// tells of each pass of a scene whether its tiles and rects lie above one another in many places
+fn measure_passes(deep: &mut [bool], scene: &Scene) {
     let pixels = scene.w().saturating_mul(scene.h()) as i32;
-    let mut deep = Vec::with_capacity(alloc, scene.passes().len())?;
-    for pass in scene.passes() {
-        deep.push(pixels_of(pass.quads.as_slice()) / DEPTH > pixels)?;
+    for i in 0..deep.len() {
+        if let Some(pass) = scene.passes().get(i) {
+            deep[i] = pixels_of(pass.quads.as_slice()) / DEPTH > pixels;
+        }
     }
-    Ok(deep)
 }
 
 // how many pixels the tiles and rects of some quads have together

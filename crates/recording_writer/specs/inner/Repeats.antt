@@ -7,7 +7,7 @@ use Rattle.model_history.specs.declared.history.Entry.{Entry}
 use Rattle.model_history.specs.Scripts.{ScriptModel}
 use Rattle.model_history.specs.Recordings.{image_head, shown_image, image_behind}
 use Rattle.recording_writer.specs.declared.last_draw.LastDraw.{LastDraw}
-use Rattle.recording_writer.specs.inner.Packed.{PicturesView}
+use Rattle.viz_canvas.specs.Canvases.{CanvasView}
 
 -- what the screen shows stays the same: no commit is activated, and nothing is scrolled
 abbrev pub is_quiet : Event → Bool
@@ -27,29 +27,29 @@ pub record HaveSameMissing (drawn again : Event) : Type 0 where
   pub first : missing_in drawn ≡ Some missing
   pub second : missing_in again ≡ Some missing
 
--- the image of a picture: its head and its packed pixels
-abbrev pub image_of : PicturesView → List ℕ
-image_of p = image_head p.frame.w p.frame.h ++ p.packed
+-- the image of a canvas: the head, and after it the bytes of its pixels
+abbrev pub image_of : CanvasView → List ℕ
+image_of c = image_head c.w c.h ++ c.bytes
 
 -- where the entry after a past is quiet, the screen shows the same after it, whichever tiles are missing
 abbrev pub StaysShown : ScriptModel → List Entry → Entry → Type 0
 StaysShown s h e = is_quiet e.event ≡ true → (missing : List TileKey) → shown_image s (e ∷ h) missing ≡ shown_image s h missing
 
 -- there is a draw at this place of the entries, and one after this past that lists the same missing tiles would show this picture
-pub record KeepsAt (s : ScriptModel) (h entries : List Entry) (picture : PicturesView) (place : ℕ) : Type 0 where
+pub record KeepsAt (s : ScriptModel) (h entries : List Entry) (picture : CanvasView) (place : ℕ) : Type 0 where
   pub drawn : Entry
   pub there : slice_get entries place ≡ Some drawn
   pub image : (missing : List TileKey) → missing_in drawn.event ≡ Some missing → image_of picture ≡ shown_image s h missing
 
 -- the same where there is a place at all
-abbrev pub KeepsFrom : ScriptModel → List Entry → List Entry → PicturesView → Option ℕ → Type 0
+abbrev pub KeepsFrom : ScriptModel → List Entry → List Entry → CanvasView → Option ℕ → Type 0
 KeepsFrom s h entries picture None = ⊤
 KeepsFrom s h entries picture (Some place) = KeepsAt s h entries picture place
 
 abbrev pub Keeps : ScriptModel → List Entry → List Entry → LastDraw → Type 0
-Keeps s h entries last = KeepsFrom s h entries last.pictures last.place
+Keeps s h entries last = KeepsFrom s h entries last.painter.canvas last.place
 
 -- the picture is what stands after the line of an event after this past
 pub record Shows (s : ScriptModel) (h entries : List Entry) (e : Event) (last : LastDraw) : Type 0 where
-  pub image : image_of last.pictures ≡ image_behind s h e
+  pub image : image_of last.painter.canvas ≡ image_behind s h e
   pub keeps : Keeps s h entries last

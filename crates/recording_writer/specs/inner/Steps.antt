@@ -8,7 +8,7 @@ use Rattle.recording_writer.specs.inner.Repeats.{Keeps}
 
 -- the lines and the pixels of the picture are the whole, and the picture is kept after this past
 pub record DrawsOn (s : ScriptModel) (h entries : List Entry) (whole : List ℕ) (new : Recorder) : Type 0 where
-  pub text : new.lines.items ++ new.last.pictures.packed ≡ whole
+  pub text : new.lines.items ++ new.last.painter.canvas.bytes ≡ whole
   pub keeps : Keeps s h entries new.last
 
 -- the sink gained the whole but for what the recorder holds back, or where writing stopped, a prefix of it; where it did not, the picture is kept after this past

@@ -1,4 +1,4 @@
--- The scene that a frame shows.
+-- The scene that a canvas shows.
 use Rattle.std.specs.Prelude.{Option, option_map}
 use Rattle.viz_scene.specs.Views.{SceneView}
 

@@ -1,5 +1,6 @@
 -- The picture has the image of the draw.
-use Rattle.std.proofs.Common.{◌≡◌, ℕ, List, ◌++◌}
+use Rattle.std.proofs.Common.{◌≡◌, ℕ, List, ◌++◌, ap, ◌∙◌}
+use Rattle.viz_canvas.specs.Canvases.{CanvasView}
 use Rattle.model_history.specs.Recordings.{image_head, image_behind}
 use Rattle.model_lockstep.proofs.Following.{then_on_ok}
 use Rattle.recording_writer.proofs.KeptPictures.{drawn_text}
@@ -13,6 +14,8 @@ returns g c =
     (λ made s h keeps behind.
     let shows = c.in_ok-show.ensures s h keeps behind in
     record {
-      text = drawn_text c.show.new.self.pictures lines text (image_behind s h c.args.entry.now.event) c.w-w.result c.h-h.result c.w-w.ensures c.h-h.ensures made shows.image;
+      text =
+          drawn_text c.show.new.self.painter.canvas lines text (image_behind s h c.args.entry.now.event) c.w-w.result c.h-h.result
+          (c.w-w.ensures.value ∙ ap (λ (v : CanvasView). v.w) c.canvas-canvas.ensures) (c.h-h.ensures.value ∙ ap (λ (v : CanvasView). v.h) c.canvas-canvas.ensures) made shows.image;
       keeps = shows.keeps;
     })

@@ -1,4 +1,0 @@
-pub mod Fours
-pub mod Halves
-pub mod Joins
-pub mod Runs

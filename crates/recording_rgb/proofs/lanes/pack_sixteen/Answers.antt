@@ -1,7 +1,0 @@
--- The packed block stands in place of the bytes before.
-use Rattle.std.proofs.Common.{arith}
-use Rattle.recording_rgb.proofs.Runs.{block_packed}
-use Rattle.recording_rgb.proofs.lanes.pack_sixteen.Goals as goal
-
-pub returns : goal.returns
-returns c = block_packed c.args.place c.args.row.now c.args.packed.now c.pack_block.new.packed c.requires.given c.requires.room (omega arith) c.pack_block.ensures

@@ -1,0 +1,10 @@
+pub mod Bytes
+pub mod EachSteps
+pub mod Fours
+pub mod Joins
+pub mod MovedRows
+pub mod PackedRuns
+pub mod PixelRuns
+pub mod Redraws
+pub mod StripSteps
+pub mod TwoBands

@@ -1,0 +1,4 @@
+pub mod Canvases
+pub mod CopiedRows
+pub mod Formats
+pub mod inner

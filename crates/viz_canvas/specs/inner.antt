@@ -1,0 +1,4 @@
+pub mod Bands
+pub mod Halves
+pub mod Packing
+pub mod Parts

@@ -1,0 +1,193 @@
+//! Drawing what some rects of a picture cover.
+
+ghost use Rattle.std.specs.Prelude.{◌≡◌, ◌*◌, ◌≤◌, pos, [], length, All, OnOk, IsTrue};
+ghost use Rattle.geom.specs.Covers.{IsSound};
+ghost use Rattle.viz_render.specs.Surfaces.{AreReady};
+ghost use Rattle.viz_canvas.specs.inner.Bands.{AreAllReady, IsRectDrawn, AreDrawn};
+
+use crate::band::Band;
+use crate::format::PixelFormat;
+use crate::parts::{BandArea, draw_parts, parts_of, pixels_of};
+use crate::strip::draw_area;
+use geom::Rect;
+use page_display_list::shared_part;
+use std::alloc::{AllocError, Global};
+use std::marker::Sync;
+use std::thread::Threads;
+use viz_render::Surfaces;
+use viz_scene::Scene;
+
+/// Makes surfaces ready for drawing what some rects cover of a scene in at most the given number of parts. They stay
+/// where they are enough, and of the scene's size and number of passes; else new ones are taken. An error means out of
+/// memory.
+pub(crate) fn prepare(
+    alloc: Global,
+    scene: &Scene,
+    rects: &[Rect],
+    most: usize,
+    surfaces: &mut Vec<Surfaces>,
+) -> Result<(), AllocError>
+    requires { All IsSound rects.now }
+    ensures { OnOk result (AreAllReady scene.now surfaces.new.items) }
+{
+    let parts = parts_of(scene, most_pixels(scene, rects), most);
+    if surfaces.len() < parts || !are_all_ready(surfaces, scene) {
+        surfaces.clear();
+        return take_surfaces(alloc, scene, parts, surfaces);
+    }
+    measure_all(surfaces.as_mut_slice(), scene);
+    Ok(())
+}
+
+// whether all surfaces have room for strips of a scene
+fn are_all_ready(surfaces: &[Surfaces], scene: &Scene) -> bool
+    ensures { IsTrue result → All (AreReady scene.now) surfaces.now }
+{
+    surfaces.iter().all(|each| each.are_ready(scene))
+}
+
+// takes the given number of surfaces
+fn take_surfaces(
+    alloc: Global,
+    scene: &Scene,
+    parts: usize,
+    surfaces: &mut Vec<Surfaces>,
+) -> Result<(), AllocError>
+    requires some { 1 ≤ parts }
+    requires none { surfaces.old.items ≡ [] }
+    ensures { OnOk result (AreAllReady scene.now surfaces.new.items) }
+{
+    for _ in 0..parts {
+        surfaces.push(Surfaces::new(alloc, scene)?)?;
+    }
+    Ok(())
+}
+
+// looks for each of some surfaces in which passes of a scene a mask pays
+fn measure_all(surfaces: &mut [Surfaces], scene: &Scene)
+    ensures { surfaces.new ≡ surfaces.old }
+{
+    for place in 0..surfaces.len() {
+        surfaces[place].measure(scene);
+    }
+}
+
+// how many pixels of a scene the largest of some rects has
+fn most_pixels(scene: &Scene, rects: &[Rect]) -> usize
+    requires { All IsSound rects.now }
+{
+    let mut most = 0;
+    for rect in rects {
+        most = pixel_count(scene, *rect).max(most);
+    }
+    most
+}
+
+// how many pixels of a scene a rect has
+fn pixel_count(scene: &Scene, rect: Rect) -> usize
+    requires { IsSound rect }
+{
+    match shared_part(rect, screen_of(scene)) {
+        Some(part) => pixels_of(part.at),
+        None => 0,
+    }
+}
+
+/// Draws the pixels of a scene that some of the rects cover into its picture; the others stay.
+pub(crate) fn draw_rects<F: PixelFormat>(
+    scene: &Scene,
+    bytes: &mut [u8],
+    rects: &[Rect],
+    surfaces: &mut Surfaces,
+)
+    requires rects { All IsSound rects.now }
+    requires size { length bytes.old ≡ F.DEPTH * (scene.now.w * scene.now.h) }
+    requires ready { AreReady scene.now surfaces.old }
+    ensures { AreDrawn F.DEPTH F.bytes_of scene.now rects.now bytes.old bytes.new }
+{
+    for rect in rects {
+        draw_rect::<F>(scene, bytes, *rect, surfaces);
+    }
+}
+
+// draws the pixels of a scene that a rect covers
+fn draw_rect<F: PixelFormat>(scene: &Scene, bytes: &mut [u8], rect: Rect, surfaces: &mut Surfaces)
+    requires rect { IsSound rect }
+    requires size { length bytes.old ≡ F.DEPTH * (scene.now.w * scene.now.h) }
+    requires ready { AreReady scene.now surfaces.old }
+    ensures drawn { IsRectDrawn F.DEPTH F.bytes_of scene.now rect bytes.old bytes.new }
+    ensures ready { AreReady scene.now surfaces.new }
+{
+    if let Some(part) = shared_part(rect, screen_of(scene)) {
+        let band = band_of(scene);
+        draw_area::<F>(scene, bytes, band, part.at, surfaces);
+    }
+}
+
+/// Draws as `draw_rects` does, and each rect in at most as many parts as there are surfaces.
+pub(crate) fn draw_rects_in_parts<R: Threads + Sync, F: PixelFormat + Sync>(
+    rt: &R,
+    scene: &Scene,
+    bytes: &mut [u8],
+    rects: &[Rect],
+    surfaces: &mut [Surfaces],
+)
+    requires rects { All IsSound rects.now }
+    requires size { length bytes.old ≡ F.DEPTH * (scene.now.w * scene.now.h) }
+    requires ready { AreAllReady scene.now surfaces.old }
+    ensures { AreDrawn F.DEPTH F.bytes_of scene.now rects.now bytes.old bytes.new }
+{
+    for rect in rects {
+        draw_rect_in_parts::<R, F>(rt, scene, bytes, *rect, surfaces);
+    }
+}
+
+// draws the pixels of a scene that a rect covers, in at most as many parts as there are surfaces
+fn draw_rect_in_parts<R: Threads + Sync, F: PixelFormat + Sync>(
+    rt: &R,
+    scene: &Scene,
+    bytes: &mut [u8],
+    rect: Rect,
+    surfaces: &mut [Surfaces],
+)
+    requires rect { IsSound rect }
+    requires size { length bytes.old ≡ F.DEPTH * (scene.now.w * scene.now.h) }
+    requires ready { AreAllReady scene.now surfaces.old }
+    ensures drawn { IsRectDrawn F.DEPTH F.bytes_of scene.now rect bytes.old bytes.new }
+    ensures ready { AreAllReady scene.now surfaces.new }
+{
+    if let Some(part) = shared_part(rect, screen_of(scene)) {
+        let place = BandArea {
+            band: band_of(scene),
+            at: part.at,
+        };
+        draw_parts::<R, F>(rt, scene, place, bytes, surfaces);
+    }
+}
+
+// all rows of the picture of a scene, with nothing between them
+fn band_of(scene: &Scene) -> Band
+    ensures value { result ≡ record { top = 0; rows = scene.now.h; across = scene.now.w } }
+    ensures tall { scene.now.h ≤ 2048 }
+{
+    Band {
+        top: 0,
+        rows: scene.h() as usize,
+        across: scene.w() as usize,
+    }
+}
+
+/// The rect of the screen that a scene is of.
+pub(crate) fn screen_of(scene: &Scene) -> Rect
+    ensures value { result ≡ record { x = pos 0; y = pos 0; w = pos scene.now.w; h = pos scene.now.h } }
+    ensures sound { IsSound result }
+    ensures wide { scene.now.w ≤ 2048 }
+    ensures tall { scene.now.h ≤ 2048 }
+{
+    Rect {
+        x: 0,
+        y: 0,
+        w: scene.w() as i32,
+        h: scene.h() as i32,
+    }
+}

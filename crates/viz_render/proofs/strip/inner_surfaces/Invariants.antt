@@ -1,9 +1,0 @@
-use Rattle.std.specs.Prelude.{◌≡◌, ◌*◌, length}
-use Rattle.viz_render.specs.inner.Drawing.{AreRoomy}
-use Rattle.viz_render.proofs.strip.inner_surfaces.Given as given
-
-abbrev pub invariant-loop : given.invariant-loop
-invariant-loop l = record {
-  count : length l.surfaces.items ≡ l.counter;
-  room : AreRoomy (4 * l.pixels) l.surfaces.items;
-}

@@ -1,0 +1,94 @@
+//! Drawing all passes of a scene.
+
+ghost use Rattle.std.specs.Prelude.{◌≡◌, ℕ, ◌+◌, ◌*◌, ◌≤◌, ◌^◌, length, IfOk};
+ghost use Rattle.page_display_list.specs.Bitmaps.{near, byte_count};
+ghost use Rattle.viz_scene.specs.Views.{passes_view};
+ghost use Rattle.viz_scene.specs.Sound.{IsIn};
+ghost use Rattle.viz_render.specs.Surfaces.{ShowsArea};
+ghost use Rattle.viz_render.specs.inner.Drawing.{AreRoomy, PassesCanBeDrawn, ShowPasses};
+ghost use Rattle.viz_render.specs.inner.Rooms.{HasRoom};
+
+use crate::mask::Mask;
+use crate::passes::{draw_pass, draw_passes};
+use crate::surface::Surface;
+use geom::Rect;
+use std::alloc::{AllocError, Global};
+use viz_scene::{RenderPass, Scene};
+
+/// A surface for each pass of a scene.
+#[derive(Drop)]
+pub(crate) struct PassSurfaces {
+    // those of the passes before the root
+    pub(crate) passes: Vec<Surface>,
+    pub(crate) root: Surface,
+    // what opaque quads hide of the current pass
+    pub(crate) mask: Mask,
+}
+
+impl PassSurfaces {
+    /// Surfaces of the given number of pixels for the passes of a scene. An error means out of memory.
+    pub(crate) fn new(
+        alloc: Global,
+        scene: &Scene,
+        pixels: usize,
+    ) -> Result<PassSurfaces, AllocError>
+        requires { pixels ≤ 2 ^ 60 }
+        ensures { IfOk result (λ surfaces. HasRoom (4 * pixels) (length scene.now.passes) surfaces) }
+    {
+        let inner = scene.passes().len() - 1;
+        Ok(PassSurfaces {
+            passes: inner_surfaces(alloc, inner, pixels)?,
+            root: Surface::new(alloc, pixels)?,
+            mask: Mask::new(alloc, scene)?,
+        })
+    }
+}
+
+// the given number of surfaces of the given number of pixels
+fn inner_surfaces(alloc: Global, count: usize, pixels: usize) -> Result<Vec<Surface>, AllocError>
+    requires { pixels ≤ 2 ^ 60 }
+    ensures count { IfOk result (λ surfaces. length surfaces.items ≡ count) }
+    ensures room { IfOk result (λ surfaces. AreRoomy (4 * pixels) surfaces.items) }
+{
+    let mut surfaces = Vec::new(alloc);
+    for _ in 0..count {
+        surfaces.push(Surface::new(alloc, pixels)?)?;
+    }
+    Ok(surfaces)
+}
+
+/// Draws the pixels of an area of all passes of a scene; those of the root are the scene's.
+pub(crate) fn draw_scene(scene: &Scene, area: Rect, surfaces: &mut PassSurfaces)
+    requires area { IsIn 2048 2048 area }
+    requires low { near area.h ≤ 64 }
+    requires room { HasRoom (byte_count area.w area.h) (length scene.now.passes) surfaces.old }
+    ensures pixels { ShowsArea scene.now area surfaces.new.root.bytes }
+    ensures room { (n : ℕ) → HasRoom n (length scene.now.passes) surfaces.old → HasRoom n (length scene.now.passes) surfaces.new }
+{
+    let Some((root, inner)) = scene.passes().split_last() else {
+        return;
+    };
+    draw_inner(inner, area, &mut surfaces.passes, &mut surfaces.mask);
+    draw_pass(
+        &mut surfaces.root,
+        scene.background(),
+        area,
+        &root.quads,
+        &surfaces.passes,
+        &mut surfaces.mask,
+    );
+}
+
+// draws the pixels of an area of the passes before the root
+fn draw_inner(passes: &[RenderPass], area: Rect, surfaces: &mut Vec<Surface>, mask: &mut Mask)
+    requires area { IsIn 2048 2048 area }
+    requires low { near area.h ≤ 64 }
+    requires each { length surfaces.old.items ≡ length passes.now }
+    requires quads { PassesCanBeDrawn (passes_view passes.now) }
+    requires room { AreRoomy (byte_count area.w area.h) surfaces.old.items }
+    ensures pixels { ShowPasses area (passes_view passes.now) surfaces.new.items }
+    ensures count { length surfaces.new.items ≡ length surfaces.old.items }
+    ensures room { (n : ℕ) → AreRoomy n surfaces.old.items → AreRoomy n surfaces.new.items }
+{
+    draw_passes(passes, area, surfaces.as_mut_slice(), mask);
+}
