@@ -1,6 +1,8 @@
 pub mod Bytes
+pub mod CopySteps
 pub mod EachSteps
 pub mod Fours
+pub mod FreshSteps
 pub mod Joins
 pub mod MovedRows
 pub mod PackedRuns

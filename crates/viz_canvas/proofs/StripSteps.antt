@@ -2,7 +2,6 @@
 use Rattle.std.proofs.Common.{◌≡◌, ℕ, ◌+◌, ◌-◌, ◌*◌, ◌<◌, ◌≤◌, ℤ, pos, ◌+ℤ◌, Bool, true, false, cond, List, refl, ◌∙◌, ap, arith}
 use Rattle.std.proofs.lemmas.Int.{ints}
 use Rattle.std.proofs.lemmas.Bool.Decides.{nat_tests}
-use Rattle.geom.specs.declared.Rect.{Rect}
 use Rattle.pixel.specs.Colours.{Parts}
 use Rattle.pixel.specs.Rows.{pixel}
 use Rattle.pixel.specs.Surfaces.{in_rows}
@@ -12,7 +11,7 @@ use Rattle.viz_scene.specs.Pixels.{scene_pixel}
 use Rattle.viz_render.specs.Surfaces.{ShowsArea}
 use Rattle.viz_canvas.specs.declared.band.Band.{Band}
 use Rattle.viz_canvas.specs.Formats.{bytes_at}
-use Rattle.viz_canvas.specs.inner.Bands.{IsBandDrawn}
+use Rattle.viz_canvas.specs.inner.Bands.{IsBandDrawn, rect_in_band}
 use Rattle.viz_canvas.specs.inner.Parts.{PartOf, EachOf, only_in}
 
 -- where the pixel stands that is written to column `j` of row `r`
@@ -35,11 +34,7 @@ where_held : {C : Type 0} (t : Bool) (c d below : C) → (t ≡ true → c ≡ d
 where_held true c d below h = h refl
 where_held false c d below h = refl
 
--- the rect of the screen that an area of a band is
-abbrev pub rect_at : Band → Area → Rect
-rect_at band at = record { x = pos at.x; y = pos (band.top + at.y); w = pos at.w; h = pos at.h }
-
-shown_at : (s : SceneView) (band : Band) (at : Area) (surface : List ℕ) (x y : ℕ) → ShowsArea s (rect_at band at) surface → in_rows at at.h x y ≡ true
+shown_at : (s : SceneView) (band : Band) (at : Area) (surface : List ℕ) (x y : ℕ) → ShowsArea s (rect_in_band band at) surface → in_rows at at.h x y ≡ true
     → pixel surface ((y - at.y) * at.w + (x - at.x)) ≡ scene_pixel s (pos x) (pos (band.top + y))
 shown_at s band at surface x y shown h =
     let left : at.x ≤ x = grind (arith, nat_tests) in
@@ -52,7 +47,7 @@ shown_at s band at surface x y shown h =
     ∙ ap (λ (z : ℤ). scene_pixel s z (pos (band.top + at.y) +ℤ pos (y - at.y))) column ∙ ap (scene_pixel s (pos x)) row
 
 -- the pixels of an area, written into a band
-pub strip_shown : (d : ℕ) (bytes_of : Parts → List ℕ) (s : SceneView) (band : Band) (at : Area) (surface old new : List ℕ) → ShowsArea s (rect_at band at) surface
+pub strip_shown : (d : ℕ) (bytes_of : Parts → List ℕ) (s : SceneView) (band : Band) (at : Area) (surface old new : List ℕ) → ShowsArea s (rect_in_band band at) surface
     → EachOf (bytes_at d) band.across band.rows (only_in at at.h (λ x y below. bytes_of (pixel surface ((y - at.y) * at.w + (x - at.x))))) old new
     → IsBandDrawn d bytes_of s band at old new
 strip_shown d bytes_of s band at surface old new shown each x y xw yh =

@@ -14,6 +14,7 @@ mod bgra;
 mod canvas;
 mod drawing;
 mod format;
+mod fresh;
 mod lanes;
 mod moving;
 mod parts;

@@ -5,19 +5,30 @@ ghost use Rattle.pixel.specs.Rows.{pixel};
 ghost use Rattle.pixel.specs.Surfaces.{IsInside};
 ghost use Rattle.viz_render.specs.Surfaces.{AreReady};
 ghost use Rattle.viz_canvas.specs.Formats.{bytes_at};
-ghost use Rattle.viz_canvas.specs.inner.Bands.{IsInBand, IsBandDrawn};
-ghost use Rattle.viz_canvas.specs.inner.Parts.{EachOf, only_in};
+ghost use Rattle.viz_canvas.specs.inner.Bands.{IsInBand, IsBandDrawn, rect_in_band};
+ghost use Rattle.viz_canvas.specs.inner.Fresh.{ShowsRowsAbove};
+ghost use Rattle.viz_canvas.specs.inner.Parts.{PartOf, EachOf, only_in};
 
 use crate::band::Band;
 use crate::format::PixelFormat;
-use crate::runs::{place_of, write_run};
+use crate::fresh::{mark_all, mark_fresh};
+use crate::runs::{copy_run, place_of, write_run};
 use geom::Rect;
 use pixel::Area;
 use viz_render::Surfaces;
 use viz_scene::Scene;
 
+/// How many rows are marked at once: those of the tallest scene.
+const MOST_ROWS: usize = 2048;
+
+/// The least rows that are copied together from the row above them, where no quad has to be visited for a strip.
+const LEAST_COPIES: usize = 4;
+
+/// How many pixels of a row are drawn in the time in which a quad is visited.
+const PIXELS_OF_VISIT: usize = 16;
+
 /// Draws the pixels of a scene in an area of a band of its picture, which counts its rows from the band's first; the
-/// other pixels stay.
+/// other pixels stay. Rows that show what the row above them shows are copied where that takes less time.
 pub(crate) fn draw_area<F: PixelFormat>(
     scene: &Scene,
     bytes: &mut [u8],
@@ -30,18 +41,117 @@ pub(crate) fn draw_area<F: PixelFormat>(
     ensures drawn { IsBandDrawn F.DEPTH F.bytes_of scene.now band at bytes.old bytes.new }
     ensures ready { AreReady scene.now surfaces.new }
 {
+    let copies = copies_worth(scene, surfaces, at.w);
+    let mut fresh = [0u8; MOST_ROWS];
+    mark_rows(&mut fresh, scene, band, at, copies);
+    draw_rows::<F>(scene, bytes, band, at, surfaces, &fresh, copies);
+}
+
+// how many rows that are copied are worth a strip that ends above them; where strips are to be high, none are
+fn copies_worth(scene: &Scene, surfaces: &Surfaces, width: usize) -> usize {
+    if surfaces.are_masked() {
+        return MOST_ROWS;
+    }
+    let mut quads = 0usize;
+    for pass in scene.passes() {
+        quads = quads.saturating_add(pass.quads.len());
+    }
+    let visits = quads.saturating_mul(PIXELS_OF_VISIT) / width.max(1);
+    visits.saturating_add(LEAST_COPIES)
+}
+
+// marks the rows of an area that may differ from the row above; all where they are too few for a copy
+fn mark_rows(fresh: &mut [u8], scene: &Scene, band: Band, at: Area, copies: usize)
+    requires inside { IsInside at scene.now.w band.rows }
+    requires end { band.top + band.rows ≤ 2048 }
+    requires room { length fresh.old ≡ 2048 }
+    ensures size { length fresh.new ≡ 2048 }
+    ensures alike { ShowsRowsAbove scene.now (rect_in_band band at) fresh.new }
+{
+    if at.h <= copies {
+        mark_all(fresh);
+        return;
+    }
+    mark_fresh(fresh, scene, rect_of(band, at, scene));
+}
+
+// draws the rows of an area, and copies those without a mark where the given number or more of them follow one another
+fn draw_rows<F: PixelFormat>(
+    scene: &Scene,
+    bytes: &mut [u8],
+    band: Band,
+    at: Area,
+    surfaces: &mut Surfaces,
+    fresh: &[u8],
+    copies: usize,
+)
+    requires place { IsInBand F.DEPTH scene.now band at bytes.old }
+    requires ready { AreReady scene.now surfaces.old }
+    requires room { length fresh.now ≡ 2048 }
+    requires alike { ShowsRowsAbove scene.now (rect_in_band band at) fresh.now }
+    ensures drawn { IsBandDrawn F.DEPTH F.bytes_of scene.now band at bytes.old bytes.new }
+    ensures ready { AreReady scene.now surfaces.new }
+{
     let mut done = 0;
     while done < at.h {
-        let rows = surfaces.rows().min(at.h - done);
-        let strip = Area {
-            x: at.x,
-            y: at.y + done,
-            w: at.w,
-            h: rows,
-        };
-        draw_strip::<F>(scene, bytes, band, strip, surfaces);
-        done += rows;
+        if done > 0 && fresh[done] == 0 {
+            copy_down::<F>(bytes, band, at, done);
+            done += 1;
+        } else {
+            let most = surfaces.rows().min(at.h - done);
+            let rows = rows_to_draw(fresh, done, most, copies);
+            draw_strip::<F>(scene, bytes, band, strip_of(at, done, rows), surfaces);
+            done += rows;
+        }
     }
+}
+
+// how many rows from row `from` on are drawn in one strip, at most the given number: up to where so many have no mark
+// that they are copied
+fn rows_to_draw(fresh: &[u8], from: usize, most: usize, copies: usize) -> usize
+    requires some { 1 ≤ most }
+    requires there { from + most ≤ length fresh.now }
+    ensures some { 1 ≤ result }
+    ensures most { result ≤ most }
+{
+    let mut rows = 1;
+    let mut alike = 0;
+    while rows + alike < most && alike < copies {
+        if fresh[from + rows + alike] == 0 {
+            alike += 1;
+        } else {
+            rows += alike + 1;
+            alike = 0;
+        }
+    }
+    rows
+}
+
+// the given number of rows of an area from row `first` on
+fn strip_of(at: Area, first: usize, rows: usize) -> Area
+    requires { at.y + first < 2 ^ 64 }
+    ensures { result ≡ record { x = at.x; y = at.y + first; w = at.w; h = rows } }
+{
+    Area {
+        x: at.x,
+        y: at.y + first,
+        w: at.w,
+        h: rows,
+    }
+}
+
+// gives the columns of an area in its row `row` the pixels of the row above
+fn copy_down<F: PixelFormat>(bytes: &mut [u8], band: Band, at: Area, row: usize)
+    requires size { length bytes.old ≡ F.DEPTH * (band.across * band.rows) }
+    requires inside { IsInside at band.across band.rows }
+    requires some { 1 ≤ row }
+    requires there { row < at.h }
+    ensures { PartOf (bytes_at F.DEPTH) ((at.y + row) * band.across + at.x) at.w (λ j below. bytes_at F.DEPTH bytes.old ((at.y + row - 1) * band.across + (at.x + j))) bytes.old bytes.new }
+{
+    let y = at.y + row;
+    let place = place_of(band.across, band.rows, at.x, y, at.w);
+    let above = place_of(band.across, band.rows, at.x, y - 1, at.w);
+    copy_run::<F>(bytes, above, place, at.w);
 }
 
 // draws the pixels of a scene in one strip of its picture
@@ -66,7 +176,7 @@ fn draw_strip<F: PixelFormat>(
 fn rect_of(band: Band, at: Area, scene: &Scene) -> Rect
     requires inside { IsInside at scene.now.w band.rows }
     requires end { band.top + band.rows ≤ 2048 }
-    ensures value { result ≡ record { x = pos at.x; y = pos (band.top + at.y); w = pos at.w; h = pos at.h } }
+    ensures value { result ≡ rect_in_band band at }
     ensures wide { scene.now.w ≤ 2048 }
 {
     // A scene has at most 2048 columns, so the numbers fit.

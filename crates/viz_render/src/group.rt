@@ -9,10 +9,10 @@ ghost use Rattle.page_display_list.specs.Bitmaps.{near, byte_count};
 ghost use Rattle.viz_render.specs.inner.Drawing.{colour_of};
 ghost use Rattle.viz_render.specs.inner.Masks.{EachOpenPoint};
 
-use crate::place::place_of;
 use crate::mask::Mask;
 use crate::open::paint_open;
 use crate::paint::Paint;
+use crate::place::place_of;
 use crate::size::{height_of, width_of};
 use crate::surface::Surface;
 use geom::Rect;

@@ -61,6 +61,11 @@ impl Mask {
         measure_passes(self.deep.as_mut_slice(), scene);
     }
 
+    /// Whether a mask pays in some pass.
+    pub(crate) fn pays(&self) -> bool {
+        self.deep.iter().any(|deep| *deep)
+    }
+
     /// The numbers, row by row of blocks.
     pub(crate) fn tops(&self) -> &[usize]
         ensures value { result.now ≡ self.now.tops }

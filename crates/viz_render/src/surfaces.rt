@@ -74,6 +74,12 @@ impl Surfaces {
         self.passes.mask.measure(scene);
     }
 
+    /// Whether a mask pays in some pass of the scene that was measured last. Then high strips take less time than low
+    /// ones, as a mask hides blocks of eight rows.
+    pub fn are_masked(&self) -> bool {
+        self.passes.mask.pays()
+    }
+
     /// The most rows of a strip.
     pub fn rows(&self) -> usize
         ensures value { result ≡ self.now.rows }

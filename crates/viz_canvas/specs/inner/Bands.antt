@@ -20,6 +20,10 @@ pub record IsInBand (depth : ℕ) (s : SceneView) (band : Band) (at : Area) (byt
   pub inside : IsInside at s.w band.rows
   pub end : band.top + band.rows ≤ 2048
 
+-- the rect of the screen that an area of a band is
+abbrev pub rect_in_band : Band → Area → Rect
+rect_in_band band at = record { x = pos at.x; y = pos (band.top + at.y); w = pos at.w; h = pos at.h }
+
 -- in an area the pixels of a band got the bytes of a scene's, and the others have what they had
 abbrev pub IsBandDrawn : ℕ → (Parts → List ℕ) → SceneView → Band → Area → List ℕ → List ℕ → Type 0
 IsBandDrawn depth bytes_of s band at old new =

@@ -4,7 +4,7 @@ use Rattle.viz_scene.specs.Pixels.{scene_pixel}
 use Rattle.viz_render.specs.Surfaces.{AreReady}
 use Rattle.viz_canvas.specs.Formats.{bytes_at}
 use Rattle.viz_canvas.specs.inner.Parts.{EachOf, only_in}
-use Rattle.viz_canvas.proofs.strip.draw_area.Given as given
+use Rattle.viz_canvas.proofs.strip.draw_rows.Given as given
 
 abbrev pub invariant-loop-done : given.invariant-loop-done
 invariant-loop-done g l = record {
