@@ -1,0 +1,2 @@
+pub mod KeptTiles
+pub mod inner
