@@ -1,0 +1,2 @@
+pub mod Compositors
+pub mod inner

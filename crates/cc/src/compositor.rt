@@ -1,0 +1,247 @@
+//! Compositors.
+
+ghost use Rattle.std.specs.Prelude.{◌≡◌, ◌∷◌, [], true, false, IfOk, OnOk, OnErr};
+ghost use Rattle.page_layers.specs.Pages.{IsView};
+ghost use Rattle.page_layers.specs.Effects.{main_point};
+ghost use Rattle.page_layers.specs.Hits as hits;
+ghost use Rattle.page_layers.specs.Outcomes.{Outcome};
+ghost use Rattle.page_hit_test.specs.Wheels.{IsAmount, IsWheel};
+ghost use Rattle.viz_painter.specs.Painters.{IsKeptOutside};
+ghost use Rattle.cc_tiles.specs.KeptTiles.{AreKeptFor, AreCurrent};
+ghost use Rattle.cc.specs.Compositors.{CompositorView, Applied, AppliedTo, Scrolled, ShowsPage, empty_page, moved, offsets, wheel_moves, IsKeptOutsideRects};
+
+use crate::damage::{no_rows, paint};
+use crate::moves::{move_both, move_main, scroll_active, shows_after, shows_still};
+use crate::scenes::{scene_of, target_on, wheel_on};
+use cc_tiles::TileCache;
+use geom::{Point, Rect};
+use page_hit_test::Wheel;
+use page_layers::{Command, EditError, LayerTree, View};
+use pixel::Colour;
+use std::alloc::{AllocError, Global};
+use std::marker::Model;
+use viz_painter::{FrameRows, Painter};
+use viz_render::Frame;
+
+/// A page that commands change, the page that is shown, and its frame.
+#[derive(Drop)]
+pub struct Compositor {
+    alloc: Global,
+    main: LayerTree,
+    // its main values are where its scrollers stand
+    active: LayerTree,
+    background: Colour,
+    painter: Painter,
+    cache: TileCache,
+    // the rect outside of which the last draw left the frame as it was
+    damage: Option<Rect>,
+    // the main page is the active one
+    is_committed: bool,
+    // the frame shows the active page
+    is_shown: bool,
+}
+
+impl Model for Compositor {
+    ghost use Rattle.std.specs.Prelude.{◌≡◌};
+    ghost use Rattle.std.specs.Option.{option_to_list};
+    ghost use Rattle.cc_tiles.specs.KeptTiles.{AreKeptFor, AreCurrent};
+    ghost use Rattle.cc.specs.Compositors.{CompositorView};
+    ghost use Rattle.cc.specs.inner.Flags.{TellsCommitted, TellsShown};
+
+    ghost Value = { CompositorView };
+
+    ghost view = { λ c. record { main = c.main; active = c.active; background = c.background; frame = c.painter.frame; damage = option_to_list c.damage } };
+
+    ghost invariant = { λ c. AreKeptFor c.active c.cache × AreCurrent c.main c.cache × TellsCommitted c.is_committed c.active c.main × TellsShown c.is_shown c.active c.background c.painter.frame };
+}
+
+impl Compositor {
+    /// A compositor whose pages have this view and no layers, over this colour. The images of tiles that are kept
+    /// may take `budget` bytes beside those of the last draw. An error means out of memory.
+    ///
+    /// The view's sides are 1 to 2048, and its tiles 16 to 256.
+    #[tactic(auto, using(crate::proofs::Pages::kept_none, crate::proofs::Pages::current_none, crate::proofs::Pages::committed_both, crate::proofs::Pages::not_shown))]
+    pub fn new(
+        alloc: Global,
+        view: View,
+        background: Colour,
+        budget: usize,
+    ) -> Result<Compositor, AllocError>
+        requires { IsView view }
+        ensures main { IfOk result (λ c. c.main ≡ empty_page view) }
+        ensures active { IfOk result (λ c. c.active ≡ empty_page view) }
+        ensures background { IfOk result (λ c. c.background ≡ background) }
+    {
+        let painter = Painter::new(alloc, view.w, view.h)?;
+        Ok(Compositor {
+            alloc,
+            main: LayerTree::new(alloc, view),
+            active: LayerTree::new(alloc, view),
+            background,
+            painter,
+            cache: TileCache::new(alloc, budget),
+            damage: None,
+            is_committed: true,
+            is_shown: false,
+        })
+    }
+
+    /// Starts the main page anew, with this view and no layers, so that all ids are free. The active page stays
+    /// until the next commit.
+    ///
+    /// The view's sides are 1 to 2048, and its tiles 16 to 256.
+    #[tactic(auto, using(crate::proofs::Pages::not_committed))]
+    pub fn reset(&mut self, view: View)
+        requires { IsView view }
+        ensures { self.new ≡ record self.old { main = empty_page view } }
+    {
+        self.main = LayerTree::new(self.alloc, view);
+        self.cache.mark_all(&self.active, &self.main);
+        self.is_committed = false;
+    }
+
+    /// Applies a command to the main page. It is refused with its first fault; after any error all is as it was.
+    #[tactic(auto, using(crate::proofs::Applied::lifted, crate::proofs::Pages::not_committed))]
+    pub fn apply(&mut self, command: &Command) -> Result<(), EditError>
+        ensures { Applied self.old command.now self.new result }
+    {
+        self.is_committed = false;
+        applied(&self.active, &mut self.main, &mut self.cache, command)
+    }
+
+    /// Shows the main page from now on, whose scrollers stand at their main values. Where it is the active page
+    /// already, nothing is done. An error means out of memory, and all is as it was.
+    #[tactic(auto, using(crate::proofs::Pages::committed_itself, crate::proofs::Pages::committed_now, crate::proofs::Pages::not_shown))]
+    pub fn commit(&mut self) -> Result<(), AllocError>
+        ensures ok { OnOk result (self.new ≡ record self.old { active = self.old.main }) }
+        ensures err { OnErr result (self.new ≡ self.old) }
+    {
+        if self.is_committed {
+            return Ok(());
+        }
+        let page = self.main.copy()?;
+        self.cache.drop_stale(&self.main);
+        self.active = page;
+        self.is_committed = true;
+        self.is_shown = false;
+        Ok(())
+    }
+
+    /// Scrolls the active page as far as the scroller's range allows, and tells how far that was; None where the
+    /// page has no such scroller. The main page takes the same move. It takes no memory.
+    pub fn scroll(&mut self, id: u32, dx: i32, dy: i32) -> Option<Point>
+        ensures { Scrolled self.old id dx dy self.new result }
+    {
+        self.active.props().scroller(id)?;
+        let by = scroll_active(&mut self.active, &self.cache, id, dx, dy);
+        move_main(&mut self.main, &self.cache, id, by.x, by.y);
+        self.is_shown = shows_still(self.is_shown, by);
+        Some(by)
+    }
+
+    /// Scrolls the scrollers under a point of the screen, the nearest first, each as far as its range allows, and
+    /// tells what each took. At most 1048576 is asked along each axis, in either direction. An error means out of
+    /// memory, and all is as it was.
+    #[tactic(auto, using(crate::proofs::Pages::committed_moved, crate::proofs::Pages::shown_moved))]
+    pub fn wheel(&mut self, at: Point, asked: Point) -> Result<Wheel, AllocError>
+        requires across { IsAmount asked.x }
+        requires down { IsAmount asked.y }
+        ensures wheel { IfOk result (IsWheel self.old.active (offsets self.old) at.x at.y asked.x asked.y) }
+        ensures moved { IfOk result (λ w. self.new ≡ moved (wheel_moves w) self.old) }
+        ensures err { OnErr result (self.new ≡ self.old) }
+    {
+        let wheel = wheel_on(self.alloc, &self.active, at, asked)?;
+        let parts = wheel.parts.as_slice();
+        move_both(&mut self.active, &mut self.main, &self.cache, parts);
+        self.is_shown = shows_after(self.is_shown, parts);
+        Ok(wheel)
+    }
+
+    /// Where a scroller of the active page stands; (0, 0) where there is none.
+    pub fn offset(&self, id: u32) -> Point
+        ensures { result ≡ offsets self.now id }
+    {
+        self.active.value(id)
+    }
+
+    /// The topmost layer that covers a point of the screen; 0 exactly where none does. An error means out of memory.
+    pub fn target(&self, at: Point) -> Result<u32, AllocError>
+        ensures { IfOk result (λ id. id ≡ hits.target self.now.active (offsets self.now) at.x at.y) }
+    {
+        target_on(self.alloc, &self.active, at)
+    }
+
+    /// Whether a draw may change the frame. Where it may not, the frame shows the active page.
+    pub fn is_changed(&self) -> bool
+        ensures { result ≡ false → ShowsPage self.now.active (offsets self.now) self.now.background self.now.frame }
+    {
+        !self.is_shown
+    }
+
+    /// Draws the active page, and tells the rows outside of which the frame's pixels are those before; `damage`
+    /// then tells the rects. The frame has the view's size, and each pixel is the direct painting of the page.
+    /// Where the frame shows the page already, nothing is done. An error means out of memory: the frame may then
+    /// show anything, and the next draw draws it whole.
+    pub fn draw(&mut self) -> Result<FrameRows, AllocError>
+        ensures shown { OnOk result (ShowsPage self.new.active (offsets self.new) self.new.background self.new.frame) }
+        ensures rows { IfOk result (λ rows. IsKeptOutside rows self.old.frame self.new.frame) }
+        ensures rects { IsKeptOutsideRects self.new.damage self.old.frame self.new.frame }
+        ensures main { self.new.main ≡ self.old.main }
+        ensures active { self.new.active ≡ self.old.active }
+        ensures background { self.new.background ≡ self.old.background }
+    {
+        self.damage = None;
+        if self.is_shown {
+            return Ok(no_rows());
+        }
+        let scene = scene_of(
+            self.alloc,
+            &self.active,
+            &self.main,
+            self.background,
+            &mut self.cache,
+            self.is_committed,
+        )?;
+        let rows = paint(&mut self.painter, &mut self.damage, scene)?;
+        self.is_shown = true;
+        Ok(rows)
+    }
+
+    /// The frame: after a draw, what it drew.
+    pub fn frame(&self) -> &Frame
+        ensures { result.now ≡ self.now.frame }
+    {
+        self.painter.frame()
+    }
+
+    /// The rects outside of which the last draw left the frame as it was, also where it was out of memory.
+    pub fn damage(&self) -> &[Rect]
+        ensures { result.now ≡ self.now.damage }
+    {
+        self.damage.as_slice()
+    }
+}
+
+// Whether a command was applied to the main page; the tiles that it changed are marked.
+#[tactic(auto, using(crate::proofs::Applied::ok_applied, crate::proofs::Applied::err_applied, crate::proofs::Applied::err_current))]
+fn applied(
+    active: &LayerTree,
+    main: &mut LayerTree,
+    cache: &mut TileCache,
+    command: &Command,
+) -> Result<(), EditError>
+    requires kept { AreKeptFor active.now cache.old }
+    requires current { AreCurrent main.old cache.old }
+    ensures applied { AppliedTo main.old command.now main.new result }
+    ensures kept { AreKeptFor active.now cache.new }
+    ensures current { AreCurrent main.new cache.new }
+{
+    main.is_page();
+    match main.apply(command) {
+        Ok(changes) => {
+            cache.mark(main, &changes);
+            Ok(())
+        }
+        Err(error) => Err(error),
+    }
+}
