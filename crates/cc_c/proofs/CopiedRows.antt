@@ -1,0 +1,94 @@
+-- Rows of pixels, copied into a buffer one after another.
+use Rattle.std.proofs.Common.{◌≡◌, ℕ, zero, suc, ◌+◌, ◌*◌, ◌-◌, ◌/◌, ◌%◌, ◌<◌, ◌≤◌, Bool, true, false, cond, List, slice_index, length, take, drop, refl, sym, ◌∙◌, ap, subst, inl, inr, arith}
+use Rattle.std.proofs.lemmas.Grind.{common_steps}
+use Rattle.std.proofs.lemmas.Bool.{cases_lt}
+use Rattle.pixel.specs.Colours.{Parts}
+use Rattle.pixel.specs.Rows.{pixel}
+use borrow.Rule.Slice.PartMut.{put_mid}
+use Rattle.viz_render.specs.Frames.{FrameView, frame_pixel}
+use Rattle.cc_c.specs.Copies.{HasParts, IsRowCopied, HoldsRows}
+
+-- ---- products
+
+pub product_le : (a b s : ℕ) → a ≤ b → a * s ≤ b * s
+product_le zero b s h = omega arith
+product_le (suc a) zero s h = absurd (omega arith)
+product_le (suc a) (suc b) s h = let rest : a * s ≤ b * s = product_le a b s (omega arith) in omega (arith, rest)
+
+-- a row before another ends before it begins
+pub row_before : (a b s : ℕ) → a < b → a * s + s ≤ b * s
+row_before a b s h = let next : suc a * s ≤ b * s = product_le (suc a) b s (omega arith) in omega (arith, next)
+
+-- ---- pixels
+
+byte_before : (a k : ℕ) (xs ys : List ℕ) (i : ℕ) → i < a → a ≤ length xs → slice_index (put_mid a k xs ys) i ≡ slice_index xs i
+byte_before a k xs ys i lt le = grind (arith, common_steps)
+
+byte_inside : (a k : ℕ) (xs ys : List ℕ) (j : ℕ) → j < length ys → a ≤ length xs → slice_index (put_mid a k xs ys) (a + j) ≡ slice_index ys j
+byte_inside a k xs ys j lt le = grind (arith, common_steps)
+
+-- a pixel stays where the bytes before a place do
+pub pixel_kept : (bgra : Bool) (c : Parts) (at end : ℕ) (old new : List ℕ) → at + 4 ≤ end → ((i : ℕ) → i < end → slice_index new i ≡ slice_index old i) → HasParts bgra c at old → HasParts bgra c at new
+pixel_kept bgra c at end old new le same is = record {
+  first = same at (omega (arith, le)) ∙ is.first;
+  second = same (at + 1) (omega (arith, le)) ∙ is.second;
+  third = same (at + 2) (omega (arith, le)) ∙ is.third;
+  fourth = same (at + 3) (omega (arith, le)) ∙ is.fourth;
+}
+
+-- one pixel more
+pub row_more : (bgra : Bool) (n at : ℕ) (row old mid new : List ℕ) → IsRowCopied bgra n at row old mid → HasParts bgra (pixel row n) (at + 4 * n) new → ((i : ℕ) → i < at + 4 * n → slice_index new i ≡ slice_index mid i) → IsRowCopied bgra (n + 1) at row old new
+row_more bgra n at row old mid new are one same = record {
+  inside = λ k lt. elim (cases_lt k n) as (λ _. HasParts bgra (pixel row k) (at + 4 * k) new) [
+    | inl low ↦ pixel_kept bgra (pixel row k) (at + 4 * k) (at + 4 * n) mid new (omega (arith, low)) same (are.inside k low)
+    | inr from ↦
+        let is : n ≡ k = omega (arith, lt, from) in
+        subst (λ (i : ℕ). HasParts bgra (pixel row i) (at + 4 * i) new) is one
+  ];
+  before = λ i lt. same i (omega (arith, lt)) ∙ are.before i lt;
+}
+
+pub row_none : (bgra : Bool) (at : ℕ) (row old : List ℕ) → IsRowCopied bgra 0 at row old old
+row_none bgra at row old = record { inside = λ k lt. absurd (omega (arith, lt)); before = λ i lt. refl }
+
+-- a row that was put as it is
+pub row_put : (at m : ℕ) (row old : List ℕ) → length row % 4 ≡ 0 → at + length row ≤ length old → IsRowCopied false (length row / 4) at row old (put_mid at m old row)
+row_put at m row old whole room = record {
+  inside = λ k lt.
+      let end : 4 * k + 4 ≤ length row = omega (arith, lt) in
+      let a1 : at + 4 * k + 1 ≡ at + (4 * k + 1) = omega arith in
+      let a2 : at + 4 * k + 2 ≡ at + (4 * k + 2) = omega arith in
+      let a3 : at + 4 * k + 3 ≡ at + (4 * k + 3) = omega arith in
+      record {
+        first = byte_inside at m old row (4 * k) (omega (arith, end)) (omega (arith, room));
+        second = ap (slice_index (put_mid at m old row)) a1 ∙ byte_inside at m old row (4 * k + 1) (omega (arith, end)) (omega (arith, room));
+        third = ap (slice_index (put_mid at m old row)) a2 ∙ byte_inside at m old row (4 * k + 2) (omega (arith, end)) (omega (arith, room));
+        fourth = ap (slice_index (put_mid at m old row)) a3 ∙ byte_inside at m old row (4 * k + 3) (omega (arith, end)) (omega (arith, room));
+      };
+  before = λ i lt. byte_before at m old row i lt (omega (arith, room));
+}
+
+-- ---- rows
+
+-- the first rows of those asked for, the last of them just copied
+pub rows_more : (f : FrameView) (bgra : Bool) (top y stride start : ℕ) (row old new : List ℕ) → top ≤ y → 4 * f.w ≤ stride → start ≡ (y - top) * stride → length row ≡ 4 * f.w
+    → ((x : ℕ) → x < f.w → pixel row x ≡ frame_pixel f x y) → HoldsRows f bgra top y stride old → IsRowCopied bgra (length row / 4) start row old new → HoldsRows f bgra top (y + 1) stride new
+rows_more f bgra top y stride start row old new from apart is long pixels held copied = record {
+  pixels = λ x k across low high.
+      elim (cases_lt k y) as (λ _. HasParts bgra (frame_pixel f x k) ((k - top) * stride + 4 * x) new) [
+        | inl below ↦
+            let above : (k - top) * stride + stride ≤ (y - top) * stride = row_before (k - top) (y - top) stride (omega (arith, below, low)) in
+            pixel_kept bgra (frame_pixel f x k) ((k - top) * stride + 4 * x) start old new (omega (arith, above, is, apart, across)) copied.before (held.pixels x k across low below)
+        | inr last ↦
+            let here : y ≡ k = omega (arith, last, high) in
+            subst (λ (n : ℕ). HasParts bgra (frame_pixel f x n) ((n - top) * stride + 4 * x) new) here
+            (subst (λ (n : ℕ). HasParts bgra (frame_pixel f x y) (n + 4 * x) new) is
+            (subst (λ (c : Parts). HasParts bgra c (start + 4 * x) new) (pixels x across) (copied.inside x (omega (arith, long, across)))))
+      ];
+}
+
+pub rows_none : (f : FrameView) (bgra : Bool) (top stride : ℕ) (bytes : List ℕ) → HoldsRows f bgra top top stride bytes
+rows_none f bgra top stride bytes = record { pixels = λ x y across low high. absurd (omega (arith, low, high)) }
+
+pub rows_upside : (f : FrameView) (bgra : Bool) (top bottom stride : ℕ) (bytes : List ℕ) → bottom ≤ top → HoldsRows f bgra top bottom stride bytes
+rows_upside f bgra top bottom stride bytes le = record { pixels = λ x y across low high. absurd (omega (arith, low, high, le)) }

@@ -1,0 +1,363 @@
+//! The compositor as a library for C. Its header is `include/cc.h`.
+//!
+//! C keeps a handle, which is a pointer, and gives it to one call at a time. Each call takes the handle and gives it
+//! back in `out`: the same pointer. What a call did is told by a status.
+#![tactic(auto)]
+
+mod commands;
+mod copying;
+mod damage;
+mod edits;
+mod failure;
+mod fault;
+mod fields;
+mod handle;
+mod items;
+mod layers;
+mod nodes;
+mod scrollers;
+mod status;
+
+ghost use Rattle.std.specs.Prelude.{◌≡◌, true, false};
+ghost use Rattle.page_layers.specs.Pages.{IsView};
+ghost use Rattle.page_layers.specs.Hits as hits;
+ghost use Rattle.cc.specs.Compositors.{ShowsPage, offsets};
+ghost use Rattle.cc_c.specs.Edits.{TellsEdit};
+ghost use Rattle.cc_c.specs.Answers.{TellsCopy, TellsScroll, TellsWheel};
+ghost use Rattle.page_hit_test.specs.Wheels.{IsAmount};
+
+use crate::copying::copied;
+use crate::damage::{DamageRect, told_damage};
+use crate::edits::edited;
+use crate::fault::Fault;
+use crate::fields::colour_of;
+use crate::handle::{Handle, given};
+use crate::status::{BAD, DONE, MEMORY, SHORT, UNKNOWN};
+use cc::Compositor;
+use geom::Point;
+use page_layers::View;
+use pixel::Colour;
+use std::alloc::Global;
+
+/// The version of this interface: the soname's number.
+#[unsafe(no_mangle)]
+pub extern "C" fn cc_version() -> u32 {
+    1
+}
+
+// Whether a view is in its ranges.
+fn is_view(view: View) -> bool
+    ensures { result ≡ true → IsView view }
+{
+    let wide = view.w >= 1 && view.w <= 2048;
+    let tall = view.h >= 1 && view.h <= 2048;
+    let cut = view.tile >= 16 && view.tile <= 256;
+    wide && tall && cut
+}
+
+// A compositor in memory of its own.
+fn made(alloc: Global, view: View, background: Colour, budget: usize) -> Option<Box<Compositor>>
+    requires { IsView view }
+{
+    let Ok(page) = Compositor::new(alloc, view, background, budget) else {
+        return None;
+    };
+    Box::new(alloc, page).ok()
+}
+
+/// A compositor of an empty page, in `out`: BAD where the view is out of its ranges or the background is not
+/// premultiplied.
+#[unsafe(no_mangle)]
+pub extern "C" fn cc_new_(
+    alloc: Global,
+    w: u32,
+    h: u32,
+    tile: u32,
+    rgba: u32,
+    budget: usize,
+    out: &mut *mut u8,
+) -> u32 {
+    let view = View { w, h, tile };
+    let Some(background) = colour_of(rgba) else {
+        return BAD;
+    };
+    if !is_view(view) {
+        return BAD;
+    }
+    match made(alloc, view, background, budget) {
+        Some(page) => {
+            *out = given(page);
+            DONE
+        }
+        None => MEMORY,
+    }
+}
+
+/// Ends a compositor.
+#[unsafe(no_mangle)]
+pub extern "C" fn cc_free(page: Handle) {
+    drop(page.into_box());
+}
+
+/// Starts the main page anew: BAD where the view is out of its ranges.
+#[unsafe(no_mangle)]
+pub extern "C" fn cc_reset_(page: Handle, w: u32, h: u32, tile: u32, out: &mut *mut u8) -> u32 {
+    let mut page = page.into_box();
+    let view = View { w, h, tile };
+    let status = if is_view(view) {
+        page.reset(view);
+        DONE
+    } else {
+        BAD
+    };
+    *out = given(page);
+    status
+}
+
+/// Applies the command with this number, these fields, this colour and these pixels: BAD where they mean none,
+/// REFUSED where the page refuses it, and the fault is then told.
+#[unsafe(no_mangle)]
+pub extern "C" fn cc_edit_(
+    alloc: Global,
+    page: Handle,
+    op: u32,
+    fields: &[i32],
+    rgba: u32,
+    pixels: &[u8],
+    fault: &mut Fault,
+    out: &mut *mut u8,
+) -> u32
+    ensures { TellsEdit page.value op fields.now rgba pixels.now fault.new result }
+{
+    let mut page = page.into_box();
+    let status = edited(alloc, &mut page, op, fields, rgba, pixels, fault);
+    *out = given(page);
+    status
+}
+
+/// Shows what the commands made of the main page.
+#[unsafe(no_mangle)]
+pub extern "C" fn cc_commit_(page: Handle, out: &mut *mut u8) -> u32 {
+    let mut page = page.into_box();
+    let status = match page.commit() {
+        Ok(()) => DONE,
+        Err(_) => MEMORY,
+    };
+    *out = given(page);
+    status
+}
+
+// Scrolls, and tells how far.
+fn scrolled(
+    page: &mut Compositor,
+    scroller: u32,
+    dx: i32,
+    dy: i32,
+    by_x: &mut i32,
+    by_y: &mut i32,
+) -> u32
+    ensures { TellsScroll page.old scroller dx dy by_x.new by_y.new result }
+{
+    match page.scroll(scroller, dx, dy) {
+        Some(by) => {
+            *by_x = by.x;
+            *by_y = by.y;
+            DONE
+        }
+        None => UNKNOWN,
+    }
+}
+
+/// Scrolls, and tells how far: UNKNOWN where the active page has no such scroller.
+#[unsafe(no_mangle)]
+pub extern "C" fn cc_scroll_(
+    page: Handle,
+    scroller: u32,
+    dx: i32,
+    dy: i32,
+    by_x: &mut i32,
+    by_y: &mut i32,
+    out: &mut *mut u8,
+) -> u32
+    ensures { TellsScroll page.value scroller dx dy by_x.new by_y.new result }
+{
+    let mut page = page.into_box();
+    let status = scrolled(&mut page, scroller, dx, dy, by_x, by_y);
+    *out = given(page);
+    status
+}
+
+// Scrolls what lies under a point, and tells what is left.
+fn wheeled(
+    page: &mut Compositor,
+    at: Point,
+    asked: Point,
+    rest_x: &mut i32,
+    rest_y: &mut i32,
+) -> u32
+    ensures { TellsWheel page.old at.x at.y asked.x asked.y rest_x.new rest_y.new result }
+{
+    if !is_amount(asked.x) {
+        return BAD;
+    }
+    if !is_amount(asked.y) {
+        return BAD;
+    }
+    match page.wheel(at, asked) {
+        Ok(wheel) => {
+            *rest_x = wheel.rest.x;
+            *rest_y = wheel.rest.y;
+            DONE
+        }
+        Err(_) => MEMORY,
+    }
+}
+
+// Whether this much may be asked of a wheel along an axis.
+fn is_amount(asked: i32) -> bool
+    ensures yes { result ≡ true → IsAmount asked }
+    ensures no { result ≡ false → IsAmount asked → ⊥ }
+{
+    asked >= -1048576 && asked <= 1048576
+}
+
+/// Scrolls what lies under a point, and tells what is left: BAD where more than 1048576 is asked along an axis.
+#[unsafe(no_mangle)]
+pub extern "C" fn cc_wheel_(
+    page: Handle,
+    x: i32,
+    y: i32,
+    dx: i32,
+    dy: i32,
+    rest_x: &mut i32,
+    rest_y: &mut i32,
+    out: &mut *mut u8,
+) -> u32
+    ensures { TellsWheel page.value x y dx dy rest_x.new rest_y.new result }
+{
+    let mut page = page.into_box();
+    let at = Point { x, y };
+    let asked = Point { x: dx, y: dy };
+    let status = wheeled(&mut page, at, asked, rest_x, rest_y);
+    *out = given(page);
+    status
+}
+
+/// Where a scroller of the active page stands; (0, 0) where there is none.
+#[unsafe(no_mangle)]
+pub extern "C" fn cc_offset_(
+    page: Handle,
+    scroller: u32,
+    x: &mut i32,
+    y: &mut i32,
+    out: &mut *mut u8,
+)
+    ensures across { x.new ≡ (offsets page.value scroller).x }
+    ensures down { y.new ≡ (offsets page.value scroller).y }
+{
+    let page = page.into_box();
+    let at = page.offset(scroller);
+    *x = at.x;
+    *y = at.y;
+    *out = given(page);
+}
+
+/// The topmost layer at a point; 0 where there is none.
+#[unsafe(no_mangle)]
+pub extern "C" fn cc_target_(
+    page: Handle,
+    x: i32,
+    y: i32,
+    layer: &mut u32,
+    out: &mut *mut u8,
+) -> u32
+    ensures { result ≡ 0 → layer.new ≡ hits.target page.value.active (offsets page.value) x y }
+{
+    let page = page.into_box();
+    let status = match page.target(Point { x, y }) {
+        Ok(id) => {
+            *layer = id;
+            DONE
+        }
+        Err(_) => MEMORY,
+    };
+    *out = given(page);
+    status
+}
+
+/// Whether a draw may change the frame: 1, or 0 where the frame shows the active page already.
+#[unsafe(no_mangle)]
+pub extern "C" fn cc_is_changed_(page: Handle, out: &mut *mut u8) -> u32
+    ensures { result ≡ 0 → ShowsPage page.value.active (offsets page.value) page.value.background page.value.frame }
+{
+    let page = page.into_box();
+    let changed = if page.is_changed() { 1 } else { 0 };
+    *out = given(page);
+    changed
+}
+
+/// Draws, and tells the rows that may have changed: those from `top` on that lie above `bottom`.
+#[unsafe(no_mangle)]
+pub extern "C" fn cc_draw_(
+    page: Handle,
+    top: &mut u32,
+    bottom: &mut u32,
+    out: &mut *mut u8,
+) -> u32 {
+    let mut page = page.into_box();
+    let status = match page.draw() {
+        Ok(rows) => {
+            *top = rows.top;
+            *bottom = rows.bottom;
+            DONE
+        }
+        Err(_) => MEMORY,
+    };
+    *out = given(page);
+    status
+}
+
+/// The rects that the last draw may have changed: as many as fit are written, and the answer is how many there are.
+#[unsafe(no_mangle)]
+pub extern "C" fn cc_damage_(page: Handle, rects: &mut [DamageRect], out: &mut *mut u8) -> usize {
+    let page = page.into_box();
+    let count = told_damage(page.damage(), rects);
+    *out = given(page);
+    count
+}
+
+/// The frame's width and height.
+#[unsafe(no_mangle)]
+pub extern "C" fn cc_size_(page: Handle, w: &mut u32, h: &mut u32, out: &mut *mut u8)
+    ensures wide { w.new ≡ page.value.frame.w }
+    ensures tall { h.new ≡ page.value.frame.h }
+{
+    let page = page.into_box();
+    *w = page.frame().w();
+    *h = page.frame().h();
+    *out = given(page);
+}
+
+/// Copies rows of the frame, as red, green, blue and alpha, or as blue, green, red and alpha: SHORT where the buffer
+/// cannot hold them, and nothing is copied then.
+#[unsafe(no_mangle)]
+pub extern "C" fn cc_copy_(
+    page: Handle,
+    bgra: u32,
+    top: u32,
+    bottom: u32,
+    stride: usize,
+    to: &mut [u8],
+    out: &mut *mut u8,
+) -> u32
+    ensures { TellsCopy page.value.frame bgra top bottom stride to.old to.new result }
+{
+    let page = page.into_box();
+    let status = if copied(page.frame(), bgra != 0, top, bottom, stride, to) {
+        DONE
+    } else {
+        SHORT
+    };
+    *out = given(page);
+    status
+}
