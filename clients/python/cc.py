@@ -1,0 +1,244 @@
+"""cc, a page compositor, from Python: the C library through ctypes, with nothing else needed.
+
+    page = cc.Compositor(160, 120)
+    page.add_layer(1, 0, w=160, h=120)
+    page.insert_rect(1, 0, (20, 20, 80, 60), 0x3060c0ff)
+    page.commit()
+    page.draw()
+    page.pixels()            # bytes: red, green, blue and alpha of each pixel
+
+The library is looked for at the path CC_LIBRARY names, or as libcc.so. docs/EMBEDDING.md says what the calls do; a call
+that the library refuses raises `Refused`, one that runs out of memory MemoryError, a number that no page could take
+ValueError. A compositor is used on the thread that made it.
+"""
+import ctypes
+import os
+
+VERSION = 1
+DONE, BAD, UNKNOWN, REFUSED, SHORT, MEMORY = 0, 1, 2, 3, 4, 11
+RGBA, BGRA = 0, 1
+FAULTS = {1: "a layer or node is not there", 2: "the id is taken", 3: "a place past the end of the list",
+          4: "one more than there may be", 5: "a value is out of its range",
+          6: "the layers of an effect would not stand together"}
+STATUSES = {BAD: "a number is outside what any page could take", UNKNOWN: "the active page has no such scroller",
+            SHORT: "the buffer is too small"}
+
+
+class Fault(ctypes.Structure):
+    _fields_ = [("why", ctypes.c_uint32), ("value", ctypes.c_int64), ("limit", ctypes.c_int64)]
+
+
+class Rect(ctypes.Structure):
+    _fields_ = [(name, ctypes.c_int32) for name in "xywh"]
+
+
+class Refused(Exception):
+    """The page refuses a command. `why` is the number of the fault, `value` and `limit` say more of it."""
+
+    def __init__(self, fault):
+        super().__init__(FAULTS[fault.why] + (f": {fault.value} passes {fault.limit}" if fault.why == 5 else ""))
+        self.why, self.value, self.limit = fault.why, fault.value, fault.limit
+
+
+def load(path=None):
+    """The library, with the types of its functions."""
+    library = ctypes.CDLL(path or os.environ.get("CC_LIBRARY", "libcc.so"))
+    pointer, u32, i32, size, octets = ctypes.c_void_p, ctypes.c_uint32, ctypes.c_int32, ctypes.c_size_t, ctypes.c_char_p
+    to = ctypes.POINTER
+    types = {
+        "cc_version": (u32,),
+        "cc_new_": (u32, u32, u32, u32, u32, size, to(pointer)),
+        "cc_free": (None, pointer),
+        "cc_reset_": (u32, pointer, u32, u32, u32, to(pointer)),
+        "cc_edit_": (u32, pointer, u32, to(i32), size, u32, octets, size, to(Fault), to(pointer)),
+        "cc_commit_": (u32, pointer, to(pointer)),
+        "cc_scroll_": (u32, pointer, u32, i32, i32, to(i32), to(i32), to(pointer)),
+        "cc_wheel_": (u32, pointer, i32, i32, i32, i32, to(i32), to(i32), to(pointer)),
+        "cc_offset_": (None, pointer, u32, to(i32), to(i32), to(pointer)),
+        "cc_target_": (u32, pointer, i32, i32, to(u32), to(pointer)),
+        "cc_is_changed_": (u32, pointer, to(pointer)),
+        "cc_draw_": (u32, pointer, to(u32), to(u32), to(pointer)),
+        "cc_damage_": (size, pointer, to(Rect), size, to(pointer)),
+        "cc_size_": (None, pointer, to(u32), to(u32), to(pointer)),
+        "cc_copy_": (u32, pointer, u32, u32, u32, size, pointer, size, to(pointer)),
+    }
+    for name, (answer, *parameters) in types.items():
+        function = getattr(library, name)
+        function.restype, function.argtypes = answer, parameters
+    if library.cc_version() != VERSION:
+        raise OSError(f"libcc has version {library.cc_version()}, this module is for {VERSION}")
+    return library
+
+
+class Compositor:
+    """A main page, which commands change, an active page, which is shown, and a frame."""
+
+    def __init__(self, w, h, tile=256, background=0xFFFFFFFF, budget=64 << 20, library=None):
+        self._handle = ctypes.c_void_p()
+        self._library = library or load()
+        self._answer(self._library.cc_new_(w, h, tile, background, budget, ctypes.byref(self._handle)))
+
+    def close(self):
+        """Ends the compositor."""
+        if self._handle:
+            self._library.cc_free(self._handle)
+            self._handle = ctypes.c_void_p()
+
+    def __enter__(self):
+        return self
+
+    def __exit__(self, *_):
+        self.close()
+
+    def __del__(self):
+        if getattr(self, "_library", None):
+            self.close()
+
+    def _call(self, name, *words):
+        return getattr(self._library, name)(self._handle, *words, ctypes.byref(self._handle))
+
+    @staticmethod
+    def _answer(status, fault=None):
+        if status == REFUSED:
+            raise Refused(fault)
+        if status == MEMORY:
+            raise MemoryError
+        if status != DONE:
+            raise ValueError(STATUSES[status])
+
+    def _edit(self, op, *fields, colour=0, pixels=b""):
+        fault, list_of = Fault(), (ctypes.c_int32 * len(fields))(*fields)
+        told = ctypes.byref(fault)
+        self._answer(self._call("cc_edit_", op, list_of, len(fields), colour, pixels, len(pixels), told), fault)
+
+    def reset(self, w, h, tile=256):
+        """Starts the main page anew, so that all ids are free."""
+        self._answer(self._call("cc_reset_", w, h, tile))
+
+    def commit(self):
+        """Shows what the commands made of the main page."""
+        self._answer(self._call("cc_commit_"))
+
+    def scroll(self, scroller, dx, dy):
+        """Scrolls the active page, and tells how far."""
+        x, y = ctypes.c_int32(), ctypes.c_int32()
+        self._answer(self._call("cc_scroll_", scroller, dx, dy, ctypes.byref(x), ctypes.byref(y)))
+        return x.value, y.value
+
+    def wheel(self, x, y, dx, dy):
+        """Scrolls what lies under a point, and tells what none of the scrollers took."""
+        rest_x, rest_y = ctypes.c_int32(), ctypes.c_int32()
+        self._answer(self._call("cc_wheel_", x, y, dx, dy, ctypes.byref(rest_x), ctypes.byref(rest_y)))
+        return rest_x.value, rest_y.value
+
+    def offset(self, scroller):
+        """Where a scroller of the active page stands; (0, 0) where there is none."""
+        x, y = ctypes.c_int32(), ctypes.c_int32()
+        self._call("cc_offset_", scroller, ctypes.byref(x), ctypes.byref(y))
+        return x.value, y.value
+
+    def target(self, x, y):
+        """The topmost layer at a point; 0 where there is none."""
+        layer = ctypes.c_uint32()
+        self._answer(self._call("cc_target_", x, y, ctypes.byref(layer)))
+        return layer.value
+
+    @property
+    def is_changed(self):
+        """Whether a draw may change the frame."""
+        return self._call("cc_is_changed_") != 0
+
+    def draw(self):
+        """Draws the active page. The rows outside of (top, bottom) are as they were."""
+        top, bottom = ctypes.c_uint32(), ctypes.c_uint32()
+        self._answer(self._call("cc_draw_", ctypes.byref(top), ctypes.byref(bottom)))
+        return top.value, bottom.value
+
+    def damage(self):
+        """The rects (x, y, w, h) outside of which the last draw left the frame as it was."""
+        count = self._call("cc_damage_", (Rect * 1)(), 0)
+        rects = (Rect * max(count, 1))()
+        self._call("cc_damage_", rects, count)
+        return [(r.x, r.y, r.w, r.h) for r in rects[:count]]
+
+    def size(self):
+        """The frame's width and height."""
+        w, h = ctypes.c_uint32(), ctypes.c_uint32()
+        self._call("cc_size_", ctypes.byref(w), ctypes.byref(h))
+        return w.value, h.value
+
+    def pixels(self, order=RGBA):
+        """The frame's bytes, four a pixel, row by row from the top."""
+        w, h = self.size()
+        return bytes(self.copy_into(bytearray(4 * w * h), 4 * w, 0, h, order))
+
+    def copy_into(self, buffer, stride, top, bottom, order=RGBA):
+        """Copies rows of the frame into a writable buffer whose rows begin `stride` bytes apart; answers the buffer."""
+        room = (ctypes.c_uint8 * len(buffer)).from_buffer(buffer)
+        self._answer(self._call("cc_copy_", order, top, bottom, stride, ctypes.addressof(room), len(buffer)))
+        return buffer
+
+    # The commands, which change the main page.
+
+    def add_transform(self, id, parent=0, x=0, y=0, scroller=0):
+        self._edit(1, id, parent, x, y, scroller)
+
+    def set_transform(self, id, x, y):
+        self._edit(2, id, x, y)
+
+    def add_clip(self, id, rect, parent=0, transform=0):
+        self._edit(3, id, parent, transform, *rect)
+
+    def set_clip(self, id, rect):
+        self._edit(4, id, *rect)
+
+    def add_effect(self, id, opacity, parent=0):
+        self._edit(5, id, parent, opacity)
+
+    def set_opacity(self, id, opacity):
+        self._edit(6, id, opacity)
+
+    def add_scroller(self, id, max_x, max_y, parent=0):
+        self._edit(7, id, parent, max_x, max_y)
+
+    def set_range(self, id, max_x, max_y):
+        self._edit(8, id, max_x, max_y)
+
+    def scroll_by(self, id, dx, dy):
+        self._edit(9, id, dx, dy)
+
+    def scroll_to(self, id, x, y):
+        self._edit(10, id, x, y)
+
+    def add_layer(self, id, at, transform=0, clip=0, effect=0, w=1, h=1, colour=0):
+        self._edit(11, id, at, transform, clip, effect, w, h, colour=colour)
+
+    def remove_layer(self, id):
+        self._edit(12, id)
+
+    def resize_layer(self, id, w, h):
+        self._edit(13, id, w, h)
+
+    def set_colour(self, id, colour):
+        self._edit(14, id, colour=colour)
+
+    def move_layer(self, id, at):
+        self._edit(15, id, at)
+
+    def set_view(self, w, h, tile):
+        self._edit(16, w, h, tile)
+
+    def remove_item(self, layer, at):
+        self._edit(17, layer, at)
+
+    def insert_rect(self, layer, at, rect, colour):
+        self._edit(18, layer, at, *rect, colour=colour)
+
+    def replace_rect(self, layer, at, rect, colour):
+        self._edit(19, layer, at, *rect, colour=colour)
+
+    def insert_bitmap(self, layer, at, rect, pixels):
+        self._edit(20, layer, at, *rect, pixels=bytes(pixels))
+
+    def replace_bitmap(self, layer, at, rect, pixels):
+        self._edit(21, layer, at, *rect, pixels=bytes(pixels))

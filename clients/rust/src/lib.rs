@@ -1,0 +1,395 @@
+//! A safe wrapper of libcc, the page compositor whose frames are proved to be the direct painting of the page.
+//!
+//! ```no_run
+//! # fn main() -> Result<(), cc_compositor::Error> {
+//! let mut page = cc_compositor::Compositor::new(160, 120, 64, 0xffffffff, 64 << 20)?;
+//! page.add_layer(1, 0, 0, 0, 0, (160, 120), 0)?;
+//! page.insert_rect(1, 0, (20, 20, 80, 60), 0x3060c0ff)?;
+//! page.commit()?;
+//! let changed = page.draw()?;
+//! let mut pixels = vec![0; 4 * 160 * 120];
+//! page.copy(cc_compositor::Order::Rgba, 0..120, 4 * 160, &mut pixels)?;
+//! # let _ = changed; Ok(()) }
+//! ```
+//!
+//! docs/EMBEDDING.md says what the calls do. A `Compositor` is neither `Send` nor `Sync`.
+
+use std::ffi::c_void;
+use std::fmt;
+use std::ops::Range;
+use std::ptr;
+
+/// Why a page refuses a command.
+#[derive(Clone, Copy, Debug, PartialEq, Eq)]
+pub enum Fault {
+    UnknownId,
+    IdUsed,
+    BadPlace,
+    TooMany { limit: i64 },
+    OutOfRange { value: i64, limit: i64 },
+    NotNested,
+}
+
+/// Why a call did nothing.
+#[derive(Clone, Copy, Debug, PartialEq, Eq)]
+pub enum Error {
+    /// A number is outside what any page could take, or a colour is not premultiplied.
+    Bad,
+    /// The active page has no such scroller.
+    Unknown,
+    /// The page refuses the command.
+    Refused(Fault),
+    /// The buffer is too small, or its rows are too short.
+    Short,
+    /// Memory ran out.
+    Memory,
+}
+
+impl fmt::Display for Error {
+    fn fmt(&self, to: &mut fmt::Formatter<'_>) -> fmt::Result {
+        match self {
+            Error::Bad => write!(to, "a number is outside what any page could take"),
+            Error::Unknown => write!(to, "the active page has no such scroller"),
+            Error::Refused(Fault::UnknownId) => write!(to, "a layer or node is not there"),
+            Error::Refused(Fault::IdUsed) => write!(to, "the id is taken"),
+            Error::Refused(Fault::BadPlace) => write!(to, "a place past the end of the list"),
+            Error::Refused(Fault::TooMany { limit }) => write!(to, "one more than {limit}"),
+            Error::Refused(Fault::OutOfRange { value, limit }) => write!(to, "{value} passes {limit}"),
+            Error::Refused(Fault::NotNested) => write!(to, "the layers of an effect would not stand together"),
+            Error::Short => write!(to, "the buffer is too small"),
+            Error::Memory => write!(to, "out of memory"),
+        }
+    }
+}
+
+impl std::error::Error for Error {}
+
+/// The order of the bytes of a pixel.
+#[derive(Clone, Copy, Debug, PartialEq, Eq)]
+pub enum Order {
+    Rgba = 0,
+    Bgra = 1,
+}
+
+/// Left, top, width and height.
+pub type Rect = (i32, i32, i32, i32);
+
+#[repr(C)]
+struct FaultOfC {
+    why: u32,
+    value: i64,
+    limit: i64,
+}
+
+#[repr(C)]
+#[derive(Clone, Copy)]
+struct RectOfC {
+    x: i32,
+    y: i32,
+    w: i32,
+    h: i32,
+}
+
+extern "C" {
+    fn cc_new_(w: u32, h: u32, tile: u32, rgba: u32, budget: usize, out: *mut *mut c_void) -> u32;
+    fn cc_free(page: *mut c_void);
+    fn cc_reset_(page: *mut c_void, w: u32, h: u32, tile: u32, out: *mut *mut c_void) -> u32;
+    fn cc_edit_(
+        page: *mut c_void,
+        op: u32,
+        fields: *const i32,
+        count: usize,
+        rgba: u32,
+        pixels: *const u8,
+        bytes: usize,
+        fault: *mut FaultOfC,
+        out: *mut *mut c_void,
+    ) -> u32;
+    fn cc_commit_(page: *mut c_void, out: *mut *mut c_void) -> u32;
+    fn cc_scroll_(
+        page: *mut c_void,
+        scroller: u32,
+        dx: i32,
+        dy: i32,
+        by_x: *mut i32,
+        by_y: *mut i32,
+        out: *mut *mut c_void,
+    ) -> u32;
+    fn cc_wheel_(
+        page: *mut c_void,
+        x: i32,
+        y: i32,
+        dx: i32,
+        dy: i32,
+        rest_x: *mut i32,
+        rest_y: *mut i32,
+        out: *mut *mut c_void,
+    ) -> u32;
+    fn cc_offset_(page: *mut c_void, scroller: u32, x: *mut i32, y: *mut i32, out: *mut *mut c_void);
+    fn cc_target_(page: *mut c_void, x: i32, y: i32, layer: *mut u32, out: *mut *mut c_void) -> u32;
+    fn cc_is_changed_(page: *mut c_void, out: *mut *mut c_void) -> u32;
+    fn cc_draw_(page: *mut c_void, top: *mut u32, bottom: *mut u32, out: *mut *mut c_void) -> u32;
+    fn cc_damage_(page: *mut c_void, rects: *mut RectOfC, count: usize, out: *mut *mut c_void) -> usize;
+    fn cc_size_(page: *mut c_void, w: *mut u32, h: *mut u32, out: *mut *mut c_void);
+    fn cc_copy_(
+        page: *mut c_void,
+        order: u32,
+        top: u32,
+        bottom: u32,
+        stride: usize,
+        to: *mut u8,
+        bytes: usize,
+        out: *mut *mut c_void,
+    ) -> u32;
+}
+
+fn answer(status: u32) -> Result<(), Error> {
+    match status {
+        0 => Ok(()),
+        1 => Err(Error::Bad),
+        2 => Err(Error::Unknown),
+        4 => Err(Error::Short),
+        _ => Err(Error::Memory),
+    }
+}
+
+/// A main page, which commands change, an active page, which is shown, and a frame.
+pub struct Compositor(*mut c_void);
+
+// SAFETY of each block: the pointer is that of a compositor which `new` got and `drop` has not ended; `&mut self`, or a
+// type that is not `Sync`, lets one call have it at a time; each call leaves the pointer as it was; the references that
+// a call is given are of this frame alone and do not overlap.
+impl Compositor {
+    /// A compositor of an empty page: a view of 1 to 2048 pixels a side, tiles of 16 to 256, a premultiplied background
+    /// 0xRRGGBBAA, and how many bytes the images of tiles may take that a draw did not use.
+    pub fn new(w: u32, h: u32, tile: u32, background: u32, budget: usize) -> Result<Compositor, Error> {
+        let mut page = ptr::null_mut();
+        answer(unsafe { cc_new_(w, h, tile, background, budget, &mut page) })?;
+        Ok(Compositor(page))
+    }
+
+    /// Starts the main page anew, so that all ids are free. The active page is shown until the next commit.
+    pub fn reset(&mut self, w: u32, h: u32, tile: u32) -> Result<(), Error> {
+        answer(unsafe { cc_reset_(self.0, w, h, tile, &mut self.0) })
+    }
+
+    /// Shows what the commands made of the main page.
+    pub fn commit(&mut self) -> Result<(), Error> {
+        answer(unsafe { cc_commit_(self.0, &mut self.0) })
+    }
+
+    /// Scrolls the active page as far as the scroller's range allows, and tells how far.
+    pub fn scroll(&mut self, scroller: u32, dx: i32, dy: i32) -> Result<(i32, i32), Error> {
+        let mut by = (0, 0);
+        answer(unsafe { cc_scroll_(self.0, scroller, dx, dy, &mut by.0, &mut by.1, &mut self.0) })?;
+        Ok(by)
+    }
+
+    /// Scrolls what lies under a point, and tells what none of the scrollers took.
+    pub fn wheel(&mut self, x: i32, y: i32, dx: i32, dy: i32) -> Result<(i32, i32), Error> {
+        let mut rest = (0, 0);
+        answer(unsafe { cc_wheel_(self.0, x, y, dx, dy, &mut rest.0, &mut rest.1, &mut self.0) })?;
+        Ok(rest)
+    }
+
+    /// Where a scroller of the active page stands; (0, 0) where there is none.
+    pub fn offset(&self, scroller: u32) -> (i32, i32) {
+        let (mut at, mut out) = ((0, 0), self.0);
+        unsafe { cc_offset_(self.0, scroller, &mut at.0, &mut at.1, &mut out) };
+        at
+    }
+
+    /// The topmost layer at a point; 0 where there is none.
+    pub fn target(&self, x: i32, y: i32) -> Result<u32, Error> {
+        let (mut layer, mut out) = (0, self.0);
+        answer(unsafe { cc_target_(self.0, x, y, &mut layer, &mut out) })?;
+        Ok(layer)
+    }
+
+    /// Whether a draw may change the frame.
+    pub fn is_changed(&self) -> bool {
+        let mut out = self.0;
+        unsafe { cc_is_changed_(self.0, &mut out) != 0 }
+    }
+
+    /// Draws the active page. The rows outside of the answer are as they were.
+    pub fn draw(&mut self) -> Result<Range<u32>, Error> {
+        let mut rows = 0..0;
+        answer(unsafe { cc_draw_(self.0, &mut rows.start, &mut rows.end, &mut self.0) })?;
+        Ok(rows)
+    }
+
+    /// The rects outside of which the last draw left the frame as it was.
+    pub fn damage(&self) -> Vec<Rect> {
+        let (mut one, mut out) = ([RectOfC { x: 0, y: 0, w: 0, h: 0 }], self.0);
+        let count = unsafe { cc_damage_(self.0, one.as_mut_ptr(), 0, &mut out) };
+        let mut rects = vec![one[0]; count];
+        if count > 0 {
+            unsafe { cc_damage_(self.0, rects.as_mut_ptr(), count, &mut out) };
+        }
+        rects.iter().map(|r| (r.x, r.y, r.w, r.h)).collect()
+    }
+
+    /// The frame's width and height.
+    pub fn size(&self) -> (u32, u32) {
+        let (mut size, mut out) = ((0, 0), self.0);
+        unsafe { cc_size_(self.0, &mut size.0, &mut size.1, &mut out) };
+        size
+    }
+
+    /// Copies rows of the frame into a buffer whose rows begin `stride` bytes apart.
+    pub fn copy(&self, order: Order, rows: Range<u32>, stride: usize, to: &mut [u8]) -> Result<(), Error> {
+        let mut out = self.0;
+        answer(unsafe {
+            cc_copy_(
+                self.0,
+                order as u32,
+                rows.start,
+                rows.end,
+                stride,
+                to.as_mut_ptr(),
+                to.len(),
+                &mut out,
+            )
+        })
+    }
+
+    fn edit(&mut self, op: u32, fields: &[i32], rgba: u32, pixels: &[u8]) -> Result<(), Error> {
+        let mut fault = FaultOfC {
+            why: 0,
+            value: 0,
+            limit: 0,
+        };
+        let status = unsafe {
+            cc_edit_(
+                self.0,
+                op,
+                fields.as_ptr(),
+                fields.len(),
+                rgba,
+                pixels.as_ptr(),
+                pixels.len(),
+                &mut fault,
+                &mut self.0,
+            )
+        };
+        if status != 3 {
+            return answer(status);
+        }
+        Err(Error::Refused(match fault.why {
+            1 => Fault::UnknownId,
+            2 => Fault::IdUsed,
+            3 => Fault::BadPlace,
+            4 => Fault::TooMany { limit: fault.limit },
+            5 => Fault::OutOfRange {
+                value: fault.value,
+                limit: fault.limit,
+            },
+            _ => Fault::NotNested,
+        }))
+    }
+}
+
+/// The commands, which change the main page.
+impl Compositor {
+    pub fn add_transform(&mut self, id: i32, parent: i32, at: (i32, i32), scroller: i32) -> Result<(), Error> {
+        self.edit(1, &[id, parent, at.0, at.1, scroller], 0, &[])
+    }
+
+    pub fn set_transform(&mut self, id: i32, at: (i32, i32)) -> Result<(), Error> {
+        self.edit(2, &[id, at.0, at.1], 0, &[])
+    }
+
+    pub fn add_clip(&mut self, id: i32, parent: i32, transform: i32, rect: Rect) -> Result<(), Error> {
+        self.edit(3, &[id, parent, transform, rect.0, rect.1, rect.2, rect.3], 0, &[])
+    }
+
+    pub fn set_clip(&mut self, id: i32, rect: Rect) -> Result<(), Error> {
+        self.edit(4, &[id, rect.0, rect.1, rect.2, rect.3], 0, &[])
+    }
+
+    pub fn add_effect(&mut self, id: i32, parent: i32, opacity: i32) -> Result<(), Error> {
+        self.edit(5, &[id, parent, opacity], 0, &[])
+    }
+
+    pub fn set_opacity(&mut self, id: i32, opacity: i32) -> Result<(), Error> {
+        self.edit(6, &[id, opacity], 0, &[])
+    }
+
+    pub fn add_scroller(&mut self, id: i32, parent: i32, most: (i32, i32)) -> Result<(), Error> {
+        self.edit(7, &[id, parent, most.0, most.1], 0, &[])
+    }
+
+    pub fn set_range(&mut self, id: i32, most: (i32, i32)) -> Result<(), Error> {
+        self.edit(8, &[id, most.0, most.1], 0, &[])
+    }
+
+    pub fn scroll_by(&mut self, id: i32, by: (i32, i32)) -> Result<(), Error> {
+        self.edit(9, &[id, by.0, by.1], 0, &[])
+    }
+
+    pub fn scroll_to(&mut self, id: i32, to: (i32, i32)) -> Result<(), Error> {
+        self.edit(10, &[id, to.0, to.1], 0, &[])
+    }
+
+    #[allow(clippy::too_many_arguments)]
+    pub fn add_layer(
+        &mut self,
+        id: i32,
+        at: i32,
+        transform: i32,
+        clip: i32,
+        effect: i32,
+        size: (i32, i32),
+        colour: u32,
+    ) -> Result<(), Error> {
+        self.edit(11, &[id, at, transform, clip, effect, size.0, size.1], colour, &[])
+    }
+
+    pub fn remove_layer(&mut self, id: i32) -> Result<(), Error> {
+        self.edit(12, &[id], 0, &[])
+    }
+
+    pub fn resize_layer(&mut self, id: i32, size: (i32, i32)) -> Result<(), Error> {
+        self.edit(13, &[id, size.0, size.1], 0, &[])
+    }
+
+    pub fn set_colour(&mut self, id: i32, colour: u32) -> Result<(), Error> {
+        self.edit(14, &[id], colour, &[])
+    }
+
+    pub fn move_layer(&mut self, id: i32, at: i32) -> Result<(), Error> {
+        self.edit(15, &[id, at], 0, &[])
+    }
+
+    pub fn set_view(&mut self, size: (i32, i32), tile: i32) -> Result<(), Error> {
+        self.edit(16, &[size.0, size.1, tile], 0, &[])
+    }
+
+    pub fn remove_item(&mut self, layer: i32, at: i32) -> Result<(), Error> {
+        self.edit(17, &[layer, at], 0, &[])
+    }
+
+    pub fn insert_rect(&mut self, layer: i32, at: i32, rect: Rect, colour: u32) -> Result<(), Error> {
+        self.edit(18, &[layer, at, rect.0, rect.1, rect.2, rect.3], colour, &[])
+    }
+
+    pub fn replace_rect(&mut self, layer: i32, at: i32, rect: Rect, colour: u32) -> Result<(), Error> {
+        self.edit(19, &[layer, at, rect.0, rect.1, rect.2, rect.3], colour, &[])
+    }
+
+    /// Red, green, blue and alpha of each pixel, premultiplied, row by row.
+    pub fn insert_bitmap(&mut self, layer: i32, at: i32, rect: Rect, pixels: &[u8]) -> Result<(), Error> {
+        self.edit(20, &[layer, at, rect.0, rect.1, rect.2, rect.3], 0, pixels)
+    }
+
+    pub fn replace_bitmap(&mut self, layer: i32, at: i32, rect: Rect, pixels: &[u8]) -> Result<(), Error> {
+        self.edit(21, &[layer, at, rect.0, rect.1, rect.2, rect.3], 0, pixels)
+    }
+}
+
+impl Drop for Compositor {
+    fn drop(&mut self) {
+        unsafe { cc_free(self.0) }
+    }
+}
