@@ -6,7 +6,7 @@ use Rattle.pixel.specs.Colours.{Parts}
 use Rattle.pixel.specs.Rows.{pixel}
 use borrow.Rule.Slice.PartMut.{put_mid}
 use Rattle.viz_render.specs.Frames.{FrameView, frame_pixel}
-use Rattle.cc_c.specs.Copies.{HasParts, IsRowCopied, HoldsRows}
+use Rattle.cc_c.specs.Copies.{HasParts, ArePut, IsRowCopied, HoldsRows}
 
 -- ---- products
 
@@ -36,16 +36,17 @@ pixel_kept bgra c at end old new le same is = record {
   fourth = same (at + 3) (omega (arith, le)) ∙ is.fourth;
 }
 
--- one pixel more
-pub row_more : (bgra : Bool) (n at : ℕ) (row old mid new : List ℕ) → IsRowCopied bgra n at row old mid → HasParts bgra (pixel row n) (at + 4 * n) new → ((i : ℕ) → i < at + 4 * n → slice_index new i ≡ slice_index mid i) → IsRowCopied bgra (n + 1) at row old new
-row_more bgra n at row old mid new are one same = record {
+-- some pixels more
+pub row_more : (bgra : Bool) (n m at : ℕ) (row old mid new : List ℕ) → IsRowCopied bgra n at row old mid → ArePut bgra m (at + 4 * n) n row mid new → IsRowCopied bgra (n + m) at row old new
+row_more bgra n m at row old mid new are more = record {
   inside = λ k lt. elim (cases_lt k n) as (λ _. HasParts bgra (pixel row k) (at + 4 * k) new) [
-    | inl low ↦ pixel_kept bgra (pixel row k) (at + 4 * k) (at + 4 * n) mid new (omega (arith, low)) same (are.inside k low)
+    | inl low ↦ pixel_kept bgra (pixel row k) (at + 4 * k) (at + 4 * n) mid new (omega (arith, low)) more.before (are.inside k low)
     | inr from ↦
-        let is : n ≡ k = omega (arith, lt, from) in
-        subst (λ (i : ℕ). HasParts bgra (pixel row i) (at + 4 * i) new) is one
+        let is : n + (k - n) ≡ k = omega (arith, from) in
+        let place : at + 4 * n + 4 * (k - n) ≡ at + 4 * k = omega (arith, from) in
+        subst (λ (i : ℕ). HasParts bgra (pixel row k) i new) place (subst (λ (i : ℕ). HasParts bgra (pixel row i) (at + 4 * n + 4 * (k - n)) new) is (more.inside (k - n) (omega (arith, lt, from))))
   ];
-  before = λ i lt. same i (omega (arith, lt)) ∙ are.before i lt;
+  before = λ i lt. more.before i (omega (arith, lt)) ∙ are.before i lt;
 }
 
 pub row_none : (bgra : Bool) (at : ℕ) (row old : List ℕ) → IsRowCopied bgra 0 at row old old

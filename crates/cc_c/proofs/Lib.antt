@@ -1,1 +1,2 @@
 pub mod CopiedRows
+pub mod Lanes

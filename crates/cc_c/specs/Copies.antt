@@ -11,6 +11,11 @@ pub record HasParts (bgra : Bool) (c : Parts) (at : ℕ) (bytes : List ℕ) : Ty
   pub third : slice_index bytes (at + 2) ≡ cond bgra c.r c.b
   pub fourth : slice_index bytes (at + 3) ≡ c.a
 
+-- `n` pixels of a row, from pixel `place` on, stand in a buffer from this byte on, and the bytes before are what they were
+pub record ArePut (bgra : Bool) (n at place : ℕ) (row old new : List ℕ) : Type 0 where
+  pub inside : (j : ℕ) → j < n → HasParts bgra (pixel row (place + j)) (at + 4 * j) new
+  pub before : (i : ℕ) → i < at → slice_index new i ≡ slice_index old i
+
 -- the first `n` pixels of a row stand in a buffer from this byte on, and the bytes before are what they were
 pub record IsRowCopied (bgra : Bool) (n at : ℕ) (row old new : List ℕ) : Type 0 where
   pub inside : (k : ℕ) → k < n → HasParts bgra (pixel row k) (at + 4 * k) new

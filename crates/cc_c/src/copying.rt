@@ -1,41 +1,12 @@
 //! Copying a frame out.
 
-ghost use Rattle.std.specs.Prelude.{◌≡◌, ◌≤◌, ◌<◌, ◌+◌, ◌-◌, ◌*◌, ◌/◌, ◌%◌, ◌^◌, ℕ, true, false, length, slice_index};
+ghost use Rattle.std.specs.Prelude.{◌≡◌, ◌≤◌, ◌<◌, ◌+◌, ◌-◌, ◌*◌, ◌/◌, ◌%◌, ℕ, true, false, length};
 ghost use Rattle.pixel.specs.Rows.{pixel};
 ghost use Rattle.viz_render.specs.Frames.{frame_pixel};
-ghost use Rattle.cc_c.specs.Copies.{HasParts, IsRowCopied, HoldsRows};
+ghost use Rattle.cc_c.specs.Copies.{IsRowCopied, HoldsRows};
 
+use crate::exchange::copy_exchanged;
 use viz_render::Frame;
-
-// Puts a pixel of a row, with red and blue exchanged.
-fn put_exchanged(to: &mut [u8], at: usize, row: &[u8], place: usize)
-    requires given { 4 * place + 4 ≤ length row.now }
-    requires room { at + 4 ≤ length to.old }
-    ensures pixel { HasParts true (pixel row.now place) at to.new }
-    ensures before { (i : ℕ) → i < at → slice_index to.new i ≡ slice_index to.old i }
-    ensures length { length to.new ≡ length to.old }
-{
-    let from = 4 * place;
-    to[at] = row[from + 2];
-    to[at + 1] = row[from + 1];
-    to[at + 2] = row[from];
-    to[at + 3] = row[from + 3];
-}
-
-// Copies a row, with red and blue exchanged.
-fn copy_exchanged(to: &mut [u8], at: usize, row: &[u8])
-    requires whole { length row.now % 4 ≡ 0 }
-    requires room { at + length row.now ≤ length to.old }
-    ensures row { IsRowCopied true (length row.now / 4) at row.now to.old to.new }
-    ensures length { length to.new ≡ length to.old }
-{
-    let count = row.len() / 4;
-    let mut place = 0;
-    while place < count {
-        put_exchanged(to, at + 4 * place, row, place);
-        place += 1;
-    }
-}
 
 // Copies a row as it is.
 fn copy_same(to: &mut [u8], at: usize, row: &[u8])

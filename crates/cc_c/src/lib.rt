@@ -8,6 +8,7 @@ mod commands;
 mod copying;
 mod damage;
 mod edits;
+mod exchange;
 mod failure;
 mod fault;
 mod fields;
