@@ -12,7 +12,7 @@ use Rattle.model_history.specs.Frames.{page_after_pulls}
 use Rattle.cc_tiles.specs.declared.kept_tile.KeptTile.{KeptTile}
 use Rattle.cc_tiles.specs.KeptTiles.{IsKeptFor, AreKeptFor, IsCurrent, AreCurrent, HaveSameLayers}
 use Rattle.cc_tiles.proofs.Images.{alike_kept, alike_current}
-use Rattle.cc.specs.Compositors.{CompositorView, ShowsPage, way, move_by}
+use Rattle.cc.specs.Compositors.{CompositorView, ShowsPage, amount_scrolled, move_by}
 use Rattle.cc.specs.inner.Flags.{TellsCommitted, TellsShown}
 use Rattle.cc.proofs.ScrollSteps.{same_scroll, still_scroll}
 
@@ -62,7 +62,7 @@ pub current_moved : (p q : Page) (ks : List KeptTile) (ms : List Move) → q ≡
 current_moved p q ks ms e all = subst (λ (o : Page). AreCurrent o ks) (sym e) (alike_current p (page_after_pulls ms p) ks (alike_pulled ms p) all)
 
 -- the main page takes what the active one took: where they were one, they are
-pub committed_scrolled : (flag : Bool) (p q s t : Page) (id : ℕ) (dx dy : ℤ) (by : Point) → s ≡ scrolled_by p id dx dy → by ≡ way p id dx dy → t ≡ page_after_pulls (move_by id by ∷ []) q → TellsCommitted flag p q → TellsCommitted flag s t
+pub committed_scrolled : (flag : Bool) (p q s t : Page) (id : ℕ) (dx dy : ℤ) (by : Point) → s ≡ scrolled_by p id dx dy → by ≡ amount_scrolled p id dx dy → t ≡ page_after_pulls (move_by id by ∷ []) q → TellsCommitted flag p q → TellsCommitted flag s t
 committed_scrolled flag p q s t id dx dy by e is f tells = record {
   same = λ h.
       e ∙ same_scroll p id dx dy ∙ ap (λ (b : Point). scrolled_by p id b.x b.y) (sym is) ∙ ap (λ (o : Page). scrolled_by o id by.x by.y) (tells.same h) ∙ sym f;
@@ -72,7 +72,7 @@ pub committed_moved : (flag : Bool) (p q s t : Page) (ms : List Move) → s ≡ 
 committed_moved flag p q s t ms e f tells = record { same = λ h. e ∙ ap (page_after_pulls ms) (tells.same h) ∙ sym f }
 
 -- a frame shows the page still where nothing moved
-pub shown_scrolled : (flag new : Bool) (p q : Page) (background : Parts) (f : FrameView) (id : ℕ) (dx dy : ℤ) (by : Point) → q ≡ scrolled_by p id dx dy → by ≡ way p id dx dy
+pub shown_scrolled : (flag new : Bool) (p q : Page) (background : Parts) (f : FrameView) (id : ℕ) (dx dy : ℤ) (by : Point) → q ≡ scrolled_by p id dx dy → by ≡ amount_scrolled p id dx dy
     → (new ≡ true → flag ≡ true) → (new ≡ true → by ≡ origin) → TellsShown flag p background f → TellsShown new q background f
 shown_scrolled flag new p q background f id dx dy by e is before still tells = record {
   shows = λ h.

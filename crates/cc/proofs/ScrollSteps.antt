@@ -13,7 +13,7 @@ use Rattle.page_layers.specs.Effects.{scrolled_by, main_point, clamped_in}
 use Rattle.page_layers.proofs.NodeKeeps.{not_changed, values-known}
 use Rattle.model_history.proofs.NodeFacts.{find_changed}
 use Rattle.model_history.proofs.PageRanges.{clamp_again}
-use Rattle.cc.specs.Compositors.{way}
+use Rattle.cc.specs.Compositors.{amount_scrolled}
 
 pub unknown_stays : (p : Page) (id : ℕ) (dx dy : ℤ) → IsPage p → find id p.props.scrollers ≡ None → scrolled_by p id dx dy ≡ p
 unknown_stays p id dx dy sound none =
@@ -68,7 +68,7 @@ module _ (id : ℕ) (o : Option ScrollNode) (dx dy : ℤ) (vs : List (ℕ × Poi
   found_after = ap (λ (f : Option Point). minus (or_origin f) (or_origin (find id vs))) (sym (find_changed id (λ u. comes_to (or_origin (find id vs))) vs))
 
 -- a scroll by what it takes is the scroll
-pub same_scroll : (p : Page) (id : ℕ) (dx dy : ℤ) → scrolled_by p id dx dy ≡ scrolled_by p id (way p id dx dy).x (way p id dx dy).y
+pub same_scroll : (p : Page) (id : ℕ) (dx dy : ℤ) → scrolled_by p id dx dy ≡ scrolled_by p id (amount_scrolled p id dx dy).x (amount_scrolled p id dx dy).y
 same_scroll p id dx dy =
     let o : Option ScrollNode = find id p.props.scrollers in
     let v : Point = main_point p id in
@@ -76,7 +76,7 @@ same_scroll p id dx dy =
     ∙ ap (λ (by : Point). record p { values = with_node_changed id (λ u. clamped_in o (v.x +ℤ by.x) (v.y +ℤ by.y)) p.values }) (found_after id o dx dy p.values)
 
 -- a scroll that takes nothing changes nothing
-pub still_scroll : (p : Page) (id : ℕ) (dx dy : ℤ) → way p id dx dy ≡ origin → scrolled_by p id dx dy ≡ p
+pub still_scroll : (p : Page) (id : ℕ) (dx dy : ℤ) → amount_scrolled p id dx dy ≡ origin → scrolled_by p id dx dy ≡ p
 still_scroll p id dx dy none =
     let o : Option ScrollNode = find id p.props.scrollers in
     ap (λ (vs : List (ℕ × Point)). record p { values = vs }) (still_values id o dx dy p.values (find id p.values) refl (found_after id o dx dy p.values ∙ none))

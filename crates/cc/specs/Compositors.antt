@@ -62,8 +62,8 @@ abbrev pub moved : List Move → CompositorView → CompositorView
 moved ms c = record c { main = page_after_pulls ms c.main; active = page_after_pulls ms c.active }
 
 -- how far a scroller of a page moves where this much is asked
-abbrev pub way : Page → ℕ → ℤ → ℤ → Point
-way p id dx dy = minus (main_point (scrolled_by p id dx dy) id) (main_point p id)
+abbrev pub amount_scrolled : Page → ℕ → ℤ → ℤ → Point
+amount_scrolled p id dx dy = minus (main_point (scrolled_by p id dx dy) id) (main_point p id)
 
 abbrev pub move_by : ℕ → Point → Move
 move_by id by = record { scroller = id; dx = by.x; dy = by.y }
@@ -72,7 +72,7 @@ move_by id by = record { scroller = id; dx = by.x; dy = by.y }
 abbrev pub Scrolled : CompositorView → ℕ → ℤ → ℤ → CompositorView → Option Point → Type 0
 Scrolled old id dx dy new None = (has_scroller old.active id ≡ false) × (new ≡ old)
 Scrolled old id dx dy new (Some by) =
-    (has_scroller old.active id ≡ true) × (by ≡ way old.active id dx dy)
+    (has_scroller old.active id ≡ true) × (by ≡ amount_scrolled old.active id dx dy)
     × (new ≡ record old { active = scrolled_by old.active id dx dy; main = page_after_pulls (move_by id by ∷ []) old.main })
 
 -- the moves that a wheel makes

@@ -7,7 +7,7 @@ ghost use Rattle.page_layers.specs.Effects.{scrolled_by};
 ghost use Rattle.page_hit_test.specs.Wheels.{part_move};
 ghost use Rattle.model_history.specs.Frames.{page_after_pulls};
 ghost use Rattle.cc_tiles.specs.KeptTiles.{AreKeptFor, AreCurrent};
-ghost use Rattle.cc.specs.Compositors.{way};
+ghost use Rattle.cc.specs.Compositors.{amount_scrolled};
 
 use cc_tiles::TileCache;
 use geom::Point;
@@ -26,7 +26,7 @@ pub(crate) fn scroll_active(
     requires known { IsTrue (knows id active.old.props.scrollers) }
     requires kept { AreKeptFor active.old cache.now }
     ensures page { active.new ≡ scrolled_by active.old id dx dy }
-    ensures by { result ≡ way active.old id dx dy }
+    ensures by { result ≡ amount_scrolled active.old id dx dy }
     ensures kept { AreKeptFor active.new cache.now }
 {
     active.pull(id, dx as i64, dy as i64)

@@ -5,13 +5,13 @@ use Rattle.page_layers.specs.Scrollers.{has_scroller}
 use Rattle.page_layers.specs.Wheels.{wheel_rest}
 use Rattle.page_hit_test.specs.Wheels.{IsAmount}
 use Rattle.viz_render.specs.Frames.{FrameView}
-use Rattle.cc.specs.Compositors.{CompositorView, offsets, way}
+use Rattle.cc.specs.Compositors.{CompositorView, offsets, amount_scrolled}
 use Rattle.cc_c.specs.Copies.{HoldsRows}
 
 -- 0: the active page scrolled as far as it was told; 2: it has no such scroller
 pub record TellsScroll (old : CompositorView) (id : ℕ) (dx dy by_x by_y : ℤ) (status : ℕ) : Type 0 where
-  pub across : status ≡ 0 → by_x ≡ (way old.active id dx dy).x
-  pub down : status ≡ 0 → by_y ≡ (way old.active id dx dy).y
+  pub across : status ≡ 0 → by_x ≡ (amount_scrolled old.active id dx dy).x
+  pub down : status ≡ 0 → by_y ≡ (amount_scrolled old.active id dx dy).y
   pub unknown : status ≡ 2 → has_scroller old.active id ≡ false
   pub answers : (status ≡ 0) ⊎ (status ≡ 2)
 

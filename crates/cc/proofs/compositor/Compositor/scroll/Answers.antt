@@ -2,7 +2,7 @@
 use Rattle.std.proofs.Common.{◌≡◌, [], ◌∷◌, rules}
 use Rattle.page_layers.specs.Effects.{scrolled_by}
 use Rattle.model_history.specs.Frames.{page_after_pulls}
-use Rattle.cc.specs.Compositors.{way, move_by}
+use Rattle.cc.specs.Compositors.{amount_scrolled, move_by}
 use Rattle.cc.proofs.Pages.{committed_scrolled, shown_scrolled}
 use Rattle.cc.proofs.compositor.Compositor.scroll.Goals as goal
 
@@ -14,7 +14,7 @@ invariant_of-self c =
     let m = c.move_main.new.main in
     let by = c.scroll_active-by.result in
     let scrolled : p ≡ scrolled_by s.active id c.args.dx c.args.dy = search rules in
-    let is : by ≡ way s.active id c.args.dx c.args.dy = search rules in
+    let is : by ≡ amount_scrolled s.active id c.args.dx c.args.dy = search rules in
     let moved : m ≡ page_after_pulls (move_by id by ∷ []) s.main = search rules in (
       c.scroll_active-by.ensures.kept,
       c.move_main.ensures.current,
