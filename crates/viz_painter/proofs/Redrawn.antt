@@ -16,9 +16,9 @@ use Rattle.viz_damage.specs.Damage.{AreAlikeOutside, screen}
 use Rattle.viz_scroll_damage.specs.declared.shift.Shift.{Shift}
 use Rattle.viz_scroll_damage.specs.Moved.{IsShift, AreAlikeMoved, fall}
 use Rattle.viz_occlusion.specs.Culled.{IsCulled}
-use Rattle.viz_painter.specs.Painters.{ShowsWhole, HoldsCulled}
+use Rattle.viz_painter.specs.Painters.{ShowsWhole, HoldsCulled, IsKeptOutside}
 use Rattle.viz_painter.specs.inner.Helds.{HeldView, culled_of}
-use Rattle.viz_painter.specs.inner.Rests.{ShowsOutside}
+use Rattle.viz_painter.specs.inner.Rests.{ShowsOutside, HasOutside}
 
 -- a pixel of the screen
 on_screen : (s : SceneView) (x y : ℕ) → x < s.w → y < s.h → covers (screen s) (pos x) (pos y) ≡ true
@@ -92,6 +92,25 @@ module _ (d : ℕ) (bytes_of : Parts → List ℕ) where
         (λ off. outside.pixels x y (omega arith) (omega arith) off);
   }
 
+  -- outside of the whole screen there is nothing, whatever the size
+  pub nothing_had : (s : SceneView) (region : List Rect) (c : CanvasView) → ((x y : ℤ) → covered region x y ≡ false → covers (screen s) x y ≡ false) → HasOutside d bytes_of s region c
+  nothing_had s region c out = record {
+    pixels = λ x y xw yh off. absurd (differs (covers (screen s) (pos x) (pos y)) (out (pos x) (pos y) off) (on_screen s x y xw yh));
+  }
+
+  -- what shows a scene outside of a region has its pixels there
+  pub had_outside : (s : SceneView) (region : List Rect) (c : CanvasView) → ShowsOutside d bytes_of s region c → HasOutside d bytes_of s region c
+  had_outside s region c shown = record { pixels = shown.pixels }
+
+  -- a canvas that had the pixels of the scene outside of the damage, and shows the scene now, kept them
+  pub kept_outside : (s : SceneView) (region : List Rect) (old new : CanvasView) → HasOutside d bytes_of s region old → ShowsWhole d bytes_of s new → IsKeptOutside d region old new
+  kept_outside s region old new had shown = record {
+    pixels = λ x y xw yh off.
+        let w = shown.size.wide in
+        let h = shown.size.tall in
+        shown.pixels x y xw yh ∙ sym (had.pixels x y (omega arith) (omega arith) off);
+  }
+
   -- a scene without its hidden quads was drawn
   pub shown_whole : (s t : SceneView) (c : CanvasView) → IsCulled s t → ShowsWhole d bytes_of t c → ShowsWhole d bytes_of s c
   shown_whole s t c culled shown = record {
@@ -104,6 +123,10 @@ module _ (d : ℕ) (bytes_of : Parts → List ℕ) where
   pub held_shown : (s : SceneView) (held : Option SceneView) (c : CanvasView) → HoldsCulled s held → IfSome held (λ t. ShowsWhole d bytes_of t c) → ShowsWhole d bytes_of s c
   held_shown s held c holds shown =
       shown_whole s holds.0 c holds.2 (subst (λ (o : Option SceneView). IfSome o (λ t. ShowsWhole d bytes_of t c)) holds.1 shown)
+
+-- where nothing is drawn all is kept
+pub kept_itself : (d : ℕ) (rects : List Rect) (c : CanvasView) → IsKeptOutside d rects c c
+kept_itself d rects c = record { pixels = λ x y xw yh off. refl }
 
 -- a scene that is held again
 pub holds_it : (s : SceneView) (held : Option HeldView) (h : HeldView) → held ≡ Some h → IsCulled h.scene h.culled → h.scene ≡ s → HoldsCulled s (culled_of held)

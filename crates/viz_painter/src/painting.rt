@@ -1,12 +1,15 @@
 //! Painters.
 
-ghost use Rattle.std.specs.Prelude.{◌≡◌, None, IfOk, OnOk, OnErr};
+ghost use Rattle.std.specs.Prelude.{◌≡◌, None, IfOk, OnOk, OnErr, All};
+ghost use Rattle.geom.specs.Covers.{IsSound};
 ghost use Rattle.viz_scene.specs.Sound.{IsSceneSide};
 ghost use Rattle.viz_canvas.specs.Canvases.{IsOfSize, EachIs, black};
-ghost use Rattle.viz_painter.specs.Painters.{ShowsWhole, HoldsCulled};
+ghost use Rattle.viz_painter.specs.Painters.{ShowsWhole, HoldsCulled, IsKeptOutside};
 
 use crate::held_scene::{HeldScene, is_held};
 use crate::redrawing::begin;
+use geom::Rect;
+use region::Region;
 use std::alloc::{AllocError, Global};
 use std::marker::{Model, Sync};
 use std::thread::Threads;
@@ -20,6 +23,8 @@ pub struct Painter<F: PixelFormat> {
     canvas: Canvas<F>,
     // the scene that the canvas shows; None at first and after a refusal
     held: Option<HeldScene>,
+    // where the last drawing may have changed the canvas
+    damage: Region,
 }
 
 impl<F: PixelFormat> Model for Painter<F> {
@@ -28,9 +33,9 @@ impl<F: PixelFormat> Model for Painter<F> {
 
     ghost Value = { PainterView };
 
-    ghost view = { λ p. record { canvas = p.canvas; held = culled_of p.held } };
+    ghost view = { λ p. record { canvas = p.canvas; held = culled_of p.held; damage = p.damage } };
 
-    ghost invariant = { λ p. IsPainter F.DEPTH F.bytes_of (record { canvas = p.canvas; held = culled_of p.held }) };
+    ghost invariant = { λ p. IsPainter F.DEPTH F.bytes_of (record { canvas = p.canvas; held = culled_of p.held; damage = p.damage }) };
 }
 
 impl<F: PixelFormat> Painter<F> {
@@ -48,6 +53,7 @@ impl<F: PixelFormat> Painter<F> {
             alloc,
             canvas,
             held: None,
+            damage: Region::new(alloc),
         })
     }
 
@@ -58,33 +64,46 @@ impl<F: PixelFormat> Painter<F> {
         &self.canvas
     }
 
+    /// The rects, in pixels of the canvas, outside of which the last drawing that was not refused left the canvas as it
+    /// was. They may overlap, and some may be empty or reach beyond the canvas.
+    pub fn damage(&self) -> &[Rect]
+        ensures value { result.now ≡ self.now.damage }
+        ensures sound { All IsSound result.now }
+    {
+        self.damage.rects()
+    }
+
     /// Draws a scene: the canvas then has the scene's size and pixels. Where the painter holds that scene,
     /// nothing is drawn; where it holds another one of that size, only the damage is; else the whole is, onto
     /// a new canvas where the size differs. An error means out of memory: the painter then holds no scene, and the
     /// next one is drawn whole.
-    #[tactic(auto, using(crate::proofs::Redrawn::held_shown))]
+    #[tactic(auto, using(crate::proofs::Redrawn::held_shown, crate::proofs::Redrawn::kept_itself))]
     pub fn paint(&mut self, scene: Scene) -> Result<(), AllocError>
         ensures shown { OnOk result (ShowsWhole F.DEPTH F.bytes_of scene self.new.canvas) }
         ensures held { OnOk result (HoldsCulled scene self.new.held) }
+        ensures kept { OnOk result (IsKeptOutside F.DEPTH self.new.damage self.old.canvas self.new.canvas) }
         ensures err { OnErr result (self.new.held ≡ None) }
     {
         if is_held(&self.held, &scene) {
+            self.damage = Region::new(self.alloc);
             return Ok(());
         }
         self.draw(scene)
     }
 
     // Draws a scene that is not held.
-    #[tactic(auto, using(crate::proofs::Redrawn::redrawn))]
+    #[tactic(auto, using(crate::proofs::Redrawn::redrawn, crate::proofs::Redrawn::kept_outside))]
     fn draw(&mut self, scene: Scene) -> Result<(), AllocError>
         ensures shown { OnOk result (ShowsWhole F.DEPTH F.bytes_of scene self.new.canvas) }
         ensures held { OnOk result (HoldsCulled scene self.new.held) }
+        ensures kept { OnOk result (IsKeptOutside F.DEPTH self.new.damage self.old.canvas self.new.canvas) }
         ensures err { OnErr result (self.new.held ≡ None) }
     {
         let held = self.held.take();
-        let (next, rest) = begin(self.alloc, &mut self.canvas, held, scene)?;
-        self.canvas.draw_region(next.culled(), &rest)?;
+        let (next, left) = begin(self.alloc, &mut self.canvas, held, scene)?;
+        self.canvas.draw_region(next.culled(), left.rest())?;
         self.held = Some(next);
+        self.damage = left.damage;
         Ok(())
     }
 }
@@ -92,7 +111,7 @@ impl<F: PixelFormat> Painter<F> {
 impl<F: PixelFormat + Sync> Painter<F> {
     /// Draws a scene as `paint` does, in at most the given number of parts, each by a thread of its own where
     /// it can be started. Where there is one part, none is started.
-    #[tactic(auto, using(crate::proofs::Redrawn::held_shown))]
+    #[tactic(auto, using(crate::proofs::Redrawn::held_shown, crate::proofs::Redrawn::kept_itself))]
     pub fn paint_in_parts<R: Threads + Sync>(
         &mut self,
         rt: &R,
@@ -101,16 +120,18 @@ impl<F: PixelFormat + Sync> Painter<F> {
     ) -> Result<(), AllocError>
         ensures shown { OnOk result (ShowsWhole F.DEPTH F.bytes_of scene self.new.canvas) }
         ensures held { OnOk result (HoldsCulled scene self.new.held) }
+        ensures kept { OnOk result (IsKeptOutside F.DEPTH self.new.damage self.old.canvas self.new.canvas) }
         ensures err { OnErr result (self.new.held ≡ None) }
     {
         if is_held(&self.held, &scene) {
+            self.damage = Region::new(self.alloc);
             return Ok(());
         }
         self.draw_in_parts(rt, scene, parts)
     }
 
     // Draws a scene that is not held, in at most the given number of parts.
-    #[tactic(auto, using(crate::proofs::Redrawn::redrawn))]
+    #[tactic(auto, using(crate::proofs::Redrawn::redrawn, crate::proofs::Redrawn::kept_outside))]
     fn draw_in_parts<R: Threads + Sync>(
         &mut self,
         rt: &R,
@@ -119,13 +140,15 @@ impl<F: PixelFormat + Sync> Painter<F> {
     ) -> Result<(), AllocError>
         ensures shown { OnOk result (ShowsWhole F.DEPTH F.bytes_of scene self.new.canvas) }
         ensures held { OnOk result (HoldsCulled scene self.new.held) }
+        ensures kept { OnOk result (IsKeptOutside F.DEPTH self.new.damage self.old.canvas self.new.canvas) }
         ensures err { OnErr result (self.new.held ≡ None) }
     {
         let held = self.held.take();
-        let (next, rest) = begin(self.alloc, &mut self.canvas, held, scene)?;
+        let (next, left) = begin(self.alloc, &mut self.canvas, held, scene)?;
         self.canvas
-            .draw_region_in_parts(rt, next.culled(), &rest, parts)?;
+            .draw_region_in_parts(rt, next.culled(), left.rest(), parts)?;
         self.held = Some(next);
+        self.damage = left.damage;
         Ok(())
     }
 }

@@ -1,6 +1,6 @@
 //! What is left to draw of a scene on a canvas that may show another one.
 
-ghost use Rattle.std.specs.Prelude.{◌≡◌, ℤ, false, IfSome, IfOk, OnOk, IsTrue};
+ghost use Rattle.std.specs.Prelude.{◌≡◌, ℤ, false, None, IfSome, IfOk, OnOk, IsTrue};
 ghost use Rattle.geom.specs.Covers.{covers};
 ghost use Rattle.region.specs.Points.{covered};
 ghost use Rattle.viz_canvas.specs.Canvases.{IsOfSize};
@@ -9,7 +9,7 @@ ghost use Rattle.viz_scroll_damage.specs.Moved.{IsShift};
 ghost use Rattle.viz_occlusion.specs.Culled.{IsCulled};
 ghost use Rattle.viz_painter.specs.Painters.{ShowsWhole};
 ghost use Rattle.viz_painter.specs.inner.Helds.{culled_of};
-ghost use Rattle.viz_painter.specs.inner.Rests.{ShowsOutside};
+ghost use Rattle.viz_painter.specs.inner.Rests.{ShowsOutside, HasOutside, rest_in};
 
 use crate::held_scene::HeldScene;
 use crate::worth::pays;
@@ -21,6 +21,27 @@ use viz_damage::damage_of;
 use viz_scene::Scene;
 use viz_scroll_damage::{Shift, damage_of_shift, shift_of};
 
+/// What is left to draw of a scene.
+#[derive(Drop)]
+pub(crate) struct Left {
+    /// Outside of the damage the canvas showed the scene beforehand.
+    pub(crate) damage: Region,
+    /// What is left of the damage where rows were moved; None where that is all of it.
+    pub(crate) moved: Option<Region>,
+}
+
+impl Left {
+    /// What is left to draw.
+    pub(crate) fn rest(&self) -> &Region
+        ensures { result.now ≡ rest_in self.now.damage self.now.moved }
+    {
+        match &self.moved {
+            Some(rest) => rest,
+            None => &self.damage,
+        }
+    }
+}
+
 /// The next scene without its hidden quads, and what is left to draw of it: elsewhere the canvas, which then has the
 /// scene's size, shows it already. An error means out of memory, and the canvas may then show anything.
 pub(crate) fn begin<F: PixelFormat>(
@@ -28,32 +49,34 @@ pub(crate) fn begin<F: PixelFormat>(
     canvas: &mut Canvas<F>,
     held: Option<HeldScene>,
     scene: Scene,
-) -> Result<(HeldScene, Region), AllocError>
+) -> Result<(HeldScene, Left), AllocError>
     requires { IfSome (culled_of held) (λ old. ShowsWhole F.DEPTH F.bytes_of old canvas.old) }
     ensures scene { IfOk result (λ next. next.0.scene ≡ scene) }
     ensures culled { IfOk result (λ next. IsCulled scene next.0.culled) }
-    ensures rest { IfOk result (λ next. ShowsOutside F.DEPTH F.bytes_of next.0.culled next.1 canvas.new) }
+    ensures rest { IfOk result (λ next. ShowsOutside F.DEPTH F.bytes_of next.0.culled (rest_in next.1.damage next.1.moved) canvas.new) }
+    ensures damage { IfOk result (λ next. HasOutside F.DEPTH F.bytes_of next.0.culled next.1.damage canvas.old) }
 {
     let next = HeldScene::new(alloc, scene)?;
-    let rest = rest_of(alloc, canvas, held, next.culled())?;
-    Ok((next, rest))
+    let left = left_of(alloc, canvas, held, next.culled())?;
+    Ok((next, left))
 }
 
 // what is left to draw of a scene; where the canvas shows one of the same size, that is the damage or less
-fn rest_of<F: PixelFormat>(
+fn left_of<F: PixelFormat>(
     alloc: Global,
     canvas: &mut Canvas<F>,
     held: Option<HeldScene>,
     scene: &Scene,
-) -> Result<Region, AllocError>
+) -> Result<Left, AllocError>
     requires { IfSome (culled_of held) (λ old. ShowsWhole F.DEPTH F.bytes_of old canvas.old) }
-    ensures { IfOk result (λ rest. ShowsOutside F.DEPTH F.bytes_of scene.now rest canvas.new) }
+    ensures rest { IfOk result (λ left. ShowsOutside F.DEPTH F.bytes_of scene.now (rest_in left.damage left.moved) canvas.new) }
+    ensures damage { IfOk result (λ left. HasOutside F.DEPTH F.bytes_of scene.now left.damage canvas.old) }
 {
     match held {
         Some(old) if are_of_one_size(old.culled(), scene) => {
-            rest_of_change(alloc, canvas, old.culled(), scene)
+            left_of_change(alloc, canvas, old.culled(), scene)
         }
-        _ => rest_of_whole(alloc, canvas, scene),
+        _ => left_of_whole(alloc, canvas, scene),
     }
 }
 
@@ -66,16 +89,20 @@ fn are_of_one_size(a: &Scene, b: &Scene) -> bool
 }
 
 // the whole of a scene, for which the canvas is made to fit
-fn rest_of_whole<F: PixelFormat>(
+fn left_of_whole<F: PixelFormat>(
     alloc: Global,
     canvas: &mut Canvas<F>,
     scene: &Scene,
-) -> Result<Region, AllocError>
-    ensures { IfOk result (λ rest. ShowsOutside F.DEPTH F.bytes_of scene.now rest canvas.new) }
+) -> Result<Left, AllocError>
+    ensures rest { IfOk result (λ left. ShowsOutside F.DEPTH F.bytes_of scene.now (rest_in left.damage left.moved) canvas.new) }
+    ensures damage { IfOk result (λ left. HasOutside F.DEPTH F.bytes_of scene.now left.damage canvas.old) }
 {
     fit(alloc, canvas, scene)?;
     let screen = whole_screen(alloc, scene)?;
-    Ok(screen)
+    Ok(Left {
+        damage: screen,
+        moved: None,
+    })
 }
 
 // the region of all points of the screen
@@ -109,45 +136,56 @@ fn fit<F: PixelFormat>(
 }
 
 // what is left to draw where the canvas shows a scene of the same size, which may have been scrolled
-fn rest_of_change<F: PixelFormat>(
+fn left_of_change<F: PixelFormat>(
     alloc: Global,
     canvas: &mut Canvas<F>,
     old: &Scene,
     scene: &Scene,
-) -> Result<Region, AllocError>
+) -> Result<Left, AllocError>
     requires wide { old.now.w ≡ scene.now.w }
     requires tall { old.now.h ≡ scene.now.h }
     requires shown { ShowsWhole F.DEPTH F.bytes_of old.now canvas.old }
-    ensures { IfOk result (λ rest. ShowsOutside F.DEPTH F.bytes_of scene.now rest canvas.new) }
+    ensures rest { IfOk result (λ left. ShowsOutside F.DEPTH F.bytes_of scene.now (rest_in left.damage left.moved) canvas.new) }
+    ensures damage { IfOk result (λ left. HasOutside F.DEPTH F.bytes_of scene.now left.damage canvas.old) }
 {
     match shift_of(old, scene) {
-        Some(shift) => rest_of_shift(alloc, canvas, old, scene, shift),
+        Some(shift) => left_of_shift(alloc, canvas, old, scene, shift),
         None => {
             let damage = damage_of(alloc, old, scene)?;
-            Ok(damage)
+            Ok(Left {
+                damage,
+                moved: None,
+            })
         }
     }
 }
 
 // moves rows of the canvas where less is left then than the damage
-fn rest_of_shift<F: PixelFormat>(
+fn left_of_shift<F: PixelFormat>(
     alloc: Global,
     canvas: &mut Canvas<F>,
     old: &Scene,
     scene: &Scene,
     shift: Shift,
-) -> Result<Region, AllocError>
+) -> Result<Left, AllocError>
     requires wide { old.now.w ≡ scene.now.w }
     requires tall { old.now.h ≡ scene.now.h }
     requires shift { IsShift scene.now.h shift }
     requires shown { ShowsWhole F.DEPTH F.bytes_of old.now canvas.old }
-    ensures { IfOk result (λ rest. ShowsOutside F.DEPTH F.bytes_of scene.now rest canvas.new) }
+    ensures rest { IfOk result (λ left. ShowsOutside F.DEPTH F.bytes_of scene.now (rest_in left.damage left.moved) canvas.new) }
+    ensures damage { IfOk result (λ left. HasOutside F.DEPTH F.bytes_of scene.now left.damage canvas.old) }
 {
     let rest = damage_of_shift(alloc, old, scene, shift)?;
     let damage = damage_of(alloc, old, scene)?;
     if !pays(&rest, &damage) {
-        return Ok(damage);
+        return Ok(Left {
+            damage,
+            moved: None,
+        });
     }
     canvas.copy_rows(shift.from, shift.to, shift.count);
-    Ok(rest)
+    Ok(Left {
+        damage,
+        moved: Some(rest),
+    })
 }
