@@ -1,50 +1,79 @@
--- Rows that lie in no rect of the damage.
-use Rattle.std.proofs.Common.{◌≡◌, ◌<◌, ◌≤◌, ◌-◌, ◌+◌, ◌&&◌, ◌||◌, ℕ, pos, Bool, true, false, nat_le, nat_lt, List, [], ◌∷◌, refl, sym, ◌∙◌, ap, arith}
+-- What a draw leaves of a frame.
+use Rattle.std.proofs.Common.{◌≡◌, ℕ, ◌<◌, ◌≤◌, ℤ, pos, negsuc, ◌≤ℤ◌, ◌+ℤ◌, Bool, true, false, ◌&&◌, ◌||◌, List, [], ◌∷◌, refl, sym, ◌∙◌, arith}
+use Rattle.std.specs.Prelude.{nat_le, nat_lt, Option, Some, None}
+use Rattle.std.specs.Option.{option_to_list}
+use Rattle.std.specs.Int.{int_max}
+use Rattle.std.proofs.lemmas.Int.{ints, clamps}
 use Rattle.std.proofs.lemmas.Bool.Decides.{nat_tests}
 use Rattle.geom.specs.declared.rect.Rect.{Rect}
 use Rattle.geom.specs.Covers.{within, covers}
 use Rattle.geom.proofs.Cuts.{within_natural}
-use Rattle.geom.proofs.Spans.{both_of}
+use Rattle.geom.proofs.Spans.{inside, both_of}
+use Rattle.page_display_list.specs.Bitmaps.{near}
 use Rattle.region.specs.Points.{covered}
-use Rattle.viz_painter.specs.declared.frame_rows.FrameRows.{FrameRows}
-use Rattle.viz_painter.specs.Painters.{has_row, IsKeptOutside}
-use Rattle.viz_render.specs.Frames.{FrameView}
-use Rattle.cc.specs.Compositors.{IsKeptOutsideRects}
+use Rattle.viz_canvas.specs.Canvases.{CanvasView}
+use Rattle.viz_painter.specs.Painters.{IsKeptOutside}
+use Rattle.cc.specs.declared.damage.FrameRows.{FrameRows}
+use Rattle.cc.specs.Compositors.{has_row, IsKeptOutsideRows}
+use Rattle.cc.specs.inner.Flags.{damage_in}
 
-left_true : (a b : Bool) → a && b ≡ true → a ≡ true
-left_true true b e = refl
-left_true false b e = absurd (cc)
+-- ---- rows
 
-right_true : (a b : Bool) → a && b ≡ true → b ≡ true
-right_true true b e = e
-right_true false b e = absurd (cc)
+pub near_is : (z : ℤ) → pos 0 ≤ℤ z → pos (near z) ≡ z
+near_is (pos n) h = refl
+near_is (negsuc n) h = absurd (omega (arith, ints))
 
-left_false : (a b : Bool) → a || b ≡ false → a ≡ false
-left_false true b e = absurd (cc)
-left_false false b e = refl
+is_row : (top bottom y : ℕ) → top ≤ y → y < bottom → nat_le top y && nat_lt y bottom ≡ true
+is_row top bottom y low high = grind (arith, nat_tests)
 
--- a row that is none of the rows lies outside; else the rect covers its points
-pub outside_rect : (top bottom w x y : ℕ) → top < bottom → x < w → covered (record { x = pos 0; y = pos top; w = pos w; h = pos (bottom - top) } ∷ []) (pos x) (pos y) ≡ false
-    → nat_le top y && nat_lt y bottom ≡ false
-outside_rect top bottom w x y some across out = go (nat_le top y && nat_lt y bottom) refl
-  where
-    covers_it : nat_le top y && nat_lt y bottom ≡ true → covers (record { x = pos 0; y = pos top; w = pos w; h = pos (bottom - top) }) (pos x) (pos y) ≡ true
-    covers_it is =
-        let low : top ≤ y = grind (arith, nat_tests, left_true (nat_le top y) (nat_lt y bottom) is) in
-        let high : y < bottom = grind (arith, nat_tests, right_true (nat_le top y) (nat_lt y bottom) is) in
-        both_of (within (pos 0) (pos w) (pos x)) (within (pos top) (pos (bottom - top)) (pos y)) (within_natural 0 w x (omega arith) (omega (arith, across))) (within_natural top (bottom - top) y low (omega (arith, some, low, high)))
+never : (t : Bool) → (t ≡ true → ⊥) → t ≡ false
+never false h = refl
+never true h = absurd (h refl)
 
-    covered_one : covered (record { x = pos 0; y = pos top; w = pos w; h = pos (bottom - top) } ∷ []) (pos x) (pos y) ≡ false → covers (record { x = pos 0; y = pos top; w = pos w; h = pos (bottom - top) }) (pos x) (pos y) ≡ false
-    covered_one out = left_false (covers (record { x = pos 0; y = pos top; w = pos w; h = pos (bottom - top) }) (pos x) (pos y)) false out
+apart : (t : Bool) → t ≡ false → t ≡ true → ⊥
+apart true off on = cc
+apart false off on = cc
 
-    go : (b : Bool) → (nat_le top y && nat_lt y bottom) ≡ b → b ≡ false
-    go false e = refl
-    go true e = absurd (let f : true ≡ false = sym (covers_it e) ∙ covered_one out in cc)
+-- a row outside of those of a span is no number of it
+pub outside_span : (at len : ℤ) (top bottom y : ℕ) → pos top ≡ int_max at (pos 0) → pos bottom ≡ int_max (at +ℤ len) (pos 0)
+    → has_row (record { top = top; bottom = bottom }) y ≡ false → within at len (pos y) ≡ false
+outside_span at len top bottom y first last off = never _ (λ on.
+    let i = inside at len (pos y) on in
+    let low = i.low in
+    let high = i.high in
+    apart _ off (is_row top bottom y (omega (arith, ints, clamps, first, low)) (omega (arith, ints, clamps, last, high))))
 
--- what is kept outside of some rows is kept outside of a rect that holds their points
-pub kept_rects : (rows : FrameRows) (rects : List Rect) (old new : FrameView)
-    → ((x y : ℕ) → x < new.w → y < new.h → covered rects (pos x) (pos y) ≡ false → has_row rows y ≡ false) → IsKeptOutside rows old new → IsKeptOutsideRects rects old new
-kept_rects rows rects old new outside kept = record { pixels = λ x y across down out. kept.pixels x y across down (outside x y across down out) }
+-- what is kept outside of some rects is kept outside of the rows that they lie in
+pub kept_rows : (d : ℕ) (rows : FrameRows) (rects : List Rect) (old new : CanvasView) → ((x : ℤ) → (y : ℕ) → has_row rows y ≡ false → covered rects x (pos y) ≡ false)
+    → IsKeptOutside d rects old new → IsKeptOutsideRows d rows old new
+kept_rows d rows rects old new outside kept = record { pixels = λ x y across down off. kept.pixels x y across down (outside (pos x) y off) }
 
-pub kept_rows : (rows within : FrameRows) (old new : FrameView) → ((y : ℕ) → y < new.h → has_row within y ≡ false → has_row rows y ≡ false) → IsKeptOutside rows old new → IsKeptOutside within old new
-kept_rows rows within old new outside kept = record { pixels = λ x y across down out. kept.pixels x y across down (outside y down out) }
+-- ---- the whole
+
+covered_by : (a b : Bool) → a || b ≡ false → a ≡ false
+covered_by true b e = absurd (cc)
+covered_by false b e = refl
+
+-- nothing lies outside of the whole frame
+pub kept_nowhere : (d w h : ℕ) (old new : CanvasView) → new.w ≡ w → new.h ≡ h → IsKeptOutside d (record { x = pos 0; y = pos 0; w = pos w; h = pos h } ∷ []) old new
+kept_nowhere d w h old new wide tall = record {
+  pixels = λ x y across down off.
+      absurd (apart (covers (record { x = pos 0; y = pos 0; w = pos w; h = pos h }) (pos x) (pos y)) (covered_by _ _ off)
+      (both_of (within (pos 0) (pos w) (pos x)) (within (pos 0) (pos h) (pos y)) (within_natural 0 w x (omega arith) (omega (arith, across, wide))) (within_natural 0 h y (omega arith) (omega (arith, down, tall)))));
+}
+
+-- ---- what is told
+
+pub told_lost : (d : ℕ) (lost : Option Rect) (rects : List Rect) (old new : CanvasView) → IsKeptOutside d (option_to_list lost) old new → IsKeptOutside d (damage_in lost false rects) old new
+told_lost d (Some whole) rects old new kept = kept
+told_lost d None rects old new kept = kept
+
+pub told_painted : (d : ℕ) (lost : Option Rect) (rects : List Rect) (old new : CanvasView) → lost ≡ None → IsKeptOutside d rects old new → IsKeptOutside d (damage_in lost true rects) old new
+told_painted d (Some whole) rects old new none kept = absurd (cc)
+told_painted d None rects old new none kept = kept
+
+pub same_rects : (d : ℕ) (rects : List Rect) (c : CanvasView) → IsKeptOutside d rects c c
+same_rects d rects c = record { pixels = λ x y across down off. refl }
+
+pub same_rows : (d : ℕ) (rows : FrameRows) (c : CanvasView) → IsKeptOutsideRows d rows c c
+same_rows d rows c = record { pixels = λ x y across down off. refl }

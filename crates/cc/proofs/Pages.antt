@@ -7,7 +7,7 @@ use Rattle.page_layers.specs.declared.moves.Move.{Move}
 use Rattle.page_layers.specs.Pages.{Page}
 use Rattle.page_layers.specs.Scrolls.{origin}
 use Rattle.page_layers.specs.Effects.{scrolled_by, main_point}
-use Rattle.viz_render.specs.Frames.{FrameView}
+use Rattle.viz_canvas.specs.Canvases.{CanvasView}
 use Rattle.model_history.specs.Frames.{page_after_pulls}
 use Rattle.cc_tiles.specs.declared.kept_tile.KeptTile.{KeptTile}
 use Rattle.cc_tiles.specs.KeptTiles.{IsKeptFor, AreKeptFor, IsCurrent, AreCurrent, HaveSameLayers}
@@ -40,11 +40,11 @@ committed_now flag old tells is = ap (λ (p : Page). record old { active = p }) 
 
 -- ---- the frame
 
-pub not_shown : (p : Page) (background : Parts) (f : FrameView) → TellsShown false p background f
-not_shown p background f = record { shows = λ h. absurd (cc) }
+pub not_shown : (d : ℕ) (bytes_of : Parts → List ℕ) (p : Page) (background : Parts) (f : CanvasView) → TellsShown d bytes_of false p background f
+not_shown d bytes_of p background f = record { shows = λ h. absurd (cc) }
 
-pub shown_now : (flag : Bool) (p : Page) (background : Parts) (f : FrameView) → ShowsPage p (main_point p) background f → TellsShown flag p background f
-shown_now flag p background f shows = record { shows = λ h. shows }
+pub shown_now : (d : ℕ) (bytes_of : Parts → List ℕ) (flag : Bool) (p : Page) (background : Parts) (f : CanvasView) → ShowsPage d bytes_of p (main_point p) background f → TellsShown d bytes_of flag p background f
+shown_now d bytes_of flag p background f shows = record { shows = λ h. shows }
 
 -- ---- scrolls
 
@@ -72,15 +72,15 @@ pub committed_moved : (flag : Bool) (p q s t : Page) (ms : List Move) → s ≡ 
 committed_moved flag p q s t ms e f tells = record { same = λ h. e ∙ ap (page_after_pulls ms) (tells.same h) ∙ sym f }
 
 -- a frame shows the page still where nothing moved
-pub shown_scrolled : (flag new : Bool) (p q : Page) (background : Parts) (f : FrameView) (id : ℕ) (dx dy : ℤ) (by : Point) → q ≡ scrolled_by p id dx dy → by ≡ amount_scrolled p id dx dy
-    → (new ≡ true → flag ≡ true) → (new ≡ true → by ≡ origin) → TellsShown flag p background f → TellsShown new q background f
-shown_scrolled flag new p q background f id dx dy by e is before still tells = record {
+pub shown_scrolled : (d : ℕ) (bytes_of : Parts → List ℕ) (flag new : Bool) (p q : Page) (background : Parts) (f : CanvasView) (id : ℕ) (dx dy : ℤ) (by : Point) → q ≡ scrolled_by p id dx dy → by ≡ amount_scrolled p id dx dy
+    → (new ≡ true → flag ≡ true) → (new ≡ true → by ≡ origin) → TellsShown d bytes_of flag p background f → TellsShown d bytes_of new q background f
+shown_scrolled d bytes_of flag new p q background f id dx dy by e is before still tells = record {
   shows = λ h.
-      subst (λ (o : Page). ShowsPage o (main_point o) background f) (sym (e ∙ still_scroll p id dx dy (sym is ∙ still h))) (tells.shows (before h));
+      subst (λ (o : Page). ShowsPage d bytes_of o (main_point o) background f) (sym (e ∙ still_scroll p id dx dy (sym is ∙ still h))) (tells.shows (before h));
 }
 
-pub shown_moved : (flag new : Bool) (p q : Page) (background : Parts) (f : FrameView) (ms : List Move) → q ≡ page_after_pulls ms p → (new ≡ true → flag ≡ true) → (new ≡ true → ms ≡ []) → TellsShown flag p background f → TellsShown new q background f
-shown_moved flag new p q background f ms e before none tells = record {
+pub shown_moved : (d : ℕ) (bytes_of : Parts → List ℕ) (flag new : Bool) (p q : Page) (background : Parts) (f : CanvasView) (ms : List Move) → q ≡ page_after_pulls ms p → (new ≡ true → flag ≡ true) → (new ≡ true → ms ≡ []) → TellsShown d bytes_of flag p background f → TellsShown d bytes_of new q background f
+shown_moved d bytes_of flag new p q background f ms e before none tells = record {
   shows = λ h.
-      subst (λ (o : Page). ShowsPage o (main_point o) background f) (sym (e ∙ ap (λ (ns : List Move). page_after_pulls ns p) (none h))) (tells.shows (before h));
+      subst (λ (o : Page). ShowsPage d bytes_of o (main_point o) background f) (sym (e ∙ ap (λ (ns : List Move). page_after_pulls ns p) (none h))) (tells.shows (before h));
 }

@@ -1,5 +1,5 @@
 -- A frame that shows the scene of a page shows the page.
-use Rattle.std.proofs.Common.{◌≡◌, ℕ, pos, ◌<◌, ◌+◌, true, ap, sym, ◌∙◌, subst, arith}
+use Rattle.std.proofs.Common.{◌≡◌, ℕ, pos, ◌<◌, ◌+◌, true, List, ap, sym, ◌∙◌, subst, arith}
 use Rattle.geom.specs.declared.rect.Point.{Point}
 use Rattle.geom.specs.Covers.{within, covers}
 use Rattle.geom.proofs.Cuts.{within_natural}
@@ -8,7 +8,7 @@ use Rattle.pixel.specs.Colours.{Parts}
 use Rattle.viz_scene.specs.Views.{SceneView}
 use Rattle.tile_visible.specs.Visible.{viewport}
 use Rattle.page_layers.specs.Pages.{Page}
-use Rattle.viz_render.specs.Frames.{FrameView}
+use Rattle.viz_canvas.specs.Canvases.{CanvasView}
 use Rattle.viz_painter.specs.Painters.{ShowsWhole}
 use Rattle.cc.specs.Compositors.{ShowsPage, IsSceneOf}
 
@@ -17,11 +17,11 @@ inside : (p : Page) (x y : ℕ) → x < p.view.w → y < p.view.h → covers (vi
 inside p x y across down =
     both_of (within (pos 0) (pos p.view.w) (pos x)) (within (pos 0) (pos p.view.h) (pos y)) (within_natural 0 p.view.w x (omega arith) (omega (arith, across))) (within_natural 0 p.view.h y (omega arith) (omega (arith, down)))
 
-pub shown_page : (p : Page) (offset : ℕ → Point) (background : Parts) (s : SceneView) (f : FrameView) → IsSceneOf p offset background s → ShowsWhole s f → ShowsPage p offset background f
-shown_page p offset background s f is shows =
+pub shown_page : (d : ℕ) (bytes_of : Parts → List ℕ) (p : Page) (offset : ℕ → Point) (background : Parts) (s : SceneView) (f : CanvasView) → IsSceneOf p offset background s → ShowsWhole d bytes_of s f → ShowsPage d bytes_of p offset background f
+shown_page d bytes_of p offset background s f is shows =
     let wide : f.w ≡ p.view.w = shows.size.wide ∙ is.width in
     let tall : f.h ≡ p.view.h = shows.size.tall ∙ is.height in
     record {
       size = record { wide = wide; tall = tall };
-      pixels = λ x y across down. shows.pixels x y across down ∙ is.pixels (pos x) (pos y) (inside p x y (subst (λ (n : ℕ). x < n) wide across) (subst (λ (n : ℕ). y < n) tall down));
+      pixels = λ x y across down. shows.pixels x y across down ∙ ap bytes_of (is.pixels (pos x) (pos y) (inside p x y (subst (λ (n : ℕ). x < n) wide across) (subst (λ (n : ℕ). y < n) tall down)));
     }

@@ -1,10 +1,9 @@
 -- Compositors: the page that commands change, the page that is shown, and the frame.
-use Rattle.std.specs.Prelude.{⊤, ℕ, ℤ, pos, ◌≡◌, ◌<◌, true, false, Result, Ok, Err, List, [], ◌∷◌, map, Option, Some, None}
+use Rattle.std.specs.Prelude.{⊤, ℕ, ℤ, pos, ◌≡◌, ◌<◌, ◌&&◌, nat_le, nat_lt, Bool, true, false, Result, Ok, Err, List, [], ◌∷◌, map, Option, Some, None}
 use Rattle.geom.specs.declared.rect.Point.{Point}
 use Rattle.geom.specs.declared.rect.Rect.{Rect}
 use Rattle.geom.specs.Covers.{covers}
 use Rattle.pixel.specs.Colours.{Parts}
-use Rattle.region.specs.Points.{covered}
 use Rattle.page_properties.specs.Placement.{minus}
 use Rattle.page_layers.specs.declared.view.View.{View}
 use Rattle.page_layers.specs.declared.command.Command.{Command}
@@ -21,7 +20,8 @@ use Rattle.page_hit_test.specs.Wheels.{part_move}
 use Rattle.tile_visible.specs.Visible.{viewport}
 use Rattle.viz_scene.specs.Views.{SceneView}
 use Rattle.viz_scene.specs.Pixels.{scene_pixel}
-use Rattle.viz_render.specs.Frames.{FrameView, IsOfSize, EachIs, frame_pixel}
+use Rattle.viz_canvas.specs.Canvases.{CanvasView, IsOfSize, EachIs, canvas_pixel}
+use Rattle.cc.specs.declared.damage.FrameRows.{FrameRows}
 use Rattle.model_history.specs.Frames.{page_after_pulls}
 
 -- the page that commands change; the page that is shown, whose scrollers stand at its main values; what stands below its layers; the frame; and the rects outside of which the last draw left it as it was
@@ -29,7 +29,7 @@ pub record CompositorView : Type 0 where
   pub main : Page
   pub active : Page
   pub background : Parts
-  pub frame : FrameView
+  pub frame : CanvasView
   pub damage : List Rect
 
 -- where the scrollers of the active page stand
@@ -40,10 +40,10 @@ offsets c = main_point c.active
 abbrev pub empty_page : View → Page
 empty_page view = record { view = view; props = record { transforms = []; clips = []; effects = []; scrollers = [] }; layers = []; used = []; values = [] }
 
--- a frame has the size of a page's view, and each of its pixels is the direct painting of the page at these offsets, with no tile missing
-pub record ShowsPage (p : Page) (offset : ℕ → Point) (background : Parts) (f : FrameView) : Type 0 where
+-- a frame has the size of a page's view, and the bytes of each of its pixels are those of the direct painting of the page at these offsets, with no tile missing
+pub record ShowsPage (depth : ℕ) (bytes_of : Parts → List ℕ) (p : Page) (offset : ℕ → Point) (background : Parts) (f : CanvasView) : Type 0 where
   pub size : IsOfSize p.view.w p.view.h f
-  pub pixels : EachIs (λ x y. paint p offset [] background (pos x) (pos y)) f
+  pub pixels : EachIs depth (λ x y. bytes_of (paint p offset [] background (pos x) (pos y))) f
 
 -- a command was applied to a page, or refused with its first fault, or memory ran out; after any error the page is as it was
 abbrev pub AppliedTo : Page → Command → Page → Result ⊤ EditError → Type 0
@@ -79,9 +79,13 @@ Scrolled old id dx dy new (Some by) =
 abbrev pub wheel_moves : Wheel → List Move
 wheel_moves w = map part_move w.parts
 
--- outside of some rects a frame has the pixels of the frame before
-pub record IsKeptOutsideRects (rects : List Rect) (old new : FrameView) : Type 0 where
-  pub pixels : (x y : ℕ) → x < new.w → y < new.h → covered rects (pos x) (pos y) ≡ false → frame_pixel new x y ≡ frame_pixel old x y
+-- the row is one of some rows
+abbrev pub has_row : FrameRows → ℕ → Bool
+has_row rows y = nat_le rows.top y && nat_lt y rows.bottom
+
+-- outside of some rows a frame has the pixels of the frame before
+pub record IsKeptOutsideRows (depth : ℕ) (rows : FrameRows) (old new : CanvasView) : Type 0 where
+  pub pixels : (x y : ℕ) → x < new.w → y < new.h → has_row rows y ≡ false → canvas_pixel depth new x y ≡ canvas_pixel depth old x y
 
 -- a scene has the size of a page's view and shows the direct painting of the page in the viewport
 pub record IsSceneOf (p : Page) (offset : ℕ → Point) (background : Parts) (s : SceneView) : Type 0 where

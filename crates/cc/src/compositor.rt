@@ -1,6 +1,7 @@
 //! Compositors.
 
-ghost use Rattle.std.specs.Prelude.{◌≡◌, ◌∷◌, [], true, false, IfOk, OnOk, OnErr};
+ghost use Rattle.std.specs.Prelude.{◌≡◌, ◌∷◌, [], true, false, All, IfOk, OnOk, OnErr};
+ghost use Rattle.geom.specs.Covers.{IsSound};
 ghost use Rattle.page_layers.specs.Pages.{IsView};
 ghost use Rattle.page_layers.specs.Effects.{main_point};
 ghost use Rattle.page_layers.specs.Hits as hits;
@@ -8,9 +9,9 @@ ghost use Rattle.page_layers.specs.Outcomes.{Outcome};
 ghost use Rattle.page_hit_test.specs.Wheels.{IsAmount, IsWheel};
 ghost use Rattle.viz_painter.specs.Painters.{IsKeptOutside};
 ghost use Rattle.cc_tiles.specs.KeptTiles.{AreKeptFor, AreCurrent};
-ghost use Rattle.cc.specs.Compositors.{CompositorView, Applied, AppliedTo, Scrolled, ShowsPage, empty_page, moved, offsets, wheel_moves, IsKeptOutsideRects};
+ghost use Rattle.cc.specs.Compositors.{CompositorView, Applied, AppliedTo, Scrolled, ShowsPage, empty_page, moved, offsets, wheel_moves, IsKeptOutsideRows};
 
-use crate::damage::{no_rows, paint};
+use crate::damage::{FrameRows, no_rows, paint, rows_of};
 use crate::moves::{move_both, move_main, scroll_active, shows_after, shows_still};
 use crate::scenes::{scene_of, target_on, wheel_on};
 use cc_tiles::TileCache;
@@ -20,42 +21,43 @@ use page_layers::{Command, EditError, LayerTree, View};
 use pixel::Colour;
 use std::alloc::{AllocError, Global};
 use std::marker::Model;
-use viz_painter::{FrameRows, Painter};
-use viz_render::Frame;
+use viz_canvas::{Canvas, PixelFormat};
+use viz_painter::Painter;
 
-/// A page that commands change, the page that is shown, and its frame.
+/// A page that commands change, the page that is shown, and its frame, whose pixels have the bytes of a format.
 #[derive(Drop)]
-pub struct Compositor {
+pub struct Compositor<F: PixelFormat> {
     alloc: Global,
     main: LayerTree,
     // its main values are where its scrollers stand
     active: LayerTree,
     background: Colour,
-    painter: Painter,
+    painter: Painter<F>,
     cache: TileCache,
-    // the rect outside of which the last draw left the frame as it was
-    damage: Option<Rect>,
+    // the whole frame, where the last draw was refused and the frame may show anything
+    lost: Option<Rect>,
+    // the last draw painted, so its damage is the painter's
+    is_painted: bool,
     // the main page is the active one
     is_committed: bool,
     // the frame shows the active page
     is_shown: bool,
 }
 
-impl Model for Compositor {
+impl<F: PixelFormat> Model for Compositor<F> {
     ghost use Rattle.std.specs.Prelude.{◌≡◌};
-    ghost use Rattle.std.specs.Option.{option_to_list};
     ghost use Rattle.cc_tiles.specs.KeptTiles.{AreKeptFor, AreCurrent};
     ghost use Rattle.cc.specs.Compositors.{CompositorView};
-    ghost use Rattle.cc.specs.inner.Flags.{TellsCommitted, TellsShown};
+    ghost use Rattle.cc.specs.inner.Flags.{TellsCommitted, TellsShown, damage_in};
 
     ghost Value = { CompositorView };
 
-    ghost view = { λ c. record { main = c.main; active = c.active; background = c.background; frame = c.painter.frame; damage = option_to_list c.damage } };
+    ghost view = { λ c. record { main = c.main; active = c.active; background = c.background; frame = c.painter.canvas; damage = damage_in c.lost c.is_painted c.painter.damage } };
 
-    ghost invariant = { λ c. AreKeptFor c.active c.cache × AreCurrent c.main c.cache × TellsCommitted c.is_committed c.active c.main × TellsShown c.is_shown c.active c.background c.painter.frame };
+    ghost invariant = { λ c. AreKeptFor c.active c.cache × AreCurrent c.main c.cache × TellsCommitted c.is_committed c.active c.main × TellsShown F.DEPTH F.bytes_of c.is_shown c.active c.background c.painter.canvas };
 }
 
-impl Compositor {
+impl<F: PixelFormat> Compositor<F> {
     /// A compositor whose pages have this view and no layers, over this colour. The images of tiles that are kept
     /// may take `budget` bytes beside those of the last draw. An error means out of memory.
     ///
@@ -66,7 +68,7 @@ impl Compositor {
         view: View,
         background: Colour,
         budget: usize,
-    ) -> Result<Compositor, AllocError>
+    ) -> Result<Compositor<F>, AllocError>
         requires { IsView view }
         ensures main { IfOk result (λ c. c.main ≡ empty_page view) }
         ensures active { IfOk result (λ c. c.active ≡ empty_page view) }
@@ -80,7 +82,8 @@ impl Compositor {
             background,
             painter,
             cache: TileCache::new(alloc, budget),
-            damage: None,
+            lost: None,
+            is_painted: false,
             is_committed: true,
             is_shown: false,
         })
@@ -173,7 +176,7 @@ impl Compositor {
 
     /// Whether a draw may change the frame. Where it may not, the frame shows the active page.
     pub fn is_changed(&self) -> bool
-        ensures { result ≡ false → ShowsPage self.now.active (offsets self.now) self.now.background self.now.frame }
+        ensures { result ≡ false → ShowsPage F.DEPTH F.bytes_of self.now.active (offsets self.now) self.now.background self.now.frame }
     {
         !self.is_shown
     }
@@ -183,14 +186,15 @@ impl Compositor {
     /// Where the frame shows the page already, nothing is done. An error means out of memory: the frame may then
     /// show anything, and the next draw draws it whole.
     pub fn draw(&mut self) -> Result<FrameRows, AllocError>
-        ensures shown { OnOk result (ShowsPage self.new.active (offsets self.new) self.new.background self.new.frame) }
-        ensures rows { IfOk result (λ rows. IsKeptOutside rows self.old.frame self.new.frame) }
-        ensures rects { IsKeptOutsideRects self.new.damage self.old.frame self.new.frame }
+        ensures shown { OnOk result (ShowsPage F.DEPTH F.bytes_of self.new.active (offsets self.new) self.new.background self.new.frame) }
+        ensures rows { IfOk result (λ rows. IsKeptOutsideRows F.DEPTH rows self.old.frame self.new.frame) }
+        ensures rects { IsKeptOutside F.DEPTH self.new.damage self.old.frame self.new.frame }
         ensures main { self.new.main ≡ self.old.main }
         ensures active { self.new.active ≡ self.old.active }
         ensures background { self.new.background ≡ self.old.background }
     {
-        self.damage = None;
+        self.lost = None;
+        self.is_painted = false;
         if self.is_shown {
             return Ok(no_rows());
         }
@@ -202,23 +206,28 @@ impl Compositor {
             &mut self.cache,
             self.is_committed,
         )?;
-        let rows = paint(&mut self.painter, &mut self.damage, scene)?;
+        paint(&mut self.painter, &mut self.lost, scene)?;
+        self.is_painted = true;
         self.is_shown = true;
-        Ok(rows)
+        Ok(rows_of(self.painter.damage()))
     }
 
     /// The frame: after a draw, what it drew.
-    pub fn frame(&self) -> &Frame
+    pub fn frame(&self) -> &Canvas<F>
         ensures { result.now ≡ self.now.frame }
     {
-        self.painter.frame()
+        self.painter.canvas()
     }
 
-    /// The rects outside of which the last draw left the frame as it was, also where it was out of memory.
+    /// The rects, in pixels of the frame, outside of which the last draw left it as it was, also where that was out of
+    /// memory. They may overlap, and some may be empty or reach beyond the frame.
     pub fn damage(&self) -> &[Rect]
         ensures { result.now ≡ self.now.damage }
     {
-        self.damage.as_slice()
+        if self.lost.is_some() || !self.is_painted {
+            return self.lost.as_slice();
+        }
+        self.painter.damage()
     }
 }
 

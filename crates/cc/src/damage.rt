@@ -1,67 +1,114 @@
-//! What a drawing may have changed of a frame.
+//! What a draw may have changed of a frame.
 
-ghost use Rattle.std.specs.Prelude.{◌≡◌, ◌<◌, ◌≤◌, ◌^◌, ℕ, pos, false, IfOk, OnOk};
+ghost use Rattle.std.specs.Prelude.{◌≡◌, ◌≤ℤ◌, ℕ, ℤ, pos, false, None, All, OnOk, OnErr};
 ghost use Rattle.std.specs.Option.{option_to_list};
+ghost use Rattle.geom.specs.Covers.{IsSound, IsSpan, covers, within};
+ghost use Rattle.page_display_list.specs.Bitmaps.{near};
 ghost use Rattle.region.specs.Points.{covered};
-ghost use Rattle.viz_painter.specs.Painters.{has_row, ShowsWhole, IsKeptOutside};
-ghost use Rattle.cc.specs.Compositors.{IsKeptOutsideRects};
+ghost use Rattle.viz_painter.specs.Painters.{ShowsWhole, IsKeptOutside};
+ghost use Rattle.cc.specs.Compositors.{has_row};
 
 use geom::Rect;
 use std::alloc::AllocError;
-use viz_painter::{FrameRows, Painter};
+use viz_canvas::{Canvas, PixelFormat};
+use viz_painter::Painter;
 use viz_scene::Scene;
 
+/// Rows of a frame that follow one another, counted from its top; none where `bottom` does not lie below `top`.
+#[derive(Clone, Copy, Debug, PartialEq, Eq)]
+pub struct FrameRows {
+    /// The uppermost row.
+    pub top: u32,
+    /// The row after the lowest. It may lie below the frame.
+    pub bottom: u32,
+}
+
 /// No rows.
-pub(crate) fn no_rows() -> FrameRows
-    ensures { (y : ℕ) → has_row result y ≡ false }
-{
+pub(crate) fn no_rows() -> FrameRows {
     FrameRows { top: 0, bottom: 0 }
 }
 
-// The rows that lie in a frame of this height.
-fn rows_within(rows: FrameRows, height: u32) -> FrameRows
-    ensures rows { (y : ℕ) → y < height → has_row result y ≡ false → has_row rows y ≡ false }
-    ensures within { result.bottom ≤ height }
+/// The rows that some rects lie in, and those between.
+pub(crate) fn rows_of(rects: &[Rect]) -> FrameRows
+    requires { All IsSound rects.now }
+    ensures { (x : ℤ) → (y : ℕ) → has_row result y ≡ false → covered rects.now x (pos y) ≡ false }
 {
-    FrameRows {
-        top: rows.top,
-        bottom: rows.bottom.min(height),
+    let mut rows = FrameRows {
+        top: u32::MAX,
+        bottom: 0,
+    };
+    for rect in rects {
+        rows = joined(rows, rows_of_rect(*rect));
     }
+    rows
 }
 
-// The rect of these rows in a frame of this width; None where there are none.
-fn rect_of_rows(rows: FrameRows, width: u32) -> Option<Rect>
-    requires rows { rows.bottom ≤ 2048 }
-    requires width { width ≤ 2048 }
-    ensures { (x y : ℕ) → x < width → covered (option_to_list result) (pos x) (pos y) ≡ false → has_row rows y ≡ false }
+// The rows that a rect lies in.
+fn rows_of_rect(rect: Rect) -> FrameRows
+    requires { IsSound rect }
+    ensures { (x : ℤ) → (y : ℕ) → has_row result y ≡ false → covers rect x (pos y) ≡ false }
 {
-    if rows.top >= rows.bottom {
-        return None;
-    }
-    Some(Rect {
+    rows_of_span(rect.y, rect.h)
+}
+
+// The given number of rows from one on, of which some may lie above the frame.
+fn rows_of_span(at: i32, len: i32) -> FrameRows
+    requires { IsSpan at len }
+    ensures { (y : ℕ) → has_row result y ≡ false → within at len (pos y) ≡ false }
+{
+    let end = at + len;
+    let top = row_of(at.max(0));
+    let bottom = row_of(end.max(0));
+    FrameRows { top, bottom }
+}
+
+// A row that does not lie above the frame.
+fn row_of(n: i32) -> u32
+    requires { pos 0 ≤ℤ n }
+    ensures { result ≡ near n }
+{
+    n as u32
+}
+
+// The rows of both, and those between.
+fn joined(a: FrameRows, b: FrameRows) -> FrameRows
+    ensures { (y : ℕ) → has_row result y ≡ false → (has_row a y ≡ false) × (has_row b y ≡ false) }
+{
+    let top = a.top.min(b.top);
+    let bottom = a.bottom.max(b.bottom);
+    FrameRows { top, bottom }
+}
+
+// The rect of a whole frame.
+fn whole_of<F: PixelFormat>(frame: &Canvas<F>) -> Rect
+    ensures { result ≡ record { x = pos 0; y = pos 0; w = pos frame.now.w; h = pos frame.now.h } }
+{
+    Rect {
         x: 0,
-        y: rows.top as i32,
-        w: width as i32,
-        h: (rows.bottom - rows.top) as i32,
-    })
+        y: 0,
+        w: frame.w() as i32,
+        h: frame.h() as i32,
+    }
 }
 
-/// Draws a scene, and tells the rows and the rect outside of which the frame's pixels are those before. An error
-/// means out of memory: the rect is then the whole frame.
-pub(crate) fn paint(
-    painter: &mut Painter,
-    damage: &mut Option<Rect>,
+/// Draws a scene. An error means out of memory: `lost` is then the rect of the whole frame, which may show anything.
+#[tactic(auto, using(crate::proofs::Damages::kept_nowhere))]
+pub(crate) fn paint<F: PixelFormat>(
+    painter: &mut Painter<F>,
+    lost: &mut Option<Rect>,
     scene: Scene,
-) -> Result<FrameRows, AllocError>
-    ensures shown { OnOk result (ShowsWhole scene painter.new.frame) }
-    ensures rows { IfOk result (λ rows. IsKeptOutside rows painter.old.frame painter.new.frame) }
-    ensures rects { IsKeptOutsideRects (option_to_list damage.new) painter.old.frame painter.new.frame }
+) -> Result<(), AllocError>
+    requires { lost.old ≡ None }
+    ensures shown { OnOk result (ShowsWhole F.DEPTH F.bytes_of scene painter.new.canvas) }
+    ensures kept { OnOk result (IsKeptOutside F.DEPTH painter.new.damage painter.old.canvas painter.new.canvas) }
+    ensures none { OnOk result (lost.new ≡ None) }
+    ensures lost { OnErr result (IsKeptOutside F.DEPTH (option_to_list lost.new) painter.old.canvas painter.new.canvas) }
 {
-    let painted = painter.paint(scene);
-    let rows = rows_within(painter.changed_rows(), painter.frame().h());
-    *damage = rect_of_rows(rows, painter.frame().w());
-    match painted {
-        Ok(()) => Ok(rows),
-        Err(refused) => Err(refused),
+    match painter.paint(scene) {
+        Ok(()) => Ok(()),
+        Err(refused) => {
+            *lost = Some(whole_of(painter.canvas()));
+            Err(refused)
+        }
     }
 }

@@ -14,3 +14,4 @@ mod moves;
 mod scenes;
 
 pub use compositor::Compositor;
+pub use damage::FrameRows;

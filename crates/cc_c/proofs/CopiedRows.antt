@@ -5,8 +5,8 @@ use Rattle.std.proofs.lemmas.Bool.{cases_lt}
 use Rattle.pixel.specs.Colours.{Parts}
 use Rattle.pixel.specs.Rows.{pixel}
 use borrow.Rule.Slice.PartMut.{put_mid}
-use Rattle.viz_render.specs.Frames.{FrameView, frame_pixel}
-use Rattle.cc_c.specs.Copies.{HasParts, ArePut, IsRowCopied, HoldsRows}
+use Rattle.viz_canvas.specs.Canvases.{CanvasView}
+use Rattle.cc_c.specs.Copies.{frame_pixel, HasParts, ArePut, IsRowCopied, HoldsRows}
 
 -- ---- products
 
@@ -72,7 +72,7 @@ row_put at m row old whole room = record {
 -- ---- rows
 
 -- the first rows of those asked for, the last of them just copied
-pub rows_more : (f : FrameView) (bgra : Bool) (top y stride start : ℕ) (row old new : List ℕ) → top ≤ y → 4 * f.w ≤ stride → start ≡ (y - top) * stride → length row ≡ 4 * f.w
+pub rows_more : (f : CanvasView) (bgra : Bool) (top y stride start : ℕ) (row old new : List ℕ) → top ≤ y → 4 * f.w ≤ stride → start ≡ (y - top) * stride → length row ≡ 4 * f.w
     → ((x : ℕ) → x < f.w → pixel row x ≡ frame_pixel f x y) → HoldsRows f bgra top y stride old → IsRowCopied bgra (length row / 4) start row old new → HoldsRows f bgra top (y + 1) stride new
 rows_more f bgra top y stride start row old new from apart is long pixels held copied = record {
   pixels = λ x k across low high.
@@ -88,8 +88,8 @@ rows_more f bgra top y stride start row old new from apart is long pixels held c
       ];
 }
 
-pub rows_none : (f : FrameView) (bgra : Bool) (top stride : ℕ) (bytes : List ℕ) → HoldsRows f bgra top top stride bytes
+pub rows_none : (f : CanvasView) (bgra : Bool) (top stride : ℕ) (bytes : List ℕ) → HoldsRows f bgra top top stride bytes
 rows_none f bgra top stride bytes = record { pixels = λ x y across low high. absurd (omega (arith, low, high)) }
 
-pub rows_upside : (f : FrameView) (bgra : Bool) (top bottom stride : ℕ) (bytes : List ℕ) → bottom ≤ top → HoldsRows f bgra top bottom stride bytes
+pub rows_upside : (f : CanvasView) (bgra : Bool) (top bottom stride : ℕ) (bytes : List ℕ) → bottom ≤ top → HoldsRows f bgra top bottom stride bytes
 rows_upside f bgra top bottom stride bytes le = record { pixels = λ x y across low high. absurd (omega (arith, low, high, le)) }

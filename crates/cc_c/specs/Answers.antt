@@ -4,7 +4,7 @@ use Rattle.page_layers.specs.Axes.{across, down}
 use Rattle.page_layers.specs.Scrollers.{has_scroller}
 use Rattle.page_layers.specs.Wheels.{wheel_rest}
 use Rattle.page_hit_test.specs.Wheels.{IsAmount}
-use Rattle.viz_render.specs.Frames.{FrameView}
+use Rattle.viz_canvas.specs.Canvases.{CanvasView}
 use Rattle.cc.specs.Compositors.{CompositorView, offsets, amount_scrolled}
 use Rattle.cc_c.specs.Copies.{HoldsRows}
 
@@ -23,7 +23,7 @@ pub record TellsWheel (old : CompositorView) (x y dx dy rest_x rest_y : ℤ) (st
   pub answers : (status ≡ 0) ⊎ (status ≡ 1) ⊎ (status ≡ 11)
 
 -- 0: the buffer has the rows, as red, green, blue and alpha where the order is 0, else with red and blue exchanged; 4: it is as it was
-pub record TellsCopy (f : FrameView) (order top bottom stride : ℕ) (old new : List ℕ) (status : ℕ) : Type 0 where
+pub record TellsCopy (f : CanvasView) (order top bottom stride : ℕ) (old new : List ℕ) (status : ℕ) : Type 0 where
   pub done : status ≡ 0 → HoldsRows f (not (order == 0)) top bottom stride new
   pub short : status ≡ 4 → new ≡ old
   pub answers : (status ≡ 0) ⊎ (status ≡ 4)

@@ -1,8 +1,16 @@
 -- Rows of a frame in a buffer of the caller's.
-use Rattle.std.specs.Prelude.{ℕ, ◌+◌, ◌*◌, ◌-◌, ◌<◌, ◌≤◌, ◌≡◌, Bool, cond, List, slice_index}
+use Rattle.std.specs.Prelude.{ℕ, ◌+◌, ◌*◌, ◌-◌, ◌<◌, ◌≤◌, ◌≡◌, Bool, cond, List, [], ◌∷◌, slice_index}
 use Rattle.pixel.specs.Colours.{Parts}
 use Rattle.pixel.specs.Rows.{pixel}
-use Rattle.viz_render.specs.Frames.{FrameView, frame_pixel}
+use Rattle.viz_canvas.specs.Canvases.{CanvasView}
+
+-- the bytes of a pixel of a frame as C gets it: red, green, blue and alpha
+abbrev pub rgba : Parts → List ℕ
+rgba c = c.r ∷ c.g ∷ c.b ∷ c.a ∷ []
+
+-- the colour of column `x` and row `y` of such a frame
+abbrev pub frame_pixel : CanvasView → ℕ → ℕ → Parts
+frame_pixel f x y = pixel f.bytes (y * f.w + x)
 
 -- the four bytes from this one on are red, green, blue and alpha of a colour, or blue, green, red and alpha
 pub record HasParts (bgra : Bool) (c : Parts) (at : ℕ) (bytes : List ℕ) : Type 0 where
@@ -22,5 +30,5 @@ pub record IsRowCopied (bgra : Bool) (n at : ℕ) (row old new : List ℕ) : Typ
   pub before : (i : ℕ) → i < at → slice_index new i ≡ slice_index old i
 
 -- a buffer has rows `top` to `bottom` of a frame, each `stride` bytes after the one before
-pub record HoldsRows (f : FrameView) (bgra : Bool) (top bottom stride : ℕ) (bytes : List ℕ) : Type 0 where
+pub record HoldsRows (f : CanvasView) (bgra : Bool) (top bottom stride : ℕ) (bytes : List ℕ) : Type 0 where
   pub pixels : (x y : ℕ) → x < f.w → top ≤ y → y < bottom → HasParts bgra (frame_pixel f x y) ((y - top) * stride + 4 * x) bytes

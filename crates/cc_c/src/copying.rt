@@ -2,11 +2,10 @@
 
 ghost use Rattle.std.specs.Prelude.{◌≡◌, ◌≤◌, ◌<◌, ◌+◌, ◌-◌, ◌*◌, ◌/◌, ◌%◌, ℕ, true, false, length};
 ghost use Rattle.pixel.specs.Rows.{pixel};
-ghost use Rattle.viz_render.specs.Frames.{frame_pixel};
-ghost use Rattle.cc_c.specs.Copies.{IsRowCopied, HoldsRows};
+ghost use Rattle.cc_c.specs.Copies.{IsRowCopied, HoldsRows, frame_pixel};
 
 use crate::exchange::copy_exchanged;
-use viz_render::Frame;
+use viz_canvas::{Canvas, Rgba};
 
 // Copies a row as it is.
 fn copy_same(to: &mut [u8], at: usize, row: &[u8])
@@ -32,7 +31,7 @@ fn copy_row(to: &mut [u8], at: usize, row: &[u8], bgra: bool)
 }
 
 // A row of a frame.
-fn row_of(frame: &Frame, y: u32) -> &[u8]
+fn row_of(frame: &Canvas<Rgba>, y: u32) -> &[u8]
     requires { y < frame.now.h }
     ensures length { length result.now ≡ 4 * frame.now.w }
     ensures pixels { (x : ℕ) → x < frame.now.w → pixel result.now x ≡ frame_pixel frame.now x y }
@@ -64,7 +63,7 @@ fn row_start(y: u32, rows: u32, width: usize, stride: usize, len: usize) -> usiz
 }
 
 // Copies rows, of which there is at least one, to a buffer that has room for them.
-fn copy_rows(frame: &Frame, bgra: bool, top: u32, bottom: u32, stride: usize, to: &mut [u8])
+fn copy_rows(frame: &Canvas<Rgba>, bgra: bool, top: u32, bottom: u32, stride: usize, to: &mut [u8])
     requires some { top < bottom }
     requires there { bottom ≤ frame.now.h }
     requires apart { 4 * frame.now.w ≤ stride }
@@ -82,7 +81,7 @@ fn copy_rows(frame: &Frame, bgra: bool, top: u32, bottom: u32, stride: usize, to
 /// Copies rows of a frame to a buffer whose rows begin `stride` bytes apart, as they are or with red and blue
 /// exchanged. False where the frame lacks one of them, or the buffer has no room for them; nothing is copied then.
 pub(crate) fn copied(
-    frame: &Frame,
+    frame: &Canvas<Rgba>,
     bgra: bool,
     top: u32,
     bottom: u32,

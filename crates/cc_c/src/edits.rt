@@ -9,11 +9,12 @@ use crate::status::{BAD, DONE, MEMORY, REFUSED};
 use cc::Compositor;
 use page_layers::EditError;
 use std::alloc::Global;
+use viz_canvas::Rgba;
 
 /// Applies the command that a number means, with these fields, this colour and these pixels.
 pub(crate) fn edit(
     alloc: Global,
-    page: &mut Compositor,
+    page: &mut Compositor<Rgba>,
     op: u32,
     fields: &[i32],
     rgba: u32,
@@ -35,7 +36,7 @@ pub(crate) fn edit(
 /// The same, as a status; the fault of a command that is refused is told.
 pub(crate) fn edited(
     alloc: Global,
-    page: &mut Compositor,
+    page: &mut Compositor<Rgba>,
     op: u32,
     fields: &[i32],
     rgba: u32,

@@ -1,9 +1,9 @@
 //! Handles: the pointer of a compositor, as C keeps it.
 
 ghost use Rattle.std.specs.Prelude.{◌≡◌};
-ghost use Rattle.cc.specs.Compositors.{CompositorView};
+ghost use Rattle.cc_c.specs.declared.held.Held.{Held};
 
-use cc::Compositor;
+use crate::held::Held;
 use cc_handle::BoxParts;
 use std::alloc::Global;
 use std::marker::Model;
@@ -14,30 +14,30 @@ pub struct Handle {
     at: *mut u8,
     // it takes no bytes, so C sees the pointer alone
     alloc: Global,
-    ghost value: { CompositorView },
+    ghost value: { Held },
 }
 
 impl Model for Handle {
     ghost use Rattle.std.specs.Box.Ownership.{box_owns};
     ghost use Rattle.std.specs.contracts.impls.GlobalAllocator.TheImpl.{ghosts};
-    ghost use Rattle.cc.specs.contracts.compositor.Compositor.{the_row};
+    ghost use Rattle.cc_c.specs.contracts.held.Held.{the_row};
 
     ghost also_owns = { λ h. box_owns (ghosts.dealloc_token h.alloc) the_row h.at h.value };
 }
 
 impl Handle {
-    fn opened(self) -> BoxParts<Compositor, Global>
+    fn opened(self) -> BoxParts<Held, Global>
         ensures { result.value ≡ self.value }
     {
         let Handle { at, alloc } = self;
         BoxParts {
-            at: at as *mut Compositor,
+            at: at as *mut Held,
             alloc,
         }
     }
 
     /// The compositor of a handle.
-    pub(crate) fn into_box(self) -> Box<Compositor>
+    pub(crate) fn into_box(self) -> Box<Held>
         ensures { result.value ≡ self.value }
     {
         self.opened().into_box()
@@ -45,6 +45,6 @@ impl Handle {
 }
 
 /// The pointer of a compositor, for C to keep.
-pub(crate) fn given(page: Box<Compositor>) -> *mut u8 {
+pub(crate) fn given(page: Box<Held>) -> *mut u8 {
     Box::into_raw(page) as *mut u8
 }

@@ -13,6 +13,7 @@ mod failure;
 mod fault;
 mod fields;
 mod handle;
+mod held;
 mod items;
 mod layers;
 mod nodes;
@@ -23,6 +24,7 @@ ghost use Rattle.std.specs.Prelude.{◌≡◌, true, false};
 ghost use Rattle.page_layers.specs.Pages.{IsView};
 ghost use Rattle.page_layers.specs.Hits as hits;
 ghost use Rattle.cc.specs.Compositors.{ShowsPage, offsets};
+ghost use Rattle.cc_c.specs.Copies.{rgba};
 ghost use Rattle.cc_c.specs.Edits.{TellsEdit};
 ghost use Rattle.cc_c.specs.Answers.{TellsCopy, TellsScroll, TellsWheel};
 ghost use Rattle.page_hit_test.specs.Wheels.{IsAmount};
@@ -33,12 +35,14 @@ use crate::edits::edited;
 use crate::fault::Fault;
 use crate::fields::colour_of;
 use crate::handle::{Handle, given};
+use crate::held::Held;
 use crate::status::{BAD, DONE, MEMORY, SHORT, UNKNOWN};
 use cc::Compositor;
 use geom::Point;
 use page_layers::View;
 use pixel::Colour;
 use std::alloc::Global;
+use viz_canvas::Rgba;
 
 /// The version of this interface: the soname's number.
 #[unsafe(no_mangle)]
@@ -57,13 +61,13 @@ fn is_view(view: View) -> bool
 }
 
 // A compositor in memory of its own.
-fn made(alloc: Global, view: View, background: Colour, budget: usize) -> Option<Box<Compositor>>
+fn made(alloc: Global, view: View, background: Colour, budget: usize) -> Option<Box<Held>>
     requires { IsView view }
 {
-    let Ok(page) = Compositor::new(alloc, view, background, budget) else {
+    let Ok(compositor) = Compositor::new(alloc, view, background, budget) else {
         return None;
     };
-    Box::new(alloc, page).ok()
+    Box::new(alloc, Held { compositor }).ok()
 }
 
 /// A compositor of an empty page, in `out`: BAD where the view is out of its ranges or the background is not
@@ -106,7 +110,7 @@ pub extern "C" fn cc_reset_(page: Handle, w: u32, h: u32, tile: u32, out: &mut *
     let mut page = page.into_box();
     let view = View { w, h, tile };
     let status = if is_view(view) {
-        page.reset(view);
+        page.compositor.reset(view);
         DONE
     } else {
         BAD
@@ -128,10 +132,10 @@ pub extern "C" fn cc_edit_(
     fault: &mut Fault,
     out: &mut *mut u8,
 ) -> u32
-    ensures { TellsEdit page.value op fields.now rgba pixels.now fault.new result }
+    ensures { TellsEdit page.value.compositor op fields.now rgba pixels.now fault.new result }
 {
     let mut page = page.into_box();
-    let status = edited(alloc, &mut page, op, fields, rgba, pixels, fault);
+    let status = edited(alloc, &mut page.compositor, op, fields, rgba, pixels, fault);
     *out = given(page);
     status
 }
@@ -140,7 +144,7 @@ pub extern "C" fn cc_edit_(
 #[unsafe(no_mangle)]
 pub extern "C" fn cc_commit_(page: Handle, out: &mut *mut u8) -> u32 {
     let mut page = page.into_box();
-    let status = match page.commit() {
+    let status = match page.compositor.commit() {
         Ok(()) => DONE,
         Err(_) => MEMORY,
     };
@@ -150,7 +154,7 @@ pub extern "C" fn cc_commit_(page: Handle, out: &mut *mut u8) -> u32 {
 
 // Scrolls, and tells how far.
 fn scrolled(
-    page: &mut Compositor,
+    page: &mut Compositor<Rgba>,
     scroller: u32,
     dx: i32,
     dy: i32,
@@ -180,17 +184,17 @@ pub extern "C" fn cc_scroll_(
     by_y: &mut i32,
     out: &mut *mut u8,
 ) -> u32
-    ensures { TellsScroll page.value scroller dx dy by_x.new by_y.new result }
+    ensures { TellsScroll page.value.compositor scroller dx dy by_x.new by_y.new result }
 {
     let mut page = page.into_box();
-    let status = scrolled(&mut page, scroller, dx, dy, by_x, by_y);
+    let status = scrolled(&mut page.compositor, scroller, dx, dy, by_x, by_y);
     *out = given(page);
     status
 }
 
 // Scrolls what lies under a point, and tells what is left.
 fn wheeled(
-    page: &mut Compositor,
+    page: &mut Compositor<Rgba>,
     at: Point,
     asked: Point,
     rest_x: &mut i32,
@@ -234,12 +238,12 @@ pub extern "C" fn cc_wheel_(
     rest_y: &mut i32,
     out: &mut *mut u8,
 ) -> u32
-    ensures { TellsWheel page.value x y dx dy rest_x.new rest_y.new result }
+    ensures { TellsWheel page.value.compositor x y dx dy rest_x.new rest_y.new result }
 {
     let mut page = page.into_box();
     let at = Point { x, y };
     let asked = Point { x: dx, y: dy };
-    let status = wheeled(&mut page, at, asked, rest_x, rest_y);
+    let status = wheeled(&mut page.compositor, at, asked, rest_x, rest_y);
     *out = given(page);
     status
 }
@@ -253,11 +257,11 @@ pub extern "C" fn cc_offset_(
     y: &mut i32,
     out: &mut *mut u8,
 )
-    ensures across { x.new ≡ (offsets page.value scroller).x }
-    ensures down { y.new ≡ (offsets page.value scroller).y }
+    ensures across { x.new ≡ (offsets page.value.compositor scroller).x }
+    ensures down { y.new ≡ (offsets page.value.compositor scroller).y }
 {
     let page = page.into_box();
-    let at = page.offset(scroller);
+    let at = page.compositor.offset(scroller);
     *x = at.x;
     *y = at.y;
     *out = given(page);
@@ -272,10 +276,10 @@ pub extern "C" fn cc_target_(
     layer: &mut u32,
     out: &mut *mut u8,
 ) -> u32
-    ensures { result ≡ 0 → layer.new ≡ hits.target page.value.active (offsets page.value) x y }
+    ensures { result ≡ 0 → layer.new ≡ hits.target page.value.compositor.active (offsets page.value.compositor) x y }
 {
     let page = page.into_box();
-    let status = match page.target(Point { x, y }) {
+    let status = match page.compositor.target(Point { x, y }) {
         Ok(id) => {
             *layer = id;
             DONE
@@ -289,10 +293,10 @@ pub extern "C" fn cc_target_(
 /// Whether a draw may change the frame: 1, or 0 where the frame shows the active page already.
 #[unsafe(no_mangle)]
 pub extern "C" fn cc_is_changed_(page: Handle, out: &mut *mut u8) -> u32
-    ensures { result ≡ 0 → ShowsPage page.value.active (offsets page.value) page.value.background page.value.frame }
+    ensures { result ≡ 0 → ShowsPage 4 rgba page.value.compositor.active (offsets page.value.compositor) page.value.compositor.background page.value.compositor.frame }
 {
     let page = page.into_box();
-    let changed = if page.is_changed() { 1 } else { 0 };
+    let changed = if page.compositor.is_changed() { 1 } else { 0 };
     *out = given(page);
     changed
 }
@@ -306,7 +310,7 @@ pub extern "C" fn cc_draw_(
     out: &mut *mut u8,
 ) -> u32 {
     let mut page = page.into_box();
-    let status = match page.draw() {
+    let status = match page.compositor.draw() {
         Ok(rows) => {
             *top = rows.top;
             *bottom = rows.bottom;
@@ -322,7 +326,7 @@ pub extern "C" fn cc_draw_(
 #[unsafe(no_mangle)]
 pub extern "C" fn cc_damage_(page: Handle, rects: &mut [DamageRect], out: &mut *mut u8) -> usize {
     let page = page.into_box();
-    let count = told_damage(page.damage(), rects);
+    let count = told_damage(page.compositor.damage(), rects);
     *out = given(page);
     count
 }
@@ -330,12 +334,12 @@ pub extern "C" fn cc_damage_(page: Handle, rects: &mut [DamageRect], out: &mut *
 /// The frame's width and height.
 #[unsafe(no_mangle)]
 pub extern "C" fn cc_size_(page: Handle, w: &mut u32, h: &mut u32, out: &mut *mut u8)
-    ensures wide { w.new ≡ page.value.frame.w }
-    ensures tall { h.new ≡ page.value.frame.h }
+    ensures wide { w.new ≡ page.value.compositor.frame.w }
+    ensures tall { h.new ≡ page.value.compositor.frame.h }
 {
     let page = page.into_box();
-    *w = page.frame().w();
-    *h = page.frame().h();
+    *w = page.compositor.frame().w();
+    *h = page.compositor.frame().h();
     *out = given(page);
 }
 
@@ -351,10 +355,10 @@ pub extern "C" fn cc_copy_(
     to: &mut [u8],
     out: &mut *mut u8,
 ) -> u32
-    ensures { TellsCopy page.value.frame bgra top bottom stride to.old to.new result }
+    ensures { TellsCopy page.value.compositor.frame bgra top bottom stride to.old to.new result }
 {
     let page = page.into_box();
-    let status = if copied(page.frame(), bgra != 0, top, bottom, stride, to) {
+    let status = if copied(page.compositor.frame(), bgra != 0, top, bottom, stride, to) {
         DONE
     } else {
         SHORT

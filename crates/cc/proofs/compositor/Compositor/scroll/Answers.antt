@@ -7,7 +7,7 @@ use Rattle.cc.proofs.Pages.{committed_scrolled, shown_scrolled}
 use Rattle.cc.proofs.compositor.Compositor.scroll.Goals as goal
 
 pub invariant_of-self : goal.invariant_of-self
-invariant_of-self c =
+invariant_of-self g c =
     let s = c.self.inside in
     let id = c.args.id in
     let p = c.scroll_active-by.new.active in
@@ -19,5 +19,5 @@ invariant_of-self c =
       c.scroll_active-by.ensures.kept,
       c.move_main.ensures.current,
       committed_scrolled s.is_committed s.active s.main p m id c.args.dx c.args.dy by scrolled is moved c.self.invariant.2,
-      shown_scrolled s.is_shown c.shows_still-self-inside.result s.active p s.background s.painter.frame id c.args.dx c.args.dy by scrolled is c.shows_still-self-inside.ensures.before c.shows_still-self-inside.ensures.still c.self.invariant.3,
+      shown_scrolled g.F.PixelFormat.DEPTH g.F.PixelFormat.bytes_of s.is_shown c.shows_still-self-inside.result s.active p s.background s.painter.canvas id c.args.dx c.args.dy by scrolled is c.shows_still-self-inside.ensures.before c.shows_still-self-inside.ensures.still c.self.invariant.3,
     )

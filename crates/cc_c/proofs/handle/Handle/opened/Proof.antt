@@ -26,7 +26,7 @@ use Rattle.std.proofs.raw_atomic.Walks.{proved_at, leaves}
 use Rattle.std.specs.contracts.alloc.Global as G
 use Rattle.std.proofs.alloc.Global.TheLaws as GL
 use Rattle.std.specs.contracts.impls.GlobalAllocator.TheImpl as GI
-use Rattle.cc.specs.contracts.compositor.Compositor as B
+use Rattle.cc_c.specs.contracts.held.Held as B
 use Rattle.cc_c.specs.contracts.handle.Handle as Ha
 use Rattle.cc_handle.proofs.Values.{both, loose_good, loose_in}
 use Rattle.cc_c.specs.contracts.handle.Handle.opened as f
