@@ -8,7 +8,7 @@ JOBS :=
 ONLY :=
 VIEWER := file://$(CURDIR)/tools/viewer.html
 
-.PHONY: build help demo pictures film view bench lib test audit check clean kit python FORCE
+.PHONY: build help demo pictures film view bench lib embed test audit check clean kit python FORCE
 
 build: $(PLAYER)
 
@@ -20,6 +20,7 @@ help:
 	@echo 'make film      plays an example (FILM=list) into build/ as an animated PNG, and names the viewer'"'"'s address'
 	@echo 'make view      opens the viewer in a browser'
 	@echo 'make lib       the library for C: build/libcc.a, build/libcc.so, build/cc.pc (proved first, minutes)'
+	@echo 'make embed     tries the library: its callers in C, C++, Python and Rust, sanitizers, refused memory, random pages'
 	@echo 'make bench     times step 1 on large pages'
 	@echo 'make check     the gate: all proofs, edits, tests and programs, and our own checks (an hour at first, then what changed)'
 	@echo 'make audit     tries all must-fail edits, also those that the gate leaves out (hours); ONLY="geom pixel": of these crates; JOBS=2'
@@ -68,6 +69,9 @@ bench: python $(PLAYER)
 
 lib: kit python
 	@python3 tools/lib.py
+
+embed: lib $(PLAYER)
+	@python3 tools/try_embed.py --program $(PLAYER)
 
 test: kit python
 	@python3 tools/test.py $(if $(JOBS),--jobs $(JOBS)) $(if $(ONLY),'$(ONLY)')
