@@ -4,7 +4,7 @@
  * docs/EMBEDDING.md is the page to read first; this header is C11 and C++.
  *
  * Threads     The library starts none and takes no lock. A compositor is used by one call at a time, on the thread
- *             that made it. Compositors are independent of each other. No call belongs into a signal handler.
+ *             that made it. Compositors are independent of each other. Make no call from a signal handler.
  * Ownership   cc_new gives a compositor, cc_free ends it; one that was freed must not be used. Buffers stay the
  *             caller's, and the library keeps no pointer to them. No two pointers of a call may overlap, and none
  *             may be null but where it says so.
