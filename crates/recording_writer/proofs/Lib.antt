@@ -7,3 +7,4 @@ pub mod QuietEvents
 pub mod RecordedRuns
 pub mod Rows
 pub mod ShownImages
+mod FilmedRuns

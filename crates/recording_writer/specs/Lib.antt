@@ -1,3 +1,4 @@
 pub mod Recordings
 pub mod Writing
 pub mod inner
+pub mod Films

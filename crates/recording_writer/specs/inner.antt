@@ -3,3 +3,4 @@ pub mod Repeats
 pub mod Scenes
 pub mod Steps
 pub mod Ways
+pub mod Filming

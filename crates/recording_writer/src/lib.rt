@@ -9,6 +9,7 @@
 //! An [`ImagePainter`] gives the images of scenes to whoever writes a recording in another way.
 #![tactic(auto)]
 
+mod film;
 mod image;
 mod image_painter;
 mod last_draw;
@@ -16,6 +17,7 @@ mod lockstep;
 mod recorder;
 mod writing;
 
+pub use film::film_lockstep;
 pub use image_painter::ImagePainter;
 pub use lockstep::{Recorded, record_lockstep};
 pub use recorder::header_of;
