@@ -23,7 +23,7 @@ PAGE = 50
 # The call whose contract is the theorem.
 RUN = "player_run/program.rt:run"
 # The words of the program, as cases of the type `Use` name them.
-WORDS = ("Step", "Play", "Gen", "Demo", "Frames", "Check")
+WORDS = ("Step", "Play", "Gen", "Demo", "Film", "Frames", "Check")
 
 USE = re.compile(r"^(?:ghost )?(?:pub )?use Rattle\.(\w+)\.(\w+)\.([\w.]+?)(?:\.\{([^}]*)\}| as (\w+))?;?$")
 HEAD = re.compile(r"^(?:(?:abbrev|unfoldable|unfolding|irreducible|strict|pub|priv)\s+)*(?:(record|data)\s+)?(?:pub\s+)?([^\s:(){}]+)\s*(?=[:(\s{])")

@@ -14,6 +14,7 @@ cc_player: plays scripts of page changes and inputs
 
 usage: cc_player step N < SCRIPT > RECORDING
        cc_player play N < SCRIPT > RECORDING
+       cc_player film N < SCRIPT > PICTURES
        cc_player frames < RECORDING > PICTURES
        cc_player check < RECORDING
        cc_player gen NUMBER > SCRIPT
@@ -24,6 +25,8 @@ usage: cc_player step N < SCRIPT > RECORDING
                picture as a raw portable pixmap (P6); the recording is the same for every N
   play N       plays it by threads, N raster workers (1 to 16) among them, so that the recording is
                one of many, each legal; where threads cannot be started it does as step N
+  film N       reads a script, plays it as step N does and writes its pictures alone, one behind
+               the other, each a raw portable pixmap (P6): as step N | frames, for runs of any length
   frames       reads a recording from standard input and writes its pictures to standard output,
                one behind the other, each a raw portable pixmap (P6)
   check        reads a recording from standard input and judges it without the engine: whether its
@@ -32,7 +35,7 @@ usage: cc_player step N < SCRIPT > RECORDING
   demo NUMBER  plays the script of a number and writes one line: how many events, pictures, missing
                tiles and bytes its recording has, and the sum of the bytes
   --help       prints this text
-  --version    prints the version
+  --version    prints the version, and the kit with which the program is proved and built
 
 status:
    0  done
@@ -49,11 +52,12 @@ status:
 
 example: cc_player step 1 < examples/first.json > first.rec
          cc_player frames < first.rec > first.ppm
+         cc_player film 4 < examples/page.json > page.ppm
          cc_player gen 7 | cc_player step 4 > seven.rec
 ";
 
-// What `--version` prints.
-const VERSION: &str = "cc_player 0.1.0\n";
+// What `--version` prints: the version, and the kit with which the program is proved and built.
+const VERSION: &str = "cc_player 0.1.0 (rattle-kit-13f)\n";
 
 // How long a word may be in bytes. All words that the program knows are shorter.
 const LONGEST: usize = 256;

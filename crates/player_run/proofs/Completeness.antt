@@ -16,7 +16,7 @@ use Rattle.recording_check.proofs.OneReading.{not_bad}
 use Rattle.player_run.specs.declared.outcome.Outcome.{Outcome}
 use Rattle.player_run.specs.declared.outcome.Outcome.TheVariants.{Done, Usage, Json, Shape, Script, ReadFault, WriteFault, TooLong, BadRecording, No, Memory}
 use Rattle.player_run.specs.declared.words.Use.{Use}
-use Rattle.player_run.specs.declared.words.Use.TheVariants.{Step, Play, Gen, Demo, Frames, Check}
+use Rattle.player_run.specs.declared.words.Use.TheVariants.{Step, Play, Gen, Demo, Film, Frames, Check}
 use Rattle.player_run.specs.Runs.{TellsMisfit, IsAcceptedText, Takes, RefusedScript, RefusedRecording, RefusedHistory, Refused, CauseOf, CauseFrom, IsUnread, Causes, IsComplete, IsDone}
 
 -- a text of a script has no first fault
@@ -77,6 +77,7 @@ not_refused (Step workers) bytes result takes refused = script_taken workers byt
 not_refused (Play workers) bytes result takes refused = script_taken workers bytes result takes refused
 not_refused (Gen number) bytes result takes refused = refused
 not_refused (Demo number) bytes result takes refused = refused
+not_refused (Film workers) bytes result takes refused = script_taken workers bytes result takes refused
 not_refused Frames bytes result takes refused = recording_taken bytes result takes refused
 not_refused Check bytes result takes refused = history_taken bytes result takes refused
 
@@ -116,6 +117,8 @@ complete_use (Step workers) None a b c e result fits cause faults = tt
 complete_use (Step workers) (Some bytes) a b c e result fits cause faults = λ takes calm_source calm_out. done (Step workers) bytes a b c e result fits cause faults takes calm_source calm_out
 complete_use (Play workers) None a b c e result fits cause faults = tt
 complete_use (Play workers) (Some bytes) a b c e result fits cause faults = λ takes calm_source calm_out. done (Play workers) bytes a b c e result fits cause faults takes calm_source calm_out
+complete_use (Film workers) None a b c e result fits cause faults = tt
+complete_use (Film workers) (Some bytes) a b c e result fits cause faults = λ takes calm_source calm_out. done (Film workers) bytes a b c e result fits cause faults takes calm_source calm_out
 complete_use Frames None a b c e result fits cause faults = tt
 complete_use Frames (Some bytes) a b c e result fits cause faults = λ takes calm_source calm_out. done Frames bytes a b c e result fits cause faults takes calm_source calm_out
 complete_use Check None a b c e result fits cause faults = tt

@@ -4,7 +4,7 @@ use Rattle.std.specs.Prelude.{Option}
 use Rattle.player_run.specs.declared.outcome.Outcome.{Outcome}
 use Rattle.player_run.specs.declared.outcome.Outcome.TheVariants.{Done, Usage, Json, Shape, Script, ReadFault, WriteFault, TooLong, BadRecording, No, Memory}
 use Rattle.player_run.specs.declared.words.Use.{Use}
-use Rattle.player_run.specs.declared.words.Use.TheVariants.{Step, Play, Gen, Demo, Frames, Check}
+use Rattle.player_run.specs.declared.words.Use.TheVariants.{Step, Play, Gen, Demo, Film, Frames, Check}
 use Rattle.player_run.specs.inner.Outputs.{WritesSome}
 use Rattle.player_run.specs.Runs.{TellsMisfit, IsUnread, IsOutput, IsBegun, Writes}
 
@@ -42,6 +42,7 @@ begun_is (Step workers) source whole is = is
 begun_is (Play workers) source whole (s, from, (h, played, is)) = (s, from, (h, played.sound, is))
 begun_is (Gen number) source whole is = is
 begun_is (Demo number) source whole is = is
+begun_is (Film workers) source whole is = is
 begun_is Frames source whole is = is
 begun_is Check source whole is = is
 

@@ -18,11 +18,12 @@ use Rattle.recording_check.specs.Verdicts.{IsLegalRecording, IsFirstWrongEvent}
 use Rattle.model_history.specs.declared.history.Entry.{Entry}
 use Rattle.model_history.specs.Lockstep.{IsLockstep}
 use Rattle.script_json.specs.Recordings.{recording, script_text}
+use Rattle.recording_writer.specs.Films.{IsLockstepFilm}
 use Rattle.script_generator.specs.Generated.{script_of_number}
 use Rattle.player_run.specs.declared.outcome.Outcome.{Outcome}
 use Rattle.player_run.specs.declared.outcome.Outcome.TheVariants.{Done, Usage, Json, Shape, Script, ReadFault, WriteFault, TooLong, BadRecording, No, Memory}
 use Rattle.player_run.specs.declared.words.Use.{Use}
-use Rattle.player_run.specs.declared.words.Use.TheVariants.{Step, Play, Gen, Demo, Frames, Check}
+use Rattle.player_run.specs.declared.words.Use.TheVariants.{Step, Play, Gen, Demo, Film, Frames, Check}
 use Rattle.player_run.specs.Promises.{IsSoundHistory, IsPlayed, IsPromised}
 use Rattle.player_run.specs.Demos.{demo_line}
 
@@ -54,6 +55,7 @@ Takes (Step workers) bytes = (length bytes ≤ script_limit) × IsAcceptedText b
 Takes (Play workers) bytes = (length bytes ≤ script_limit) × IsAcceptedText bytes
 Takes (Gen number) bytes = ⊤
 Takes (Demo number) bytes = ⊤
+Takes (Film workers) bytes = (length bytes ≤ script_limit) × IsAcceptedText bytes
 Takes Frames bytes = (length bytes ≤ recording_limit) × IsRecordingText bytes
 Takes Check bytes = (length bytes ≤ recording_limit) × IsLegalRecording 16 bytes
 
@@ -84,6 +86,7 @@ Refused (Step workers) bytes result = RefusedScript bytes result
 Refused (Play workers) bytes result = RefusedScript bytes result
 Refused (Gen number) bytes result = ⊥
 Refused (Demo number) bytes result = ⊥
+Refused (Film workers) bytes result = RefusedScript bytes result
 Refused Frames bytes result = RefusedRecording bytes result
 Refused Check bytes result = RefusedHistory bytes result
 
@@ -130,6 +133,7 @@ MayAnswer (Step workers) result = AnswersScript result
 MayAnswer (Play workers) result = AnswersScript result
 MayAnswer (Gen number) result = IsUnread result
 MayAnswer (Demo number) result = IsUnread result
+MayAnswer (Film workers) result = AnswersScript result
 MayAnswer Frames result = AnswersImages result
 MayAnswer Check result = AnswersJudged result
 
@@ -149,6 +153,7 @@ Reads (Step workers) old new = TakenAtMost (script_limit + 1) old new
 Reads (Play workers) old new = TakenAtMost (script_limit + 1) old new
 Reads (Gen number) old new = new ≡ old
 Reads (Demo number) old new = new ≡ old
+Reads (Film workers) old new = TakenAtMost (script_limit + 1) old new
 Reads Frames old new = TakenAtMost (recording_limit + 1) old new
 Reads Check old new = TakenAtMost (recording_limit + 1) old new
 
@@ -166,6 +171,7 @@ ReadToEnd (Step workers) left result = IsJudgedWhole left result
 ReadToEnd (Play workers) left result = IsJudgedWhole left result
 ReadToEnd (Gen number) left result = ⊤
 ReadToEnd (Demo number) left result = ⊤
+ReadToEnd (Film workers) left result = IsJudgedWhole left result
 ReadToEnd Frames left result = IsJudgedWhole left result
 ReadToEnd Check left result = IsJudgedWhole left result
 
@@ -194,12 +200,13 @@ abbrev pub AreImagesFrom : Option (List ℕ) → List ℕ → Type 0
 AreImagesFrom source whole =
     (bytes : List ℕ) × IfSome source (λ had. had ≡ bytes) × (s : ScriptModel) × (ps : List Piece) × IsRecording bytes s ps × (whole ≡ images_text ps)
 
--- what a use writes in all: the recording of the script; the canonical text of a number's script, and a newline; the line that sums up its recording; the images of the recording; or nothing
+-- what a use writes in all: the recording of the script; the canonical text of a number's script, and a newline; the line that sums up its recording; the images of a script's run; the images of the recording; or nothing
 abbrev pub IsOutput : Use → Option (List ℕ) → List ℕ → Type 0
 IsOutput (Step workers) source whole = (s : ScriptModel) × IsScriptFrom source s × IsRunOf workers s whole
 IsOutput (Play workers) source whole = (s : ScriptModel) × IsScriptFrom source s × IsPlayOf workers s whole
 IsOutput (Gen number) source whole = whole ≡ script_text (script_of_number number) ++ codes "\n"
 IsOutput (Demo number) source whole = IsDemoOf (script_of_number number) whole
+IsOutput (Film workers) source whole = (s : ScriptModel) × IsScriptFrom source s × IsLockstepFilm s whole
 IsOutput Frames source whole = AreImagesFrom source whole
 IsOutput Check source whole = whole ≡ []
 

@@ -1,8 +1,8 @@
--- Which words the program takes, and what they ask for: `step N`, `play N`, `gen NUMBER`, `demo NUMBER`, `frames`, `check`.
+-- Which words the program takes, and what they ask for: `step N`, `play N`, `gen NUMBER`, `demo NUMBER`, `film N`, `frames`, `check`.
 use Rattle.std.specs.Prelude.{ℕ, Bool, true, false, ◌+◌, ◌-◌, ◌*◌, ◌^◌, ◌&&◌, nat_le, nat_lt, List, [], ◌∷◌, Option, Some, None, Result, Ok, Err, codes, decimal, if◌then◌else◌}
 use Rattle.std.specs.Str.{bytes_eq}
 use Rattle.player_run.specs.declared.words.Use.{Use}
-use Rattle.player_run.specs.declared.words.Use.TheVariants.{Step, Play, Gen, Demo, Frames, Check}
+use Rattle.player_run.specs.declared.words.Use.TheVariants.{Step, Play, Gen, Demo, Film, Frames, Check}
 
 -- what the digits of a word say, where those before them say n
 abbrev pub digits_value : ℕ → List ℕ → ℕ
@@ -42,6 +42,11 @@ abbrev pub after_play : List (List ℕ) → Result Use ℕ
 after_play [] = Err 1
 after_play (w ∷ ws) = numbered (workers_in w) Play ws
 
+-- after `film` too
+abbrev pub after_film : List (List ℕ) → Result Use ℕ
+after_film [] = Err 1
+after_film (w ∷ ws) = numbered (workers_in w) Film ws
+
 -- after `gen` and `demo` stands the number of which the script is made
 abbrev pub after_gen : List (List ℕ) → Result Use ℕ
 after_gen [] = Err 1
@@ -57,8 +62,9 @@ after_other w ws =
     if bytes_eq w (codes "play") then after_play ws
     else (if bytes_eq w (codes "gen") then after_gen ws
     else (if bytes_eq w (codes "demo") then after_demo ws
+    else (if bytes_eq w (codes "film") then after_film ws
     else (if bytes_eq w (codes "frames") then no_more_words Frames 1 ws
-    else (if bytes_eq w (codes "check") then no_more_words Check 1 ws else Err 0))))
+    else (if bytes_eq w (codes "check") then no_more_words Check 1 ws else Err 0)))))
 
 -- what the words ask for; or the index of the first word that, with those before it, begins no use, and
 -- where there is no such word and more words are needed, their count

@@ -1,5 +1,5 @@
 //! What the program does with its words: `step N` plays a script into its recording, `play N` does it by actors
-//! on threads, `frames` takes the images out of a recording, `check` judges one, `gen NUMBER` makes a script, and
+//! on threads, `film N` writes the images alone, `frames` takes the images out of a recording, `check` judges one, `gen NUMBER` makes a script, and
 //! `demo NUMBER` plays one and sums it up.
 //!
 //! The modules in the order in which a run meets them: the words, the input, the program that joins all;
@@ -10,6 +10,7 @@ mod beside;
 mod crew;
 mod demo;
 mod draw_counts;
+mod filmed;
 mod fragments;
 mod generated;
 mod images;

@@ -7,6 +7,7 @@ ghost use Rattle.player_run.specs.Runs.{TellsMisfit, CauseFrom, MayAnswer, Reads
 ghost use Rattle.player_run.specs.inner.Uses.{IsFew};
 
 use crate::demo::run_demo;
+use crate::filmed::run_film;
 use crate::generated::run_gen;
 use crate::images::run_frames;
 use crate::judged::run_check;
@@ -48,6 +49,7 @@ fn run_use<R: Threads + Sync, S: Source, K: Sink>(
         Use::Play { .. } => None,
         Use::Gen { number } => Some(run_gen(alloc, number, out)),
         Use::Demo { number } => Some(run_demo(rt, alloc, number, out)),
+        Use::Film { workers } => Some(run_film(rt, alloc, workers, source, out)),
         Use::Frames => Some(run_frames(alloc, source, out)),
         Use::Check => Some(run_check(alloc, source)),
     }
@@ -146,8 +148,8 @@ fn run_players<R: Threads + Wait + Sync, S: Source, K: Sink + Send, G: Gate + Sy
 /// The words are those after the program's name. `step N`, where N is 1 to 16, reads a script, plays it in
 /// lockstep with N raster workers and writes its recording, which is the same for every N. `play N` plays it
 /// by actors on threads of their own, N raster workers among them, and writes its recording; where a thread
-/// cannot be started, it does as `step N`. `frames` reads a recording and writes its images, one after
-/// another; `check` reads one and judges it without the core and what draws, and writes nothing. `gen NUMBER`
+/// cannot be started, it does as `step N`. `film N` plays a script as `step N` does and writes the images of its
+/// recording alone, one after another. `frames` reads a recording and writes its images; `check` reads one and judges it without the core and what draws, and writes nothing. `gen NUMBER`
 /// reads nothing and writes the canonical text of a number's script and a newline; `demo NUMBER` plays that
 /// script and writes a line that sums up its recording. NUMBER is a plain decimal below 2^64.
 ///

@@ -30,6 +30,11 @@ pub enum Use {
         /// The number of which the script is made.
         number: u64,
     },
+    /// `film N`: plays a script in lockstep with N raster workers and writes the images of its recording alone.
+    Film {
+        /// How many raster workers there are, 1 to 16. The images are the same for every number.
+        workers: u32,
+    },
     /// `frames`: writes the images of a recording.
     Frames,
     /// `check`: judges a recording without the core and what draws.
@@ -46,8 +51,12 @@ impl Use {
     {
         match self {
             Use::Play { workers } => Some(workers),
-            Use::Step { .. } | Use::Gen { .. } | Use::Demo { .. } | Use::Frames | Use::Check =>
-                None,
+            Use::Step { .. }
+            | Use::Gen { .. }
+            | Use::Demo { .. }
+            | Use::Film { .. }
+            | Use::Frames
+            | Use::Check => None,
         }
     }
 }
@@ -152,6 +161,19 @@ fn after_play(rest: &[String]) -> Result<Use, u32>
     }
 }
 
+// What the words after `film` ask for, or the index of the first that does not fit.
+fn after_film(rest: &[String]) -> Result<Use, u32>
+    ensures { result ≡ words.after_film (map string_bytes rest.now) }
+{
+    let [word, more @ ..] = rest else {
+        return Err(1);
+    };
+    match few(number_of(word.as_str())) {
+        Some(workers) => no_more(Use::Film { workers }, 2, more),
+        None => Err(1),
+    }
+}
+
 // What the words after `gen` ask for, or the index of the first that does not fit.
 fn after_gen(rest: &[String]) -> Result<Use, u32>
     ensures { result ≡ words.after_gen (map string_bytes rest.now) }
@@ -189,6 +211,8 @@ fn after_other(first: &str, rest: &[String]) -> Result<Use, u32>
         after_gen(rest)
     } else if is_same(first, "demo") {
         after_demo(rest)
+    } else if is_same(first, "film") {
+        after_film(rest)
     } else if is_same(first, "frames") {
         no_more(Use::Frames, 1, rest)
     } else if is_same(first, "check") {
