@@ -7,8 +7,17 @@ JOBS :=
 # `make test ONLY=WORD` runs the cases whose titles have the word, `make audit ONLY="CRATE .."` tries these crates.
 ONLY :=
 VIEWER := file://$(CURDIR)/tools/viewer.html
+# Where `make install` puts program, manual page and completions; DESTDIR stands before it where a package is made.
+PREFIX := /usr/local
+DESTDIR :=
+VERSION := 0.1.0
+# What `make install` installs, and where below DESTDIR and PREFIX.
+MANUAL := share/man/man1/cc_player.1
+BASH_WORDS := share/bash-completion/completions/cc_player
+ZSH_WORDS := share/zsh/site-functions/_cc_player
+FISH_WORDS := share/fish/vendor_completions.d/cc_player.fish
 
-.PHONY: build help demo pictures film view bench lib embed test audit check clean kit python FORCE
+.PHONY: build help demo pictures film view bench lib embed test audit check install uninstall dist clean kit python FORCE
 
 build: $(PLAYER)
 
@@ -24,6 +33,9 @@ help:
 	@echo 'make bench     times step 1 on large pages'
 	@echo 'make check     the gate: all proofs, edits, tests and programs, and our own checks (an hour at first, then what changed)'
 	@echo 'make audit     tries all must-fail edits, also those that the gate leaves out (hours); ONLY="geom pixel": of these crates; JOBS=2'
+	@echo 'make install   puts program, manual page and completions below DESTDIR and PREFIX (/usr/local)'
+	@echo 'make uninstall removes what make install put there'
+	@echo 'make dist      packs the sources of the last commit into build/cc_player-VERSION.tar.gz'
 	@echo 'make clean     removes build/'
 
 kit:
@@ -83,6 +95,20 @@ audit: kit python
 check: SHELL := bash
 check: kit python
 	@set -o pipefail; .ci/run 2>&1 | python3 tools/gate_times.py --stamp build/gate.log
+
+install: $(PLAYER)
+	install -D -m 755 $(PLAYER) '$(DESTDIR)$(PREFIX)/bin/cc_player'
+	install -D -m 644 man/cc_player.1 '$(DESTDIR)$(PREFIX)/$(MANUAL)'
+	install -D -m 644 completions/cc_player.bash '$(DESTDIR)$(PREFIX)/$(BASH_WORDS)'
+	install -D -m 644 completions/_cc_player '$(DESTDIR)$(PREFIX)/$(ZSH_WORDS)'
+	install -D -m 644 completions/cc_player.fish '$(DESTDIR)$(PREFIX)/$(FISH_WORDS)'
+
+uninstall:
+	rm -f '$(DESTDIR)$(PREFIX)/bin/cc_player' $(foreach file,$(MANUAL) $(BASH_WORDS) $(ZSH_WORDS) $(FISH_WORDS),'$(DESTDIR)$(PREFIX)/$(file)')
+
+dist:
+	@mkdir -p build
+	git archive --format=tar.gz --prefix=cc_player-$(VERSION)/ -o build/cc_player-$(VERSION).tar.gz HEAD
 
 clean:
 	rm -rf build
