@@ -22,6 +22,9 @@ import sys
 import tempfile
 import zlib
 
+sys.dont_write_bytecode = True
+from png_chunks import chunks_of
+
 ROOT = pathlib.Path(__file__).resolve().parent.parent
 EXAMPLES, CLIENTS = ROOT / "examples" / "embed", ROOT / "clients"
 FLAGS = ["-Wall", "-Wextra", "-Wpedantic", "-Werror", "-I", ROOT / "include"]
@@ -54,13 +57,9 @@ def ppm(data):
 
 def png(data):
     """The same of a stored picture: RGB, with rows that begin with a 0."""
-    width, height = struct.unpack(">II", data[16:24])
-    packed, at = b"", 8
-    while at < len(data):
-        size, kind = struct.unpack(">I4s", data[at:at + 8])
-        packed += data[at + 8:at + 8 + size] if kind == b"IDAT" else b""
-        at += size + 12
-    rows, step = zlib.decompress(packed), 3 * width + 1
+    chunks = list(chunks_of(data))
+    width, height = struct.unpack(">II", chunks[0][1][:8])
+    rows, step = zlib.decompress(b"".join(it for kind, it in chunks if kind == b"IDAT")), 3 * width + 1
     return width, height, b"".join(rows[step * y + 1:step * (y + 1)] for y in range(height))
 
 
@@ -242,7 +241,6 @@ class Page:
 
 def random_pages(build, program, pages, seed):
     sys.path.insert(0, str(CLIENTS / "python"))
-    sys.dont_write_bytecode = True
     import cc
     library, drawn = cc.load(str(build / "libcc.so")), 0
     for number in range(seed, seed + pages):
