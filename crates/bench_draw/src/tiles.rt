@@ -46,7 +46,7 @@ fn item_of(alloc: Global, kind: ItemKind, level: u8) -> Result<Item, AllocError>
             colour: grey(level),
         }),
         ItemKind::Bitmap => {
-            let pixels = bytes_of(alloc, level, 262144)?;
+            let pixels = Arc::new(alloc, bytes_of(alloc, level, 262144)?)?;
             match Item::bitmap(TILE, pixels) {
                 Ok(item) => Ok(item),
                 Err(_) => Err(AllocError),

@@ -1,6 +1,6 @@
 //! Commands as numbers.
 
-ghost use Rattle.std.specs.Prelude.{◌≡◌};
+ghost use Rattle.std.specs.Prelude.{◌≡◌, IfOk};
 ghost use Rattle.cc_c.specs.Commands as spec;
 ghost use Rattle.cc_c.specs.Edits.{Built, Puts, put as put_command};
 
@@ -11,7 +11,8 @@ use crate::nodes::node_command;
 use crate::scrollers::scroller_command;
 use page_display_list::Item;
 use page_layers::Command;
-use std::alloc::Global;
+use std::alloc::{AllocError, Global};
+use std::sync::Arc;
 
 // The command of a number that takes no pixels; None where it has none, or the fields do not fit.
 #[tactic(auto, unfolding(crate::specs::Commands::plain_command))]
@@ -55,6 +56,15 @@ fn put(op: u32, place: ItemPlace, item: Item) -> Command
     }
 }
 
+// A copy of these pixels, for bitmaps to share.
+fn copied(alloc: Global, pixels: &[u8]) -> Result<Arc<Vec<u8>>, AllocError>
+    ensures { IfOk result (λ bytes. bytes.value.items ≡ pixels.now) }
+{
+    let bytes = Vec::from_slice(alloc, pixels)?;
+    let shared = Arc::new(alloc, bytes)?;
+    Ok(shared)
+}
+
 // The bitmap of these pixels, put in the place that the fields name.
 fn put_bitmap(alloc: Global, op: u32, fields: &[i32], pixels: &[u8]) -> Result<Command, Failure>
     ensures { Puts op fields.now pixels.now result }
@@ -62,7 +72,7 @@ fn put_bitmap(alloc: Global, op: u32, fields: &[i32], pixels: &[u8]) -> Result<C
     let Some(place) = item_place(fields) else {
         return Err(Failure::Bad);
     };
-    let Ok(bytes) = Vec::from_slice(alloc, pixels) else {
+    let Ok(bytes) = copied(alloc, pixels) else {
         return Err(Failure::Memory);
     };
     match Item::bitmap(place.rect, bytes) {

@@ -9,12 +9,14 @@ use geom::Rect;
 use pixel::{Colour, colour_at, first_wrong};
 use std::alloc::AllocError;
 use std::marker::Model;
+use std::sync::Arc;
 
-/// A rect with its pixels: sides of 1 to 256 pixels, four bytes a pixel, each pixel premultiplied.
+/// A rect with its pixels: sides of 1 to 256 pixels, four bytes a pixel, each pixel premultiplied. Copies of a bitmap
+/// share the pixels.
 #[derive(Drop)]
 pub struct Bitmap {
     rect: Rect,
-    pixels: Vec<u8>,
+    pixels: Arc<Vec<u8>>,
 }
 
 impl Model for Bitmap {
@@ -22,9 +24,9 @@ impl Model for Bitmap {
 
     ghost Value = { BitmapModel };
 
-    ghost view = { λ b. record { rect = b.rect; pixels = b.pixels.items } };
+    ghost view = { λ b. record { rect = b.rect; pixels = b.pixels.value.items } };
 
-    ghost invariant = { λ b. IsBitmap (record { rect = b.rect; pixels = b.pixels.items }) };
+    ghost invariant = { λ b. IsBitmap (record { rect = b.rect; pixels = b.pixels.value.items }) };
 }
 
 /// What is wrong with the bytes of a bitmap: the first cause that applies, in this order.
@@ -50,7 +52,7 @@ pub enum BitmapCause {
 #[derive(Drop)]
 pub struct BadBitmap {
     /// The bytes as they were given.
-    pub pixels: Vec<u8>,
+    pub pixels: Arc<Vec<u8>>,
     /// What is wrong with them.
     pub cause: BitmapCause,
 }
@@ -93,10 +95,10 @@ fn place_of(row: usize, column: usize, w: i32, h: i32) -> usize
 
 impl Bitmap {
     /// The bitmap of these bytes, or the bytes with the first cause that applies.
-    pub(crate) fn new(rect: Rect, pixels: Vec<u8>) -> Result<Bitmap, BadBitmap>
+    pub(crate) fn new(rect: Rect, pixels: Arc<Vec<u8>>) -> Result<Bitmap, BadBitmap>
         ensures { MatchResult result
-            (λ b. (b ≡ record { rect = rect; pixels = pixels.items }) × IsBitmap b)
-            (λ e. (e.pixels ≡ pixels) × IsBitmapCause rect pixels.items e.cause) }
+            (λ b. (b ≡ record { rect = rect; pixels = pixels.value.items }) × IsBitmap b)
+            (λ e. (e.pixels ≡ pixels) × IsBitmapCause rect pixels.value.items e.cause) }
     {
         let Some(wanted) = bytes_of(rect.w, rect.h) else {
             return Err(BadBitmap {
@@ -154,11 +156,11 @@ impl Bitmap {
         side as usize
     }
 
-    /// A copy of the bitmap, on the same allocator.
+    /// A copy of the bitmap, which shares its pixels.
     pub(crate) fn copy(&self) -> Result<Bitmap, AllocError>
         ensures { IfOk result (λ b. b ≡ self.now) }
     {
-        let pixels = Vec::from_slice(*self.pixels.allocator(), self.pixels.as_slice())?;
+        let pixels = Arc::try_clone(&self.pixels)?;
         Ok(Bitmap {
             rect: self.rect,
             pixels,

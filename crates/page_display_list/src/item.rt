@@ -9,6 +9,7 @@ use crate::bitmap::{BadBitmap, Bitmap};
 use geom::{Point, Rect};
 use pixel::Colour;
 use std::alloc::AllocError;
+use std::sync::Arc;
 
 /// One thing to paint.
 #[derive(Drop)]
@@ -25,14 +26,14 @@ pub enum Item {
 }
 
 impl Item {
-    /// A bitmap item of these bytes: four a pixel of the rect, row by row from the top.
+    /// A bitmap item of these bytes, which it shares: four a pixel of the rect, row by row from the top.
     ///
     /// An error hands the bytes back with the first cause that applies: a side that is not 1 to 256,
     /// a wrong count of bytes, a pixel that is not premultiplied.
-    pub fn bitmap(rect: Rect, pixels: Vec<u8>) -> Result<Item, BadBitmap>
+    pub fn bitmap(rect: Rect, pixels: Arc<Vec<u8>>) -> Result<Item, BadBitmap>
         ensures { MatchResult result
-            (λ item. let picture : BitmapModel = record { rect = rect; pixels = pixels.items } in (item ≡ Item.Bitmap picture) × IsBitmap picture)
-            (λ e. (e.pixels ≡ pixels) × IsBitmapCause rect pixels.items e.cause) }
+            (λ item. let picture : BitmapModel = record { rect = rect; pixels = pixels.value.items } in (item ≡ Item.Bitmap picture) × IsBitmap picture)
+            (λ e. (e.pixels ≡ pixels) × IsBitmapCause rect pixels.value.items e.cause) }
     {
         match Bitmap::new(rect, pixels) {
             Ok(bitmap) => Ok(Item::Bitmap(bitmap)),
@@ -50,7 +51,7 @@ impl Item {
         }
     }
 
-    /// A copy of the item, on the allocator of its pixels.
+    /// A copy of the item, which shares its pixels.
     pub fn copy(&self) -> Result<Item, AllocError>
         ensures { IfOk result (λ item. item ≡ self.now) }
     {

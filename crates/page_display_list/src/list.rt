@@ -143,7 +143,7 @@ impl DisplayList {
         draw_items(self.items.as_slice(), bytes, area, scratch);
     }
 
-    /// A copy of the list, on the same allocator.
+    /// A copy of the list, on the same allocator, which shares the pixels of its bitmaps.
     pub fn copy(&self) -> Result<DisplayList, AllocError>
         ensures { IfOk result (λ list. list ≡ self.now) }
     {

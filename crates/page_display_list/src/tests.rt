@@ -3,8 +3,15 @@
 use super::*;
 use geom::Rect;
 use pixel::Colour;
-use std::alloc::Global;
+use std::alloc::{AllocError, Global};
+use std::sync::Arc;
 use std::test::Fail;
+
+/// These bytes, to be shared.
+fn shared(alloc: Global, bytes: &[u8]) -> Result<Arc<Vec<u8>>, AllocError> {
+    let pixels = Vec::from_slice(alloc, bytes)?;
+    Ok(Arc::new(alloc, pixels)?)
+}
 
 /// What `Item::bitmap` finds wrong with these bytes; `None` where they are a bitmap.
 fn cause_of(alloc: Global, w: i32, bytes: &[u8]) -> Result<Option<BitmapCause>, Fail> {
@@ -14,8 +21,7 @@ fn cause_of(alloc: Global, w: i32, bytes: &[u8]) -> Result<Option<BitmapCause>, 
         w,
         h: 1,
     };
-    let pixels = Vec::from_slice(alloc, bytes)?;
-    match Item::bitmap(rect, pixels) {
+    match Item::bitmap(rect, shared(alloc, bytes)?) {
         Ok(_) => Ok(None),
         Err(bad) => {
             if bad.pixels.as_slice() != bytes {
@@ -95,7 +101,7 @@ fn bitmap_over_a_rect(rt: HostRuntime) -> Result<(), Fail> {
     ) {
         return Err(Fail::from(want));
     }
-    let pixels = Vec::from_slice(rt.alloc(), [0, 0, 0x80, 0x80, 0x80, 0, 0, 0x80].as_slice())?;
+    let pixels = shared(rt.alloc(), [0, 0, 0x80, 0x80, 0x80, 0, 0, 0x80].as_slice())?;
     let at = Rect {
         x: 1,
         y: 1,

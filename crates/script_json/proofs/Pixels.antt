@@ -1,5 +1,5 @@
 -- Bytes as premultiplied pixels, four by four.
-use Rattle.std.proofs.Common.{◌≡◌, ℕ, zero, suc, ◌+◌, ◌-◌, ◌*◌, ◌/◌, ◌<◌, ◌≤◌, List, [], ◌∷◌, length, get_or, Bool, true, false, ◌&&◌, refl, arith, ap, subst, sym, ◌∙◌, eq-eqb, ◌==◌}
+use Rattle.std.proofs.Common.{◌≡◌, ℕ, zero, suc, ◌+◌, ◌-◌, ◌*◌, ◌/◌, ◌<◌, ◌≤◌, List, [], ◌∷◌, length, get_or, Bool, true, false, ◌&&◌, refl, arith, ap, subst, sym, ◌∙◌, eq-eqb, ◌==◌, Some, None}
 use Rattle.std.proofs.lemmas.Bool.Decides.{nat_tests}
 use Rattle.pixel.specs.Colours.{is_colour}
 use Rattle.pixel.specs.Rows.{pixel, alpha_place, ArePremultiplied}
@@ -8,7 +8,10 @@ use Rattle.page_display_list.specs.Bitmaps.{IsBitmap, near, byte_count}
 use Rattle.page_display_list.specs.Causes.{IsBitmapCause}
 use Rattle.page_display_list.specs.declared.bitmap.BitmapCause.{BitmapCause}
 use Rattle.page_display_list.specs.declared.bitmap.BitmapCause.TheVariants.{Side, Length, Pixel}
+use Rattle.page_display_list.specs.declared.item.Item.{Item}
+use Rattle.page_display_list.specs.declared.item.Item.TheVariants as item
 use Rattle.model_history.specs.Ranges.{are_pixels, is_picture}
+use Rattle.script_json.specs.ItemReading.{if_picture}
 
 next_alpha : (i : ℕ) → alpha_place (suc (suc (suc (suc i)))) ≡ suc (suc (suc (suc (alpha_place i))))
 next_alpha i = omega arith
@@ -77,3 +80,15 @@ picture_is_not rect bytes (Length given wanted) h =
     let e : (length bytes == byte_count rect.w rect.h) ≡ false = grind (arith, nat_tests) in
     first_false _ _ (second_false _ _ e)
 picture_is_not rect bytes (Pixel place) h = second_false _ _ (wrong_pixels bytes place h.2.inside h.2.wrong)
+
+-- the bitmap of bytes that stand elsewhere too
+pub shared_picture : (rect : Rect) (bytes shared : List ℕ) (i : Item) → ((k : ℕ) → k < length bytes → get_or bytes k 0 < 256) → shared ≡ bytes
+    → i ≡ item.Bitmap (record { rect = rect; pixels = shared }) → IsBitmap (record { rect = rect; pixels = shared }) → Some i ≡ if_picture rect bytes
+shared_picture rect bytes shared i fits same is sound =
+    let here : IsBitmap (record { rect = rect; pixels = bytes }) = subst (λ (l : List ℕ). IsBitmap (record { rect = rect; pixels = l })) same sound in
+    ap Some (is ∙ ap (λ (l : List ℕ). item.Bitmap (record { rect = rect; pixels = l })) same) ∙ rw (picture_is rect bytes fits here) refl
+
+-- bytes that stand elsewhere too and are no bitmap
+pub no_shared_picture : (rect : Rect) (bytes shared : List ℕ) (cause : BitmapCause) → shared ≡ bytes → IsBitmapCause rect shared cause → None ≡ if_picture rect bytes
+no_shared_picture rect bytes shared cause same bad =
+    rw (picture_is_not rect bytes cause (subst (λ (l : List ℕ). IsBitmapCause rect l cause) same bad)) refl

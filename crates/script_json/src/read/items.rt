@@ -11,14 +11,16 @@ use page_layers::Command;
 use script_fields::{FieldFault, Trouble, fields, forms};
 use serde_json::Value;
 use std::alloc::{AllocError, Global};
+use std::sync::Arc;
 
 // The bitmap of these bytes, if they are the pixels of the rect.
-fn picture(rect: Rect, bytes: Vec<u8>) -> Option<Item>
-    ensures { result ≡ if_picture rect bytes.items }
+fn picture(alloc: Global, rect: Rect, bytes: Vec<u8>) -> Result<Option<Item>, AllocError>
+    ensures { IfOk result (λ o. o ≡ if_picture rect bytes.items) }
 {
-    match Item::bitmap(rect, bytes) {
-        Ok(item) => Some(item),
-        Err(_) => None,
+    let pixels = Arc::new(alloc, bytes)?;
+    match Item::bitmap(rect, pixels) {
+        Ok(item) => Ok(Some(item)),
+        Err(_) => Ok(None),
     }
 }
 
@@ -33,7 +35,7 @@ fn pixels(alloc: Global, rect: Rect, value: &Value) -> Result<Option<Item>, Allo
     let Some(bytes) = script_fields::bytes(alloc, text.as_bytes())? else {
         return Ok(None);
     };
-    Ok(picture(rect, bytes))
+    picture(alloc, rect, bytes)
 }
 
 // What is painted: either a colour or pixels, and not both.
