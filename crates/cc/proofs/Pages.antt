@@ -6,9 +6,8 @@ use Rattle.pixel.specs.Colours.{Parts}
 use Rattle.page_layers.specs.declared.moves.Move.{Move}
 use Rattle.page_layers.specs.Pages.{Page}
 use Rattle.page_layers.specs.Scrolls.{origin}
-use Rattle.page_layers.specs.Effects.{scrolled_by, main_point}
+use Rattle.page_layers.specs.Effects.{scrolled_by, main_point, page_after_pulls}
 use Rattle.viz_canvas.specs.Canvases.{CanvasView}
-use Rattle.model_history.specs.Frames.{page_after_pulls}
 use Rattle.cc_tiles.specs.declared.kept_tile.KeptTile.{KeptTile}
 use Rattle.cc_tiles.specs.KeptTiles.{IsKeptFor, AreKeptFor, IsCurrent, AreCurrent, HaveSameLayers}
 use Rattle.cc_tiles.proofs.Images.{alike_kept, alike_current}

@@ -1,6 +1,7 @@
 -- Scrolls: of a scroller that a page lacks, by what is taken, and by nothing.
 use Rattle.std.proofs.Common.{◌≡◌, ℕ, ℤ, pos, ◌+ℤ◌, ◌-ℤ◌, ◌==◌, Bool, true, false, cond, Option, Some, None, option_map, List, [], ◌∷◌, refl, sym, ◌∙◌, ap, arith}
 use Rattle.std.specs.Prelude.{is_some}
+use Rattle.std.proofs.lemmas.Bool.Decides.{nat_tests}
 use Rattle.std.proofs.lemmas.Int.{ints}
 use Rattle.geom.specs.declared.rect.Point.{Point}
 use Rattle.page_properties.specs.declared.nodes.ScrollNode.{ScrollNode}
@@ -10,9 +11,8 @@ use Rattle.page_layers.specs.Pages.{Page}
 use Rattle.page_layers.specs.Sound.{IsPage}
 use Rattle.page_layers.specs.Scrolls.{clamp_to, origin, or_origin}
 use Rattle.page_layers.specs.Effects.{scrolled_by, main_point, clamped_in}
-use Rattle.page_layers.proofs.NodeKeeps.{not_changed, values-known}
-use Rattle.model_history.proofs.NodeFacts.{find_changed}
-use Rattle.model_history.proofs.PageRanges.{clamp_again}
+use Rattle.page_properties.proofs.Families.{find_changed}
+use Rattle.page_layers.proofs.NodeKeeps.{not_changed, values-known, clamp_again}
 use Rattle.cc.specs.Compositors.{amount_scrolled}
 
 pub unknown_stays : (p : Page) (id : ℕ) (dx dy : ℤ) → IsPage p → find id p.props.scrollers ≡ None → scrolled_by p id dx dy ≡ p
@@ -33,6 +33,12 @@ same_number c v e = omega (arith, ints)
 
 some_point : (a b : Point) → Some a ≡ Some b → a ≡ b
 some_point a b e = cc
+
+-- a value that is changed, found under its id
+found_changed : (id : ℕ) (f : Point → Point) (vs : List (ℕ × Point)) → find id (with_node_changed id f vs) ≡ option_map f (find id vs)
+found_changed id f vs =
+    let same : id == id ≡ true = grind (arith, nat_tests) in
+    find_changed id id f vs ∙ ap (λ (b : Bool). cond b (option_map f (find id vs)) (find id vs)) same
 
 -- a value that is set to itself
 set_same : (id : ℕ) (v : Point) (vs : List (ℕ × Point)) → find id vs ≡ Some v → with_node_changed id (λ u. v) vs ≡ vs
@@ -65,7 +71,7 @@ module _ (id : ℕ) (o : Option ScrollNode) (dx dy : ℤ) (vs : List (ℕ × Poi
   still_values None e none = not_changed id (λ u. comes_to origin) vs (ap is_some e)
 
   pub found_after : goes (find id vs) ≡ minus (or_origin (find id (with_node_changed id (λ u. comes_to (or_origin (find id vs))) vs))) (or_origin (find id vs))
-  found_after = ap (λ (f : Option Point). minus (or_origin f) (or_origin (find id vs))) (sym (find_changed id (λ u. comes_to (or_origin (find id vs))) vs))
+  found_after = ap (λ (f : Option Point). minus (or_origin f) (or_origin (find id vs))) (sym (found_changed id (λ u. comes_to (or_origin (find id vs))) vs))
 
 -- a scroll by what it takes is the scroll
 pub same_scroll : (p : Page) (id : ℕ) (dx dy : ℤ) → scrolled_by p id dx dy ≡ scrolled_by p id (amount_scrolled p id dx dy).x (amount_scrolled p id dx dy).y

@@ -11,7 +11,7 @@ use Rattle.page_layers.specs.declared.fault.EditError.{EditError}
 use Rattle.page_layers.specs.declared.fault.EditError.TheVariants as error
 use Rattle.page_layers.specs.declared.moves.Move.{Move}
 use Rattle.page_layers.specs.Pages.{Page}
-use Rattle.page_layers.specs.Effects.{page_after_command, main_point, scrolled_by}
+use Rattle.page_layers.specs.Effects.{page_after_command, main_point, scrolled_by, page_after_pulls}
 use Rattle.page_layers.specs.Outcomes.{Accepts, Refuses}
 use Rattle.page_layers.specs.Scrollers.{has_scroller}
 use Rattle.page_layers.specs.TreePainting.{paint}
@@ -22,7 +22,6 @@ use Rattle.viz_scene.specs.Views.{SceneView}
 use Rattle.viz_scene.specs.Pixels.{scene_pixel}
 use Rattle.viz_canvas.specs.Canvases.{CanvasView, IsOfSize, EachIs, canvas_pixel}
 use Rattle.cc.specs.declared.damage.FrameRows.{FrameRows}
-use Rattle.model_history.specs.Frames.{page_after_pulls}
 
 -- the page that commands change; the page that is shown, whose scrollers stand at its main values; what stands below its layers; the frame; and the rects outside of which the last draw left it as it was
 pub record CompositorView : Type 0 where

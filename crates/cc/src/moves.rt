@@ -3,9 +3,8 @@
 ghost use Rattle.std.specs.Prelude.{◌≡◌, ◌∷◌, [], true, map, IsTrue};
 ghost use Rattle.page_properties.specs.Entries.{knows};
 ghost use Rattle.page_layers.specs.Scrolls.{origin};
-ghost use Rattle.page_layers.specs.Effects.{scrolled_by};
+ghost use Rattle.page_layers.specs.Effects.{scrolled_by, page_after_pulls};
 ghost use Rattle.page_hit_test.specs.Wheels.{part_move};
-ghost use Rattle.model_history.specs.Frames.{page_after_pulls};
 ghost use Rattle.cc_tiles.specs.KeptTiles.{AreKeptFor, AreCurrent};
 ghost use Rattle.cc.specs.Compositors.{amount_scrolled};
 

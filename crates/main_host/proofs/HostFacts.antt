@@ -3,8 +3,9 @@ use Rattle.std.proofs.Common.{◌≡◌, ℕ, zero, suc, ◌<◌, List, [], ◌�
 use Rattle.region.specs.Lists.{Changed}
 use Rattle.page_layers.specs.Pages.{Page}
 use Rattle.page_layers.specs.declared.moves.Move.{Move}
+use Rattle.page_layers.specs.Effects.{page_after_pulls, commanded}
 use Rattle.model_history.specs.Scripts.{ScriptModel}
-use Rattle.model_history.specs.Frames.{commands_of, page, pulls_in, page_after_pulls, commanded, changes}
+use Rattle.model_history.specs.Frames.{commands_of, page, pulls_in, changes}
 use Rattle.model_history.specs.Stamps.{changed_by, unchanged}
 use Rattle.model_history.specs.SameChanges.{SameChanges}
 use Rattle.model_history.specs.Ended.{StandsBefore, EndsFrame, Tells}

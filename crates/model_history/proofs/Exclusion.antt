@@ -4,10 +4,9 @@ use Rattle.std.proofs.Common.{◌≡◌, ℕ, zero, suc, List, [], ◌∷◌, Re
 use Rattle.page_layers.specs.declared.command.Command.{Command}
 use Rattle.page_layers.specs.declared.fault.EditFault.{EditFault}
 use Rattle.page_layers.specs.Pages.{Page}
-use Rattle.page_layers.specs.Effects.{page_after_command}
+use Rattle.page_layers.specs.Effects.{page_after_command, commanded}
 use Rattle.page_layers.specs.Refusals.{test_of}
 use Rattle.page_layers.specs.Outcomes.{Accepts, Refuses}
-use Rattle.model_history.specs.Frames.{commanded}
 use Rattle.model_history.specs.Accepted.{TakesAll, TakesFrames}
 use Rattle.model_history.specs.Judging.{RefusedIn, RefusedAt}
 

@@ -10,7 +10,7 @@ use Rattle.geom.specs.declared.rect.Point.{Point}
 use Rattle.page_properties.specs.Entries as entries
 use Rattle.page_layers.specs.Scrolls.{or_origin}
 use Rattle.page_layers.specs.Pages.{Page}
-use Rattle.page_layers.specs.Effects.{clamped_in, main_point, scrolled_by}
+use Rattle.page_layers.specs.Effects.{clamped_in, main_point, scrolled_by, page_after_pulls, commanded}
 use Rattle.model_scheduler.specs.Kinds.{is_ready_to_commit}
 use Rattle.model_history.specs.declared.event.Event.{Event}
 use Rattle.model_history.specs.declared.event.Event.TheVariants as event
@@ -21,7 +21,7 @@ use Rattle.model_history.specs.EventFields.{sends, commits, aborts}
 use Rattle.model_history.specs.Scans.{was_named, newest, counted}
 use Rattle.page_layers.specs.Axes.{Axis, across, down, along, amount, amount_in, named_in}
 use Rattle.page_layers.specs.Scrollers.{scrollers, main_value}
-use Rattle.model_history.specs.Frames.{is_empty, commands_of, page_after_pulls, commanded, page, main_move, moves_main, changes, pulls_of, active, pending, up_to}
+use Rattle.model_history.specs.Frames.{is_empty, commands_of, page, main_move, moves_main, changes, pulls_of, active, pending, up_to}
 use Rattle.model_history.specs.Scrolls.{active_then}
 use Rattle.model_history.specs.Legal.{sched, Next, Legal}
 use Rattle.model_history.proofs.BoolFacts.{by_test, and_left, and_right, or_left_false, or_right_false, or_either, not_false, same_number, other_number, is_other}

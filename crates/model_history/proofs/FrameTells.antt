@@ -10,7 +10,8 @@ use Rattle.page_layers.specs.declared.moves.Move.{Move}
 use Rattle.model_history.specs.Scripts.{ScriptModel}
 use Rattle.page_layers.specs.Axes.{Axis, across, down, amount_in, named_in}
 use Rattle.page_layers.specs.Scrollers.{scrollers, main_value}
-use Rattle.model_history.specs.Frames.{is_empty, commands_of, page_after_pulls, commanded, page, main_move, moves_main, changes}
+use Rattle.page_layers.specs.Effects.{page_after_pulls, commanded}
+use Rattle.model_history.specs.Frames.{is_empty, commands_of, page, main_move, moves_main, changes}
 use Rattle.model_history.specs.Ended.{AreBounded, Tells}
 use Rattle.model_history.specs.inner.Ending.{is_moved}
 use Rattle.model_history.proofs.BoolFacts.{by_test}

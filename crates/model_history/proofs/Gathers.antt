@@ -6,9 +6,8 @@ use Rattle.page_layers.specs.declared.command.Command.{Command}
 use Rattle.page_layers.specs.declared.fault.EditError.{EditError}
 use Rattle.page_layers.specs.declared.fault.EditError.TheVariants.{Refused, Memory}
 use Rattle.page_layers.specs.Pages.{Page}
-use Rattle.page_layers.specs.Effects.{page_after_command, scrolled_by}
+use Rattle.page_layers.specs.Effects.{page_after_command, scrolled_by, page_after_pulls, commanded}
 use Rattle.page_layers.specs.declared.moves.Move.{Move}
-use Rattle.model_history.specs.Frames.{page_after_pulls, commanded}
 use Rattle.model_history.specs.Stamps.{changed_by, unchanged}
 use Rattle.model_history.specs.Judging.{RefusedIn}
 use Rattle.model_history.specs.SameChanges.{SameChanges}

@@ -13,13 +13,13 @@ use Rattle.page_layers.specs.Lists.{with_first_changed}
 use Rattle.page_layers.specs.Pages.{Page}
 use Rattle.page_layers.specs.Refusals.{has_layer, test_of, add_layer_test}
 use Rattle.page_layers.specs.Sound.{IsLayer, IsPage, is_used}
-use Rattle.page_layers.specs.Effects.{page_after_command}
+use Rattle.page_layers.specs.Effects.{page_after_command, commanded}
 use Rattle.page_layers.specs.Outcomes.{Accepts}
 use Rattle.page_layers.proofs.LayerKeeps.{each-found, absent-without, found_id}
 use Rattle.page_layers.proofs.FoundLayers.{found-insert, found-other, found-here, found-moved}
 use Rattle.page_layers.proofs.TestFacts.{passed, held}
 use Rattle.model_history.specs.Scripts.{ScriptModel}
-use Rattle.model_history.specs.Frames.{commanded, commands_of}
+use Rattle.model_history.specs.Frames.{commands_of}
 use Rattle.model_history.specs.Accepted.{TakesAll, IsAccepted}
 use Rattle.model_history.proofs.BoolFacts.{not_true, not_both, none_or_some}
 use Rattle.model_history.proofs.ScriptPages.{page_after, ahead, plain, plain_takes, plain_page}

@@ -4,9 +4,8 @@ use Rattle.std.proofs.lemmas.List.{drop_more}
 use Rattle.page_layers.specs.declared.command.Command.{Command}
 use Rattle.page_layers.specs.declared.fault.EditFault.{EditFault}
 use Rattle.page_layers.specs.Pages.{Page}
-use Rattle.page_layers.specs.Effects.{page_after_command}
+use Rattle.page_layers.specs.Effects.{page_after_command, commanded}
 use Rattle.page_layers.specs.Outcomes.{Accepts}
-use Rattle.model_history.specs.Frames.{commanded}
 use Rattle.model_history.specs.Accepted.{TakesAll, TakesFrames}
 use Rattle.model_history.specs.declared.script_error.ScriptError.{ScriptError}
 use Rattle.model_history.specs.declared.script_error.ScriptError.TheVariants.{Command as Refused, Memory}

@@ -27,7 +27,8 @@ use Rattle.model_history.specs.Legal.{Next, Legal}
 use Rattle.model_history.proofs.BoolFacts.{not_both, is_false, by_test, same_number}
 use Rattle.model_history.proofs.DueFacts.{entry, AtScroll, at_scroll, AtWheel, at_wheel, AtActivate, at_activate}
 use Rattle.model_history.proofs.Course.{Course, course}
-use Rattle.model_history.proofs.PageRanges.{clamp_again, page_has_later}
+use Rattle.page_layers.proofs.NodeKeeps.{clamp_again}
+use Rattle.model_history.proofs.PageRanges.{page_has_later}
 use Rattle.model_history.proofs.FrameFacts.{page_stays, active_sent}
 use Rattle.model_history.proofs.MoveLists.{amount_listed}
 use Rattle.model_history.proofs.FrameSums.{retired_delta}

@@ -6,14 +6,14 @@ use Rattle.geom.specs.declared.rect.Point.{Point}
 use Rattle.page_layers.specs.declared.command.Command.{Command}
 use Rattle.page_layers.specs.declared.command.Command.TheVariants as command
 use Rattle.page_layers.specs.Pages.{Page}
-use Rattle.page_layers.specs.Effects.{scrolled_by, page_after_command}
+use Rattle.page_layers.specs.Effects.{scrolled_by, page_after_command, page_after_pulls, commanded}
 use Rattle.page_layers.specs.Outcomes.{Accepts, StandTogether}
 use Rattle.page_layers.specs.Refusals.{test_of, add_transform_test, set_transform_test, add_clip_test, set_clip_test, add_effect_test, set_opacity_test, add_scroller_test, set_range_test, scroll_by_test, scroll_to_test, add_layer_test, remove_layer_test, resize_layer_test, set_colour_test, insert_item_test, remove_item_test, replace_item_test, move_layer_test}
 use Rattle.page_layers.specs.declared.moves.Move.{Move}
 use Rattle.model_history.specs.Scripts.{ScriptModel}
 use Rattle.page_layers.specs.Axes.{Axis, across, down, amount_in, named_in}
 use Rattle.page_layers.specs.Scrollers.{scrollers, main_value}
-use Rattle.model_history.specs.Frames.{commands_of, page_after_pulls, commanded, page, page_before, main_move, changes, is_empty}
+use Rattle.model_history.specs.Frames.{commands_of, page, page_before, main_move, changes, is_empty}
 use Rattle.model_history.specs.Accepted.{TakesAll, TakesFrames, IsAccepted}
 
 -- a page depends on the pulls of the frames before it alone

@@ -9,21 +9,17 @@ use Rattle.page_layers.specs.declared.command.Command.{Command}
 use Rattle.page_layers.specs.declared.command.Command.TheVariants as command
 use Rattle.page_layers.specs.Scrolls.{clamp_to, origin, or_origin}
 use Rattle.page_layers.specs.Pages.{Page}
-use Rattle.page_layers.specs.Effects.{page_after_command, with_props, clamped_in, scrolled_to, scrolled_by, main_point}
+use Rattle.page_layers.specs.Effects.{page_after_command, with_props, clamped_in, scrolled_to, scrolled_by, main_point, page_after_pulls, commanded}
 use Rattle.page_layers.specs.declared.moves.Move.{Move}
 use Rattle.model_history.specs.Scripts.{ScriptModel}
 use Rattle.page_layers.specs.Axes.{Axis, across, down, along}
 use Rattle.page_layers.specs.Scrollers.{has_scroller, end_of, most, main_value}
-use Rattle.model_history.specs.Frames.{commands_of, page_after_pulls, commanded, page, page_before}
+use Rattle.page_layers.proofs.NodeKeeps.{clamp_again}
+use Rattle.model_history.specs.Frames.{commands_of, page, page_before}
 use Rattle.model_history.proofs.BoolFacts.{by_test, same_number, other_number}
 use Rattle.model_history.proofs.NodeFacts.{find_changed, find_other, knows_changed}
 
--- clamping
-
-pub clamp_again : (m : ℕ) (z : ℤ) → clamp_to m (clamp_to m z) ≡ clamp_to m z
-unfolding clamp_to
-clamp_again m z = omega (arith, ints, clamps)
-
+-- zero is in every range
 pub clamp_zero : (m : ℕ) → clamp_to m (pos 0) ≡ pos 0
 unfolding clamp_to
 clamp_zero m = omega (arith, ints, clamps)

@@ -11,7 +11,7 @@ use Rattle.page_layers.specs.declared.command.Command.TheVariants as command
 use Rattle.page_layers.specs.Tests.{require}
 use Rattle.page_layers.specs.Refusals.{takes, test_of, add_scroller_test, set_range_test}
 use Rattle.page_layers.specs.Pages.{Page}
-use Rattle.page_layers.specs.Effects.{page_after_command}
+use Rattle.page_layers.specs.Effects.{page_after_command, commanded}
 use Rattle.page_layers.proofs.TestFacts.{passed, scroll_range_facts}
 use Rattle.model_history.specs.declared.event.Event.{Event}
 use Rattle.model_history.specs.declared.event.Event.TheVariants as event
@@ -23,7 +23,7 @@ use Rattle.model_history.specs.EventFields.{sends}
 use Rattle.model_history.specs.Scans.{counted}
 use Rattle.page_layers.specs.Axes.{Axis, across, down}
 use Rattle.page_layers.specs.Scrollers.{end_of, most}
-use Rattle.model_history.specs.Frames.{commands_of, commanded, page, page_before}
+use Rattle.model_history.specs.Frames.{commands_of, page, page_before}
 use Rattle.model_history.specs.Accepted.{TakesAll, IsAccepted}
 use Rattle.model_history.specs.Legal.{Next, Legal}
 use Rattle.model_history.proofs.BoolFacts.{by_test, and_left, and_right, same_number, other_number}

@@ -8,7 +8,7 @@ use Rattle.page_layers.specs.declared.command.Command.TheVariants as command
 use Rattle.page_layers.specs.Tests.{require}
 use Rattle.page_layers.specs.Refusals.{takes, test_of, add_scroller_test}
 use Rattle.page_layers.specs.Pages.{Page}
-use Rattle.page_layers.specs.Effects.{page_after_command, scrolled_by}
+use Rattle.page_layers.specs.Effects.{page_after_command, scrolled_by, page_after_pulls, commanded}
 use Rattle.page_layers.proofs.TestFacts.{passed, held, is_not}
 use Rattle.model_history.specs.declared.event.Event.{Event}
 use Rattle.model_history.specs.declared.event.Event.TheVariants as event
@@ -18,7 +18,7 @@ use Rattle.model_history.specs.Scripts.{ScriptModel}
 use Rattle.model_history.specs.EventFields.{pulls, moves}
 use Rattle.page_layers.specs.Axes.{named_in}
 use Rattle.page_layers.specs.Scrollers.{scrollers}
-use Rattle.model_history.specs.Frames.{commands_of, page_after_pulls, commanded, page, page_before, pulls_of, pending, up_to, pending_page}
+use Rattle.model_history.specs.Frames.{commands_of, page, page_before, pulls_of, pending, up_to, pending_page}
 use Rattle.model_history.specs.Scrolls.{scrollers_moved, unsent, next_pulls, clamp_move, next_clamps}
 use Rattle.model_history.specs.ScrollLaws.{clamps, AreRising}
 use Rattle.model_history.specs.FrameLaws.{AtEach}

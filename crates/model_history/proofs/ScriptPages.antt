@@ -6,12 +6,12 @@ use Rattle.pixel.specs.Colours.{is_colour}
 use Rattle.page_layers.specs.declared.command.Command.{Command}
 use Rattle.page_layers.specs.Pages.{Page, IsView}
 use Rattle.page_layers.specs.Sound.{IsPage}
-use Rattle.page_layers.specs.Effects.{page_after_command}
+use Rattle.page_layers.specs.Effects.{page_after_command, commanded}
 use Rattle.page_layers.specs.Outcomes.{Accepts}
 use Rattle.page_layers.proofs.AfterKeeps.{after-keeps, empty-page}
 use Rattle.model_history.specs.Scripts.{ScriptModel}
 use Rattle.model_history.specs.Ranges.{in_range, longest_side, head_in_range, main_in_range, inputs_in_range, is_in_ranges}
-use Rattle.model_history.specs.Frames.{blank, commanded, commands_of, page}
+use Rattle.model_history.specs.Frames.{blank, commands_of, page}
 use Rattle.model_history.specs.Accepted.{TakesAll, IsAccepted}
 use Rattle.model_history.proofs.BoolFacts.{and_left, and_right}
 use Rattle.model_history.proofs.PageFacts.{takes_frame}

@@ -16,7 +16,7 @@ use Rattle.model_history.specs.Values.{values}
 use Rattle.model_history.specs.ScrollLaws.{carried_by, frame_in_flight}
 use Rattle.model_history.specs.Accepted.{IsAccepted}
 use Rattle.model_history.specs.Legal.{Legal}
-use Rattle.model_history.proofs.PageRanges.{clamp_again}
+use Rattle.page_layers.proofs.NodeKeeps.{clamp_again}
 use Rattle.model_history.proofs.ValueSums.{Sums, sums}
 use Rattle.model_history.proofs.Offsets.{before, offset_is_value, offset_fits}
 use Rattle.model_history.proofs.Bounds.{in_its_range}

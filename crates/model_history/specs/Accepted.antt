@@ -2,11 +2,11 @@
 use Rattle.std.specs.Prelude.{◌≡◌, true, List, [], ◌∷◌}
 use Rattle.page_layers.specs.declared.command.Command.{Command}
 use Rattle.page_layers.specs.Pages.{Page}
-use Rattle.page_layers.specs.Effects.{page_after_command}
+use Rattle.page_layers.specs.Effects.{page_after_command, commanded}
 use Rattle.page_layers.specs.Outcomes.{Accepts}
 use Rattle.model_history.specs.Scripts.{ScriptModel}
 use Rattle.model_history.specs.Ranges.{is_in_ranges}
-use Rattle.model_history.specs.Frames.{blank, commanded}
+use Rattle.model_history.specs.Frames.{blank}
 
 -- the page takes these commands one after another
 abbrev pub TakesAll : Page → List Command → Type 0

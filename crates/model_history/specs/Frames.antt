@@ -6,7 +6,7 @@ use Rattle.std.specs.List.{list_any}
 use Rattle.std.specs.Ordering.{int_eq}
 use Rattle.page_layers.specs.declared.command.Command.{Command}
 use Rattle.page_layers.specs.Pages.{Page}
-use Rattle.page_layers.specs.Effects.{scrolled_by, page_after_command}
+use Rattle.page_layers.specs.Effects.{page_after_pulls, commanded}
 use Rattle.page_layers.specs.declared.moves.Move.{Move}
 use Rattle.model_history.specs.declared.history.Entry.{Entry}
 use Rattle.model_history.specs.Scripts.{ScriptModel}
@@ -28,16 +28,6 @@ blank s = record {
 -- the commands of a main frame
 abbrev pub commands_of : ScriptModel → ℕ → List Command
 commands_of s k = slice_index_or s.main k []
-
--- the page after these pulls: each is added to the main value of its scroller and clamped to its range
-abbrev pub page_after_pulls : List Move → Page → Page
-page_after_pulls [] p = p
-page_after_pulls (m ∷ ms) p = page_after_pulls ms (scrolled_by p m.scroller m.dx m.dy)
-
--- the page after these commands
-abbrev pub commanded : List Command → Page → Page
-commanded [] p = p
-commanded (c ∷ cs) p = commanded cs (page_after_command p c)
 
 -- the page after the first n frames, where `ps k` are the pulls of frame k: a frame takes its pulls, then its commands
 abbrev pub page : ScriptModel → (ℕ → List Move) → ℕ → Page

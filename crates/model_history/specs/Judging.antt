@@ -3,12 +3,12 @@ use Rattle.std.specs.Prelude.{◌≡◌, ℕ, zero, suc, List, [], ◌∷◌, Re
 use Rattle.page_layers.specs.declared.command.Command.{Command}
 use Rattle.page_layers.specs.declared.fault.EditFault.{EditFault}
 use Rattle.page_layers.specs.Pages.{Page}
-use Rattle.page_layers.specs.Effects.{page_after_command}
+use Rattle.page_layers.specs.Effects.{page_after_command, commanded}
 use Rattle.page_layers.specs.Outcomes.{Accepts, Refuses}
 use Rattle.model_history.specs.declared.script_error.ScriptError.{ScriptError}
 use Rattle.model_history.specs.declared.script_error.ScriptError.TheVariants as error
 use Rattle.model_history.specs.Scripts.{ScriptModel}
-use Rattle.model_history.specs.Frames.{blank, commanded}
+use Rattle.model_history.specs.Frames.{blank}
 use Rattle.model_history.specs.Accepted.{TakesAll, IsAccepted}
 
 -- the page takes the commands before place n one after another, and refuses the one there with this fault

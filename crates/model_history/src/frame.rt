@@ -4,9 +4,8 @@ ghost use Rattle.std.specs.Prelude.{◌≡◌, ◌-ℤ◌, not, ◌||◌, OnOk};
 ghost use Rattle.std.specs.List.{list_any};
 ghost use Rattle.std.specs.Ordering.{int_eq};
 ghost use Rattle.model_scroll_values.specs.Bounds.{IsBoundedNumber};
-ghost use Rattle.page_layers.specs.Effects.{scrolled_by};
+ghost use Rattle.page_layers.specs.Effects.{scrolled_by, page_after_pulls};
 ghost use Rattle.page_layers.specs.Axes.{named_in};
-ghost use Rattle.model_history.specs.Frames.{page_after_pulls};
 ghost use Rattle.model_history.specs.Ended.{AreBounded, TookCommands, TookFrame, StandsBefore, TookScriptFrame, Tells};
 ghost use Rattle.model_history.specs.inner.Ending.{Noted, TookCommand, IsPullOf, is_moved};
 

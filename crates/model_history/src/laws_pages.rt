@@ -9,7 +9,8 @@ ghost use Rattle.model_history.specs.EventFields.{sends};
 ghost use Rattle.model_history.specs.Scans.{counted};
 ghost use Rattle.page_layers.specs.Axes.{Axis};
 ghost use Rattle.page_layers.specs.Scrollers.{has_scroller, most, main_value};
-ghost use Rattle.model_history.specs.Frames.{commands_of, page, page_before, page_after_pulls, main_move, changes, pulls_of};
+ghost use Rattle.page_layers.specs.Effects.{page_after_pulls};
+ghost use Rattle.model_history.specs.Frames.{commands_of, page, page_before, main_move, changes, pulls_of};
 ghost use Rattle.model_history.specs.Accepted.{IsAccepted, TakesAll};
 ghost use Rattle.model_history.specs.Legal.{Legal};
 

@@ -12,12 +12,11 @@ use Rattle.page_layers.specs.Lists as layers
 use Rattle.page_layers.specs.Pages.{Page}
 use Rattle.page_layers.specs.Refusals.{has_layer}
 use Rattle.page_layers.specs.Sound.{AreDistinctLayers, IsPage}
-use Rattle.page_layers.specs.Effects.{Change, page_after_command, layer_change_of, retiles}
+use Rattle.page_layers.specs.Effects.{Change, page_after_command, layer_change_of, retiles, commanded}
 use Rattle.page_layers.specs.Contents.{size_of, is_changed_whole, KeepsTheRest}
 use Rattle.page_layers.proofs.LayerKeeps.{absent-taken, absent-without}
 use Rattle.page_layers.proofs.FoundLayers.{found-insert, found-without, found-other, found-here, found-moved}
 use Rattle.page_layers.proofs.Unlisted.{unlisted_stays}
-use Rattle.model_history.specs.Frames.{commanded}
 use Rattle.model_history.specs.Accepted.{TakesAll}
 use Rattle.model_history.specs.Stamps.{with_later, alone, with_change, with_some, with_command, changed_by}
 use Rattle.model_history.proofs.BarePages.{with_next}

@@ -56,6 +56,11 @@ pub in_range_clamped : (most : ℕ) (z : ℤ) → most ≤ 1048576 → IsInRange
 unfolding clamp_to
 in_range_clamped most z le = record { low = omega (arith, ints, clamps); high = omega (arith, ints, clamps); bounded = le }
 
+-- a clamped number is clamped to itself
+pub clamp_again : (m : ℕ) (z : ℤ) → clamp_to m (clamp_to m z) ≡ clamp_to m z
+unfolding clamp_to
+clamp_again m z = omega (arith, ints, clamps)
+
 -- the origin is in every range
 pub in_range_origin : (most : ℕ) → most ≤ 1048576 → IsInRange most (pos 0)
 in_range_origin most le = record { low = omega (arith, ints); high = omega (arith, ints); bounded = le }

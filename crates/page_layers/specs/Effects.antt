@@ -1,4 +1,4 @@
--- What each command makes of a page, and which layers it lists as changed.
+-- What commands and pulls make of a page, and which layers a command lists as changed.
 use Rattle.std.specs.Prelude.{ℕ, ℤ, pos, ◌+ℤ◌, Bool, true, false, not, ◌==◌, List, [], ◌∷◌, ◌++◌, insert, remove, slice_set, slice_get, Option, Some, None, find, option_map}
 use Rattle.geom.specs.declared.rect.Rect.{Rect}
 use Rattle.geom.specs.declared.rect.Point.{Point}
@@ -12,6 +12,7 @@ use Rattle.page_layers.specs.Layers.{PageLayer, has_id, with_size, with_colour, 
 use Rattle.page_layers.specs.Lists.{with_first_changed, without_first}
 use Rattle.page_layers.specs.Scrolls.{clamped, origin, or_origin}
 use Rattle.page_layers.specs.Pages.{Page}
+use Rattle.page_layers.specs.declared.moves.Move.{Move}
 
 -- a page with other property nodes
 abbrev pub with_props : Page → Props → Page
@@ -63,6 +64,16 @@ page_after_command p (command.RemoveItem layer at) = with_layer_changed p layer 
 page_after_command p (command.ReplaceItem layer at item) = with_layer_changed p layer (with_items (λ items. slice_set items at item))
 page_after_command p (command.MoveLayer id at) = with_layers p (with_layer_moved id at p.layers)
 page_after_command p (command.SetView w h tile) = record p { view = record { w = w; h = h; tile = tile } }
+
+-- the page after these pulls: each is added to the main value of its scroller and clamped to its range
+abbrev pub page_after_pulls : List Move → Page → Page
+page_after_pulls [] p = p
+page_after_pulls (m ∷ ms) p = page_after_pulls ms (scrolled_by p m.scroller m.dx m.dy)
+
+-- the page after these commands
+abbrev pub commanded : List Command → Page → Page
+commanded [] p = p
+commanded (c ∷ cs) p = commanded cs (page_after_command p c)
 
 -- what a command changed in one layer: all of it, or what these rects cover
 pub record Change : Type 0 where

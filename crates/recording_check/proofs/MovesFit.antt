@@ -11,7 +11,7 @@ use Rattle.page_layers.specs.declared.command.Command.{Command}
 use Rattle.page_layers.specs.declared.command.Command.TheVariants as command
 use Rattle.page_layers.specs.declared.moves.Move.{Move}
 use Rattle.page_layers.specs.Axes.{Axis, across, down, move_of, is_still, listed, named_in, with_number, with_numbers}
-use Rattle.page_layers.specs.Effects.{page_after_command}
+use Rattle.page_layers.specs.Effects.{page_after_command, commanded}
 use Rattle.page_layers.specs.Hits.{scrollers_from, nearest_scroller, chain}
 use Rattle.page_layers.specs.Layers.{PageLayer, has_id}
 use Rattle.page_layers.specs.Pages.{Page}
@@ -23,7 +23,7 @@ use Rattle.page_layers.proofs.TestFacts.{add_scroller_facts}
 use Rattle.model_history.specs.declared.history.Entry.{Entry}
 use Rattle.model_history.specs.Scripts.{ScriptModel}
 use Rattle.model_history.specs.Accepted.{IsAccepted, TakesAll}
-use Rattle.model_history.specs.Frames.{commands_of, commanded, page, page_before}
+use Rattle.model_history.specs.Frames.{commands_of, page, page_before}
 use Rattle.model_history.specs.ScrollLaws.{IsSmall, AreSmall}
 use Rattle.model_history.proofs.BarePages.{no_pulls, page_bare}
 use Rattle.model_history.proofs.PageFacts.{takes_frame}

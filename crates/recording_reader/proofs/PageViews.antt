@@ -5,10 +5,10 @@ use Rattle.page_layers.specs.declared.command.Command.{Command}
 use Rattle.page_layers.specs.declared.command.Command.TheVariants as command
 use Rattle.page_layers.specs.declared.moves.Move.{Move}
 use Rattle.page_layers.specs.declared.view.View.{View}
-use Rattle.page_layers.specs.Effects.{page_after_command}
+use Rattle.page_layers.specs.Effects.{page_after_command, page_after_pulls, commanded}
 use Rattle.page_layers.specs.Pages.{Page}
 use Rattle.model_history.specs.declared.history.Entry.{Entry}
-use Rattle.model_history.specs.Frames.{page_after_pulls, commanded, commands_of, page, pulls_of, active, active_page, up_to}
+use Rattle.model_history.specs.Frames.{commands_of, page, pulls_of, active, active_page, up_to}
 use Rattle.model_history.specs.Scripts.{ScriptModel}
 use Rattle.recording_reader.specs.Views.{view_after, view_through, views_through, first_view, views_of, view_at}
 

@@ -19,10 +19,9 @@ use Rattle.page_layers.specs.Tests.{◌>>=◌, require, check_range, is_id, is_s
 use Rattle.page_layers.specs.Scrolls.{origin, clamped}
 use Rattle.page_layers.specs.Pages.{Page}
 use Rattle.page_layers.specs.Refusals.{takes, is_offset, is_clip_rect, is_item_rect, is_scroll_range, check_scroll, add_scroller_test, add_transform_test, add_clip_test, add_effect_test, add_layer_test, insert_item_test, replace_item_test, scroll_by_test, test_of}
-use Rattle.page_layers.specs.Effects.{page_after_command}
+use Rattle.page_layers.specs.Effects.{page_after_command, commanded}
 use Rattle.page_layers.specs.Outcomes.{Accepts}
 use Rattle.model_history.specs.Accepted.{TakesAll, TakesFrames}
-use Rattle.model_history.specs.Frames.{commanded}
 use Rattle.script_generator.specs.Draws.{after_draws, drawn}
 use Rattle.script_generator.specs.Generated.{rect, opaque, drawn_item, page_commands, inserts, later_frame, later_frames, is_empty_frame, frame_draws, frames}
 use Rattle.script_generator.proofs.Ranges.{below}

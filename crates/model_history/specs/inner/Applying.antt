@@ -2,11 +2,10 @@
 use Rattle.std.specs.Prelude.{◌≡◌, ℕ, List, Result, Ok, Err, ⊤}
 use Rattle.page_layers.specs.declared.command.Command.{Command}
 use Rattle.page_layers.specs.Pages.{Page}
-use Rattle.page_layers.specs.Effects.{page_after_command}
+use Rattle.page_layers.specs.Effects.{page_after_command, commanded}
 use Rattle.page_layers.specs.Outcomes.{Accepts, Refuses}
 use Rattle.model_history.specs.declared.script_error.ScriptError.{ScriptError}
 use Rattle.model_history.specs.declared.script_error.ScriptError.TheVariants as error
-use Rattle.model_history.specs.Frames.{commanded}
 use Rattle.model_history.specs.Accepted.{TakesAll, TakesFrames}
 use Rattle.model_history.specs.Judging.{RefusedIn, RefusedAt, framed}
 

@@ -3,7 +3,8 @@ use Rattle.page_layers.specs.declared.command.Command.{Command}
 use Rattle.page_layers.specs.declared.fault.EditError.{EditError}
 use Rattle.page_layers.specs.Pages.{Page}
 use Rattle.page_layers.specs.declared.moves.Move.{Move}
-use Rattle.model_history.specs.Frames.{commands_of, page, page_before, page_after_pulls}
+use Rattle.page_layers.specs.Effects.{page_after_pulls}
+use Rattle.model_history.specs.Frames.{commands_of, page, page_before}
 use Rattle.model_history.specs.Accepted.{TakesAll}
 use Rattle.model_history.specs.Ended.{TookCommands}
 use Rattle.model_history.proofs.Exclusion.{commands_taken}

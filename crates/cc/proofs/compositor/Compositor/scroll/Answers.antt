@@ -1,7 +1,6 @@
 -- What is known of the pages and the frame after a scroll.
 use Rattle.std.proofs.Common.{◌≡◌, [], ◌∷◌, rules}
-use Rattle.page_layers.specs.Effects.{scrolled_by}
-use Rattle.model_history.specs.Frames.{page_after_pulls}
+use Rattle.page_layers.specs.Effects.{scrolled_by, page_after_pulls}
 use Rattle.cc.specs.Compositors.{amount_scrolled, move_by}
 use Rattle.cc.proofs.Pages.{committed_scrolled, shown_scrolled}
 use Rattle.cc.proofs.compositor.Compositor.scroll.Goals as goal
