@@ -118,19 +118,6 @@ pub meets_runs : (g : Sides) (area : Rect) (columns rows : IndexRange) → IsMee
     → (p : Place) → meets (rect_of_place g p) area ≡ (in_run columns p.x && in_run rows p.y)
 meets_runs g area columns rows a d p = λ i. a.meeting p.x i && d.meeting p.y i
 
--- all places are those of all columns and rows
-pub all_cells : (g : Sides) (p : Place) → has g p ≡ true
-    → true ≡ ((nat_le 0 p.x && nat_lt p.x (tiles g.w g.tile)) && (nat_le 0 p.y && nat_lt p.y (tiles g.h g.tile)))
-all_cells g p h = sym (zero_below (nat_lt p.x (tiles g.w g.tile)) (nat_lt p.y (tiles g.h g.tile)) h)
-  where
-    zero_below : (a b : Bool) → (a && b) ≡ true → ((nat_le 0 p.x && a) && (nat_le 0 p.y && b)) ≡ true
-    zero_below true true h =
-        let e : nat_le 0 p.x ≡ true = grind (arith, nat_tests) in
-        let f : nat_le 0 p.y ≡ true = grind (arith, nat_tests) in
-        rw (e, f) refl
-    zero_below true false h = cc
-    zero_below false b h = cc
-
 -- rows of the grid end within its stamps
 pub rows_fit : (g : Sides) (end wide n : ℕ) → end ≤ tiles g.h g.tile → wide ≡ tiles g.w g.tile → n ≡ tiles g.w g.tile * tiles g.h g.tile → end * wide ≤ n
 rows_fit g end wide n le e f =
@@ -138,7 +125,7 @@ rows_fit g end wide n le e f =
     let m : n ≡ wide * tiles g.h g.tile = f ∙ ap (λ w. w * tiles g.h g.tile) (sym e) in
     grind arith
 
--- what a rect and a whole grid write
+-- what a rect writes
 pub rect_written : (g : Sides) (area : Rect) (columns rows : IndexRange) (wide : ℕ) (old new : List ℕ) (stamp : ℕ) → wide ≡ tiles g.w g.tile
     → IsMeeting g.w g.tile area.x area.w columns → IsMeeting g.h g.tile area.y area.h rows
     → WritesCells wide old new (λ x y. in_run columns x && in_run rows y) stamp → WritesPlaces g old new (λ p. meets (rect_of_place g p) area) stamp
@@ -146,31 +133,6 @@ rect_written g area columns rows wide old new stamp e a d w =
     places_of_cells g old new (λ x y. in_run columns x && in_run rows y) (λ p. meets (rect_of_place g p) area) stamp
     (λ p h. meets_runs g area columns rows a d p)
     (subst (λ n. WritesCells n old new (λ x y. in_run columns x && in_run rows y) stamp) e w)
-
-pub grid_written : (g : Sides) (wide high : ℕ) (old new : List ℕ) (stamp : ℕ) → wide ≡ tiles g.w g.tile → high ≡ tiles g.h g.tile
-    → WritesCells wide old new (λ x y. (nat_le 0 x && nat_lt x wide) && (nat_le 0 y && nat_lt y high)) stamp → WritesPlaces g old new (λ _. true) stamp
-grid_written g wide high old new stamp e f w =
-    places_of_cells g old new (λ x y. (nat_le 0 x && nat_lt x (tiles g.w g.tile)) && (nat_le 0 y && nat_lt y (tiles g.h g.tile))) (λ _. true) stamp
-    (all_cells g)
-    (subst (λ n. WritesCells (tiles g.w g.tile) old new (λ x y. (nat_le 0 x && nat_lt x (tiles g.w g.tile)) && (nat_le 0 y && nat_lt y n)) stamp) f
-    (subst (λ n. WritesCells n old new (λ x y. (nat_le 0 x && nat_lt x n) && (nat_le 0 y && nat_lt y high)) stamp) e w))
-
--- the places in which a change shows
-written_alike : (g : Sides) (old new : List ℕ) (a b : Place → Bool) (stamp : ℕ) → ((p : Place) → a p ≡ b p) → WritesPlaces g old new a stamp → WritesPlaces g old new b stamp
-written_alike g old new a b stamp same w = record {
-  long = w.long;
-  each = λ p h. w.each p h ∙ ap (λ t. cond t stamp (get_or old (index_of g p) 0)) (same p);
-}
-
-pub whole_shows : (g : Sides) (old new : List ℕ) (c : LayerChange) (stamp : ℕ) → c.whole ≡ true
-    → WritesPlaces g old new (λ _. true) stamp → WritesPlaces g old new (λ p. shows_in c (rect_of_place g p)) stamp
-whole_shows g old new c stamp e w =
-    written_alike g old new (λ _. true) (λ p. shows_in c (rect_of_place g p)) stamp (λ p. ap (λ b. b || touched c.region (rect_of_place g p)) (sym e)) w
-
-pub part_shows : (g : Sides) (old new : List ℕ) (c : LayerChange) (stamp : ℕ) → c.whole ≡ false
-    → WritesPlaces g old new (λ p. touched c.region (rect_of_place g p)) stamp → WritesPlaces g old new (λ p. shows_in c (rect_of_place g p)) stamp
-part_shows g old new c stamp e w =
-    written_alike g old new (λ p. touched c.region (rect_of_place g p)) (λ p. shows_in c (rect_of_place g p)) stamp (λ p. ap (λ b. b || touched c.region (rect_of_place g p)) (sym e)) w
 
 -- one rect more
 
@@ -224,11 +186,3 @@ index_below g p h =
 
 pub uniform : (g : Sides) (stamp : ℕ) (p : Place) → has g p ≡ true → get_or (replicate (tiles g.w g.tile * tiles g.h g.tile) stamp) (index_of g p) 0 ≡ stamp
 uniform g stamp p h = get_or-replicate (tiles g.w g.tile * tiles g.h g.tile) (index_of g p) stamp 0 (index_below g p h)
-
-pub fresh : (g : Sides) (stamp : ℕ) (stamps : List ℕ) → stamps ≡ replicate (tiles g.w g.tile * tiles g.h g.tile) stamp
-    → HasStamps (record { grid = g; stamps = stamps }) g (λ _. stamp)
-fresh g stamp stamps e = record {
-  grid = refl;
-  whole = ap length e ∙ length-replicate (tiles g.w g.tile * tiles g.h g.tile) stamp;
-  places = λ p h. ap (λ ss. get_or ss (index_of g p) 0) e ∙ uniform g stamp p h;
-}

@@ -5,8 +5,10 @@
 //! a pixel in the place. A tile's key names the layer, the place and the stamp, so a picture that was made
 //! under a key is right for as long as the key is the key of its place.
 //!
-//! The stamps of a whole layer of 16384 by 16384 pixels at tiles of 16 take 4 MiB. To carry a change costs
-//! the places that it touches, not the places of the layer.
+//! While all places have one stamp, as in a layer that was added or resized, that one stands for all, and the
+//! room for the others is reserved and not written. The first change of a part writes the stamps of all places:
+//! 4 MiB for a layer of 16384 by 16384 pixels at tiles of 16. To carry a later one costs the places that it
+//! touches, not the places of the layer.
 #![tactic(auto)]
 
 mod laws;

@@ -1,35 +1,57 @@
 //! The stamps of a grid's places, by row and then by column.
 
-ghost use Rattle.std.specs.Prelude.{◌≡◌, ◌<◌, ◌≤◌, ◌*◌, Bool, true, ◌&&◌, IfOk, All, if◌then◌else◌, length, map, replicate};
+ghost use Rattle.std.specs.Prelude.{◌≡◌, ◌<◌, ◌≤◌, ◌*◌, [], ◌&&◌, IfOk, All, length, map, slice_index, vec_capacity};
 ghost use Rattle.geom.specs.Covers.{IsSound};
 ghost use Rattle.geom.specs.Common.{meets};
 ghost use Rattle.geom.specs.Grids.{tiles, rect_of_place};
 ghost use Rattle.region.specs.Points.{touched};
-ghost use Rattle.tile_tiling.specs.Tiles.{key_of, shows_in, IsWhole};
+ghost use Rattle.tile_tiling.specs.Tiles.{key_of, index_of, IsWhole};
+ghost use Rattle.tile_tiling.specs.inner.Kept.{stamps_of, IsKept};
 ghost use Rattle.tile_tiling.specs.inner.Writes.{WritesPlaces, WritesCells, WritesRow, in_run};
 
 use geom::{Grid, IndexRange, Place, Rect, TileKey};
-use region::LayerChange;
 use std::alloc::{AllocError, Global};
 
-/// One stamp for all places of the grid.
-pub(crate) fn all_stamps(alloc: Global, grid: Grid, stamp: u32) -> Result<Vec<u32>, AllocError>
-    ensures { IfOk result (λ stamps. stamps.items ≡ replicate (tiles grid.w grid.tile * tiles grid.h grid.tile) stamp) }
+// How many places the grid has.
+fn place_count(grid: Grid) -> usize
+    ensures { result ≡ tiles grid.w grid.tile * tiles grid.h grid.tile }
 {
-    let places = grid.columns() as usize * grid.rows() as usize;
-    vec![in alloc; stamp; places]
+    grid.columns() as usize * grid.rows() as usize
 }
 
-/// The key of a place, with stamp 0 where the grid does not have it.
-pub(crate) fn key_in(stamps: &[u32], grid: Grid, layer: u32, place: Place) -> TileKey
-    ensures { result ≡ key_of (record { grid = grid; stamps = stamps.now }) layer place }
+/// No stamps, with room for one for each place of the grid. An error means out of memory.
+pub(crate) fn room_for(alloc: Global, grid: Grid) -> Result<Vec<u32>, AllocError>
+    ensures none { IfOk result (λ stamps. stamps.items ≡ []) }
+    ensures room { IfOk result (λ stamps. tiles grid.w grid.tile * tiles grid.h grid.tile ≤ vec_capacity stamps) }
+{
+    Vec::with_capacity(alloc, place_count(grid))
+}
+
+/// Gives each place a stamp of its own, where one stands for all. There is room: it takes no memory.
+pub(crate) fn spread(stamps: &mut Vec<u32>, grid: Grid, base: u32)
+    requires { IsKept grid stamps.old.items (vec_capacity stamps.old) }
+    ensures whole { IsWhole grid stamps.new.items }
+    ensures same { stamps.new.items ≡ stamps_of grid base stamps.old.items }
+{
+    if stamps.is_empty() {
+        match stamps.resize(place_count(grid), base) {
+            Ok(()) => (),
+            Err(_) => unreachable!(),
+        }
+    }
+}
+
+/// The stamp of a place, 0 where the grid does not have it. While there are no stamps, `base` stands for all.
+pub(crate) fn stamp_in(stamps: &[u32], base: u32, grid: Grid, place: Place) -> u32
+    ensures { result ≡ slice_index (stamps_of grid base stamps.now) (index_of grid place) }
 {
     let index = place.y as usize * grid.columns() as usize + place.x as usize;
-    TileKey {
-        layer,
-        x: place.x,
-        y: place.y,
-        stamp: stamps.get(index).copied().unwrap_or(0),
+    if !stamps.is_empty() {
+        stamps.get(index).copied().unwrap_or(0)
+    } else if index < place_count(grid) {
+        base
+    } else {
+        0
     }
 }
 
@@ -37,52 +59,28 @@ pub(crate) fn key_in(stamps: &[u32], grid: Grid, layer: u32, place: Place) -> Ti
 pub(crate) fn keys_in(
     alloc: Global,
     stamps: &[u32],
+    base: u32,
     grid: Grid,
     layer: u32,
     places: &[Place],
 ) -> Result<Vec<TileKey>, AllocError>
-    ensures { IfOk result (λ keys. keys.items ≡ map (key_of (record { grid = grid; stamps = stamps.now }) layer) places.now) }
+    ensures { IfOk result (λ keys. keys.items ≡ map (key_of (record { grid = grid; stamps = stamps_of grid base stamps.now }) layer) places.now) }
 {
     let mut keys = Vec::with_capacity(alloc, places.len())?;
     for place in places {
-        keys.push(key_in(stamps, grid, layer, *place))?;
+        let stamp = stamp_in(stamps, base, grid, *place);
+        keys.push(TileKey {
+            layer,
+            x: place.x,
+            y: place.y,
+            stamp,
+        })?;
     }
     Ok(keys)
 }
 
-/// Writes the stamp at the places in which the change shows.
-#[tactic(auto, using(crate::proofs::Cells::whole_shows, crate::proofs::Cells::part_shows))]
-pub(crate) fn stamp_change(stamps: &mut Vec<u32>, grid: Grid, change: &LayerChange, stamp: u32)
-    requires { IsWhole grid stamps.old.items }
-    ensures { WritesPlaces grid stamps.old.items stamps.new.items (λ p. shows_in change.now (rect_of_place grid p)) stamp }
-{
-    if change.whole {
-        stamp_all(stamps, grid, stamp)
-    } else {
-        stamp_rects(stamps, grid, change.region.rects(), stamp)
-    }
-}
-
-// writes the stamp at all places
-#[tactic(auto, using(crate::proofs::Cells::rows_fit, crate::proofs::Cells::grid_written))]
-fn stamp_all(stamps: &mut Vec<u32>, grid: Grid, stamp: u32)
-    requires { IsWhole grid stamps.old.items }
-    ensures { WritesPlaces grid stamps.old.items stamps.new.items (λ _. true) stamp }
-{
-    let wide = grid.columns();
-    let columns = IndexRange {
-        first: 0,
-        end: wide,
-    };
-    let rows = IndexRange {
-        first: 0,
-        end: grid.rows(),
-    };
-    stamp_block(stamps, wide, columns, rows, stamp);
-}
-
-// writes the stamp at the places that the rects touch
-fn stamp_rects(stamps: &mut Vec<u32>, grid: Grid, rects: &[Rect], stamp: u32)
+/// Writes the stamp at the places that the rects touch.
+pub(crate) fn stamp_rects(stamps: &mut Vec<u32>, grid: Grid, rects: &[Rect], stamp: u32)
     requires whole { IsWhole grid stamps.old.items }
     requires sound { All IsSound rects.now }
     ensures { WritesPlaces grid stamps.old.items stamps.new.items (λ p. touched rects.now (rect_of_place grid p)) stamp }

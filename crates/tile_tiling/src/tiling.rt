@@ -1,11 +1,12 @@
 //! A grid with a stamp for each place.
 
-ghost use Rattle.std.specs.Prelude.{◌≡◌, IsTrue, OnOk, OnErr, IfOk, map};
+ghost use Rattle.std.specs.Prelude.{◌≡◌, IsTrue, OnOk, OnErr, IfOk, All, if◌then◌else◌, map};
 ghost use Rattle.geom.specs.Covers.{IsSound};
-ghost use Rattle.geom.specs.Grids.{has, places_touching};
-ghost use Rattle.tile_tiling.specs.Tiles.{key_of, HasStamps, IsCarried};
+ghost use Rattle.geom.specs.Grids.{has, places_touching, rect_of_place};
+ghost use Rattle.region.specs.Points.{touched};
+ghost use Rattle.tile_tiling.specs.Tiles.{key_of, stamp_at, HasStamps, IsCarried};
 
-use crate::stamps::{all_stamps, key_in, keys_in, stamp_change};
+use crate::stamps::{keys_in, room_for, spread, stamp_in, stamp_rects};
 use geom::{Grid, Place, Rect, TileKey};
 use region::LayerChange;
 use std::alloc::{AllocError, Global};
@@ -15,18 +16,23 @@ use std::marker::Model;
 #[derive(Drop)]
 pub struct Tiling {
     grid: Grid,
-    // by row and then by column
+    // the stamp of every place, while `stamps` is empty
+    base: u32,
+    // the stamp of each place, by row and then by column, once a part of the layer has changed; until then
+    // empty, with room for all
     stamps: Vec<u32>,
 }
 
 impl Model for Tiling {
-    ghost use Rattle.tile_tiling.specs.Tiles.{Tiled, IsWhole};
+    ghost use Rattle.std.specs.Vec.{vec_capacity};
+    ghost use Rattle.tile_tiling.specs.Tiles.{Tiled};
+    ghost use Rattle.tile_tiling.specs.inner.Kept.{stamps_of, IsKept};
 
     ghost Value = { Tiled };
 
-    ghost view = { λ t. record { grid = t.grid; stamps = t.stamps.items } };
+    ghost view = { λ t. record { grid = t.grid; stamps = stamps_of t.grid t.base t.stamps.items } };
 
-    ghost invariant = { λ t. IsWhole t.grid t.stamps.items };
+    ghost invariant = { λ t. IsKept t.grid t.stamps.items (vec_capacity t.stamps) };
 }
 
 impl Tiling {
@@ -34,8 +40,12 @@ impl Tiling {
     pub fn new(alloc: Global, grid: Grid, stamp: u32) -> Result<Tiling, AllocError>
         ensures { IfOk result (λ t. HasStamps t grid (λ _. stamp)) }
     {
-        let stamps = all_stamps(alloc, grid, stamp)?;
-        Ok(Tiling { grid, stamps })
+        let stamps = room_for(alloc, grid)?;
+        Ok(Tiling {
+            grid,
+            base: stamp,
+            stamps,
+        })
     }
 
     /// Cuts the layer anew, with this stamp for all places. An error means out of memory, and the tiling is as
@@ -44,8 +54,12 @@ impl Tiling {
         ensures ok { OnOk result (HasStamps self.new grid (λ _. stamp)) }
         ensures err { OnErr result (self.new ≡ self.old) }
     {
-        let stamps = all_stamps(*self.stamps.allocator(), grid, stamp)?;
-        *self = Tiling { grid, stamps };
+        let stamps = room_for(*self.stamps.allocator(), grid)?;
+        *self = Tiling {
+            grid,
+            base: stamp,
+            stamps,
+        };
         Ok(())
     }
 
@@ -53,11 +67,33 @@ impl Tiling {
     pub fn copy(&self) -> Result<Tiling, AllocError>
         ensures { IfOk result (λ t. t ≡ self.now) }
     {
-        let stamps = self.stamps.clone()?;
+        let stamps = if self.stamps.is_empty() {
+            room_for(*self.stamps.allocator(), self.grid)?
+        } else {
+            self.stamps.clone()?
+        };
         Ok(Tiling {
             grid: self.grid,
+            base: self.base,
             stamps,
         })
+    }
+
+    // Gives this stamp to all places.
+    fn carry_all(&mut self, stamp: u32)
+        ensures { HasStamps self.new self.old.grid (λ _. stamp) }
+    {
+        self.base = stamp;
+        self.stamps.clear();
+    }
+
+    // Gives this stamp to the places that the rects touch.
+    fn carry_rects(&mut self, rects: &[Rect], stamp: u32)
+        requires { All IsSound rects.now }
+        ensures { HasStamps self.new self.old.grid (λ p. if touched rects.now (rect_of_place self.old.grid p) then stamp else stamp_at self.old p) }
+    {
+        spread(&mut self.stamps, self.grid, self.base);
+        stamp_rects(&mut self.stamps, self.grid, rects, stamp);
     }
 
     /// Gives this stamp to the places that the change's region touches, or to all where the layer changed
@@ -65,7 +101,11 @@ impl Tiling {
     pub fn carry(&mut self, change: &LayerChange, stamp: u32)
         ensures { IsCarried self.old change.now stamp self.new }
     {
-        stamp_change(&mut self.stamps, self.grid, change, stamp);
+        if change.whole {
+            self.carry_all(stamp)
+        } else {
+            self.carry_rects(change.region.rects(), stamp)
+        }
     }
 
     /// The key of a place, which the grid is to have.
@@ -73,7 +113,17 @@ impl Tiling {
         requires { IsTrue (has self.now.grid place) }
         ensures { result ≡ key_of self.now layer place }
     {
-        key_in(&self.stamps, self.grid, layer, place)
+        let stamp = if self.stamps.is_empty() {
+            self.base
+        } else {
+            stamp_in(&self.stamps, self.base, self.grid, place)
+        };
+        TileKey {
+            layer,
+            x: place.x,
+            y: place.y,
+            stamp,
+        }
     }
 
     /// The keys of the places that share a point with `area`, by row and then by column. An error means out
@@ -84,6 +134,6 @@ impl Tiling {
     {
         let alloc = *self.stamps.allocator();
         let places = self.grid.places_touching(alloc, area)?;
-        keys_in(alloc, &self.stamps, self.grid, layer, &places)
+        keys_in(alloc, &self.stamps, self.base, self.grid, layer, &places)
     }
 }

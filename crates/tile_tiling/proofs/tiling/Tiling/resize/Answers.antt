@@ -1,5 +1,9 @@
-use Rattle.tile_tiling.proofs.Cells.{fresh}
+use Rattle.std.proofs.Common.{refl}
+use Rattle.tile_tiling.specs.inner.Kept.{stamps_of}
+use Rattle.tile_tiling.proofs.Keeping.{base_for_all}
 use Rattle.tile_tiling.proofs.tiling.Tiling.resize.Goals as goal
 
 pub returns-clause-ok : goal.returns-clause-ok
-returns-clause-ok c = fresh c.args.grid c.args.stamp c.in_ok-stamps.stamps.items c.in_ok-stamps.ensures
+returns-clause-ok c =
+    let stamps = c.in_ok-stamps.stamps.items in
+    base_for_all (record { grid = c.args.grid; stamps = stamps_of c.args.grid c.args.stamp stamps }) c.args.grid c.args.stamp stamps c.in_ok-stamps.ensures.none refl
