@@ -1,9 +1,11 @@
 -- How many of the ready tiles may be evicted, and the best of some ranks.
 use Rattle.std.proofs.Common.{◌≡◌, inl, inr, ℕ, suc, ◌+◌, ◌<◌, Bool, true, false, cond, not, ◌&&◌, ◌||◌, Option, Some, None, List, [], ◌∷◌, ◌++◌, length, get_or, take, map, filter, refl, sym, ◌∙◌, ap, subst, arith, append-nil}
+use Rattle.std.specs.Prelude.{nat_le, ◌==◌}
 use Rattle.std.specs.List.{find}
 use Rattle.std.specs.FinMap as fin
 use Rattle.std.specs.declared.cmp.Ordering.{Ordering}
 use Rattle.std.specs.declared.cmp.Ordering.TheVariants.{Less, Equal, Greater}
+use Rattle.std.proofs.lemmas.Bool.Decides.{nat_tests}
 use Rattle.std.proofs.lemmas.List.{length-map}
 use Rattle.std.proofs.lemmas.List.Elements.{filter_more}
 use Rattle.geom.specs.declared.tile.TileKey.{TileKey}
@@ -56,6 +58,22 @@ best_more f rs i d best lt old = by_test (f (get_or rs i d)) ∙ sym (ap least_o
     by_test : (b : Bool) → cond b (least (Some (get_or rs i d)) best) best ≡ least_of (filter f (take i rs) ++ cond b (get_or rs i d ∷ []) [])
     by_test true = ap (least (Some (get_or rs i d))) old ∙ least_same (get_or rs i d ∷ filter f (take i rs)) (filter f (take i rs) ++ get_or rs i d ∷ []) (behind (get_or rs i d) (filter f (take i rs)))
     by_test false = old ∙ ap least_of (sym (append-nil (filter f (take i rs))))
+
+-- a rank that comes before another is the better of the two
+pub beaten : (a b : Rank) (o : Option Rank) (c : Ordering) → o ≡ Some b → c ≡ rank_cmp b a → c ≡ Less → least (Some a) o ≡ o
+beaten a b o c is told e = ap (least (Some a)) is ∙ ap (λ d. at_order d (Some b) (Some a) (Some a)) (sym told ∙ e) ∙ sym is
+
+-- there are always as many as none
+pub none_needed : (n m : ℕ) → n ≡ 0 → true ≡ nat_le n m
+none_needed n m e = grind (arith, nat_tests)
+
+pub none_needed_told : (n m : ℕ) → (n == 0) ≡ true → true ≡ nat_le n m
+none_needed_told n m e = grind (arith, nat_tests)
+
+-- what stands whichever way a test goes
+pub stands_either : (b : Bool) (x o : Option Rank) → x ≡ o → o ≡ cond b x o
+stands_either true x o e = sym e
+stands_either false x o e = refl
 
 -- as many pass a test as pass it with another and without it
 

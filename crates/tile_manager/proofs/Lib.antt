@@ -11,3 +11,4 @@ pub mod AmongRanks
 pub mod Counts
 pub mod AlikeChoices
 pub mod SeenOutlooks
+pub mod ReadyRanks

@@ -122,5 +122,8 @@ pub fn has_near(keys: &[TileKey], near: &mut usize, key: TileKey) -> bool
         *near = near.wrapping_add(1);
         return true;
     }
+    if is_missing_at(keys, *near, key) {
+        return false;
+    }
     has_behind(keys, near, key)
 }

@@ -49,28 +49,40 @@ pub(crate) fn is_made_now(store: &TileStore, in_flight: u32, key: TileKey) -> bo
     store.in_flight(key)
 }
 
-/// Those of the ranks whose keys are neither ready, which are these keys in key order, nor being made, of which
-/// there are the given number. An error means out of memory.
-pub(crate) fn missing(
+/// Ranks in two parts.
+#[derive(Drop)]
+pub(crate) struct PartedRanks {
+    /// those whose keys are neither ready nor being made
+    pub(crate) missing: Vec<Rank>,
+    /// those whose keys are ready
+    pub(crate) ready: Vec<Rank>,
+}
+
+/// The ranks whose keys are neither ready, which are these keys in key order, nor being made, of which there are the
+/// given number, and the ranks whose keys are ready. An error means out of memory.
+pub(crate) fn parted(
     alloc: Global,
     store: &TileStore,
     in_flight: u32,
-    ready: &[TileKey],
+    keys: &[TileKey],
     ranks: &[Rank],
-) -> Result<Vec<Rank>, AllocError>
-    requires order { IsSorted key_cmp ready.now }
+) -> Result<PartedRanks, AllocError>
+    requires order { IsSorted key_cmp keys.now }
     requires none { in_flight ≡ 0 → (q : Key) → is_in_flight store.now q ≡ false }
-    ensures { IfOk result (λ missing. missing.items ≡ filter (λ r. not (has_key ready.now r.key) && not (is_in_flight store.now r.key)) ranks.now) }
+    ensures missing { IfOk result (λ parts. parts.missing.items ≡ filter (λ r. not (has_key keys.now r.key) && not (is_in_flight store.now r.key)) ranks.now) }
+    ensures ready { IfOk result (λ parts. parts.ready.items ≡ filter (λ r. has_key keys.now r.key) ranks.now) }
 {
-    let mut missing = Vec::new(alloc);
+    let mut missing = Vec::with_capacity(alloc, ranks.len())?;
+    let mut ready = Vec::with_capacity(alloc, keys.len())?;
     let mut near = 0;
     for rank in ranks {
-        let is_ready = has_near(ready, &mut near, rank.key);
-        if !is_ready && !is_made_now(store, in_flight, rank.key) {
+        if has_near(keys, &mut near, rank.key) {
+            ready.push(*rank)?;
+        } else if !is_made_now(store, in_flight, rank.key) {
             missing.push(*rank)?;
         }
     }
-    Ok(missing)
+    Ok(PartedRanks { missing, ready })
 }
 
 // Where the rank of a key stands among ranks in the order of their keys.

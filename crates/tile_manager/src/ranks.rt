@@ -4,7 +4,7 @@
 //! as they come, in no order. A question that comes before a queue is made goes through them once, and takes no
 //! memory.
 
-ghost use Rattle.std.specs.Prelude.{◌≡◌, ◌+◌, ◌-◌, cond, map, filter, length, take, Some, option_map, IfOk};
+ghost use Rattle.std.specs.Prelude.{◌≡◌, ◌+◌, ◌-◌, nat_le, true, cond, map, filter, length, take, Some, option_map, IfOk};
 ghost use Rattle.std.specs.FinSet as set;
 ghost use Rattle.geom.specs.KeyLists.{AreDistinctKeys};
 ghost use Rattle.tile_priority.specs.declared.rank.Rank.{Rank as Ranking};
@@ -17,11 +17,12 @@ ghost use Rattle.tile_priority.specs.Alike.{Alike};
 ghost use Rattle.tile_queue.specs.Queues.{rank_key, AreEvictedFor};
 ghost use Rattle.tile_manager.specs.Choices.{store_lacks, choice_among};
 
-use crate::picks::{in_key_order, is_made_now, missing, ready_tiles};
+use crate::picks::{in_key_order, is_made_now, parted, ready_tiles};
 use crate::pins::Pins;
 use crate::stays::{ready_count, staying, unpinned};
 use geom::{Keys, TileKey};
 use std::alloc::AllocError;
+use std::cmp::Ordering;
 use std::marker::Model;
 use tile_priority::{Bin, Rank, least};
 use tile_queue::RasterQueue;
@@ -64,7 +65,18 @@ fn is_missing(store: &TileStore, near: &mut usize, in_flight: u32, key: TileKey)
     !is_ready && !is_made_now(store, in_flight, key)
 }
 
-// The better of a rank, where its key is missing, and another. `near` and `in_flight` are as in `store_lacks`.
+// Whether another rank is seen to be the better one.
+fn is_beaten(rank: Rank, other: Option<Rank>) -> bool
+    ensures { result ≡ true → ranks.least (Some rank) other ≡ other }
+{
+    match other {
+        None => false,
+        Some(best) => best.cmp(&rank) == Ordering::Less,
+    }
+}
+
+// The better of a rank, where its key is missing, and another. `near` and `in_flight` are as in `is_missing`. Where
+// the other is better anyway, the key is not looked for.
 fn better(
     store: &TileStore,
     near: &mut usize,
@@ -75,7 +87,9 @@ fn better(
     requires { in_flight ≡ set.len store.now.in_flight }
     ensures { result ≡ cond (store_lacks store.now rank.key) (ranks.least (Some rank) other) other }
 {
-    if is_missing(store, near, in_flight, rank.key) {
+    if is_beaten(rank, other) {
+        other
+    } else if is_missing(store, near, in_flight, rank.key) {
         least(Some(rank), other)
     } else {
         other
@@ -83,7 +97,7 @@ fn better(
 }
 
 // The best of the ranks whose keys are neither ready nor being made. They stand nearly in the order of their
-// keys, so that most are found or missed without a search.
+// keys, so that most of those that are looked for are found or missed without a search.
 fn best_missing(store: &TileStore, ranks: &[Rank]) -> Option<Rank>
     ensures { result ≡ least_of (filter (λ r. store_lacks store.now r.key) ranks.now) }
 {
@@ -113,14 +127,15 @@ impl Ranks {
         let alloc = *self.ranks.allocator();
         let keys = store.ready_keys()?;
         let in_flight = store.used() - keys.len() as u32;
-        let wanted = missing(
+        let parts = parted(
             alloc,
             store,
             in_flight,
             keys.as_slice(),
             self.ranks.as_slice(),
         )?;
-        let by_key = in_key_order(Vec::from_slice(alloc, self.ranks.as_slice())?);
+        let wanted = parts.missing;
+        let by_key = in_key_order(parts.ready);
         let ready = ready_tiles(alloc, by_key.as_slice(), keys.as_slice(), pins)?;
         let mut queue = RasterQueue::new(alloc);
         queue.rebuild(wanted.as_slice(), ready.as_slice(), in_flight, self.budget)?;
@@ -184,6 +199,18 @@ impl Ranks {
         unpinned(store, pins) - staying(store, pins, self.ranks.as_slice(), bin)
     }
 
+    // Whether at least this many of the ready tiles may be evicted for a tile of this bin. They are not counted
+    // where none has to be.
+    #[tactic(auto, using(crate::proofs::Counts::none_needed, crate::proofs::Counts::none_needed_told))]
+    fn has_for(&self, store: &TileStore, pins: &Pins, bin: Bin, many: usize) -> bool
+        ensures { result ≡ nat_le many (length (filter (gives_way bin) (choice_among store.now pins.now self.now).ready)) }
+    {
+        if many == 0 {
+            return true;
+        }
+        many <= self.evictables(store, pins, bin)
+    }
+
     // Whether a missing tile of this bin may start.
     fn may_start(&self, store: &TileStore, pins: &Pins, bin: Bin) -> bool
         ensures { (q : Ranking) → q.bin ≡ bin → result ≡ choosing.may_start (choice_among store.now pins.now self.now) q }
@@ -191,7 +218,8 @@ impl Ranks {
         match bin {
             Bin::Now => true,
             Bin::Soon | Bin::Eventually => {
-                self.over_budget(store, pins) <= self.evictables(store, pins, bin)
+                let over = self.over_budget(store, pins);
+                self.has_for(store, pins, bin, over)
             }
         }
     }

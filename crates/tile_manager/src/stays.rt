@@ -40,11 +40,21 @@ pub(crate) fn unpinned(store: &TileStore, pins: &Pins) -> usize
     count
 }
 
-// Whether the rank is of a ready key that is not pinned, and of this bin or a better one.
-fn stays(store: &TileStore, pins: &Pins, rank: Rank, bin: Bin) -> bool
+// Whether the rank is of a ready key that is not pinned, and of this bin or a better one. The key is looked for among
+// the pinned keys at `pin_near` first, and among the ready keys at `near`.
+fn stays(
+    store: &TileStore,
+    near: &mut usize,
+    pins: &Pins,
+    pin_near: &mut usize,
+    rank: Rank,
+    bin: Bin,
+) -> bool
     ensures { result ≡ stays_for store.now pins.now bin rank }
 {
-    rank.bin <= bin && !pins.has(rank.key) && store.ready(rank.key).is_some()
+    rank.bin <= bin
+        && !pins.has_near(pin_near, rank.key)
+        && store.ready_near(near, rank.key).is_some()
 }
 
 /// How many of the ranks are of ready keys that are not pinned and still stay for a tile of this bin.
@@ -52,8 +62,10 @@ pub(crate) fn staying(store: &TileStore, pins: &Pins, ranks: &[Rank], bin: Bin) 
     ensures { result ≡ length (filter (stays_for store.now pins.now bin) ranks.now) }
 {
     let mut count = 0;
+    let mut near = 0;
+    let mut pin_near = 0;
     for at in 0..ranks.len() {
-        if stays(store, pins, ranks[at], bin) {
+        if stays(store, &mut near, pins, &mut pin_near, ranks[at], bin) {
             count += 1;
         }
     }

@@ -12,5 +12,6 @@ returns-in-Now c = λ q e. sym (starts_now (choice_among c.args.store.now c.args
 pub returns-in-Soon : goal.returns-in-Soon
 returns-in-Soon c = λ q e.
     let now = choice_among c.args.store.now c.args.pins.now c.args.self.now in
-    let count = c.evictables.ensures ∙ (ap (λ b. length (filter (gives_way b) now.ready)) (sym e) ∙ sym (worst_count c.args.store.now c.args.pins.now c.args.self.now q)) in
-    starts_if now q c.args.bin c.over_budget.result c.evictables.result e (not_now c.args.bin c.in-Soon.is) c.over_budget.ensures count
+    let many = length (filter (gives_way c.args.bin) now.ready) in
+    let count = ap (λ b. length (filter (gives_way b) now.ready)) (sym e) ∙ sym (worst_count c.args.store.now c.args.pins.now c.args.self.now q) in
+    c.has_for.ensures ∙ starts_if now q c.args.bin c.over_budget-over.result many e (not_now c.args.bin c.in-Soon.is) c.over_budget-over.ensures count

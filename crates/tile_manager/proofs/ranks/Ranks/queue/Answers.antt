@@ -13,6 +13,7 @@ use Rattle.tile_manager.proofs.AmongRanks.{missing_ranks, missing_by, each_key_o
 use Rattle.tile_manager.proofs.KeyOrders.{in_order_sorted}
 use Rattle.tile_manager.proofs.RankedKeys.{ordered_members}
 use Rattle.tile_manager.proofs.ReadyKeys.{keys_in_order, keys_count}
+use Rattle.tile_manager.proofs.ReadyRanks.{ranks_of, ranks_of_once, tiles_of}
 use Rattle.tile_manager.proofs.ranks.Ranks.queue.Goals as goal
 
 pub overflow_cast-in_flight : goal.overflow_cast-in_flight
@@ -27,11 +28,11 @@ overflow_sub-in_flight c =
     let u = c.used.ensures in
     omega (arith, l, u)
 
-pub missing-requires-clause-order : goal.missing-requires-clause-order
-missing-requires-clause-order c = subst (IsSorted key_cmp) (sym (c.as_slice.ensures ∙ c.in_ok-keys.ensures)) (in_order_sorted (fin.keys c.args.store.now.ready) (keys_in_order c.args.store.now))
+pub parted-requires-clause-order : goal.parted-requires-clause-order
+parted-requires-clause-order c = subst (IsSorted key_cmp) (sym (c.as_slice.ensures ∙ c.in_ok-keys.ensures)) (in_order_sorted (fin.keys c.args.store.now.ready) (keys_in_order c.args.store.now))
 
-pub missing-requires-clause-none : goal.missing-requires-clause-none
-missing-requires-clause-none c = λ e.
+pub parted-requires-clause-none : goal.parted-requires-clause-none
+parted-requires-clause-none c = λ e.
     let l : c.len.result ≡ fin.len c.args.store.now.ready = c.len.ensures ∙ (ap length c.in_ok-keys.ensures ∙ keys_count c.args.store.now) in
     let u = c.used.ensures in
     none_flies c.args.store.now (omega (arith, l, u, e))
@@ -43,13 +44,14 @@ rebuild-requires c =
     let rs = c.self.inside.ranks.items in
     let once = c.self.invariant in
     let keys = c.as_slice.ensures ∙ c.in_ok-keys.ensures in
-    let w = c.as_slice-6.ensures.value ∙ (c.in_ok-wanted.ensures ∙ (missing_by store c.as_slice.result.now c.as_slice-2.result.now keys ∙ ap (missing_ranks store) c.as_slice-2.ensures.value)) in
-    let copied = c.in_ok-from_slice.ensures.items ∙ c.as_slice-3.ensures.value in
+    let w = c.as_slice-5.ensures.value ∙ (c.in_ok-parts.ensures.missing ∙ (missing_by store c.as_slice.result.now c.as_slice-2.result.now keys ∙ ap (missing_ranks store) c.as_slice-2.ensures.value)) in
+    let ks = fin.keys store.ready in
+    let picked : c.in_ok-parts.parts.ready.items ≡ ranks_of ks rs = c.in_ok-parts.ensures.ready ∙ (λ i. ranks_of (keys i) (c.as_slice-2.ensures.value i)) in
     let members =
-    ordered_members c.in_ok-from_slice.field-0.items c.in_key_order-by_key.result.items c.as_slice-4.result.now rs c.in_key_order-by_key.ensures.same c.as_slice-4.ensures.value
-    (subst (λ (xs : List Rank). SameMembers xs rs) (sym copied) (same_itself rs)) in
-    let t = c.as_slice-7.ensures.value ∙ (c.in_ok-ready.ensures rs once members ∙ ap (map (tile_among rs pins)) (c.as_slice-5.ensures ∙ c.in_ok-keys.ensures)) in
-    each_key_once store pins rs c.as_slice-6.result.now c.as_slice-7.result.now once w t
+    ordered_members c.in_ok-parts.parts.ready.items c.in_key_order-by_key.result.items c.as_slice-3.result.now (ranks_of ks rs) c.in_key_order-by_key.ensures.same c.as_slice-3.ensures.value
+    (subst (λ (xs : List Rank). SameMembers xs (ranks_of ks rs)) (sym picked) (same_itself (ranks_of ks rs))) in
+    let t = c.as_slice-6.ensures.value ∙ (c.in_ok-ready.ensures (ranks_of ks rs) (ranks_of_once ks rs once) members ∙ (ap (map (tile_among (ranks_of ks rs) pins)) (c.as_slice-4.ensures ∙ c.in_ok-keys.ensures) ∙ tiles_of ks pins rs)) in
+    each_key_once store pins rs c.as_slice-5.result.now c.as_slice-6.result.now once w t
 
 pub returns : goal.returns
 returns c =
@@ -58,12 +60,13 @@ returns c =
     let rs = c.self.inside.ranks.items in
     let once = c.self.invariant in
     let keys = c.as_slice.ensures ∙ c.in_ok-keys.ensures in
-    let w = c.as_slice-6.ensures.value ∙ (c.in_ok-wanted.ensures ∙ (missing_by store c.as_slice.result.now c.as_slice-2.result.now keys ∙ ap (missing_ranks store) c.as_slice-2.ensures.value)) in
-    let copied = c.in_ok-from_slice.ensures.items ∙ c.as_slice-3.ensures.value in
+    let w = c.as_slice-5.ensures.value ∙ (c.in_ok-parts.ensures.missing ∙ (missing_by store c.as_slice.result.now c.as_slice-2.result.now keys ∙ ap (missing_ranks store) c.as_slice-2.ensures.value)) in
+    let ks = fin.keys store.ready in
+    let picked : c.in_ok-parts.parts.ready.items ≡ ranks_of ks rs = c.in_ok-parts.ensures.ready ∙ (λ i. ranks_of (keys i) (c.as_slice-2.ensures.value i)) in
     let members =
-    ordered_members c.in_ok-from_slice.field-0.items c.in_key_order-by_key.result.items c.as_slice-4.result.now rs c.in_key_order-by_key.ensures.same c.as_slice-4.ensures.value
-    (subst (λ (xs : List Rank). SameMembers xs rs) (sym copied) (same_itself rs)) in
-    let t = c.as_slice-7.ensures.value ∙ (c.in_ok-ready.ensures rs once members ∙ ap (map (tile_among rs pins)) (c.as_slice-5.ensures ∙ c.in_ok-keys.ensures)) in
+    ordered_members c.in_ok-parts.parts.ready.items c.in_key_order-by_key.result.items c.as_slice-3.result.now (ranks_of ks rs) c.in_key_order-by_key.ensures.same c.as_slice-3.ensures.value
+    (subst (λ (xs : List Rank). SameMembers xs (ranks_of ks rs)) (sym picked) (same_itself (ranks_of ks rs))) in
+    let t = c.as_slice-6.ensures.value ∙ (c.in_ok-ready.ensures (ranks_of ks rs) (ranks_of_once ks rs once) members ∙ (ap (map (tile_among (ranks_of ks rs) pins)) (c.as_slice-4.ensures ∙ c.in_ok-keys.ensures) ∙ tiles_of ks pins rs)) in
     let l : c.len.result ≡ fin.len store.ready = c.len.ensures ∙ (ap length c.in_ok-keys.ensures ∙ keys_count store) in
     let u = c.used.ensures in
     let f : c.used.result - c.len.result ≡ set.len store.in_flight = omega (arith, l, u) in

@@ -1,8 +1,0 @@
--- The missing ones of the ranks so far.
-use Rattle.std.proofs.Common.{◌≡◌, not, ◌&&◌, filter, take}
-use Rattle.geom.specs.KeyLists.{has_key}
-use Rattle.tile_store.specs.Stores.{is_in_flight}
-use Rattle.tile_manager.proofs.picks.missing.Given as goal
-
-abbrev pub invariant-loop-rank : goal.invariant-loop-rank
-invariant-loop-rank l = l.missing.items ≡ filter (λ r. not (has_key l.ready r.key) && not (is_in_flight l.store r.key)) (take l.rank-index l.ranks)
