@@ -1,5 +1,5 @@
 -- The rows that a picture keeps.
-use Rattle.std.proofs.Common.{◌≡◌, ℕ, ◌<◌, ◌≤◌, ◌+◌, ◌*◌, inl, inr, List, length, slice_index, sym, ◌∙◌, ap, subst, arith}
+use Rattle.std.proofs.Common.{◌≡◌, ℕ, ◌<◌, ◌≤◌, ◌+◌, ◌*◌, inl, inr, List, [], length, slice_index, sym, ◌∙◌, ap, subst, arith}
 use Rattle.std.proofs.Math.Nat.{mul-le-mul_left}
 use Rattle.std.proofs.lemmas.Bool.{cases_lt}
 use Rattle.std.proofs.lemmas.Int.{clamps}
@@ -11,7 +11,8 @@ use Rattle.page_display_list.specs.declared.Item.{Item}
 use Rattle.page_display_list.specs.Bitmaps.{near}
 use Rattle.tile_raster.specs.Images.{list_colour, IsRow, HasTwoColours, row_bytes}
 use Rattle.tile_raster.specs.Images.{AreSameRows}
-use Rattle.tile_raster.specs.inner.Bands.{AreKept, IsEnd}
+use Rattle.tile_raster.specs.inner.Bands.{AreSteps, IsCount, AreKept, IsEnd}
+use Rattle.tile_raster.proofs.Places.{place_below}
 use Rattle.tile_raster.proofs.RowBytes.{pixel_part, part_premultiplied}
 
 -- what one row of bytes shows twice is equal
@@ -30,12 +31,11 @@ row_length : (w p : ℕ) (bytes : List ℕ) → 4 * (w * p) + 4 * w ≤ length b
 row_length w p bytes fit = simp (length-take, length-drop) (omega (arith, clamps))
 
 -- the rows of the pixels that all items were drawn into
-pub rows_kept : (list : List Item) (r : Rect) (places bytes : List ℕ) (kept : ℕ) → length places ≡ near r.h
+pub rows_kept : (list : List Item) (r : Rect) (places bytes : List ℕ) (kept : ℕ)
     → ((y : ℕ) → y < near r.h → slice_index places y < kept) → length bytes ≡ 4 * (near r.w * kept) → ArePremultiplied bytes
     → ((x y : ℕ) → x < near r.w → y < near r.h → pixel bytes (slice_index places y * near r.w + x) ≡ list_colour list r x y)
     → AreKept list r places bytes
-rows_kept list r places bytes kept count low size ready pixels = record {
-  count = count;
+rows_kept list r places bytes kept low size ready pixels = record {
   rows = λ y lt.
       let w = near r.w in
       let p = slice_index places y in
@@ -52,9 +52,19 @@ rows_kept list r places bytes kept count low size ready pixels = record {
     turned : (w y x : ℕ) → w * y + x ≡ y * w + x
     turned w y x = grind arith
 
+-- one row that is kept for all needs no places
+pub one_for_all : (level : ℕ → Type 0) (list : List Item) (r : Rect) (places bytes : List ℕ) (kept : ℕ) → AreSteps level (near r.h) places → IsCount places kept
+    → kept ≤ 1 → AreKept list r places bytes → AreKept list r [] bytes
+one_for_all level list r places bytes kept s last few k = record {
+  rows = λ y lt.
+      let below = place_below level (near r.h) places kept y s last lt in
+      let zero : slice_index places y ≡ 0 = omega arith in
+      subst (λ (p : ℕ). IsRow list r y (row_bytes (near r.w) p bytes)) zero (k.rows y lt);
+}
+
 -- the rows of one place show the colour of the first
 pub same_colour : (list : List Item) (r : Rect) (places bytes : List ℕ) (y end : ℕ) (c : Parts) → AreKept list r places bytes
-    → IsEnd places y end → ((x j : ℕ) → x < near r.w → j < y → list_colour list r x j ≡ c) → ((x : ℕ) → x < near r.w → list_colour list r x y ≡ c)
+    → IsEnd (near r.h) places y end → ((x j : ℕ) → x < near r.w → j < y → list_colour list r x j ≡ c) → ((x : ℕ) → x < near r.w → list_colour list r x y ≡ c)
     → (x j : ℕ) → x < near r.w → j < end → list_colour list r x j ≡ c
 same_colour list r places bytes y end c kept stop before here x j low lt =
     elim (cases_lt j y) as (λ _. list_colour list r x j ≡ c) [
@@ -62,7 +72,7 @@ same_colour list r places bytes y end c kept stop before here x j low lt =
       | inr from ↦
           let some = stop.some in
           let inside = stop.inside in
-          let same = kept_agree list r places bytes y j kept (omega (arith, kept.count)) (omega (arith, kept.count)) (stop.equal j from lt) in
+          let same = kept_agree list r places bytes y j kept (omega arith) (omega arith) (stop.equal j from lt) in
           sym (same x low) ∙ here x low
     ]
 

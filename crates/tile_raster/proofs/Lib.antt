@@ -1,6 +1,6 @@
 pub mod RowBytes
-pub mod KeptRows
 pub mod Places
+pub mod KeptRows
 pub mod Ends
 pub mod Alike
 pub mod Draws

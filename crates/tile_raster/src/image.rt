@@ -6,8 +6,8 @@ ghost use Rattle.page_display_list.specs.Bitmaps.{near};
 ghost use Rattle.tile_raster.specs.Images.{Image, IsRow, IsOneColour, HasTwoColours};
 ghost use Rattle.tile_raster.specs.Images.{AreSameRows, ShowAlike};
 
-use crate::picture_rows::{PictureRows, are_same_rows, end_of, kept_rows};
-use crate::pixels::{is_same_colour, one_colour, row_at, width_of};
+use crate::picture_rows::{PictureRows, are_same_rows, end_of, kept_rows, place_of};
+use crate::pixels::{height_of, is_same_colour, one_colour, row_at, width_of};
 use geom::{Rect, TileKey};
 use page_display_list::DisplayList;
 use pixel::Colour;
@@ -29,6 +29,7 @@ pub struct TileImage {
 
 impl Model for TileImage {
     ghost use Rattle.geom.specs.Covers.{IsSound};
+    ghost use Rattle.page_display_list.specs.Bitmaps.{near};
     ghost use Rattle.tile_raster.specs.Images.{Image};
     ghost use Rattle.tile_raster.specs.inner.Bands.{AreKept, AreEnds, IsSolid};
 
@@ -36,7 +37,7 @@ impl Model for TileImage {
 
     ghost view = { λ i. record { key = i.key; rect = i.rect; list = i.list.value } };
 
-    ghost invariant = { λ i. IsSound i.rect × AreKept i.list.value i.rect i.rows.places.items i.rows.bytes.items × AreEnds i.rows.places.items i.rows.ends.items × IsSolid i.list.value i.rect i.solid };
+    ghost invariant = { λ i. IsSound i.rect × AreKept i.list.value i.rect i.rows.places.items i.rows.bytes.items × AreEnds (near i.rect.h) i.rows.places.items i.rows.ends.items × IsSolid i.list.value i.rect i.solid };
 }
 
 impl TileImage {
@@ -88,8 +89,8 @@ impl TileImage {
         requires { y < near self.now.rect.h }
         ensures { IsRow self.now.list self.now.rect y result.now }
     {
-        let place = self.rows.places[y as usize];
-        row_at(&self.rows.bytes, width_of(self.rect), place as usize)
+        let place = place_of(&self.rows, y as usize);
+        row_at(&self.rows.bytes, width_of(self.rect), place)
     }
 
     /// How many rows from row `y` on are kept as that row: at least one, and all of them equal.
@@ -99,7 +100,7 @@ impl TileImage {
         ensures inside { y + result ≤ near self.now.rect.h }
         ensures equal { (k : ℕ) → k < result → AreSameRows self.now.list self.now.rect y (y + k) }
     {
-        end_of(&self.rows, y as usize) - y
+        end_of(&self.rows, height_of(self.rect), y as usize) - y
     }
 
     /// How many bytes the rows have that are kept.

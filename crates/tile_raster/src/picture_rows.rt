@@ -17,9 +17,10 @@ use std::alloc::{AllocError, Global};
 /// The rows of a picture.
 #[derive(Drop)]
 pub(crate) struct PictureRows {
-    /// For each row of the picture the place of its bytes among the rows that are kept.
+    /// For each row of the picture the place of its bytes among the rows that are kept. None where one row is kept
+    /// for all.
     pub(crate) places: Vec<u32>,
-    /// For each row of the picture the row after the last that is kept as it.
+    /// For each row of the picture the row after the last that is kept as it. None where one row is kept for all.
     pub(crate) ends: Vec<u32>,
     /// The bytes of the rows that are kept.
     pub(crate) bytes: Vec<u8>,
@@ -33,11 +34,35 @@ pub(crate) fn kept_rows(
 ) -> Result<PictureRows, AllocError>
     requires { IsSound rect }
     ensures kept { IfOk result (λ rows. AreKept list.now rect rows.places.items rows.bytes.items) }
-    ensures ends { IfOk result (λ rows. AreEnds rows.places.items rows.ends.items) }
+    ensures ends { IfOk result (λ rows. AreEnds (near rect.h) rows.places.items rows.ends.items) }
 {
     let changes = changing_rows(alloc, list, rect)?;
     let places = places_of(alloc, &changes)?;
     let bytes = drawn_rows(alloc, list, rect, &places)?;
+    with_ends(alloc, list, rect, places, bytes)
+}
+
+// the rows of a picture with these places and bytes; where one row is kept for all, it needs no places
+fn with_ends(
+    alloc: Global,
+    _list: &DisplayList,
+    rect: Rect,
+    places: Vec<u32>,
+    bytes: Vec<u8>,
+) -> Result<PictureRows, AllocError>
+    requires rect { IsSound rect }
+    requires steps { AreSteps (AreLevel _list.now rect) (near rect.h) places.items }
+    requires kept { AreKept _list.now rect places.items bytes.items }
+    ensures kept { IfOk result (λ rows. AreKept _list.now rect rows.places.items rows.bytes.items) }
+    ensures ends { IfOk result (λ rows. AreEnds (near rect.h) rows.places.items rows.ends.items) }
+{
+    if kept_count(&places) <= 1 {
+        return Ok(PictureRows {
+            places: Vec::new(alloc),
+            ends: Vec::new(alloc),
+            bytes,
+        });
+    }
     let ends = ends_of(alloc, &places)?;
     Ok(PictureRows {
         places,
@@ -78,7 +103,7 @@ fn next_place(places: &[u32], changes: &[bool]) -> u32
 // the end of each row: rows that have one place have one end
 fn ends_of(alloc: Global, places: &[u32]) -> Result<Vec<u32>, AllocError>
     requires { length places.now ≤ 2 ^ 29 }
-    ensures { IfOk result (λ ends. AreEnds places.now ends.items) }
+    ensures { IfOk result (λ ends. AreEnds (length places.now) places.now ends.items) }
 {
     let mut ends = Vec::with_capacity(alloc, places.len())?;
     while ends.len() < places.len() {
@@ -153,13 +178,27 @@ fn clear_rows(alloc: Global, width: usize, rows: usize) -> Result<Vec<u8>, Alloc
     vec![in alloc; 0u8; 4 * (width * rows)]
 }
 
-/// The row after the last that is kept as row y.
-pub(crate) fn end_of(rows: &PictureRows, y: usize) -> u32
-    requires ends { AreEnds rows.now.places.items rows.now.ends.items }
-    requires inside { y < length rows.now.places.items }
-    ensures { IsEnd rows.now.places.items y result }
+/// The place of the bytes of row y among the rows that are kept.
+pub(crate) fn place_of(rows: &PictureRows, y: usize) -> usize
+    ensures { result ≡ slice_index rows.now.places.items y }
 {
-    rows.ends[y]
+    match rows.places.get(y) {
+        Some(place) => *place as usize,
+        None => 0,
+    }
+}
+
+/// The row after the last that is kept as row y, in a picture of the given number of rows.
+pub(crate) fn end_of(rows: &PictureRows, height: usize, y: usize) -> u32
+    requires ends { AreEnds height rows.now.places.items rows.now.ends.items }
+    requires inside { y < height }
+    requires few { height ≤ 2 ^ 29 }
+    ensures { IsEnd height rows.now.places.items y result }
+{
+    match rows.ends.get(y) {
+        Some(end) => *end,
+        None => height as u32,
+    }
 }
 
 /// Whether two pictures keep the same rows.

@@ -7,7 +7,7 @@ ghost use Rattle.page_display_list.specs.Bitmaps.{near};
 ghost use Rattle.tile_raster.specs.Images.{IsRow, row_bytes};
 ghost use Rattle.tile_raster.specs.inner.Bands.{AreKept, AreEnds, IsSolid};
 
-use crate::picture_rows::{PictureRows, end_of};
+use crate::picture_rows::{PictureRows, end_of, place_of};
 use geom::Rect;
 use page_display_list::DisplayList;
 use pixel::{Colour, colour_at};
@@ -26,20 +26,20 @@ pub(crate) fn row_at(bytes: &[u8], width: usize, place: usize) -> &[u8]
 pub(crate) fn one_colour(list: &DisplayList, rect: Rect, rows: &PictureRows) -> Option<Colour>
     requires sound { IsSound rect }
     requires kept { AreKept list.now rect rows.now.places.items rows.now.bytes.items }
-    requires ends { AreEnds rows.now.places.items rows.now.ends.items }
+    requires ends { AreEnds (near rect.h) rows.now.places.items rows.now.ends.items }
     ensures { IsSolid list.now rect result }
 {
-    let places = rows.places.as_slice();
-    if width_of(rect) == 0 || places.is_empty() {
+    let height = height_of(rect);
+    if width_of(rect) == 0 || height == 0 {
         return Some(Colour::CLEAR);
     }
     let first = colour_at(row_of(list, rect, rows, 0), 0);
     let mut y = 0;
-    while y < places.len() {
+    while y < height {
         if let Some(_other) = first_other(row_of(list, rect, rows, y), first) {
             return None;
         }
-        y = end_of(rows, y) as usize;
+        y = end_of(rows, height, y) as usize;
     }
     Some(first)
 }
@@ -51,7 +51,7 @@ fn row_of<'a>(_list: &DisplayList, rect: Rect, rows: &'a PictureRows, y: usize) 
     requires inside { y < near rect.h }
     ensures { IsRow _list.now rect y result.now }
 {
-    row_at(&rows.bytes, width_of(rect), rows.places[y] as usize)
+    row_at(&rows.bytes, width_of(rect), place_of(rows, y))
 }
 
 // the first pixel of a row that has another colour

@@ -44,9 +44,8 @@ abbrev pub kept_area : Area → List ℕ → ℕ → Area
 kept_area at places kept =
     record { x = at.x; y = place_of places kept at.y; w = at.w; h = place_of places kept (at.y + at.h) - place_of places kept at.y }
 
--- the row of bytes that is kept at the place of each row of the rect is that row
+-- the row of bytes that is kept at the place of each row of the rect is that row; without places one row is kept for all
 pub record AreKept (list : List Item) (r : Rect) (places bytes : List ℕ) : Type 0 where
-  pub count : length places ≡ near r.h
   pub rows : (y : ℕ) → y < near r.h → IsRow list r y (row_bytes (near r.w) (slice_index places y) bytes)
 
 -- the colour of all pixels; None where two differ
@@ -54,13 +53,12 @@ abbrev pub IsSolid : List Item → Rect → Option Parts → Type 0
 IsSolid list r None = HasTwoColours list r
 IsSolid list r (Some c) = IsOneColour list r c
 
--- the rows from row y to before row `end` are of the picture, and have the place of row y
-pub record IsEnd (places : List ℕ) (y end : ℕ) : Type 0 where
+-- the rows from row y to before row `end` are among the given number of rows, and have the place of row y
+pub record IsEnd (rows : ℕ) (places : List ℕ) (y end : ℕ) : Type 0 where
   pub some : y < end
-  pub inside : end ≤ length places
+  pub inside : end ≤ rows
   pub equal : (z : ℕ) → y ≤ z → z < end → slice_index places z ≡ slice_index places y
 
--- the end of each row
-pub record AreEnds (places ends : List ℕ) : Type 0 where
-  pub count : length ends ≡ length places
-  pub each : (y : ℕ) → y < length places → IsEnd places y (slice_index ends y)
+-- the end of each of the given number of rows; without ends all rows end at the last
+abbrev pub AreEnds : ℕ → List ℕ → List ℕ → Type 0
+AreEnds rows places ends = (y : ℕ) → y < rows → IsEnd rows places y (slice_index_or ends y rows)

@@ -22,7 +22,7 @@ draw_item-requires-clause-steps c =
 pub returns : goal.returns
 returns c =
     let all : length c.args.list.now ≤ c.loop-item.item-index = omega (arith, c.loop-item-test.false, ap length c.items-item-items.ensures.value) in
-    rows_kept c.args.list.now c.args.rect c.args.places.now c.loop-item.bytes c.args.kept c.requires.steps.count
+    rows_kept c.args.list.now c.args.rect c.args.places.now c.loop-item.bytes c.args.kept
     (λ y lt. place_below (AreLevel c.args.list.now c.args.rect) (near c.args.rect.h) c.args.places.now c.args.kept y c.requires.steps c.requires.kept lt)
     (c.loop-item.auto.bytes ∙ c.requires.size) c.loop-item.invariant.premultiplied
     (λ x y xw yh.

@@ -1,6 +1,6 @@
 -- The rows that have one place have one end.
 use Rattle.std.proofs.Common.{◌≡◌, ◌+◌, length, sym, ◌∙◌, arith, rules}
-use Rattle.tile_raster.proofs.Ends.{ends_more}
+use Rattle.tile_raster.proofs.Ends.{ends_more, ends_all}
 use Rattle.tile_raster.proofs.picture_rows.ends_of.Goals as goal
 
 pub loop-ends-preserved : goal.loop-ends-preserved
@@ -19,3 +19,6 @@ loop-ends-preserved c =
           (λ k low. index.0 k 0 (omega (arith, first, low)) (omega (arith, size, low)))
           (λ k low high. index.1 k 0 (search rules) (omega (arith, size, low)) high) y (omega (arith, many, lt));
     }
+
+pub returns : goal.returns
+returns c = ends_all c.args.places.now c.loop-ends.ends.items (omega (arith, c.loop-ends.invariant.count, c.loop-ends-test.false, c.loop-ends.ends.ok.0)) c.loop-ends.invariant.each

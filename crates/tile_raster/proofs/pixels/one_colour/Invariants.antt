@@ -1,13 +1,13 @@
-use Rattle.std.proofs.Common.{ℕ, ◌≡◌, ◌<◌, ◌≤◌, ◌-◌, length}
+use Rattle.std.proofs.Common.{ℕ, ◌≡◌, ◌<◌, ◌≤◌, ◌-◌}
 use Rattle.page_display_list.specs.Bitmaps.{near}
 use Rattle.tile_raster.specs.Images.{list_colour}
 use Rattle.tile_raster.proofs.pixels.one_colour.Given as given
 
 abbrev pub invariant-loop-y : given.invariant-loop-y
 invariant-loop-y l = record {
-  inside : l.y ≤ length l.places;
+  inside : l.y ≤ l.height;
   colour : (x j : ℕ) → x < near l.fn.rect.w → j < l.y → list_colour l.list l.fn.rect x j ≡ l.first;
 }
 
 abbrev pub decreases-loop-y : given.decreases-loop-y
-decreases-loop-y l = length l.places - l.y
+decreases-loop-y l = l.height - l.y

@@ -14,5 +14,5 @@ returns-clause-equal c = λ k lt.
     let inside = stop.inside in
     let agree =
     kept_agree c.self.inside.list.value c.self.inside.rect c.self.inside.rows.places.items c.self.inside.rows.bytes.items c.args.y (c.args.y + k) kept below
-    (omega (arith, kept.count)) (stop.equal (c.args.y + k) (omega arith) (omega arith)) in
+    (omega arith) (stop.equal (c.args.y + k) (omega arith) (omega arith)) in
     subst (λ (i : Image). AreSameRows i.list i.rect c.args.y (c.args.y + k)) c.self.view_is agree
