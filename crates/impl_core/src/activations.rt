@@ -24,8 +24,8 @@ impl Core {
     fn required_keys(&self) -> Result<Keys, AllocError>
         ensures { IfOk result (λ keys. keys ≡ required self.now.script (past self.now)) }
     {
-        let seen = self.host.seen(self.alloc, self.host.standing())?;
-        visible_of(self.alloc, seen.pending.as_ref())
+        let seen = self.host.seen_pending(self.alloc)?;
+        visible_of(self.alloc, seen.as_ref())
     }
 
     // Finds what the pending tree needs, and keeps it. The answer is whether all of it is ready; an error
@@ -76,27 +76,33 @@ impl Core {
         Ok(frame.is_some())
     }
 
-    // What the activation of the pending tree brings to the tiles. An error means out of memory.
-    fn activated_tiles(&self, frame: u32) -> Result<Activation, AllocError>
+    // What the activation of the pending tree, which needs these keys, brings to the tiles. An error means
+    // out of memory.
+    fn tiles_with(&self, frame: u32, needs: &Keys) -> Result<Activation, AllocError>
         requires waits { pending (past self.now) ≡ Some frame }
-        requires may { is_some (now self.now kind.Activate 0) ≡ true }
-        ensures { IfOk result (λ next. AreForActivation self.now.script (past self.now) 0 frame (next_clamps self.now.script (past self.now)) next.pins next.live next.ranks) }
+        requires keys { needs.now ≡ required self.now.script (past self.now) }
+        ensures { IfOk result (λ next. AreForActivation self.now.script (past self.now) next.pins next.live) }
     {
         // The contract alone speaks of the frame.
         let _ = frame;
-        self.log.is_legal();
-        let seen = self.host.seen(self.alloc, self.host.standing())?;
-        let Some(pending) = seen.pending.as_ref() else {
+        let Some(pending) = self.host.seen_pending(self.alloc)? else {
             unreachable!()
         };
-        let required = visible_of(self.alloc, Some(pending))?;
-        activation_of(
-            self.alloc,
-            self.log.script(),
-            pending,
-            &required,
-            &self.tiles,
-        )
+        activation_of(self.alloc, &pending, needs, &self.tiles)
+    }
+
+    // What the activation of the pending tree brings to the tiles. An error means out of memory.
+    fn activated_tiles(&self, frame: u32) -> Result<Activation, AllocError>
+        requires { pending (past self.now) ≡ Some frame }
+        ensures { IfOk result (λ next. AreForActivation self.now.script (past self.now) next.pins next.live) }
+    {
+        match &self.required {
+            Some(needs) => self.tiles_with(frame, needs),
+            None => {
+                let needs = self.required_keys()?;
+                self.tiles_with(frame, &needs)
+            }
+        }
     }
 
     // How the activation of the pending tree moves the scrollers, and where they stand then. An error means
@@ -136,9 +142,9 @@ impl Core {
         let (clamps, standing) = self.activated_scrollers(frame)?;
         let next = self.activated_tiles(frame)?;
         self.log.enter(0, Event::Activate { frame, clamps })?;
-        let Activation { pins, live, ranks } = next;
+        let Activation { pins, live } = next;
         self.host.activate(standing);
-        self.tiles.activate(pins, &live, ranks);
+        self.tiles.activate(pins, &live);
         self.required = None;
         Ok(())
     }

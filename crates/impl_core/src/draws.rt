@@ -41,15 +41,14 @@ impl Core {
         let Some(page) = self.host.pages().active else {
             unreachable!()
         };
-        let standing = self.host.standing();
-        let seen = self.host.seen(self.alloc, standing)?;
-        let keys = visible_of(self.alloc, seen.active.as_ref())?;
+        let seen = self.host.seen_active(self.alloc)?;
+        let keys = visible_of(self.alloc, seen.as_ref())?;
         let background = self.log.script().background();
         draw(
             self.alloc,
             &self.tiles,
             page,
-            standing.active(),
+            self.host.standing().active(),
             &keys,
             background,
         )

@@ -76,6 +76,23 @@ impl ImplHost {
         Ok(SeenTrees { active, pending })
     }
 
+    /// The active tree as its tiles are seen where the scrollers stand; None exactly where there is none. An
+    /// error means out of memory.
+    pub fn seen_active(&self, alloc: Global) -> Result<Option<SeenTree<'_>>, AllocError>
+        ensures tree { IfOk result (λ seen. (s : ScriptModel) (h : List Entry) → Hosts s h self.now → IsSeenWhere (active_tree s h) seen) }
+        ensures some { IfOk result (λ seen. is_some seen ≡ is_some self.now.trees.active) }
+    {
+        seen_tree(alloc, self.trees.active(), self.standing.active())
+    }
+
+    /// The same of the pending tree.
+    pub fn seen_pending(&self, alloc: Global) -> Result<Option<SeenTree<'_>>, AllocError>
+        ensures tree { IfOk result (λ seen. (s : ScriptModel) (h : List Entry) → Hosts s h self.now → IsSeenWhere (pending_tree s h) seen) }
+        ensures some { IfOk result (λ seen. is_some seen ≡ is_some self.now.trees.pending) }
+    {
+        seen_tree(alloc, self.trees.pending(), self.standing.pending())
+    }
+
     /// The active and the pending tree, to be asked for single keys. Takes no memory.
     pub(crate) fn placed(&self) -> PlacedTrees<'_>
         ensures { (s : ScriptModel) (h : List Entry) → Hosts s h self.now → IsPlacedWhere (active_tree s h) result.active × IsPlacedWhere (pending_tree s h) result.pending }

@@ -61,11 +61,11 @@ reseen s h g m next holds same foresees = record {
 
 -- after an activation
 
-pub activate_holds : (s : ScriptModel) (n : ℕ) (h : List Entry) (a k : ℕ) (ms : List Move) (m : Managed) (pins live : List TileKey) (spare : ℕ) (ranks : Ranked)
+pub activate_holds : (s : ScriptModel) (n : ℕ) (h : List Entry) (a k : ℕ) (ms : List Move) (m : Managed) (pins live : List TileKey) (spare : ℕ)
     → IsAccepted s → Legal s n (activate a k ms ∷ h) → Manages s h m → ((q : TileKey) → has_key pins q ≡ has_key (required s h) q)
-    → ((q : TileKey) → has_key (ready s h) q ≡ true → has_key live q ≡ has_key (keys_of (pending_tree s h)) q) → AreRanksAt s (activate a k ms ∷ h) ranks
-    → Manages s (activate a k ms ∷ h) (record { store = kept m.store live spare; pinned = pins; outlook = outlook.Ranks ranks })
-activate_holds s n h a k ms m pins live spare ranks acc legal holds needed lives same = record {
+    → ((q : TileKey) → has_key (ready s h) q ≡ true → has_key live q ≡ has_key (keys_of (pending_tree s h)) q)
+    → Manages s (activate a k ms ∷ h) (record { store = kept m.store live spare; pinned = pins; outlook = outlook.Unseen })
+activate_holds s n h a k ms m pins live spare acc legal holds needed lives = record {
   ready = λ q.
       ap is_some (image_of-kept m.store spare q live)
       ∙ (some_left (has_key live q) (image_of m.store q)
@@ -75,7 +75,7 @@ activate_holds s n h a k ms m pins live spare ranks acc legal holds needed lives
   in_flight = holds.in_flight;
   pinned = needed;
   images = λ q i e. holds.images q i (left_some (has_key live q) (image_of m.store q) i (sym (image_of-kept m.store spare q live) ∙ e));
-  outlook = same;
+  outlook = tt;
 }
 
 -- after an event that leaves the trees

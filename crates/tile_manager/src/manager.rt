@@ -247,13 +247,12 @@ impl TileManager {
     }
 
     /// The pending tree becomes the active one: the keys that it needs are pinned, the ready keys that are
-    /// not in `live` are dropped, and the ranks are those of its keys. Takes no memory.
-    pub fn activate(&mut self, pins: Pins, live: &Keys, ranks: Ranks)
-        ensures tiles { (s : ScriptModel) (workers : ℕ) (h : List Entry) (actor k : ℕ) (clamps : List Move) → IsAccepted s → Legal s workers (activate actor k clamps ∷ h) → Manages s h self.old → ((q : Key) → has_key pins q ≡ has_key (required s h) q) → ((q : Key) → has_key (ready s h) q ≡ true → has_key live.now q ≡ has_key (keys_of (pending_tree s h)) q) → AreRanksAt s (activate actor k clamps ∷ h) ranks → Manages s (activate actor k clamps ∷ h) self.new }
-        ensures seen { is_seen self.new.outlook ≡ true }
+    /// not in `live` are dropped, and the ranks are forgotten, as by [`TileManager::forget`]. Takes no memory.
+    pub fn activate(&mut self, pins: Pins, live: &Keys)
+        ensures { (s : ScriptModel) (workers : ℕ) (h : List Entry) (actor k : ℕ) (clamps : List Move) → IsAccepted s → Legal s workers (activate actor k clamps ∷ h) → Manages s h self.old → ((q : Key) → has_key pins q ≡ has_key (required s h) q) → ((q : Key) → has_key (ready s h) q ≡ true → has_key live.now q ≡ has_key (keys_of (pending_tree s h)) q) → Manages s (activate actor k clamps ∷ h) self.new }
     {
         self.store.keep(live);
         self.pins = pins;
-        self.outlook = Outlook::Ranks(ranks);
+        self.outlook = Outlook::Unseen;
     }
 }

@@ -1,19 +1,14 @@
 -- For which past the ranks are made anew, and what an activation takes.
-use Rattle.std.specs.Prelude.{◌≡◌, ℕ, Bool, true, false, List, ◌∷◌, Option}
+use Rattle.std.specs.Prelude.{◌≡◌, Bool, true, false, List, Option}
 use Rattle.geom.specs.declared.tile.TileKey.{TileKey}
 use Rattle.geom.specs.KeyLists.{has_key}
-use Rattle.page_layers.specs.declared.moves.Move.{Move}
 use Rattle.model_history.specs.declared.event.Event.{Event}
 use Rattle.model_history.specs.declared.event.Event.TheVariants as event
 use Rattle.model_history.specs.declared.history.Entry.{Entry}
 use Rattle.model_history.specs.Scripts.{ScriptModel}
-use Rattle.model_history.specs.Legal.{Legal}
 use Rattle.model_history.specs.Tiles.{active_tree, pending_tree, keys_of, required}
 use Rattle.model_history.specs.Tiles as model
-use Rattle.model_steps.specs.Events.{activate}
-use Rattle.tile_ranks.specs.SeenTrees.{SeenTreeModel, IsSeenTree, IsSeenWhere}
-use Rattle.tile_manager.specs.Choices.{Ranked}
-use Rattle.tile_manager.specs.Managers.{Managed, Manages, AreRanksAt}
+use Rattle.tile_ranks.specs.SeenTrees.{SeenTreeModel, IsSeenWhere}
 
 -- the event sends, commits and activates no main frame, and starts and ends no tile
 abbrev pub leaves_tiles : Event → Bool
@@ -30,20 +25,7 @@ pub record RanksNow (s : ScriptModel) (active pending : Option SeenTreeModel) : 
   pub seen_active : IsSeenWhere (active_tree s past) active
   pub seen_pending : IsSeenWhere (pending_tree s past) pending
 
--- the manager represents a past of a run, after which a commit may be activated now, whose tree is this and needs these keys
-pub record PreparedActivates (s : ScriptModel) (pending : SeenTreeModel) (needed : List TileKey) (m : Managed) : Type 0 where
-  pub workers : ℕ
-  pub past : List Entry
-  pub actor : ℕ
-  pub frame : ℕ
-  pub clamps : List Move
-  pub legal : Legal s workers (activate actor frame clamps ∷ past)
-  pub manages : Manages s past m
-  pub seen : IsSeenTree (pending_tree s past) pending
-  pub keys : needed ≡ required s past
-
--- what a tile manager that represents the past takes for the activation: the pins are the keys that it needs, of the ready keys those of its tree are live, and the ranks are those after it
-pub record AreForActivation (s : ScriptModel) (h : List Entry) (actor k : ℕ) (clamps : List Move) (pinned kept : List TileKey) (next : Ranked) : Type 0 where
+-- what a tile manager that represents the past takes for the activation: the pins are the keys that it needs, and of the ready keys those of its tree are live
+pub record AreForActivation (s : ScriptModel) (h : List Entry) (pinned kept : List TileKey) : Type 0 where
   pub pins : (q : TileKey) → has_key pinned q ≡ has_key (required s h) q
   pub live : (q : TileKey) → has_key (model.ready s h) q ≡ true → has_key kept q ≡ has_key (keys_of (pending_tree s h)) q
-  pub ranks : AreRanksAt s (activate actor k clamps ∷ h) next

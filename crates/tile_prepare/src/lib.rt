@@ -6,7 +6,7 @@
 //! are to be made anew. The ranks are those near the viewports alone, so the work grows with the tiles near the
 //! viewports, not with the size of the layers.
 //!
-//! Making ranks takes memory, handing them to the tile manager takes none. Those of an activation are made before
+//! Making these takes memory, handing them to the tile manager takes none. What an activation brings is made before
 //! it is entered, and handed over after it.
 #![tactic(auto)]
 

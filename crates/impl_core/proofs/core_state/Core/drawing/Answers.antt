@@ -11,9 +11,8 @@ use Rattle.model_history.specs.Scripts.{ScriptModel}
 use Rattle.model_history.specs.Frames.{active, active_page}
 use Rattle.model_history.specs.Scrolls.{active_offsets}
 use Rattle.model_history.specs.Tiles.{active_tree, visible_in, missing_visible}
-use Rattle.impl_scroll.specs.Standings.{StandingModel, StandsForPast}
+use Rattle.impl_scroll.specs.Standings.{StandingModel}
 use Rattle.tile_ranks.specs.SeenTrees.{IsSeenWhere}
-use Rattle.impl_host.specs.Hosts.{Hosts, with_standing}
 use Rattle.impl_log.specs.Runs.{Run, past}
 use Rattle.impl_core.specs.Replies.{IsPicture}
 use Rattle.impl_core.proofs.Pictures.{is_picture}
@@ -24,39 +23,30 @@ pub draw-requires-clause-now : goal.draw-requires-clause-now
 draw-requires-clause-now c =
     let r : Run = c.self.inside.log in
     let h : List Entry = past r in
-    let stands = subst (λ (st : StandingModel). StandsForPast r.script h st) (sym c.standing-standing.ensures) c.self.invariant.host.standing in
-    let hosts : Hosts r.script h (with_standing c.self.inside.host c.standing-standing.result.now) =
-    record { active = c.self.invariant.host.active; pending = c.self.invariant.host.pending; standing = stands; outright = c.self.invariant.host.outright } in
-    let seen = c.in_ok-seen.ensures.trees r.script h hosts in
+    let seen = c.in_ok-seen.ensures.tree r.script h c.self.invariant.host in
     let page : c.in-Some.page.now ≡ active_page r.script h = page_is r.script h c.in-Some.page.now (active h) (sym (ap option_copied c.in-Some.is) ∙ (c.pages.ensures r.script h c.self.invariant.host).active) in
-    let keys : c.in_ok-keys.keys ≡ visible_in (active_tree r.script h) = c.in_ok-keys.ensures (active_tree r.script h) (subst (IsSeenWhere (active_tree r.script h)) (sym c.as_ref.ensures.value) seen.active) in
+    let keys : c.in_ok-keys.keys ≡ visible_in (active_tree r.script h) = c.in_ok-keys.ensures (active_tree r.script h) (subst (IsSeenWhere (active_tree r.script h)) (sym c.as_ref.ensures.value) seen) in
     let offsets : offset_at c.active.result.now ≡ active_offsets r.script h =
-    ap offset_at (c.active.ensures.value ∙ ap (λ (st : StandingModel). st.active) c.standing-standing.ensures) ∙ (λ i sc. c.self.invariant.host.standing.active sc i) in
+    ap offset_at (c.active.ensures.value ∙ ap (λ (st : StandingModel). st.active) c.standing.ensures) ∙ (λ i sc. c.self.invariant.host.standing.active sc i) in
     record { script = r.script; past = h; manages = c.self.invariant.tiles; page = page; offsets = offsets; keys = keys }
 
 pub returns-clause-missing : goal.returns-clause-missing
 returns-clause-missing c =
     let r : Run = c.self.inside.log in
     let h : List Entry = past r in
-    let stands = subst (λ (st : StandingModel). StandsForPast r.script h st) (sym c.standing-standing.ensures) c.self.invariant.host.standing in
-    let hosts : Hosts r.script h (with_standing c.self.inside.host c.standing-standing.result.now) =
-    record { active = c.self.invariant.host.active; pending = c.self.invariant.host.pending; standing = stands; outright = c.self.invariant.host.outright } in
-    let seen = c.in_ok-seen.ensures.trees r.script h hosts in
-    let keys : c.in_ok-keys.keys ≡ visible_in (active_tree r.script h) = c.in_ok-keys.ensures (active_tree r.script h) (subst (IsSeenWhere (active_tree r.script h)) (sym c.as_ref.ensures.value) seen.active) in
+    let seen = c.in_ok-seen.ensures.tree r.script h c.self.invariant.host in
+    let keys : c.in_ok-keys.keys ≡ visible_in (active_tree r.script h) = c.in_ok-keys.ensures (active_tree r.script h) (subst (IsSeenWhere (active_tree r.script h)) (sym c.as_ref.ensures.value) seen) in
     subst (λ (z : Run). IfOk c.draw.result (λ d. d.missing ≡ missing_visible z.script (past z))) c.self.view_is (c.draw.ensures.missing r.script h c.self.invariant.tiles keys)
 
 pub returns-clause-picture : goal.returns-clause-picture
 returns-clause-picture c =
     let r : Run = c.self.inside.log in
     let h : List Entry = past r in
-    let stands = subst (λ (st : StandingModel). StandsForPast r.script h st) (sym c.standing-standing.ensures) c.self.invariant.host.standing in
-    let hosts : Hosts r.script h (with_standing c.self.inside.host c.standing-standing.result.now) =
-    record { active = c.self.invariant.host.active; pending = c.self.invariant.host.pending; standing = stands; outright = c.self.invariant.host.outright } in
-    let seen = c.in_ok-seen.ensures.trees r.script h hosts in
+    let seen = c.in_ok-seen.ensures.tree r.script h c.self.invariant.host in
     let page : c.in-Some.page.now ≡ active_page r.script h = page_is r.script h c.in-Some.page.now (active h) (sym (ap option_copied c.in-Some.is) ∙ (c.pages.ensures r.script h c.self.invariant.host).active) in
-    let keys : c.in_ok-keys.keys ≡ visible_in (active_tree r.script h) = c.in_ok-keys.ensures (active_tree r.script h) (subst (IsSeenWhere (active_tree r.script h)) (sym c.as_ref.ensures.value) seen.active) in
+    let keys : c.in_ok-keys.keys ≡ visible_in (active_tree r.script h) = c.in_ok-keys.ensures (active_tree r.script h) (subst (IsSeenWhere (active_tree r.script h)) (sym c.as_ref.ensures.value) seen) in
     let offsets : offset_at c.active.result.now ≡ active_offsets r.script h =
-    ap offset_at (c.active.ensures.value ∙ ap (λ (st : StandingModel). st.active) c.standing-standing.ensures) ∙ (λ i sc. c.self.invariant.host.standing.active sc i) in
+    ap offset_at (c.active.ensures.value ∙ ap (λ (st : StandingModel). st.active) c.standing.ensures) ∙ (λ i sc. c.self.invariant.host.standing.active sc i) in
     let background = c.background-background.ensures ∙ ap (λ (s : ScriptModel). s.background) (c.deref.ensures ∙ c.script.ensures) in
     let painted = subst (λ b. IfOk c.draw.result (λ d. (x y : ℤ) → covers (viewport c.in-Some.page.now) x y ≡ true → scene_pixel d.scene x y ≡ paint (active_page r.script h) (active_offsets r.script h) (missing_visible r.script h) b x y)) background
     (c.draw.ensures.pixels r.script h c.self.invariant.tiles page offsets keys) in

@@ -4,14 +4,12 @@ use Rattle.model_history.specs.Tiles.{pending_tree, required}
 use Rattle.tile_ranks.specs.SeenTrees.{IsSeenWhere}
 use Rattle.impl_log.specs.Runs.{Run, past}
 use Rattle.page_layers.proofs.KeptPages.{weaken}
-use Rattle.impl_core.proofs.StandingHosts.{as_it_stands}
 use Rattle.impl_core.proofs.core_state.Core.required_keys.Goals as goal
 
 pub returns : goal.returns
 returns c =
     let r : Run = c.self.inside.log in
-    let seen = c.in_ok-seen.ensures.trees r.script (past r) (as_it_stands r.script (past r) c.self.inside.host c.standing.result.now c.standing.ensures c.self.invariant.host) in
     weaken c.visible_of.result
     (λ keys are. subst (λ (z : Run). keys ≡ required z.script (past z)) c.self.view_is
-    (are (pending_tree r.script (past r)) (subst (IsSeenWhere (pending_tree r.script (past r))) (sym c.as_ref.ensures.value) seen.pending)))
+    (are (pending_tree r.script (past r)) (subst (IsSeenWhere (pending_tree r.script (past r))) (sym c.as_ref.ensures.value) (c.in_ok-seen.ensures.tree r.script (past r) c.self.invariant.host))))
     c.visible_of.ensures

@@ -6,8 +6,8 @@ use Rattle.tile_manager.specs.Managers.{Managed, Manages}
 use Rattle.tile_manager.proofs.OtherTiles.{activate_holds}
 use Rattle.tile_manager.proofs.manager.TileManager.activate.Goals as goal
 
-pub returns-clause-tiles : goal.returns-clause-tiles
-returns-clause-tiles c = λ s n h a k clamps accepted legal holds needed lives alike.
+pub returns : goal.returns
+returns c = λ s n h a k clamps accepted legal holds needed lives.
     let m : Managed = record { store = c.self.inside.store; pinned = c.self.inside.pins; outlook = c.self.inside.outlook } in
-    subst (λ store. Manages s (activate a k clamps ∷ h) (record { store = store; pinned = c.args.pins; outlook = outlook.Ranks c.args.ranks })) (sym c.keep.ensures.store)
-    (activate_holds s n h a k clamps m c.args.pins c.args.live.now c.keep.new.self.spare c.args.ranks accepted legal (subst (Manages s h) (sym c.self.view_is) holds) needed lives alike)
+    subst (λ store. Manages s (activate a k clamps ∷ h) (record { store = store; pinned = c.args.pins; outlook = outlook.Unseen })) (sym c.keep.ensures.store)
+    (activate_holds s n h a k clamps m c.args.pins c.args.live.now c.keep.new.self.spare accepted legal (subst (Manages s h) (sym c.self.view_is) holds) needed lives)

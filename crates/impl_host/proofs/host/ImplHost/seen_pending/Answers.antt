@@ -1,0 +1,16 @@
+use Rattle.std.proofs.Common.{ap, ◌∙◌, sym, subst}
+use Rattle.page_properties.specs.OffsetMap.{offset_at}
+use Rattle.page_layers.proofs.KeptPages.{weaken}
+use Rattle.model_history.specs.Frames.{pulls_of, pending}
+use Rattle.model_history.specs.Scrolls.{pending_offsets}
+use Rattle.impl_host.specs.Hosts.{ImplHostModel, IsTreeAt}
+use Rattle.impl_host.proofs.host.ImplHost.seen_pending.Goals as goal
+
+pub returns-clause-tree : goal.returns-clause-tree
+returns-clause-tree c =
+    weaken c.seen_tree.result
+    (λ seen is s h hosts.
+    is s (pulls_of h) (pending h) (pending_offsets s h)
+    (subst (IsTreeAt s (pulls_of h) (pending h)) (sym (c.pending.ensures ∙ ap (λ (m : ImplHostModel). m.trees.pending) c.self.view_is)) hosts.pending)
+    (λ sc. ap (λ p. offset_at p sc) c.pending-2.ensures.value ∙ (ap (λ (m : ImplHostModel). offset_at m.standing.pending sc) c.self.view_is ∙ hosts.standing.pending sc)))
+    c.seen_tree.ensures.tree
