@@ -1,3 +1,4 @@
+pub mod BlockCopies
 pub mod Bytes
 pub mod CopySteps
 pub mod EachSteps

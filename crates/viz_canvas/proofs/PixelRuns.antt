@@ -1,6 +1,5 @@
 -- Runs of pixels that were written or copied.
 use Rattle.std.proofs.Common.{◌≡◌, ℕ, ◌+◌, ◌*◌, ◌-◌, ◌/◌, ◌<◌, ◌≤◌, List, slice_index, length, take, drop, inl, inr, refl, sym, ◌∙◌, ap, arith}
-use Rattle.std.specs.Prelude.{slice_index_or}
 use Rattle.std.proofs.lemmas.Bool.{cases_lt}
 use Rattle.std.proofs.lemmas.Grind.{common_steps}
 use borrow.Rule.Slice.PartMut.{put_mid}
@@ -8,6 +7,7 @@ use Rattle.pixel.specs.Colours.{Parts}
 use Rattle.pixel.specs.Rows.{pixel}
 use Rattle.pixel.proofs.Parts.{pixel_taken, run_length}
 use Rattle.viz_canvas.specs.Formats.{bytes_at}
+use Rattle.viz_canvas.specs.inner.Copies.{AreCopied}
 use Rattle.viz_canvas.specs.inner.Parts.{PartOf}
 use Rattle.viz_canvas.proofs.Bytes.{before_pixel, pixel_end, pixels_sum, in_order, all_there, as_many, same_bytes}
 use Rattle.viz_canvas.proofs.PackedRuns.{byte_before, byte_inside}
@@ -59,33 +59,29 @@ run_written d bytes_of k n from drawn xs ys fit given len each =
     part_put d k n (λ j below. bytes_of (pixel drawn (from + j))) xs ys (omega arith) fit
     (λ j lt. each j (omega (arith, long)) ∙ ap bytes_of (pixel_taken from n m drawn j lt (omega arith)))
 
--- a run that was copied within the list
+-- a run whose bytes were copied within the list
 pub part_copied : (d from to n : ℕ) (old new : List ℕ) → length new ≡ length old → d * (from + n) ≤ length old → d * (to + n) ≤ length old
-    → ((k z : ℕ) → d * to ≤ k → k < d * to + (d * (from + n) - d * from) → slice_index_or new k z ≡ slice_index_or old (d * from + (k - d * to)) z)
-    × ((k z : ℕ) → k < d * to → slice_index_or new k z ≡ slice_index_or old k z)
-    × ((k z : ℕ) → d * to + (d * (from + n) - d * from) ≤ k → slice_index_or new k z ≡ slice_index_or old k z)
-    → PartOf (bytes_at d) to n (λ j below. bytes_at d old (from + j)) old new
-part_copied d from to n old new long given there is =
-    let source = pixels_sum d from n in
-    let target = pixels_sum d to n in
-    record {
-      inside = λ j lt.
-          let s = pixels_sum d from j in
-          let t = pixels_sum d to j in
-          let s_end = pixel_end d (from + j) (from + n) (omega arith) in
-          let t_end = pixel_end d (to + j) (to + n) (omega arith) in
-          same_bytes d new old (to + j) (from + j) (all_there d new (to + j) (omega arith) ∙ sym (all_there d old (from + j) (omega arith)))
-          (λ b of.
-          let place : d * from + (d * (to + j) + b - d * to) ≡ d * (from + j) + b = omega arith in
-          is.0 (d * (to + j) + b) 0 (omega arith) (omega arith) ∙ ap (slice_index old) place);
-      before = λ i lt.
-          same_bytes d new old i i (as_many d new old i long)
-          (λ b of. is.1 (d * i + b) 0 (before_pixel d i to b lt of));
-      behind = λ i le.
-          let after = in_order d (to + n) i le in
-          same_bytes d new old i i (as_many d new old i long)
-          (λ b of. is.2 (d * i + b) 0 (omega arith));
-    }
+    → AreCopied (d * from) (d * to) (d * n) old new → PartOf (bytes_at d) to n (λ j below. bytes_at d old (from + j)) old new
+part_copied d from to n old new long given there is = record {
+  inside = λ j lt.
+      let s = pixels_sum d from j in
+      let t = pixels_sum d to j in
+      let s_end = pixel_end d (from + j) (from + n) (omega arith) in
+      let t_end = pixel_end d (to + j) (to + n) (omega arith) in
+      same_bytes d new old (to + j) (from + j) (all_there d new (to + j) (omega arith) ∙ sym (all_there d old (from + j) (omega arith)))
+      (λ b of.
+      let target : d * (to + j) + b ≡ d * to + (d * j + b) = omega arith in
+      let source : d * from + (d * j + b) ≡ d * (from + j) + b = omega arith in
+      ap (slice_index new) target ∙ is.inside (d * j + b) (before_pixel d j n b lt of) ∙ ap (slice_index old) source);
+  before = λ i lt.
+      same_bytes d new old i i (as_many d new old i long)
+      (λ b of. is.before (d * i + b) (before_pixel d i to b lt of));
+  behind = λ i le.
+      let after = in_order d (to + n) i le in
+      let target = pixels_sum d to n in
+      same_bytes d new old i i (as_many d new old i long)
+      (λ b of. is.after (d * i + b) (omega arith));
+}
 
 -- the next row, which got one colour in all of its pixels
 pub row_filled : (d w y place : ℕ) (colour : List ℕ) (g : ℕ → List ℕ) (old new : List ℕ) → place ≡ y * w + 0

@@ -1,4 +1,5 @@
 pub mod Bands
+pub mod Copies
 pub mod Fresh
 pub mod Halves
 pub mod Packing

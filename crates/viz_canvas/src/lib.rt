@@ -12,6 +12,7 @@
 mod band;
 mod bgra;
 mod canvas;
+mod copying;
 mod drawing;
 mod format;
 mod fresh;

@@ -5,6 +5,7 @@ ghost use Rattle.pixel.specs.Rows.{pixel};
 ghost use Rattle.viz_canvas.specs.Formats.{bytes_at};
 ghost use Rattle.viz_canvas.specs.inner.Parts.{PartOf};
 
+use crate::copying::copy_bytes;
 use crate::format::PixelFormat;
 
 /// Writes `n` pixels of a surface, from its pixel `from` on, over those of a picture from its pixel `k` on.
@@ -33,7 +34,7 @@ pub(crate) fn copy_run<F: PixelFormat>(bytes: &mut [u8], from: usize, to: usize,
     ensures { PartOf (bytes_at F.DEPTH) to n (λ j below. bytes_at F.DEPTH bytes.old (from + j)) bytes.old bytes.new }
 {
     let depth = F::DEPTH;
-    bytes.copy_within(depth * from..depth * (from + n), depth * to);
+    copy_bytes(bytes, depth * from, depth * to, depth * n);
 }
 
 /// The place of a run of `run` pixels, from column `x` of row `y` on, in a picture of `height` rows with `across` pixels
