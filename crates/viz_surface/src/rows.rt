@@ -10,7 +10,7 @@ ghost use Rattle.viz_surface.specs.inner.Columns.{columns_of};
 use crate::colour::colour_over_area;
 use crate::four::{four_at, lay_four, put_four};
 use crate::place::place_of;
-use crate::sixteen::{are_sixteen_clear, are_sixteen_opaque};
+use crate::sixteen::{are_sixteen_clear, are_sixteen_opaque, opaque_run};
 use pixel::lanes::{are_clear, are_opaque};
 use pixel::{Area, colour_at, over_row};
 use std::simd::prelude::*;
@@ -82,9 +82,8 @@ fn row_over_columns(
     ensures premultiplied { ArePremultiplied surface.old → ArePremultiplied surface.new }
 {
     let mut done = 0;
-    'sixteens: while done + 16 <= at.w {
-        row_over_sixteen_columns(surface, width, height, at, row, from, done);
-        done += 16;
+    'runs: while done + 16 <= at.w {
+        done += row_over_blocks(surface, width, height, at, row, from, done);
     }
     'fours: while done + 4 <= at.w {
         row_over_four_columns(surface, width, height, at, row, from, done);
@@ -94,6 +93,37 @@ fn row_over_columns(
         row_over_column(surface, width, height, at, row, from, done);
         done += 1;
     }
+}
+
+// lays pixels of the row over each row of some columns of the area, from its column `first` on, and returns how many:
+// sixteen, or more where they are opaque and can be copied together
+fn row_over_blocks(
+    surface: &mut [u8],
+    width: usize,
+    height: usize,
+    at: Area,
+    row: &[u8],
+    from: usize,
+    first: usize,
+) -> usize
+    requires size { length surface.old ≡ 4 * (width * height) }
+    requires inside { IsInside at width height }
+    requires there { first + 16 ≤ at.w }
+    requires columns { 4 * (from + at.w) ≤ length row.now }
+    requires premultiplied { ArePremultiplied row.now }
+    ensures some { 1 ≤ result }
+    ensures most { first + result ≤ at.w }
+    ensures pixels { EachPixel width height (within_rows (columns_of at first result) at.h (λ x y below. blend below (pixel row.now (x - at.x + from)))) surface.old surface.new }
+    ensures premultiplied { ArePremultiplied surface.old → ArePremultiplied surface.new }
+{
+    let run = opaque_run(row, from + first, at.w - first);
+    if run > 16 {
+        let opaque = columns(at, first, run);
+        copy_over_rows(surface, width, height, opaque, row, from + first);
+        return run;
+    }
+    row_over_sixteen_columns(surface, width, height, at, row, from, first);
+    16
 }
 
 // lays sixteen pixels of the row over each row of sixteen columns of the area, from its column `first` on: opaque
@@ -127,7 +157,7 @@ fn row_over_sixteen_columns(
     }
 }
 
-// gives each row of an area of sixteen columns the pixels of the row from its pixel `from` on
+// gives each row of an area the pixels of the row from its pixel `from` on
 #[inline(always)]
 fn copy_over_rows(
     surface: &mut [u8],
@@ -139,27 +169,26 @@ fn copy_over_rows(
 )
     requires size { length surface.old ≡ 4 * (width * height) }
     requires inside { IsInside at width height }
-    requires sixteen { at.w ≡ 16 }
-    requires given { 4 * (from + 16) ≤ length row.now }
+    requires given { 4 * (from + at.w) ≤ length row.now }
     requires premultiplied { ArePremultiplied row.now }
     ensures pixels { EachPixel width height (within_rows at at.h (λ x y below. pixel row.now (from + (x - at.x)))) surface.old surface.new }
     ensures premultiplied { ArePremultiplied surface.old → ArePremultiplied surface.new }
 {
     for down in 0..at.h {
-        let place = place_of(width, height, at.x, at.y + down, 16);
-        copy_sixteen(surface, place, row, from);
+        let place = place_of(width, height, at.x, at.y + down, at.w);
+        copy_run(surface, place, at.w, row, from);
     }
 }
 
-// gives the sixteen pixels of a surface from pixel `k` on those of the row from its pixel `from` on
+// gives `n` pixels of a surface from pixel `k` on those of the row from its pixel `from` on
 #[inline(always)]
-fn copy_sixteen(surface: &mut [u8], k: usize, row: &[u8], from: usize)
-    requires there { 4 * (k + 16) ≤ length surface.old }
-    requires given { 4 * (from + 16) ≤ length row.now }
+fn copy_run(surface: &mut [u8], k: usize, n: usize, row: &[u8], from: usize)
+    requires there { 4 * (k + n) ≤ length surface.old }
+    requires given { 4 * (from + n) ≤ length row.now }
     requires premultiplied { ArePremultiplied row.now }
-    ensures { IsPart k 16 (λ j below. pixel row.now (from + j)) surface.old surface.new }
+    ensures { IsPart k n (λ j below. pixel row.now (from + j)) surface.old surface.new }
 {
-    surface[4 * k..4 * (k + 16)].copy_from_slice(&row[4 * from..4 * (from + 16)]);
+    surface[4 * k..4 * (k + n)].copy_from_slice(&row[4 * from..4 * (from + n)]);
 }
 
 // lays four pixels of the row over each row of four columns of the area, from its column `first` on

@@ -1,4 +1,4 @@
-//! Whether sixteen pixels of a row are opaque, or clear.
+//! Whether sixteen pixels of a row are opaque, or clear, and how many are opaque.
 
 ghost use Rattle.std.specs.Prelude.{◌≡◌, ℕ, ◌+◌, ◌*◌, ◌<◌, ◌≤◌, IsTrue, length};
 ghost use Rattle.pixel.specs.Colours.{Parts, blend, clear};
@@ -15,6 +15,23 @@ pub fn are_sixteen_opaque(row: &[u8], k: usize) -> bool
     ensures { IsTrue result → (j : ℕ) → j < 16 → (below : Parts) → pixel row.now (k + j) ≡ blend below (pixel row.now (k + j)) }
 {
     are_eight_opaque(row, k) && are_eight_opaque(row, k + 8)
+}
+
+/// How many pixels of a row, from pixel `k` on and at most the given number, are opaque, counted by sixteens.
+pub(crate) fn opaque_run(row: &[u8], k: usize, most: usize) -> usize
+    requires inside { 4 * (k + most) ≤ length row.now }
+    requires premultiplied { ArePremultiplied row.now }
+    ensures most { result ≤ most }
+    ensures opaque { (j : ℕ) → j < result → (below : Parts) → pixel row.now (k + j) ≡ blend below (pixel row.now (k + j)) }
+{
+    let mut run = 0;
+    while run + 16 <= most {
+        if !are_sixteen_opaque(row, k + run) {
+            return run;
+        }
+        run += 16;
+    }
+    run
 }
 
 // whether eight pixels of a row, from pixel `k` on, are opaque

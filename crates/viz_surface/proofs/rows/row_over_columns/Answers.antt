@@ -7,15 +7,15 @@ use Rattle.viz_surface.specs.inner.Columns.{columns_of}
 use Rattle.viz_surface.proofs.Areas.{columns_more, all_columns}
 use Rattle.viz_surface.proofs.rows.row_over_columns.Goals as goal
 
-pub sixteens-preserved : goal.sixteens-preserved
-sixteens-preserved c =
+pub runs-preserved : goal.runs-preserved
+runs-preserved c =
     let f : ℕ → ℕ → Parts → Parts = λ x y below. blend below (pixel c.args.row.now (x - c.args.at.x + c.args.from)) in
     record {
-      inside = omega (arith, c.sixteens-test.true);
+      inside = omega (arith, c.row_over_blocks-done.ensures.most);
       pixels =
-          columns_more c.args.width c.args.height c.args.at c.sixteens.done 16 f f c.args.surface.now c.sixteens.surface c.row_over_sixteen_columns.new.surface
-          c.sixteens.invariant.pixels c.row_over_sixteen_columns.ensures.pixels (λ x y below low high. refl);
-      premultiplied = λ ready. c.row_over_sixteen_columns.ensures.premultiplied (c.sixteens.invariant.premultiplied ready);
+          columns_more c.args.width c.args.height c.args.at c.runs.done c.row_over_blocks-done.result f f c.args.surface.now c.runs.surface c.row_over_blocks-done.new.surface
+          c.runs.invariant.pixels c.row_over_blocks-done.ensures.pixels (λ x y below low high. refl);
+      premultiplied = λ ready. c.row_over_blocks-done.ensures.premultiplied (c.runs.invariant.premultiplied ready);
     }
 
 pub fours-preserved : goal.fours-preserved

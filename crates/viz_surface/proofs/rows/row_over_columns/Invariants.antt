@@ -5,15 +5,15 @@ use Rattle.pixel.specs.Surfaces.{EachPixel, within_rows}
 use Rattle.viz_surface.specs.inner.Columns.{columns_of}
 use Rattle.viz_surface.proofs.rows.row_over_columns.Given as given
 
-abbrev pub invariant-sixteens : given.invariant-sixteens
-invariant-sixteens l = record {
+abbrev pub invariant-runs : given.invariant-runs
+invariant-runs l = record {
   inside : l.done ≤ l.at.w;
   pixels : EachPixel l.width l.height (within_rows (columns_of l.at 0 l.done) l.at.h (λ x y below. blend below (pixel l.row (x - l.at.x + l.from)))) l.fn.surface l.surface;
   premultiplied : ArePremultiplied l.fn.surface → ArePremultiplied l.surface;
 }
 
-abbrev pub decreases-sixteens : given.decreases-sixteens
-decreases-sixteens l = l.at.w - l.done
+abbrev pub decreases-runs : given.decreases-runs
+decreases-runs l = l.at.w - l.done
 
 abbrev pub invariant-fours : given.invariant-fours
 invariant-fours l = record {
