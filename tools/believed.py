@@ -85,10 +85,10 @@ def uses_in(lines):
 
 
 def outdented(lines):
-    """The lines, where those of a module inside a file stand as far left as the others."""
+    """The lines, where those of a module inside a file, or of definitions that need each other, stand as far left as the others."""
     is_inside = False
     for line in lines:
-        if line.startswith("module "):
+        if line.startswith("module ") or line == "abbrev mutual":
             is_inside = True
         elif line and line[0] not in " -":
             is_inside = False
@@ -108,7 +108,7 @@ def note_use(found, names, short):
 
 def name_of(line):
     """The name that a line begins to define or goes on to define, if it does: a definition's lines begin with it."""
-    if not line or line[0] in " -})" or line.startswith(("use ", "mod ", "pub mod ", "module ", "where", "infix", "syntax", "ruleset")):
+    if not line or line[0] in " -})" or line.startswith(("use ", "mod ", "pub mod ", "module ", "where", "infix", "syntax", "ruleset", "abbrev mutual")):
         return None
     found = HEAD.match(line)
     return found.group(2) if found else None
@@ -167,7 +167,7 @@ class World:
         head = re.compile(rf"{re.escape(item.name)} (\S+ )*?\(?({'|'.join(others)})\b")
         kept, is_other = [], False
         for line in item.text.split("\n"):
-            is_other = bool(head.match(line)) or (is_other and line.startswith(" "))
+            is_other = bool(head.match(line.partition(" = ")[0] + " ")) or (is_other and line.startswith(" "))
             kept += [line] * (not is_other)
         return "\n".join(kept)
 
