@@ -1,7 +1,7 @@
 """The shape of a script: the fields of its objects, their forms, and the first that is wrong.
 
 The rules are those of docs/FORMAT.md ("Numbers, colours, rects" to "The place of a fault") and of the definitions in
-crates/script_json/specs (`Reading`, `CommandReading`, `NodeReading`, `LayerReading`, `ItemReading`, `InputReading`)
+crates/script_json/specs (`Reading`, `CommandReading`, `ItemReading`, `InputReading`)
 and crates/script_fields/specs (`Forms`, `Fields`). A field's number is its place in the tables below, from 1.
 """
 import dataclasses

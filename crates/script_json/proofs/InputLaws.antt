@@ -16,7 +16,7 @@ use Rattle.script_json.specs.declared.fault.ShapeFault.{ShapeFault}
 use Rattle.script_json.specs.declared.op.InputOp.{InputOp}
 use Rattle.script_json.specs.declared.op.InputOp.TheVariants as op
 use Rattle.script_json.specs.Faults.{placed, before_rest}
-use Rattle.script_json.specs.InputReading.{input_named, input_op_at, amount_at, scroll_at, wheel_at, room_for_draw, draw_at, frame_number, await_at, settle_at, input_fields_at, input_at, draws_after, inputs_at}
+use Rattle.script_json.specs.InputReading.{input_named, input_op_at, amount_at, room_for_draw, frame_number, input_fields_at, input_at, draws_after, inputs_at}
 use Rattle.script_json.specs.InputValues.{scroll_data, wheel_data, draw_data, await_data, settle_data, input_data}
 use Rattle.script_json.proofs.CommandLaws.{placed_ok}
 
@@ -24,7 +24,7 @@ use Rattle.script_json.proofs.CommandLaws.{placed_ok}
 
 scroll_again : (frames draws scroller : ℕ) (dx dy : ℤ) → input_in_range frames (Scroll scroller dx dy) ≡ true
     → input_at frames draws (scroll_data scroller dx dy) ≡ Ok (Scroll scroller dx dy)
-unfolding input_at object_at input_op_at input_named scroll_at scroll_data no_more_members number_at amount_at int_at
+unfolding input_at object_at input_op_at input_named input_fields_at scroll_data no_more_members number_at amount_at int_at
 scroll_again frames draws scroller dx dy all =
     let h0 = left _ _ (left _ _ all) in
     let h1 = right _ _ (left _ _ all) in
@@ -35,7 +35,7 @@ scroll_again frames draws scroller dx dy all =
 
 wheel_again : (frames draws x y : ℕ) (dx dy : ℤ) → input_in_range frames (Wheel x y dx dy) ≡ true
     → input_at frames draws (wheel_data x y dx dy) ≡ Ok (Wheel x y dx dy)
-unfolding input_at object_at input_op_at input_named wheel_at wheel_data no_more_members number_at amount_at int_at
+unfolding input_at object_at input_op_at input_named input_fields_at wheel_data no_more_members number_at amount_at int_at
 wheel_again frames draws x y dx dy all =
     let h0 = left _ _ (left _ _ (left _ _ all)) in
     let h1 = right _ _ (left _ _ (left _ _ all)) in
@@ -47,21 +47,21 @@ wheel_again frames draws x y dx dy all =
     (rw (int_again (negsuc 1048575) 1048576 dy (lit< tt) h3) refl)))
 
 draw_again : (frames draws : ℕ) → draws < 4096 → input_at frames draws draw_data ≡ Ok Draw
-unfolding input_at object_at input_op_at input_named draw_at draw_data no_more_members
+unfolding input_at object_at input_op_at input_named input_fields_at draw_data no_more_members
 draw_again frames draws few =
     let e : nat_lt draws 4096 ≡ true = grind (arith, nat_tests) in
     rw e refl
 
 await_again : (frames draws frame : ℕ) → input_in_range frames (Await frame) ≡ true
     → input_at frames draws (await_data frame) ≡ Ok (Await frame)
-unfolding input_at object_at input_op_at input_named await_at await_data no_more_members number_at frame_number
+unfolding input_at object_at input_op_at input_named input_fields_at await_data no_more_members number_at frame_number
 await_again frames draws frame all =
     let h0 = left (is_u32 frame) (nat_lt frame frames) all in
     let h1 : nat_lt frame frames ≡ true = right (is_u32 frame) (nat_lt frame frames) all in
     rw (number_again 0 4294967295 frame h0) (rw h1 refl)
 
 settle_again : (frames draws : ℕ) → input_at frames draws settle_data ≡ Ok Settle
-unfolding input_at object_at input_op_at input_named settle_at settle_data no_more_members
+unfolding input_at object_at input_op_at input_named input_fields_at settle_data no_more_members
 settle_again frames draws = refl
 
 pub inputs_again : (frames draws index : ℕ) (xs : List Input) → list_all (input_in_range frames) xs ≡ true → draws + draw_count xs ≤ 4096
@@ -100,16 +100,16 @@ amount_fits : (key : List ℕ) (field : ℕ) (d : Data) → IfOk (amount_at key 
 unfolding amount_at
 amount_fits key field d = int_fits key (negsuc 1048575) (pos 1048576) field d
 
-scroll_fits : (frames draws : ℕ) (d : Data) → draws ≤ 4096 → IfOk (scroll_at d) (Fits frames draws)
-unfolding scroll_at
+scroll_fits : (frames draws : ℕ) (d : Data) → draws ≤ 4096 → IfOk (input_fields_at frames draws op.Scroll d) (Fits frames draws)
+unfolding input_fields_at
 scroll_fits frames draws d few =
     then_ok (number_at (codes "scroller") 1 65535 1 d) _ (λ n. in_range 1 65535 n ≡ true) _ (number_fits (codes "scroller") 1 65535 1 d) (λ scroller h0.
     then_ok (amount_at (codes "dx") 2 d) _ (λ z. is_amount z ≡ true) _ (amount_fits (codes "dx") 2 d) (λ dx h1.
     then_ok (amount_at (codes "dy") 3 d) _ (λ z. is_amount z ≡ true) _ (amount_fits (codes "dy") 3 d) (λ dy h2.
     then_any (no_more_members 4 d) _ _ (λ u. record { in_range = both _ _ (both _ _ h0 h1) h2; few = few }))))
 
-wheel_fits : (frames draws : ℕ) (d : Data) → draws ≤ 4096 → IfOk (wheel_at d) (Fits frames draws)
-unfolding wheel_at
+wheel_fits : (frames draws : ℕ) (d : Data) → draws ≤ 4096 → IfOk (input_fields_at frames draws op.Wheel d) (Fits frames draws)
+unfolding input_fields_at
 wheel_fits frames draws d few =
     then_ok (number_at (codes "x") 0 2047 1 d) _ (λ n. in_range 0 2047 n ≡ true) _ (number_fits (codes "x") 0 2047 1 d) (λ x h0.
     then_ok (number_at (codes "y") 0 2047 2 d) _ (λ n. in_range 0 2047 n ≡ true) _ (number_fits (codes "y") 0 2047 2 d) (λ y h1.
@@ -122,8 +122,8 @@ room_fits draws =
     elim (nat_lt draws 4096) as (λ b. nat_lt draws 4096 ≡ b → IfOk (if b then Ok tt else Err (fault 0)) (λ u. nat_lt draws 4096 ≡ true))
     [ true ↦ λ e. e | false ↦ λ e. tt ] refl
 
-draw_fits : (frames draws : ℕ) (d : Data) → IfOk (draw_at draws d) (Fits frames draws)
-unfolding draw_at
+draw_fits : (frames draws : ℕ) (d : Data) → IfOk (input_fields_at frames draws op.Draw d) (Fits frames draws)
+unfolding input_fields_at
 draw_fits frames draws d =
     then_ok (room_for_draw draws) _ (λ u. nat_lt draws 4096 ≡ true) _ (room_fits draws) (λ u h.
     then_any (no_more_members 1 d) _ _ (λ v. record { in_range = refl; few = grind (arith, nat_tests) }))
@@ -134,15 +134,15 @@ frame_number_fits frames n =
     elim (nat_lt n frames) as (λ b. nat_lt n frames ≡ b → IfSome (if b then Some n else None) (λ m. (m ≡ n) × (nat_lt m frames ≡ true)))
     [ true ↦ λ e. (refl, e) | false ↦ λ e. tt ] refl
 
-await_fits : (frames draws : ℕ) (d : Data) → draws ≤ 4096 → IfOk (await_at frames d) (Fits frames draws)
-unfolding await_at
+await_fits : (frames draws : ℕ) (d : Data) → draws ≤ 4096 → IfOk (input_fields_at frames draws op.Await d) (Fits frames draws)
+unfolding input_fields_at
 await_fits frames draws d few =
     then_ok (number_at (codes "frame") 0 4294967295 1 d) _ (λ n. is_u32 n ≡ true) _ (number_fits (codes "frame") 0 4294967295 1 d) (λ n h0.
     then_ok (or_fault 1 (frame_number frames n)) _ (λ m. (m ≡ n) × (nat_lt m frames ≡ true)) _ (or_fault_ok 1 (frame_number frames n) (λ m. (m ≡ n) × (nat_lt m frames ≡ true)) (frame_number_fits frames n)) (λ m h1.
     then_any (no_more_members 2 d) _ _ (λ u. record { in_range = both _ _ (rw h1.0 h0) h1.1; few = few })))
 
-settle_fits : (frames draws : ℕ) (d : Data) → draws ≤ 4096 → IfOk (settle_at d) (Fits frames draws)
-unfolding settle_at
+settle_fits : (frames draws : ℕ) (d : Data) → draws ≤ 4096 → IfOk (input_fields_at frames draws op.Settle d) (Fits frames draws)
+unfolding input_fields_at
 settle_fits frames draws d few = then_any (no_more_members 1 d) _ _ (λ u. record { in_range = refl; few = few })
 
 input_fields_fits : (frames draws : ℕ) (o : InputOp) (d : Data) → draws ≤ 4096 → IfOk (input_fields_at frames draws o d) (Fits frames draws)

@@ -15,8 +15,9 @@ use Rattle.script_fields.specs.Values.{bytes_data}
 use Rattle.script_fields.proofs.Again.{left, right, both, byte_again, colour_bytes, number_again, rect_again, colour_again}
 use Rattle.script_fields.proofs.Fits.{then_ok, then_any, then_some, map_some, or_fault_ok, whole_fits, rect_fits, colour_form_fits}
 use Rattle.script_json.specs.Ops.{op_at, op_named, layer_op_named}
-use Rattle.script_json.specs.CommandReading.{command_at}
-use Rattle.script_json.specs.ItemReading.{if_picture, pixels_form, paint_of, paint_at, insert_item_at, replace_item_at}
+use Rattle.script_json.specs.declared.op.Op.TheVariants as op
+use Rattle.script_json.specs.CommandReading.{command_at, fields_at}
+use Rattle.script_json.specs.ItemReading.{if_picture, pixels_form, paint_of, paint_at}
 use Rattle.script_json.specs.ItemValues.{rect_item_data, bitmap_data}
 
 bytes_again : (bs : List ℕ) → are_pixels bs ≡ true → bytes_of (bytes_digits bs) ≡ Some bs
@@ -39,11 +40,11 @@ pixels_again : (rect : Rect) (bytes : List ℕ) → is_picture rect bytes ≡ tr
 unfolding pixels_form bytes_form bytes_data
 pixels_again rect bytes h = rw (bytes_again bytes (picture_pixels rect bytes h)) (rw h refl)
 
-pub insert_rect_again : (version layer place : ℕ) (rect : Rect) (colour : Parts)
+insert_rect_fields : (version layer place : ℕ) (rect : Rect) (colour : Parts)
     → (is_u32 layer && is_u32 place && (is_rect rect && is_colour colour)) ≡ true
-    → command_at version (rect_item_data (codes "insert_item") layer place rect colour) ≡ Ok (InsertItem layer place (item.Rect rect colour))
-unfolding command_at object_at op_at op_named layer_op_named insert_item_at rect_item_data no_more_members number_at whole_at rect_at paint_at
-insert_rect_again version layer place rect colour all =
+    → fields_at op.InsertItem (rect_item_data (codes "insert_item") layer place rect colour) ≡ Ok (InsertItem layer place (item.Rect rect colour))
+unfolding fields_at rect_item_data no_more_members number_at whole_at rect_at paint_at
+insert_rect_fields version layer place rect colour all =
     let h0 = left _ _ (left _ _ all) in
     let h1 = right _ _ (left _ _ all) in
     let item_fits = right _ _ all in
@@ -53,27 +54,41 @@ insert_rect_again version layer place rect colour all =
     (rw (number_again 0 4294967295 place h1)
     (rw (rect_again rect h2)
     (rw (colour_again colour h3) refl)))
+
+pub insert_rect_again : (version layer place : ℕ) (rect : Rect) (colour : Parts)
+    → (is_u32 layer && is_u32 place && (is_rect rect && is_colour colour)) ≡ true
+    → command_at version (rect_item_data (codes "insert_item") layer place rect colour) ≡ Ok (InsertItem layer place (item.Rect rect colour))
+unfolding command_at object_at op_at op_named layer_op_named rect_item_data
+insert_rect_again version layer place rect colour all =
+    insert_rect_fields version layer place rect colour all
+
+insert_bitmap_fields : (version layer place : ℕ) (picture : BitmapModel)
+    → (is_u32 layer && is_u32 place && (is_rect picture.rect && is_picture picture.rect picture.pixels)) ≡ true
+    → fields_at op.InsertItem (bitmap_data (codes "insert_item") layer place picture) ≡ Ok (InsertItem layer place (item.Bitmap picture))
+unfolding fields_at bitmap_data no_more_members number_at whole_at rect_at paint_at
+insert_bitmap_fields version layer place picture all =
+    let h0 = left _ _ (left _ _ all) in
+    let h1 = right _ _ (left _ _ all) in
+    let item_fits = right _ _ all in
+    let h2 = left _ _ item_fits in
+    let h3 = right _ _ item_fits in
+    rw (number_again 0 4294967295 layer h0)
+    (rw (number_again 0 4294967295 place h1)
+    (rw (rect_again picture.rect h2)
+    (rw (pixels_again picture.rect picture.pixels h3) refl)))
 
 pub insert_bitmap_again : (version layer place : ℕ) (picture : BitmapModel)
     → (is_u32 layer && is_u32 place && (is_rect picture.rect && is_picture picture.rect picture.pixels)) ≡ true
     → command_at version (bitmap_data (codes "insert_item") layer place picture) ≡ Ok (InsertItem layer place (item.Bitmap picture))
-unfolding command_at object_at op_at op_named layer_op_named insert_item_at bitmap_data no_more_members number_at whole_at rect_at paint_at
+unfolding command_at object_at op_at op_named layer_op_named bitmap_data
 insert_bitmap_again version layer place picture all =
-    let h0 = left _ _ (left _ _ all) in
-    let h1 = right _ _ (left _ _ all) in
-    let item_fits = right _ _ all in
-    let h2 = left _ _ item_fits in
-    let h3 = right _ _ item_fits in
-    rw (number_again 0 4294967295 layer h0)
-    (rw (number_again 0 4294967295 place h1)
-    (rw (rect_again picture.rect h2)
-    (rw (pixels_again picture.rect picture.pixels h3) refl)))
+    insert_bitmap_fields version layer place picture all
 
-pub replace_rect_again : (version layer place : ℕ) (rect : Rect) (colour : Parts)
+replace_rect_fields : (version layer place : ℕ) (rect : Rect) (colour : Parts)
     → (is_u32 layer && is_u32 place && (is_rect rect && is_colour colour)) ≡ true
-    → command_at version (rect_item_data (codes "replace_item") layer place rect colour) ≡ Ok (ReplaceItem layer place (item.Rect rect colour))
-unfolding command_at object_at op_at op_named layer_op_named replace_item_at rect_item_data no_more_members number_at whole_at rect_at paint_at
-replace_rect_again version layer place rect colour all =
+    → fields_at op.ReplaceItem (rect_item_data (codes "replace_item") layer place rect colour) ≡ Ok (ReplaceItem layer place (item.Rect rect colour))
+unfolding fields_at rect_item_data no_more_members number_at whole_at rect_at paint_at
+replace_rect_fields version layer place rect colour all =
     let h0 = left _ _ (left _ _ all) in
     let h1 = right _ _ (left _ _ all) in
     let item_fits = right _ _ all in
@@ -84,11 +99,18 @@ replace_rect_again version layer place rect colour all =
     (rw (rect_again rect h2)
     (rw (colour_again colour h3) refl)))
 
-pub replace_bitmap_again : (version layer place : ℕ) (picture : BitmapModel)
+pub replace_rect_again : (version layer place : ℕ) (rect : Rect) (colour : Parts)
+    → (is_u32 layer && is_u32 place && (is_rect rect && is_colour colour)) ≡ true
+    → command_at version (rect_item_data (codes "replace_item") layer place rect colour) ≡ Ok (ReplaceItem layer place (item.Rect rect colour))
+unfolding command_at object_at op_at op_named layer_op_named rect_item_data
+replace_rect_again version layer place rect colour all =
+    replace_rect_fields version layer place rect colour all
+
+replace_bitmap_fields : (version layer place : ℕ) (picture : BitmapModel)
     → (is_u32 layer && is_u32 place && (is_rect picture.rect && is_picture picture.rect picture.pixels)) ≡ true
-    → command_at version (bitmap_data (codes "replace_item") layer place picture) ≡ Ok (ReplaceItem layer place (item.Bitmap picture))
-unfolding command_at object_at op_at op_named layer_op_named replace_item_at bitmap_data no_more_members number_at whole_at rect_at paint_at
-replace_bitmap_again version layer place picture all =
+    → fields_at op.ReplaceItem (bitmap_data (codes "replace_item") layer place picture) ≡ Ok (ReplaceItem layer place (item.Bitmap picture))
+unfolding fields_at bitmap_data no_more_members number_at whole_at rect_at paint_at
+replace_bitmap_fields version layer place picture all =
     let h0 = left _ _ (left _ _ all) in
     let h1 = right _ _ (left _ _ all) in
     let item_fits = right _ _ all in
@@ -98,6 +120,13 @@ replace_bitmap_again version layer place picture all =
     (rw (number_again 0 4294967295 place h1)
     (rw (rect_again picture.rect h2)
     (rw (pixels_again picture.rect picture.pixels h3) refl)))
+
+pub replace_bitmap_again : (version layer place : ℕ) (picture : BitmapModel)
+    → (is_u32 layer && is_u32 place && (is_rect picture.rect && is_picture picture.rect picture.pixels)) ≡ true
+    → command_at version (bitmap_data (codes "replace_item") layer place picture) ≡ Ok (ReplaceItem layer place (item.Bitmap picture))
+unfolding command_at object_at op_at op_named layer_op_named bitmap_data
+replace_bitmap_again version layer place picture all =
+    replace_bitmap_fields version layer place picture all
 
 if_picture_fits : (rect : Rect) (bytes : List ℕ) → is_rect rect ≡ true → IfSome (if_picture rect bytes) (λ i. item_in_range i ≡ true)
 if_picture_fits rect bytes hr =
@@ -121,8 +150,8 @@ unfolding paint_at
 paint_fits rect field d hr = or_fault_ok field (paint_of rect (get (codes "colour") d) (get (codes "pixels") d)) (λ i. item_in_range i ≡ true)
     (paint_of_fits rect (get (codes "colour") d) (get (codes "pixels") d) hr)
 
-pub insert_item_fits : (version : ℕ) (d : Data) → IfOk (insert_item_at d) (λ c. command_in_range version c ≡ true)
-unfolding insert_item_at
+pub insert_item_fits : (version : ℕ) (d : Data) → IfOk (fields_at op.InsertItem d) (λ c. command_in_range version c ≡ true)
+unfolding fields_at
 insert_item_fits version d =
     then_ok (whole_at (codes "layer") 1 d) _ (λ x. is_u32 x ≡ true) _ (whole_fits (codes "layer") 1 d) (λ layer h0.
     then_ok (whole_at (codes "at") 2 d) _ (λ x. is_u32 x ≡ true) _ (whole_fits (codes "at") 2 d) (λ place h1.
@@ -130,8 +159,8 @@ insert_item_fits version d =
     then_ok (paint_at rect 4 d) _ (λ i. item_in_range i ≡ true) _ (paint_fits rect 4 d h2) (λ i h3.
     then_any (no_more_members 5 d) _ _ (λ u. both _ _ (both _ _ h0 h1) h3)))))
 
-pub replace_item_fits : (version : ℕ) (d : Data) → IfOk (replace_item_at d) (λ c. command_in_range version c ≡ true)
-unfolding replace_item_at
+pub replace_item_fits : (version : ℕ) (d : Data) → IfOk (fields_at op.ReplaceItem d) (λ c. command_in_range version c ≡ true)
+unfolding fields_at
 replace_item_fits version d =
     then_ok (whole_at (codes "layer") 1 d) _ (λ x. is_u32 x ≡ true) _ (whole_fits (codes "layer") 1 d) (λ layer h0.
     then_ok (whole_at (codes "at") 2 d) _ (λ x. is_u32 x ≡ true) _ (whole_fits (codes "at") 2 d) (λ place h1.

@@ -1,41 +1,139 @@
 -- Commands, and the main frames that list them.
-use Rattle.std.specs.Prelude.{ℕ, ◌+◌, List, [], Result, Ok}
+use Rattle.std.specs.Prelude.{ℕ, ◌+◌, List, [], codes, Result, Ok}
 use Rattle.serde_json.specs.Data.{Data, Items, no_items, item}
 use Rattle.serde_json.specs.Find.{as_array}
 use Rattle.page_layers.specs.declared.command.Command.{Command}
+use Rattle.page_layers.specs.declared.command.Command.TheVariants.{AddTransform, SetTransform, AddClip, SetClip, AddEffect, SetOpacity, AddScroller, SetRange, ScrollBy, ScrollTo, AddLayer, RemoveLayer, ResizeLayer, SetColour, InsertItem, RemoveItem, ReplaceItem, MoveLayer, SetView}
 use Rattle.script_fields.specs.declared.fault.FieldFault.{FieldFault}
 use Rattle.script_fields.specs.Faults.{◌>>=◌, or_fault}
-use Rattle.script_fields.specs.Fields.{object_at}
+use Rattle.script_fields.specs.Fields.{object_at, colour_at, rect_at, signed_at, whole_at, no_more_members}
 use Rattle.script_json.specs.declared.fault.ShapeFault.{ShapeFault}
 use Rattle.script_json.specs.declared.op.Op.{Op}
 use Rattle.script_json.specs.declared.op.Op.TheVariants as op
 use Rattle.script_json.specs.Faults.{placed, before_rest}
 use Rattle.script_json.specs.Ops.{op_at}
-use Rattle.script_json.specs.NodeReading.{add_transform_at, set_transform_at, add_clip_at, set_clip_at, add_effect_at, set_opacity_at, add_scroller_at, set_range_at, scroll_by_at, scroll_to_at}
-use Rattle.script_json.specs.LayerReading.{add_layer_at, remove_layer_at, resize_layer_at, set_colour_at, remove_item_at, move_layer_at, set_view_at}
-use Rattle.script_json.specs.ItemReading.{insert_item_at, replace_item_at}
+use Rattle.script_json.specs.ItemReading.{paint_at}
 
--- the fields of a command with this name
-abbrev pub fields_at : Op → Data → Result Command FieldFault
-fields_at op.AddTransform d = add_transform_at d
-fields_at op.SetTransform d = set_transform_at d
-fields_at op.AddClip d = add_clip_at d
-fields_at op.SetClip d = set_clip_at d
-fields_at op.AddEffect d = add_effect_at d
-fields_at op.SetOpacity d = set_opacity_at d
-fields_at op.AddScroller d = add_scroller_at d
-fields_at op.SetRange d = set_range_at d
-fields_at op.ScrollBy d = scroll_by_at d
-fields_at op.ScrollTo d = scroll_to_at d
-fields_at op.AddLayer d = add_layer_at d
-fields_at op.RemoveLayer d = remove_layer_at d
-fields_at op.ResizeLayer d = resize_layer_at d
-fields_at op.SetColour d = set_colour_at d
-fields_at op.InsertItem d = insert_item_at d
-fields_at op.RemoveItem d = remove_item_at d
-fields_at op.ReplaceItem d = replace_item_at d
-fields_at op.MoveLayer d = move_layer_at d
-fields_at op.SetView d = set_view_at d
+-- the fields of the command with this name, in their order, then further fields
+unfoldable pub fields_at : Op → Data → Result Command FieldFault
+fields_at op.AddTransform d = do
+  id ← whole_at (codes "id") 1 d
+  parent ← whole_at (codes "parent") 2 d
+  x ← signed_at (codes "x") 3 d
+  y ← signed_at (codes "y") 4 d
+  scroller ← whole_at (codes "scroller") 5 d
+  _ ← no_more_members 6 d
+  Ok (AddTransform id parent x y scroller)
+fields_at op.SetTransform d = do
+  id ← whole_at (codes "id") 1 d
+  x ← signed_at (codes "x") 2 d
+  y ← signed_at (codes "y") 3 d
+  _ ← no_more_members 4 d
+  Ok (SetTransform id x y)
+fields_at op.AddClip d = do
+  id ← whole_at (codes "id") 1 d
+  parent ← whole_at (codes "parent") 2 d
+  transform ← whole_at (codes "transform") 3 d
+  rect ← rect_at (codes "rect") 4 d
+  _ ← no_more_members 5 d
+  Ok (AddClip id parent transform rect)
+fields_at op.SetClip d = do
+  id ← whole_at (codes "id") 1 d
+  rect ← rect_at (codes "rect") 2 d
+  _ ← no_more_members 3 d
+  Ok (SetClip id rect)
+fields_at op.AddEffect d = do
+  id ← whole_at (codes "id") 1 d
+  parent ← whole_at (codes "parent") 2 d
+  opacity ← whole_at (codes "opacity") 3 d
+  _ ← no_more_members 4 d
+  Ok (AddEffect id parent opacity)
+fields_at op.SetOpacity d = do
+  id ← whole_at (codes "id") 1 d
+  opacity ← whole_at (codes "opacity") 2 d
+  _ ← no_more_members 3 d
+  Ok (SetOpacity id opacity)
+fields_at op.AddScroller d = do
+  id ← whole_at (codes "id") 1 d
+  parent ← whole_at (codes "parent") 2 d
+  max_x ← whole_at (codes "max_x") 3 d
+  max_y ← whole_at (codes "max_y") 4 d
+  _ ← no_more_members 5 d
+  Ok (AddScroller id parent max_x max_y)
+fields_at op.SetRange d = do
+  id ← whole_at (codes "id") 1 d
+  max_x ← whole_at (codes "max_x") 2 d
+  max_y ← whole_at (codes "max_y") 3 d
+  _ ← no_more_members 4 d
+  Ok (SetRange id max_x max_y)
+fields_at op.ScrollBy d = do
+  id ← whole_at (codes "id") 1 d
+  dx ← signed_at (codes "dx") 2 d
+  dy ← signed_at (codes "dy") 3 d
+  _ ← no_more_members 4 d
+  Ok (ScrollBy id dx dy)
+fields_at op.ScrollTo d = do
+  id ← whole_at (codes "id") 1 d
+  x ← whole_at (codes "x") 2 d
+  y ← whole_at (codes "y") 3 d
+  _ ← no_more_members 4 d
+  Ok (ScrollTo id x y)
+fields_at op.AddLayer d = do
+  id ← whole_at (codes "id") 1 d
+  at ← whole_at (codes "at") 2 d
+  transform ← whole_at (codes "transform") 3 d
+  clip ← whole_at (codes "clip") 4 d
+  effect ← whole_at (codes "effect") 5 d
+  w ← whole_at (codes "w") 6 d
+  h ← whole_at (codes "h") 7 d
+  colour ← colour_at (codes "colour") 8 d
+  _ ← no_more_members 9 d
+  Ok (AddLayer id at transform clip effect w h colour)
+fields_at op.RemoveLayer d = do
+  id ← whole_at (codes "id") 1 d
+  _ ← no_more_members 2 d
+  Ok (RemoveLayer id)
+fields_at op.ResizeLayer d = do
+  id ← whole_at (codes "id") 1 d
+  w ← whole_at (codes "w") 2 d
+  h ← whole_at (codes "h") 3 d
+  _ ← no_more_members 4 d
+  Ok (ResizeLayer id w h)
+fields_at op.SetColour d = do
+  id ← whole_at (codes "id") 1 d
+  colour ← colour_at (codes "colour") 2 d
+  _ ← no_more_members 3 d
+  Ok (SetColour id colour)
+fields_at op.InsertItem d = do
+  layer ← whole_at (codes "layer") 1 d
+  place ← whole_at (codes "at") 2 d
+  rect ← rect_at (codes "rect") 3 d
+  painted ← paint_at rect 4 d
+  _ ← no_more_members 5 d
+  Ok (InsertItem layer place painted)
+fields_at op.RemoveItem d = do
+  layer ← whole_at (codes "layer") 1 d
+  at ← whole_at (codes "at") 2 d
+  _ ← no_more_members 3 d
+  Ok (RemoveItem layer at)
+fields_at op.ReplaceItem d = do
+  layer ← whole_at (codes "layer") 1 d
+  place ← whole_at (codes "at") 2 d
+  rect ← rect_at (codes "rect") 3 d
+  painted ← paint_at rect 4 d
+  _ ← no_more_members 5 d
+  Ok (ReplaceItem layer place painted)
+fields_at op.MoveLayer d = do
+  id ← whole_at (codes "id") 1 d
+  at ← whole_at (codes "at") 2 d
+  _ ← no_more_members 3 d
+  Ok (MoveLayer id at)
+fields_at op.SetView d = do
+  w ← whole_at (codes "w") 1 d
+  h ← whole_at (codes "h") 2 d
+  tile ← whole_at (codes "tile") 3 d
+  _ ← no_more_members 4 d
+  Ok (SetView w h tile)
 
 -- a command: an object, its name, its fields
 unfoldable pub command_at : ℕ → Data → Result Command FieldFault

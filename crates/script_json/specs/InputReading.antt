@@ -31,61 +31,41 @@ input_op_at d = or_fault 0 (option_and_then input_named (option_and_then as_str 
 unfoldable pub amount_at : List ℕ → ℕ → Data → Result ℤ FieldFault
 amount_at key field d = int_at key (neg_ℤ (pos max_scroll)) (pos max_scroll) field d
 
--- `scroll`
-unfoldable pub scroll_at : Data → Result Input FieldFault
-scroll_at d = do
+-- one draw too many is a fault of field 0
+abbrev pub room_for_draw : ℕ → Result ⊤ FieldFault
+room_for_draw draws = if nat_lt draws max_draws then Ok tt else Err (fault 0)
+
+-- the number of one of the given number of main frames
+unfoldable pub frame_number : ℕ → ℕ → Option ℕ
+frame_number frames n = if nat_lt n frames then Some n else None
+
+-- the fields of the input of this name, in their order, then further fields; after the given number of draws, in a script of the given number of main frames
+unfoldable pub input_fields_at : ℕ → ℕ → InputOp → Data → Result Input FieldFault
+input_fields_at frames draws op.Scroll d = do
   scroller ← number_at (codes "scroller") 1 max_id 1 d
   dx ← amount_at (codes "dx") 2 d
   dy ← amount_at (codes "dy") 3 d
   _ ← no_more_members 4 d
   Ok (Scroll scroller dx dy)
-
--- `wheel`
-unfoldable pub wheel_at : Data → Result Input FieldFault
-wheel_at d = do
+input_fields_at frames draws op.Wheel d = do
   x ← number_at (codes "x") 0 2047 1 d
   y ← number_at (codes "y") 0 2047 2 d
   dx ← amount_at (codes "dx") 3 d
   dy ← amount_at (codes "dy") 4 d
   _ ← no_more_members 5 d
   Ok (Wheel x y dx dy)
-
--- one draw too many is a fault of field 0
-abbrev pub room_for_draw : ℕ → Result ⊤ FieldFault
-room_for_draw draws = if nat_lt draws max_draws then Ok tt else Err (fault 0)
-
--- `draw`
-unfoldable pub draw_at : ℕ → Data → Result Input FieldFault
-draw_at draws d = do
+input_fields_at frames draws op.Draw d = do
   _ ← room_for_draw draws
   _ ← no_more_members 1 d
   Ok Draw
-
--- the number of one of the given number of main frames
-unfoldable pub frame_number : ℕ → ℕ → Option ℕ
-frame_number frames n = if nat_lt n frames then Some n else None
-
--- `await`: of one of the main frames
-unfoldable pub await_at : ℕ → Data → Result Input FieldFault
-await_at frames d = do
+input_fields_at frames draws op.Await d = do
   frame ← number_at (codes "frame") 0 4294967295 1 d
   awaited ← or_fault 1 (frame_number frames frame)
   _ ← no_more_members 2 d
   Ok (Await awaited)
-
--- `settle`
-unfoldable pub settle_at : Data → Result Input FieldFault
-settle_at d = do
+input_fields_at frames draws op.Settle d = do
   _ ← no_more_members 1 d
   Ok Settle
-
--- the fields of an input with this name, after the given number of draws, in a script of the given number of main frames
-abbrev pub input_fields_at : ℕ → ℕ → InputOp → Data → Result Input FieldFault
-input_fields_at frames draws op.Scroll d = scroll_at d
-input_fields_at frames draws op.Wheel d = wheel_at d
-input_fields_at frames draws op.Draw d = draw_at draws d
-input_fields_at frames draws op.Await d = await_at frames d
-input_fields_at frames draws op.Settle d = settle_at d
 
 -- an input: an object, its name, its fields
 unfoldable pub input_at : ℕ → ℕ → Data → Result Input FieldFault
@@ -97,17 +77,10 @@ input_at frames draws d = do
 -- how many draws there are after this input
 abbrev pub draws_after : ℕ → Input → ℕ
 draws_after draws Draw = draws + 1
-draws_after draws (Scroll scroller dx dy) = draws
-draws_after draws (Wheel x y dx dy) = draws
-draws_after draws (Await frame) = draws
-draws_after draws Settle = draws
-
--- an element before those that are read after it
-abbrev pub then_rest : {A : Type 0} → Result A ShapeFault → (A → Result (List A) ShapeFault) → Result (List A) ShapeFault
-then_rest first rest = first >>= λ x. before_rest (Ok x) (rest x)
+draws_after draws _ = draws
 
 -- the inputs from the one at `index` on, after the given number of draws
 abbrev pub inputs_at : ℕ → ℕ → ℕ → Items → Result (List Input) ShapeFault
 inputs_at frames draws index no_items = Ok []
 inputs_at frames draws index (item d ds) =
-    then_rest (placed 1 index (input_at frames draws d)) (λ x. inputs_at frames (draws_after draws x) (index + 1) ds)
+    placed 1 index (input_at frames draws d) >>= λ x. before_rest (Ok x) (inputs_at frames (draws_after draws x) (index + 1) ds)

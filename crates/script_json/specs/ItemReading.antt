@@ -1,17 +1,14 @@
--- Items of display lists: what is painted, and the two commands that put an item into a list.
-use Rattle.std.specs.Prelude.{ℕ, List, codes, Option, Some, None, option_map, option_and_then, Result, Ok, if◌then◌else◌}
+-- Items of display lists: what is painted.
+use Rattle.std.specs.Prelude.{ℕ, List, codes, Option, Some, None, option_map, option_and_then, Result, if◌then◌else◌}
 use Rattle.serde_json.specs.Data.{Data}
 use Rattle.serde_json.specs.Find.{get}
 use Rattle.geom.specs.declared.rect.Rect.{Rect}
 use Rattle.page_display_list.specs.declared.item.Item.{Item}
 use Rattle.page_display_list.specs.declared.item.Item.TheVariants as item
-use Rattle.page_layers.specs.declared.command.Command.{Command}
-use Rattle.page_layers.specs.declared.command.Command.TheVariants.{InsertItem, ReplaceItem}
 use Rattle.model_history.specs.Ranges.{is_picture}
 use Rattle.script_fields.specs.declared.fault.FieldFault.{FieldFault}
-use Rattle.script_fields.specs.Faults.{◌>>=◌, or_fault}
+use Rattle.script_fields.specs.Faults.{or_fault}
 use Rattle.script_fields.specs.Forms.{colour_form, bytes_form}
-use Rattle.script_fields.specs.Fields.{rect_at, whole_at, no_more_members}
 
 -- the bitmap of these bytes, if they are the pixels of the rect
 abbrev pub if_picture : Rect → List ℕ → Option Item
@@ -31,23 +28,3 @@ paint_of rect (Some colour) (Some pixels) = None
 -- the paint of an object whose rect was read before it
 unfoldable pub paint_at : Rect → ℕ → Data → Result Item FieldFault
 paint_at rect field d = or_fault field (paint_of rect (get (codes "colour") d) (get (codes "pixels") d))
-
--- `insert_item`
-unfoldable pub insert_item_at : Data → Result Command FieldFault
-insert_item_at d = do
-  layer ← whole_at (codes "layer") 1 d
-  place ← whole_at (codes "at") 2 d
-  rect ← rect_at (codes "rect") 3 d
-  painted ← paint_at rect 4 d
-  _ ← no_more_members 5 d
-  Ok (InsertItem layer place painted)
-
--- `replace_item`
-unfoldable pub replace_item_at : Data → Result Command FieldFault
-replace_item_at d = do
-  layer ← whole_at (codes "layer") 1 d
-  place ← whole_at (codes "at") 2 d
-  rect ← rect_at (codes "rect") 3 d
-  painted ← paint_at rect 4 d
-  _ ← no_more_members 5 d
-  Ok (ReplaceItem layer place painted)

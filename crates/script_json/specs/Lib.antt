@@ -1,7 +1,5 @@
 pub mod Faults
 pub mod Ops
-pub mod NodeReading
-pub mod LayerReading
 pub mod ItemReading
 pub mod CommandReading
 pub mod InputReading

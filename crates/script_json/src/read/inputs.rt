@@ -1,9 +1,10 @@
 //! Inputs, out of their JSON values.
 
-ghost use Rattle.std.specs.Prelude.{◌≡◌, ◌<◌, ◌+◌, ◌-◌, ◌^◌, ◌≤◌, length};
+ghost use Rattle.std.specs.Prelude.{◌≡◌, ℕ, ◌<◌, ◌+◌, ◌-◌, ◌^◌, ◌≤◌, length};
 ghost use Rattle.serde_json.specs.View.{view, items_view};
 ghost use Rattle.script_json.specs.Faults.{GivesPart, placed};
-ghost use Rattle.script_json.specs.InputReading.{amount_at, scroll_at, wheel_at, draw_at, frame_number, await_at, settle_at, input_fields_at, input_at, draws_after, inputs_at};
+ghost use Rattle.script_json.specs.declared.op.InputOp.TheVariants.{Scroll, Wheel, Draw, Await, Settle};
+ghost use Rattle.script_json.specs.InputReading.{amount_at, frame_number, input_fields_at, input_at, draws_after, inputs_at};
 
 use crate::fault::{ShapeFault, Stop};
 use crate::op::{self, InputOp};
@@ -26,9 +27,9 @@ fn amount(value: &Value, key: &str, field: u32) -> Result<i32, FieldFault>
     fields::int(value, key, -MOST, MOST, field)
 }
 
-#[tactic(auto, unfolding(crate::specs::InputReading::scroll_at))]
+#[tactic(auto, unfolding(crate::specs::InputReading::input_fields_at))]
 fn scroll(value: &Value) -> Result<Input, FieldFault>
-    ensures { result ≡ scroll_at (view value.now) }
+    ensures { (frames draws : ℕ) → result ≡ input_fields_at frames draws Scroll (view value.now) }
 {
     let scroller = fields::number(value, "scroller", 1, 65535, 1)?;
     let dx = amount(value, "dx", 2)?;
@@ -37,9 +38,9 @@ fn scroll(value: &Value) -> Result<Input, FieldFault>
     Ok(Input::Scroll { scroller, dx, dy })
 }
 
-#[tactic(auto, unfolding(crate::specs::InputReading::wheel_at))]
+#[tactic(auto, unfolding(crate::specs::InputReading::input_fields_at))]
 fn wheel(value: &Value) -> Result<Input, FieldFault>
-    ensures { result ≡ wheel_at (view value.now) }
+    ensures { (frames draws : ℕ) → result ≡ input_fields_at frames draws Wheel (view value.now) }
 {
     let x = fields::number(value, "x", 0, 2047, 1)?;
     let y = fields::number(value, "y", 0, 2047, 2)?;
@@ -50,9 +51,9 @@ fn wheel(value: &Value) -> Result<Input, FieldFault>
 }
 
 // A draw after the given number of others.
-#[tactic(auto, unfolding(crate::specs::InputReading::draw_at))]
+#[tactic(auto, unfolding(crate::specs::InputReading::input_fields_at))]
 fn draw(draws: u32, value: &Value) -> Result<Input, FieldFault>
-    ensures { result ≡ draw_at draws (view value.now) }
+    ensures { (frames : ℕ) → result ≡ input_fields_at frames draws Draw (view value.now) }
 {
     if draws >= MOST_DRAWS {
         return Err(FieldFault { field: 0 });
@@ -69,9 +70,9 @@ fn frame_number(frames: u32, n: u32) -> Option<u32>
     if n < frames { Some(n) } else { None }
 }
 
-#[tactic(auto, unfolding(crate::specs::InputReading::await_at))]
+#[tactic(auto, unfolding(crate::specs::InputReading::input_fields_at))]
 fn await_of(frames: u32, value: &Value) -> Result<Input, FieldFault>
-    ensures { result ≡ await_at frames (view value.now) }
+    ensures { (draws : ℕ) → result ≡ input_fields_at frames draws Await (view value.now) }
 {
     let frame = fields::number(value, "frame", 0, u32::MAX, 1)?;
     let frame = frame_number(frames, frame).ok_or(FieldFault { field: 1 })?;
@@ -79,9 +80,9 @@ fn await_of(frames: u32, value: &Value) -> Result<Input, FieldFault>
     Ok(Input::Await { frame })
 }
 
-#[tactic(auto, unfolding(crate::specs::InputReading::settle_at))]
+#[tactic(auto, unfolding(crate::specs::InputReading::input_fields_at))]
 fn settle(value: &Value) -> Result<Input, FieldFault>
-    ensures { result ≡ settle_at (view value.now) }
+    ensures { (frames draws : ℕ) → result ≡ input_fields_at frames draws Settle (view value.now) }
 {
     fields::no_more(value, 1)?;
     Ok(Input::Settle)

@@ -3,7 +3,9 @@
 ghost use Rattle.std.specs.Prelude.{◌≡◌, IfOk};
 ghost use Rattle.serde_json.specs.View.{view};
 ghost use Rattle.script_fields.specs.Faults.{Gives};
-ghost use Rattle.script_json.specs.ItemReading.{if_picture, pixels_form, paint_at, insert_item_at, replace_item_at};
+ghost use Rattle.script_json.specs.ItemReading.{if_picture, pixels_form, paint_at};
+ghost use Rattle.script_json.specs.declared.op.Op.TheVariants.{InsertItem, ReplaceItem};
+ghost use Rattle.script_json.specs.CommandReading.{fields_at};
 
 use geom::Rect;
 use page_display_list::Item;
@@ -57,9 +59,9 @@ fn paint(alloc: Global, value: &Value, rect: Rect, field: u32) -> Result<Item, T
 }
 
 /// A new item.
-#[tactic(auto, unfolding(crate::specs::ItemReading::insert_item_at))]
+#[tactic(auto, unfolding(crate::specs::CommandReading::fields_at))]
 pub(crate) fn insert_item(alloc: Global, value: &Value) -> Result<Command, Trouble>
-    ensures { Gives (λ x. x) result (insert_item_at (view value.now)) }
+    ensures { Gives (λ x. x) result (fields_at InsertItem (view value.now)) }
 {
     let layer = fields::whole(value, "layer", 1)?;
     let at = fields::whole(value, "at", 2)?;
@@ -70,9 +72,9 @@ pub(crate) fn insert_item(alloc: Global, value: &Value) -> Result<Command, Troub
 }
 
 /// An item in the place of another.
-#[tactic(auto, unfolding(crate::specs::ItemReading::replace_item_at))]
+#[tactic(auto, unfolding(crate::specs::CommandReading::fields_at))]
 pub(crate) fn replace_item(alloc: Global, value: &Value) -> Result<Command, Trouble>
-    ensures { Gives (λ x. x) result (replace_item_at (view value.now)) }
+    ensures { Gives (λ x. x) result (fields_at ReplaceItem (view value.now)) }
 {
     let layer = fields::whole(value, "layer", 1)?;
     let at = fields::whole(value, "at", 2)?;

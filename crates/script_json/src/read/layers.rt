@@ -2,16 +2,17 @@
 
 ghost use Rattle.std.specs.Prelude.{◌≡◌};
 ghost use Rattle.serde_json.specs.View.{view};
-ghost use Rattle.script_json.specs.LayerReading.{add_layer_at, remove_layer_at, resize_layer_at, set_colour_at, remove_item_at, move_layer_at, set_view_at};
+ghost use Rattle.script_json.specs.declared.op.Op.TheVariants.{AddLayer, RemoveLayer, ResizeLayer, SetColour, RemoveItem, MoveLayer, SetView};
+ghost use Rattle.script_json.specs.CommandReading.{fields_at};
 
 use page_layers::Command;
 use script_fields::{FieldFault, fields};
 use serde_json::Value;
 
 /// A new layer.
-#[tactic(auto, unfolding(crate::specs::LayerReading::add_layer_at))]
+#[tactic(auto, unfolding(crate::specs::CommandReading::fields_at))]
 pub(crate) fn add_layer(value: &Value) -> Result<Command, FieldFault>
-    ensures { result ≡ add_layer_at (view value.now) }
+    ensures { result ≡ fields_at AddLayer (view value.now) }
 {
     let id = fields::whole(value, "id", 1)?;
     let at = fields::whole(value, "at", 2)?;
@@ -35,9 +36,9 @@ pub(crate) fn add_layer(value: &Value) -> Result<Command, FieldFault>
 }
 
 /// A layer that goes.
-#[tactic(auto, unfolding(crate::specs::LayerReading::remove_layer_at))]
+#[tactic(auto, unfolding(crate::specs::CommandReading::fields_at))]
 pub(crate) fn remove_layer(value: &Value) -> Result<Command, FieldFault>
-    ensures { result ≡ remove_layer_at (view value.now) }
+    ensures { result ≡ fields_at RemoveLayer (view value.now) }
 {
     let id = fields::whole(value, "id", 1)?;
     fields::no_more(value, 2)?;
@@ -45,9 +46,9 @@ pub(crate) fn remove_layer(value: &Value) -> Result<Command, FieldFault>
 }
 
 /// Another size of a layer.
-#[tactic(auto, unfolding(crate::specs::LayerReading::resize_layer_at))]
+#[tactic(auto, unfolding(crate::specs::CommandReading::fields_at))]
 pub(crate) fn resize_layer(value: &Value) -> Result<Command, FieldFault>
-    ensures { result ≡ resize_layer_at (view value.now) }
+    ensures { result ≡ fields_at ResizeLayer (view value.now) }
 {
     let id = fields::whole(value, "id", 1)?;
     let w = fields::whole(value, "w", 2)?;
@@ -57,9 +58,9 @@ pub(crate) fn resize_layer(value: &Value) -> Result<Command, FieldFault>
 }
 
 /// Another background colour of a layer.
-#[tactic(auto, unfolding(crate::specs::LayerReading::set_colour_at))]
+#[tactic(auto, unfolding(crate::specs::CommandReading::fields_at))]
 pub(crate) fn set_colour(value: &Value) -> Result<Command, FieldFault>
-    ensures { result ≡ set_colour_at (view value.now) }
+    ensures { result ≡ fields_at SetColour (view value.now) }
 {
     let id = fields::whole(value, "id", 1)?;
     let colour = fields::colour(value, "colour", 2)?;
@@ -68,9 +69,9 @@ pub(crate) fn set_colour(value: &Value) -> Result<Command, FieldFault>
 }
 
 /// An item that goes.
-#[tactic(auto, unfolding(crate::specs::LayerReading::remove_item_at))]
+#[tactic(auto, unfolding(crate::specs::CommandReading::fields_at))]
 pub(crate) fn remove_item(value: &Value) -> Result<Command, FieldFault>
-    ensures { result ≡ remove_item_at (view value.now) }
+    ensures { result ≡ fields_at RemoveItem (view value.now) }
 {
     let layer = fields::whole(value, "layer", 1)?;
     let at = fields::whole(value, "at", 2)?;
@@ -79,9 +80,9 @@ pub(crate) fn remove_item(value: &Value) -> Result<Command, FieldFault>
 }
 
 /// Another place of a layer among the others.
-#[tactic(auto, unfolding(crate::specs::LayerReading::move_layer_at))]
+#[tactic(auto, unfolding(crate::specs::CommandReading::fields_at))]
 pub(crate) fn move_layer(value: &Value) -> Result<Command, FieldFault>
-    ensures { result ≡ move_layer_at (view value.now) }
+    ensures { result ≡ fields_at MoveLayer (view value.now) }
 {
     let id = fields::whole(value, "id", 1)?;
     let at = fields::whole(value, "at", 2)?;
@@ -90,9 +91,9 @@ pub(crate) fn move_layer(value: &Value) -> Result<Command, FieldFault>
 }
 
 /// Another viewport and tile size.
-#[tactic(auto, unfolding(crate::specs::LayerReading::set_view_at))]
+#[tactic(auto, unfolding(crate::specs::CommandReading::fields_at))]
 pub(crate) fn set_view(value: &Value) -> Result<Command, FieldFault>
-    ensures { result ≡ set_view_at (view value.now) }
+    ensures { result ≡ fields_at SetView (view value.now) }
 {
     let w = fields::whole(value, "w", 1)?;
     let h = fields::whole(value, "h", 2)?;

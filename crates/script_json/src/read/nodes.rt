@@ -2,16 +2,17 @@
 
 ghost use Rattle.std.specs.Prelude.{◌≡◌};
 ghost use Rattle.serde_json.specs.View.{view};
-ghost use Rattle.script_json.specs.NodeReading.{add_transform_at, set_transform_at, add_clip_at, set_clip_at, add_effect_at, set_opacity_at, add_scroller_at, set_range_at, scroll_by_at, scroll_to_at};
+ghost use Rattle.script_json.specs.declared.op.Op.TheVariants.{AddTransform, SetTransform, AddClip, SetClip, AddEffect, SetOpacity, AddScroller, SetRange, ScrollBy, ScrollTo};
+ghost use Rattle.script_json.specs.CommandReading.{fields_at};
 
 use page_layers::Command;
 use script_fields::{FieldFault, fields};
 use serde_json::Value;
 
 /// A new transform.
-#[tactic(auto, unfolding(crate::specs::NodeReading::add_transform_at))]
+#[tactic(auto, unfolding(crate::specs::CommandReading::fields_at))]
 pub(crate) fn add_transform(value: &Value) -> Result<Command, FieldFault>
-    ensures { result ≡ add_transform_at (view value.now) }
+    ensures { result ≡ fields_at AddTransform (view value.now) }
 {
     let id = fields::whole(value, "id", 1)?;
     let parent = fields::whole(value, "parent", 2)?;
@@ -29,9 +30,9 @@ pub(crate) fn add_transform(value: &Value) -> Result<Command, FieldFault>
 }
 
 /// Another place of a transform.
-#[tactic(auto, unfolding(crate::specs::NodeReading::set_transform_at))]
+#[tactic(auto, unfolding(crate::specs::CommandReading::fields_at))]
 pub(crate) fn set_transform(value: &Value) -> Result<Command, FieldFault>
-    ensures { result ≡ set_transform_at (view value.now) }
+    ensures { result ≡ fields_at SetTransform (view value.now) }
 {
     let id = fields::whole(value, "id", 1)?;
     let x = fields::signed(value, "x", 2)?;
@@ -41,9 +42,9 @@ pub(crate) fn set_transform(value: &Value) -> Result<Command, FieldFault>
 }
 
 /// A new clip.
-#[tactic(auto, unfolding(crate::specs::NodeReading::add_clip_at))]
+#[tactic(auto, unfolding(crate::specs::CommandReading::fields_at))]
 pub(crate) fn add_clip(value: &Value) -> Result<Command, FieldFault>
-    ensures { result ≡ add_clip_at (view value.now) }
+    ensures { result ≡ fields_at AddClip (view value.now) }
 {
     let id = fields::whole(value, "id", 1)?;
     let parent = fields::whole(value, "parent", 2)?;
@@ -59,9 +60,9 @@ pub(crate) fn add_clip(value: &Value) -> Result<Command, FieldFault>
 }
 
 /// Another rect of a clip.
-#[tactic(auto, unfolding(crate::specs::NodeReading::set_clip_at))]
+#[tactic(auto, unfolding(crate::specs::CommandReading::fields_at))]
 pub(crate) fn set_clip(value: &Value) -> Result<Command, FieldFault>
-    ensures { result ≡ set_clip_at (view value.now) }
+    ensures { result ≡ fields_at SetClip (view value.now) }
 {
     let id = fields::whole(value, "id", 1)?;
     let rect = fields::rect(value, "rect", 2)?;
@@ -70,9 +71,9 @@ pub(crate) fn set_clip(value: &Value) -> Result<Command, FieldFault>
 }
 
 /// A new effect.
-#[tactic(auto, unfolding(crate::specs::NodeReading::add_effect_at))]
+#[tactic(auto, unfolding(crate::specs::CommandReading::fields_at))]
 pub(crate) fn add_effect(value: &Value) -> Result<Command, FieldFault>
-    ensures { result ≡ add_effect_at (view value.now) }
+    ensures { result ≡ fields_at AddEffect (view value.now) }
 {
     let id = fields::whole(value, "id", 1)?;
     let parent = fields::whole(value, "parent", 2)?;
@@ -86,9 +87,9 @@ pub(crate) fn add_effect(value: &Value) -> Result<Command, FieldFault>
 }
 
 /// Another opacity of an effect.
-#[tactic(auto, unfolding(crate::specs::NodeReading::set_opacity_at))]
+#[tactic(auto, unfolding(crate::specs::CommandReading::fields_at))]
 pub(crate) fn set_opacity(value: &Value) -> Result<Command, FieldFault>
-    ensures { result ≡ set_opacity_at (view value.now) }
+    ensures { result ≡ fields_at SetOpacity (view value.now) }
 {
     let id = fields::whole(value, "id", 1)?;
     let opacity = fields::whole(value, "opacity", 2)?;
@@ -97,9 +98,9 @@ pub(crate) fn set_opacity(value: &Value) -> Result<Command, FieldFault>
 }
 
 /// A new scroller.
-#[tactic(auto, unfolding(crate::specs::NodeReading::add_scroller_at))]
+#[tactic(auto, unfolding(crate::specs::CommandReading::fields_at))]
 pub(crate) fn add_scroller(value: &Value) -> Result<Command, FieldFault>
-    ensures { result ≡ add_scroller_at (view value.now) }
+    ensures { result ≡ fields_at AddScroller (view value.now) }
 {
     let id = fields::whole(value, "id", 1)?;
     let parent = fields::whole(value, "parent", 2)?;
@@ -115,9 +116,9 @@ pub(crate) fn add_scroller(value: &Value) -> Result<Command, FieldFault>
 }
 
 /// Another range of a scroller.
-#[tactic(auto, unfolding(crate::specs::NodeReading::set_range_at))]
+#[tactic(auto, unfolding(crate::specs::CommandReading::fields_at))]
 pub(crate) fn set_range(value: &Value) -> Result<Command, FieldFault>
-    ensures { result ≡ set_range_at (view value.now) }
+    ensures { result ≡ fields_at SetRange (view value.now) }
 {
     let id = fields::whole(value, "id", 1)?;
     let max_x = fields::whole(value, "max_x", 2)?;
@@ -127,9 +128,9 @@ pub(crate) fn set_range(value: &Value) -> Result<Command, FieldFault>
 }
 
 /// A move of a scroller's main value.
-#[tactic(auto, unfolding(crate::specs::NodeReading::scroll_by_at))]
+#[tactic(auto, unfolding(crate::specs::CommandReading::fields_at))]
 pub(crate) fn scroll_by(value: &Value) -> Result<Command, FieldFault>
-    ensures { result ≡ scroll_by_at (view value.now) }
+    ensures { result ≡ fields_at ScrollBy (view value.now) }
 {
     let id = fields::whole(value, "id", 1)?;
     let dx = fields::signed(value, "dx", 2)?;
@@ -139,9 +140,9 @@ pub(crate) fn scroll_by(value: &Value) -> Result<Command, FieldFault>
 }
 
 /// Another main value of a scroller.
-#[tactic(auto, unfolding(crate::specs::NodeReading::scroll_to_at))]
+#[tactic(auto, unfolding(crate::specs::CommandReading::fields_at))]
 pub(crate) fn scroll_to(value: &Value) -> Result<Command, FieldFault>
-    ensures { result ≡ scroll_to_at (view value.now) }
+    ensures { result ≡ fields_at ScrollTo (view value.now) }
 {
     let id = fields::whole(value, "id", 1)?;
     let x = fields::whole(value, "x", 2)?;
