@@ -1,4 +1,6 @@
 pub mod Again
 pub mod Counts
 pub mod Fits
+pub mod Orders
+pub mod Back
 mod Fours

@@ -4,6 +4,11 @@ mod InputLaws
 mod ItemLaws
 mod LayerLaws
 mod NodeLaws
+mod PlainBack
+mod CommandsBack
+mod ScriptsBack
+mod Canonical
+pub mod CanonicalTexts
 pub mod Pixels
 pub mod Plain
 pub mod ScriptLaws

@@ -3,6 +3,7 @@ use Rattle.std.specs.Prelude.{◌≡◌, ℕ, List, Some, None, Result, Ok, Err,
 use Rattle.std.specs.Str.{IsUtf8}
 use Rattle.serde_json.specs.Data.{Data}
 use Rattle.serde_json.specs.Read.{read}
+use Rattle.serde_json.specs.Written.{compact_text}
 use Rattle.model_history.specs.Accepted.{IsAccepted}
 use Rattle.model_history.specs.Frames.{blank}
 use Rattle.model_history.specs.Judging.{RefusedAt}
@@ -12,6 +13,7 @@ use Rattle.script_json.specs.declared.fault.PartsFault.{PartsFault}
 use Rattle.script_json.specs.declared.fault.PartsFault.TheVariants.{Json, Shape, Memory}
 use Rattle.script_json.specs.declared.text_fault.TextFault.{TextFault}
 use Rattle.script_json.specs.declared.text_fault.TextFault.TheVariants as text
+use Rattle.script_fields.specs.Canonical.{IsCanonical}
 use Rattle.script_json.specs.Reading.{parts_at}
 
 -- the bytes are a JSON text of this value
@@ -21,6 +23,14 @@ IsTextOf bytes d = IsUtf8 bytes × (read bytes ≡ Some d)
 -- the bytes are a JSON text of a script: they say this one
 abbrev pub IsScriptText : List ℕ → ScriptModel → Type 0
 IsScriptText bytes s = (d : Data) × IsTextOf bytes d × (parts_at d ≡ Ok s)
+
+-- some JSON value says the script
+abbrev pub IsSaid : ScriptModel → Type 0
+IsSaid s = (d : Data) × (parts_at d ≡ Ok s)
+
+-- the bytes are the canonical text of a script: the text, without spaces, of a canonical value that says it
+abbrev pub IsCanonicalText : List ℕ → ScriptModel → Type 0
+IsCanonicalText bytes s = (d : Data) × IsCanonical d × (parts_at d ≡ Ok s) × (bytes ≡ compact_text d)
 
 -- why this is the answer for these bytes: they are no JSON; or of a value with this first fault; or of these parts
 abbrev pub PartsCause : List ℕ → Result ScriptParts PartsFault → Type 0
