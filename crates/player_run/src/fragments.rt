@@ -2,7 +2,7 @@
 
 ghost use Rattle.std.specs.Prelude.{◌≡◌, ℕ, ◌≤◌, List, flat_map};
 ghost use Rattle.player_io.specs.Pieces.{PutCause};
-ghost use Rattle.recording_writer.specs.Writing.{PutsAll};
+ghost use Rattle.recording_pieces.specs.Writing.{PutsAll};
 ghost use Rattle.player_run.specs.inner.Fragments.{fragment_text};
 
 use itoa::Buffer;

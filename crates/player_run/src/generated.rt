@@ -9,7 +9,7 @@ ghost use Rattle.player_run.specs.inner.Outputs.{WritesSome};
 use crate::outcome::Outcome;
 use crate::words::Use;
 use player_io::Sink;
-use recording_writer::{WriteStop, put_all};
+use recording_pieces::{WriteStop, put_all};
 use script_generator::script_of_number;
 use script_json::print_script;
 use std::alloc::{AllocError, Global};

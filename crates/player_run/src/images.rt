@@ -1,7 +1,7 @@
 //! The images of a recording, written one after another.
 
 ghost use Rattle.std.specs.Prelude.{◌≡◌, ℕ, ◌≤◌, List, length, flat_map, Ok, IfSome, IfErr};
-ghost use Rattle.recording_writer.specs.Writing.{PutsAll, WriteCause};
+ghost use Rattle.recording_pieces.specs.Writing.{PutsAll, WriteCause};
 ghost use Rattle.recording_reader.specs.Spans.{AreWithin, IsWithinBytes, span_bytes};
 ghost use Rattle.player_run.specs.Runs.{TellsMisfit, CauseFrom, AnswersImages, MayAnswer, Reads, ReadToEnd, Writes, Causes, StopsAtFault};
 ghost use Rattle.player_run.specs.inner.Scripts.{RefusedBy, RefusedAtFault};
@@ -12,8 +12,8 @@ use crate::outcome::Outcome;
 use crate::words::Use;
 use player_io::{Sink, Source};
 use recording_check::{RecordingFault, read_images};
+use recording_pieces::{WriteStop, put_all};
 use recording_reader::ImageSpan;
-use recording_writer::{WriteStop, put_all};
 use std::alloc::Global;
 
 // The bytes of a recording, and where its images stand in them.

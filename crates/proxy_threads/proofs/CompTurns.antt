@@ -18,8 +18,8 @@ use Rattle.impl_log.specs.Runs.{Run, past, with_entry, Entered}
 use Rattle.impl_log.proofs.LogSteps.{now_is, past_more}
 use Rattle.impl_core.specs.Origins.{Origin}
 use Rattle.impl_core.specs.Replies.{is_played, is_draw_kind, IsPicture}
-use Rattle.recording_writer.specs.inner.Scenes.{scene_image}
-use Rattle.recording_writer.proofs.Gains.{gains_longer}
+use Rattle.recording_pieces.specs.Scenes.{scene_image}
+use Rattle.recording_pieces.proofs.Gains.{gains_longer}
 use Rattle.proxy_threads.specs.declared.turned.Turned.{Turned}
 use Rattle.proxy_threads.specs.declared.turned.Turned.TheVariants as turned
 use Rattle.proxy_threads.specs.declared.playing.Played.{Played}

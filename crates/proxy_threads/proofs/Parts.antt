@@ -15,7 +15,7 @@ use Rattle.model_history.specs.Texts.{event_line}
 use Rattle.model_history.proofs.BoolFacts.{other_number}
 use Rattle.model_history.proofs.DueFacts.{entry}
 use Rattle.impl_core.specs.Replies.{IsPicture, is_draw_kind}
-use Rattle.recording_writer.specs.inner.Scenes.{scene_image}
+use Rattle.recording_pieces.specs.Scenes.{scene_image}
 use Rattle.recording_writer.proofs.DrawnScenes.{draw_image}
 use Rattle.proxy_threads.specs.Seats.{entry_of_pair, entries_of, past_of}
 use Rattle.proxy_threads.specs.Writing.{part}

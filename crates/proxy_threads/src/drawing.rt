@@ -1,7 +1,7 @@
 //! The images of what was drawn.
 
 ghost use Rattle.std.specs.Prelude.{◌≡◌, IfOk};
-ghost use Rattle.recording_writer.specs.inner.Scenes.{scene_image};
+ghost use Rattle.recording_pieces.specs.Scenes.{scene_image};
 
 use recording_writer::ImagePainter;
 use std::alloc::{AllocError, Global};

@@ -1,8 +1,8 @@
 //! Writing what was played, outside of any turn.
 
 ghost use Rattle.std.specs.Prelude.{◌≡◌, ◌≤◌, ◌++◌};
-ghost use Rattle.recording_writer.specs.Writing.{PutsAll, WriteCause};
-ghost use Rattle.recording_writer.specs.inner.Scenes.{scene_image};
+ghost use Rattle.recording_pieces.specs.Writing.{PutsAll, WriteCause};
+ghost use Rattle.recording_pieces.specs.Scenes.{scene_image};
 ghost use Rattle.proxy_threads.specs.Writing.{FaultCause, Wrote};
 ghost use Rattle.proxy_threads.specs.inner.Steps.{Answers, answer_at, image_in, text_for, GoesOrGivesUp};
 
@@ -10,7 +10,7 @@ use crate::drawing::Drawer;
 use crate::playing::Played;
 use crate::turned::Turned;
 use player_io::{PutFault, Sink};
-use recording_writer::WriteStop;
+use recording_pieces::WriteStop;
 use std::marker::Sync;
 use std::thread::Threads;
 use viz_scene::Scene;

@@ -22,7 +22,8 @@ use Rattle.model_history.specs.Texts.{event_line}
 use Rattle.model_history.proofs.DueFacts.{at_draw}
 use Rattle.impl_core.specs.Replies.{IsPicture}
 use Rattle.proxy_single_thread.specs.Singles.{AddsScene, AreScenes}
-use Rattle.recording_writer.specs.inner.Scenes.{scene_image, scene_of, left_behind, image_if, Comes, AllCome}
+use Rattle.recording_pieces.specs.Scenes.{scene_image, image_if}
+use Rattle.recording_writer.specs.inner.Scenes.{scene_of, left_behind, Comes, AllCome}
 use Rattle.recording_writer.proofs.Places.{first_behind, newest_before}
 use Rattle.recording_writer.proofs.QuietEvents.{quiet_stays}
 use Rattle.recording_writer.proofs.Rows.{image_alike}

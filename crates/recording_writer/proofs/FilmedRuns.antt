@@ -23,12 +23,13 @@ use Rattle.model_lockstep.proofs.Wholes.{lockstep_there}
 use Rattle.impl_log.specs.Runs.{Run, past}
 use Rattle.proxy_single_thread.specs.Singles.{SingleModel, AddsScene, AreScenes, walk_of}
 use Rattle.recording_writer.specs.Films.{images_before, film, IsLockstepFilm}
-use Rattle.recording_writer.specs.Writing.{PutsAll}
+use Rattle.recording_pieces.specs.Writing.{PutsAll}
 use Rattle.recording_writer.specs.inner.Filming.{scene_images, newer_images, standing, standing_at, HasFilmed, FilmedSome, FilmsWay}
-use Rattle.recording_writer.specs.inner.Scenes.{scene_image}
+use Rattle.recording_pieces.specs.Scenes.{scene_image}
 use Rattle.recording_writer.specs.inner.Ways.{IsFresh, whole_played}
 use Rattle.recording_writer.proofs.DrawnScenes.{draw_image}
-use Rattle.recording_writer.proofs.Gains.{appends_nothing, gains_nothing, gains_longer, written_after}
+use Rattle.recording_pieces.proofs.Gains.{appends_nothing, gains_nothing, gains_longer}
+use Rattle.recording_writer.proofs.Gains.{written_after}
 
 -- ---- scenes
 

@@ -17,7 +17,8 @@ use Rattle.recording_writer.specs.declared.recorder.Recorder.{Recorder}
 use Rattle.recording_writer.specs.inner.Parts.{WritesPart}
 use Rattle.recording_writer.specs.inner.Repeats.{Keeps}
 use Rattle.recording_writer.specs.inner.Ways.{IsWritten, HasPlayed, PlaysAll, WritesWay}
-use Rattle.recording_writer.proofs.Gains.{appends_nothing, gains_nothing, gains_longer, parts_join}
+use Rattle.recording_pieces.proofs.Gains.{appends_nothing, gains_nothing, gains_longer}
+use Rattle.recording_writer.proofs.Gains.{parts_join}
 use Rattle.recording_writer.proofs.KeptPictures.{keeps_longer}
 
 -- ---- entries, one list after another

@@ -16,14 +16,15 @@ use Rattle.impl_log.specs.Runs.{new_run}
 use Rattle.script_json.specs.Recordings.{script_text, recording}
 use Rattle.proxy_single_thread.specs.Singles.{SingleModel, walk_of}
 use Rattle.recording_writer.specs.Recordings.{IsLockstepRecording, Records}
-use Rattle.recording_writer.specs.declared.writing.WriteStop.{WriteStop}
-use Rattle.recording_writer.specs.declared.writing.WriteStop.TheVariants.{Fault, Memory}
-use Rattle.recording_writer.specs.Writing.{PutsAll, WriteCause}
+use Rattle.recording_pieces.specs.declared.writing.WriteStop.{WriteStop}
+use Rattle.recording_pieces.specs.declared.writing.WriteStop.TheVariants.{Fault, Memory}
+use Rattle.recording_pieces.specs.Writing.{PutsAll, WriteCause}
 use Rattle.recording_writer.specs.declared.recorder.Recorder.{Recorder}
 use Rattle.recording_writer.specs.inner.Parts.{Half, WritesPart}
 use Rattle.recording_writer.specs.inner.Repeats.{KeepsFrom}
 use Rattle.recording_writer.specs.inner.Ways.{IsFresh, IsWritten, PlaysAll, WritesWay, recorded_run, whole_played}
-use Rattle.recording_writer.proofs.Gains.{gains_longer, gains_nothing, parts_join, written_after}
+use Rattle.recording_pieces.proofs.Gains.{gains_longer, gains_nothing}
+use Rattle.recording_writer.proofs.Gains.{parts_join, written_after}
 
 -- a compositor before anything was entered
 abbrev fresh : ScriptModel → ℕ → SingleModel

@@ -9,7 +9,7 @@ use Rattle.viz_canvas.specs.Formats.{bytes_at}
 use Rattle.viz_painter.specs.Painters.{ShowsWhole}
 use Rattle.model_history.specs.Recordings.{joined_to, rgb, image_head, image_row, image}
 use Rattle.recording_writer.specs.inner.Repeats.{image_of}
-use Rattle.recording_writer.specs.inner.Scenes.{scene_image}
+use Rattle.recording_pieces.specs.Scenes.{scene_image}
 use Rattle.pixel.specs.Colours.{Parts}
 
 module _ (c : CanvasView) (colour : ℕ → ℕ → Parts) (each : EachIs 3 (λ x y. rgb (colour x y)) c) where

@@ -6,8 +6,8 @@ use Rattle.model_history.specs.declared.history.Entry.{Entry}
 use Rattle.model_history.specs.Lockstep.{IsLockstep}
 use Rattle.model_history.specs.Recordings.{image_behind, shown_image}
 use Rattle.model_history.specs.Scripts.{ScriptModel}
-use Rattle.recording_writer.specs.declared.writing.WriteStop.{WriteStop}
-use Rattle.recording_writer.specs.Writing.{PutsAll}
+use Rattle.recording_pieces.specs.declared.writing.WriteStop.{WriteStop}
+use Rattle.recording_pieces.specs.Writing.{PutsAll}
 
 -- the images of a past whose newest entry stands first, the oldest image first
 abbrev pub images_before : ScriptModel → List Entry → List ℕ

@@ -1,4 +1,3 @@
 pub mod Recordings
-pub mod Writing
 pub mod inner
 pub mod Films

@@ -4,8 +4,8 @@ use Rattle.model_history.specs.declared.history.Entry.{Entry}
 use Rattle.model_history.specs.Lockstep.{IsLockstep}
 use Rattle.model_history.specs.Scripts.{ScriptModel}
 use Rattle.script_json.specs.Recordings.{recording}
-use Rattle.recording_writer.specs.declared.writing.WriteStop.{WriteStop}
-use Rattle.recording_writer.specs.Writing.{PutsAll}
+use Rattle.recording_pieces.specs.declared.writing.WriteStop.{WriteStop}
+use Rattle.recording_pieces.specs.Writing.{PutsAll}
 
 -- the bytes are the recording of a script and of its lockstep history, which is one
 abbrev pub IsLockstepRecording : ScriptModel → List ℕ → Type 0

@@ -7,17 +7,17 @@ ghost use Rattle.model_lockstep.specs.Walks.{CanFollow, input_played, inputs_fro
 ghost use Rattle.proxy_single_thread.specs.Singles.{walk_of};
 ghost use Rattle.impl_log.specs.Runs.{past};
 ghost use Rattle.recording_writer.specs.Films.{Films, images_before};
-ghost use Rattle.recording_writer.specs.Writing.{PutsAll, WriteCause};
+ghost use Rattle.recording_pieces.specs.Writing.{PutsAll, WriteCause};
 ghost use Rattle.recording_writer.specs.inner.Filming.{FilmsWay, newer_images, scene_images};
-ghost use Rattle.recording_writer.specs.inner.Scenes.{scene_image};
+ghost use Rattle.recording_pieces.specs.Scenes.{scene_image};
 ghost use Rattle.recording_writer.specs.inner.Ways.{IsFresh, whole_played};
 
 use crate::image_painter::ImagePainter;
-use crate::writing::{WriteStop, put_all};
 use model_history::{Input, Script};
 use model_lockstep::{end_run, play_input};
 use player_io::Sink;
 use proxy_single_thread::SingleThread;
+use recording_pieces::{WriteStop, put_all};
 use std::alloc::{AllocError, Global};
 use std::sync::Arc;
 use std::thread::Threads;

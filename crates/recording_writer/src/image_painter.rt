@@ -1,9 +1,9 @@
 //! Pictures of scenes, each as an image of its own.
 
-ghost use Rattle.std.specs.Prelude.{◌≡◌, IfOk};
-ghost use Rattle.recording_writer.specs.inner.Scenes.{scene_image};
+ghost use Rattle.std.specs.Prelude.{◌≡◌, ◌++◌, IfOk, OnOk};
+ghost use Rattle.recording_pieces.specs.Scenes.{scene_image};
 
-use crate::image::image_of;
+use crate::image::{image_of, push_image};
 use std::alloc::{AllocError, Global};
 use std::marker::Sync;
 use std::thread::Threads;
@@ -25,6 +25,21 @@ impl ImagePainter {
             painter: Painter::new(alloc, 1, 1)?,
             alloc,
         })
+    }
+
+    // Adds the image of a scene, made in at most the given number of parts. An error means out of memory.
+    #[tactic(auto, using(crate::proofs::ShownImages::shown_image))]
+    pub(crate) fn push_painted<R: Threads + Sync>(
+        &mut self,
+        rt: &R,
+        scene: Scene,
+        parts: usize,
+        bytes: &mut Vec<u8>,
+    ) -> Result<(), AllocError>
+        ensures { OnOk result (bytes.new.items ≡ bytes.old.items ++ scene_image scene) }
+    {
+        self.painter.paint_in_parts(rt, scene, parts)?;
+        push_image(bytes, self.painter.canvas())
     }
 
     /// The image of a scene, made in at most the given number of parts, each by a thread of its own where it can be

@@ -4,7 +4,7 @@ ghost use Rattle.std.specs.Prelude.{◌≡◌, List, ◌∷◌, Some, None, slic
 ghost use Rattle.model_history.specs.Recordings.{image_behind};
 ghost use Rattle.model_history.specs.Scripts.{ScriptModel};
 ghost use Rattle.model_history.specs.declared.history.Entry.{Entry};
-ghost use Rattle.recording_writer.specs.inner.Scenes.{scene_image};
+ghost use Rattle.recording_pieces.specs.Scenes.{scene_image};
 ghost use Rattle.recording_writer.specs.inner.Repeats.{HaveSameMissing, Keeps, Shows, StaysShown, image_of, is_quiet as is_quiet_of};
 
 use model_history::{Entry, Event, History};

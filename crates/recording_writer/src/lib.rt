@@ -15,10 +15,10 @@ mod image_painter;
 mod last_draw;
 mod lockstep;
 mod recorder;
+mod scene_painter;
 mod writing;
 
 pub use film::film_lockstep;
 pub use image_painter::ImagePainter;
 pub use lockstep::{Recorded, record_lockstep};
 pub use recorder::header_of;
-pub use writing::{WriteStop, put_all};

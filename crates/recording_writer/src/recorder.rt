@@ -6,17 +6,19 @@ ghost use Rattle.model_history.specs.Recordings.{header, image_behind, piece, pi
 ghost use Rattle.model_history.specs.Scripts.{ScriptModel};
 ghost use Rattle.model_history.specs.declared.history.Entry.{Entry};
 ghost use Rattle.impl_log.specs.Runs.{past};
-ghost use Rattle.recording_writer.specs.Writing.{PutsAll, WriteCause};
+ghost use Rattle.recording_pieces.specs.Writing.{PutsAll, WriteCause};
 ghost use Rattle.recording_writer.specs.inner.Parts.{WritesPart};
 ghost use Rattle.recording_writer.specs.inner.Repeats.{Keeps};
-ghost use Rattle.recording_writer.specs.inner.Scenes.{AllCome, Comes, is_draw as is_draw_of, scene_image, scene_of, left_behind, image_if};
+ghost use Rattle.recording_pieces.specs.Scenes.{scene_image, image_if};
+ghost use Rattle.recording_writer.specs.inner.Scenes.{AllCome, Comes, is_draw as is_draw_of, scene_of, left_behind};
 ghost use Rattle.recording_writer.specs.inner.Steps.{DrawsOn, WritesOn};
 
 use crate::last_draw::LastDraw;
-use crate::writing::{WriteStop, flush, flush_many, put_behind};
+use crate::writing::{flush, flush_many, put_behind};
 use impl_core::Core;
 use model_history::{Entry, Event, History};
 use player_io::Sink;
+use recording_pieces::WriteStop;
 use recording_text::{push_event, push_image_head};
 use std::alloc::{AllocError, Global};
 use std::marker::Sync;

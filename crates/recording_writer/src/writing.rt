@@ -1,35 +1,14 @@
 //! Pieces of a recording, put into a sink.
 
 ghost use Rattle.std.specs.Prelude.{◌≡◌, ◌≤◌, ◌++◌, [], OnOk};
-ghost use Rattle.recording_writer.specs.Writing.{PutsAll, WriteCause};
+ghost use Rattle.recording_pieces.specs.Writing.{PutsAll, WriteCause};
 ghost use Rattle.recording_writer.specs.inner.Parts.{WritesPart};
 
-use player_io::{PutFault, Sink};
+use player_io::Sink;
+use recording_pieces::{WriteStop, put_all};
 
 // How many bytes of lines are gathered before they are put.
 const BATCH: usize = 65536;
-
-/// Why a recording was not written to its end.
-#[derive(Clone, Copy, Debug, Drop, PartialEq)]
-pub enum WriteStop {
-    /// The sink failed.
-    Fault,
-    /// There was no memory.
-    Memory,
-}
-
-/// Puts a whole piece.
-pub fn put_all<K: Sink>(out: &mut K, bytes: &[u8]) -> Result<(), WriteStop>
-    ensures bytes { PutsAll (K.held out.old) (K.held out.new) bytes.now result }
-    ensures grows { K.faults out.old ≤ K.faults out.new }
-    ensures cause { WriteCause (K.faults out.old) (K.faults out.new) result }
-{
-    match out.put(bytes) {
-        Ok(()) => Ok(()),
-        Err(PutFault::Failed) => Err(WriteStop::Fault),
-        Err(PutFault::Memory(_)) => Err(WriteStop::Memory),
-    }
-}
 
 /// Puts the lines that were gathered, and begins to gather anew.
 pub(crate) fn flush<K: Sink>(out: &mut K, lines: &mut Vec<u8>) -> Result<(), WriteStop>

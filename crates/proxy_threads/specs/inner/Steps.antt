@@ -7,9 +7,9 @@ use Rattle.model_history.specs.Texts.{event_line}
 use Rattle.impl_log.specs.Runs.{Run, past, now, Entered}
 use Rattle.impl_core.specs.Origins.{Origin}
 use Rattle.impl_core.specs.Replies.{is_own, is_draw_kind, is_played, DrawsScene}
-use Rattle.recording_writer.specs.inner.Scenes.{scene_image}
-use Rattle.recording_writer.specs.declared.writing.WriteStop.{WriteStop}
-use Rattle.recording_writer.specs.declared.writing.WriteStop.TheVariants as stop
+use Rattle.recording_pieces.specs.Scenes.{scene_image}
+use Rattle.recording_pieces.specs.declared.writing.WriteStop.{WriteStop}
+use Rattle.recording_pieces.specs.declared.writing.WriteStop.TheVariants as stop
 use Rattle.proxy_threads.specs.declared.turned.Turned.{Turned}
 use Rattle.proxy_threads.specs.declared.turned.Turned.TheVariants as turned
 use Rattle.proxy_threads.specs.declared.playing.Played.{Played}

@@ -10,7 +10,7 @@ use Rattle.model_lockstep.specs.Walks.{WalkState, Way, Follows, IsOnWay}
 use Rattle.impl_log.specs.Runs.{Run, past}
 use Rattle.proxy_single_thread.specs.Singles.{SingleModel}
 use Rattle.recording_writer.specs.Films.{images_before}
-use Rattle.recording_writer.specs.inner.Scenes.{scene_image}
+use Rattle.recording_pieces.specs.Scenes.{scene_image}
 
 -- the images of some scenes, one after another
 abbrev pub scene_images : List SceneView → List ℕ

@@ -1,22 +1,18 @@
 -- The scenes of the draws among some entries, the oldest first.
-use Rattle.std.specs.Prelude.{◌≡◌, ℕ, pos, Bool, true, false, cond, List, [], ◌∷◌, ⊤, Option, Some, None}
+use Rattle.std.specs.Prelude.{◌≡◌, Bool, true, false, cond, List, [], ◌∷◌, ⊤, Option, Some, None}
 use Rattle.viz_scene.specs.Views.{SceneView}
-use Rattle.viz_scene.specs.Pixels.{scene_pixel}
 use Rattle.model_history.specs.declared.event.Event.{Event}
 use Rattle.model_history.specs.declared.event.Event.TheVariants as event
 use Rattle.model_history.specs.declared.history.Entry.{Entry}
 use Rattle.model_history.specs.Scripts.{ScriptModel}
-use Rattle.model_history.specs.Recordings.{image, image_behind}
+use Rattle.model_history.specs.Recordings.{image_behind}
+use Rattle.recording_pieces.specs.Scenes.{image_if}
 use Rattle.recording_writer.specs.inner.Repeats.{StaysShown}
 
 -- whether an event shows a picture
 abbrev pub is_draw : Event → Bool
 is_draw (event.Draw input missing) = true
 is_draw _ = false
-
--- the image of a scene
-unfoldable pub scene_image : SceneView → List ℕ
-scene_image scene = image (λ x y. scene_pixel scene (pos x) (pos y)) scene.w scene.h
 
 -- the first of some scenes, and the others
 abbrev pub first_of : List SceneView → Option SceneView
@@ -33,11 +29,6 @@ scene_of e scenes = cond (is_draw e) (first_of scenes) None
 
 abbrev pub left_behind : Event → List SceneView → List SceneView
 left_behind e scenes = cond (is_draw e) (others scenes) scenes
-
--- the image of a scene, if there is one
-abbrev pub image_if : Option SceneView → List ℕ
-image_if None = []
-image_if (Some scene) = scene_image scene
 
 -- an entry that comes after a past, with the scenes of the draws from it on: its scene has the image of what the screen shows, and a quiet one leaves what the screen shows as it is
 pub record Comes (s : ScriptModel) (h : List Entry) (e : Entry) (scenes : List SceneView) : Type 0 where

@@ -2,7 +2,7 @@
 use Rattle.std.proofs.Common.{◌++◌, arith}
 use Rattle.std.specs.List.{flat_map}
 use Rattle.player_run.specs.inner.Fragments.{fragment_text}
-use Rattle.recording_writer.proofs.Gains.{gains_both, gains_front}
+use Rattle.recording_pieces.proofs.Gains.{gains_both, gains_front}
 use Rattle.player_run.proofs.Gains.{piece_moves}
 use Rattle.player_run.proofs.fragments.put_fragments.Goals as goal
 

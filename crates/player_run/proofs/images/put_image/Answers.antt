@@ -1,6 +1,6 @@
 -- What is put is the image.
 use Rattle.std.proofs.Common.{ℕ, List, subst}
-use Rattle.recording_writer.specs.Writing.{PutsAll}
+use Rattle.recording_pieces.specs.Writing.{PutsAll}
 use Rattle.player_run.proofs.images.put_image.Goals as goal
 
 pub returns-clause-bytes : goal.returns-clause-bytes

@@ -2,7 +2,7 @@
 use Rattle.std.proofs.Common.{◌++◌, length, subst, arith}
 use Rattle.std.specs.List.{flat_map}
 use Rattle.recording_reader.specs.Spans.{span_bytes, AreWithin}
-use Rattle.recording_writer.proofs.Gains.{gains_both, gains_front}
+use Rattle.recording_pieces.proofs.Gains.{gains_both, gains_front}
 use Rattle.player_run.proofs.Gains.{piece_moves}
 use Rattle.player_run.proofs.images.put_images.Goals as goal
 

@@ -1,6 +1,6 @@
 -- The whole run was played and written, or a prefix of it.
 use Rattle.std.specs.Prelude.{⊤}
-use Rattle.recording_writer.specs.declared.writing.WriteStop.{WriteStop}
+use Rattle.recording_pieces.specs.declared.writing.WriteStop.{WriteStop}
 use Rattle.recording_writer.proofs.RecordedRuns.{fresh_can, fresh_written, run_stopped, run_put, run_lockstep, where_ok}
 use Rattle.recording_writer.proofs.lockstep.record_events.Goals as goal
 

@@ -8,7 +8,7 @@ use Rattle.model_lockstep.specs.Walks.{CanFollow, input_played, inputs_from}
 use Rattle.model_lockstep.proofs.Parts.{input_good, inputs_grow}
 use Rattle.model_lockstep.proofs.Following.{first_part}
 use Rattle.proxy_single_thread.specs.Singles.{walk_of}
-use Rattle.recording_writer.specs.declared.writing.WriteStop.{WriteStop}
+use Rattle.recording_pieces.specs.declared.writing.WriteStop.{WriteStop}
 use Rattle.recording_writer.specs.inner.Ways.{WritesWay}
 use Rattle.recording_writer.proofs.PlayedWays.{can_after, ways_join, ways_stop, way_over}
 use Rattle.recording_writer.proofs.lockstep.record_inputs.Goals as goal

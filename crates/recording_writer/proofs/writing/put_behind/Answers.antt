@@ -1,5 +1,6 @@
 -- The lines, and then the bytes.
-use Rattle.recording_writer.proofs.Gains.{gains_longer, behind_written}
+use Rattle.recording_pieces.proofs.Gains.{gains_longer}
+use Rattle.recording_writer.proofs.Gains.{behind_written}
 use Rattle.recording_writer.proofs.writing.put_behind.Goals as goal
 
 pub returns-in-Err-clause-bytes : goal.returns-in-Err-clause-bytes

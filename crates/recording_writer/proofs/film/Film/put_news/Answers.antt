@@ -2,7 +2,7 @@
 use Rattle.std.proofs.Common.{◌≡◌, ℕ, List, subst, ap, sym, ◌∙◌}
 use Rattle.model_history.specs.Legal.{Legal}
 use Rattle.impl_log.specs.Runs.{Run, past}
-use Rattle.recording_writer.specs.Writing.{PutsAll}
+use Rattle.recording_pieces.specs.Writing.{PutsAll}
 use Rattle.recording_writer.proofs.FilmedRuns.{news_shown}
 use Rattle.recording_writer.proofs.film.Film.put_news.Goals as goal
 

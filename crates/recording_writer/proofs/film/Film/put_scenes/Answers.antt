@@ -3,9 +3,9 @@ use Rattle.std.proofs.Common.{◌≡◌, ℕ, ◌≤◌, List, ◌∷◌, ◌++�
 use Rattle.std.specs.Vec.Iter.{into_iter_items}
 use Rattle.viz_scene.specs.Views.{SceneView}
 use Rattle.recording_writer.specs.inner.Filming.{scene_images}
-use Rattle.recording_writer.specs.inner.Scenes.{scene_image}
+use Rattle.recording_pieces.specs.Scenes.{scene_image}
 use Rattle.recording_writer.proofs.FilmedRuns.{scene_put}
-use Rattle.recording_writer.proofs.Gains.{gains_both, gains_front}
+use Rattle.recording_pieces.proofs.Gains.{gains_both, gains_front}
 use Rattle.recording_writer.proofs.film.Film.put_scenes.Goals as goal
 
 pub returns-in-Err-clause-bytes : goal.returns-in-Err-clause-bytes

@@ -2,7 +2,7 @@
 use Rattle.std.proofs.Common.{◌≡◌, ◌∙◌}
 use Rattle.viz_canvas.specs.Canvases.{CanvasView}
 use Rattle.recording_writer.specs.inner.Repeats.{image_of}
-use Rattle.recording_writer.specs.inner.Scenes.{scene_image}
+use Rattle.recording_pieces.specs.Scenes.{scene_image}
 use Rattle.recording_writer.proofs.KeptPictures.{kept_here}
 use Rattle.recording_writer.proofs.ShownImages.{shown_image}
 use Rattle.recording_writer.proofs.last_draw.LastDraw.show.Goals as goal

@@ -4,7 +4,8 @@ use Rattle.std.specs.Prelude.{codes, Option}
 use Rattle.player_io.specs.Pieces.{GainsPrefix}
 use Rattle.model_history.specs.Recordings.{header}
 use Rattle.recording_writer.specs.inner.Parts.{Half}
-use Rattle.recording_writer.proofs.Gains.{gains_longer, half_longer}
+use Rattle.recording_pieces.proofs.Gains.{gains_longer}
+use Rattle.recording_writer.proofs.Gains.{half_longer}
 use Rattle.recording_writer.proofs.recorder.Recorder.begin.Goals as goal
 
 header_parts : (lines script : List ℕ) → lines ≡ codes "cc1\n" → (lines ++ script) ++ codes "\n" ≡ header script

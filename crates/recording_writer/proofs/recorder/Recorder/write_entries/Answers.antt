@@ -8,11 +8,12 @@ use Rattle.viz_scene.specs.Views.{SceneView}
 use Rattle.model_history.specs.declared.history.Entry.{Entry}
 use Rattle.model_history.specs.Recordings.{piece, pieces}
 use Rattle.model_history.specs.Scripts.{ScriptModel}
-use Rattle.recording_writer.specs.declared.writing.WriteStop.{WriteStop}
+use Rattle.recording_pieces.specs.declared.writing.WriteStop.{WriteStop}
 use Rattle.recording_writer.specs.inner.Repeats.{Keeps}
 use Rattle.recording_writer.specs.inner.Scenes.{AllCome}
 use Rattle.recording_writer.specs.inner.Steps.{WritesOn}
-use Rattle.recording_writer.proofs.Gains.{appends_nothing, gains_both, gains_front, piece_moves, piece_stops}
+use Rattle.recording_pieces.proofs.Gains.{appends_nothing, gains_both, gains_front}
+use Rattle.recording_writer.proofs.Gains.{piece_moves, piece_stops}
 use Rattle.recording_writer.proofs.Places.{newest_before}
 use Rattle.recording_writer.proofs.DrawnScenes.{next_pieces, next_comes}
 use Rattle.recording_writer.proofs.recorder.Recorder.write_entries.Goals as goal

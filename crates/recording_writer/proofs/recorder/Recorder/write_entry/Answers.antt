@@ -1,6 +1,6 @@
 -- The line, and then what stands after it.
 use Rattle.std.proofs.Common.{ℕ, List, ap, ◌∙◌, subst}
-use Rattle.recording_writer.specs.inner.Scenes.{image_if}
+use Rattle.recording_pieces.specs.Scenes.{image_if}
 use Rattle.recording_writer.specs.inner.Steps.{WritesOn}
 use Rattle.recording_writer.proofs.DrawnScenes.{piece_parts}
 use Rattle.recording_writer.proofs.recorder.Recorder.write_entry.Goals as goal

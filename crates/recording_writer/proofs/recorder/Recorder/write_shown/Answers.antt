@@ -1,7 +1,7 @@
 -- Nothing stands after the line of an entry that has no scene.
 use Rattle.std.proofs.Common.{ℕ, List, ◌++◌, ap, sym, ◌∙◌, append-nil, subst}
 use Rattle.recording_writer.specs.inner.Parts.{WritesPart}
-use Rattle.recording_writer.specs.inner.Scenes.{image_if}
+use Rattle.recording_pieces.specs.Scenes.{image_if}
 use Rattle.recording_writer.proofs.KeptPictures.{kept_on}
 use Rattle.recording_writer.proofs.recorder.Recorder.write_shown.Goals as goal
 

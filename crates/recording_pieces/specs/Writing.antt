@@ -3,8 +3,8 @@ use Rattle.std.specs.Prelude.{ℕ, List, ⊤, Option, Result, Ok, Err}
 use Rattle.std.specs.Io.KnownBytes.{Appends}
 use Rattle.player_io.specs.Counts.{Rose}
 use Rattle.player_io.specs.Pieces.{GainsPrefix}
-use Rattle.recording_writer.specs.declared.writing.WriteStop.{WriteStop}
-use Rattle.recording_writer.specs.declared.writing.WriteStop.TheVariants.{Fault, Memory}
+use Rattle.recording_pieces.specs.declared.writing.WriteStop.{WriteStop}
+use Rattle.recording_pieces.specs.declared.writing.WriteStop.TheVariants.{Fault, Memory}
 
 -- the sink gained all these bytes, or where some were refused, a prefix of them
 abbrev pub PutsAll : {X E : Type 0} → Option (List ℕ) → Option (List ℕ) → List ℕ → Result X E → Type 0

@@ -1,0 +1,19 @@
+-- Bytes in parts, joined.
+use Rattle.std.proofs.Common.{◌≡◌, ℕ, ◌+◌, ◌<◌, List, [], ◌∷◌, ◌++◌, length, get_or, take, drop, ap, sym, ◌∙◌, refl, append_assoc, append-nil, add-one, drop-cons}
+use Rattle.std.specs.Prelude.{flat_map}
+use Rattle.std.proofs.lemmas.Grind.{flat_map-append}
+use Rattle.std.proofs.lemmas.List.{take-append-drop}
+
+-- one item more of a list whose items are joined
+pub one_more : {X : Type 0} (f : X → List ℕ) (xs : List X) (x : X) → flat_map f (xs ++ x ∷ []) ≡ flat_map f xs ++ f x
+one_more f xs x = flat_map-append f xs (x ∷ []) ∙ ap (λ w. flat_map f xs ++ w) (append-nil (f x))
+
+-- what comes before an item, the item, and what comes after it
+pub cut_at : {X : Type 0} (f : X → List ℕ) (xs : List X) (i : ℕ) (x : X) → i < length xs → x ≡ get_or xs i x → (flat_map f (take i xs) ++ f x) ++ flat_map f (drop (i + 1) xs) ≡ flat_map f xs
+cut_at f xs i x h is =
+    let d : drop i xs ≡ get_or xs i x ∷ drop (i + 1) xs = rw (add-one) (drop-cons xs i x h) in
+    append_assoc (flat_map f (take i xs)) (f x) (flat_map f (drop (i + 1) xs))
+    ∙ ap (λ y. flat_map f (take i xs) ++ (f y ++ flat_map f (drop (i + 1) xs))) is
+    ∙ ap (λ ys. flat_map f (take i xs) ++ flat_map f ys) (sym d)
+    ∙ sym (flat_map-append f (take i xs) (drop i xs))
+    ∙ ap (flat_map f) (take-append-drop i xs)

@@ -1,0 +1,27 @@
+-- Pieces of a recording, as bytes.
+use Rattle.std.specs.Prelude.{ℕ, List, ◌++◌, flat_map}
+use Rattle.recording_pieces.specs.Scenes.{image_if}
+use Rattle.recording_pieces.specs.declared.shot.Shot.{Shot}
+use Rattle.recording_pieces.specs.declared.hands.Hand.{Hand}
+
+-- the bytes of a piece: its lines, and the image of its scene
+abbrev pub shown : Shot → List ℕ
+shown s = s.lines.items ++ image_if s.scene
+
+-- the bytes of some pieces, in order
+abbrev pub all_shown : List Shot → List ℕ
+all_shown shots = flat_map shown shots
+
+-- what a hand is to paint, and what it has painted
+abbrev pub due_of : {P : Type 0} → Hand P → List ℕ
+due_of h = all_shown h.due.items
+
+abbrev pub made_of : {P : Type 0} → Hand P → List ℕ
+made_of h = h.made.items
+
+-- the same of several hands, in order
+abbrev pub all_due : {P : Type 0} → List (Hand P) → List ℕ
+all_due hands = flat_map due_of hands
+
+abbrev pub all_made : {P : Type 0} → List (Hand P) → List ℕ
+all_made hands = flat_map made_of hands
