@@ -14,6 +14,8 @@ use crate::outcome::Outcome;
 use impl_core::Core;
 use player_io::Sink;
 use proxy_threads::{CompActor, Turned, drive_compositor};
+use recording_pieces::{Painters, SceneSink};
+use recording_writer::ImagePainter;
 use std::alloc::Global;
 use std::marker::Send;
 use std::sync::Wait;
@@ -46,7 +48,7 @@ pub(crate) fn take_back<T>(x: &mut T)
 {}
 
 // The compositor's turns up to the last.
-fn compose<R: Threads + Wait + Sync, K: Sink>(
+fn compose<R: Wait, K: SceneSink>(
     rt: &R,
     alloc: Global,
     lock: &TurnLock<Core>,
@@ -67,8 +69,9 @@ fn compose<R: Threads + Wait + Sync, K: Sink>(
     (pass, Ending { last, over })
 }
 
-// The same with the ring's end, and with the pass in its place. Then the end mark is raised.
-fn compose_all<R: Threads + Wait + Sync>(
+// The same with the ring's end, and with the pass in its place. Once the presenter has taken all that the ring had no
+// place for, the end mark is raised.
+fn compose_all<R: Wait>(
     rt: &R,
     alloc: Global,
     lock: &TurnLock<Core>,
@@ -86,11 +89,12 @@ fn compose_all<R: Threads + Wait + Sync>(
     };
     let (pass, ending) = compose(rt, alloc, lock, bell, pass, sink);
     *place = Some(pass);
+    sink.drain(rt);
     sink.end();
     ending
 }
 
-/// Runs the compositor on the calling thread, and the presenter beside it.
+/// Runs the compositor on the calling thread, and the presenter beside it, with at most the given number of painters.
 pub(crate) fn run_beside<R: Threads + Wait + Sync, K: Sink + Send>(
     rt: &R,
     alloc: Global,
@@ -98,6 +102,7 @@ pub(crate) fn run_beside<R: Threads + Wait + Sync, K: Sink + Send>(
     bell: &Bell,
     pass: Pass<Core>,
     ends: (RingSink, Presenter),
+    most: usize,
     out: &mut K,
 ) -> Ran
     requires first { IsFirst lock.now.id pass }
@@ -108,10 +113,11 @@ pub(crate) fn run_beside<R: Threads + Wait + Sync, K: Sink + Send>(
     ensures cause { FaultRose result.served (K.faults out.old) (K.faults out.new) }
 {
     let (mut sink, mut presenter) = ends;
+    let mut painters: Painters<ImagePainter> = Painters::new(alloc, most);
     let mut place = Some(pass);
     let (served, ending) = join_mut(
         rt,
-        &mut || presenter.serve(rt, out),
+        &mut || presenter.serve(rt, &mut painters, out),
         &mut || -> Ending
             requires sync { IsSync R.row }
             requires first { Of place (IsFirst lock.now.id) }
@@ -151,8 +157,14 @@ fn told(presented: Presented, ending: Ending) -> Outcome
     }
 }
 
-/// Puts what is left, and tells how the run ended.
-pub(crate) fn join_outcomes<K: Sink>(ran: Ran, out: &mut K) -> Outcome
+/// Puts what is left, with at most the given number of painters, and tells how the run ended.
+pub(crate) fn join_outcomes<R: Threads + Sync, K: Sink>(
+    rt: &R,
+    alloc: Global,
+    ran: Ran,
+    most: usize,
+    out: &mut K,
+) -> Outcome
     requires { OneRing ran.sink ran.presenter }
     ensures ends { (p : Seat) (o : Origin) (before : List ℕ) (first : Option (List ℕ)) → p.stem ≡ Some o → HasRun p before ran first (K.held out.old) → PlayEnds o before first (K.held out.new) result }
     ensures grows { K.faults out.old ≤ K.faults out.new }
@@ -165,6 +177,7 @@ pub(crate) fn join_outcomes<K: Sink>(ran: Ran, out: &mut K) -> Outcome
         ending,
         ..
     } = ran;
-    let presented = finish(sink, presenter, served, out);
+    let mut painters: Painters<ImagePainter> = Painters::new(alloc, most);
+    let presented = finish(rt, sink, presenter, served, &mut painters, out);
     told(presented, ending)
 }

@@ -95,11 +95,12 @@ fn run_started<'s, E, R: Threads + Wait + Sync, G: Gate + Sync, K: Sink + Send>(
     ensures grows { K.faults out.old ≤ K.faults out.new }
     ensures cause { IfSome result (λ ran. FaultRose ran.served (K.faults out.old) (K.faults out.new)) }
 {
+    let most = workers.len();
     if !start(scope, rt, lock, bell, main, workers) {
         bell.close();
         return None;
     }
-    let ran = run_beside(rt, alloc, lock, bell, pass, ends, out);
+    let ran = run_beside(rt, alloc, lock, bell, pass, ends, most, out);
     bell.close();
     Some(ran)
 }
@@ -172,6 +173,7 @@ pub(crate) fn run_crew<'g, R: Threads + Wait + Sync, G: Gate + Sync, K: Sink + S
         main,
         workers,
     } = crew;
+    let most = workers.len();
     let ran = run_scope(rt, alloc, &lock, pass, main, workers, ends, out)?;
-    Some(join_outcomes(ran, out))
+    Some(join_outcomes(rt, alloc, ran, most, out))
 }

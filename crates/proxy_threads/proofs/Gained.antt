@@ -1,14 +1,14 @@
 -- What a sink gained by a turn.
-use Rattle.std.proofs.Common.{ℕ, List, [], ◌++◌, append-nil}
+use Rattle.std.proofs.Common.{◌≡◌, ℕ, List, [], ◌++◌, append-nil, sym, subst}
 use Rattle.std.specs.Prelude.{Option}
 use Rattle.std.specs.Io.KnownBytes.{Appends}
 use Rattle.player_io.specs.Pieces.{GainsPrefix}
 use Rattle.recording_pieces.specs.declared.writing.WriteStop.{WriteStop}
 use Rattle.recording_pieces.specs.declared.writing.WriteStop.TheVariants as stop
-use Rattle.recording_pieces.proofs.Gains.{gains_both, gains_front, gains_longer}
+use Rattle.recording_pieces.proofs.Gains.{appends_nothing, gains_both, gains_front, gains_longer}
 use Rattle.proxy_threads.specs.declared.turned.Turned.{Turned}
 use Rattle.proxy_threads.specs.declared.turned.Turned.TheVariants as turned
-use Rattle.proxy_threads.specs.Writing.{Wrote}
+use Rattle.proxy_threads.specs.Writing.{FaultCause, Wrote}
 use Rattle.proxy_threads.specs.inner.Steps.{answer_at}
 
 -- some bytes, and then others or a prefix of them
@@ -23,3 +23,15 @@ wrote_behind turned.WriteFault old mid new a b first more = gains_front old mid 
 pub wrote_refused : (z : WriteStop) (old new : Option (List ℕ)) (a b : List ℕ) → GainsPrefix old new a → Wrote old new (a ++ b) (answer_at z)
 wrote_refused stop.Fault old new a b gains = gains_longer old new a b gains
 wrote_refused stop.Memory old new a b gains = gains_longer old new a b gains
+
+-- a sink that holds what it held has gained nothing
+pub appends_none : (old new : Option (List ℕ)) → new ≡ old → Appends old new []
+appends_none old new same = subst (λ (held : Option (List ℕ)). Appends old held []) (sym same) (appends_nothing old)
+
+-- what was written by a sink that held the same before
+pub wrote_from : (t : Turned) (old mid new : Option (List ℕ)) (whole : List ℕ) → mid ≡ old → Wrote mid new whole t → Wrote old new whole t
+wrote_from t old mid new whole same wrote = subst (λ (held : Option (List ℕ)). Wrote held new whole t) same wrote
+
+-- a fault has its cause, where the count was the same before
+pub cause_from : (t : Turned) (old mid new : ℕ) → mid ≡ old → FaultCause mid new t → FaultCause old new t
+cause_from t old mid new same cause = subst (λ (count : ℕ). FaultCause count new t) same cause

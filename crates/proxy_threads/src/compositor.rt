@@ -4,7 +4,6 @@ ghost use Rattle.std.specs.Prelude.{◌≡◌, ◌≤◌, [], Some, IsSome};
 ghost use Rattle.proxy_threads.specs.Seats.{Of};
 ghost use Rattle.proxy_threads.specs.Writing.{CompTurns, FaultCause, KnowsEnd, MayTurn};
 
-use crate::drawing::Drawer;
 use crate::holding::stop_if_failed;
 use crate::lines::Lines;
 use crate::playing::hold;
@@ -12,24 +11,21 @@ use crate::turned::Turned;
 use crate::wakes::Wakes;
 use crate::writing::write;
 use impl_core::Core;
-use player_io::Sink;
+use recording_pieces::SceneSink;
 use std::alloc::Global;
-use std::marker::Sync;
 use std::sync::Wait;
-use std::thread::Threads;
 use thread_lock::{Pass, TurnLock};
 
 /// The compositor: it plays the inputs, sends and takes the main frames, draws, and writes what it and the
 /// others enter.
 #[derive(Drop)]
-pub struct CompActor<'a, K: Sink> {
+pub struct CompActor<'a, K: SceneSink> {
     pub(crate) pass: Option<Pass<Core>>,
     pub(crate) out: &'a mut K,
     pub(crate) lines: Lines,
-    pub(crate) drawer: Drawer,
 }
 
-impl<'a, K: Sink> CompActor<'a, K> {
+impl<'a, K: SceneSink> CompActor<'a, K> {
     /// The compositor with a pass of actor 0 that has entered nothing, and with the sink that takes the
     /// recording after its two header lines.
     pub fn new(alloc: Global, pass: Pass<Core>, out: &'a mut K) -> CompActor<'a, K>
@@ -44,14 +40,13 @@ impl<'a, K: Sink> CompActor<'a, K> {
             pass: Some(pass),
             out,
             lines: Lines::new(alloc),
-            drawer: Drawer::new(alloc),
         }
     }
 
     /// One turn: enters the first event of the compositor that may come, and after giving the turn up writes
-    /// the lines of all entries that were not written, with the image after the line of its own draw. A large
-    /// image is made in as many parts as the run has workers. It waits while another actor holds the turn.
-    pub fn turn<R: Threads + Wait + Sync>(&mut self, rt: &R, lock: &TurnLock<Core>) -> Turned
+    /// the lines of all entries that were not written, with the scene after the line of its own draw. Before it, it
+    /// waits for space in the sink; then it waits while another actor holds the turn.
+    pub fn turn<R: Wait>(&mut self, rt: &R, lock: &TurnLock<Core>) -> Turned
         requires { Of self.old.pass (MayTurn lock.now.id self.old.lines.written) }
         ensures turn { CompTurns self.old.pass self.new.pass self.old.lines.written self.new.lines.written (K.held self.old.out.now) (K.held self.new.out.now) result }
         ensures over { KnowsEnd self.new.pass self.new.lines.over result }
@@ -63,15 +58,9 @@ impl<'a, K: Sink> CompActor<'a, K> {
         let Some(pass) = self.pass.take() else {
             unreachable!()
         };
+        self.out.wait_for_space(rt);
         let (pass, played) = hold(rt, lock, pass, &mut self.lines);
-        self.drawer.parts = self.lines.workers;
-        let answer = write(
-            rt,
-            self.out,
-            &mut self.drawer,
-            self.lines.text.as_slice(),
-            played,
-        );
+        let answer = write(self.out, self.lines.text.as_slice(), played);
         self.pass = Some(stop_if_failed(rt, lock, pass, answer));
         answer
     }

@@ -13,16 +13,15 @@ use crate::raster_actor::RasterActor;
 use crate::turned::Turned;
 use crate::wakes::Wakes;
 use impl_core::Core;
-use player_io::{Gate, Sink};
-use std::marker::Sync;
+use player_io::Gate;
+use recording_pieces::SceneSink;
 use std::sync::Wait;
-use std::thread::Threads;
 use std::time::Duration;
 use thread_bell::{Bell, Post};
 use thread_lock::TurnLock;
 
 // How many milliseconds the compositor sleeps at most. Nobody rings when a worker has started a tile, or when the sink
-// has place again for what it keeps; at its next turn the compositor writes the one and moves the other on.
+// has place again for what it keeps; at its next turn the compositor writes the one and passes the other on.
 const NAP: u64 = 5;
 
 // Where the main side and the workers sleep at the bell. The compositor sleeps at the first post.
@@ -50,7 +49,7 @@ fn wake_and_sleep<R: Wait>(rt: &R, bell: &Bell, wakes: Wakes, rung: u32) {
 /// the answer. The others take their turns on threads of their own. The compositor rings the bell for the main side
 /// where it has sent a frame, and for the workers where it has begun a draw or is blocked, and a tile may start.
 /// Where it is blocked, it sleeps at the bell until another has entered an event, or for a moment.
-pub fn drive_compositor<R: Threads + Wait + Sync, K: Sink>(
+pub fn drive_compositor<R: Wait, K: SceneSink>(
     rt: &R,
     lock: &TurnLock<Core>,
     bell: &Bell,
@@ -125,7 +124,7 @@ pub fn drive_worker<R: Wait, G: Gate>(
 }
 
 // One turn of the compositor, and its answer where that is the last.
-fn step<R: Threads + Wait + Sync, K: Sink>(
+fn step<R: Wait, K: SceneSink>(
     rt: &R,
     lock: &TurnLock<Core>,
     comp: &mut CompActor<K>,
@@ -157,7 +156,7 @@ fn turn_workers<R: Wait, G: Gate>(rt: &R, lock: &TurnLock<Core>, workers: &mut [
 
 /// Turns of all actors on the calling thread, the compositor's first, until one of the compositor answers
 /// `Ended`, `Memory` or `WriteFault`, which is the answer.
-pub fn drive<R: Threads + Wait + Sync, K: Sink, G: Gate>(
+pub fn drive<R: Wait, K: SceneSink, G: Gate>(
     rt: &R,
     lock: &TurnLock<Core>,
     comp: &mut CompActor<K>,

@@ -1,8 +1,8 @@
 //! The actors that take turns with one core: the compositor, the main side, and the raster workers.
 //!
 //! Each actor has a pass of the lock around the core. At a turn it takes the lock, enters one event of its
-//! own if one may come, and gives the lock up. What takes long stands outside: the compositor writes and
-//! renders images after it has given the lock up, the main side runs a main frame between two holdings, and
+//! own if one may come, and gives the lock up. What takes long stands outside: the compositor writes after it
+//! has given the lock up, the main side runs a main frame between two holdings, and
 //! a worker makes its tile between two holdings.
 //!
 //! In: a lock around a core, and its passes. Out: what each turn answers ([`Turned`]), and the recording of
@@ -11,7 +11,6 @@
 #![tactic(auto)]
 
 mod compositor;
-mod drawing;
 mod driving;
 mod holding;
 mod lines;

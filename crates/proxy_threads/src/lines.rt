@@ -17,8 +17,6 @@ pub struct Lines {
     pub(crate) over: bool,
     /// whom the compositor wakes up after that
     pub(crate) wakes: Wakes,
-    /// how many workers the run has
-    pub(crate) workers: usize,
 }
 
 impl Lines {
@@ -31,7 +29,6 @@ impl Lines {
             written: 0,
             over: false,
             wakes: Wakes::new(),
-            workers: 1,
         }
     }
 

@@ -88,7 +88,6 @@ fn compose(core: &mut Core, lines: &mut Lines) -> Played
     let played = play(core);
     lines.over = core.is_over();
     lines.wakes.renew(&played, core);
-    lines.workers = core.workers() as usize;
     match lines.gather(core.history()) {
         Ok(()) => played,
         Err(_) => Played::Memory,

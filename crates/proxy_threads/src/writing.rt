@@ -1,33 +1,17 @@
 //! Writing what was played, outside of any turn.
 
-ghost use Rattle.std.specs.Prelude.{◌≡◌, ◌≤◌, ◌++◌};
-ghost use Rattle.recording_pieces.specs.Writing.{PutsAll, WriteCause};
+ghost use Rattle.std.specs.Prelude.{◌≡◌, ◌≤◌, ◌++◌, []};
+ghost use Rattle.std.specs.Io.KnownBytes.{Appends};
 ghost use Rattle.recording_pieces.specs.Scenes.{scene_image};
+ghost use Rattle.proxy_threads.specs.declared.turned.Turned.TheVariants.{Blocked};
 ghost use Rattle.proxy_threads.specs.Writing.{FaultCause, Wrote};
 ghost use Rattle.proxy_threads.specs.inner.Steps.{Answers, answer_at, image_in, text_for, GoesOrGivesUp};
 
-use crate::drawing::Drawer;
 use crate::playing::Played;
 use crate::turned::Turned;
-use player_io::{PutFault, Sink};
-use recording_pieces::WriteStop;
-use std::marker::Sync;
-use std::thread::Threads;
+use player_io::PutFault;
+use recording_pieces::{SceneSink, WriteStop, put_all};
 use viz_scene::Scene;
-
-// Puts a piece.
-fn put<K: Sink>(out: &mut K, piece: &[u8]) -> Result<(), WriteStop>
-    ensures bytes { PutsAll (K.held out.old) (K.held out.new) piece.now result }
-    ensures grows { K.faults out.old ≤ K.faults out.new }
-    ensures cause { WriteCause (K.faults out.old) (K.faults out.new) result }
-    ensures place { K.place out.new ≡ K.place out.old }
-{
-    match out.put(piece) {
-        Ok(()) => Ok(()),
-        Err(PutFault::Failed) => Err(WriteStop::Fault),
-        Err(PutFault::Memory(_)) => Err(WriteStop::Memory),
-    }
-}
 
 // The answer where a piece was not put.
 fn refused(stop: WriteStop) -> Turned
@@ -39,47 +23,44 @@ fn refused(stop: WriteStop) -> Turned
     }
 }
 
-// Puts the last piece of a turn.
-fn put_last<K: Sink>(out: &mut K, piece: Vec<u8>) -> Turned
-    ensures bytes { Wrote (K.held out.old) (K.held out.new) piece.items result }
-    ensures answer { GoesOrGivesUp result }
-    ensures grows { K.faults out.old ≤ K.faults out.new }
-    ensures cause { FaultCause (K.faults out.old) (K.faults out.new) result }
-    ensures place { K.place out.new ≡ K.place out.old }
-{
-    match out.put_owned(piece) {
-        Ok(()) => Turned::Went,
-        Err(PutFault::Failed) => Turned::WriteFault,
-        Err(PutFault::Memory(_)) => Turned::Memory,
-    }
-}
-
-// Draws a scene, and puts its image.
-fn put_image<R: Threads + Sync, K: Sink>(
-    rt: &R,
-    out: &mut K,
-    drawer: &mut Drawer,
-    scene: Scene,
-) -> Turned
+// Puts the image of a scene.
+fn put_image<K: SceneSink>(out: &mut K, scene: Scene) -> Turned
     ensures bytes { Wrote (K.held out.old) (K.held out.new) (scene_image scene) result }
     ensures answer { GoesOrGivesUp result }
     ensures grows { K.faults out.old ≤ K.faults out.new }
     ensures cause { FaultCause (K.faults out.old) (K.faults out.new) result }
     ensures place { K.place out.new ≡ K.place out.old }
 {
-    match drawer.draw(rt, scene) {
-        Ok(image) => put_last(out, image),
-        Err(_) => Turned::Memory,
+    match out.put_scene(scene) {
+        Ok(()) => Turned::Went,
+        Err(PutFault::Failed) => Turned::WriteFault,
+        Err(PutFault::Memory(_)) => Turned::Memory,
     }
 }
 
+// Passes on what the sink gathered, as the compositor has nothing to do.
+#[tactic(auto, using(crate::proofs::Gained::appends_none))]
+fn put_nothing<K: SceneSink>(out: &mut K)
+    ensures bytes { Appends (K.held out.old) (K.held out.new) [] }
+    ensures grows { K.faults out.old ≤ K.faults out.new }
+    ensures place { K.place out.new ≡ K.place out.old }
+{
+    out.pass_on();
+}
+
+// The answer where the compositor has nothing to do.
+fn wait<K: SceneSink>(out: &mut K) -> Turned
+    ensures bytes { Appends (K.held out.old) (K.held out.new) [] }
+    ensures answer { result ≡ Blocked }
+    ensures grows { K.faults out.old ≤ K.faults out.new }
+    ensures place { K.place out.new ≡ K.place out.old }
+{
+    put_nothing(out);
+    Turned::Blocked
+}
+
 // Puts the image of what was drawn, if anything was, and answers for what was played.
-fn show<R: Threads + Sync, K: Sink>(
-    rt: &R,
-    out: &mut K,
-    drawer: &mut Drawer,
-    played: Played,
-) -> Turned
+fn show<K: SceneSink>(out: &mut K, played: Played) -> Turned
     ensures bytes { Wrote (K.held out.old) (K.held out.new) (image_in played) result }
     ensures answer { Answers played result }
     ensures grows { K.faults out.old ≤ K.faults out.new }
@@ -88,42 +69,30 @@ fn show<R: Threads + Sync, K: Sink>(
 {
     match played {
         Played::Ended => Turned::Ended,
-        Played::Blocked => Turned::Blocked,
+        Played::Blocked => wait(out),
         Played::Plain => Turned::Went,
-        Played::Shown(scene) => put_image(rt, out, drawer, scene),
+        Played::Shown(scene) => put_image(out, scene),
         Played::Memory => Turned::Memory,
     }
 }
 
 // Puts the lines, and then the image of what was drawn, if anything was, and answers for what was played.
-fn put_played<R: Threads + Sync, K: Sink>(
-    rt: &R,
-    out: &mut K,
-    drawer: &mut Drawer,
-    lines: &[u8],
-    played: Played,
-) -> Turned
+fn put_played<K: SceneSink>(out: &mut K, lines: &[u8], played: Played) -> Turned
     ensures bytes { Wrote (K.held out.old) (K.held out.new) (lines.now ++ image_in played) result }
     ensures answer { Answers played result }
     ensures grows { K.faults out.old ≤ K.faults out.new }
     ensures cause { FaultCause (K.faults out.old) (K.faults out.new) result }
     ensures place { K.place out.new ≡ K.place out.old }
 {
-    match put(out, lines) {
-        Ok(()) => show(rt, out, drawer, played),
+    match put_all(out, lines) {
+        Ok(()) => show(out, played),
         Err(stop) => refused(stop),
     }
 }
 
 /// Puts the lines, and then the image of what was drawn, if anything was, and answers for what was played.
 /// Where memory was refused before, nothing is put.
-pub(crate) fn write<R: Threads + Sync, K: Sink>(
-    rt: &R,
-    out: &mut K,
-    drawer: &mut Drawer,
-    lines: &[u8],
-    played: Played,
-) -> Turned
+pub(crate) fn write<K: SceneSink>(out: &mut K, lines: &[u8], played: Played) -> Turned
     ensures bytes { Wrote (K.held out.old) (K.held out.new) (text_for played lines.now) result }
     ensures answer { Answers played result }
     ensures grows { K.faults out.old ≤ K.faults out.new }
@@ -133,6 +102,6 @@ pub(crate) fn write<R: Threads + Sync, K: Sink>(
     if let Played::Memory = played {
         Turned::Memory
     } else {
-        put_played(rt, out, drawer, lines, played)
+        put_played(out, lines, played)
     }
 }

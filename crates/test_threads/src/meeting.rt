@@ -14,7 +14,7 @@ const STRIDE: u64 = 65536;
 pub struct Meeting {
     /// How many workers have come to the gate.
     come: AtomicU64,
-    /// How many pieces the sink took after it had waited.
+    /// How often the sink told that it holds what the workers wait for.
     taken: AtomicU64,
     /// How many waits were given up.
     given_up: AtomicU64,
@@ -35,7 +35,7 @@ impl Meeting {
         self.come.fetch_add(1, Ordering::SeqCst)
     }
 
-    /// The sink took a piece after it had waited.
+    /// The sink holds what the workers wait for.
     pub fn takes(&self) {
         self.taken.fetch_add(1, Ordering::SeqCst);
     }
@@ -45,7 +45,7 @@ impl Meeting {
         self.wait(&self.come, count);
     }
 
-    /// Waits until the sink has taken a piece after it had waited.
+    /// Waits until the sink holds what the workers wait for.
     pub fn wait_for_sink(&self) {
         self.wait(&self.taken, 1);
     }

@@ -1,16 +1,20 @@
-//! A sink that waits for workers.
+//! Sinks: one that waits for workers, and one for lines alone.
 
 use crate::meeting::Meeting;
 use player_io::{MemSink, PutFault, Sink};
+use recording_pieces::SceneSink;
 use std::alloc::Global;
+use std::sync::Wait;
+use viz_scene::Scene;
 
 /// A sink in memory that waits once: at the put after which it holds the mark, until the given number of
-/// workers have come to the gate.
+/// workers have come to the gate. After that it tells the meeting where it holds two further texts.
 #[derive(Drop)]
 pub struct WaitingSink<'a> {
     meeting: &'a Meeting,
     mark: &'static [u8],
     workers: u64,
+    texts: (&'static [u8], &'static [u8]),
     out: MemSink,
     has_waited: bool,
 }
@@ -22,22 +26,24 @@ impl<'a> WaitingSink<'a> {
         meeting: &'a Meeting,
         mark: &'static [u8],
         workers: u64,
+        texts: (&'static [u8], &'static [u8]),
     ) -> WaitingSink<'a> {
         WaitingSink {
             meeting,
             mark,
             workers,
+            texts,
             out: MemSink::endless(alloc),
             has_waited: false,
         }
     }
 
-    // Whether it holds the mark.
-    fn holds_mark(&self) -> bool {
+    // Whether it holds a text that has some bytes.
+    fn holds(&self, text: &[u8]) -> bool {
         self.out
             .bytes()
-            .windows(self.mark.len().max(1))
-            .any(|bytes| bytes == self.mark)
+            .windows(text.len().max(1))
+            .any(|bytes| bytes == text)
     }
 }
 
@@ -52,14 +58,43 @@ impl<'a> Sink for WaitingSink<'a> {
 
     fn put(&mut self, piece: &[u8]) -> Result<(), PutFault> {
         let answer = self.out.put(piece);
-        if self.has_waited {
-            if !piece.is_empty() {
-                self.meeting.takes();
-            }
-        } else if self.holds_mark() {
+        if !self.has_waited && self.holds(self.mark) {
             self.has_waited = true;
             self.meeting.wait_for_workers(self.workers);
         }
+        if self.has_waited && self.holds(self.texts.0) && self.holds(self.texts.1) {
+            self.meeting.takes();
+        }
         answer
     }
+}
+
+/// A sink in memory for a compositor that draws nothing: of a scene it takes no byte.
+#[derive(Drop)]
+pub struct LinesSink {
+    pub out: MemSink,
+}
+
+impl Sink for LinesSink {
+    type Place = ();
+
+    ghost faults = { λ s. s.out.faults };
+
+    ghost refusals = { λ s. s.out.refusals };
+
+    ghost place = { λ _. tt };
+
+    fn put(&mut self, piece: &[u8]) -> Result<(), PutFault> {
+        self.out.put(piece)
+    }
+}
+
+impl SceneSink for LinesSink {
+    fn put_scene(&mut self, _scene: Scene) -> Result<(), PutFault> {
+        self.out.put(b"")
+    }
+
+    fn pass_on(&mut self) {}
+
+    fn wait_for_space<R: Wait>(&mut self, _rt: &R) {}
 }

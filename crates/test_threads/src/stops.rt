@@ -7,17 +7,18 @@ ghost use Rattle.proxy_threads.specs.Seats.{past_of};
 ghost use Rattle.thread_lock.specs.PassModels.{IsOf};
 ghost use Rattle.test_threads.specs.Passes.{IsFresh, IsStill};
 
+use crate::sink::LinesSink;
 use crate::trio::{Trio, trio_of};
 use impl_core::Core;
 use main_host::MainHost;
 use model_history::{Event, Script};
-use player_io::{MemSink, OpenGate, Sink};
+use player_io::{MemSink, OpenGate};
 use proxy_threads::{CompActor, MainActor, RasterActor, Turned};
+use recording_pieces::SceneSink;
 use std::alloc::Global;
 use std::process::Abort;
 use std::sync::{Arc, Wait};
 use std::test::*;
-use std::thread::Threads;
 use thread_lock::{Pass, TurnLock};
 
 // Enters the stop of worker 0 under the turn.
@@ -34,7 +35,7 @@ fn stop<R: Abort + Wait>(rt: &R, lock: &TurnLock<Core>, pass: Pass<Core>) -> Pas
 }
 
 // One turn of the compositor.
-fn comp_turn<R: Threads + Wait + Sync, K: Sink>(
+fn comp_turn<R: Wait, K: SceneSink>(
     rt: &R,
     alloc: Global,
     lock: &TurnLock<Core>,
@@ -133,14 +134,16 @@ fn a_stop_ends_the_turns_of_all(rt: HostRuntime) {
         script,
     } = trio_of(&rt, rt.alloc());
     let worker = stop(&rt, &lock, worker);
-    let mut out = MemSink::endless(rt.alloc());
+    let mut out = LinesSink {
+        out: MemSink::endless(rt.alloc()),
+    };
     let (comp, composed) = comp_turn(&rt, rt.alloc(), &lock, comp, &mut out);
     let (main, hosted) = main_turn(&rt, rt.alloc(), &lock, main, script);
     let (worker, worked) = work_turn(&rt, rt.alloc(), &lock, worker);
     assert_eq!(rt; composed, Turned::Ended);
     assert_eq!(rt; hosted, Turned::Ended);
     assert_eq!(rt; worked, Turned::Ended);
-    assert_eq!(rt; out.bytes(), b"stop 2\n".as_slice());
+    assert_eq!(rt; out.out.bytes(), b"stop 2\n".as_slice());
     let core = close(&rt, rt.alloc(), lock, comp, main, worker);
     assert!(rt; ends_with_stop(&core, 0, 2));
 }
@@ -154,12 +157,14 @@ fn a_compositor_whose_sink_fails_stops_the_run(rt: HostRuntime) -> Result<(), Fa
         worker,
         script,
     } = trio_of(&rt, rt.alloc());
-    let mut out = MemSink::new(rt.alloc(), 1000, vec![in rt.alloc(); 0]?);
+    let mut out = LinesSink {
+        out: MemSink::new(rt.alloc(), 1000, vec![in rt.alloc(); 0]?),
+    };
     let (comp, composed) = comp_turn(&rt, rt.alloc(), &lock, comp, &mut out);
     let (main, hosted) = main_turn(&rt, rt.alloc(), &lock, main, script);
     assert_eq!(rt; composed, Turned::WriteFault);
     assert_eq!(rt; hosted, Turned::Ended);
-    assert!(rt; out.bytes().is_empty());
+    assert!(rt; out.out.bytes().is_empty());
     let core = close(&rt, rt.alloc(), lock, comp, main, worker);
     assert!(rt; ends_with_stop(&core, 1, 0));
     Ok(())

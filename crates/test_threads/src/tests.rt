@@ -11,14 +11,21 @@ use std::sync::Wait;
 use std::test::*;
 use std::thread::Threads;
 
-// Two workers are at their tiles at once, while the sink takes what was written before and after.
+// Two workers are at their tiles at once. Neither goes on until the sink holds the lines of both starts, which the
+// compositor writes in a turn of its own: so no worker holds the turn while it makes a tile.
 fn two_tiles_meet<R: Threads + Wait + Abort + Sync>(
     rt: &R,
     alloc: Global,
     workers: &str,
 ) -> Result<(), AllocError> {
     let meeting = Meeting::new();
-    let mut out = WaitingSink::new(alloc, &meeting, b"commit 0\n", 2);
+    let mut out = WaitingSink::new(
+        alloc,
+        &meeting,
+        b"commit 0\n",
+        2,
+        (b" 1/0/0/0\n", b" 1/1/0/0\n"),
+    );
     let gate = PairGate { meeting: &meeting };
     let outcome = run_over(rt, alloc, &["play", workers], TWO_TILES, &mut out, &gate)?;
     assert_eq!(rt; outcome, Outcome::Done);
@@ -36,7 +43,7 @@ fn two_workers_and_the_sink_meet(rt: HostRuntime) -> Result<(), Fail> {
 #[test]
 fn the_run_goes_on_while_the_sink_waits_at_an_image(rt: HostRuntime) -> Result<(), Fail> {
     let meeting = Meeting::new();
-    let mut out = WaitingSink::new(rt.alloc(), &meeting, b"P6\n", 1);
+    let mut out = WaitingSink::new(rt.alloc(), &meeting, b"P6\n", 1, (b"", b""));
     let gate = TileGate {
         meeting: &meeting,
         layer: 1,

@@ -1,14 +1,18 @@
 -- Fronts and appends one after the other.
-use Rattle.std.proofs.Common.{◌≡◌, ℕ, List, [], ◌++◌, take, drop, Option, Some, None, Err, ap, sym, subst, ◌∙◌, append_assoc, true, false, Bool}
+use Rattle.std.proofs.Common.{◌≡◌, inl, inr, arith, ◌≤◌, ℕ, List, [], ◌++◌, take, drop, Option, Some, None, Result, Ok, Err, refl, ap, sym, subst, ◌∙◌, append_assoc, true, false, Bool}
 use Rattle.std.specs.Io.KnownBytes.{Appends}
 use Rattle.std.specs.Global.{Vec}
 use Rattle.std.proofs.lemmas.List.{take-append-drop}
 use Rattle.std.proofs.lemmas.Grind.{flat_map-append}
+use Rattle.player_io.specs.Counts.{Rose}
 use Rattle.player_io.specs.Pieces.{GainsPrefix, NotFailed, PutAppends}
 use Rattle.player_io.specs.declared.writing.PutFault.{PutFault}
 use Rattle.player_io.specs.declared.writing.PutFault.TheVariants as put_fault
+use Rattle.recording_pieces.specs.declared.writing.WriteStop.{WriteStop}
+use Rattle.recording_pieces.specs.declared.writing.WriteStop.TheVariants as stop
 use Rattle.thread_ring.specs.Ring.{joined}
-use Rattle.thread_ring.specs.Answers.{Gained, Filled, answer_for_all}
+use Rattle.recording_pieces.specs.Writing.{PutsAll, WriteCause}
+use Rattle.thread_ring.specs.Answers.{AddsBytes, Blames, Gained, Filled, Served, Takes, answer_for_all, told_of}
 use Rattle.thread_ring.specs.declared.ends.Presented.{Presented}
 use Rattle.thread_ring.specs.declared.ends.Presented.TheVariants.{Written, Fault, Memory}
 
@@ -56,3 +60,35 @@ joined_parts n pieces = sym (flat_map-append (λ piece. piece.items) (take n pie
 -- the first n pieces are a prefix of all
 pub filled_first : (n : ℕ) (pieces : List (Vec ℕ)) (old new : List ℕ) → new ≡ old ++ joined (take n pieces) → Filled false old new (joined pieces)
 filled_first n pieces old new grown = (joined (take n pieces), joined (drop n pieces), joined_parts n pieces, grown)
+
+-- what was put is added, or a prefix of it
+pub puts_add : (put : Result (Unit {0}) WriteStop) (old new : Option (List ℕ)) (bytes : List ℕ) → PutsAll old new bytes put → AddsBytes Written (told_of put) old new bytes
+puts_add (Ok x) old new bytes put = λ first done given. appends_then first old new done bytes given put
+puts_add (Err stop.Fault) old new bytes put = λ first done given. front_after first old new done bytes given put
+puts_add (Err stop.Memory) old new bytes put = λ first done given. front_after first old new done bytes given put
+
+-- a count that rose has risen from any earlier one
+rose_from : (count old new : ℕ) → count ≤ old → Rose old new → Rose count new
+rose_from count old new few (inl less) = inl (omega (arith, few, less))
+rose_from count old new few (inr last) = inr last
+
+-- a fault of a put has its cause
+pub put_blames : (put : Result (Unit {0}) WriteStop) (old new : ℕ) → old ≤ new → WriteCause old new put → Blames Written (told_of put) old new
+put_blames (Ok x) old new grows cause = λ count few rose. tt
+put_blames (Err stop.Fault) old new grows cause = λ count few rose. rose_from count old new few cause
+put_blames (Err stop.Memory) old new grows cause = λ count few rose. tt
+
+-- where memory runs out, what was gained before is a prefix
+pub wants : (state : Presented) (old : Option (List ℕ)) (bytes : List ℕ) (first : Option (List ℕ)) (done : List ℕ) → Gained state first old done → GainsPrefix first old (done ++ bytes)
+wants Written old bytes first done given = (done, bytes, refl, given)
+wants Fault old bytes first done given = front_more first old done bytes given
+wants Memory old bytes first done given = front_more first old done bytes given
+
+-- what was served, and then what was taken more
+pub served_on : (state answer : Presented) (old mid new : Option (List ℕ)) (before between after : List ℕ) → Served state old mid before between → Takes state answer mid new between after → Served answer old new before after
+served_on state answer old mid new before between after served takes =
+    (served.0 ++ takes.0, takes.1 ∙ ap (λ bytes. bytes ++ takes.0) served.1 ∙ append_assoc before served.0 takes.0, takes.2 old served.0 served.2)
+
+-- a piece that was taken and is lost after a batch
+pub taken_and_lost : (before batch mid piece after : List ℕ) → mid ≡ before ++ batch → after ≡ mid ++ piece → (more : List ℕ) × (after ≡ before ++ more)
+taken_and_lost before batch mid piece after taken more = (batch ++ piece, more ∙ ap (λ bytes. bytes ++ piece) taken ∙ append_assoc before batch piece)

@@ -1,8 +1,10 @@
 -- What an answer of the presenter's end says of the sink after it.
-use Rattle.std.specs.Prelude.{◌≡◌, ℕ, ◌≤◌, Bool, true, false, List, ◌++◌, ⊤, Option}
+use Rattle.std.specs.Prelude.{◌≡◌, ℕ, ◌≤◌, Bool, true, false, List, ◌++◌, ⊤, Option, Result, Ok, Err}
 use Rattle.std.specs.Io.KnownBytes.{Appends}
 use Rattle.player_io.specs.Counts.{Rose}
 use Rattle.player_io.specs.Pieces.{GainsPrefix}
+use Rattle.recording_pieces.specs.declared.writing.WriteStop.{WriteStop}
+use Rattle.recording_pieces.specs.declared.writing.WriteStop.TheVariants as stop
 use Rattle.thread_ring.specs.declared.ends.Presented.{Presented}
 use Rattle.thread_ring.specs.declared.ends.Presented.TheVariants.{Written, Fault, Memory}
 
@@ -25,6 +27,16 @@ FaultRose Memory old new = ⊤
 -- one step on: from any earlier state, what the sink had gained by the first answer it has gained by the second, and the bytes besides
 abbrev pub AddsBytes : Presented → Presented → Option (List ℕ) → Option (List ℕ) → List ℕ → Type 0
 AddsBytes before after old new bytes = (first : Option (List ℕ)) (done : List ℕ) → Gained before first old done → Gained after first new (done ++ bytes)
+
+-- the same from any earlier state, of what was taken from `before` to `after`
+abbrev pub Takes : Presented → Presented → Option (List ℕ) → Option (List ℕ) → List ℕ → List ℕ → Type 0
+Takes state answer old new before after = (took : List ℕ) × (after ≡ before ++ took) × AddsBytes state answer old new took
+
+-- what became of pieces that were put
+abbrev pub told_of : {X : Type 0} → Result X WriteStop → Presented
+told_of (Ok _) = Written
+told_of (Err stop.Fault) = Fault
+told_of (Err stop.Memory) = Memory
 
 -- one step on: from any earlier count, a fault that had its cause has it still, and a new fault has one
 abbrev pub Blames : Presented → Presented → ℕ → ℕ → Type 0

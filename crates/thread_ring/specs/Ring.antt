@@ -1,26 +1,24 @@
 -- What the two ends of a ring hold, and which ring they belong to.
-use Rattle.std.specs.Prelude.{◌≡◌, ℕ, List, [], ◌∷◌, ◌++◌, map, flat_map, Result, Ok, Err}
+use Rattle.std.specs.Prelude.{◌≡◌, ℕ, List, ◌++◌, flat_map, Result, Ok, Err}
 use Rattle.std.specs.Global.{Vec}
 use Rattle.rtrb.specs.Ring.{sent, received}
+use Rattle.recording_pieces.specs.declared.shot.Shot.{Shot}
+use Rattle.recording_pieces.specs.Shots.{all_shown}
 use Rattle.thread_ring.specs.declared.ends.RingSink.{RingSink}
 use Rattle.thread_ring.specs.declared.ends.Presenter.{Presenter}
 use Rattle.thread_ring.specs.declared.ends.Label.{Label}
 
--- the bytes of all pieces, in order
+-- bytes in several lists, in order
 abbrev pub joined : List (Vec ℕ) → List ℕ
-joined pieces = flat_map (λ piece. piece.items) pieces
+joined lists = flat_map (λ list. list.items) lists
 
--- all bytes that were put into the sink: what went into the ring, then what it kept
+-- all bytes that were put into the sink: what went into the ring, then what it kept, then what it gathered since
 abbrev pub whole : RingSink → List ℕ
-whole s = joined (sent s.producer) ++ joined s.kept.items
+whole s = (all_shown (sent s.producer) ++ all_shown s.kept.items) ++ s.lines.items
 
 -- all bytes that the presenter took out of the ring
 abbrev pub bytes_taken : Presenter → List ℕ
-bytes_taken p = joined (received p.consumer)
-
--- the pieces that were put, one by one
-abbrev pub pieces_of : RingSink → List (List ℕ)
-pieces_of s = map (λ piece. piece.items) (sent s.producer ++ s.kept.items)
+bytes_taken p = all_shown (received p.consumer)
 
 -- the ring that a sink fills
 abbrev pub ring_filled : RingSink → Label
@@ -42,8 +40,7 @@ SameSink old new = ring_filled new ≡ ring_filled old
 abbrev pub SamePresenter : Presenter → Presenter → Type 0
 SamePresenter old new = ring_emptied new ≡ ring_emptied old
 
--- a put adds one piece of exactly these bytes where it is answered Ok, but none where it is empty
-abbrev pub PutsPiece : {X E : Type 0} → List (List ℕ) → List (List ℕ) → List ℕ → Result X E → Type 0
-PutsPiece old new [] result = new ≡ old
-PutsPiece old new (byte ∷ bytes) (Ok _) = new ≡ old ++ (byte ∷ bytes) ∷ []
-PutsPiece old new (byte ∷ bytes) (Err _) = new ≡ old
+-- the bytes that were taken are those before and those of the batch, or where memory ran out, those before and some more
+abbrev pub TakesBatch : {E : Type 0} → List ℕ → List ℕ → Result (Vec Shot) E → Type 0
+TakesBatch before after (Ok batch) = after ≡ before ++ all_shown batch.items
+TakesBatch before after (Err _) = (more : List ℕ) × (after ≡ before ++ more)

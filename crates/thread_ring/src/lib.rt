@@ -1,18 +1,19 @@
 //! A sink that never waits, in front of one that may be slow.
 //!
 //! ```text
-//! compositor --put--> [RingSink: kept list] --> ring of 3 places --> [Presenter] --put--> out
+//! compositor --put, put_scene--> [RingSink] --> ring of 64 places --> [Presenter] --paint, put--> out
 //! ```
 //!
-//! [`ring`] makes both ends. The one who draws puts its pieces into the [`RingSink`] and calls
-//! `end`; beside it, on another thread, [`Presenter::serve`] puts them into `out`. When both have
-//! returned, [`finish`] puts what is left. [`present_from`] shows the whole life for a list of
-//! pieces.
+//! [`ring`] makes both ends. The one who makes scenes puts bytes and scenes into the [`RingSink`] and calls
+//! `end`; beside it, on another thread, [`Presenter::serve`] paints the scenes, several at once where several wait,
+//! and puts all into `out` in order. When both have returned, [`finish`] puts what is left. [`present_from`] shows
+//! the whole life for a list of pieces.
 //!
-//! A piece goes out as it came in: none is cut, joined, left out or overtaken. Who waits for whom:
-//! the presenter waits for the next piece or for the end mark; the sink's end waits for nobody. What
-//! the ring has no place for is kept in order in the sink, so the memory that is taken grows with
-//! what a slow `out` has not taken yet.
+//! What was put goes out in the order in which it came in: nothing is left out or overtaken. Bytes are gathered until
+//! a scene follows, until they are many, or until the sink is told that nothing else comes for now. Who waits for
+//! whom: the presenter waits for the next piece or for the end mark; a put waits for nobody. What the ring has no
+//! place for is kept in order in the sink; so that it does not grow without bound, the one who puts calls
+//! `wait_for_space` now and then, which waits while more than 256 MiB wait to be written.
 #![tactic(auto)]
 
 mod ends;
@@ -20,6 +21,7 @@ mod filling;
 mod life;
 mod rest;
 mod serving;
+mod shared;
 #[cfg(test)]
 mod tests;
 

@@ -1,11 +1,12 @@
 //! The whole life of a ring, for a list of pieces.
 ghost use Rattle.std.specs.Prelude.{ℕ, List, [], Option, ◌≡◌, ◌≤◌, ◌++◌};
-ghost use Rattle.thread_ring.specs.Ring.{OneRing, SameSink, joined, bytes_taken, whole};
+ghost use Rattle.thread_ring.specs.Ring.{OneRing, SameSink, bytes_taken, joined, whole};
 ghost use Rattle.thread_ring.specs.Answers.{Blames, FaultRose, Filled, Gained, answer_for_all};
 
 use crate::ends::{Presented, Presenter, RingSink, ring};
 use crate::rest::finish;
 use player_io::Sink;
+use recording_pieces::{Painters, ScenePainter};
 use std::alloc::Global;
 use std::marker::Send;
 use std::sync::Wait;
@@ -17,10 +18,11 @@ use std::thread::{Threads, join_mut};
 /// `Written`: `out` gained all pieces, in order. `Fault` comes only where the count of faults of
 /// `out` rose in this call, or stands at its last value; `Memory` where the ring, its pieces or `out`
 /// found none. In both `out` gained a prefix of them.
-pub fn present_from<R: Threads + Wait + Sync, K: Sink + Send>(
+pub fn present_from<R: Threads + Wait + Sync, K: Sink + Send, P: ScenePainter>(
     rt: &R,
     alloc: Global,
     pieces: &[Vec<u8>],
+    painters: &mut Painters<P>,
     out: &mut K,
 ) -> Presented
     ensures bytes { Gained result (K.held out.old) (K.held out.new) (joined pieces.now) }
@@ -29,8 +31,8 @@ pub fn present_from<R: Threads + Wait + Sync, K: Sink + Send>(
 {
     match ring(alloc) {
         Ok((sink, presenter)) => {
-            let ran = run(rt, pieces, sink, presenter, out);
-            settle(ran, out)
+            let ran = run(rt, pieces, sink, presenter, painters, out);
+            settle(rt, ran, painters, out)
         }
         Err(_) => Presented::Memory,
     }
@@ -48,11 +50,12 @@ struct RingRun {
 }
 
 /// Puts the pieces into a new ring while another thread serves `out`.
-fn run<R: Threads + Wait + Sync, K: Sink + Send>(
+fn run<R: Threads + Wait + Sync, K: Sink + Send, P: ScenePainter>(
     rt: &R,
     pieces: &[Vec<u8>],
     sink: RingSink,
     presenter: Presenter,
+    painters: &mut Painters<P>,
     out: &mut K,
 ) -> RingRun
     requires ring { OneRing sink presenter }
@@ -68,7 +71,7 @@ fn run<R: Threads + Wait + Sync, K: Sink + Send>(
     let mut presenter = presenter;
     let (served, put) = join_mut(
         rt,
-        &mut || presenter.serve(rt, out),
+        &mut || presenter.serve(rt, painters, out),
         &mut || fill(pieces, &mut sink),
     );
     RingRun {
@@ -80,13 +83,18 @@ fn run<R: Threads + Wait + Sync, K: Sink + Send>(
 }
 
 /// Puts what is left into `out`, and answers for all the pieces.
-fn settle<K: Sink>(ran: RingRun, out: &mut K) -> Presented
+fn settle<R: Threads + Sync, K: Sink, P: ScenePainter>(
+    rt: &R,
+    ran: RingRun,
+    painters: &mut Painters<P>,
+    out: &mut K,
+) -> Presented
     requires { OneRing ran.sink ran.presenter }
     ensures bytes { (first : Option (List ℕ)) (bytes : List ℕ) → Filled ran.put [] (whole ran.sink) bytes → Gained ran.served first (K.held out.old) (bytes_taken ran.presenter) → Gained result first (K.held out.new) bytes }
     ensures cause { Blames ran.served result (K.faults out.old) (K.faults out.new) }
     ensures place { K.place out.new ≡ K.place out.old }
 {
-    let finished = finish(ran.sink, ran.presenter, ran.served, out);
+    let finished = finish(rt, ran.sink, ran.presenter, ran.served, painters, out);
     told(finished, ran.put)
 }
 

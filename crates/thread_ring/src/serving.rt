@@ -1,15 +1,45 @@
 //! Handing the pieces of a ring on.
-ghost use Rattle.std.specs.Prelude.{◌≡◌, ◌≤◌};
-ghost use Rattle.thread_ring.specs.Ring.{SamePresenter, bytes_taken};
-ghost use Rattle.thread_ring.specs.Answers.{AddsBytes, Blames, FaultRose, Served, Stops};
+ghost use Rattle.std.specs.Prelude.{◌≡◌, ◌≤◌, ℕ, ◌++◌, List, MatchOption};
+ghost use Rattle.recording_pieces.specs.Shots.{all_shown, shown};
+ghost use Rattle.thread_ring.specs.Ring.{SamePresenter, TakesBatch, bytes_taken};
+ghost use Rattle.thread_ring.specs.Answers.{AddsBytes, Blames, FaultRose, Served, Stops, Takes, told_of};
 
 use crate::ends::{Presented, Presenter};
-use player_io::{PutFault, Sink};
+use crate::shared::byte_count;
+use player_io::Sink;
+use recording_pieces::{Painters, ScenePainter, Shot, WriteStop};
+use std::alloc::AllocError;
+use std::marker::Sync;
 use std::sync::Wait;
+use std::thread::Threads;
 
-/// Puts one piece, unless an earlier one was refused, and answers for both.
-pub(crate) fn present<K: Sink>(state: Presented, piece: &[u8], out: &mut K) -> Presented
-    ensures adds { AddsBytes state result (K.held out.old) (K.held out.new) piece.now }
+// How many pieces are taken at a time for each painter, at most.
+const RUN: usize = 4;
+
+// How many bytes of pieces are taken at a time, at most, and one piece.
+const MOST_TAKEN: u64 = 48 * 1024 * 1024;
+
+// What became of pieces that were put.
+pub(crate) fn told(put: Result<(), WriteStop>) -> Presented
+    ensures { result ≡ told_of put }
+{
+    match put {
+        Ok(()) => Presented::Written,
+        Err(WriteStop::Fault) => Presented::Fault,
+        Err(WriteStop::Memory) => Presented::Memory,
+    }
+}
+
+/// Paints and puts pieces, unless an earlier one was refused, and answers for both.
+#[tactic(auto, using(crate::proofs::Gains::puts_add, crate::proofs::Gains::put_blames, crate::proofs::Gains::wants))]
+pub(crate) fn present<R: Threads + Sync, K: Sink, P: ScenePainter>(
+    rt: &R,
+    state: Presented,
+    pieces: Vec<Shot>,
+    painters: &mut Painters<P>,
+    out: &mut K,
+) -> Presented
+    ensures adds { AddsBytes state result (K.held out.old) (K.held out.new) (all_shown pieces.items) }
     ensures faults { K.faults out.old ≤ K.faults out.new }
     ensures refusals { K.refusals out.old ≤ K.refusals out.new }
     ensures stops { Stops state result out.old out.new }
@@ -17,25 +47,108 @@ pub(crate) fn present<K: Sink>(state: Presented, piece: &[u8], out: &mut K) -> P
     ensures place { K.place out.new ≡ K.place out.old }
 {
     match state {
-        Presented::Written => match out.put(piece) {
-            Ok(()) => Presented::Written,
-            Err(PutFault::Failed) => Presented::Fault,
-            Err(PutFault::Memory(_)) => Presented::Memory,
-        },
+        Presented::Written => told(painters.put(rt, pieces, out)),
+        Presented::Fault => Presented::Fault,
+        Presented::Memory => Presented::Memory,
+    }
+}
+
+/// Memory ran out, unless an earlier piece was refused.
+#[tactic(auto, using(crate::proofs::Gains::wants))]
+pub(crate) fn without_memory<K: Sink>(state: Presented, out: &mut K) -> Presented
+    ensures adds { (bytes : List ℕ) → AddsBytes state result (K.held out.old) (K.held out.new) bytes }
+    ensures same { out.new ≡ out.old }
+    ensures stops { Stops state result out.old out.new }
+    ensures cause { Blames state result (K.faults out.old) (K.faults out.new) }
+{
+    match state {
+        Presented::Written => Presented::Memory,
         Presented::Fault => Presented::Fault,
         Presented::Memory => Presented::Memory,
     }
 }
 
 impl Presenter {
-    /// Takes pieces out of the ring and puts each into `out`, until it has seen the end mark raised
-    /// and after that found the ring empty. While there is no piece it sleeps. After a refused put it takes the
-    /// later pieces and drops them, so that nobody waits for it.
-    ///
-    /// `Written`: `out` gained exactly the pieces that were taken, in order. `Fault` comes only where
-    /// the count of faults of `out` rose in this call, or stands at its last value; `Memory` where
-    /// `out` found none. In both `out` gained a prefix of the pieces that were taken.
-    pub fn serve<K: Sink>(&mut self, rt: &impl Wait, out: &mut K) -> Presented
+    // Takes the next piece out of the ring, if there is one.
+    #[tactic(auto, using(recording_pieces::proofs::Parts::one_more))]
+    fn take_one(&mut self) -> Option<Shot>
+        ensures ring { SamePresenter self.old self.new }
+        ensures bytes { MatchOption result (bytes_taken self.new ≡ bytes_taken self.old) (λ piece. bytes_taken self.new ≡ bytes_taken self.old ++ shown piece) }
+    {
+        match self.consumer.pop() {
+            Ok(piece) => {
+                self.taken = self.taken.saturating_add(byte_count(&piece));
+                Some(piece)
+            }
+            Err(_) => None,
+        }
+    }
+
+    // Takes at most the given number of pieces out of the ring, until there is none or they are large. An error means
+    // out of memory, and the piece that was taken last is lost.
+    #[tactic(auto, using(crate::proofs::Gains::taken_and_lost, recording_pieces::proofs::Parts::one_more))]
+    fn take_batch(&mut self, most: usize) -> Result<Vec<Shot>, AllocError>
+        ensures ring { SamePresenter self.old self.new }
+        ensures bytes { TakesBatch (bytes_taken self.old) (bytes_taken self.new) result }
+    {
+        let mut batch = Vec::new(self.alloc);
+        for _ in 0..most {
+            if self.taken >= MOST_TAKEN {
+                return Ok(batch);
+            }
+            let Some(piece) = self.take_one() else {
+                return Ok(batch);
+            };
+            if let Err(_) = batch.push(piece) {
+                return Err(AllocError);
+            }
+        }
+        Ok(batch)
+    }
+
+    // What was taken is written, or is not going to be.
+    fn let_go(&mut self)
+        ensures ring { SamePresenter self.old self.new }
+        ensures taken { bytes_taken self.new ≡ bytes_taken self.old }
+    {
+        self.shared.remove(self.taken);
+        self.taken = 0;
+    }
+
+    // Takes at most the given number of pieces out of the ring, and puts them, unless an earlier one was refused;
+    // answers whether there were any, and for all pieces.
+    fn step<R: Threads + Sync, K: Sink, P: ScenePainter>(
+        &mut self,
+        rt: &R,
+        state: Presented,
+        most: usize,
+        painters: &mut Painters<P>,
+        out: &mut K,
+    ) -> (bool, Presented)
+        ensures ring { SamePresenter self.old self.new }
+        ensures bytes { Takes state result.1 (K.held out.old) (K.held out.new) (bytes_taken self.old) (bytes_taken self.new) }
+        ensures faults { K.faults out.old ≤ K.faults out.new }
+        ensures refusals { K.refusals out.old ≤ K.refusals out.new }
+        ensures cause { Blames state result.1 (K.faults out.old) (K.faults out.new) }
+        ensures place { K.place out.new ≡ K.place out.old }
+    {
+        match self.take_batch(most) {
+            Ok(batch) => {
+                let any = !batch.is_empty();
+                (any, present(rt, state, batch, painters, out))
+            }
+            Err(_) => (true, without_memory(state, out)),
+        }
+    }
+
+    // Takes pieces and puts them, until the end mark was raised and after that there were none.
+    #[tactic(auto, using(crate::proofs::Gains::served_on))]
+    fn serve_all<R: Threads + Wait + Sync, K: Sink, P: ScenePainter>(
+        &mut self,
+        rt: &R,
+        painters: &mut Painters<P>,
+        out: &mut K,
+    ) -> Presented
         ensures ring { SamePresenter self.old self.new }
         ensures bytes { Served result (K.held out.old) (K.held out.new) (bytes_taken self.old) (bytes_taken self.new) }
         ensures faults { K.faults out.old ≤ K.faults out.new }
@@ -43,18 +156,49 @@ impl Presenter {
         ensures cause { FaultRose result (K.faults out.old) (K.faults out.new) }
         ensures place { K.place out.new ≡ K.place out.old }
     {
+        let most = painters.most().saturating_mul(RUN);
         let mut state = Presented::Written;
         for _ in rt.forever() {
             // Both are read before the ring is looked at: a piece that comes later rings again, and what was
             // put before the mark is then found.
-            let rung = self.bell.rung();
-            let ended = self.bell.is_closed();
-            match self.consumer.pop() {
-                Ok(piece) => state = present(state, &piece, out),
-                Err(_) if ended => return state,
-                Err(_) => self.bell.wait(rt, rung),
+            let pushed = self.shared.pushed();
+            let ended = self.shared.is_closed();
+            let (any, answer) = self.step(rt, state, most, painters, out);
+            state = answer;
+            self.let_go();
+            if !any {
+                if ended {
+                    return state;
+                }
+                self.shared.wait_for_pieces(rt, pushed);
             }
         }
         unreachable!()
+    }
+
+    /// Takes pieces out of the ring, paints their scenes, several at once where several wait, and puts all into
+    /// `out` in order, until it has seen the end mark raised and after that found the ring empty. While there is no
+    /// piece it sleeps. After a refused put it takes the later pieces and drops them, so that nobody waits for it.
+    ///
+    /// `Written`: `out` gained exactly the pieces that were taken, in order. `Fault` comes only where
+    /// the count of faults of `out` rose in this call, or stands at its last value; `Memory` where
+    /// `out` or a painter found none. In both `out` gained a prefix of the pieces that were taken.
+    pub fn serve<R: Threads + Wait + Sync, K: Sink, P: ScenePainter>(
+        &mut self,
+        rt: &R,
+        painters: &mut Painters<P>,
+        out: &mut K,
+    ) -> Presented
+        ensures ring { SamePresenter self.old self.new }
+        ensures bytes { Served result (K.held out.old) (K.held out.new) (bytes_taken self.old) (bytes_taken self.new) }
+        ensures faults { K.faults out.old ≤ K.faults out.new }
+        ensures refusals { K.refusals out.old ≤ K.refusals out.new }
+        ensures cause { FaultRose result (K.faults out.old) (K.faults out.new) }
+        ensures place { K.place out.new ≡ K.place out.old }
+    {
+        self.shared.serve(true);
+        let served = self.serve_all(rt, painters, out);
+        self.shared.serve(false);
+        served
     }
 }

@@ -1,12 +1,12 @@
 use Rattle.std.proofs.Common.{◌≡◌, length}
-use Rattle.thread_ring.specs.Ring.{SameSink, pieces_of, whole}
+use Rattle.thread_ring.specs.Ring.{SameSink, whole}
 use Rattle.thread_ring.proofs.ends.RingSink.move_on.Given as goal
 
 abbrev pub invariant-loop-self : goal.invariant-loop-self
 invariant-loop-self l = record {
   ring : SameSink l.fn.self l.self;
   bytes : whole l.self ≡ whole l.fn.self;
-  pieces : pieces_of l.self ≡ pieces_of l.fn.self;
+  lines : l.self.lines ≡ l.fn.self.lines;
   refused : l.self.refused ≡ l.fn.self.refused;
 }
 
