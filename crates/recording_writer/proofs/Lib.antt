@@ -8,3 +8,4 @@ pub mod RecordedRuns
 pub mod Rows
 pub mod ShownImages
 mod FilmedRuns
+mod ShotRuns

@@ -4,3 +4,4 @@ pub mod Scenes
 pub mod Steps
 pub mod Ways
 pub mod Filming
+pub mod Shooting

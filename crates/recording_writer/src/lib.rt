@@ -6,6 +6,8 @@
 //! In: an accepted script and a sink. Out: the sink gained the script's recording, or where it failed or memory
 //! was refused, a prefix of it.
 //!
+//! [`film_lockstep`] writes the images of a run alone, and [`shoot`] makes a PNG file of the last of them.
+//!
 //! An [`ImagePainter`] gives the images of scenes to whoever writes a recording in another way.
 #![tactic(auto)]
 
@@ -16,9 +18,11 @@ mod last_draw;
 mod lockstep;
 mod recorder;
 mod scene_painter;
+mod shot;
 mod writing;
 
 pub use film::film_lockstep;
 pub use image_painter::ImagePainter;
 pub use lockstep::{Recorded, record_lockstep};
 pub use recorder::header_of;
+pub use shot::shoot;
