@@ -6,7 +6,7 @@ usage: tools/believed.py [--words] [--of CRATE/FILE:FUNCTION] [--word WORD | --t
 It begins with the names in the `ensures` clauses of the function (player_run/program.rt:run if none is named) and
 follows each to its definition, by the `ghost use` lines of the source and the `use` lines of the specs, and so on
 through the names in those definitions. It prints each file of specs/ with the lines of it that count, and the whole
-in lines and in pages of 50 lines; with --words each word too. With --word step (play, gen, demo, frames, check) it
+in lines and in pages of 50 lines; with --words each word too. With --word step (play, gen, demo, film, shot, frames, check) it
 leaves out the cases of the program's other words; --table writes a row for each of them. It fails where a word that
 the clauses themselves name does not stand in docs/DEFINITIONS.md, where the files that `step` rests on are not those
 of its table, or where a name leads nowhere.
@@ -23,7 +23,7 @@ PAGE = 50
 # The call whose contract is the theorem.
 RUN = "player_run/program.rt:run"
 # The words of the program, as cases of the type `Use` name them.
-WORDS = ("Step", "Play", "Gen", "Demo", "Film", "Frames", "Check")
+WORDS = ("Step", "Play", "Gen", "Demo", "Film", "Shot", "Frames", "Check")
 
 USE = re.compile(r"^(?:ghost )?(?:pub )?use Rattle\.(\w+)\.(\w+)\.([\w.]+?)(?:\.\{([^}]*)\}| as (\w+))?;?$")
 HEAD = re.compile(r"^(?:(?:abbrev|unfoldable|unfolding|irreducible|strict|pub|priv)\s+)*(?:(record|data)\s+)?(?:pub\s+)?([^\s:(){}]+)\s*(?=[:(\s{])")

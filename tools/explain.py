@@ -168,6 +168,7 @@ OTHER_LINES = {
     "cc: write fault": "standard output could not be written: is the disk full, or did the reader of the pipe end?",
     "cc: too long": "a script has at most 16777216 bytes, the recording that frames and check read at most 268435456",
     "cc: out of memory": "there was no memory: play a script with a smaller view, fewer layers or a smaller budget",
+    "cc: no picture": "no draw of the script gave a picture: leave its inputs out, or await a main frame before the last draw",
     "cc: event ": "the recording has this form and tells something that may not come: tools/judge.py RECORDING says what",
 }
 

@@ -146,7 +146,7 @@ def try_accepted():
     check("a line of another script", "another one" in lines[-1], lines)
     found = explain.explanation(b" " * 16777217)[2]
     check("a script that is too long", found.line == "cc: too long, limit 16777216")
-    for line in ("cc: usage: word 1", "cc: event 3 is wrong", "cc: out of memory", "cc: too long, limit 16777216"):
+    for line in ("cc: usage: word 1", "cc: event 3 is wrong", "cc: out of memory", "cc: no picture", "cc: too long, limit 16777216"):
         check(f"explained: {line}", len(explain.told("page.json", b"", line)[0]) == 2)
 
 

@@ -15,6 +15,7 @@ cc_player: plays scripts of page changes and inputs
 usage: cc_player step N < SCRIPT > RECORDING
        cc_player play N < SCRIPT > RECORDING
        cc_player film N < SCRIPT > PICTURES
+       cc_player shot N < SCRIPT > FILE.png
        cc_player frames < RECORDING > PICTURES
        cc_player check < RECORDING
        cc_player gen NUMBER > SCRIPT
@@ -27,6 +28,8 @@ usage: cc_player step N < SCRIPT > RECORDING
                one of many, each legal; where threads cannot be started it does as step N
   film N       reads a script, plays it as step N does and writes its pictures alone, one behind
                the other, each a raw portable pixmap (P6): as step N | frames, for runs of any length
+  shot N       reads a script, plays it as step N does and writes the picture of its last draw as a PNG
+               file; a script without inputs is played to the picture of its last main frame
   frames       reads a recording from standard input and writes its pictures to standard output,
                one behind the other, each a raw portable pixmap (P6)
   check        reads a recording from standard input and judges it without the engine: whether its
@@ -49,10 +52,12 @@ status:
    9  the input is no recording: the place of its first bad part is told, as an offset in bytes
   10  the recording is wrong: the first event that may not come, or whose picture differs, is told
   11  out of memory
+  12  no draw of the script gave a picture
 
 example: cc_player step 1 < examples/first.json > first.rec
          cc_player frames < first.rec > first.ppm
          cc_player film 4 < examples/page.json > page.ppm
+         cc_player shot 4 < examples/page.json > page.png
          cc_player gen 7 | cc_player step 4 > seven.rec
 ";
 

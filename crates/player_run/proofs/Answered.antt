@@ -2,7 +2,7 @@
 use Rattle.std.proofs.Common.{◌≡◌, ℕ, Bool, List}
 use Rattle.std.specs.Prelude.{Option}
 use Rattle.player_run.specs.declared.outcome.Outcome.{Outcome}
-use Rattle.player_run.specs.declared.outcome.Outcome.TheVariants.{Usage, Json, Shape, Script, ReadFault, TooLong, BadRecording, No}
+use Rattle.player_run.specs.declared.outcome.Outcome.TheVariants.{Usage, Json, Shape, Script, ReadFault, TooLong, BadRecording, No, NoPicture}
 use Rattle.player_run.specs.inner.Outputs.{WritesSome, WritesOrBegins}
 use Rattle.player_run.specs.inner.Recordings.{WritesImages}
 use Rattle.player_run.specs.Runs.{AnswersScript, AnswersImages, StopsAtFault}
@@ -12,6 +12,7 @@ some_script P old new (Usage word) wrote = absurd wrote
 some_script P old new (TooLong limit) wrote = absurd wrote
 some_script P old new (BadRecording place) wrote = absurd wrote
 some_script P old new (No event) wrote = absurd wrote
+some_script P old new NoPicture wrote = absurd wrote
 some_script P old new _ wrote = tt
 
 pub some_stops : (P : List ℕ → Type 0) (old new : Option (List ℕ)) (faults_old faults_new : ℕ) (failed : Bool) (o : Outcome) → WritesSome P old new o → faults_new ≡ faults_old → StopsAtFault faults_old faults_new failed o
@@ -23,6 +24,7 @@ begun_script P Q old new (Usage word) wrote = absurd wrote
 begun_script P Q old new (TooLong limit) wrote = absurd wrote
 begun_script P Q old new (BadRecording place) wrote = absurd wrote
 begun_script P Q old new (No event) wrote = absurd wrote
+begun_script P Q old new NoPicture wrote = absurd wrote
 begun_script P Q old new _ wrote = tt
 
 pub begun_stops : (P Q : List ℕ → Type 0) (old new : Option (List ℕ)) (faults_old faults_new : ℕ) (failed : Bool) (o : Outcome) → WritesOrBegins P Q old new o → faults_new ≡ faults_old → StopsAtFault faults_old faults_new failed o
@@ -36,6 +38,7 @@ images_answers old new whole (Shape fault) wrote = absurd wrote
 images_answers old new whole (Script frame command why) wrote = absurd wrote
 images_answers old new whole (TooLong limit) wrote = absurd wrote
 images_answers old new whole (No event) wrote = absurd wrote
+images_answers old new whole NoPicture wrote = absurd wrote
 images_answers old new whole _ wrote = tt
 
 pub images_stops : (old new : Option (List ℕ)) (whole : List ℕ) (faults_old faults_new : ℕ) (failed : Bool) (o : Outcome) → WritesImages old new whole o → faults_new ≡ faults_old → StopsAtFault faults_old faults_new failed o

@@ -14,10 +14,13 @@ use Rattle.script_json.proofs.ScriptLaws.{one_script}
 use Rattle.recording_check.proofs.LegalRecordings.{legal_not_wrong, legal_not_bad}
 use Rattle.recording_check.proofs.OneReading.{not_bad}
 use Rattle.player_run.specs.declared.outcome.Outcome.{Outcome}
-use Rattle.player_run.specs.declared.outcome.Outcome.TheVariants.{Done, Usage, Json, Shape, Script, ReadFault, WriteFault, TooLong, BadRecording, No, Memory}
+use Rattle.player_run.specs.declared.outcome.Outcome.TheVariants.{Done, Usage, Json, Shape, Script, ReadFault, WriteFault, TooLong, BadRecording, No, Memory, NoPicture}
 use Rattle.player_run.specs.declared.words.Use.{Use}
-use Rattle.player_run.specs.declared.words.Use.TheVariants.{Step, Play, Gen, Demo, Film, Frames, Check}
-use Rattle.player_run.specs.Runs.{TellsMisfit, IsAcceptedText, Takes, RefusedScript, RefusedRecording, RefusedHistory, Refused, CauseOf, CauseFrom, IsUnread, Causes, IsComplete, IsDone}
+use Rattle.player_run.specs.declared.words.Use.TheVariants.{Step, Play, Gen, Demo, Film, Shot, Frames, Check}
+use Rattle.recording_writer.specs.Films.{IsLastImage}
+use Rattle.player_run.specs.Shots.{with_shot}
+use Rattle.player_run.proofs.ShotsTaken.{one_last_image}
+use Rattle.player_run.specs.Runs.{TellsMisfit, IsAcceptedText, Takes, RefusedScript, RefusedShot, RefusedRecording, RefusedHistory, Refused, CauseOf, CauseFrom, IsUnread, Causes, IsComplete, IsDone}
 
 -- a text of a script has no first fault
 not_at_fault : (bytes : List ℕ) → IsAcceptedText bytes → (d : Data) → IsTextOf bytes d → (place : _) → parts_at d ≡ Err place → ⊥
@@ -42,6 +45,24 @@ script_taken workers bytes WriteFault takes refused = refused
 script_taken workers bytes (BadRecording place) takes refused = refused
 script_taken workers bytes (No event) takes refused = refused
 script_taken workers bytes Memory takes refused = refused
+script_taken workers bytes NoPicture takes refused = refused
+
+-- a script whose shot has a picture is not refused for having none
+shot_taken : (workers : ℕ) (bytes : List ℕ) (result : Outcome) → Takes (Shot workers) bytes → RefusedShot bytes result → ⊥
+shot_taken workers bytes NoPicture (few, (s, text, accepted, has)) (short, t, other, taken, none) =
+    let same : t ≡ s = one_script bytes t s other text in
+    one_last_image (with_shot s) has.0 has.1 (subst (λ (z : ScriptModel). IsLastImage (with_shot z) None) same none)
+shot_taken workers bytes Json (few, (s, text, accepted, has)) refused = script_taken workers bytes Json (few, (s, text, accepted)) refused
+shot_taken workers bytes (Shape place) (few, (s, text, accepted, has)) refused = script_taken workers bytes (Shape place) (few, (s, text, accepted)) refused
+shot_taken workers bytes (Script frame command fault) (few, (s, text, accepted, has)) refused = script_taken workers bytes (Script frame command fault) (few, (s, text, accepted)) refused
+shot_taken workers bytes (TooLong limit) (few, (s, text, accepted, has)) refused = script_taken workers bytes (TooLong limit) (few, (s, text, accepted)) refused
+shot_taken workers bytes Done (few, (s, text, accepted, has)) refused = script_taken workers bytes Done (few, (s, text, accepted)) refused
+shot_taken workers bytes (Usage word) (few, (s, text, accepted, has)) refused = script_taken workers bytes (Usage word) (few, (s, text, accepted)) refused
+shot_taken workers bytes ReadFault (few, (s, text, accepted, has)) refused = script_taken workers bytes ReadFault (few, (s, text, accepted)) refused
+shot_taken workers bytes WriteFault (few, (s, text, accepted, has)) refused = script_taken workers bytes WriteFault (few, (s, text, accepted)) refused
+shot_taken workers bytes (BadRecording place) (few, (s, text, accepted, has)) refused = script_taken workers bytes (BadRecording place) (few, (s, text, accepted)) refused
+shot_taken workers bytes (No event) (few, (s, text, accepted, has)) refused = script_taken workers bytes (No event) (few, (s, text, accepted)) refused
+shot_taken workers bytes Memory (few, (s, text, accepted, has)) refused = script_taken workers bytes Memory (few, (s, text, accepted)) refused
 
 -- nor is a recording
 recording_taken : (bytes : List ℕ) (result : Outcome) → Takes Frames bytes → RefusedRecording bytes result → ⊥
@@ -56,6 +77,7 @@ recording_taken bytes ReadFault takes refused = refused
 recording_taken bytes WriteFault takes refused = refused
 recording_taken bytes (No event) takes refused = refused
 recording_taken bytes Memory takes refused = refused
+recording_taken bytes NoPicture takes refused = refused
 
 -- nor is that of a legal history
 history_taken : (bytes : List ℕ) (result : Outcome) → Takes Check bytes → RefusedHistory bytes result → ⊥
@@ -70,6 +92,7 @@ history_taken bytes (Script frame command why) takes refused = refused
 history_taken bytes ReadFault takes refused = refused
 history_taken bytes WriteFault takes refused = refused
 history_taken bytes Memory takes refused = refused
+history_taken bytes NoPicture takes refused = refused
 
 -- nor is what a use takes
 not_refused : (wanted : Use) (bytes : List ℕ) (result : Outcome) → Takes wanted bytes → Refused wanted bytes result → ⊥
@@ -78,6 +101,7 @@ not_refused (Play workers) bytes result takes refused = script_taken workers byt
 not_refused (Gen number) bytes result takes refused = refused
 not_refused (Demo number) bytes result takes refused = refused
 not_refused (Film workers) bytes result takes refused = script_taken workers bytes result takes refused
+not_refused (Shot workers) bytes result takes refused = shot_taken workers bytes result takes refused
 not_refused Frames bytes result takes refused = recording_taken bytes result takes refused
 not_refused Check bytes result takes refused = history_taken bytes result takes refused
 
@@ -94,6 +118,7 @@ done wanted bytes a b c e (TooLong limit) fits cause faults takes calm_source ca
 done wanted bytes a b c e (BadRecording place) fits cause faults takes calm_source calm_out = absurd (not_refused wanted bytes (BadRecording place) takes cause)
 done wanted bytes a b c e (No event) fits cause faults takes calm_source calm_out = absurd (not_refused wanted bytes (No event) takes cause)
 done wanted bytes a b c e Memory fits cause faults takes calm_source calm_out = tt
+done wanted bytes a b c e NoPicture fits cause faults takes calm_source calm_out = absurd (not_refused wanted bytes NoPicture takes cause)
 
 -- a use that reads nothing is done but for a fault of the sink
 unread_done : (source_old source_new out_old out_new : ℕ) (result : Outcome) → IsUnread result → Causes source_old source_new out_old out_new result → (Rose out_old out_new → ⊥) → IsDone result
@@ -108,6 +133,7 @@ unread_done a b c e ReadFault unread faults calm = absurd unread
 unread_done a b c e (TooLong limit) unread faults calm = absurd unread
 unread_done a b c e (BadRecording place) unread faults calm = absurd unread
 unread_done a b c e (No event) unread faults calm = absurd unread
+unread_done a b c e NoPicture unread faults calm = absurd unread
 
 complete_use : (wanted : Use) (source : Option (List ℕ)) (source_old source_new out_old out_new : ℕ) (result : Outcome) → TellsMisfit (Ok wanted) result → CauseFrom wanted source result → Causes source_old source_new out_old out_new result
     → IsComplete wanted source source_old source_new out_old out_new result
@@ -119,6 +145,8 @@ complete_use (Play workers) None a b c e result fits cause faults = tt
 complete_use (Play workers) (Some bytes) a b c e result fits cause faults = λ takes calm_source calm_out. done (Play workers) bytes a b c e result fits cause faults takes calm_source calm_out
 complete_use (Film workers) None a b c e result fits cause faults = tt
 complete_use (Film workers) (Some bytes) a b c e result fits cause faults = λ takes calm_source calm_out. done (Film workers) bytes a b c e result fits cause faults takes calm_source calm_out
+complete_use (Shot workers) None a b c e result fits cause faults = tt
+complete_use (Shot workers) (Some bytes) a b c e result fits cause faults = λ takes calm_source calm_out. done (Shot workers) bytes a b c e result fits cause faults takes calm_source calm_out
 complete_use Frames None a b c e result fits cause faults = tt
 complete_use Frames (Some bytes) a b c e result fits cause faults = λ takes calm_source calm_out. done Frames bytes a b c e result fits cause faults takes calm_source calm_out
 complete_use Check None a b c e result fits cause faults = tt

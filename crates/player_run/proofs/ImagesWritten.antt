@@ -3,7 +3,7 @@ use Rattle.std.proofs.Common.{◌≡◌, ℕ, List, None, Some, Ok, inr, sym, su
 use Rattle.std.specs.Prelude.{Option, IfSome}
 use Rattle.player_run.specs.declared.images.Images.{Images}
 use Rattle.player_run.specs.declared.outcome.Outcome.{Outcome}
-use Rattle.player_run.specs.declared.outcome.Outcome.TheVariants.{Done, Usage, Json, Shape, Script, ReadFault, WriteFault, TooLong, BadRecording, No, Memory}
+use Rattle.player_run.specs.declared.outcome.Outcome.TheVariants.{Done, Usage, Json, Shape, Script, ReadFault, WriteFault, TooLong, BadRecording, No, Memory, NoPicture}
 use Rattle.player_run.specs.declared.words.Use.TheVariants.{Frames}
 use Rattle.player_run.specs.inner.Recordings.{HasImages, WritesImages, images_of}
 use Rattle.player_run.specs.Runs.{TellsMisfit, Takes, CauseOf, CauseFrom, IsOutput, Writes}
@@ -24,6 +24,7 @@ images_output i source old new ReadFault has had wrote = absurd wrote
 images_output i source old new (TooLong limit) has had wrote = absurd wrote
 images_output i source old new (BadRecording place) has had wrote = absurd wrote
 images_output i source old new (No event) has had wrote = absurd wrote
+images_output i source old new NoPicture has had wrote = absurd wrote
 
 taken : (i : Images) (bytes : List ℕ) → HasImages i → bytes ≡ i.bytes.items → Takes Frames bytes
 taken i bytes has had = subst (λ (b : List ℕ). Takes Frames b) (sym had) (has.few, (has.recording.0, has.recording.1, has.recording.2))
@@ -40,6 +41,7 @@ cause_in i bytes old new ReadFault has had wrote = absurd wrote
 cause_in i bytes old new (TooLong limit) has had wrote = absurd wrote
 cause_in i bytes old new (BadRecording place) has had wrote = absurd wrote
 cause_in i bytes old new (No event) has had wrote = absurd wrote
+cause_in i bytes old new NoPicture has had wrote = absurd wrote
 
 -- the source had what the use takes
 pub images_cause : (i : Images) (source old new : Option (List ℕ)) (o : Outcome) → HasImages i → IfSome source (λ bytes. bytes ≡ i.bytes.items) → WritesImages old new (images_of i) o → CauseFrom Frames source o
@@ -59,3 +61,4 @@ images_words old new whole ReadFault wrote = tt
 images_words old new whole (TooLong limit) wrote = tt
 images_words old new whole (BadRecording place) wrote = tt
 images_words old new whole (No event) wrote = tt
+images_words old new whole NoPicture wrote = tt

@@ -3,7 +3,7 @@ use Rattle.std.proofs.Common.{ℕ, ◌≤◌, List, [], length, None, Some, inl,
 use Rattle.std.specs.Prelude.{Option, Ok}
 use Rattle.std.specs.Io.KnownBytes.{Appends}
 use Rattle.player_run.specs.declared.outcome.Outcome.{Outcome}
-use Rattle.player_run.specs.declared.outcome.Outcome.TheVariants.{Done, Usage, Json, Shape, Script, ReadFault, WriteFault, TooLong, BadRecording, No, Memory}
+use Rattle.player_run.specs.declared.outcome.Outcome.TheVariants.{Done, Usage, Json, Shape, Script, ReadFault, WriteFault, TooLong, BadRecording, No, Memory, NoPicture}
 use Rattle.player_run.specs.declared.words.Use.TheVariants.{Check}
 use Rattle.player_run.specs.inner.Inputs.{ReadWhole}
 use Rattle.player_run.specs.inner.Judged.{IsJudgement, IsSilent}
@@ -22,6 +22,7 @@ judged_cause bytes (Script frame command why) few is = absurd is
 judged_cause bytes ReadFault few is = absurd is
 judged_cause bytes WriteFault few is = absurd is
 judged_cause bytes (TooLong limit) few is = absurd is
+judged_cause bytes NoPicture few is = absurd is
 
 -- the cause, where the source tells its bytes
 pub judged_input : (old new : Option (List ℕ)) (bytes : List ℕ) (o : Outcome) → ReadWhole recording_limit old new bytes → IsJudgement bytes o → CauseFrom Check old o

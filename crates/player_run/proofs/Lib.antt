@@ -7,6 +7,8 @@ pub mod Summed
 pub mod Outputs
 pub mod Answered
 pub mod ScriptsPlayed
+pub mod AskedScripts
+pub mod ShotsTaken
 pub mod ImagesWritten
 pub mod Completeness
 pub mod JudgedInputs

@@ -2,9 +2,9 @@
 use Rattle.std.proofs.Common.{ℕ, List, inl, inr, Ok}
 use Rattle.std.specs.Prelude.{Option}
 use Rattle.player_run.specs.declared.outcome.Outcome.{Outcome}
-use Rattle.player_run.specs.declared.outcome.Outcome.TheVariants.{Done, Usage, Json, Shape, Script, ReadFault, WriteFault, TooLong, BadRecording, No, Memory}
+use Rattle.player_run.specs.declared.outcome.Outcome.TheVariants.{Done, Usage, Json, Shape, Script, ReadFault, WriteFault, TooLong, BadRecording, No, Memory, NoPicture}
 use Rattle.player_run.specs.declared.words.Use.{Use}
-use Rattle.player_run.specs.declared.words.Use.TheVariants.{Step, Play, Gen, Demo, Film, Frames, Check}
+use Rattle.player_run.specs.declared.words.Use.TheVariants.{Step, Play, Gen, Demo, Film, Shot, Frames, Check}
 use Rattle.player_run.specs.inner.Outputs.{WritesSome}
 use Rattle.player_run.specs.Runs.{TellsMisfit, IsUnread, IsOutput, IsBegun, Writes}
 
@@ -21,6 +21,7 @@ some_words P wanted old new ReadFault wrote = tt
 some_words P wanted old new (TooLong limit) wrote = tt
 some_words P wanted old new (BadRecording place) wrote = tt
 some_words P wanted old new (No event) wrote = tt
+some_words P wanted old new NoPicture wrote = tt
 
 -- nor is what the source has
 pub some_unread : (P : List ℕ → Type 0) (old new : Option (List ℕ)) (o : Outcome) → WritesSome P old new o → IsUnread o
@@ -35,6 +36,7 @@ some_unread P old new ReadFault wrote = absurd wrote
 some_unread P old new (TooLong limit) wrote = absurd wrote
 some_unread P old new (BadRecording place) wrote = absurd wrote
 some_unread P old new (No event) wrote = absurd wrote
+some_unread P old new NoPicture wrote = absurd wrote
 
 -- what a use writes in all, it was writing
 begun_is : (wanted : Use) (source : Option (List ℕ)) (whole : List ℕ) → IsOutput wanted source whole → IsBegun wanted source whole
@@ -43,6 +45,7 @@ begun_is (Play workers) source whole (s, from, (h, played, is)) = (s, from, (h, 
 begun_is (Gen number) source whole is = is
 begun_is (Demo number) source whole is = is
 begun_is (Film workers) source whole is = is
+begun_is (Shot workers) source whole is = is
 begun_is Frames source whole is = is
 begun_is Check source whole is = is
 
@@ -60,3 +63,4 @@ some_output P wanted source old new ReadFault is wrote = absurd wrote
 some_output P wanted source old new (TooLong limit) is wrote = absurd wrote
 some_output P wanted source old new (BadRecording place) is wrote = absurd wrote
 some_output P wanted source old new (No event) is wrote = absurd wrote
+some_output P wanted source old new NoPicture is wrote = absurd wrote

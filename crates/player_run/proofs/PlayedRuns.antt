@@ -18,7 +18,7 @@ use Rattle.proxy_threads.specs.Seats.{pairs}
 use Rattle.proxy_threads.specs.Writing.{part}
 use Rattle.proxy_threads.proofs.Holds.{entries_pairs}
 use Rattle.player_run.specs.declared.outcome.Outcome.{Outcome}
-use Rattle.player_run.specs.declared.outcome.Outcome.TheVariants.{Done, Usage, Json, Shape, Script, ReadFault, WriteFault, TooLong, BadRecording, No, Memory}
+use Rattle.player_run.specs.declared.outcome.Outcome.TheVariants.{Done, Usage, Json, Shape, Script, ReadFault, WriteFault, TooLong, BadRecording, No, Memory, NoPicture}
 use Rattle.player_run.specs.Promises.{HasEnded, IsSoundHistory}
 use Rattle.player_run.specs.Runs.{IsPlayOf, IsPlayUpTo, IsRunOf}
 use Rattle.player_run.specs.inner.Actors.{IsRunAt, PlayEnds}
@@ -97,6 +97,7 @@ plays_script s workers accepted before old new ReadFault lines ends = absurd end
 plays_script s workers accepted before old new (TooLong limit) lines ends = absurd ends
 plays_script s workers accepted before old new (BadRecording place) lines ends = absurd ends
 plays_script s workers accepted before old new (No event) lines ends = absurd ends
+plays_script s workers accepted before old new NoPicture lines ends = absurd ends
 
 -- the same where they may not have been started
 pub threads_play : (X : Type 0) (s : ScriptModel) (workers : ℕ) → IsAccepted s → (before : List ℕ) (stem : Option Origin) (old new : Option (List ℕ)) (r : Option Outcome) → before ≡ header (script_text s) → stem ≡ Some (record { script = s; workers = workers })
@@ -118,3 +119,4 @@ lockstep_plays s workers old new ReadFault wrote = absurd wrote
 lockstep_plays s workers old new (TooLong limit) wrote = absurd wrote
 lockstep_plays s workers old new (BadRecording place) wrote = absurd wrote
 lockstep_plays s workers old new (No event) wrote = absurd wrote
+lockstep_plays s workers old new NoPicture wrote = absurd wrote

@@ -5,7 +5,7 @@ use Rattle.model_history.specs.Accepted.{IsAccepted}
 use Rattle.model_history.specs.Scripts.{ScriptModel}
 use Rattle.script_json.specs.Causes.{IsScriptText}
 use Rattle.player_run.specs.declared.outcome.Outcome.{Outcome}
-use Rattle.player_run.specs.declared.outcome.Outcome.TheVariants.{Done, Usage, Json, Shape, Script, ReadFault, WriteFault, TooLong, BadRecording, No, Memory}
+use Rattle.player_run.specs.declared.outcome.Outcome.TheVariants.{Done, Usage, Json, Shape, Script, ReadFault, WriteFault, TooLong, BadRecording, No, Memory, NoPicture}
 use Rattle.player_run.specs.declared.words.Use.TheVariants.{Play}
 use Rattle.player_run.specs.inner.Outputs.{WritesOrBegins}
 use Rattle.player_run.specs.Runs.{script_limit, IsPlayOf, IsPlayUpTo, TellsMisfit, Takes, CauseOf, CauseFrom, Writes}
@@ -25,6 +25,7 @@ acted_output workers source old new s ReadFault text accepted wrote = absurd wro
 acted_output workers source old new s (TooLong limit) text accepted wrote = absurd wrote
 acted_output workers source old new s (BadRecording place) text accepted wrote = absurd wrote
 acted_output workers source old new s (No event) text accepted wrote = absurd wrote
+acted_output workers source old new s NoPicture text accepted wrote = absurd wrote
 
 acted : (workers : ℕ) (bytes : List ℕ) (P Q : List ℕ → Type 0) (old new : Option (List ℕ)) (result : Outcome) → Takes (Play workers) bytes → WritesOrBegins P Q old new result → CauseOf (Play workers) bytes result
 acted workers bytes P Q old new Done takes wrote = takes
@@ -38,6 +39,7 @@ acted workers bytes P Q old new ReadFault takes wrote = absurd wrote
 acted workers bytes P Q old new (TooLong limit) takes wrote = absurd wrote
 acted workers bytes P Q old new (BadRecording place) takes wrote = absurd wrote
 acted workers bytes P Q old new (No event) takes wrote = absurd wrote
+acted workers bytes P Q old new NoPicture takes wrote = absurd wrote
 
 -- a script that was read is what the use takes
 pub acted_cause : (workers : ℕ) (source : Option (List ℕ)) (P Q : List ℕ → Type 0) (old new : Option (List ℕ)) (s : ScriptModel) (result : Outcome) → IfSome source (λ bytes. (length bytes ≤ script_limit) × IsScriptText bytes s) → IsAccepted s
@@ -58,3 +60,4 @@ acted_words workers P Q old new ReadFault wrote = tt
 acted_words workers P Q old new (TooLong limit) wrote = tt
 acted_words workers P Q old new (BadRecording place) wrote = tt
 acted_words workers P Q old new (No event) wrote = tt
+acted_words workers P Q old new NoPicture wrote = tt

@@ -6,7 +6,7 @@ use Rattle.model_history.specs.Scripts.{ScriptModel}
 use Rattle.script_json.specs.Causes.{IsScriptText}
 use Rattle.recording_writer.specs.Films.{IsLockstepFilm}
 use Rattle.player_run.specs.declared.outcome.Outcome.{Outcome}
-use Rattle.player_run.specs.declared.outcome.Outcome.TheVariants.{Done, Usage, Json, Shape, Script, ReadFault, WriteFault, TooLong, BadRecording, No, Memory}
+use Rattle.player_run.specs.declared.outcome.Outcome.TheVariants.{Done, Usage, Json, Shape, Script, ReadFault, WriteFault, TooLong, BadRecording, No, Memory, NoPicture}
 use Rattle.player_run.specs.declared.words.Use.TheVariants.{Step, Film}
 use Rattle.player_run.specs.inner.Outputs.{WritesSome}
 use Rattle.player_run.specs.Runs.{script_limit, IsRunOf, Takes, CauseOf, CauseFrom, Writes}
@@ -32,6 +32,7 @@ played workers bytes P old new ReadFault takes wrote = absurd wrote
 played workers bytes P old new (TooLong limit) takes wrote = absurd wrote
 played workers bytes P old new (BadRecording place) takes wrote = absurd wrote
 played workers bytes P old new (No event) takes wrote = absurd wrote
+played workers bytes P old new NoPicture takes wrote = absurd wrote
 
 -- a script that was read is what the use takes
 pub script_cause : (workers : ℕ) (source : Option (List ℕ)) (P : List ℕ → Type 0) (old new : Option (List ℕ)) (s : ScriptModel) (result : Outcome) → IfSome source (λ bytes. (length bytes ≤ script_limit) × IsScriptText bytes s) → IsAccepted s → WritesSome P old new result → CauseFrom (Step workers) source result
@@ -56,6 +57,7 @@ filmed workers bytes P old new ReadFault takes wrote = absurd wrote
 filmed workers bytes P old new (TooLong limit) takes wrote = absurd wrote
 filmed workers bytes P old new (BadRecording place) takes wrote = absurd wrote
 filmed workers bytes P old new (No event) takes wrote = absurd wrote
+filmed workers bytes P old new NoPicture takes wrote = absurd wrote
 
 pub film_cause : (workers : ℕ) (source : Option (List ℕ)) (P : List ℕ → Type 0) (old new : Option (List ℕ)) (s : ScriptModel) (result : Outcome) → IfSome source (λ bytes. (length bytes ≤ script_limit) × IsScriptText bytes s) → IsAccepted s → WritesSome P old new result → CauseFrom (Film workers) source result
 film_cause workers None P old new s result text accepted wrote = tt

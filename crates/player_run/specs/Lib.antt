@@ -2,5 +2,6 @@ pub mod Words
 pub mod Outcomes
 pub mod Promises
 pub mod Demos
+pub mod Shots
 pub mod Runs
 pub mod inner

@@ -8,7 +8,7 @@ use Rattle.page_layers.specs.declared.fault.EditFault.{EditFault}
 use Rattle.page_layers.specs.declared.fault.EditFault.TheVariants as fault
 use Rattle.player_run.specs.declared.outcome.Outcome.{Outcome}
 use Rattle.script_json.specs.declared.fault.ShapeFault.{ShapeFault}
-use Rattle.player_run.specs.declared.outcome.Outcome.TheVariants.{Done, Usage, Json, Shape, Script, ReadFault, WriteFault, TooLong, BadRecording, No, Memory}
+use Rattle.player_run.specs.declared.outcome.Outcome.TheVariants.{Done, Usage, Json, Shape, Script, ReadFault, WriteFault, TooLong, BadRecording, No, Memory, NoPicture}
 
 -- the status with which the program exits
 abbrev pub status_of : Outcome → ℕ
@@ -23,6 +23,7 @@ status_of (TooLong limit) = 8
 status_of (BadRecording place) = 9
 status_of (No event) = 10
 status_of Memory = 11
+status_of NoPicture = 12
 
 -- texts, one after another
 abbrev pub joined_texts : List (List ℕ) → List ℕ
@@ -62,6 +63,7 @@ line_of (TooLong limit) = joined_texts (codes "cc: too long, limit " ∷ decimal
 line_of (BadRecording place) = joined_texts (codes "cc: bad recording at " ∷ decimal place ∷ codes "\n" ∷ [])
 line_of (No event) = joined_texts (codes "cc: event " ∷ decimal event ∷ codes " is wrong\n" ∷ [])
 line_of Memory = joined_texts (codes "cc: out of memory\n" ∷ [])
+line_of NoPicture = joined_texts (codes "cc: no picture\n" ∷ [])
 
 -- the notes gained the line; or a prefix of it, and one of their two counts rose
 abbrev pub Told : Option (List ℕ) → Option (List ℕ) → ℕ → ℕ → ℕ → ℕ → List ℕ → Type 0

@@ -1,5 +1,5 @@
 -- What a run of the program does with its words, its input and its output.
-use Rattle.std.specs.Prelude.{◌≡◌, ℕ, Bool, true, ◌<◌, ◌≤◌, ◌+◌, ◌⊎◌, List, [], ◌++◌, length, codes, ⊤, Option, None, IfSome, Result, Ok, Err}
+use Rattle.std.specs.Prelude.{◌≡◌, ℕ, Bool, true, ◌<◌, ◌≤◌, ◌+◌, ◌⊎◌, List, [], ◌++◌, length, codes, ⊤, Option, Some, None, IfSome, Result, Ok, Err}
 use Rattle.std.specs.Str.{IsUtf8}
 use Rattle.std.specs.Io.KnownBytes.{Consumes, Appends, IsAtEnd}
 use Rattle.serde_json.specs.Data.{Data}
@@ -18,14 +18,16 @@ use Rattle.recording_check.specs.Verdicts.{IsLegalRecording, IsFirstWrongEvent}
 use Rattle.model_history.specs.declared.history.Entry.{Entry}
 use Rattle.model_history.specs.Lockstep.{IsLockstep}
 use Rattle.script_json.specs.Recordings.{recording, script_text}
-use Rattle.recording_writer.specs.Films.{IsLockstepFilm}
+use Rattle.recording_writer.specs.Films.{IsLockstepFilm, IsLastImage}
+use Rattle.recording_writer.specs.Shots.{IsShot}
 use Rattle.script_generator.specs.Generated.{script_of_number}
 use Rattle.player_run.specs.declared.outcome.Outcome.{Outcome}
-use Rattle.player_run.specs.declared.outcome.Outcome.TheVariants.{Done, Usage, Json, Shape, Script, ReadFault, WriteFault, TooLong, BadRecording, No, Memory}
+use Rattle.player_run.specs.declared.outcome.Outcome.TheVariants.{Done, Usage, Json, Shape, Script, ReadFault, WriteFault, TooLong, BadRecording, No, Memory, NoPicture}
 use Rattle.player_run.specs.declared.words.Use.{Use}
-use Rattle.player_run.specs.declared.words.Use.TheVariants.{Step, Play, Gen, Demo, Film, Frames, Check}
+use Rattle.player_run.specs.declared.words.Use.TheVariants.{Step, Play, Gen, Demo, Film, Shot, Frames, Check}
 use Rattle.player_run.specs.Promises.{IsSoundHistory, IsPlayed, IsPromised}
 use Rattle.player_run.specs.Demos.{demo_line}
+use Rattle.player_run.specs.Shots.{with_shot, HasPicture}
 
 -- the greatest number of bytes of a script
 abbrev pub script_limit : ℕ
@@ -45,17 +47,22 @@ TellsMisfit (Ok wanted) _ = ⊤
 abbrev pub IsAcceptedText : List ℕ → Type 0
 IsAcceptedText bytes = (s : ScriptModel) × IsScriptText bytes s × IsAccepted s
 
+-- they are one whose shot has a picture
+abbrev pub IsPictureText : List ℕ → Type 0
+IsPictureText bytes = (s : ScriptModel) × IsScriptText bytes s × IsAccepted s × HasPicture (with_shot s)
+
 -- the bytes are a recording
 abbrev pub IsRecordingText : List ℕ → Type 0
 IsRecordingText bytes = (s : ScriptModel) × (ps : List Piece) × IsRecording bytes s ps
 
--- what a use takes: the text of an accepted script; a recording; that of a history that is legal for 16 workers; and where it reads nothing, any bytes
+-- what a use takes: the text of an accepted script, for `shot` of one that has a picture; a recording; that of a history that is legal for 16 workers; and where it reads nothing, any bytes
 abbrev pub Takes : Use → List ℕ → Type 0
 Takes (Step workers) bytes = (length bytes ≤ script_limit) × IsAcceptedText bytes
 Takes (Play workers) bytes = (length bytes ≤ script_limit) × IsAcceptedText bytes
 Takes (Gen number) bytes = ⊤
 Takes (Demo number) bytes = ⊤
 Takes (Film workers) bytes = (length bytes ≤ script_limit) × IsAcceptedText bytes
+Takes (Shot workers) bytes = (length bytes ≤ script_limit) × IsPictureText bytes
 Takes Frames bytes = (length bytes ≤ recording_limit) × IsRecordingText bytes
 Takes Check bytes = (length bytes ≤ recording_limit) × IsLegalRecording 16 bytes
 
@@ -68,6 +75,12 @@ RefusedScript bytes (Script frame command fault) =
     (length bytes ≤ script_limit) × (s : ScriptModel) × IsScriptText bytes s × RefusedAt (blank s) s.main frame command fault
 RefusedScript bytes (TooLong limit) = (limit ≡ script_limit) × (script_limit < length bytes)
 RefusedScript bytes _ = ⊥
+
+-- why bytes are refused as a script of which a picture is wanted: its shot has none; or they are no script
+abbrev pub RefusedShot : List ℕ → Outcome → Type 0
+RefusedShot bytes NoPicture =
+    (length bytes ≤ script_limit) × (s : ScriptModel) × IsScriptText bytes s × IsAccepted s × IsLastImage (with_shot s) None
+RefusedShot bytes result = RefusedScript bytes result
 
 -- why bytes are refused as a recording: the first part that is not of its form begins there
 abbrev pub RefusedRecording : List ℕ → Outcome → Type 0
@@ -87,6 +100,7 @@ Refused (Play workers) bytes result = RefusedScript bytes result
 Refused (Gen number) bytes result = ⊥
 Refused (Demo number) bytes result = ⊥
 Refused (Film workers) bytes result = RefusedScript bytes result
+Refused (Shot workers) bytes result = RefusedShot bytes result
 Refused Frames bytes result = RefusedRecording bytes result
 Refused Check bytes result = RefusedHistory bytes result
 
@@ -112,7 +126,13 @@ AnswersScript (Usage word) = ⊥
 AnswersScript (TooLong limit) = limit ≡ script_limit
 AnswersScript (BadRecording place) = ⊥
 AnswersScript (No event) = ⊥
+AnswersScript NoPicture = ⊥
 AnswersScript _ = ⊤
+
+-- the answers of `shot`
+abbrev pub AnswersShot : Outcome → Type 0
+AnswersShot NoPicture = ⊤
+AnswersShot result = AnswersScript result
 
 -- the answers of `frames`
 abbrev pub AnswersImages : Outcome → Type 0
@@ -134,6 +154,7 @@ MayAnswer (Play workers) result = AnswersScript result
 MayAnswer (Gen number) result = IsUnread result
 MayAnswer (Demo number) result = IsUnread result
 MayAnswer (Film workers) result = AnswersScript result
+MayAnswer (Shot workers) result = AnswersShot result
 MayAnswer Frames result = AnswersImages result
 MayAnswer Check result = AnswersJudged result
 
@@ -154,6 +175,7 @@ Reads (Play workers) old new = TakenAtMost (script_limit + 1) old new
 Reads (Gen number) old new = new ≡ old
 Reads (Demo number) old new = new ≡ old
 Reads (Film workers) old new = TakenAtMost (script_limit + 1) old new
+Reads (Shot workers) old new = TakenAtMost (script_limit + 1) old new
 Reads Frames old new = TakenAtMost (recording_limit + 1) old new
 Reads Check old new = TakenAtMost (recording_limit + 1) old new
 
@@ -172,6 +194,7 @@ ReadToEnd (Play workers) left result = IsJudgedWhole left result
 ReadToEnd (Gen number) left result = ⊤
 ReadToEnd (Demo number) left result = ⊤
 ReadToEnd (Film workers) left result = IsJudgedWhole left result
+ReadToEnd (Shot workers) left result = IsJudgedWhole left result
 ReadToEnd Frames left result = IsJudgedWhole left result
 ReadToEnd Check left result = IsJudgedWhole left result
 
@@ -200,13 +223,14 @@ abbrev pub AreImagesFrom : Option (List ℕ) → List ℕ → Type 0
 AreImagesFrom source whole =
     (bytes : List ℕ) × IfSome source (λ had. had ≡ bytes) × (s : ScriptModel) × (ps : List Piece) × IsRecording bytes s ps × (whole ≡ images_text ps)
 
--- what a use writes in all: the recording of the script; the canonical text of a number's script, and a newline; the line that sums up its recording; the images of a script's run; the images of the recording; or nothing
+-- what a use writes in all: the recording of the script; the canonical text of a number's script, and a newline; the line that sums up its recording; the images of a script's run; the file of the last image of its shot; the images of the recording; or nothing
 abbrev pub IsOutput : Use → Option (List ℕ) → List ℕ → Type 0
 IsOutput (Step workers) source whole = (s : ScriptModel) × IsScriptFrom source s × IsRunOf workers s whole
 IsOutput (Play workers) source whole = (s : ScriptModel) × IsScriptFrom source s × IsPlayOf workers s whole
 IsOutput (Gen number) source whole = whole ≡ script_text (script_of_number number) ++ codes "\n"
 IsOutput (Demo number) source whole = IsDemoOf (script_of_number number) whole
 IsOutput (Film workers) source whole = (s : ScriptModel) × IsScriptFrom source s × IsLockstepFilm s whole
+IsOutput (Shot workers) source whole = (s : ScriptModel) × IsScriptFrom source s × IsShot (with_shot s) (Some whole)
 IsOutput Frames source whole = AreImagesFrom source whole
 IsOutput Check source whole = whole ≡ []
 

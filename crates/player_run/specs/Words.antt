@@ -1,8 +1,8 @@
--- Which words the program takes, and what they ask for: `step N`, `play N`, `gen NUMBER`, `demo NUMBER`, `film N`, `frames`, `check`.
+-- Which words the program takes, and what they ask for: `step N`, `play N`, `gen NUMBER`, `demo NUMBER`, `film N`, `shot N`, `frames`, `check`.
 use Rattle.std.specs.Prelude.{ℕ, Bool, true, false, ◌+◌, ◌-◌, ◌*◌, ◌^◌, ◌&&◌, nat_le, nat_lt, List, [], ◌∷◌, Option, Some, None, Result, Ok, Err, codes, decimal, if◌then◌else◌}
 use Rattle.std.specs.Str.{bytes_eq}
 use Rattle.player_run.specs.declared.words.Use.{Use}
-use Rattle.player_run.specs.declared.words.Use.TheVariants.{Step, Play, Gen, Demo, Film, Frames, Check}
+use Rattle.player_run.specs.declared.words.Use.TheVariants.{Step, Play, Gen, Demo, Film, Shot, Frames, Check}
 
 -- what the digits of a word say, where those before them say n
 abbrev pub digits_value : ℕ → List ℕ → ℕ
@@ -47,6 +47,11 @@ abbrev pub after_film : List (List ℕ) → Result Use ℕ
 after_film [] = Err 1
 after_film (w ∷ ws) = numbered (workers_in w) Film ws
 
+-- after `shot` too
+abbrev pub after_shot : List (List ℕ) → Result Use ℕ
+after_shot [] = Err 1
+after_shot (w ∷ ws) = numbered (workers_in w) Shot ws
+
 -- after `gen` and `demo` stands the number of which the script is made
 abbrev pub after_gen : List (List ℕ) → Result Use ℕ
 after_gen [] = Err 1
@@ -63,8 +68,9 @@ after_other w ws =
     else (if bytes_eq w (codes "gen") then after_gen ws
     else (if bytes_eq w (codes "demo") then after_demo ws
     else (if bytes_eq w (codes "film") then after_film ws
+    else (if bytes_eq w (codes "shot") then after_shot ws
     else (if bytes_eq w (codes "frames") then no_more_words Frames 1 ws
-    else (if bytes_eq w (codes "check") then no_more_words Check 1 ws else Err 0)))))
+    else (if bytes_eq w (codes "check") then no_more_words Check 1 ws else Err 0))))))
 
 -- what the words ask for; or the index of the first word that, with those before it, begins no use, and
 -- where there is no such word and more words are needed, their count

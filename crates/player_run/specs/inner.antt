@@ -4,6 +4,7 @@ pub mod Judged
 pub mod Outputs
 pub mod Recordings
 pub mod Scripts
+pub mod Shots
 pub mod Summaries
 pub mod Uses
 pub mod Actors

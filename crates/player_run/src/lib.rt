@@ -1,6 +1,6 @@
 //! What the program does with its words: `step N` plays a script into its recording, `play N` does it by actors
-//! on threads, `film N` writes the images alone, `frames` takes the images out of a recording, `check` judges one, `gen NUMBER` makes a script, and
-//! `demo NUMBER` plays one and sums it up.
+//! on threads, `film N` writes the images alone, `shot N` the last of them as a PNG file, `frames` takes the images
+//! out of a recording, `check` judges one, `gen NUMBER` makes a script, and `demo NUMBER` plays one and sums it up.
 //!
 //! The modules in the order in which a run meets them: the words, the input, the program that joins all;
 //! a module for each use; and the notes that tell the outcome.
@@ -22,6 +22,8 @@ mod outcome;
 mod play;
 mod program;
 mod script_input;
+mod shot;
+mod shot_input;
 mod step;
 mod threads;
 mod words;

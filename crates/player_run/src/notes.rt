@@ -127,6 +127,7 @@ fn line(outcome: Outcome) -> [Fragment; 9]
             Fragment::Text(b" is wrong\n"),
         ),
         Outcome::Memory => text_line(b"cc: out of memory\n"),
+        Outcome::NoPicture => text_line(b"cc: no picture\n"),
     }
 }
 

@@ -52,6 +52,8 @@ pub enum Outcome {
     },
     /// There was no memory.
     Memory,
+    /// No draw of the script gave a picture.
+    NoPicture,
 }
 
 impl Outcome {
@@ -71,6 +73,7 @@ impl Outcome {
             Outcome::BadRecording { .. } => 9,
             Outcome::No { .. } => 10,
             Outcome::Memory => 11,
+            Outcome::NoPicture => 12,
         }
     }
 }

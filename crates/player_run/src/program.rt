@@ -14,6 +14,7 @@ use crate::judged::run_check;
 use crate::notes::tell;
 use crate::outcome::Outcome;
 use crate::play::run_play;
+use crate::shot::run_shot;
 use crate::step::run_step;
 use crate::words::{Use, players, use_of};
 use player_io::{Gate, Sink, Source};
@@ -50,6 +51,7 @@ fn run_use<R: Threads + Sync, S: Source, K: Sink>(
         Use::Gen { number } => Some(run_gen(alloc, number, out)),
         Use::Demo { number } => Some(run_demo(rt, alloc, number, out)),
         Use::Film { workers } => Some(run_film(rt, alloc, workers, source, out)),
+        Use::Shot { workers } => Some(run_shot(rt, alloc, workers, source, out)),
         Use::Frames => Some(run_frames(alloc, source, out)),
         Use::Check => Some(run_check(alloc, source)),
     }
@@ -149,7 +151,8 @@ fn run_players<R: Threads + Wait + Sync, S: Source, K: Sink + Send, G: Gate + Sy
 /// lockstep with N raster workers and writes its recording, which is the same for every N. `play N` plays it
 /// by actors on threads of their own, N raster workers among them, and writes its recording; where a thread
 /// cannot be started, it does as `step N`. `film N` plays a script as `step N` does and writes the images of its
-/// recording alone, one after another. `frames` reads a recording and writes its images; `check` reads one and judges it without the core and what draws, and writes nothing. `gen NUMBER`
+/// recording alone, one after another. `shot N` does so too and writes the picture of its last draw as a PNG file;
+/// a script without inputs is played with an await of its last main frame, a settle and a draw. `frames` reads a recording and writes its images; `check` reads one and judges it without the core and what draws, and writes nothing. `gen NUMBER`
 /// reads nothing and writes the canonical text of a number's script and a newline; `demo NUMBER` plays that
 /// script and writes a line that sums up its recording. NUMBER is a plain decimal below 2^64.
 ///

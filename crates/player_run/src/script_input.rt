@@ -11,8 +11,8 @@ use player_io::Source;
 use script_json::{TextFault, read_script};
 use std::alloc::Global;
 
-// The greatest number of bytes of a script.
-const SCRIPT_LIMIT: usize = 16777216;
+/// The greatest number of bytes of a script.
+pub const SCRIPT_LIMIT: usize = 16777216;
 
 // The script in a text, or why there is none.
 fn script_in(alloc: Global, bytes: &[u8]) -> Result<Script, Outcome>

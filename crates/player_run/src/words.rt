@@ -35,6 +35,12 @@ pub enum Use {
         /// How many raster workers there are, 1 to 16. The images are the same for every number.
         workers: u32,
     },
+    /// `shot N`: plays a script in lockstep with N raster workers and writes the picture of its last draw as a PNG
+    /// file.
+    Shot {
+        /// How many raster workers there are, 1 to 16. The file is the same for every number.
+        workers: u32,
+    },
     /// `frames`: writes the images of a recording.
     Frames,
     /// `check`: judges a recording without the core and what draws.
@@ -55,6 +61,7 @@ impl Use {
             | Use::Gen { .. }
             | Use::Demo { .. }
             | Use::Film { .. }
+            | Use::Shot { .. }
             | Use::Frames
             | Use::Check => None,
         }
@@ -174,6 +181,19 @@ fn after_film(rest: &[String]) -> Result<Use, u32>
     }
 }
 
+// What the words after `shot` ask for, or the index of the first that does not fit.
+fn after_shot(rest: &[String]) -> Result<Use, u32>
+    ensures { result ≡ words.after_shot (map string_bytes rest.now) }
+{
+    let [word, more @ ..] = rest else {
+        return Err(1);
+    };
+    match few(number_of(word.as_str())) {
+        Some(workers) => no_more(Use::Shot { workers }, 2, more),
+        None => Err(1),
+    }
+}
+
 // What the words after `gen` ask for, or the index of the first that does not fit.
 fn after_gen(rest: &[String]) -> Result<Use, u32>
     ensures { result ≡ words.after_gen (map string_bytes rest.now) }
@@ -213,6 +233,8 @@ fn after_other(first: &str, rest: &[String]) -> Result<Use, u32>
         after_demo(rest)
     } else if is_same(first, "film") {
         after_film(rest)
+    } else if is_same(first, "shot") {
+        after_shot(rest)
     } else if is_same(first, "frames") {
         no_more(Use::Frames, 1, rest)
     } else if is_same(first, "check") {

@@ -13,6 +13,10 @@ pub returns-in-Film-clause-output : goal.returns-in-Film-clause-output
 returns-in-Film-clause-output g c =
     subst (λ (u : Use). Writes u (g.S.Source.left c.args.source.now) (g.K.Sink.held c.args.out.now) (g.K.Sink.held c.run_film.new.out) c.run_film.result) (sym c.in-Film.is) c.run_film.ensures.output
 
+pub returns-in-Shot-clause-output : goal.returns-in-Shot-clause-output
+returns-in-Shot-clause-output g c =
+    subst (λ (u : Use). Writes u (g.S.Source.left c.args.source.now) (g.K.Sink.held c.args.out.now) (g.K.Sink.held c.run_shot.new.out) c.run_shot.result) (sym c.in-Shot.is) c.run_shot.ensures.output
+
 pub returns-in-Frames-clause-output : goal.returns-in-Frames-clause-output
 returns-in-Frames-clause-output g c =
     subst (λ (u : Use). Writes u (g.S.Source.left c.args.source.now) (g.K.Sink.held c.args.out.now) (g.K.Sink.held c.run_frames.new.out) c.run_frames.result) (sym c.in-Frames.is) c.run_frames.ensures.output

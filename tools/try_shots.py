@@ -1,0 +1,81 @@
+#!/usr/bin/env python3
+"""Holds the PNG files of `shot` against the pictures of `step` and `frames`, by Python's zlib.
+
+usage: tools/try_shots.py [PROGRAM]      (crates/cc_player/out/cc_player, which the gate and `rt run` build)
+
+Each script of examples/ and docs/tutorial/ and ten that the program makes itself are played as they stand, and without
+their inputs, where the picture has to be that of an await of the last main frame, a settle and a draw. The file is to
+be the same for 1 and 4 raster workers.
+"""
+import json
+import pathlib
+import struct
+import subprocess
+import sys
+import zlib
+
+sys.dont_write_bytecode = True
+from png_chunks import chunks_of
+
+ROOT = pathlib.Path(__file__).resolve().parent.parent
+PLAYER = ROOT / "crates" / "cc_player" / "out" / "cc_player"
+NO_PICTURE = (12, b"", b"cc: no picture\n")
+
+
+def run(program, words, given=b""):
+    """The status of a run, what it wrote, and its notes."""
+    done = subprocess.run([program, *words.split()], input=given, capture_output=True, timeout=120)
+    return done.returncode, done.stdout, done.stderr
+
+
+def last_image(images):
+    """The last of some raw portable pixmaps, or None."""
+    last = None
+    while images:
+        head = images.index(b"\n255\n") + 5
+        width, height = map(int, images[3:head - 5].split())
+        last, images = images[:head + 3 * width * height], images[head + 3 * width * height:]
+    return last
+
+
+def image_of(file):
+    """The picture of a PNG file as a raw portable pixmap. Its rows are as they are, or what they differ from the row above."""
+    parts = list(chunks_of(file))
+    width, height, *form = struct.unpack(">IIBBBBB", parts[0][1])
+    if [kind for kind, _ in parts] != [b"IHDR", b"IDAT", b"IEND"] or form != [8, 2, 0, 0, 0]:
+        raise ValueError("another kind of file")
+    rows, above, pixels = zlib.decompress(parts[1][1]), bytes(3 * width), []
+    for at in range(0, len(rows), 3 * width + 1):
+        filtered = rows[at + 1:at + 1 + 3 * width]
+        above = {0: filtered, 2: bytes((a + b) % 256 for a, b in zip(filtered, above))}[rows[at]]
+        pixels.append(above)
+    return b"P6\n%d %d\n255\n" % (width, height) + b"".join(pixels)
+
+
+def is_right(program, script, played):
+    """Whether the shots of a script show the last picture of the one that is to be played for it."""
+    shots = [run(program, f"shot {workers}", script) for workers in (1, 4)]
+    want = last_image(run(program, "frames", run(program, "step 1", played)[1])[1])
+    if shots[0] != shots[1] or want is None:
+        return shots[0] == shots[1] == NO_PICTURE
+    return shots[0][0] == 0 and image_of(shots[0][1]) == want
+
+
+def main():
+    program = sys.argv[1] if len(sys.argv) > 1 else PLAYER
+    scripts = {path.name: path.read_bytes() for path in sorted([*ROOT.glob("examples/*.json"), *ROOT.glob("docs/tutorial/*.json")])}
+    scripts |= {f"gen {number}": run(program, f"gen {number}")[1] for number in range(10)}
+    wrong = []
+    for name, script in scripts.items():
+        page = json.loads(script)
+        last = len(page["main"]) - 1
+        asks = [{"op": "await", "frame": last}] * (last >= 0) + [{"op": "settle"}, {"op": "draw"}]
+        bare, asked = (json.dumps(page | {"inputs": inputs}).encode() for inputs in ([], asks))
+        wrong += [name] * (not is_right(program, script, script if page["inputs"] else asked))
+        wrong += [f"{name} without inputs"] * (not is_right(program, bare, asked))
+    print(f"try_shots: {2 * len(scripts)} pictures, {len(wrong)} wrong", *wrong, sep="\n  " if wrong else " ")
+    sys.exit(bool(wrong))
+
+
+if __name__ == "__main__":
+    main()
