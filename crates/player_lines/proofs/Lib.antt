@@ -1,0 +1,4 @@
+pub mod Gained
+pub mod Quotes
+pub mod Telling
+pub mod Cuts

@@ -1,0 +1,42 @@
+//! The other side of a session.
+
+ghost use Rattle.std.specs.Prelude.{◌≡◌, ℕ, List, Option, None, OnErr, ◌≤◌};
+ghost use Rattle.std.specs.Io.{ReadsAtMost};
+ghost use Rattle.player_io.specs.Counts.{Rose};
+ghost use Rattle.player_lines.specs.Sessions.{Act};
+ghost use Rattle.player_lines.specs.inner.Pasts.{ReadAdds, DataAdds, TextAdds};
+
+/// A call of a client failed.
+#[derive(Clone, Copy, Debug, Drop, PartialEq)]
+pub struct Failed;
+
+/// The other side of a session: it gives the bytes of lines and takes the bytes of answers.
+///
+/// For clauses alone it may tell what passed (`past`), the newest act first, and it counts its faults (`faults`).
+pub trait Client {
+    ghost use Rattle.player_lines.specs.Sessions.{Act};
+    ghost use Rattle.player_lines.specs.inner.Pasts.{ReadAdds, DataAdds, TextAdds};
+
+    ghost past: { Self → Option (List Act) } = { λ _. None };
+
+    ghost faults: { Self → ℕ };
+
+    /// Gives bytes that are there, waiting for at least one; 0 bytes mean the end.
+    fn read(&mut self, buf: &mut [u8]) -> Result<usize, Failed>
+        ensures bound { ReadsAtMost result buf.new }
+        ensures adds { ReadAdds (past self.old) (past self.new) result buf.new }
+        ensures grows { faults self.old ≤ faults self.new }
+        ensures cause { OnErr result (Rose (faults self.old) (faults self.new)) };
+
+    /// Takes a piece of data, after a line that tells how many bytes it has, and hands both on at once.
+    fn put_data(&mut self, piece: &[u8]) -> Result<(), Failed>
+        ensures adds { DataAdds (past self.old) (past self.new) piece.now result }
+        ensures grows { faults self.old ≤ faults self.new }
+        ensures cause { OnErr result (Rose (faults self.old) (faults self.new)) };
+
+    /// Takes text of the last line of an answer, and hands it on at once.
+    fn put_text(&mut self, text: &[u8]) -> Result<(), Failed>
+        ensures adds { TextAdds (past self.old) (past self.new) text.now result }
+        ensures grows { faults self.old ≤ faults self.new }
+        ensures cause { OnErr result (Rose (faults self.old) (faults self.new)) };
+}
