@@ -1,8 +1,7 @@
 -- What a sink gained piece by piece is a prefix of the whole.
-use Rattle.std.proofs.Common.{◌≡◌, ℕ, List, [], ◌++◌, None, Some, ap, sym, ◌∙◌, refl, append_assoc, append-nil, subst}
+use Rattle.std.proofs.Common.{◌≡◌, ℕ, List, [], ◌++◌, ap, sym, ◌∙◌, append_assoc, append-nil, subst}
 use Rattle.std.specs.Prelude.{Option, Result, Ok, Err}
 use Rattle.std.specs.Io.KnownBytes.{Appends}
-use Rattle.player_io.specs.Pieces.{GainsPrefix}
 use Rattle.recording_pieces.specs.Writing.{PutsAll}
 use Rattle.recording_pieces.proofs.Gains.{gains_both, gains_front}
 use Rattle.recording_writer.specs.inner.Parts.{Half, WritesPart}

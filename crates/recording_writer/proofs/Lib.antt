@@ -1,3 +1,4 @@
+mod BatchedRuns
 pub mod DrawnScenes
 pub mod Gains
 pub mod KeptPictures

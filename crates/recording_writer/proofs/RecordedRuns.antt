@@ -44,7 +44,7 @@ fresh_can s m inputs (n, is) accepted all =
 
 -- ---- the recording
 
-whole_of : (s : ScriptModel) (history : List Entry) → header (script_text s) ++ pieces s [] history ≡ recording s history
+pub whole_of : (s : ScriptModel) (history : List Entry) → header (script_text s) ++ pieces s [] history ≡ recording s history
 unfolding recording recorded
 whole_of s history = refl
 

@@ -20,7 +20,7 @@ use Rattle.impl_log.specs.Runs.{Run, past}
 use Rattle.proxy_single_thread.specs.Singles.{SingleModel, AddsScene, AreScenes, walk_of}
 use Rattle.recording_png.specs.Pictures.{read_png}
 use Rattle.recording_writer.specs.Films.{image_or, last_image, IsLastImage}
-use Rattle.recording_writer.specs.Shots.{IsFileOf, FilesImage, IsShot}
+use Rattle.recording_writer.specs.Shots.{IsFileOf, IsShot}
 use Rattle.recording_writer.specs.inner.Filming.{standing_at}
 use Rattle.recording_writer.specs.inner.Repeats.{image_of}
 use Rattle.recording_pieces.specs.Scenes.{scene_image}

@@ -1,7 +1,8 @@
 //! Plays a script in lockstep and writes its recording as it is made.
 //!
 //! A compositor on one thread plays what an input brings; then what it entered is written: the line of each
-//! event, and the image of what it shows after that of a draw. So no more is held than one input brings.
+//! event, and the image of what it shows after that of a draw. So no more is held than one input brings. With several
+//! workers it plays a batch of inputs while the batch before is painted and put.
 //!
 //! In: an accepted script and a sink. Out: the sink gained the script's recording, or where it failed or memory
 //! was refused, a prefix of it.
@@ -11,6 +12,8 @@
 //! An [`ImagePainter`] gives the images of scenes to whoever writes a recording in another way.
 #![tactic(auto)]
 
+mod batch;
+mod batches;
 mod film;
 mod image;
 mod image_painter;

@@ -14,6 +14,7 @@ ghost use Rattle.recording_writer.specs.inner.Parts.{Half, WritesPart};
 ghost use Rattle.recording_writer.specs.inner.Repeats.{Keeps};
 ghost use Rattle.recording_writer.specs.inner.Ways.{IsFresh, IsWritten, WritesWay, recorded_run, whole_played};
 
+use crate::batches::record_batches;
 use crate::recorder::Recorder;
 use model_history::{History, Input, Script};
 use model_lockstep::{end_run, play_input};
@@ -194,6 +195,30 @@ fn record_events<R: Threads + Sync, K: Sink>(
     recorder.finish(out)
 }
 
+// Plays and writes the whole run of a script after the lines before the events: batch by batch, painted beside the
+// compositor, where there are several workers.
+fn record_history<R: Threads + Sync, K: Sink>(
+    rt: &R,
+    recorder: &mut Recorder,
+    single: &mut SingleThread,
+    script: &Script,
+    out: &mut K,
+) -> Result<(), WriteStop>
+    requires fresh { IsFresh script.now single.old }
+    requires none { recorder.old.last.place ≡ None }
+    ensures bytes { (start : Option (List ℕ)) → Half start (K.held out.old) (header (compact_text (parts_data script.now))) recorder.old.lines.items → Records script.now start (K.held out.new) result }
+    ensures history { IfOk result (λ whole. IsLockstep script.now single.new.run.entries) }
+    ensures grows { K.faults out.old ≤ K.faults out.new }
+    ensures cause { WriteCause (K.faults out.old) (K.faults out.new) result }
+{
+    let parts = recorder.parts();
+    if parts < 2 {
+        return record_events(rt, recorder, single, script, out);
+    }
+    let lines = recorder.take_lines();
+    record_batches(rt, recorder.alloc, parts, lines, single, script, out)
+}
+
 // Writes the whole recording of a script with this text.
 fn record_whole<R: Threads + Sync, K: Sink>(
     rt: &R,
@@ -216,7 +241,7 @@ fn record_whole<R: Threads + Sync, K: Sink>(
     let begun = recorder.begin(out, text.as_slice());
     drop(text);
     match begun {
-        Ok(()) => record_events(rt, recorder, single, script, out),
+        Ok(()) => record_history(rt, recorder, single, script, out),
         Err(stop) => Err(stop),
     }
 }
@@ -255,7 +280,8 @@ fn record_with<R: Threads + Sync, K: Sink>(
 /// Plays an accepted script in lockstep with the given number of workers, and writes its recording as it is
 /// made: the two header lines, the line of each event, and the image of what it shows after that of a draw.
 /// Where it stops early, the sink gained a prefix of it. Tiles that come next are made ahead and images are
-/// drawn in as many threads as there are workers; the recording is the same for every number of them.
+/// drawn in as many threads as there are workers, beside the compositor; the recording is the same for every number
+/// of them.
 pub fn record_lockstep<R: Threads + Sync, K: Sink>(
     rt: &R,
     alloc: Global,

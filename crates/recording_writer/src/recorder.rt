@@ -22,6 +22,7 @@ use recording_pieces::WriteStop;
 use recording_text::{push_event, push_image_head};
 use std::alloc::{AllocError, Global};
 use std::marker::Sync;
+use std::mem;
 use std::thread::Threads;
 use std::vec::IntoIter;
 use viz_scene::Scene;
@@ -29,6 +30,7 @@ use viz_scene::Scene;
 /// What is held between two pieces of a recording.
 #[derive(Drop)]
 pub(crate) struct Recorder {
+    pub(crate) alloc: Global,
     /// the lines that were not put yet
     pub(crate) lines: Vec<u8>,
     /// the last draw, with its picture
@@ -44,8 +46,8 @@ fn is_draw(event: &Event) -> bool
     matches!(event, Event::Draw { .. })
 }
 
-// The scene of an event, where it is a draw.
-fn next_scene(event: &Event, scenes: &mut IntoIter<Scene, Global>) -> Option<Scene>
+/// The scene of an event, where it is a draw.
+pub(crate) fn next_scene(event: &Event, scenes: &mut IntoIter<Scene, Global>) -> Option<Scene>
     requires { into_iter_len scenes.old ≡ length (into_iter_items scenes.old) }
     ensures scene { result ≡ scene_of event.now (into_iter_items scenes.old) }
     ensures left { into_iter_items scenes.new ≡ left_behind event.now (into_iter_items scenes.old) }
@@ -74,10 +76,24 @@ impl Recorder {
         ensures none { IfOk result (λ recorder. recorder.last.place ≡ None) }
     {
         Ok(Recorder {
+            alloc,
             lines: Vec::from_slice(alloc, b"cc1\n")?,
             last: LastDraw::new(alloc)?,
             parts,
         })
+    }
+
+    /// In how many parts a picture is made at most.
+    pub(crate) fn parts(&self) -> usize {
+        self.parts
+    }
+
+    /// Takes the lines that were not put yet.
+    pub(crate) fn take_lines(&mut self) -> Vec<u8>
+        ensures { result.items ≡ self.old.lines.items }
+    {
+        let none = Vec::new(self.alloc);
+        mem::replace(&mut self.lines, none)
     }
 
     /// Writes the two lines before the events, the second of which is this text of a script. The text may be long,

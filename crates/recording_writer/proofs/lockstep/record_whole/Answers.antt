@@ -7,12 +7,12 @@ use Rattle.recording_writer.specs.inner.Parts.{Half}
 use Rattle.recording_writer.proofs.RecordedRuns.{records_front}
 use Rattle.recording_writer.proofs.lockstep.record_whole.Goals as goal
 
-pub record_events-requires-clause-none : goal.record_events-requires-clause-none
-record_events-requires-clause-none g c κs within = ap (λ (last : LastDraw). last.place) c.in-Ok.ensures.last ∙ c.requires.none
+pub record_history-requires-clause-none : goal.record_history-requires-clause-none
+record_history-requires-clause-none g c κs within = ap (λ (last : LastDraw). last.place) c.in-Ok.ensures.last ∙ c.requires.none
 
 pub returns-in-Ok-clause-bytes : goal.returns-in-Ok-clause-bytes
 returns-in-Ok-clause-bytes g c =
-    c.record_events.ensures.bytes (g.K.Sink.held c.args.out.now)
+    c.record_history.ensures.bytes (g.K.Sink.held c.args.out.now)
     (subst (λ (text : List ℕ). Half (g.K.Sink.held c.args.out.now) (g.K.Sink.held c.begin-begun.new.out) (header text) c.begin-begun.new.self.lines.items)
     (c.as_slice.ensures.value ∙ c.requires.text) c.in-Ok.ensures.bytes)
 

@@ -1,5 +1,5 @@
 -- The newest of the scenes shows the last image.
-use Rattle.std.proofs.Common.{◌≡◌, ℕ, List, subst, ap, ◌∙◌}
+use Rattle.std.proofs.Common.{ℕ, List, subst, ap, ◌∙◌}
 use Rattle.std.specs.Prelude.{Option}
 use Rattle.viz_scene.specs.Views.{SceneView}
 use Rattle.model_history.specs.Legal.{Legal}

@@ -1,5 +1,5 @@
 -- The script that was played is the shared one.
-use Rattle.std.proofs.Common.{List, ℕ, subst}
+use Rattle.std.proofs.Common.{subst}
 use Rattle.std.specs.Prelude.{IfOk, option_map}
 use Rattle.model_history.specs.Scripts.{ScriptModel}
 use Rattle.recording_writer.specs.Shots.{IsShot}

@@ -1,6 +1,6 @@
 -- An input more.
 use Rattle.std.proofs.Common.{refl}
-use Rattle.model_lockstep.specs.Walks.{input_played, inputs_from}
+use Rattle.model_lockstep.specs.Walks.{input_played}
 use Rattle.model_lockstep.proofs.Parts.{can_input, input_turned, inputs_over}
 use Rattle.recording_writer.proofs.FilmedRuns.{can_walk}
 use Rattle.recording_writer.proofs.shot.watch_inputs.Goals as goal

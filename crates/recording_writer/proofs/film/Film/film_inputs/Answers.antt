@@ -1,9 +1,8 @@
 -- An input more.
-use Rattle.std.proofs.Common.{◌≡◌, ℕ, ◌≤◌, List, refl, arith}
+use Rattle.std.proofs.Common.{refl, arith}
 use Rattle.std.specs.Prelude.{None}
 use Rattle.model_lockstep.specs.Walks.{input_played, inputs_from}
 use Rattle.model_lockstep.proofs.Parts.{can_input, input_turned, input_left, inputs_over}
-use Rattle.recording_writer.specs.inner.Filming.{standing_at}
 use Rattle.recording_writer.proofs.FilmedRuns.{can_walk, some_of}
 use Rattle.recording_writer.proofs.film.Film.film_inputs.Goals as goal
 

@@ -1,5 +1,4 @@
 -- The inputs, and then the end of the run.
-use Rattle.std.specs.Prelude.{⊤}
 use Rattle.model_lockstep.specs.Walks.{inputs_from, run_end}
 use Rattle.model_lockstep.proofs.Parts.{inputs_good}
 use Rattle.model_lockstep.proofs.Following.{first_part, rest}

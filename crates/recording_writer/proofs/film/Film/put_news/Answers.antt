@@ -1,5 +1,5 @@
 -- The scenes show what was entered since the last time.
-use Rattle.std.proofs.Common.{◌≡◌, ℕ, List, subst, ap, sym, ◌∙◌}
+use Rattle.std.proofs.Common.{ℕ, List, subst}
 use Rattle.model_history.specs.Legal.{Legal}
 use Rattle.impl_log.specs.Runs.{Run, past}
 use Rattle.recording_pieces.specs.Writing.{PutsAll}

@@ -1,5 +1,5 @@
 -- An image more was put, or a prefix of it.
-use Rattle.std.proofs.Common.{◌≡◌, ℕ, ◌≤◌, List, ◌∷◌, ◌++◌, [], rules, arith, append-nil, ◌∙◌}
+use Rattle.std.proofs.Common.{◌≡◌, List, ◌∷◌, ◌++◌, rules, arith}
 use Rattle.std.specs.Vec.Iter.{into_iter_items}
 use Rattle.viz_scene.specs.Views.{SceneView}
 use Rattle.recording_writer.specs.inner.Filming.{scene_images}

@@ -1,0 +1,11 @@
+-- The end of the run was followed, and what it brought was added.
+use Rattle.model_lockstep.specs.Walks.{run_end}
+use Rattle.model_lockstep.proofs.Following.{then_on_ok}
+use Rattle.model_lockstep.proofs.Parts.{end_grows}
+use Rattle.recording_writer.proofs.BatchedRuns.{way_gathered}
+use Rattle.recording_writer.proofs.batches.gather_end.Goals as goal
+
+pub returns : goal.returns
+returns g c =
+    then_on_ok c.gather_news.result _ _ c.gather_news.ensures.bytes
+    (λ adds. way_gathered run_end c.args.single.now c.end_run.new.core c.gather_news.new.single _ _ end_grows c.in_ok-end_run.ensures.ok c.gather_news.ensures.run c.gather_news.ensures.all c.requires.all adds)

@@ -1,0 +1,11 @@
+-- The way was followed, and what it brought was added.
+use Rattle.model_lockstep.specs.Walks.{input_played}
+use Rattle.model_lockstep.proofs.Following.{then_on_ok}
+use Rattle.model_lockstep.proofs.Parts.{input_grows}
+use Rattle.recording_writer.proofs.BatchedRuns.{way_gathered}
+use Rattle.recording_writer.proofs.batches.gather_input.Goals as goal
+
+pub returns : goal.returns
+returns g c =
+    then_on_ok c.gather_news.result _ _ c.gather_news.ensures.bytes
+    (λ adds. way_gathered (input_played c.args.input.now) c.args.single.now c.play_input.new.core c.gather_news.new.single _ _ (input_grows c.args.input.now) c.in_ok-play_input.ensures.ok c.gather_news.ensures.run c.gather_news.ensures.all c.requires.all adds)

@@ -1,0 +1,160 @@
+//! Pieces of a recording that wait to be painted.
+
+ghost use Rattle.std.specs.Prelude.{◌≡◌, ◌++◌, List, [], drop, length, reverse, take, OnOk};
+ghost use Rattle.std.specs.Vec.Iter.{into_iter_items, into_iter_len};
+ghost use Rattle.model_history.specs.Recordings.{image_behind, piece, pieces};
+ghost use Rattle.model_history.specs.Scripts.{ScriptModel};
+ghost use Rattle.model_history.specs.declared.history.Entry.{Entry};
+ghost use Rattle.recording_pieces.specs.Scenes.{image_if};
+ghost use Rattle.recording_pieces.specs.Shots.{all_shown};
+ghost use Rattle.recording_writer.specs.inner.Batches.{held_of};
+ghost use Rattle.recording_writer.specs.inner.Scenes.{AllCome, Comes, left_behind};
+
+use crate::recorder::next_scene;
+use impl_core::Core;
+use model_history::Entry;
+use recording_pieces::Shot;
+use recording_text::push_event;
+use std::alloc::{AllocError, Global};
+use std::mem;
+use std::vec::IntoIter;
+use viz_scene::Scene;
+
+// How many bytes of lines are gathered before they become a piece of their own.
+const LINES: usize = 65536;
+
+// How many bytes of pictures are in a batch at most, but for its last picture.
+const MOST_BYTES: u64 = 48 * 1024 * 1024;
+
+// A picture of as many bytes is the last of its batch, and is made in parts.
+const LARGE: u64 = 4 * 1024 * 1024;
+
+// How many pieces a painter has in a batch.
+const RUN: usize = 4;
+
+/// Pieces that wait to be painted, and the lines after them.
+#[derive(Drop)]
+pub(crate) struct Batch {
+    alloc: Global,
+    pub(crate) shots: Vec<Shot>,
+    pub(crate) lines: Vec<u8>,
+    /// how many bytes the pieces have, painted
+    bytes: u64,
+    /// whether there is a large picture
+    has_large: bool,
+}
+
+// How many bytes the pixels of a scene's image have: red, green and blue each.
+fn picture_bytes(scene: &Option<Scene>) -> u64 {
+    match scene {
+        Some(scene) => 3 * (scene.w() as u64 * scene.h() as u64),
+        None => 0,
+    }
+}
+
+impl Batch {
+    /// No pieces, and these lines.
+    pub(crate) fn new(alloc: Global, lines: Vec<u8>) -> Batch
+        ensures { held_of result ≡ lines.items }
+    {
+        Batch {
+            alloc,
+            shots: Vec::new(alloc),
+            lines,
+            bytes: 0,
+            has_large: false,
+        }
+    }
+
+    /// Whether it has as much as the given number of painters take at a time.
+    pub(crate) fn is_full(&self, painters: usize) -> bool {
+        self.has_large
+            || self.bytes >= MOST_BYTES
+            || self.shots.len() >= painters.saturating_mul(RUN)
+    }
+
+    /// Takes the pieces; the lines after them stay.
+    pub(crate) fn take_shots(&mut self) -> Vec<Shot>
+        ensures all { all_shown result.items ++ held_of self.new ≡ held_of self.old }
+        ensures lines { held_of self.new ≡ self.new.lines.items }
+    {
+        self.bytes = 0;
+        self.has_large = false;
+        let none = Vec::new(self.alloc);
+        mem::replace(&mut self.shots, none)
+    }
+
+    // Makes a piece of the lines, with a scene after them if there is one.
+    #[tactic(auto, using(recording_pieces::proofs::Parts::one_more))]
+    fn push_shot(&mut self, scene: Option<Scene>) -> Result<(), AllocError>
+        ensures { OnOk result (held_of self.new ≡ held_of self.old ++ image_if scene) }
+    {
+        let size = picture_bytes(&scene);
+        self.has_large = self.has_large || size >= LARGE;
+        self.bytes = self
+            .bytes
+            .saturating_add(size)
+            .saturating_add(self.lines.len() as u64);
+        let none = Vec::new(self.alloc);
+        let lines = mem::replace(&mut self.lines, none);
+        self.shots.push(Shot { lines, scene })?;
+        Ok(())
+    }
+
+    // Where the lines are many, makes a piece of them.
+    fn cut_lines(&mut self) -> Result<(), AllocError>
+        ensures { OnOk result (held_of self.new ≡ held_of self.old) }
+    {
+        if self.lines.len() < LINES {
+            return Ok(());
+        }
+        self.push_shot(None)
+    }
+
+    // Adds the image of a scene, if there is one.
+    fn push_scene(&mut self, scene: Option<Scene>) -> Result<(), AllocError>
+        ensures { OnOk result (held_of self.new ≡ held_of self.old ++ image_if scene) }
+    {
+        match scene {
+            Some(scene) => self.push_shot(Some(scene)),
+            None => self.cut_lines(),
+        }
+    }
+
+    // Adds the line of an entry, and after that of a draw its image. The next scene is that of the next draw.
+    fn push_entry(
+        &mut self,
+        entry: &Entry,
+        scenes: &mut IntoIter<Scene, Global>,
+    ) -> Result<(), AllocError>
+        requires count { into_iter_len scenes.old ≡ length (into_iter_items scenes.old) }
+        ensures bytes { OnOk result ((s : ScriptModel) (h : List Entry) → Comes s h entry.now (into_iter_items scenes.old) → held_of self.new ≡ held_of self.old ++ piece s h entry.now.event) }
+        ensures left { into_iter_items scenes.new ≡ left_behind entry.now.event (into_iter_items scenes.old) }
+        ensures count { into_iter_len scenes.new ≡ length (into_iter_items scenes.new) }
+    {
+        let scene = next_scene(&entry.event, scenes);
+        push_event(&mut self.lines, &entry.event)?;
+        self.push_scene(scene)
+    }
+
+    /// Adds the entries of a run from a place on. The scenes are those of the draws among them, the oldest first.
+    pub(crate) fn push_entries(
+        &mut self,
+        core: &Core,
+        from: usize,
+        scenes: Vec<Scene>,
+    ) -> Result<(), AllocError>
+        requires { AllCome core.now.script (reverse (take from core.now.entries)) (drop from core.now.entries) scenes.items }
+        ensures { OnOk result (held_of self.new ≡ held_of self.old ++ pieces core.now.script (reverse (take from core.now.entries)) (drop from core.now.entries)) }
+    {
+        let history = core.history();
+        let mut queue = scenes.into_iter();
+        for at in from..history.len() {
+            let Some(entry) = history.entry(at) else {
+                return Ok(());
+            };
+            self.push_entry(entry, &mut queue)?;
+        }
+        Ok(())
+    }
+}
