@@ -23,14 +23,11 @@ use viz_scene::Scene;
 // How many bytes of lines are gathered before they become a piece of their own.
 const LINES: usize = 65536;
 
-// How many bytes of pictures are in a batch at most, but for its last picture.
+// How many bytes a batch has at most, painted, unless its last piece is larger than the one before it.
 const MOST_BYTES: u64 = 48 * 1024 * 1024;
 
-// A picture of as many bytes is the last of its batch, and is made in parts.
-const LARGE: u64 = 4 * 1024 * 1024;
-
-// How many pieces a painter has in a batch.
-const RUN: usize = 4;
+// How many pieces a painter has in a batch at most.
+const RUN: u64 = 4;
 
 /// Pieces that wait to be painted, and the lines after them.
 #[derive(Drop)]
@@ -40,8 +37,8 @@ pub(crate) struct Batch {
     pub(crate) lines: Vec<u8>,
     /// how many bytes the pieces have, painted
     bytes: u64,
-    /// whether there is a large picture
-    has_large: bool,
+    /// how many the last of them has
+    last: u64,
 }
 
 // How many bytes the pixels of a scene's image have: red, green and blue each.
@@ -62,15 +59,22 @@ impl Batch {
             shots: Vec::new(alloc),
             lines,
             bytes: 0,
-            has_large: false,
+            last: 0,
         }
     }
 
-    /// Whether it has as much as the given number of painters take at a time.
+    // How many pieces the given number of painters take at a time, each as many as the others, and at least one.
+    fn share(&self, painters: u64) -> u64 {
+        let size = painters.saturating_mul(self.last).max(1);
+        let run = (MOST_BYTES / size).min(RUN).max(1);
+        painters.saturating_mul(run)
+    }
+
+    /// Whether it has as much as the given number of painters take at a time, or a piece more as large as the last one
+    /// would be too much.
     pub(crate) fn is_full(&self, painters: usize) -> bool {
-        self.has_large
-            || self.bytes >= MOST_BYTES
-            || self.shots.len() >= painters.saturating_mul(RUN)
+        self.bytes.saturating_add(self.last) > MOST_BYTES
+            || self.shots.len() as u64 >= self.share(painters as u64)
     }
 
     /// Takes the pieces; the lines after them stay.
@@ -79,7 +83,7 @@ impl Batch {
         ensures lines { held_of self.new ≡ self.new.lines.items }
     {
         self.bytes = 0;
-        self.has_large = false;
+        self.last = 0;
         let none = Vec::new(self.alloc);
         mem::replace(&mut self.shots, none)
     }
@@ -89,12 +93,8 @@ impl Batch {
     fn push_shot(&mut self, scene: Option<Scene>) -> Result<(), AllocError>
         ensures { OnOk result (held_of self.new ≡ held_of self.old ++ image_if scene) }
     {
-        let size = picture_bytes(&scene);
-        self.has_large = self.has_large || size >= LARGE;
-        self.bytes = self
-            .bytes
-            .saturating_add(size)
-            .saturating_add(self.lines.len() as u64);
+        self.last = picture_bytes(&scene).saturating_add(self.lines.len() as u64);
+        self.bytes = self.bytes.saturating_add(self.last);
         let none = Vec::new(self.alloc);
         let lines = mem::replace(&mut self.lines, none);
         self.shots.push(Shot { lines, scene })?;
