@@ -35,7 +35,7 @@ script_taken workers bytes Json (few, good) (short, none) = let nothing : read b
 script_taken workers bytes (Shape place) (few, good) (short, d, text, fault) = not_at_fault bytes good d text place fault
 script_taken workers bytes (Script frame command fault) (few, good) (short, s, text, refused) =
     let same : s ≡ good.0 = one_script bytes s good.0 text good.1 in
-    let taken : TakesFrames (blank s) s.main = subst (λ (t : ScriptModel). TakesFrames (blank t) t.main) (sym same) good.2.commands in
+    let taken : TakesFrames (blank s) s.main = subst (λ (t : ScriptModel). TakesFrames (blank t) t.main) (sym same) good.2 in
     frames_taken (blank s) s.main frame command fault taken refused
 script_taken workers bytes (TooLong limit) (few, good) (is, long) = omega (arith, few, long)
 script_taken workers bytes Done takes refused = refused

@@ -10,6 +10,7 @@ use Rattle.model_history.specs.Legal.{Legal, IsLegal}
 use Rattle.model_history.specs.Recordings.{header, pieces, recorded}
 use Rattle.model_history.specs.Scripts.{ScriptModel}
 use Rattle.script_json.specs.Recordings.{recording, script_text}
+use Rattle.script_json.proofs.CanonicalTexts.{recording_of}
 use Rattle.impl_log.specs.Runs.{Run, past}
 use Rattle.impl_log.proofs.LogSteps.{past_more}
 use Rattle.impl_core.specs.Origins.{Origin}
@@ -79,10 +80,10 @@ module _ (s : ScriptModel) (workers : ℕ) (accepted : IsAccepted s) (before : L
   sound_is = sound_of s workers r.entries accepted legal_is
 
   up_to : IsPlayUpTo workers s (before ++ part r.script [] (pairs r.entries))
-  up_to = (r.entries, sound_is, whole_is)
+  up_to = (r.entries, sound_is, recording_of s r.entries (before ++ part r.script [] (pairs r.entries)) accepted.ranges whole_is)
 
   play_is : is_played r.entries ≡ true → IsPlayOf workers s (before ++ part r.script [] (pairs r.entries))
-  play_is is = (r.entries, record { sound = sound_is; ends = ends_of s workers r.entries legal_is is }, whole_is)
+  play_is is = (r.entries, record { sound = sound_is; ends = ends_of s workers r.entries legal_is is }, recording_of s r.entries (before ++ part r.script [] (pairs r.entries)) accepted.ranges whole_is)
 
 pub plays_script : (s : ScriptModel) (workers : ℕ) → IsAccepted s → (before : List ℕ) (old new : Option (List ℕ)) (o : Outcome) → before ≡ header (script_text s) → PlayEnds (record { script = s; workers = workers }) before old new o
     → WritesOrBegins (IsPlayOf workers s) (IsPlayUpTo workers s) old new o

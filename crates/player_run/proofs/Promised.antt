@@ -11,6 +11,7 @@ use Rattle.model_history.proofs.OneAnswer.{legal_beginning}
 use Rattle.model_history.proofs.Pins.{required_at_each, lacking_at_each}
 use Rattle.model_history.proofs.Sums.{offset_is}
 use Rattle.model_history.proofs.ValueReadings.{active_is_value, offset_in_range}
+use Rattle.script_json.proofs.CanonicalTexts.{recording_of}
 use Rattle.recording_check.proofs.WrittenRuns.{legal_with_more}
 use Rattle.recording_writer.specs.Recordings.{IsLockstepRecording}
 use Rattle.player_run.specs.Promises.{StandsRight, IsSoundHistory, IsPromised}
@@ -47,4 +48,4 @@ lockstep_promised s workers history accepted some lockstep =
 
 -- the recording of the lockstep history is one of a history that keeps what is promised
 pub promised_run : (P : List ℕ → Type 0) (s : ScriptModel) (workers : ℕ) → IsAccepted s → 1 ≤ workers → (whole : List ℕ) × IsLockstepRecording s whole × P whole → (whole : List ℕ) × IsRunOf workers s whole × P whole
-promised_run P s workers accepted some r = (r.0, (r.1.0, lockstep_promised s workers r.1.0 accepted some r.1.1, r.1.2), r.2)
+promised_run P s workers accepted some r = (r.0, (r.1.0, lockstep_promised s workers r.1.0 accepted some r.1.1, recording_of s r.1.0 r.0 accepted.ranges r.1.2), r.2)

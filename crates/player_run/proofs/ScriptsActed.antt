@@ -4,6 +4,7 @@ use Rattle.std.specs.Prelude.{Option, IfSome}
 use Rattle.model_history.specs.Accepted.{IsAccepted}
 use Rattle.model_history.specs.Scripts.{ScriptModel}
 use Rattle.script_json.specs.Causes.{IsScriptText}
+use Rattle.script_json.proofs.CanonicalTexts.{said}
 use Rattle.player_run.specs.declared.outcome.Outcome.{Outcome}
 use Rattle.player_run.specs.declared.outcome.Outcome.TheVariants.{Done, Usage, Json, Shape, Script, ReadFault, WriteFault, TooLong, BadRecording, No, Memory, NoPicture}
 use Rattle.player_run.specs.declared.words.Use.TheVariants.{Play}
@@ -13,10 +14,10 @@ use Rattle.player_run.proofs.ScriptsPlayed.{text_of}
 
 pub acted_output : (workers : ℕ) (source old new : Option (List ℕ)) (s : ScriptModel) (result : Outcome) → IfSome source (λ bytes. (length bytes ≤ script_limit) × IsScriptText bytes s) → IsAccepted s
     → WritesOrBegins (IsPlayOf workers s) (IsPlayUpTo workers s) old new result → Writes (Play workers) source old new result
-acted_output workers source old new s Done text accepted (whole, is, gains) = (whole, (s, (accepted, text_of source s text), is), gains)
-acted_output workers source old new s WriteFault text accepted (whole, is, gains) = (whole, (s, (accepted, text_of source s text), is), gains)
+acted_output workers source old new s Done text accepted (whole, is, gains) = (whole, (s, (said s accepted, accepted.commands, text_of source s text), is), gains)
+acted_output workers source old new s WriteFault text accepted (whole, is, gains) = (whole, (s, (said s accepted, accepted.commands, text_of source s text), is), gains)
 acted_output workers source old new s Memory text accepted (inl same) = inl same
-acted_output workers source old new s Memory text accepted (inr (whole, is, gains)) = inr (whole, (s, (accepted, text_of source s text), is), gains)
+acted_output workers source old new s Memory text accepted (inr (whole, is, gains)) = inr (whole, (s, (said s accepted, accepted.commands, text_of source s text), is), gains)
 acted_output workers source old new s (Usage word) text accepted wrote = absurd wrote
 acted_output workers source old new s Json text accepted wrote = absurd wrote
 acted_output workers source old new s (Shape fault) text accepted wrote = absurd wrote
@@ -45,7 +46,7 @@ acted workers bytes P Q old new NoPicture takes wrote = absurd wrote
 pub acted_cause : (workers : ℕ) (source : Option (List ℕ)) (P Q : List ℕ → Type 0) (old new : Option (List ℕ)) (s : ScriptModel) (result : Outcome) → IfSome source (λ bytes. (length bytes ≤ script_limit) × IsScriptText bytes s) → IsAccepted s
     → WritesOrBegins P Q old new result → CauseFrom (Play workers) source result
 acted_cause workers None P Q old new s result text accepted wrote = tt
-acted_cause workers (Some bytes) P Q old new s result text accepted wrote = acted workers bytes P Q old new result (text.0, (s, text.1, accepted)) wrote
+acted_cause workers (Some bytes) P Q old new s result text accepted wrote = acted workers bytes P Q old new result (text.0, (s, text.1, accepted.commands)) wrote
 
 -- the words are no matter of it
 pub acted_words : (workers : ℕ) (P Q : List ℕ → Type 0) (old new : Option (List ℕ)) (result : Outcome) → WritesOrBegins P Q old new result → TellsMisfit (Ok (Play workers)) result

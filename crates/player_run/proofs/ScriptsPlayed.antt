@@ -4,6 +4,7 @@ use Rattle.std.specs.Prelude.{Option, IfSome}
 use Rattle.model_history.specs.Accepted.{IsAccepted}
 use Rattle.model_history.specs.Scripts.{ScriptModel}
 use Rattle.script_json.specs.Causes.{IsScriptText}
+use Rattle.script_json.proofs.CanonicalTexts.{said}
 use Rattle.recording_writer.specs.Films.{IsLockstepFilm}
 use Rattle.player_run.specs.declared.outcome.Outcome.{Outcome}
 use Rattle.player_run.specs.declared.outcome.Outcome.TheVariants.{Done, Usage, Json, Shape, Script, ReadFault, WriteFault, TooLong, BadRecording, No, Memory, NoPicture}
@@ -18,7 +19,7 @@ text_of (Some bytes) s t = t.1
 
 pub script_output : (workers : ℕ) (source old new : Option (List ℕ)) (s : ScriptModel) (result : Outcome) → IfSome source (λ bytes. (length bytes ≤ script_limit) × IsScriptText bytes s) → IsAccepted s → WritesSome (IsRunOf workers s) old new result → Writes (Step workers) source old new result
 script_output workers source old new s result text accepted wrote =
-    some_output (IsRunOf workers s) (Step workers) source old new result (λ whole is. (s, (accepted, text_of source s text), is)) wrote
+    some_output (IsRunOf workers s) (Step workers) source old new result (λ whole is. (s, (said s accepted, accepted.commands, text_of source s text), is)) wrote
 
 played : (workers : ℕ) (bytes : List ℕ) (P : List ℕ → Type 0) (old new : Option (List ℕ)) (result : Outcome) → Takes (Step workers) bytes → WritesSome P old new result → CauseOf (Step workers) bytes result
 played workers bytes P old new Done takes wrote = takes
@@ -37,13 +38,13 @@ played workers bytes P old new NoPicture takes wrote = absurd wrote
 -- a script that was read is what the use takes
 pub script_cause : (workers : ℕ) (source : Option (List ℕ)) (P : List ℕ → Type 0) (old new : Option (List ℕ)) (s : ScriptModel) (result : Outcome) → IfSome source (λ bytes. (length bytes ≤ script_limit) × IsScriptText bytes s) → IsAccepted s → WritesSome P old new result → CauseFrom (Step workers) source result
 script_cause workers None P old new s result text accepted wrote = tt
-script_cause workers (Some bytes) P old new s result text accepted wrote = played workers bytes P old new result (text.0, (s, text.1, accepted)) wrote
+script_cause workers (Some bytes) P old new s result text accepted wrote = played workers bytes P old new result (text.0, (s, text.1, accepted.commands)) wrote
 
 -- ---- the images alone
 
 pub film_output : (workers : ℕ) (source old new : Option (List ℕ)) (s : ScriptModel) (result : Outcome) → IfSome source (λ bytes. (length bytes ≤ script_limit) × IsScriptText bytes s) → IsAccepted s → WritesSome (IsLockstepFilm s) old new result → Writes (Film workers) source old new result
 film_output workers source old new s result text accepted wrote =
-    some_output (IsLockstepFilm s) (Film workers) source old new result (λ whole is. (s, (accepted, text_of source s text), is)) wrote
+    some_output (IsLockstepFilm s) (Film workers) source old new result (λ whole is. (s, (said s accepted, accepted.commands, text_of source s text), is)) wrote
 
 filmed : (workers : ℕ) (bytes : List ℕ) (P : List ℕ → Type 0) (old new : Option (List ℕ)) (result : Outcome) → Takes (Film workers) bytes → WritesSome P old new result → CauseOf (Film workers) bytes result
 filmed workers bytes P old new Done takes wrote = takes
@@ -61,4 +62,4 @@ filmed workers bytes P old new NoPicture takes wrote = absurd wrote
 
 pub film_cause : (workers : ℕ) (source : Option (List ℕ)) (P : List ℕ → Type 0) (old new : Option (List ℕ)) (s : ScriptModel) (result : Outcome) → IfSome source (λ bytes. (length bytes ≤ script_limit) × IsScriptText bytes s) → IsAccepted s → WritesSome P old new result → CauseFrom (Film workers) source result
 film_cause workers None P old new s result text accepted wrote = tt
-film_cause workers (Some bytes) P old new s result text accepted wrote = filmed workers bytes P old new result (text.0, (s, text.1, accepted)) wrote
+film_cause workers (Some bytes) P old new s result text accepted wrote = filmed workers bytes P old new result (text.0, (s, text.1, accepted.commands)) wrote

@@ -5,6 +5,7 @@ use Rattle.model_history.specs.Accepted.{IsAccepted}
 use Rattle.model_history.specs.Scripts.{ScriptModel}
 use Rattle.model_history.proofs.LockstepWords.{lockstep_one}
 use Rattle.script_json.specs.Causes.{IsScriptText}
+use Rattle.script_json.proofs.CanonicalTexts as canonical
 use Rattle.recording_writer.specs.Films.{IsLastImage}
 use Rattle.recording_writer.specs.Shots.{IsShot}
 use Rattle.player_run.specs.declared.outcome.Outcome.{Outcome}
@@ -102,7 +103,7 @@ no_shot s held (Some image, last, is) = absurd is
 
 module _ (workers : ℕ) (source left old new : Option (List ℕ)) (s : ScriptModel) (from : IsAskedFrom source left s) where
   some_shot : (result : Outcome) → WritesSome (λ file. IsShot (with_shot from.said) (Some file)) old new result → Writes (Shot workers) source old new result
-  some_shot result wrote = some_output (λ file. IsShot (with_shot from.said) (Some file)) (Shot workers) source old new result (λ whole is. (from.said, (from.accepted, text_of source from.said from.text), is)) wrote
+  some_shot result wrote = some_output (λ file. IsShot (with_shot from.said) (Some file)) (Shot workers) source old new result (λ whole is. (from.said, (canonical.said from.said from.accepted, from.accepted.commands, text_of source from.said from.text), is)) wrote
 
   shoots_of : (result : Outcome) → Shoots (with_shot from.said) old new result → Writes (Shot workers) source old new result
   shoots_of NoPicture shoots = shoots.1
@@ -122,9 +123,9 @@ module _ (workers : ℕ) (source left old new : Option (List ℕ)) (s : ScriptMo
   shot_output result shoots = shoots_of result (subst (λ (z : ScriptModel). Shoots z old new result) from.asked shoots)
 
 taken : (workers : ℕ) (bytes : List ℕ) (old new : Option (List ℕ)) (said : ScriptModel) (result : Outcome) → length bytes ≤ script_limit → IsScriptText bytes said → IsAccepted said → Shoots (with_shot said) old new result → CauseOf (Shot workers) bytes result
-taken workers bytes old new said Done few text accepted shoots = (few, (said, text, accepted, has_picture (with_shot said) shoots.0 shoots.1))
-taken workers bytes old new said WriteFault few text accepted shoots = (few, (said, text, accepted, has_picture (with_shot said) shoots.0 shoots.1))
-taken workers bytes old new said NoPicture few text accepted shoots = (few, said, text, accepted, shoots.0)
+taken workers bytes old new said Done few text accepted shoots = (few, (said, text, accepted.commands, has_picture (with_shot said) shoots.0 shoots.1))
+taken workers bytes old new said WriteFault few text accepted shoots = (few, (said, text, accepted.commands, has_picture (with_shot said) shoots.0 shoots.1))
+taken workers bytes old new said NoPicture few text accepted shoots = (few, said, text, accepted.commands, shoots.0)
 taken workers bytes old new said Memory few text accepted shoots = tt
 taken workers bytes old new said (Usage word) few text accepted shoots = absurd shoots
 taken workers bytes old new said ReadFault few text accepted shoots = absurd shoots

@@ -8,16 +8,16 @@ use Rattle.player_io.specs.Counts.{Rose, raised}
 use Rattle.player_io.specs.Pieces.{GainsPrefix}
 use Rattle.model_history.specs.Scripts.{ScriptModel}
 use Rattle.model_history.specs.Frames.{blank}
-use Rattle.model_history.specs.Accepted.{IsAccepted}
+use Rattle.model_history.specs.Accepted.{TakesFrames}
 use Rattle.model_history.specs.Judging.{RefusedAt}
-use Rattle.script_json.specs.Causes.{IsTextOf, IsScriptText}
+use Rattle.script_json.specs.Causes.{IsSaid, IsTextOf, IsScriptText}
 use Rattle.script_json.specs.Reading.{parts_at}
 use Rattle.recording_reader.specs.Pieces.{Piece, images_text}
 use Rattle.recording_check.specs.Recordings.{IsRecording, IsBadAt}
 use Rattle.recording_check.specs.Verdicts.{IsLegalRecording, IsFirstWrongEvent}
 use Rattle.model_history.specs.declared.history.Entry.{Entry}
 use Rattle.model_history.specs.Lockstep.{IsLockstep}
-use Rattle.script_json.specs.Recordings.{recording, script_text}
+use Rattle.script_json.specs.Recordings.{IsRecordingOf, script_text}
 use Rattle.recording_writer.specs.Films.{IsLockstepFilm, IsLastImage}
 use Rattle.recording_writer.specs.Shots.{IsShot}
 use Rattle.script_generator.specs.Generated.{script_of_number}
@@ -43,13 +43,13 @@ TellsMisfit (Err word) result = result ≡ Usage word
 TellsMisfit (Ok wanted) (Usage word) = ⊥
 TellsMisfit (Ok wanted) _ = ⊤
 
--- the bytes are the text of a script that is accepted
+-- the bytes are the text of a script that is accepted: the blank page takes its main frames
 abbrev pub IsAcceptedText : List ℕ → Type 0
-IsAcceptedText bytes = (s : ScriptModel) × IsScriptText bytes s × IsAccepted s
+IsAcceptedText bytes = (s : ScriptModel) × IsScriptText bytes s × TakesFrames (blank s) s.main
 
 -- they are one whose shot has a picture
 abbrev pub IsPictureText : List ℕ → Type 0
-IsPictureText bytes = (s : ScriptModel) × IsScriptText bytes s × IsAccepted s × HasPicture (with_shot s)
+IsPictureText bytes = (s : ScriptModel) × IsScriptText bytes s × TakesFrames (blank s) s.main × HasPicture (with_shot s)
 
 -- the bytes are a recording
 abbrev pub IsRecordingText : List ℕ → Type 0
@@ -79,7 +79,7 @@ RefusedScript bytes _ = ⊥
 -- why bytes are refused as a script of which a picture is wanted: its shot has none; or they are no script
 abbrev pub RefusedShot : List ℕ → Outcome → Type 0
 RefusedShot bytes NoPicture =
-    (length bytes ≤ script_limit) × (s : ScriptModel) × IsScriptText bytes s × IsAccepted s × IsLastImage (with_shot s) None
+    (length bytes ≤ script_limit) × (s : ScriptModel) × IsScriptText bytes s × TakesFrames (blank s) s.main × IsLastImage (with_shot s) None
 RefusedShot bytes result = RefusedScript bytes result
 
 -- why bytes are refused as a recording: the first part that is not of its form begins there
@@ -198,21 +198,21 @@ ReadToEnd (Shot workers) left result = IsJudgedWhole left result
 ReadToEnd Frames left result = IsJudgedWhole left result
 ReadToEnd Check left result = IsJudgedWhole left result
 
--- a script that is accepted, and that the source had, where it tells its bytes
+-- a script that is accepted, as some JSON value says it and the blank page takes its main frames, and that the source had, where it tells its bytes
 abbrev pub IsScriptFrom : Option (List ℕ) → ScriptModel → Type 0
-IsScriptFrom source s = IsAccepted s × IfSome source (λ bytes. IsScriptText bytes s)
+IsScriptFrom source s = IsSaid s × TakesFrames (blank s) s.main × IfSome source (λ bytes. IsScriptText bytes s)
 
 -- the recording of a script and of its history, as it is promised for the given number of raster workers
 abbrev pub IsRunOf : ℕ → ScriptModel → List ℕ → Type 0
-IsRunOf workers s whole = (history : List Entry) × IsPromised s workers history × (whole ≡ recording s history)
+IsRunOf workers s whole = (history : List Entry) × IsPromised s workers history × IsRecordingOf s history whole
 
 -- the recording of a script and of a history that actors played, with the given number of raster workers
 abbrev pub IsPlayOf : ℕ → ScriptModel → List ℕ → Type 0
-IsPlayOf workers s whole = (history : List Entry) × IsPlayed s workers history × (whole ≡ recording s history)
+IsPlayOf workers s whole = (history : List Entry) × IsPlayed s workers history × IsRecordingOf s history whole
 
 -- the same where the run may have been given up
 abbrev pub IsPlayUpTo : ℕ → ScriptModel → List ℕ → Type 0
-IsPlayUpTo workers s whole = (history : List Entry) × IsSoundHistory s workers history × (whole ≡ recording s history)
+IsPlayUpTo workers s whole = (history : List Entry) × IsSoundHistory s workers history × IsRecordingOf s history whole
 
 -- the line that sums up the recording of a script in lockstep
 abbrev pub IsDemoOf : ScriptModel → List ℕ → Type 0
