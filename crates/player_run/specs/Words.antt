@@ -32,43 +32,24 @@ abbrev pub numbered : Option ℕ → (ℕ → Use) → List (List ℕ) → Resul
 numbered None wanted ws = Err 1
 numbered (Some n) wanted ws = no_more_words (wanted n) 2 ws
 
--- after `step` stands the number of raster workers
-abbrev pub after_step : List (List ℕ) → Result Use ℕ
-after_step [] = Err 1
-after_step (w ∷ ws) = numbered (workers_in w) Step ws
-
--- after `play` too
-abbrev pub after_play : List (List ℕ) → Result Use ℕ
-after_play [] = Err 1
-after_play (w ∷ ws) = numbered (workers_in w) Play ws
-
--- after `film` too
-abbrev pub after_film : List (List ℕ) → Result Use ℕ
-after_film [] = Err 1
-after_film (w ∷ ws) = numbered (workers_in w) Film ws
-
--- after `shot` too
-abbrev pub after_shot : List (List ℕ) → Result Use ℕ
-after_shot [] = Err 1
-after_shot (w ∷ ws) = numbered (workers_in w) Shot ws
+-- after `step`, `play`, `film` and `shot` stands the number of raster workers
+abbrev pub with_workers : (ℕ → Use) → List (List ℕ) → Result Use ℕ
+with_workers wanted [] = Err 1
+with_workers wanted (w ∷ ws) = numbered (workers_in w) wanted ws
 
 -- after `gen` and `demo` stands the number of which the script is made
-abbrev pub after_gen : List (List ℕ) → Result Use ℕ
-after_gen [] = Err 1
-after_gen (w ∷ ws) = numbered (number_in w) Gen ws
-
-abbrev pub after_demo : List (List ℕ) → Result Use ℕ
-after_demo [] = Err 1
-after_demo (w ∷ ws) = numbered (number_in w) Demo ws
+abbrev pub with_number : (ℕ → Use) → List (List ℕ) → Result Use ℕ
+with_number wanted [] = Err 1
+with_number wanted (w ∷ ws) = numbered (number_in w) wanted ws
 
 -- what the words after the first one, which is none of `step`, ask for
 abbrev pub after_other : List ℕ → List (List ℕ) → Result Use ℕ
 after_other w ws =
-    if bytes_eq w (codes "play") then after_play ws
-    else (if bytes_eq w (codes "gen") then after_gen ws
-    else (if bytes_eq w (codes "demo") then after_demo ws
-    else (if bytes_eq w (codes "film") then after_film ws
-    else (if bytes_eq w (codes "shot") then after_shot ws
+    if bytes_eq w (codes "play") then with_workers Play ws
+    else (if bytes_eq w (codes "gen") then with_number Gen ws
+    else (if bytes_eq w (codes "demo") then with_number Demo ws
+    else (if bytes_eq w (codes "film") then with_workers Film ws
+    else (if bytes_eq w (codes "shot") then with_workers Shot ws
     else (if bytes_eq w (codes "frames") then no_more_words Frames 1 ws
     else (if bytes_eq w (codes "check") then no_more_words Check 1 ws else Err 0))))))
 
@@ -76,7 +57,7 @@ after_other w ws =
 -- where there is no such word and more words are needed, their count
 abbrev pub use_of : List (List ℕ) → Result Use ℕ
 use_of [] = Err 0
-use_of (w ∷ ws) = if bytes_eq w (codes "step") then after_step ws else after_other w ws
+use_of (w ∷ ws) = if bytes_eq w (codes "step") then with_workers Step ws else after_other w ws
 
 -- the use is `play N`, the only one that may wait without end
 abbrev pub is_play : Use → Bool

@@ -144,7 +144,7 @@ fn no_more(wanted: Use, index: u32, rest: &[String]) -> Result<Use, u32>
 
 // What the words after `step` ask for, or the index of the first that does not fit.
 fn after_step(rest: &[String]) -> Result<Use, u32>
-    ensures { result ≡ words.after_step (map string_bytes rest.now) }
+    ensures { result ≡ words.with_workers Use.Step (map string_bytes rest.now) }
 {
     let [word, more @ ..] = rest else {
         return Err(1);
@@ -157,7 +157,7 @@ fn after_step(rest: &[String]) -> Result<Use, u32>
 
 // What the words after `play` ask for, or the index of the first that does not fit.
 fn after_play(rest: &[String]) -> Result<Use, u32>
-    ensures { result ≡ words.after_play (map string_bytes rest.now) }
+    ensures { result ≡ words.with_workers Use.Play (map string_bytes rest.now) }
 {
     let [word, more @ ..] = rest else {
         return Err(1);
@@ -170,7 +170,7 @@ fn after_play(rest: &[String]) -> Result<Use, u32>
 
 // What the words after `film` ask for, or the index of the first that does not fit.
 fn after_film(rest: &[String]) -> Result<Use, u32>
-    ensures { result ≡ words.after_film (map string_bytes rest.now) }
+    ensures { result ≡ words.with_workers Use.Film (map string_bytes rest.now) }
 {
     let [word, more @ ..] = rest else {
         return Err(1);
@@ -183,7 +183,7 @@ fn after_film(rest: &[String]) -> Result<Use, u32>
 
 // What the words after `shot` ask for, or the index of the first that does not fit.
 fn after_shot(rest: &[String]) -> Result<Use, u32>
-    ensures { result ≡ words.after_shot (map string_bytes rest.now) }
+    ensures { result ≡ words.with_workers Use.Shot (map string_bytes rest.now) }
 {
     let [word, more @ ..] = rest else {
         return Err(1);
@@ -196,7 +196,7 @@ fn after_shot(rest: &[String]) -> Result<Use, u32>
 
 // What the words after `gen` ask for, or the index of the first that does not fit.
 fn after_gen(rest: &[String]) -> Result<Use, u32>
-    ensures { result ≡ words.after_gen (map string_bytes rest.now) }
+    ensures { result ≡ words.with_number Use.Gen (map string_bytes rest.now) }
 {
     let [word, more @ ..] = rest else {
         return Err(1);
@@ -209,7 +209,7 @@ fn after_gen(rest: &[String]) -> Result<Use, u32>
 
 // What the words after `demo` ask for, or the index of the first that does not fit.
 fn after_demo(rest: &[String]) -> Result<Use, u32>
-    ensures { result ≡ words.after_demo (map string_bytes rest.now) }
+    ensures { result ≡ words.with_number Use.Demo (map string_bytes rest.now) }
 {
     let [word, more @ ..] = rest else {
         return Err(1);
