@@ -7,7 +7,7 @@ use Rattle.serde_json.specs.Data.{Data, array, Items}
 use Rattle.serde_json.specs.Events.{items_len}
 use Rattle.serde_json.specs.View.{items_of}
 use Rattle.script_fields.specs.Hex.{digit_value, digit_of, byte_of, if_colour, colour_of_six, colour_of_eight, six_digits}
-use Rattle.script_fields.specs.Forms.{if_within, number_form, int_within, int_form, opaque_form, colour_form, count_of, corner_at, corners_of, rect_form, side_at, first_sides, sides_form, list_form}
+use Rattle.script_fields.specs.Forms.{number_form, int_form, opaque_form, colour_form, corner_at, corners_of, rect_form, side_at, first_sides, sides_form, list_form}
 use Rattle.script_fields.specs.Values.{number_data, int_data, opaque_data, colour_data, rect_data, sides_data}
 
 pub left : (a b : Bool) → (a && b) ≡ true → a ≡ true
@@ -69,12 +69,12 @@ opaque_again c h =
     opaque_parts c.r c.g c.b c.a e (left _ _ h)
 
 pub number_again : (low high n : ℕ) → (nat_le low n && nat_le n high) ≡ true → number_form low high (number_data n) ≡ Some n
-unfolding number_form if_within number_data
+unfolding number_form number_data
 number_again low high n h = rw h refl
 
 pub int_again : (low : ℤ) (high : ℕ) (z : ℤ) → high < 2 ^ 63 → (int_le low z && int_le z (pos high)) ≡ true
     → int_form low (pos high) (int_data z) ≡ Some z
-unfolding int_form int_within int_data
+unfolding int_form int_data
 int_again low high (pos n) s h =
     let t : nat_le n high ≡ true = right (int_le low (pos n)) (nat_le n high) h in
     let u : nat_lt n (2 ^ 63) ≡ true = grind (arith, nat_tests) in
@@ -93,7 +93,7 @@ pub signed_again : (z : ℤ) → is_signed z ≡ true → int_form (negsuc 21474
 signed_again z h = int_again (negsuc 2147483647) 2147483647 z (lit< tt) h
 
 pub rect_again : (r : Rect) → is_rect r ≡ true → rect_form (rect_data r) ≡ Some r
-unfolding rect_form rect_data count_of corners_of corner_at
+unfolding rect_form rect_data corners_of corner_at
 rect_again r all =
     let h = right _ _ all in
     let w = right _ _ (left _ _ all) in
@@ -103,7 +103,7 @@ rect_again r all =
 
 pub sides_again : (most w h : ℕ) → (nat_le 1 w && nat_le w most) ≡ true → (nat_le 1 h && nat_le h most) ≡ true
     → sides_form most (sides_data w h) ≡ Some (record { w = w; h = h })
-unfolding sides_form sides_data count_of first_sides side_at
+unfolding sides_form sides_data first_sides side_at
 sides_again most w h p q = rw (number_again 1 most w p) (rw (number_again 1 most h q) refl)
 
 pub list_again : (most : ℕ) (ds : Items) → nat_le (items_len ds) most ≡ true → list_form most (array ds) ≡ Some ds

@@ -1,20 +1,20 @@
 -- What a form answers tells the value: it is the one that is printed for it.
-use Rattle.std.proofs.Common.{◌≡◌, ℕ, ◌+◌, ◌-◌, ◌*◌, ◌/◌, ◌%◌, ◌<◌, ◌≤◌, ◌^◌, List, [], ◌∷◌, Bool, true, false, ◌&&◌, nat_le, nat_lt, ℤ, pos, negsuc, int_le, Option, Some, None, Result, Ok, Err, IfOk, IfSome, option_and_then, if◌then◌else◌, refl, ap, ◌∙◌, arith}
+use Rattle.std.proofs.Common.{◌≡◌, ℕ, ◌+◌, ◌-◌, ◌*◌, ◌/◌, ◌%◌, ◌<◌, ◌≤◌, ◌^◌, List, [], ◌∷◌, Bool, true, false, ◌&&◌, ◌==◌, nat_le, nat_lt, ℤ, pos, negsuc, int_le, Option, Some, None, Result, Ok, Err, IfOk, IfSome, option_and_then, if◌then◌else◌, refl, ap, ◌∙◌, arith}
 use Rattle.std.proofs.lemmas.Bool.Decides.{nat_tests}
 use Rattle.std.specs.Prelude.{⊤}
 use Rattle.pixel.specs.Colours.{is_colour}
-use Rattle.serde_json.specs.Data.{Data, number, unsigned, negative, string, array, item, no_items}
+use Rattle.serde_json.specs.Data.{Data, number, unsigned, negative, string, array, Items, item, no_items}
 use Rattle.serde_json.specs.Events.{items_len}
 use Rattle.serde_json.specs.Find.{get, as_object, as_i64}
 use Rattle.script_fields.specs.declared.fault.FieldFault.{FieldFault}
 use Rattle.script_fields.specs.Hex.{digit_value, digit_of, byte_of, bytes_of, colour_of_six, colour_of_eight, six_digits, eight_digits, bytes_digits}
-use Rattle.script_fields.specs.Forms.{if_within, number_form, int_within, int_form, opaque_form, colour_form, bytes_form, is_count, count_of, corner_at, corners_of, rect_form, side_at, first_sides, sides_form, list_form}
+use Rattle.script_fields.specs.Forms.{number_form, int_form, opaque_form, colour_form, bytes_form, corner_at, corners_of, rect_form, side_at, first_sides, sides_form, list_form}
 use Rattle.script_fields.specs.Fields.{field_at, number_at, whole_at, int_at, signed_at, opaque_at, colour_at, rect_at, sides_at, list_at, member_count, no_more_members}
 use Rattle.script_fields.specs.Faults.{fault}
 use Rattle.script_fields.specs.Values.{number_data, int_data, opaque_data, colour_data, bytes_data, rect_data, sides_data}
 use Rattle.script_fields.proofs.Again.{left, right}
 use Rattle.script_fields.proofs.Fits.{and_some, map_some, or_fault_ok}
-use Rattle.script_fields.specs.Canonical.{IsCanonical}
+use Rattle.script_fields.specs.Canonical.{IsCanonical, AreCanonical}
 use Rattle.script_fields.proofs.Orders.{get_canonical}
 
 pub weaker : {A : Type 0} (o : Option A) (P Q : A → Type 0) → IfSome o P → ((x : A) → P x → Q x) → IfSome o Q
@@ -107,12 +107,12 @@ six_back _ = tt
 -- ---- forms
 
 number_back : (low high : ℕ) (d : Data) → IfSome (number_form low high d) (λ n. d ≡ number_data n)
-unfolding number_form if_within number_data
+unfolding number_form number_data
 number_back low high (number (unsigned n)) = if_true (nat_le low n && nat_le n high) n _ refl
 number_back low high _ = tt
 
 int_back : (low high : ℤ) (d : Data) → IsCanonical d → IfSome (int_form low high d) (λ z. d ≡ int_data z)
-unfolding int_form int_within int_data
+unfolding int_form int_data
 int_back low high (number (unsigned n)) h =
     and_some (as_i64 (unsigned n)) _ (λ z. z ≡ pos n) _ (if_true (nat_lt n (2 ^ 63)) (pos n) _ refl) (λ z e.
     if_true (int_le low z && int_le z high) z _ (rw e refl))
@@ -142,39 +142,39 @@ corner d = int_form (negsuc 2147483647) (pos 2147483647) d
 corner_back : (d : Data) → IsCanonical d → IfSome (corner d) (λ z. d ≡ int_data z)
 corner_back d h = int_back (negsuc 2147483647) (pos 2147483647) d h
 
-four_back : (d : Data) → IsCanonical d → is_count 4 (count_of d) ≡ true → IfSome (corners_of d) (λ r. d ≡ rect_data r)
-unfolding rect_data count_of corners_of corner_at
-four_back (array (item x (item y (item w (item h no_items))))) n four =
+four_back : (ds : Items) → AreCanonical ds → (items_len ds == 4) ≡ true → IfSome (corners_of (array ds)) (λ r. array ds ≡ rect_data r)
+unfolding rect_data corners_of corner_at
+four_back (item x (item y (item w (item h no_items)))) n four =
     and_some (corner x) _ (λ z. x ≡ int_data z) _ (corner_back x n.0) (λ a p.
     and_some (corner y) _ (λ z. y ≡ int_data z) _ (corner_back y n.1.0) (λ b q.
     and_some (corner w) _ (λ z. w ≡ int_data z) _ (corner_back w n.1.1.0) (λ c r.
     map_some (corner h) _ (λ z. h ≡ int_data z) _ (corner_back h n.1.1.1.0) (λ e s.
     rw p (rw q (rw r (rw s refl)))))))
-four_back (array (item x (item y (item w (item h (item more ds)))))) n four = absurd (grind (arith, nat_tests))
-four_back (array (item x (item y (item w no_items)))) n four = absurd (grind (arith, nat_tests))
-four_back (array (item x (item y no_items))) n four = absurd (grind (arith, nat_tests))
-four_back (array (item x no_items)) n four = absurd (grind (arith, nat_tests))
-four_back (array no_items) n four = absurd (grind (arith, nat_tests))
-four_back _ n four = tt
+four_back (item x (item y (item w (item h (item more ds))))) n four = absurd (grind (arith, nat_tests))
+four_back (item x (item y (item w no_items))) n four = absurd (grind (arith, nat_tests))
+four_back (item x (item y no_items)) n four = absurd (grind (arith, nat_tests))
+four_back (item x no_items) n four = absurd (grind (arith, nat_tests))
+four_back no_items n four = absurd (grind (arith, nat_tests))
 
 rect_back : (d : Data) → IsCanonical d → IfSome (rect_form d) (λ r. d ≡ rect_data r)
 unfolding rect_form
-rect_back d n = only_if (is_count 4 (count_of d)) (corners_of d) _ (λ four. four_back d n four)
+rect_back (array ds) n = only_if (items_len ds == 4) (corners_of (array ds)) _ (λ four. four_back ds n four)
+rect_back _ n = tt
 
-two_back : (most : ℕ) (d : Data) → is_count 2 (count_of d) ≡ true → IfSome (first_sides most d) (λ s. d ≡ sides_data s.w s.h)
-unfolding sides_data count_of first_sides side_at
-two_back most (array (item w (item h no_items))) two =
+two_back : (most : ℕ) (ds : Items) → (items_len ds == 2) ≡ true → IfSome (first_sides most (array ds)) (λ s. array ds ≡ sides_data s.w s.h)
+unfolding sides_data first_sides side_at
+two_back most (item w (item h no_items)) two =
     and_some (number_form 1 most w) _ (λ n. w ≡ number_data n) _ (number_back 1 most w) (λ a p.
     map_some (number_form 1 most h) _ (λ n. h ≡ number_data n) _ (number_back 1 most h) (λ b q.
     rw p (rw q refl)))
-two_back most (array (item w (item h (item more ds)))) two = absurd (grind (arith, nat_tests))
-two_back most (array (item w no_items)) two = absurd (grind (arith, nat_tests))
-two_back most (array no_items) two = absurd (grind (arith, nat_tests))
-two_back most _ two = tt
+two_back most (item w (item h (item more ds))) two = absurd (grind (arith, nat_tests))
+two_back most (item w no_items) two = absurd (grind (arith, nat_tests))
+two_back most no_items two = absurd (grind (arith, nat_tests))
 
 sides_back : (most : ℕ) (d : Data) → IfSome (sides_form most d) (λ s. d ≡ sides_data s.w s.h)
 unfolding sides_form
-sides_back most d = only_if (is_count 2 (count_of d)) (first_sides most d) _ (λ two. two_back most d two)
+sides_back most (array ds) = only_if (items_len ds == 2) (first_sides most (array ds)) _ (λ two. two_back most ds two)
+sides_back most _ = tt
 
 list_back : (most : ℕ) (d : Data) → IfSome (list_form most d) (λ ds. d ≡ array ds)
 unfolding list_form

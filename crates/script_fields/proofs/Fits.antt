@@ -7,7 +7,7 @@ use Rattle.serde_json.specs.Find.{get, as_str, as_number, as_u64, as_i64, as_arr
 use Rattle.script_fields.specs.declared.forms.Sides.{Sides}
 use Rattle.script_fields.specs.Faults.{◌>>=◌, or_fault}
 use Rattle.script_fields.specs.Hex.{byte_of, if_colour, colour_of_six, colour_of_eight}
-use Rattle.script_fields.specs.Forms.{if_within, number_form, int_within, int_form, opaque_form, colour_form, is_count, count_of, corner_at, corners_of, rect_form, side_at, first_sides, sides_form, if_short, list_form}
+use Rattle.script_fields.specs.Forms.{number_form, int_form, opaque_form, colour_form, corner_at, corners_of, rect_form, side_at, first_sides, sides_form, list_form}
 use Rattle.script_fields.specs.Fields.{field_at, number_at, whole_at, int_at, signed_at, opaque_at, colour_at, rect_at, sides_at, list_at}
 use Rattle.script_fields.proofs.Again.{is_signed, is_rect, both}
 
@@ -39,21 +39,19 @@ field_ok : {A : Type 0} (form : Data → Option A) (key : List ℕ) (field : ℕ
     → ((e : Data) → IfSome (form e) P) → IfOk (field_at form key field d) P
 field_ok form key field d P h = or_fault_ok field _ P (then_some (get key d) form P h)
 
-within_fits : (low high n : ℕ) → IfSome (if_within low high n) (λ m. (nat_le low m && nat_le m high) ≡ true)
-unfolding if_within
+within_fits : (low high n : ℕ) → IfSome (if nat_le low n && nat_le n high then Some n else None) (λ m. (nat_le low m && nat_le m high) ≡ true)
 within_fits low high n = elim (nat_le low n && nat_le n high) as (λ b. (nat_le low n && nat_le n high) ≡ b → IfSome (if b then Some n else None) (λ m. (nat_le low m && nat_le m high) ≡ true)) [ true ↦ λ e. e | false ↦ λ e. tt ] refl
 
-int_within_fits : (low high z : ℤ) → IfSome (int_within low high z) (λ m. (int_le low m && int_le m high) ≡ true)
-unfolding int_within
+int_within_fits : (low high z : ℤ) → IfSome (if int_le low z && int_le z high then Some z else None) (λ m. (int_le low m && int_le m high) ≡ true)
 int_within_fits low high z = elim (int_le low z && int_le z high) as (λ b. (int_le low z && int_le z high) ≡ b → IfSome (if b then Some z else None) (λ m. (int_le low m && int_le m high) ≡ true)) [ true ↦ λ e. e | false ↦ λ e. tt ] refl
 
 number_form_fits : (low high : ℕ) (d : Data) → IfSome (number_form low high d) (λ n. (nat_le low n && nat_le n high) ≡ true)
 unfolding number_form
-number_form_fits low high d = then_some (option_and_then as_u64 (as_number d)) (if_within low high) _ (λ n. within_fits low high n)
+number_form_fits low high d = then_some (option_and_then as_u64 (as_number d)) _ _ (λ n. within_fits low high n)
 
 int_form_fits : (low high : ℤ) (d : Data) → IfSome (int_form low high d) (λ z. (int_le low z && int_le z high) ≡ true)
 unfolding int_form
-int_form_fits low high d = then_some (option_and_then as_i64 (as_number d)) (int_within low high) _ (λ z. int_within_fits low high z)
+int_form_fits low high d = then_some (option_and_then as_i64 (as_number d)) _ _ (λ z. int_within_fits low high z)
 
 if_colour_fits : (c : Parts) → IfSome (if_colour c) (λ p. is_colour p ≡ true)
 if_colour_fits c = elim (is_colour c) as (λ b. is_colour c ≡ b → IfSome (if b then Some c else None) (λ p. is_colour p ≡ true)) [ true ↦ λ e. e | false ↦ λ e. tt ] refl
@@ -95,7 +93,7 @@ corners_fit d =
 
 rect_form_fits : (d : Data) → IfSome (rect_form d) (λ r. is_rect r ≡ true)
 unfolding rect_form
-rect_form_fits d = if_some (is_count 4 (count_of d)) (corners_of d) (λ r. is_rect r ≡ true) (corners_fit d)
+rect_form_fits d = then_some (as_array d) _ _ (λ ds. if_some (items_len ds == 4) (corners_of d) (λ r. is_rect r ≡ true) (corners_fit d))
 
 -- sides from 1 to a number
 pub record SidesFit (most : ℕ) (s : Sides) : Type 0 where
@@ -115,10 +113,10 @@ first_sides_fit most d =
 
 sides_form_fits : (most : ℕ) (d : Data) → IfSome (sides_form most d) (SidesFit most)
 unfolding sides_form
-sides_form_fits most d = if_some (is_count 2 (count_of d)) (first_sides most d) (SidesFit most) (first_sides_fit most d)
+sides_form_fits most d = then_some (as_array d) _ _ (λ ds. if_some (items_len ds == 2) (first_sides most d) (SidesFit most) (first_sides_fit most d))
 
-if_short_fits : (most : ℕ) (ds : Items) → IfSome (if_short most ds) (λ es. nat_le (items_len es) most ≡ true)
-if_short_fits most ds = elim (nat_le (items_len ds) most) as (λ b. nat_le (items_len ds) most ≡ b → IfSome (if b then Some ds else None) (λ es. nat_le (items_len es) most ≡ true))
+short_fits : (most : ℕ) (ds : Items) → IfSome (if nat_le (items_len ds) most then Some ds else None) (λ es. nat_le (items_len es) most ≡ true)
+short_fits most ds = elim (nat_le (items_len ds) most) as (λ b. nat_le (items_len ds) most ≡ b → IfSome (if b then Some ds else None) (λ es. nat_le (items_len es) most ≡ true))
     [ true ↦ λ e. e | false ↦ λ e. tt ] refl
 
 -- ---- fields
@@ -149,7 +147,7 @@ opaque_form_fits d = then_some (as_str d) colour_of_six _ six_fits
 
 list_form_fits : (most : ℕ) (d : Data) → IfSome (list_form most d) (λ es. nat_le (items_len es) most ≡ true)
 unfolding list_form
-list_form_fits most d = then_some (as_array d) (if_short most) _ (if_short_fits most)
+list_form_fits most d = then_some (as_array d) _ _ (short_fits most)
 
 pub colour_fits : (key : List ℕ) (field : ℕ) (d : Data) → IfOk (colour_at key field d) (λ p. is_colour p ≡ true)
 unfolding colour_at

@@ -7,7 +7,7 @@ use Rattle.serde_json.specs.Find.{get, as_object}
 use Rattle.serde_json.specs.Events.{members_len}
 use Rattle.script_fields.specs.declared.fault.FieldFault.{FieldFault}
 use Rattle.script_fields.specs.declared.forms.Sides.{Sides}
-use Rattle.script_fields.specs.Faults.{fault, or_fault}
+use Rattle.script_fields.specs.Faults.{◌>>=◌, fault, or_fault}
 use Rattle.script_fields.specs.Forms.{number_form, int_form, opaque_form, colour_form, rect_form, sides_form, list_form}
 
 -- a member that is absent or not of its form is a fault of the field
@@ -63,3 +63,7 @@ member_count (Some ms) = members_len ms
 -- other members exactly where it has no more than were found
 unfoldable pub no_more_members : ℕ → Data → Result ⊤ FieldFault
 no_more_members fields d = if nat_le (member_count (as_object d)) fields then Ok tt else Err (fault 99)
+
+-- what was read of an object in which the given number of fields were found, where it has no further member
+abbrev pub if_no_more : {A : Type 0} → ℕ → Data → A → Result A FieldFault
+if_no_more fields d x = no_more_members fields d >>= λ u. Ok x

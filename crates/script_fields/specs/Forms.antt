@@ -1,5 +1,5 @@
 -- The forms of the values in a script: what a JSON value of the form represents, or none.
-use Rattle.std.specs.Prelude.{ℕ, ℤ, pos, negsuc, List, Bool, false, ◌&&◌, ◌==◌, nat_le, int_le, Option, Some, None, option_map, option_and_then, if◌then◌else◌}
+use Rattle.std.specs.Prelude.{ℕ, ℤ, pos, negsuc, List, ◌&&◌, ◌==◌, nat_le, int_le, Option, Some, None, option_map, option_and_then, if◌then◌else◌}
 use Rattle.geom.specs.declared.rect.Rect.{Rect}
 use Rattle.pixel.specs.Colours.{Parts}
 use Rattle.serde_json.specs.Data.{Data, Items}
@@ -8,21 +8,13 @@ use Rattle.serde_json.specs.Events.{items_len}
 use Rattle.script_fields.specs.declared.forms.Sides.{Sides}
 use Rattle.script_fields.specs.Hex.{bytes_of, colour_of_six, colour_of_eight}
 
--- the number, if it is from `low` to `high`
-unfoldable pub if_within : ℕ → ℕ → ℕ → Option ℕ
-if_within low high n = if nat_le low n && nat_le n high then Some n else None
-
--- the signed number, if it is from `low` to `high`
-unfoldable pub int_within : ℤ → ℤ → ℤ → Option ℤ
-int_within low high z = if int_le low z && int_le z high then Some z else None
-
 -- a whole number from `low` to `high`
 unfoldable pub number_form : ℕ → ℕ → Data → Option ℕ
-number_form low high d = option_and_then (if_within low high) (option_and_then as_u64 (as_number d))
+number_form low high d = option_and_then (λ n. if nat_le low n && nat_le n high then Some n else None) (option_and_then as_u64 (as_number d))
 
 -- a whole number from `low` to `high`, which may be below 0
 unfoldable pub int_form : ℤ → ℤ → Data → Option ℤ
-int_form low high d = option_and_then (int_within low high) (option_and_then as_i64 (as_number d))
+int_form low high d = option_and_then (λ z. if int_le low z && int_le z high then Some z else None) (option_and_then as_i64 (as_number d))
 
 -- a text of six digits: an opaque colour
 unfoldable pub opaque_form : Data → Option Parts
@@ -36,19 +28,6 @@ colour_form d = option_and_then colour_of_eight (as_str d)
 unfoldable pub bytes_form : Data → Option (List ℕ)
 bytes_form d = option_and_then bytes_of (as_str d)
 
--- the elements, if they are at most `most`
-abbrev pub if_short : ℕ → Items → Option Items
-if_short most ds = if nat_le (items_len ds) most then Some ds else None
-
--- whether a count is this number
-abbrev pub is_count : ℕ → Option ℕ → Bool
-is_count n (Some k) = k == n
-is_count n None = false
-
--- how many elements a list has
-unfoldable pub count_of : Data → Option ℕ
-count_of d = option_map items_len (as_array d)
-
 -- the element of a list at a place, where it is a whole number of 32 bits with a sign
 unfoldable pub corner_at : ℕ → Data → Option ℤ
 corner_at i d = option_and_then (int_form (negsuc 2147483647) (pos 2147483647)) (at i d)
@@ -60,7 +39,7 @@ corners_of d = option_and_then (λ x. option_and_then (λ y. option_and_then (λ
 
 -- a list of exactly four whole numbers of 32 bits with a sign: x, y, width and height
 unfoldable pub rect_form : Data → Option Rect
-rect_form d = if is_count 4 (count_of d) then corners_of d else None
+rect_form d = option_and_then (λ ds. if items_len ds == 4 then corners_of d else None) (as_array d)
 
 -- the element of a list at a place, where it is a whole number from 1 to `most`
 unfoldable pub side_at : ℕ → ℕ → Data → Option ℕ
@@ -72,8 +51,8 @@ first_sides most d = option_and_then (λ w. option_map (λ h. record { w = w; h 
 
 -- a list of exactly two whole numbers, each from 1 to `most`: width and height
 unfoldable pub sides_form : ℕ → Data → Option Sides
-sides_form most d = if is_count 2 (count_of d) then first_sides most d else None
+sides_form most d = option_and_then (λ ds. if items_len ds == 2 then first_sides most d else None) (as_array d)
 
 -- a list of at most `most` elements
 unfoldable pub list_form : ℕ → Data → Option Items
-list_form most d = option_and_then (if_short most) (as_array d)
+list_form most d = option_and_then (λ ds. if nat_le (items_len ds) most then Some ds else None) (as_array d)

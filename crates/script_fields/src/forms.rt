@@ -1,17 +1,16 @@
 //! The forms of values.
 
-ghost use Rattle.std.specs.Prelude.{◌≡◌, ◌≤◌, option_map, IfSome, length};
+ghost use Rattle.std.specs.Prelude.{◌≡◌, ◌≤◌, ◌&&◌, nat_le, int_le, Some, None, if◌then◌else◌, option_map, IfSome, length};
 ghost use Rattle.serde_json.specs.View.{view, items_view};
-ghost use Rattle.script_fields.specs.Forms.{if_within, number_form, int_within, int_form, opaque_form, colour_form, count_of, corner_at, corners_of, rect_form, side_at, first_sides, sides_form, list_form};
+ghost use Rattle.script_fields.specs.Forms.{number_form, int_form, opaque_form, colour_form, corner_at, corners_of, rect_form, side_at, first_sides, sides_form, list_form};
 
 use crate::hex;
 use geom::Rect;
 use pixel::Colour;
 use serde_json::Value;
 
-#[tactic(auto, unfolding(crate::specs::Forms::if_within))]
 fn number_within(n: u64, low: u32, high: u32) -> Option<u32>
-    ensures { result ≡ if_within low high n }
+    ensures { result ≡ if nat_le low n && nat_le n high then Some n else None }
 {
     if low as u64 <= n && n <= high as u64 {
         Some(n as u32)
@@ -28,9 +27,8 @@ pub fn number_form(value: &Value, low: u32, high: u32) -> Option<u32>
     number_within(value.as_u64()?, low, high)
 }
 
-#[tactic(auto, unfolding(crate::specs::Forms::int_within))]
 fn signed_within(z: i64, low: i32, high: i32) -> Option<i32>
-    ensures { result ≡ int_within low high z }
+    ensures { result ≡ if int_le low z && int_le z high then Some z else None }
 {
     if low as i64 <= z && z <= high as i64 {
         Some(z as i32)
@@ -72,13 +70,6 @@ pub struct Sides {
     pub h: u32,
 }
 
-#[tactic(auto, using(crate::proofs::Counts::counts), unfolding(crate::specs::Forms::count_of))]
-fn count(value: &Value) -> Option<usize>
-    ensures { result ≡ count_of (view value.now) }
-{
-    Some(value.as_array()?.len())
-}
-
 #[tactic(auto, unfolding(crate::specs::Forms::corner_at))]
 fn corner(list: &Value, at: usize) -> Option<i32>
     ensures { result ≡ corner_at at (view list.now) }
@@ -98,13 +89,14 @@ fn corners(list: &Value) -> Option<Rect>
 }
 
 /// A list of exactly four whole numbers of 32 bits with a sign: x, y, width and height.
-#[tactic(auto, unfolding(crate::specs::Forms::rect_form))]
+#[tactic(auto, using(crate::proofs::Counts::counts), unfolding(crate::specs::Forms::rect_form))]
 pub fn rect_form(value: &Value) -> Option<Rect>
     ensures { result ≡ rect_form (view value.now) }
 {
-    match count(value) {
-        Some(4) => corners(value),
-        _ => None,
+    if value.as_array()?.len() == 4 {
+        corners(value)
+    } else {
+        None
     }
 }
 
@@ -125,13 +117,14 @@ fn first_sides(list: &Value, most: u32) -> Option<Sides>
 }
 
 /// A list of exactly two whole numbers, each from 1 to `most`: width and height.
-#[tactic(auto, unfolding(crate::specs::Forms::sides_form))]
+#[tactic(auto, using(crate::proofs::Counts::counts), unfolding(crate::specs::Forms::sides_form))]
 pub fn sides_form(value: &Value, most: u32) -> Option<Sides>
     ensures { result ≡ sides_form most (view value.now) }
 {
-    match count(value) {
-        Some(2) => first_sides(value, most),
-        _ => None,
+    if value.as_array()?.len() == 2 {
+        first_sides(value, most)
+    } else {
+        None
     }
 }
 

@@ -18,7 +18,7 @@ use Rattle.script_json.specs.declared.fault.ShapeFault.{ShapeFault}
 use Rattle.script_json.specs.declared.op.Op.{Op}
 use Rattle.script_json.specs.declared.op.Op.TheVariants as op
 use Rattle.script_json.specs.Faults.{placed, before_rest}
-use Rattle.script_json.specs.Ops.{op_at, op_named, is_of_version, if_of_version}
+use Rattle.script_json.specs.Ops.{op_at, op_named, is_of_version}
 use Rattle.script_json.specs.CommandReading.{fields_at, command_at, commands_at, frame_at, frames_at}
 use Rattle.script_json.specs.CommandValues.{command_data, frame_data}
 use Rattle.script_json.proofs.NodeLaws.{add_transform_again, add_transform_fits, set_transform_again, set_transform_fits, add_clip_again, add_clip_fits, set_clip_again, set_clip_fits, add_effect_again, add_effect_fits, set_opacity_again, set_opacity_fits, add_scroller_again, add_scroller_fits, set_range_again, set_range_fits, scroll_by_again, scroll_by_fits, scroll_to_again, scroll_to_fits}
@@ -94,16 +94,16 @@ fields_fits version op.ReplaceItem of_version d = replace_item_fits version d
 fields_fits version op.MoveLayer of_version d = move_layer_fits version d
 fields_fits version op.SetView of_version d = set_view_fits version of_version d
 
-if_of_version_fits : (version : ℕ) (o : Op) → IfSome (if_of_version version o) (λ p. is_of_version version p ≡ true)
-if_of_version_fits version o =
+of_version_fits : (version : ℕ) (o : Op) → IfSome (if is_of_version version o then Some o else None) (λ p. is_of_version version p ≡ true)
+of_version_fits version o =
     elim (is_of_version version o) as (λ b. is_of_version version o ≡ b → IfSome (if b then Some o else None) (λ p. is_of_version version p ≡ true))
     [ true ↦ λ e. e | false ↦ λ e. tt ] refl
 
 op_fits : (version : ℕ) (d : Data) → IfOk (op_at version d) (λ o. is_of_version version o ≡ true)
 unfolding op_at
 op_fits version d =
-    or_fault_ok 0 (option_and_then (if_of_version version) (option_and_then op_named (option_and_then as_str (get (codes "op") d)))) (λ o. is_of_version version o ≡ true)
-    (then_some (option_and_then op_named (option_and_then as_str (get (codes "op") d))) (if_of_version version) _ (λ o. if_of_version_fits version o))
+    or_fault_ok 0 (option_and_then (λ o. if is_of_version version o then Some o else None) (option_and_then op_named (option_and_then as_str (get (codes "op") d)))) (λ o. is_of_version version o ≡ true)
+    (then_some (option_and_then op_named (option_and_then as_str (get (codes "op") d))) (λ o. if is_of_version version o then Some o else None) _ (λ o. of_version_fits version o))
 
 command_fits : (version : ℕ) (d : Data) → IfOk (command_at version d) (λ c. command_in_range version c ≡ true)
 unfolding command_at

@@ -21,7 +21,7 @@ use Rattle.script_json.specs.declared.fault.ShapeFault.{ShapeFault}
 use Rattle.script_json.specs.declared.op.Op.{Op}
 use Rattle.script_json.specs.declared.op.Op.TheVariants as op
 use Rattle.script_json.specs.Faults.{placed, before_rest}
-use Rattle.script_json.specs.Ops.{op_named, layer_op_named, is_of_version, if_of_version, op_at}
+use Rattle.script_json.specs.Ops.{op_named, is_of_version, op_at}
 use Rattle.script_json.specs.ItemReading.{if_picture, pixels_form, paint_of, paint_at}
 use Rattle.script_json.specs.ItemValues.{item_data, rect_item_data, bitmap_data}
 use Rattle.script_json.specs.CommandReading.{fields_at, command_at, commands_at, frame_at, frames_at}
@@ -60,7 +60,7 @@ when s name x rest P k h =
     [ true ↦ λ e. k ((bytes_eq-Decides s name).0 e) | false ↦ λ e. h ] refl
 
 op_back : (s : List ℕ) → IfSome (op_named s) (λ o. s ≡ op_name o)
-unfolding op_named layer_op_named
+unfolding op_named
 op_back s =
     when s (codes "add_transform") _ _ _ (λ e. e) (
     when s (codes "set_transform") _ _ _ (λ e. e) (
@@ -90,8 +90,8 @@ op_under _ = tt
 op_found : (version : ℕ) (d : Data) → IfOk (op_at version d) (λ o. get (codes "op") d ≡ Some (string (op_name o)))
 unfolding op_at
 op_found version d =
-    or_fault_ok 0 (option_and_then (if_of_version version) (option_and_then op_named (option_and_then as_str (get (codes "op") d)))) _
-    (and_some (option_and_then op_named (option_and_then as_str (get (codes "op") d))) (if_of_version version) (λ o. get (codes "op") d ≡ Some (string (op_name o))) _
+    or_fault_ok 0 (option_and_then (λ o. if is_of_version version o then Some o else None) (option_and_then op_named (option_and_then as_str (get (codes "op") d)))) _
+    (and_some (option_and_then op_named (option_and_then as_str (get (codes "op") d))) (λ o. if is_of_version version o then Some o else None) (λ o. get (codes "op") d ≡ Some (string (op_name o))) _
     (op_under (get (codes "op") d)) (λ o h. if_true (is_of_version version o) o _ h))
 
 -- ---- items

@@ -16,7 +16,7 @@ use Rattle.script_json.specs.declared.fault.ShapeFault.{ShapeFault}
 use Rattle.script_json.specs.declared.op.InputOp.{InputOp}
 use Rattle.script_json.specs.declared.op.InputOp.TheVariants as op
 use Rattle.script_json.specs.Faults.{placed, before_rest}
-use Rattle.script_json.specs.InputReading.{input_named, input_op_at, amount_at, room_for_draw, frame_number, input_fields_at, input_at, draws_after, inputs_at}
+use Rattle.script_json.specs.InputReading.{input_named, input_op_at, amount_at, below, input_fields_at, input_at, draws_after, inputs_at}
 use Rattle.script_json.specs.InputValues.{scroll_data, wheel_data, draw_data, await_data, settle_data, input_data}
 use Rattle.script_json.proofs.CommandLaws.{placed_ok}
 
@@ -54,7 +54,7 @@ draw_again frames draws few =
 
 await_again : (frames draws frame : ℕ) → input_in_range frames (Await frame) ≡ true
     → input_at frames draws (await_data frame) ≡ Ok (Await frame)
-unfolding input_at object_at input_op_at input_named input_fields_at await_data no_more_members number_at frame_number
+unfolding input_at object_at input_op_at input_named input_fields_at await_data no_more_members number_at
 await_again frames draws frame all =
     let h0 = left (is_u32 frame) (nat_lt frame frames) all in
     let h1 : nat_lt frame frames ≡ true = right (is_u32 frame) (nat_lt frame frames) all in
@@ -117,29 +117,23 @@ wheel_fits frames draws d few =
     then_ok (amount_at (codes "dy") 4 d) _ (λ z. is_amount z ≡ true) _ (amount_fits (codes "dy") 4 d) (λ dy h3.
     then_any (no_more_members 5 d) _ _ (λ u. record { in_range = both _ _ (both _ _ (both _ _ h0 h1) h2) h3; few = few })))))
 
-room_fits : (draws : ℕ) → IfOk (room_for_draw draws) (λ u. nat_lt draws 4096 ≡ true)
-room_fits draws =
-    elim (nat_lt draws 4096) as (λ b. nat_lt draws 4096 ≡ b → IfOk (if b then Ok tt else Err (fault 0)) (λ u. nat_lt draws 4096 ≡ true))
+below_fits : (most field n : ℕ) → IfOk (below most field n) (λ u. nat_lt n most ≡ true)
+below_fits most field n =
+    elim (nat_lt n most) as (λ b. nat_lt n most ≡ b → IfOk (if b then Ok tt else Err (fault field)) (λ u. nat_lt n most ≡ true))
     [ true ↦ λ e. e | false ↦ λ e. tt ] refl
 
 draw_fits : (frames draws : ℕ) (d : Data) → IfOk (input_fields_at frames draws op.Draw d) (Fits frames draws)
 unfolding input_fields_at
 draw_fits frames draws d =
-    then_ok (room_for_draw draws) _ (λ u. nat_lt draws 4096 ≡ true) _ (room_fits draws) (λ u h.
+    then_ok (below 4096 0 draws) _ (λ u. nat_lt draws 4096 ≡ true) _ (below_fits 4096 0 draws) (λ u h.
     then_any (no_more_members 1 d) _ _ (λ v. record { in_range = refl; few = grind (arith, nat_tests) }))
-
-frame_number_fits : (frames n : ℕ) → IfSome (frame_number frames n) (λ m. (m ≡ n) × (nat_lt m frames ≡ true))
-unfolding frame_number
-frame_number_fits frames n =
-    elim (nat_lt n frames) as (λ b. nat_lt n frames ≡ b → IfSome (if b then Some n else None) (λ m. (m ≡ n) × (nat_lt m frames ≡ true)))
-    [ true ↦ λ e. (refl, e) | false ↦ λ e. tt ] refl
 
 await_fits : (frames draws : ℕ) (d : Data) → draws ≤ 4096 → IfOk (input_fields_at frames draws op.Await d) (Fits frames draws)
 unfolding input_fields_at
 await_fits frames draws d few =
     then_ok (number_at (codes "frame") 0 4294967295 1 d) _ (λ n. is_u32 n ≡ true) _ (number_fits (codes "frame") 0 4294967295 1 d) (λ n h0.
-    then_ok (or_fault 1 (frame_number frames n)) _ (λ m. (m ≡ n) × (nat_lt m frames ≡ true)) _ (or_fault_ok 1 (frame_number frames n) (λ m. (m ≡ n) × (nat_lt m frames ≡ true)) (frame_number_fits frames n)) (λ m h1.
-    then_any (no_more_members 2 d) _ _ (λ u. record { in_range = both _ _ (rw h1.0 h0) h1.1; few = few })))
+    then_ok (below frames 1 n) _ (λ u. nat_lt n frames ≡ true) _ (below_fits frames 1 n) (λ u h1.
+    then_any (no_more_members 2 d) _ _ (λ v. record { in_range = both _ _ h0 h1; few = few })))
 
 settle_fits : (frames draws : ℕ) (d : Data) → draws ≤ 4096 → IfOk (input_fields_at frames draws op.Settle d) (Fits frames draws)
 unfolding input_fields_at

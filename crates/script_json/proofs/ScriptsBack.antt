@@ -19,7 +19,7 @@ use Rattle.script_json.specs.declared.head.Head.{Head}
 use Rattle.script_json.specs.declared.op.InputOp.{InputOp}
 use Rattle.script_json.specs.declared.op.InputOp.TheVariants as op
 use Rattle.script_json.specs.Faults.{placed, before_rest}
-use Rattle.script_json.specs.InputReading.{input_named, input_op_at, amount_at, room_for_draw, frame_number, input_fields_at, input_at, draws_after, inputs_at}
+use Rattle.script_json.specs.InputReading.{input_named, input_op_at, amount_at, below, input_fields_at, input_at, draws_after, inputs_at}
 use Rattle.script_json.specs.InputValues.{scroll_data, wheel_data, draw_data, await_data, settle_data, input_data}
 use Rattle.script_json.specs.CommandReading.{frames_at}
 use Rattle.script_json.specs.CommandValues.{frame_data}
@@ -82,21 +82,17 @@ wheel_only frames draws d n named =
 draw_only : (frames draws : ℕ) (d : Data) → IsCanonical d → get (codes "op") d ≡ Some (string (codes "draw")) → IfOk (input_fields_at frames draws op.Draw d) (λ c. d ≡ input_data c)
 unfolding input_fields_at draw_data
 draw_only frames draws d n named =
-    then_any (room_for_draw draws) _ _ (λ v.
+    then_any (below 4096 0 draws) _ _ (λ v.
     then_ok (no_more_members 1 d) _ (λ u. member_count (as_object d) ≤ 1) _ (few_members 1 d) (λ u few.
     object_is _ _ _ d n refl few (named, tt)))
-
-frame_number_is : (frames m : ℕ) → IfSome (frame_number frames m) (λ k. m ≡ k)
-unfolding frame_number
-frame_number_is frames m = if_true (nat_lt m frames) m _ refl
 
 await_only : (frames draws : ℕ) (d : Data) → IsCanonical d → get (codes "op") d ≡ Some (string (codes "await")) → IfOk (input_fields_at frames draws op.Await d) (λ c. d ≡ input_data c)
 unfolding input_fields_at await_data
 await_only frames draws d n named =
     then_ok (number_at (codes "frame") 0 4294967295 1 d) _ (λ v. get (codes "frame") d ≡ Some (number_data v)) _ (number_found (codes "frame") 0 4294967295 1 d n) (λ m has_frame.
-    then_ok (or_fault 1 (frame_number frames m)) _ (λ k. m ≡ k) _ (or_fault_ok 1 (frame_number frames m) _ (frame_number_is frames m)) (λ k same.
+    then_any (below frames 1 m) _ _ (λ v.
     then_ok (no_more_members 2 d) _ (λ u. member_count (as_object d) ≤ 2) _ (few_members 2 d) (λ u few.
-    object_is _ _ _ d n refl few ((has_frame ∙ ap (λ (i : ℕ). Some (number_data i)) same), (named, tt)))))
+    object_is _ _ _ d n refl few (has_frame, (named, tt)))))
 
 settle_only : (frames draws : ℕ) (d : Data) → IsCanonical d → get (codes "op") d ≡ Some (string (codes "settle")) → IfOk (input_fields_at frames draws op.Settle d) (λ c. d ≡ input_data c)
 unfolding input_fields_at settle_data

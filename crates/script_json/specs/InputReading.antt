@@ -8,7 +8,7 @@ use Rattle.model_history.specs.declared.input.Input.{Input}
 use Rattle.model_history.specs.declared.input.Input.TheVariants.{Scroll, Wheel, Draw, Await, Settle}
 use Rattle.script_fields.specs.declared.fault.FieldFault.{FieldFault}
 use Rattle.script_fields.specs.Faults.{◌>>=◌, fault, or_fault}
-use Rattle.script_fields.specs.Fields.{number_at, int_at, object_at, no_more_members}
+use Rattle.script_fields.specs.Fields.{number_at, int_at, object_at, if_no_more}
 use Rattle.script_json.specs.declared.fault.ShapeFault.{ShapeFault}
 use Rattle.script_json.specs.declared.op.InputOp.{InputOp}
 use Rattle.script_json.specs.declared.op.InputOp.TheVariants as op
@@ -31,13 +31,9 @@ input_op_at d = or_fault 0 (option_and_then input_named (option_and_then as_str 
 unfoldable pub amount_at : List ℕ → ℕ → Data → Result ℤ FieldFault
 amount_at key field d = int_at key (neg_ℤ (pos max_scroll)) (pos max_scroll) field d
 
--- one draw too many is a fault of field 0
-abbrev pub room_for_draw : ℕ → Result ⊤ FieldFault
-room_for_draw draws = if nat_lt draws max_draws then Ok tt else Err (fault 0)
-
--- the number of one of the given number of main frames
-unfoldable pub frame_number : ℕ → ℕ → Option ℕ
-frame_number frames n = if nat_lt n frames then Some n else None
+-- a number that is not below `most` is a fault of the field
+abbrev pub below : ℕ → ℕ → ℕ → Result ⊤ FieldFault
+below most field n = if nat_lt n most then Ok tt else Err (fault field)
 
 -- the fields of the input of this name, in their order, then further fields; after the given number of draws, in a script of the given number of main frames
 unfoldable pub input_fields_at : ℕ → ℕ → InputOp → Data → Result Input FieldFault
@@ -45,27 +41,21 @@ input_fields_at frames draws op.Scroll d = do
   scroller ← number_at (codes "scroller") 1 max_id 1 d
   dx ← amount_at (codes "dx") 2 d
   dy ← amount_at (codes "dy") 3 d
-  _ ← no_more_members 4 d
-  Ok (Scroll scroller dx dy)
+  if_no_more 4 d (Scroll scroller dx dy)
 input_fields_at frames draws op.Wheel d = do
   x ← number_at (codes "x") 0 2047 1 d
   y ← number_at (codes "y") 0 2047 2 d
   dx ← amount_at (codes "dx") 3 d
   dy ← amount_at (codes "dy") 4 d
-  _ ← no_more_members 5 d
-  Ok (Wheel x y dx dy)
+  if_no_more 5 d (Wheel x y dx dy)
 input_fields_at frames draws op.Draw d = do
-  _ ← room_for_draw draws
-  _ ← no_more_members 1 d
-  Ok Draw
+  _ ← below max_draws 0 draws
+  if_no_more 1 d Draw
 input_fields_at frames draws op.Await d = do
   frame ← number_at (codes "frame") 0 4294967295 1 d
-  awaited ← or_fault 1 (frame_number frames frame)
-  _ ← no_more_members 2 d
-  Ok (Await awaited)
-input_fields_at frames draws op.Settle d = do
-  _ ← no_more_members 1 d
-  Ok Settle
+  _ ← below frames 1 frame
+  if_no_more 2 d (Await frame)
+input_fields_at frames draws op.Settle d = if_no_more 1 d Settle
 
 -- an input: an object, its name, its fields
 unfoldable pub input_at : ℕ → ℕ → Data → Result Input FieldFault

@@ -8,19 +8,6 @@ use Rattle.script_fields.specs.Faults.{or_fault}
 use Rattle.script_json.specs.declared.op.Op.{Op}
 use Rattle.script_json.specs.declared.op.Op.TheVariants.{AddTransform, SetTransform, AddClip, SetClip, AddEffect, SetOpacity, AddScroller, SetRange, ScrollBy, ScrollTo, AddLayer, RemoveLayer, ResizeLayer, SetColour, InsertItem, RemoveItem, ReplaceItem, MoveLayer, SetView}
 
--- the command of this name, where it changes no transform, clip, effect or scroller
-unfoldable pub layer_op_named : List ℕ → Option Op
-layer_op_named s =
-    if bytes_eq s (codes "add_layer") then Some AddLayer else
-    (if bytes_eq s (codes "remove_layer") then Some RemoveLayer else
-    (if bytes_eq s (codes "resize_layer") then Some ResizeLayer else
-    (if bytes_eq s (codes "set_colour") then Some SetColour else
-    (if bytes_eq s (codes "insert_item") then Some InsertItem else
-    (if bytes_eq s (codes "remove_item") then Some RemoveItem else
-    (if bytes_eq s (codes "replace_item") then Some ReplaceItem else
-    (if bytes_eq s (codes "move_layer") then Some MoveLayer else
-    (if bytes_eq s (codes "set_view") then Some SetView else None))))))))
-
 -- the command of this name
 unfoldable pub op_named : List ℕ → Option Op
 op_named s =
@@ -34,17 +21,22 @@ op_named s =
     (if bytes_eq s (codes "set_range") then Some SetRange else
     (if bytes_eq s (codes "scroll_by") then Some ScrollBy else
     (if bytes_eq s (codes "scroll_to") then Some ScrollTo else
-    layer_op_named s)))))))))
+    (if bytes_eq s (codes "add_layer") then Some AddLayer else
+    (if bytes_eq s (codes "remove_layer") then Some RemoveLayer else
+    (if bytes_eq s (codes "resize_layer") then Some ResizeLayer else
+    (if bytes_eq s (codes "set_colour") then Some SetColour else
+    (if bytes_eq s (codes "insert_item") then Some InsertItem else
+    (if bytes_eq s (codes "remove_item") then Some RemoveItem else
+    (if bytes_eq s (codes "replace_item") then Some ReplaceItem else
+    (if bytes_eq s (codes "move_layer") then Some MoveLayer else
+    (if bytes_eq s (codes "set_view") then Some SetView else None))))))))))))))))))
 
 -- whether a version has this command: `set_view` is of version 2 alone
 abbrev pub is_of_version : ℕ → Op → Bool
 is_of_version version SetView = version == 2
 is_of_version version _ = true
 
--- the command, if the version has it
-abbrev pub if_of_version : ℕ → Op → Option Op
-if_of_version version op = if is_of_version version op then Some op else None
-
 -- the command that a member `op` names; a fault of field 0 where the version has no such
 unfoldable pub op_at : ℕ → Data → Result Op FieldFault
-op_at version d = or_fault 0 (option_and_then (if_of_version version) (option_and_then op_named (option_and_then as_str (get (codes "op") d))))
+op_at version d =
+    or_fault 0 (option_and_then (λ o. if is_of_version version o then Some o else None) (option_and_then op_named (option_and_then as_str (get (codes "op") d))))

@@ -10,7 +10,7 @@ use Rattle.model_history.specs.Ranges.{longest_side}
 use Rattle.model_history.specs.Scripts.{ScriptModel}
 use Rattle.script_fields.specs.declared.fault.FieldFault.{FieldFault}
 use Rattle.script_fields.specs.Faults.{◌>>=◌, or_fault}
-use Rattle.script_fields.specs.Fields.{object_at, number_at, sides_at, opaque_at, list_at, no_more_members}
+use Rattle.script_fields.specs.Fields.{object_at, number_at, sides_at, opaque_at, list_at, if_no_more}
 use Rattle.script_json.specs.declared.fault.ShapeFault.{ShapeFault}
 use Rattle.script_json.specs.declared.head.Head.{Head}
 use Rattle.script_json.specs.Faults.{placed}
@@ -53,8 +53,7 @@ unfoldable pub lists_at : Data → Result ScriptLists FieldFault
 lists_at d = do
   main ← list_at (codes "main") max_frames 10 d
   inputs ← list_at (codes "inputs") max_inputs 11 d
-  _ ← no_more_members 11 d
-  Ok (record { main = main; inputs = inputs })
+  if_no_more 11 d (record { main = main; inputs = inputs })
 
 -- a script; its first fault is in the top object, else in a main frame, else in an input
 unfoldable pub parts_at : Data → Result ScriptModel ShapeFault

@@ -1,9 +1,9 @@
 //! The names of commands and inputs.
 
-ghost use Rattle.std.specs.Prelude.{◌≡◌, codes, option_and_then};
+ghost use Rattle.std.specs.Prelude.{◌≡◌, Some, None, if◌then◌else◌, codes, option_and_then};
 ghost use Rattle.serde_json.specs.Find.{get, as_str};
 ghost use Rattle.serde_json.specs.View.{view};
-ghost use Rattle.script_json.specs.Ops.{op_named, layer_op_named, is_of_version, if_of_version, op_at};
+ghost use Rattle.script_json.specs.Ops.{op_named, is_of_version, op_at};
 ghost use Rattle.script_json.specs.InputReading.{input_named, input_op_at};
 
 use script_fields::FieldFault;
@@ -43,24 +43,6 @@ pub(crate) enum InputOp {
     Settle,
 }
 
-#[tactic(auto, unfolding(crate::specs::Ops::layer_op_named))]
-fn layer_op_named(name: &str) -> Option<Op>
-    ensures { result ≡ layer_op_named name.now }
-{
-    match name {
-        "add_layer" => Some(Op::AddLayer),
-        "remove_layer" => Some(Op::RemoveLayer),
-        "resize_layer" => Some(Op::ResizeLayer),
-        "set_colour" => Some(Op::SetColour),
-        "insert_item" => Some(Op::InsertItem),
-        "remove_item" => Some(Op::RemoveItem),
-        "replace_item" => Some(Op::ReplaceItem),
-        "move_layer" => Some(Op::MoveLayer),
-        "set_view" => Some(Op::SetView),
-        _ => None,
-    }
-}
-
 #[tactic(auto, unfolding(crate::specs::Ops::op_named))]
 fn op_named(name: &str) -> Option<Op>
     ensures { result ≡ op_named name.now }
@@ -76,7 +58,16 @@ fn op_named(name: &str) -> Option<Op>
         "set_range" => Some(Op::SetRange),
         "scroll_by" => Some(Op::ScrollBy),
         "scroll_to" => Some(Op::ScrollTo),
-        _ => layer_op_named(name),
+        "add_layer" => Some(Op::AddLayer),
+        "remove_layer" => Some(Op::RemoveLayer),
+        "resize_layer" => Some(Op::ResizeLayer),
+        "set_colour" => Some(Op::SetColour),
+        "insert_item" => Some(Op::InsertItem),
+        "remove_item" => Some(Op::RemoveItem),
+        "replace_item" => Some(Op::ReplaceItem),
+        "move_layer" => Some(Op::MoveLayer),
+        "set_view" => Some(Op::SetView),
+        _ => None,
     }
 }
 
@@ -92,7 +83,7 @@ fn is_of_version(version: u32, op: Op) -> bool
 
 // The command that a member `op` names, in this version.
 fn find_op(version: u32, value: &Value) -> Option<Op>
-    ensures { result ≡ option_and_then (if_of_version version) (option_and_then op_named (option_and_then as_str (get (codes "op") (view value.now)))) }
+    ensures { result ≡ option_and_then (λ o. if is_of_version version o then Some o else None) (option_and_then op_named (option_and_then as_str (get (codes "op") (view value.now)))) }
 {
     let op = op_named(value.get("op")?.as_str()?)?;
     if is_of_version(version, op) {

@@ -4,7 +4,7 @@ ghost use Rattle.std.specs.Prelude.{◌≡◌, ℕ, ◌<◌, ◌+◌, ◌-◌, �
 ghost use Rattle.serde_json.specs.View.{view, items_view};
 ghost use Rattle.script_json.specs.Faults.{GivesPart, placed};
 ghost use Rattle.script_json.specs.declared.op.InputOp.TheVariants.{Scroll, Wheel, Draw, Await, Settle};
-ghost use Rattle.script_json.specs.InputReading.{amount_at, frame_number, input_fields_at, input_at, draws_after, inputs_at};
+ghost use Rattle.script_json.specs.InputReading.{amount_at, input_fields_at, input_at, draws_after, inputs_at};
 
 use crate::fault::{ShapeFault, Stop};
 use crate::op::{self, InputOp};
@@ -62,20 +62,14 @@ fn draw(draws: u32, value: &Value) -> Result<Input, FieldFault>
     Ok(Input::Draw)
 }
 
-// The number of one of the given number of main frames.
-#[tactic(auto, unfolding(crate::specs::InputReading::frame_number))]
-fn frame_number(frames: u32, n: u32) -> Option<u32>
-    ensures { result ≡ frame_number frames n }
-{
-    if n < frames { Some(n) } else { None }
-}
-
 #[tactic(auto, unfolding(crate::specs::InputReading::input_fields_at))]
 fn await_of(frames: u32, value: &Value) -> Result<Input, FieldFault>
     ensures { (draws : ℕ) → result ≡ input_fields_at frames draws Await (view value.now) }
 {
     let frame = fields::number(value, "frame", 0, u32::MAX, 1)?;
-    let frame = frame_number(frames, frame).ok_or(FieldFault { field: 1 })?;
+    if frame >= frames {
+        return Err(FieldFault { field: 1 });
+    }
     fields::no_more(value, 2)?;
     Ok(Input::Await { frame })
 }
