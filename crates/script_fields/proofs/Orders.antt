@@ -49,30 +49,18 @@ rising_is (member k d ms) e =
     let p = and_parts (is_before k ms) (is_rising ms) e in
     (before_is k ms p.0, rising_is ms p.1)
 
--- each value of the members
-abbrev pub Values : Members → Type 0
-Values no_members = ⊤
-Values (member k d ms) = IsCanonical d × Values ms
-
--- members whose names rise are in order where their values are
-pub in_order : (ms : Members) → is_rising ms ≡ true → Values ms → AreInOrder ms
-in_order no_members e h = tt
-in_order (member k d ms) e h =
-    let p = and_parts (is_before k ms) (is_rising ms) e in
-    (before_is k ms p.0, h.0, in_order ms p.1 h.1)
-
 -- ---- the order of names
 
 same_name : (k l : List ℕ) → slice_cmp nat_cmp k l ≡ Equal → k ≡ l
 same_name k l e = (bytes_eq-Decides k l).0 (sym (is_eq-slice_cmp k l) ∙ ap is_eq e)
 
-later_name : (k l : List ℕ) → slice_cmp nat_cmp k l ≡ Less → slice_cmp nat_cmp l k ≡ Greater
+pub later_name : (k l : List ℕ) → slice_cmp nat_cmp k l ≡ Less → slice_cmp nat_cmp l k ≡ Greater
 later_name k l e = nat_list_cmp_total.antisymm l k ∙ ap ordering_reverse e
 
-earlier_name : (k l : List ℕ) → slice_cmp nat_cmp k l ≡ Greater → slice_cmp nat_cmp l k ≡ Less
+pub earlier_name : (k l : List ℕ) → slice_cmp nat_cmp k l ≡ Greater → slice_cmp nat_cmp l k ≡ Less
 earlier_name k l e = nat_list_cmp_total.antisymm l k ∙ ap ordering_reverse e
 
-before_more : (k l : List ℕ) (ms : Members) → slice_cmp nat_cmp k l ≡ Less → IsBefore l ms → IsBefore k ms
+pub before_more : (k l : List ℕ) (ms : Members) → slice_cmp nat_cmp k l ≡ Less → IsBefore l ms → IsBefore k ms
 before_more k l no_members e h = tt
 before_more k l (member m d ms) e h = (nat_list_cmp_total.trans k l m e h.0, before_more k l ms e h.1)
 

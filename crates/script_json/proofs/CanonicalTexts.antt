@@ -9,7 +9,8 @@ use Rattle.model_history.specs.Scripts.{ScriptModel}
 use Rattle.script_json.specs.Causes.{IsSaid, IsCanonicalText}
 use Rattle.script_json.specs.Recordings.{IsRecordingOf, script_text, recording}
 use Rattle.script_json.specs.ScriptValue.{parts_data}
-use Rattle.script_json.proofs.Canonical.{parts_canonical}
+use Rattle.script_json.proofs.ReadCanonical.{read_canonical}
+use Rattle.script_json.proofs.TextsReadBack.{text_is}
 use Rattle.script_json.proofs.ScriptLaws.{parts_again}
 use Rattle.script_json.proofs.ScriptsBack.{one_value_of}
 
@@ -17,10 +18,10 @@ pub said : (s : ScriptModel) → IsAccepted s → IsSaid s
 said s accepted = (parts_data s, parts_again s accepted.ranges)
 
 pub canonical_text_of : (s : ScriptModel) → is_in_ranges s ≡ true → IsCanonicalText (script_text s) s
-canonical_text_of s ranges = (parts_data s, parts_canonical s, parts_again s ranges, refl)
+canonical_text_of s ranges = (parts_data s, text_is s ranges, parts_again s ranges, refl)
 
 pub one_text_of : (bytes : List ℕ) (s : ScriptModel) → IsCanonicalText bytes s → bytes ≡ script_text s
-one_text_of bytes s (d, canonical, says, prints) = prints ∙ ap compact_text (one_value_of d s canonical says)
+one_text_of bytes s (d, text, says, prints) = prints ∙ ap compact_text (one_value_of d s (read_canonical bytes d text.1) says)
 
 pub recording_of : (s : ScriptModel) (history : List Entry) (whole : List ℕ) → is_in_ranges s ≡ true → whole ≡ recording s history → IsRecordingOf s history whole
 unfolding recording

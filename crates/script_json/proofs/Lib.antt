@@ -7,7 +7,9 @@ mod NodeLaws
 mod PlainBack
 mod CommandsBack
 mod ScriptsBack
-mod Canonical
+mod ReadCanonical
+mod ValuesReadBack
+pub mod TextsReadBack
 pub mod CanonicalTexts
 pub mod Pixels
 pub mod Plain

@@ -13,7 +13,6 @@ use Rattle.script_json.specs.declared.fault.PartsFault.{PartsFault}
 use Rattle.script_json.specs.declared.fault.PartsFault.TheVariants.{Json, Shape, Memory}
 use Rattle.script_json.specs.declared.text_fault.TextFault.{TextFault}
 use Rattle.script_json.specs.declared.text_fault.TextFault.TheVariants as text
-use Rattle.script_fields.specs.Canonical.{IsCanonical}
 use Rattle.script_json.specs.Reading.{parts_at}
 
 -- the bytes are a JSON text of this value
@@ -28,9 +27,9 @@ IsScriptText bytes s = (d : Data) × IsTextOf bytes d × (parts_at d ≡ Ok s)
 abbrev pub IsSaid : ScriptModel → Type 0
 IsSaid s = (d : Data) × (parts_at d ≡ Ok s)
 
--- the bytes are the canonical text of a script: the text, without spaces, of a canonical value that says it
+-- the bytes are the canonical text of a script: a JSON text of a value that says it, which is that value's text without spaces
 abbrev pub IsCanonicalText : List ℕ → ScriptModel → Type 0
-IsCanonicalText bytes s = (d : Data) × IsCanonical d × (parts_at d ≡ Ok s) × (bytes ≡ compact_text d)
+IsCanonicalText bytes s = (d : Data) × IsTextOf bytes d × (parts_at d ≡ Ok s) × (bytes ≡ compact_text d)
 
 -- why this is the answer for these bytes: they are no JSON; or of a value with this first fault; or of these parts
 abbrev pub PartsCause : List ℕ → Result ScriptParts PartsFault → Type 0

@@ -32,6 +32,11 @@ pub fn a_script_has_one_canonical_text()
     ensures one_recording { (bytes : List ℕ) (s : ScriptModel) (history : List Entry) → IsRecordingOf s history bytes → bytes ≡ recording s history }
 {}
 
+/// The canonical text of a script that the format can say is a JSON text of it.
+pub fn canonical_texts_read_back()
+    ensures { (s : ScriptModel) → is_in_ranges s ≡ true → IsScriptText (script_text s) s }
+{}
+
 /// Some JSON value says a script exactly where its numbers are in their ranges.
 pub fn what_is_said_is_in_ranges()
     ensures ranges { (s : ScriptModel) → IsSaid s → is_in_ranges s ≡ true }
