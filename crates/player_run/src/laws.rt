@@ -1,15 +1,13 @@
 //! Laws of what [`run`](crate::run) writes.
 
-ghost use Rattle.std.specs.Prelude.{ℕ, ◌≤◌, List};
-ghost use Rattle.model_history.specs.Scripts.{ScriptModel};
-ghost use Rattle.script_json.specs.Recordings.{script_text};
-ghost use Rattle.recording_check.specs.Openings.{IsScriptLine};
+ghost use Rattle.std.specs.Prelude.{ℕ, ◌≤◌, List, Option};
 ghost use Rattle.recording_check.specs.Verdicts.{IsLegalRecording};
-ghost use Rattle.player_run.specs.Runs.{IsRunOf, IsPlayOf};
+ghost use Rattle.player_run.specs.Runs.{IsOutput};
+ghost use Rattle.player_run.specs.declared.words.Use.TheVariants.{Step, Play};
 
-/// What `step N` and `play N` write in all is the recording of a legal history, which is what `check` takes.
-/// The script's canonical text reads back, as that of every script that is printed does.
+/// What `step N` and `play N` write in all is the recording of a legal history, which is what `check` takes,
+/// whatever the source tells.
 pub fn written_recordings_are_legal()
-    ensures step { (workers : ℕ) (s : ScriptModel) (whole : List ℕ) → workers ≤ 16 → IsScriptLine (script_text s) s → IsRunOf workers s whole → IsLegalRecording 16 whole }
-    ensures play { (workers : ℕ) (s : ScriptModel) (whole : List ℕ) → workers ≤ 16 → IsScriptLine (script_text s) s → IsPlayOf workers s whole → IsLegalRecording 16 whole }
+    ensures step { (workers : ℕ) (source : Option (List ℕ)) (whole : List ℕ) → workers ≤ 16 → IsOutput (Step workers) source whole → IsLegalRecording 16 whole }
+    ensures play { (workers : ℕ) (source : Option (List ℕ)) (whole : List ℕ) → workers ≤ 16 → IsOutput (Play workers) source whole → IsLegalRecording 16 whole }
 {}

@@ -8,6 +8,7 @@ use Rattle.pixel.specs.Colours.{Parts}
 use Rattle.model_history.specs.declared.event.Event.{Event}
 use Rattle.model_history.specs.declared.event.Event.TheVariants as event
 use Rattle.model_history.specs.declared.history.Entry.{Entry}
+use Rattle.model_history.specs.Accepted.{IsAccepted}
 use Rattle.model_history.specs.EventFields.{activates}
 use Rattle.model_history.specs.Frames.{active, active_page}
 use Rattle.model_history.specs.Recordings.{joined_to, image_row, image, rgb, screen_colour, shown_image, image_behind, piece, pieces, header, recorded}
@@ -20,6 +21,7 @@ use Rattle.recording_check.specs.Recordings.{IsRecording}
 use Rattle.recording_reader.specs.Pieces.{Piece, piece_text, IsImage, HasImage, ArePieces, entries, entry_of, shown_after, is_end}
 use Rattle.recording_reader.specs.Views.{views_of, view_at}
 use Rattle.recording_check.proofs.OneReading.{one_reading}
+use Rattle.recording_check.proofs.ScriptLines.{accepted_line}
 use Rattle.recording_reader.proofs.PageViews.{IsFrame, active_view}
 
 -- painted pieces add what the events of their entries add
@@ -130,10 +132,10 @@ history_is_painted s history line over = (
 )
 
 -- two of them with the same bytes are of one script and one history
-pub one_recording : (s t : ScriptModel) (g h : List Entry) → IsScriptLine (script_text s) s → IsScriptLine (script_text t) t → IsOver s g → IsOver t h → recording s g ≡ recording t h → (s ≡ t) × (g ≡ h)
+pub one_recording : (s t : ScriptModel) (g h : List Entry) → IsAccepted s → IsAccepted t → IsOver s g → IsOver t h → recording s g ≡ recording t h → (s ≡ t) × (g ≡ h)
 one_recording s t g h first second over done same =
-    let a = history_is_painted s g first over in
-    let b = history_is_painted t h second done in
+    let a = history_is_painted s g (accepted_line s first) over in
+    let b = history_is_painted t h (accepted_line t second) done in
     let there : IsRecording (recording s g) t b.0 = subst (λ (bytes : List ℕ). IsRecording bytes t b.0) (sym same) b.1 in
     let one = one_reading (recording s g) s t a.0 b.0 a.1 there in
     (one.0, sym a.2 ∙ ap entries one.1 ∙ b.2)

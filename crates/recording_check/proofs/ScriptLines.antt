@@ -1,12 +1,18 @@
 -- Whether a line is a script's.
-use Rattle.std.proofs.Common.{◌≡◌, List, ℕ, ap, sym, ◌∙◌, None, Some}
+use Rattle.std.proofs.Common.{◌≡◌, List, ℕ, refl, ap, sym, ◌∙◌, None, Some}
 use Rattle.std.specs.Prelude.{Ok, Err}
+use Rattle.model_history.specs.Accepted.{IsAccepted}
 use Rattle.model_history.specs.Scripts.{ScriptModel}
 use Rattle.script_json.specs.declared.text_fault.TextFault.{TextFault}
 use Rattle.script_json.specs.Causes.{ScriptCause, IsTold}
 use Rattle.script_json.specs.Recordings.{script_text}
 use Rattle.script_json.proofs.OneAnswer.{one_answer}
-use Rattle.recording_check.specs.Openings.{ScriptOf}
+use Rattle.script_json.proofs.TextsReadBack.{text_reads_back}
+use Rattle.recording_check.specs.Openings.{IsScriptLine, ScriptOf}
+
+-- the canonical text of an accepted script is its line
+pub accepted_line : (s : ScriptModel) → IsAccepted s → IsScriptLine (script_text s) s
+accepted_line s accepted = record { reads = text_reads_back s accepted.ranges; accepted = accepted; canonical = refl }
 
 -- it reads as a script, and is what is printed for that
 pub is_line : (line text : List ℕ) (s : ScriptModel) → ScriptCause line (Ok s) → text ≡ script_text s → text ≡ line → ScriptOf line (Some s)

@@ -13,13 +13,13 @@ use Rattle.model_history.proofs.BoolFacts.{below, or_left_false}
 use Rattle.model_history.proofs.Course.{course}
 use Rattle.model_history.proofs.DueFacts.{entry, at_activate}
 use Rattle.model_history.proofs.RangeBounds.{sent_few}
-use Rattle.script_json.specs.Recordings.{script_text, recording}
+use Rattle.script_json.specs.Recordings.{recording}
 use Rattle.recording_reader.specs.Pieces.{entry_of, is_end}
-use Rattle.recording_check.specs.Openings.{IsScriptLine}
 use Rattle.recording_check.specs.Painted.{IsNamed, IsRecorded, IsOver}
 use Rattle.recording_check.specs.Verdicts.{IsLegalRecording}
 use Rattle.recording_check.proofs.JudgedPieces.{past_on}
 use Rattle.recording_check.proofs.LegalEvents.{event_fits}
+use Rattle.recording_check.proofs.ScriptLines.{accepted_line}
 
 -- what may come in a run with few workers may come in one with more
 next_with_more : (s : ScriptModel) (few more : ℕ) (h : List Entry) (e : Entry) → few ≤ more → Next s few h e → Next s more h e
@@ -95,8 +95,8 @@ ends_here s h (e ∷ before) accepted legal =
       going = next.going;
     }
 
-pub written_is_legal : (s : ScriptModel) (workers : ℕ) (before : List Entry) → IsScriptLine (script_text s) s → workers ≤ 16 → IsLegal s workers (before ++ the_end ∷ []) → IsLegalRecording 16 (recording s (before ++ the_end ∷ []))
-written_is_legal s workers before line few legal =
+pub written_is_legal : (s : ScriptModel) (workers : ℕ) (before : List Entry) → IsAccepted s → workers ≤ 16 → IsLegal s workers (before ++ the_end ∷ []) → IsLegalRecording 16 (recording s (before ++ the_end ∷ []))
+written_is_legal s workers before accepted few legal =
     let all : Legal s 16 (reverse (before ++ the_end ∷ [])) = legal_with_more s workers 16 (reverse (before ++ the_end ∷ [])) few legal in
-    let over = (ends_here s [] before line.accepted (subst (λ (g : List Entry). Legal s 16 g) (sym (append-nil (reverse (before ++ the_end ∷ [])))) all)).over in
-    record { script = s; history = before ++ the_end ∷ []; line = line; legal = all; over = over; text = refl }
+    let over = (ends_here s [] before accepted (subst (λ (g : List Entry). Legal s 16 g) (sym (append-nil (reverse (before ++ the_end ∷ [])))) all)).over in
+    record { script = s; history = before ++ the_end ∷ []; line = accepted_line s accepted; legal = all; over = over; text = refl }

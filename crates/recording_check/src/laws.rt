@@ -7,8 +7,7 @@ ghost use Rattle.model_history.specs.Accepted.{IsAccepted};
 ghost use Rattle.model_history.specs.FrameLaws.{AtEach};
 ghost use Rattle.model_history.specs.Legal.{Legal, IsLegal};
 ghost use Rattle.model_history.specs.Scripts.{ScriptModel};
-ghost use Rattle.script_json.specs.Recordings.{script_text, recording};
-ghost use Rattle.recording_check.specs.Openings.{IsScriptLine};
+ghost use Rattle.script_json.specs.Recordings.{recording};
 ghost use Rattle.recording_check.specs.Painted.{ArePainted, IsOver};
 ghost use Rattle.recording_check.specs.Recordings.{IsRecording, IsBadAt};
 ghost use Rattle.recording_check.specs.Verdicts.{IsFirstWrongEvent, IsLegalRecording};
@@ -27,10 +26,9 @@ pub fn painted_recordings_are_recordings()
     ensures { (bytes : List ℕ) (s : ScriptModel) (ps : List Piece) → IsRecording bytes s ps → ArePainted s [] ps → bytes ≡ recording s (entries ps) }
 {}
 
-/// The bytes of a recording fix script and history: those of a script whose canonical text reads back,
-/// as that of every script that is printed does, and of a history that is over.
+/// The bytes of a recording fix script and history: those of an accepted script and of a history that is over.
 pub fn recordings_fix_script_and_history()
-    ensures { (s t : ScriptModel) (g h : List Entry) → IsScriptLine (script_text s) s → IsScriptLine (script_text t) t → IsOver s g → IsOver t h → recording s g ≡ recording t h → (s ≡ t) × (g ≡ h) }
+    ensures { (s t : ScriptModel) (g h : List Entry) → IsAccepted s → IsAccepted t → IsOver s g → IsOver t h → recording s g ≡ recording t h → (s ≡ t) × (g ≡ h) }
 {}
 
 /// A recording has no part that is not of its form: the two answers of a reader exclude each other.
@@ -59,9 +57,8 @@ pub fn legal_events_fit()
     ensures { (s : ScriptModel) (workers : ℕ) (past : List Entry) → IsAccepted s → workers ≤ 65536 → Legal s workers past → AtEach (λ before entry. FitsEvent entry.event) past }
 {}
 
-/// What is written is what [`check`](crate::check) takes: the recording of a script and of a history that is
-/// legal for it and for at most 16 workers, and that the end closes, is a legal recording. The script's
-/// canonical text reads back, as that of every script that is printed does.
+/// What is written is what [`check`](crate::check) takes: the recording of an accepted script and of a history
+/// that is legal for it and for at most 16 workers, and that the end closes, is a legal recording.
 pub fn legal_histories_make_legal_recordings()
-    ensures { (s : ScriptModel) (workers : ℕ) (before : List Entry) → IsScriptLine (script_text s) s → workers ≤ 16 → IsLegal s workers (before ++ record { actor = 0; event = event.End } ∷ []) → IsLegalRecording 16 (recording s (before ++ record { actor = 0; event = event.End } ∷ [])) }
+    ensures { (s : ScriptModel) (workers : ℕ) (before : List Entry) → IsAccepted s → workers ≤ 16 → IsLegal s workers (before ++ record { actor = 0; event = event.End } ∷ []) → IsLegalRecording 16 (recording s (before ++ record { actor = 0; event = event.End } ∷ [])) }
 {}
