@@ -1,5 +1,5 @@
 -- What a use takes is not refused.
-use Rattle.std.proofs.Common.{◌≡◌, ℕ, List, None, Some, Ok, Err, ap, sym, ◌∙◌, arith, subst}
+use Rattle.std.proofs.Common.{◌≡◌, ◌⊎◌, inl, inr, ℕ, List, None, Some, Ok, Err, refl, ap, sym, ◌∙◌, arith, subst}
 use Rattle.std.specs.Prelude.{Option, Result, IfOk}
 use Rattle.player_io.specs.Counts.{Rose}
 use Rattle.serde_json.specs.Data.{Data}
@@ -20,7 +20,7 @@ use Rattle.player_run.specs.declared.words.Use.TheVariants.{Step, Play, Gen, Dem
 use Rattle.recording_writer.specs.Films.{IsLastImage}
 use Rattle.player_run.specs.Shots.{with_shot}
 use Rattle.player_run.proofs.ShotsTaken.{one_last_image}
-use Rattle.player_run.specs.Runs.{TellsMisfit, IsAcceptedText, Takes, RefusedScript, RefusedShot, RefusedRecording, RefusedHistory, Refused, CauseOf, CauseFrom, IsUnread, Causes, IsComplete, IsDone}
+use Rattle.player_run.specs.Runs.{TellsMisfit, IsAcceptedText, Takes, RefusedScript, RefusedShot, RefusedRecording, RefusedHistory, Refused, CauseOf, CauseFrom, IsUnread, Causes, IsComplete}
 
 -- a text of a script has no first fault
 not_at_fault : (bytes : List ℕ) → IsAcceptedText bytes → (d : Data) → IsTextOf bytes d → (place : _) → parts_at d ≡ Err place → ⊥
@@ -105,9 +105,13 @@ not_refused (Shot workers) bytes result takes refused = shot_taken workers bytes
 not_refused Frames bytes result takes refused = recording_taken bytes result takes refused
 not_refused Check bytes result takes refused = history_taken bytes result takes refused
 
+-- all is done, or there was no memory
+abbrev IsDone : Outcome → Type 0
+IsDone result = (result ≡ Done) ⊎ (result ≡ Memory)
+
 done : (wanted : Use) (bytes : List ℕ) (source_old source_new out_old out_new : ℕ) (result : Outcome) → TellsMisfit (Ok wanted) result → CauseOf wanted bytes result → Causes source_old source_new out_old out_new result
     → Takes wanted bytes → (Rose source_old source_new → ⊥) → (Rose out_old out_new → ⊥) → IsDone result
-done wanted bytes a b c e Done fits cause faults takes calm_source calm_out = tt
+done wanted bytes a b c e Done fits cause faults takes calm_source calm_out = inl refl
 done wanted bytes a b c e (Usage word) fits cause faults takes calm_source calm_out = absurd fits
 done wanted bytes a b c e Json fits cause faults takes calm_source calm_out = absurd (not_refused wanted bytes Json takes cause)
 done wanted bytes a b c e (Shape fault) fits cause faults takes calm_source calm_out = absurd (not_refused wanted bytes (Shape fault) takes cause)
@@ -117,13 +121,13 @@ done wanted bytes a b c e WriteFault fits cause faults takes calm_source calm_ou
 done wanted bytes a b c e (TooLong limit) fits cause faults takes calm_source calm_out = absurd (not_refused wanted bytes (TooLong limit) takes cause)
 done wanted bytes a b c e (BadRecording place) fits cause faults takes calm_source calm_out = absurd (not_refused wanted bytes (BadRecording place) takes cause)
 done wanted bytes a b c e (No event) fits cause faults takes calm_source calm_out = absurd (not_refused wanted bytes (No event) takes cause)
-done wanted bytes a b c e Memory fits cause faults takes calm_source calm_out = tt
+done wanted bytes a b c e Memory fits cause faults takes calm_source calm_out = inr refl
 done wanted bytes a b c e NoPicture fits cause faults takes calm_source calm_out = absurd (not_refused wanted bytes NoPicture takes cause)
 
 -- a use that reads nothing is done but for a fault of the sink
 unread_done : (source_old source_new out_old out_new : ℕ) (result : Outcome) → IsUnread result → Causes source_old source_new out_old out_new result → (Rose out_old out_new → ⊥) → IsDone result
-unread_done a b c e Done unread faults calm = tt
-unread_done a b c e Memory unread faults calm = tt
+unread_done a b c e Done unread faults calm = inl refl
+unread_done a b c e Memory unread faults calm = inr refl
 unread_done a b c e WriteFault unread faults calm = absurd (calm faults)
 unread_done a b c e (Usage word) unread faults calm = absurd unread
 unread_done a b c e Json unread faults calm = absurd unread

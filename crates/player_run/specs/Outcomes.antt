@@ -38,13 +38,10 @@ fault_text (fault.TooMany limit) = codes "too many, limit " ∷ decimal limit �
 fault_text (fault.OutOfRange value limit) = signed_decimal value ∷ codes " out of range, limit " ∷ signed_decimal limit ∷ []
 fault_text fault.NotNested = codes "not nested" ∷ []
 
--- the place of a refused command
-abbrev pub place_text : ℕ → ℕ → List (List ℕ)
-place_text frame command = codes "cc: script: frame " ∷ decimal frame ∷ codes " command " ∷ decimal command ∷ codes ": " ∷ []
-
 -- the line of a refused script
 abbrev pub refused_text : ℕ → ℕ → EditFault → List (List ℕ)
-refused_text frame command why = place_text frame command ++ fault_text why ++ codes "\n" ∷ []
+refused_text frame command why =
+    codes "cc: script: frame " ∷ decimal frame ∷ codes " command " ∷ decimal command ∷ codes ": " ∷ (fault_text why ++ codes "\n" ∷ [])
 
 -- the line of a value that is no script
 abbrev pub shape_text : ShapeFault → List (List ℕ)

@@ -31,10 +31,6 @@ pub record StandsRight (s : ScriptModel) (h : List Entry) (sc : ℕ) (ax : Axis)
   -- between 0 and the end of its range on the active page; a scroller that this page lacks stands at 0
   pub in_range : IsInRange (most (active_page s h) sc ax) (offset s h sc ax)
 
--- each scroller does, along both axes
-abbrev pub StandRight : ScriptModel → List Entry → Type 0
-StandRight s h = (sc : ℕ) (ax : Axis) → StandsRight s h sc ax
-
 -- a history of a script with the given number of raster workers, up to its end or not
 pub record IsSoundHistory (s : ScriptModel) (workers : ℕ) (history : List Entry) : Type 0 where
   -- each entry is what is due after those before it
@@ -43,8 +39,8 @@ pub record IsSoundHistory (s : ScriptModel) (workers : ℕ) (history : List Entr
   pub required : AtEach (λ past e. is_activate e.event ≡ true → Within (required s past) (ready s past)) (reverse history)
   -- no tile that a draw lacks is one that the last activation needed
   pub missing : AtEach (λ past e. AreApart (lacking e.event) (pinned s past)) (reverse history)
-  -- after each prefix of it every scroller stands right
-  pub offsets : (before after : List Entry) → before ++ after ≡ history → StandRight s (reverse before)
+  -- after each prefix of it every scroller stands right, along both axes
+  pub offsets : (before after : List Entry) → before ++ after ≡ history → (sc : ℕ) (ax : Axis) → StandsRight s (reverse before) sc ax
 
 -- the history of a script that is played with the given number of raster workers
 pub record IsPlayed (s : ScriptModel) (workers : ℕ) (history : List Entry) : Type 0 where

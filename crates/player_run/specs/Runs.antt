@@ -257,16 +257,10 @@ abbrev pub StopsAtFault : ℕ → ℕ → Bool → Outcome → Type 0
 StopsAtFault old new failed ReadFault = (new ≡ raised old) × (failed ≡ true)
 StopsAtFault old new failed _ = new ≡ old
 
--- all was done, or there was no memory
-abbrev pub IsDone : Outcome → Type 0
-IsDone Done = ⊤
-IsDone Memory = ⊤
-IsDone _ = ⊥
-
 -- where neither count of faults rose, all is done or there was no memory
 abbrev pub IsDoneIfCalm : ℕ → ℕ → ℕ → ℕ → Outcome → Type 0
 IsDoneIfCalm source_old source_new out_old out_new result =
-    (Rose source_old source_new → ⊥) → (Rose out_old out_new → ⊥) → IsDone result
+    (Rose source_old source_new → ⊥) → (Rose out_old out_new → ⊥) → (result ≡ Done) ⊎ (result ≡ Memory)
 
 -- so it is where a use has what it takes
 abbrev pub IsComplete : Use → Option (List ℕ) → ℕ → ℕ → ℕ → ℕ → Outcome → Type 0

@@ -1,5 +1,5 @@
 -- Which words the program takes, and what they ask for: `step N`, `play N`, `gen NUMBER`, `demo NUMBER`, `film N`, `shot N`, `frames`, `check`.
-use Rattle.std.specs.Prelude.{ℕ, Bool, true, false, ◌+◌, ◌-◌, ◌*◌, ◌^◌, ◌&&◌, nat_le, nat_lt, List, [], ◌∷◌, Option, Some, None, Result, Ok, Err, codes, decimal, if◌then◌else◌}
+use Rattle.std.specs.Prelude.{ℕ, Bool, true, false, ◌+◌, ◌-◌, ◌*◌, ◌^◌, ◌&&◌, nat_le, nat_lt, List, [], ◌∷◌, Option, Some, None, option_and_then, Result, Ok, Err, codes, decimal, if◌then◌else◌}
 use Rattle.std.specs.Str.{bytes_eq}
 use Rattle.player_run.specs.declared.words.Use.{Use}
 use Rattle.player_run.specs.declared.words.Use.TheVariants.{Step, Play, Gen, Demo, Film, Shot, Frames, Check}
@@ -14,13 +14,9 @@ unfoldable pub number_in : List ℕ → Option ℕ
 number_in w =
     if nat_lt (digits_value 0 w) (2 ^ 64) && bytes_eq (decimal (digits_value 0 w)) w then Some (digits_value 0 w) else None
 
--- a number of raster workers is 1 to 16
-abbrev pub few : Option ℕ → Option ℕ
-few None = None
-few (Some n) = if nat_le 1 n && nat_le n 16 then Some n else None
-
+-- such a number of raster workers: 1 to 16
 abbrev pub workers_in : List ℕ → Option ℕ
-workers_in w = few (number_in w)
+workers_in w = option_and_then (λ n. if nat_le 1 n && nat_le n 16 then Some n else None) (number_in w)
 
 -- the use, where no word stands after its own; else the index of the next word
 abbrev pub no_more_words : Use → ℕ → List (List ℕ) → Result Use ℕ
@@ -32,24 +28,19 @@ abbrev pub numbered : Option ℕ → (ℕ → Use) → List (List ℕ) → Resul
 numbered None wanted ws = Err 1
 numbered (Some n) wanted ws = no_more_words (wanted n) 2 ws
 
--- after `step`, `play`, `film` and `shot` stands the number of raster workers
-abbrev pub with_workers : (ℕ → Use) → List (List ℕ) → Result Use ℕ
-with_workers wanted [] = Err 1
-with_workers wanted (w ∷ ws) = numbered (workers_in w) wanted ws
-
--- after `gen` and `demo` stands the number of which the script is made
-abbrev pub with_number : (ℕ → Use) → List (List ℕ) → Result Use ℕ
-with_number wanted [] = Err 1
-with_number wanted (w ∷ ws) = numbered (number_in w) wanted ws
+-- after `step`, `play`, `film` and `shot` stands a number of raster workers, after `gen` and `demo` that of which the script is made
+abbrev pub with_number : (List ℕ → Option ℕ) → (ℕ → Use) → List (List ℕ) → Result Use ℕ
+with_number said_by wanted [] = Err 1
+with_number said_by wanted (w ∷ ws) = numbered (said_by w) wanted ws
 
 -- what the words after the first one, which is none of `step`, ask for
 abbrev pub after_other : List ℕ → List (List ℕ) → Result Use ℕ
 after_other w ws =
-    if bytes_eq w (codes "play") then with_workers Play ws
-    else (if bytes_eq w (codes "gen") then with_number Gen ws
-    else (if bytes_eq w (codes "demo") then with_number Demo ws
-    else (if bytes_eq w (codes "film") then with_workers Film ws
-    else (if bytes_eq w (codes "shot") then with_workers Shot ws
+    if bytes_eq w (codes "play") then with_number workers_in Play ws
+    else (if bytes_eq w (codes "gen") then with_number number_in Gen ws
+    else (if bytes_eq w (codes "demo") then with_number number_in Demo ws
+    else (if bytes_eq w (codes "film") then with_number workers_in Film ws
+    else (if bytes_eq w (codes "shot") then with_number workers_in Shot ws
     else (if bytes_eq w (codes "frames") then no_more_words Frames 1 ws
     else (if bytes_eq w (codes "check") then no_more_words Check 1 ws else Err 0))))))
 
@@ -57,7 +48,7 @@ after_other w ws =
 -- where there is no such word and more words are needed, their count
 abbrev pub use_of : List (List ℕ) → Result Use ℕ
 use_of [] = Err 0
-use_of (w ∷ ws) = if bytes_eq w (codes "step") then with_workers Step ws else after_other w ws
+use_of (w ∷ ws) = if bytes_eq w (codes "step") then with_number workers_in Step ws else after_other w ws
 
 -- the use is `play N`, the only one that may wait without end
 abbrev pub is_play : Use → Bool

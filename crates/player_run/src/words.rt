@@ -122,11 +122,11 @@ fn number_of(word: &str) -> Option<u64>
     }
 }
 
-// A number of raster workers, where it is one.
-fn few(number: Option<u64>) -> Option<u32>
-    ensures { result ≡ words.few number }
+// The number of raster workers that a word is, where it is one.
+fn workers_of(word: &str) -> Option<u32>
+    ensures { result ≡ words.workers_in word.now }
 {
-    match number {
+    match number_of(word) {
         Some(count) if 1 <= count && count <= 16 => Some(count as u32),
         _ => None,
     }
@@ -144,12 +144,12 @@ fn no_more(wanted: Use, index: u32, rest: &[String]) -> Result<Use, u32>
 
 // What the words after `step` ask for, or the index of the first that does not fit.
 fn after_step(rest: &[String]) -> Result<Use, u32>
-    ensures { result ≡ words.with_workers Use.Step (map string_bytes rest.now) }
+    ensures { result ≡ words.with_number words.workers_in Use.Step (map string_bytes rest.now) }
 {
     let [word, more @ ..] = rest else {
         return Err(1);
     };
-    match few(number_of(word.as_str())) {
+    match workers_of(word.as_str()) {
         Some(workers) => no_more(Use::Step { workers }, 2, more),
         None => Err(1),
     }
@@ -157,12 +157,12 @@ fn after_step(rest: &[String]) -> Result<Use, u32>
 
 // What the words after `play` ask for, or the index of the first that does not fit.
 fn after_play(rest: &[String]) -> Result<Use, u32>
-    ensures { result ≡ words.with_workers Use.Play (map string_bytes rest.now) }
+    ensures { result ≡ words.with_number words.workers_in Use.Play (map string_bytes rest.now) }
 {
     let [word, more @ ..] = rest else {
         return Err(1);
     };
-    match few(number_of(word.as_str())) {
+    match workers_of(word.as_str()) {
         Some(workers) => no_more(Use::Play { workers }, 2, more),
         None => Err(1),
     }
@@ -170,12 +170,12 @@ fn after_play(rest: &[String]) -> Result<Use, u32>
 
 // What the words after `film` ask for, or the index of the first that does not fit.
 fn after_film(rest: &[String]) -> Result<Use, u32>
-    ensures { result ≡ words.with_workers Use.Film (map string_bytes rest.now) }
+    ensures { result ≡ words.with_number words.workers_in Use.Film (map string_bytes rest.now) }
 {
     let [word, more @ ..] = rest else {
         return Err(1);
     };
-    match few(number_of(word.as_str())) {
+    match workers_of(word.as_str()) {
         Some(workers) => no_more(Use::Film { workers }, 2, more),
         None => Err(1),
     }
@@ -183,12 +183,12 @@ fn after_film(rest: &[String]) -> Result<Use, u32>
 
 // What the words after `shot` ask for, or the index of the first that does not fit.
 fn after_shot(rest: &[String]) -> Result<Use, u32>
-    ensures { result ≡ words.with_workers Use.Shot (map string_bytes rest.now) }
+    ensures { result ≡ words.with_number words.workers_in Use.Shot (map string_bytes rest.now) }
 {
     let [word, more @ ..] = rest else {
         return Err(1);
     };
-    match few(number_of(word.as_str())) {
+    match workers_of(word.as_str()) {
         Some(workers) => no_more(Use::Shot { workers }, 2, more),
         None => Err(1),
     }
@@ -196,7 +196,7 @@ fn after_shot(rest: &[String]) -> Result<Use, u32>
 
 // What the words after `gen` ask for, or the index of the first that does not fit.
 fn after_gen(rest: &[String]) -> Result<Use, u32>
-    ensures { result ≡ words.with_number Use.Gen (map string_bytes rest.now) }
+    ensures { result ≡ words.with_number words.number_in Use.Gen (map string_bytes rest.now) }
 {
     let [word, more @ ..] = rest else {
         return Err(1);
@@ -209,7 +209,7 @@ fn after_gen(rest: &[String]) -> Result<Use, u32>
 
 // What the words after `demo` ask for, or the index of the first that does not fit.
 fn after_demo(rest: &[String]) -> Result<Use, u32>
-    ensures { result ≡ words.with_number Use.Demo (map string_bytes rest.now) }
+    ensures { result ≡ words.with_number words.number_in Use.Demo (map string_bytes rest.now) }
 {
     let [word, more @ ..] = rest else {
         return Err(1);
