@@ -8,6 +8,7 @@ use Rattle.script_json.proofs.CanonicalTexts.{said}
 use Rattle.recording_writer.specs.Films.{IsLockstepFilm}
 use Rattle.player_run.specs.declared.outcome.Outcome.{Outcome}
 use Rattle.player_run.specs.declared.outcome.Outcome.TheVariants.{Done, Usage, Json, Shape, Script, ReadFault, WriteFault, TooLong, BadRecording, No, Memory, NoPicture}
+use Rattle.player_run.specs.declared.words.Use.{Use}
 use Rattle.player_run.specs.declared.words.Use.TheVariants.{Step, Film}
 use Rattle.player_run.specs.inner.Outputs.{WritesSome}
 use Rattle.player_run.specs.Runs.{script_limit, IsRunOf, Takes, CauseOf, CauseFrom, Writes}
@@ -21,24 +22,25 @@ pub script_output : (workers : ℕ) (source old new : Option (List ℕ)) (s : Sc
 script_output workers source old new s result text accepted wrote =
     some_output (IsRunOf workers s) (Step workers) source old new result (λ whole is. (s, (said s accepted, accepted.commands, text_of source s text), is)) wrote
 
-played : (workers : ℕ) (bytes : List ℕ) (P : List ℕ → Type 0) (old new : Option (List ℕ)) (result : Outcome) → Takes (Step workers) bytes → WritesSome P old new result → CauseOf (Step workers) bytes result
-played workers bytes P old new Done takes wrote = takes
-played workers bytes P old new WriteFault takes wrote = takes
-played workers bytes P old new Memory takes wrote = tt
-played workers bytes P old new (Usage word) takes wrote = absurd wrote
-played workers bytes P old new Json takes wrote = absurd wrote
-played workers bytes P old new (Shape fault) takes wrote = absurd wrote
-played workers bytes P old new (Script frame command why) takes wrote = absurd wrote
-played workers bytes P old new ReadFault takes wrote = absurd wrote
-played workers bytes P old new (TooLong limit) takes wrote = absurd wrote
-played workers bytes P old new (BadRecording place) takes wrote = absurd wrote
-played workers bytes P old new (No event) takes wrote = absurd wrote
-played workers bytes P old new NoPicture takes wrote = absurd wrote
+-- a use that wrote some of what it writes has what it takes
+played : (wanted : Use) (bytes : List ℕ) (P : List ℕ → Type 0) (old new : Option (List ℕ)) (result : Outcome) → Takes wanted bytes → WritesSome P old new result → CauseOf wanted bytes result
+played wanted bytes P old new Done takes wrote = takes
+played wanted bytes P old new WriteFault takes wrote = takes
+played wanted bytes P old new Memory takes wrote = tt
+played wanted bytes P old new (Usage word) takes wrote = absurd wrote
+played wanted bytes P old new Json takes wrote = absurd wrote
+played wanted bytes P old new (Shape fault) takes wrote = absurd wrote
+played wanted bytes P old new (Script frame command why) takes wrote = absurd wrote
+played wanted bytes P old new ReadFault takes wrote = absurd wrote
+played wanted bytes P old new (TooLong limit) takes wrote = absurd wrote
+played wanted bytes P old new (BadRecording place) takes wrote = absurd wrote
+played wanted bytes P old new (No event) takes wrote = absurd wrote
+played wanted bytes P old new NoPicture takes wrote = absurd wrote
 
 -- a script that was read is what the use takes
 pub script_cause : (workers : ℕ) (source : Option (List ℕ)) (P : List ℕ → Type 0) (old new : Option (List ℕ)) (s : ScriptModel) (result : Outcome) → IfSome source (λ bytes. (length bytes ≤ script_limit) × IsScriptText bytes s) → IsAccepted s → WritesSome P old new result → CauseFrom (Step workers) source result
 script_cause workers None P old new s result text accepted wrote = tt
-script_cause workers (Some bytes) P old new s result text accepted wrote = played workers bytes P old new result (text.0, (s, text.1, accepted.commands)) wrote
+script_cause workers (Some bytes) P old new s result text accepted wrote = played (Step workers) bytes P old new result (text.0, (s, text.1, accepted.commands)) wrote
 
 -- ---- the images alone
 
@@ -46,20 +48,6 @@ pub film_output : (workers : ℕ) (source old new : Option (List ℕ)) (s : Scri
 film_output workers source old new s result text accepted wrote =
     some_output (IsLockstepFilm s) (Film workers) source old new result (λ whole is. (s, (said s accepted, accepted.commands, text_of source s text), is)) wrote
 
-filmed : (workers : ℕ) (bytes : List ℕ) (P : List ℕ → Type 0) (old new : Option (List ℕ)) (result : Outcome) → Takes (Film workers) bytes → WritesSome P old new result → CauseOf (Film workers) bytes result
-filmed workers bytes P old new Done takes wrote = takes
-filmed workers bytes P old new WriteFault takes wrote = takes
-filmed workers bytes P old new Memory takes wrote = tt
-filmed workers bytes P old new (Usage word) takes wrote = absurd wrote
-filmed workers bytes P old new Json takes wrote = absurd wrote
-filmed workers bytes P old new (Shape fault) takes wrote = absurd wrote
-filmed workers bytes P old new (Script frame command why) takes wrote = absurd wrote
-filmed workers bytes P old new ReadFault takes wrote = absurd wrote
-filmed workers bytes P old new (TooLong limit) takes wrote = absurd wrote
-filmed workers bytes P old new (BadRecording place) takes wrote = absurd wrote
-filmed workers bytes P old new (No event) takes wrote = absurd wrote
-filmed workers bytes P old new NoPicture takes wrote = absurd wrote
-
 pub film_cause : (workers : ℕ) (source : Option (List ℕ)) (P : List ℕ → Type 0) (old new : Option (List ℕ)) (s : ScriptModel) (result : Outcome) → IfSome source (λ bytes. (length bytes ≤ script_limit) × IsScriptText bytes s) → IsAccepted s → WritesSome P old new result → CauseFrom (Film workers) source result
 film_cause workers None P old new s result text accepted wrote = tt
-film_cause workers (Some bytes) P old new s result text accepted wrote = filmed workers bytes P old new result (text.0, (s, text.1, accepted.commands)) wrote
+film_cause workers (Some bytes) P old new s result text accepted wrote = played (Film workers) bytes P old new result (text.0, (s, text.1, accepted.commands)) wrote
