@@ -1,13 +1,16 @@
 #!/usr/bin/env python3
 """Tries the library for C: its callers, under sanitizers, with allocations refused, and with random pages.
 
-usage: tools/try_embed.py [--build FOLDER] [--program PROGRAM] [--pages N] [--seed S]
+usage: tools/try_embed.py [--build FOLDER] [--program PROGRAM] [--pages N] [--seed S] [--gate SUM]
 
 `make lib` has to have left libcc.a and libcc.so in FOLDER (build/). Callers in C, C++, Python and Rust play the page
 of examples/embed, and their pictures have to equal the stored ones (examples/embed/*.png). Then N random pages (60)
 are played through the library and, as scripts of the same effects, through PROGRAM (crates/cc_player/out/cc_player),
 and each picture is compared. What is not installed (a second compiler, cargo, SDL2) is skipped with a line that says
 so. It ends with 1 where anything differs.
+
+--gate SUM is for the gate's second half: the library is built over those that the gate proved of the text with this
+sum (tools/lib.py), and one caller in each language is tried, with fewer pages and without sanitizers.
 """
 import argparse
 import json
@@ -23,6 +26,7 @@ import tempfile
 import zlib
 
 sys.dont_write_bytecode = True
+from lib import COMPILERS
 from png_chunks import chunks_of
 
 ROOT = pathlib.Path(__file__).resolve().parent.parent
@@ -259,31 +263,42 @@ def random_pages(build, program, pages, seed):
     return "%d random pages are those of the program" % drawn
 
 
+def tries(build, program, pages, seed):
+    """What is tried, each with what it needs: first what takes seconds."""
+    compiler = next(filter(shutil.which, COMPILERS), COMPILERS[0])
+    quick = [(compiler, "demo by " + compiler, lambda room: in_c(compiler, build, room)),
+             (compiler, "first.c", lambda room: the_first(compiler, build, room)),
+             (sys.executable, "demo in Python", lambda room: in_python(build, room)),
+             ("cargo", "demo in Rust", lambda room: in_rust(build, room)),
+             (str(program), "random pages", lambda room: random_pages(build, program, pages, seed))]
+    slow = [(other, "demo by " + other, lambda room, c=other: in_c(c, build, room))
+            for other in ("gcc", "clang", "g++") if other != compiler]
+    slow += [(other, "demo by %s under ASan and UBSan" % other, lambda room, c=other: in_c(c, build, room, *SANITIZERS))
+             for other in ("gcc", "clang")]
+    slow += [("gcc", "refused allocations", lambda room: refused("gcc", build, room)),
+             ("gcc", "refused allocations under ASan and UBSan", lambda room: refused("gcc", build, room, *SANITIZERS)),
+             ("sdl2-config", "a window", lambda room: in_a_window(build, room))]
+    return quick, slow
+
+
 def main():
     words = argparse.ArgumentParser(description=__doc__.splitlines()[0])
     words.add_argument("--build", type=pathlib.Path, default=ROOT / "build")
     words.add_argument("--program", type=pathlib.Path, default=ROOT / "crates" / "cc_player" / "out" / "cc_player")
-    words.add_argument("--pages", type=int, default=60)
+    words.add_argument("--pages", type=int)
     words.add_argument("--seed", type=int, default=1)
+    words.add_argument("--gate", metavar="SUM", help="build the library over the gate's, and try what takes seconds")
     asked = words.parse_args()
     build, program, faults = asked.build.resolve(), asked.program.resolve(), 0
+    if asked.gate and not any(map(shutil.which, COMPILERS)):
+        print("skipped: the library for C (no %s is here)" % ", ".join(COMPILERS))
+        return
+    if asked.gate:
+        subprocess.run([sys.executable, ROOT / "tools" / "lib.py", "--gate", asked.gate, "--into", build], check=True)
     if not (build / "libcc.a").exists():
         sys.exit("try_embed: %s has no libcc.a: make lib" % build)
-    tries = []
-    for compiler in ("gcc", "clang", "g++"):
-        tries.append((compiler, "demo by " + compiler, lambda room, c=compiler: in_c(c, build, room)))
-        if compiler != "g++":
-            tries.append((compiler, "demo by %s under ASan and UBSan" % compiler,
-                          lambda room, c=compiler: in_c(c, build, room, *SANITIZERS)))
-    tries += [("gcc", "first.c", lambda room: the_first("gcc", build, room)),
-              ("gcc", "refused allocations", lambda room: refused("gcc", build, room)),
-              ("gcc", "refused allocations under ASan and UBSan",
-               lambda room: refused("gcc", build, room, *SANITIZERS)),
-              (sys.executable, "demo in Python", lambda room: in_python(build, room)),
-              ("cargo", "demo in Rust", lambda room: in_rust(build, room)),
-              ("sdl2-config", "a window", lambda room: in_a_window(build, room)),
-              (str(program), "random pages", lambda room: random_pages(build, program, asked.pages, asked.seed))]
-    for needed, name, trial in tries:
+    quick, slow = tries(build, program, asked.pages or (20 if asked.gate else 60), asked.seed)
+    for needed, name, trial in quick if asked.gate else quick + slow:
         if not shutil.which(needed):
             print("skipped: %s (%s is not here)" % (name, needed))
             continue
