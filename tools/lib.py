@@ -42,6 +42,14 @@ def run(*words, **more):
         stop("%s ended with %d" % (words[0], done.returncode))
 
 
+def prove(crate):
+    """Proves a crate and builds its library; of what rt says, the end is shown where it refuses."""
+    done = subprocess.run(["rt", "lib"], cwd=crate, stdout=subprocess.PIPE, stderr=subprocess.STDOUT, text=True,
+                          errors="replace")
+    if done.returncode:
+        stop("rt lib ended with %d\n%s" % (done.returncode, done.stdout[-3000:]))
+
+
 def version():
     """The version of the interface, as the header has it: the number of the soname."""
     return re.search(r"#define CC_VERSION (\d+)", HEADER.read_text())[1]
@@ -104,7 +112,7 @@ def main():
     compiler = next(filter(shutil.which, COMPILERS), None) or stop("no C compiler is here (%s)" % ", ".join(COMPILERS))
     shim = rt.parent.parent / "c" / "liblibc_c.a"
     with over_the_gate(rt, words.gate) if words.gate else contextlib.nullcontext():
-        run("rt", "lib", cwd=CRATE, stdout=subprocess.DEVNULL)
+        prove(CRATE)
     into.mkdir(parents=True, exist_ok=True)
     archive, shared = into / "libcc.a", into / "libcc.so"
     merged(archive, [CRATE / "out" / "libcc_c.a", shim])
