@@ -1,2 +1,3 @@
 pub mod CopiedRows
 pub mod Lanes
+pub mod WrittenRects

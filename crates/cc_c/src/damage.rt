@@ -1,9 +1,13 @@
 //! Damage as C sees it.
 
+ghost use Rattle.std.specs.Prelude.{◌≡◌, ◌+◌, ◌<◌, length};
+ghost use Rattle.cc_c.specs.Damages as spec;
+
 use geom::Rect;
 
 /// A rect of the frame.
 #[repr(C)]
+#[derive(Clone, Copy)]
 pub struct DamageRect {
     /// The leftmost column.
     pub x: i32,
@@ -15,16 +19,27 @@ pub struct DamageRect {
     pub h: i32,
 }
 
+// A rect as C gets it.
+fn told(rect: Rect) -> DamageRect
+    ensures { result ≡ spec.told rect }
+{
+    DamageRect {
+        x: rect.x,
+        y: rect.y,
+        w: rect.w,
+        h: rect.h,
+    }
+}
+
 /// Writes as many rects as fit, and tells how many there are.
-pub(crate) fn told_damage(damage: &[Rect], to: &mut [DamageRect]) -> usize {
-    for i in 0..damage.len() {
-        if i < to.len() {
-            let rect = damage[i];
-            to[i].x = rect.x;
-            to[i].y = rect.y;
-            to[i].w = rect.w;
-            to[i].h = rect.h;
-        }
+#[tactic(auto, using(crate::proofs::WrittenRects::written_next, crate::proofs::WrittenRects::written_length, crate::proofs::WrittenRects::written_all))]
+pub(crate) fn told_damage(damage: &[Rect], to: &mut [DamageRect]) -> usize
+    ensures count { result ≡ length damage.now }
+    ensures rects { to.new ≡ spec.written damage.now to.old }
+{
+    let count = damage.len().min(to.len());
+    for i in 0..count {
+        to[i] = told(damage[i]);
     }
     damage.len()
 }

@@ -20,13 +20,14 @@ mod nodes;
 mod scrollers;
 mod status;
 
-ghost use Rattle.std.specs.Prelude.{◌≡◌, true, false};
+ghost use Rattle.std.specs.Prelude.{◌≡◌, ◌≤◌, ℕ, true, false, length, IfSome};
 ghost use Rattle.page_layers.specs.Pages.{IsView};
 ghost use Rattle.page_layers.specs.Hits as hits;
-ghost use Rattle.cc.specs.Compositors.{ShowsPage, offsets};
+ghost use Rattle.cc.specs.Compositors.{CompositorView, ShowsPage, offsets};
 ghost use Rattle.cc_c.specs.Copies.{rgba};
+ghost use Rattle.cc_c.specs.Damages.{written};
 ghost use Rattle.cc_c.specs.Edits.{TellsEdit};
-ghost use Rattle.cc_c.specs.Answers.{TellsCopy, TellsScroll, TellsWheel};
+ghost use Rattle.cc_c.specs.Answers.{IsNew, TellsNew, TellsReset, TellsCommit, TellsDraw, TellsCopy, TellsScroll, TellsWheel};
 ghost use Rattle.page_hit_test.specs.Wheels.{IsAmount};
 
 use crate::copying::copied;
@@ -46,23 +47,38 @@ use viz_canvas::Rgba;
 
 /// The version of this interface: the soname's number.
 #[unsafe(no_mangle)]
-pub extern "C" fn cc_version() -> u32 {
+pub extern "C" fn cc_version() -> u32
+    ensures { result ≡ 1 }
+{
     1
+}
+
+// Whether a number is in a range.
+fn is_within(n: u32, low: u32, high: u32) -> bool
+    ensures yes { result ≡ true → (low ≤ n) × (n ≤ high) }
+    ensures no { result ≡ false → low ≤ n → n ≤ high → ⊥ }
+{
+    low <= n && n <= high
 }
 
 // Whether a view is in its ranges.
 fn is_view(view: View) -> bool
-    ensures { result ≡ true → IsView view }
+    ensures yes { result ≡ true → IsView view }
+    ensures no { result ≡ false → IsView view → ⊥ }
 {
-    let wide = view.w >= 1 && view.w <= 2048;
-    let tall = view.h >= 1 && view.h <= 2048;
-    let cut = view.tile >= 16 && view.tile <= 256;
-    wide && tall && cut
+    if !is_within(view.w, 1, 2048) {
+        return false;
+    }
+    if !is_within(view.h, 1, 2048) {
+        return false;
+    }
+    is_within(view.tile, 16, 256)
 }
 
 // A compositor in memory of its own.
 fn made(alloc: Global, view: View, background: Colour, budget: usize) -> Option<Box<Held>>
     requires { IsView view }
+    ensures { IfSome result (λ page. IsNew view background page.value.compositor) }
 {
     let Ok(compositor) = Compositor::new(alloc, view, background, budget) else {
         return None;
@@ -81,7 +97,9 @@ pub extern "C" fn cc_new_(
     rgba: u32,
     budget: usize,
     out: &mut *mut u8,
-) -> u32 {
+) -> u32
+    ensures { TellsNew (record { w = w; h = h; tile = tile }) rgba result }
+{
     let view = View { w, h, tile };
     let Some(background) = colour_of(rgba) else {
         return BAD;
@@ -104,17 +122,24 @@ pub extern "C" fn cc_free(page: Handle) {
     drop(page.into_box());
 }
 
+// Starts the main page anew, where the view is in its ranges.
+fn renewed(page: &mut Compositor<Rgba>, view: View) -> u32
+    ensures { TellsReset page.old view page.new result }
+{
+    if !is_view(view) {
+        return BAD;
+    }
+    page.reset(view);
+    DONE
+}
+
 /// Starts the main page anew: BAD where the view is out of its ranges.
 #[unsafe(no_mangle)]
-pub extern "C" fn cc_reset_(page: Handle, w: u32, h: u32, tile: u32, out: &mut *mut u8) -> u32 {
+pub extern "C" fn cc_reset_(page: Handle, w: u32, h: u32, tile: u32, out: &mut *mut u8) -> u32
+    ensures { (new : CompositorView) × TellsReset page.value.compositor (record { w = w; h = h; tile = tile }) new result }
+{
     let mut page = page.into_box();
-    let view = View { w, h, tile };
-    let status = if is_view(view) {
-        page.compositor.reset(view);
-        DONE
-    } else {
-        BAD
-    };
+    let status = renewed(&mut page.compositor, View { w, h, tile });
     *out = given(page);
     status
 }
@@ -140,14 +165,23 @@ pub extern "C" fn cc_edit_(
     status
 }
 
-/// Shows what the commands made of the main page.
-#[unsafe(no_mangle)]
-pub extern "C" fn cc_commit_(page: Handle, out: &mut *mut u8) -> u32 {
-    let mut page = page.into_box();
-    let status = match page.compositor.commit() {
+// Makes the main page the active one.
+fn committed(page: &mut Compositor<Rgba>) -> u32
+    ensures { TellsCommit page.old page.new result }
+{
+    match page.commit() {
         Ok(()) => DONE,
         Err(_) => MEMORY,
-    };
+    }
+}
+
+/// Shows what the commands made of the main page.
+#[unsafe(no_mangle)]
+pub extern "C" fn cc_commit_(page: Handle, out: &mut *mut u8) -> u32
+    ensures { (new : CompositorView) × TellsCommit page.value.compositor new result }
+{
+    let mut page = page.into_box();
+    let status = committed(&mut page.compositor);
     *out = given(page);
     status
 }
@@ -301,30 +335,37 @@ pub extern "C" fn cc_is_changed_(page: Handle, out: &mut *mut u8) -> u32
     changed
 }
 
-/// Draws, and tells the rows that may have changed: those from `top` on that lie above `bottom`.
-#[unsafe(no_mangle)]
-pub extern "C" fn cc_draw_(
-    page: Handle,
-    top: &mut u32,
-    bottom: &mut u32,
-    out: &mut *mut u8,
-) -> u32 {
-    let mut page = page.into_box();
-    let status = match page.compositor.draw() {
+// Draws, and tells the rows that may have changed.
+fn drawn(page: &mut Compositor<Rgba>, top: &mut u32, bottom: &mut u32) -> u32
+    ensures { TellsDraw page.old (record { top = top.new; bottom = bottom.new }) page.new result }
+{
+    match page.draw() {
         Ok(rows) => {
             *top = rows.top;
             *bottom = rows.bottom;
             DONE
         }
         Err(_) => MEMORY,
-    };
+    }
+}
+
+/// Draws, and tells the rows that may have changed: those from `top` on that lie above `bottom`.
+#[unsafe(no_mangle)]
+pub extern "C" fn cc_draw_(page: Handle, top: &mut u32, bottom: &mut u32, out: &mut *mut u8) -> u32
+    ensures { (new : CompositorView) × TellsDraw page.value.compositor (record { top = top.new; bottom = bottom.new }) new result }
+{
+    let mut page = page.into_box();
+    let status = drawn(&mut page.compositor, top, bottom);
     *out = given(page);
     status
 }
 
 /// The rects that the last draw may have changed: as many as fit are written, and the answer is how many there are.
 #[unsafe(no_mangle)]
-pub extern "C" fn cc_damage_(page: Handle, rects: &mut [DamageRect], out: &mut *mut u8) -> usize {
+pub extern "C" fn cc_damage_(page: Handle, rects: &mut [DamageRect], out: &mut *mut u8) -> usize
+    ensures count { result ≡ length page.value.compositor.damage }
+    ensures rects { rects.new ≡ written page.value.compositor.damage rects.old }
+{
     let page = page.into_box();
     let count = told_damage(page.compositor.damage(), rects);
     *out = given(page);
