@@ -28,6 +28,13 @@ pub(crate) struct Draw {
     pub(crate) is_committed: bool,
 }
 
+// A place whose image a draw wants.
+#[derive(Clone, Copy)]
+struct Wanted {
+    place: Place,
+    draw: Draw,
+}
+
 // The key of a place of a layer.
 fn key_of(layer: &Layer, place: Place) -> TileKey
     ensures { result ≡ visible.key_at (λ _ _. 0) layer.now.id place }
@@ -102,21 +109,32 @@ fn note_use_at(active: &LayerTree, main: &LayerTree, kept: &mut Vec<KeptTile>, a
     }
 }
 
+// The key that an image made for a draw carries: its stamp tells it from those made before, so that two scenes are told
+// apart by their keys, and no display list is compared.
+fn stamped(layer: &Layer, wanted: Wanted) -> TileKey {
+    TileKey {
+        layer: layer.id,
+        x: wanted.place.x,
+        y: wanted.place.y,
+        stamp: (wanted.draw.number % 4294967296) as u32,
+    }
+}
+
 // The image of a place of a layer, made anew.
 fn made(
     alloc: Global,
     tree: &LayerTree,
     layer: &Layer,
-    place: Place,
+    wanted: Wanted,
 ) -> Result<Arc<TileImage>, AllocError>
     requires sized { IsLayerSide layer.now.w × IsLayerSide layer.now.h }
-    requires there { IsTrue (has (visible.grid_of tree.now (parts_of layer.now)) place) }
-    ensures { IfOk result (λ image. IsImageOf tree.now (parts_of layer.now) place image.value) }
+    requires there { IsTrue (has (visible.grid_of tree.now (parts_of layer.now)) wanted.place) }
+    ensures { IfOk result (λ image. IsImageOf tree.now (parts_of layer.now) wanted.place image.value) }
 {
     let list = Arc::try_clone(&layer.list)?;
-    let rect = grid_of(tree, layer).rect_of(place);
+    let rect = grid_of(tree, layer).rect_of(wanted.place);
     let job = Job {
-        key: key_of(layer, place),
+        key: stamped(layer, wanted),
         list,
         rect,
     };
@@ -172,26 +190,25 @@ fn made_and_kept(
     kept: &mut Vec<KeptTile>,
     at: usize,
     layer: &Layer,
-    place: Place,
-    draw: Draw,
+    wanted: Wanted,
 ) -> Result<Arc<TileImage>, AllocError>
     requires found { find (has_id layer.now.id) active.now.layers ≡ Some (parts_of layer.now) }
     requires sized { IsLayerSide layer.now.w × IsLayerSide layer.now.h }
-    requires there { IsTrue (has (visible.grid_of active.now (parts_of layer.now)) place) }
+    requires there { IsTrue (has (visible.grid_of active.now (parts_of layer.now)) wanted.place) }
     requires kept { AreKeptFor active.now kept.old.items }
     requires current { AreCurrent main.now kept.old.items }
-    requires same { draw.is_committed ≡ true → active.now ≡ main.now }
-    ensures image { IfOk result (λ image. IsImageAt active.now layer.now.id place image.value) }
+    requires same { wanted.draw.is_committed ≡ true → active.now ≡ main.now }
+    ensures image { IfOk result (λ image. IsImageAt active.now layer.now.id wanted.place image.value) }
     ensures kept { AreKeptFor active.now kept.new.items }
     ensures current { AreCurrent main.now kept.new.items }
 {
-    let image = made(alloc, active, layer, place)?;
+    let image = made(alloc, active, layer, wanted)?;
     let copy = Arc::try_clone(&image)?;
     let one = KeptTile {
-        key: key_of(layer, place),
+        key: key_of(layer, wanted.place),
         image: copy,
-        is_stale: !draw.is_committed,
-        used: draw.number,
+        is_stale: !wanted.draw.is_committed,
+        used: wanted.draw.number,
     };
     match keep(active, main, kept, at, one) {
         Ok(()) => Ok(image),
@@ -207,27 +224,26 @@ fn image_for(
     main: &LayerTree,
     kept: &mut Vec<KeptTile>,
     layer: &Layer,
-    place: Place,
-    draw: Draw,
+    wanted: Wanted,
 ) -> Result<Arc<TileImage>, AllocError>
     requires found { find (has_id layer.now.id) active.now.layers ≡ Some (parts_of layer.now) }
     requires sized { IsLayerSide layer.now.w × IsLayerSide layer.now.h }
-    requires there { IsTrue (has (visible.grid_of active.now (parts_of layer.now)) place) }
+    requires there { IsTrue (has (visible.grid_of active.now (parts_of layer.now)) wanted.place) }
     requires kept { AreKeptFor active.now kept.old.items }
     requires current { AreCurrent main.now kept.old.items }
-    requires same { draw.is_committed ≡ true → active.now ≡ main.now }
-    ensures image { IfOk result (λ image. IsImageAt active.now layer.now.id place image.value) }
+    requires same { wanted.draw.is_committed ≡ true → active.now ≡ main.now }
+    ensures image { IfOk result (λ image. IsImageAt active.now layer.now.id wanted.place image.value) }
     ensures kept { AreKeptFor active.now kept.new.items }
     ensures current { AreCurrent main.now kept.new.items }
 {
-    let key = key_of(layer, place);
+    let key = key_of(layer, wanted.place);
     let at = kept.partition_point(|one| one.key < key);
     match image_at(active, kept.as_slice(), at, key)? {
         Some(image) => {
-            note_use_at(active, main, kept, at, draw.number);
+            note_use_at(active, main, kept, at, wanted.draw.number);
             Ok(image)
         }
-        None => made_and_kept(alloc, active, main, kept, at, layer, place, draw),
+        None => made_and_kept(alloc, active, main, kept, at, layer, wanted),
     }
 }
 
@@ -251,7 +267,6 @@ fn push_tile(
 
 // Adds the tiles of these places of a layer, kept or made.
 fn push_places(
-    alloc: Global,
     active: &LayerTree,
     main: &LayerTree,
     kept: &mut Vec<KeptTile>,
@@ -272,8 +287,13 @@ fn push_places(
     ensures kept { AreKeptFor active.now kept.new.items }
     ensures current { AreCurrent main.now kept.new.items }
 {
+    let alloc = *tiles.allocator();
     for place in places {
-        match image_for(alloc, active, main, kept, layer, *place, draw) {
+        let wanted = Wanted {
+            place: *place,
+            draw,
+        };
+        match image_for(alloc, active, main, kept, layer, wanted) {
             Ok(image) => push_tile(active, tiles, key_of(layer, *place), image)?,
             Err(refused) => return Err(refused),
         }
@@ -306,7 +326,6 @@ fn tiles_in(
     for one in layers {
         let places = visible_places(alloc, active, offsets, one.layer)?;
         push_places(
-            alloc,
             active,
             main,
             kept,
