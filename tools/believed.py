@@ -6,10 +6,10 @@ usage: tools/believed.py [--words] [--of CRATE/FILE:FUNCTION] [--word WORD | --t
 It begins with the names in the `ensures` clauses of the function (player_run/program.rt:run if none is named) and
 follows each to its definition, by the `ghost use` lines of the source and the `use` lines of the specs, and so on
 through the names in those definitions. It prints each file of specs/ with the lines of it that count, and the whole
-in lines and in pages of 50 lines; with --words each word too. With --word step (play, gen, demo, film, shot, frames, check) it
-leaves out the cases of the program's other words; --table writes a row for each of them. It fails where a word that
-the clauses themselves name does not stand in docs/DEFINITIONS.md, where the files that `step` rests on are not those
-of its table, or where a name leads nowhere.
+in lines and in pages of 50 lines; with --words each word too. With --word step (play, gen, demo, film, shot, serve,
+frames, check) it leaves out the cases of the program's other words; --table writes a row for each of them. It fails
+where a word that the clauses themselves name does not stand in docs/DEFINITIONS.md, where the files that `step` rests
+on are not those of its table, or where a name leads nowhere.
 """
 import argparse
 import collections
@@ -23,7 +23,10 @@ PAGE = 50
 # The call whose contract is the theorem.
 RUN = "player_run/program.rt:run"
 # The words of the program, as cases of the type `Use` name them.
-WORDS = ("Step", "Play", "Gen", "Demo", "Film", "Shot", "Frames", "Check")
+WORDS = ("Step", "Play", "Gen", "Demo", "Film", "Shot", "Serve", "Frames", "Check")
+
+# What a clause says `OnServe`: of the words `serve N` alone.
+OF_SESSIONS = re.compile(r"(\{ OnServe \(.*?\)) \(λ.*\}")
 
 USE = re.compile(r"^(?:ghost )?(?:pub )?use Rattle\.(\w+)\.(\w+)\.([\w.]+?)(?:\.\{([^}]*)\}| as (\w+))?;?$")
 HEAD = re.compile(r"^(?:(?:abbrev|unfoldable|unfolding|irreducible|strict|pub|priv)\s+)*(?:(record|data)\s+)?(?:pub\s+)?([^\s:(){}]+)\s*(?=[:(\s{])")
@@ -160,16 +163,17 @@ class World:
                 self.follow(item)
 
     def cases_of(self, item, module):
-        """The text of a definition, without the cases of the program's other words."""
-        others = [it for it in WORDS if it != self.word and module.names.get(it, ((0, 0, ""), 0))[0][2].endswith("words.Use.TheVariants")]
+        """The text of a definition, without the cases of the program's other words. What a session answers is told by those of `step`."""
+        kept = (self.word, "Step") if self.word == "Serve" else (self.word,)
+        others = [it for it in WORDS if it not in kept and module.names.get(it, ((0, 0, ""), 0))[0][2].endswith("words.Use.TheVariants")]
         if not self.word or not others:
             return item.text
         head = re.compile(rf"{re.escape(item.name)} (\S+ )*?\(?({'|'.join(others)})\b")
-        kept, is_other = [], False
+        lines, is_other = [], False
         for line in item.text.split("\n"):
             is_other = bool(head.match(line.partition(" = ")[0] + " ")) or (is_other and line.startswith(" "))
-            kept += [line] * (not is_other)
-        return "\n".join(kept)
+            lines += [line] * (not is_other)
+        return "\n".join(lines)
 
     def by_file(self):
         """The definitions that were found, by the file of specs/ that they stand in."""
@@ -218,6 +222,8 @@ def lines_of(items):
 def world_of(word, text, names, short):
     """The definitions that these clauses rest on; for one word of the program where it is named."""
     world = World(word)
+    if word not in (None, "Serve"):
+        text = OF_SESSIONS.sub(r"\1 }", text)
     world.names_in(text, names, short, {})
     return world
 

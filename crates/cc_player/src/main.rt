@@ -3,6 +3,7 @@
 #![tactic(auto)]
 
 use player_io::{OpenGate, Sink, StdSink, StdSource};
+use player_lines::{Ends, Session};
 use player_run::run;
 use std::alloc::{AllocError, Global};
 use std::env::{Env, FillError};
@@ -16,6 +17,7 @@ usage: cc_player step N < SCRIPT > RECORDING
        cc_player play N < SCRIPT > RECORDING
        cc_player film N < SCRIPT > PICTURES
        cc_player shot N < SCRIPT > FILE.png
+       cc_player serve N < SCRIPTS > ANSWERS
        cc_player frames < RECORDING > PICTURES
        cc_player check < RECORDING
        cc_player gen NUMBER > SCRIPT
@@ -30,6 +32,9 @@ usage: cc_player step N < SCRIPT > RECORDING
                the other, each a raw portable pixmap (P6): as step N | frames, for runs of any length
   shot N       reads a script, plays it as step N does and writes the picture of its last draw as a PNG
                file; a script without inputs is played to the picture of its last main frame
+  serve N      reads scripts, one a line, and answers each before it reads more: its recording in
+               pieces, each after a line data B with the number of its bytes, then a line ok K for
+               line K, counted from 0; or no K S: with the status S, and why
   frames       reads a recording from standard input and writes its pictures to standard output,
                one behind the other, each a raw portable pixmap (P6)
   check        reads a recording from standard input and judges it without the engine: whether its
@@ -58,6 +63,7 @@ example: cc_player step 1 < examples/first.json > first.rec
          cc_player frames < first.rec > first.ppm
          cc_player film 4 < examples/page.json > page.ppm
          cc_player shot 4 < examples/page.json > page.png
+         cc_player serve 4 < scripts.jsonl
          cc_player gen 7 | cc_player step 4 > seven.rec
 ";
 
@@ -114,6 +120,8 @@ fn main(rt: HostRuntime) -> ExitCode {
         };
     }
     let mut source = StdSource::new(rt.stdin());
+    let ends = Ends::new(StdSource::new(rt.stdin()), StdSink::new(rt.stdout()));
+    let mut session = Session::new(ends);
     let outcome = run(
         &rt,
         rt.alloc(),
@@ -122,6 +130,7 @@ fn main(rt: HostRuntime) -> ExitCode {
         &mut out,
         &mut notes,
         &OpenGate,
+        &mut session,
     );
     ExitCode::from(outcome.status())
 }

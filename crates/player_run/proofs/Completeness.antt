@@ -16,7 +16,7 @@ use Rattle.recording_check.proofs.OneReading.{not_bad}
 use Rattle.player_run.specs.declared.outcome.Outcome.{Outcome}
 use Rattle.player_run.specs.declared.outcome.Outcome.TheVariants.{Done, Usage, Json, Shape, Script, ReadFault, WriteFault, TooLong, BadRecording, No, Memory, NoPicture}
 use Rattle.player_run.specs.declared.words.Use.{Use}
-use Rattle.player_run.specs.declared.words.Use.TheVariants.{Step, Play, Gen, Demo, Film, Shot, Frames, Check}
+use Rattle.player_run.specs.declared.words.Use.TheVariants.{Step, Play, Gen, Demo, Film, Shot, Frames, Check, Serve}
 use Rattle.recording_writer.specs.Films.{IsLastImage}
 use Rattle.player_run.specs.Shots.{with_shot}
 use Rattle.player_run.proofs.ShotsTaken.{one_last_image}
@@ -104,6 +104,7 @@ not_refused (Film workers) bytes result takes refused = script_taken workers byt
 not_refused (Shot workers) bytes result takes refused = shot_taken workers bytes result takes refused
 not_refused Frames bytes result takes refused = recording_taken bytes result takes refused
 not_refused Check bytes result takes refused = history_taken bytes result takes refused
+not_refused (Serve workers) bytes result takes refused = refused
 
 -- all is done, or there was no memory
 abbrev IsDone : Outcome → Type 0
@@ -155,6 +156,8 @@ complete_use Frames None a b c e result fits cause faults = tt
 complete_use Frames (Some bytes) a b c e result fits cause faults = λ takes calm_source calm_out. done Frames bytes a b c e result fits cause faults takes calm_source calm_out
 complete_use Check None a b c e result fits cause faults = tt
 complete_use Check (Some bytes) a b c e result fits cause faults = λ takes calm_source calm_out. done Check bytes a b c e result fits cause faults takes calm_source calm_out
+complete_use (Serve workers) None a b c e result fits cause faults = tt
+complete_use (Serve workers) (Some bytes) a b c e result fits cause faults = tt
 
 pub complete : (asked : Result Use ℕ) (source : Option (List ℕ)) (source_old source_new out_old out_new : ℕ) (result : Outcome) → TellsMisfit asked result → IfOk asked (λ wanted. CauseFrom wanted source result) → Causes source_old source_new out_old out_new result
     → IfOk asked (λ wanted. IsComplete wanted source source_old source_new out_old out_new result)

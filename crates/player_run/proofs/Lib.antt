@@ -17,3 +17,5 @@ pub mod EndsOfRuns
 pub mod PlayedRuns
 pub mod ScriptsActed
 pub mod WrittenWholes
+pub mod ServedLines
+pub mod ServedWords

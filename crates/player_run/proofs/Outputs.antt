@@ -4,7 +4,7 @@ use Rattle.std.specs.Prelude.{Option}
 use Rattle.player_run.specs.declared.outcome.Outcome.{Outcome}
 use Rattle.player_run.specs.declared.outcome.Outcome.TheVariants.{Done, Usage, Json, Shape, Script, ReadFault, WriteFault, TooLong, BadRecording, No, Memory, NoPicture}
 use Rattle.player_run.specs.declared.words.Use.{Use}
-use Rattle.player_run.specs.declared.words.Use.TheVariants.{Step, Play, Gen, Demo, Film, Shot, Frames, Check}
+use Rattle.player_run.specs.declared.words.Use.TheVariants.{Step, Play, Gen, Demo, Film, Shot, Frames, Check, Serve}
 use Rattle.player_run.specs.inner.Outputs.{WritesSome}
 use Rattle.player_run.specs.Runs.{TellsMisfit, IsUnread, IsOutput, IsBegun, Writes}
 
@@ -48,6 +48,7 @@ begun_is (Film workers) source whole is = is
 begun_is (Shot workers) source whole is = is
 begun_is Frames source whole is = is
 begun_is Check source whole is = is
+begun_is (Serve workers) source whole is = is
 
 -- the sink gained what the use writes
 pub some_output : (P : List ℕ → Type 0) (wanted : Use) (source old new : Option (List ℕ)) (o : Outcome) → ((whole : List ℕ) → P whole → IsOutput wanted source whole) → WritesSome P old new o → Writes wanted source old new o

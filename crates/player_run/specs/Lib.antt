@@ -4,4 +4,5 @@ pub mod Promises
 pub mod Demos
 pub mod Shots
 pub mod Runs
+pub mod Served
 pub mod inner

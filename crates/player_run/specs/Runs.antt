@@ -24,7 +24,7 @@ use Rattle.script_generator.specs.Generated.{script_of_number}
 use Rattle.player_run.specs.declared.outcome.Outcome.{Outcome}
 use Rattle.player_run.specs.declared.outcome.Outcome.TheVariants.{Done, Usage, Json, Shape, Script, ReadFault, WriteFault, TooLong, BadRecording, No, Memory, NoPicture}
 use Rattle.player_run.specs.declared.words.Use.{Use}
-use Rattle.player_run.specs.declared.words.Use.TheVariants.{Step, Play, Gen, Demo, Film, Shot, Frames, Check}
+use Rattle.player_run.specs.declared.words.Use.TheVariants.{Step, Play, Gen, Demo, Film, Shot, Frames, Check, Serve}
 use Rattle.player_run.specs.Promises.{IsSoundHistory, IsPlayed, IsPromised}
 use Rattle.player_run.specs.Demos.{demo_line}
 use Rattle.player_run.specs.Shots.{with_shot, HasPicture}
@@ -65,6 +65,7 @@ Takes (Film workers) bytes = (length bytes ≤ script_limit) × IsAcceptedText b
 Takes (Shot workers) bytes = (length bytes ≤ script_limit) × IsPictureText bytes
 Takes Frames bytes = (length bytes ≤ recording_limit) × IsRecordingText bytes
 Takes Check bytes = (length bytes ≤ recording_limit) × IsLegalRecording 16 bytes
+Takes (Serve workers) bytes = ⊤
 
 -- why bytes are refused as a script: a value that is no script is told by its first fault; a script of which a command is refused by the first such command
 abbrev pub RefusedScript : List ℕ → Outcome → Type 0
@@ -103,6 +104,7 @@ Refused (Film workers) bytes result = RefusedScript bytes result
 Refused (Shot workers) bytes result = RefusedShot bytes result
 Refused Frames bytes result = RefusedRecording bytes result
 Refused Check bytes result = RefusedHistory bytes result
+Refused (Serve workers) bytes result = ⊥
 
 -- why this is the answer of a use where the source has these bytes
 abbrev pub CauseOf : Use → List ℕ → Outcome → Type 0
@@ -119,6 +121,11 @@ IsUnread Done = ⊤
 IsUnread WriteFault = ⊤
 IsUnread Memory = ⊤
 IsUnread _ = ⊥
+
+-- the answers of a session with a client
+abbrev pub AnswersSession : Outcome → Type 0
+AnswersSession ReadFault = ⊤
+AnswersSession result = IsUnread result
 
 -- the answers of a use that reads a script
 abbrev pub AnswersScript : Outcome → Type 0
@@ -157,11 +164,13 @@ MayAnswer (Film workers) result = AnswersScript result
 MayAnswer (Shot workers) result = AnswersShot result
 MayAnswer Frames result = AnswersImages result
 MayAnswer Check result = AnswersJudged result
+MayAnswer (Serve workers) result = AnswersSession result
 
 -- why this is the answer of a use: for a use that reads, where the source tells its bytes
 abbrev pub CauseFrom : Use → Option (List ℕ) → Outcome → Type 0
 CauseFrom (Gen number) source result = IsUnread result
 CauseFrom (Demo number) source result = IsUnread result
+CauseFrom (Serve workers) source result = AnswersSession result
 CauseFrom wanted source result = IfSome source (λ bytes. CauseOf wanted bytes result)
 
 -- at most the given number of bytes were taken of a source
@@ -178,6 +187,7 @@ Reads (Film workers) old new = TakenAtMost (script_limit + 1) old new
 Reads (Shot workers) old new = TakenAtMost (script_limit + 1) old new
 Reads Frames old new = TakenAtMost (recording_limit + 1) old new
 Reads Check old new = TakenAtMost (recording_limit + 1) old new
+Reads (Serve workers) old new = new ≡ old
 
 -- bytes are judged only where the source was read to its end
 abbrev pub IsJudgedWhole : Option (List ℕ) → Outcome → Type 0
@@ -197,6 +207,7 @@ ReadToEnd (Film workers) left result = IsJudgedWhole left result
 ReadToEnd (Shot workers) left result = IsJudgedWhole left result
 ReadToEnd Frames left result = IsJudgedWhole left result
 ReadToEnd Check left result = IsJudgedWhole left result
+ReadToEnd (Serve workers) left result = ⊤
 
 -- a script that is accepted, as some JSON value says it and the blank page takes its main frames, and that the source had, where it tells its bytes
 abbrev pub IsScriptFrom : Option (List ℕ) → ScriptModel → Type 0
@@ -223,7 +234,7 @@ abbrev pub AreImagesFrom : Option (List ℕ) → List ℕ → Type 0
 AreImagesFrom source whole =
     (bytes : List ℕ) × IfSome source (λ had. had ≡ bytes) × (s : ScriptModel) × (ps : List Piece) × IsRecording bytes s ps × (whole ≡ images_text ps)
 
--- what a use writes in all: the recording of the script; the canonical text of a number's script, and a newline; the line that sums up its recording; the images of a script's run; the file of the last image of its shot; the images of the recording; or nothing
+-- what a use writes in all: the recording of the script; the canonical text of a number's script, and a newline; the line that sums up its recording; the images of a script's run; the file of the last image of its shot; the images of the recording; or nothing, as a session writes to its client
 abbrev pub IsOutput : Use → Option (List ℕ) → List ℕ → Type 0
 IsOutput (Step workers) source whole = (s : ScriptModel) × IsScriptFrom source s × IsRunOf workers s whole
 IsOutput (Play workers) source whole = (s : ScriptModel) × IsScriptFrom source s × IsPlayOf workers s whole
@@ -233,6 +244,7 @@ IsOutput (Film workers) source whole = (s : ScriptModel) × IsScriptFrom source 
 IsOutput (Shot workers) source whole = (s : ScriptModel) × IsScriptFrom source s × IsShot (with_shot s) (Some whole)
 IsOutput Frames source whole = AreImagesFrom source whole
 IsOutput Check source whole = whole ≡ []
+IsOutput (Serve workers) source whole = whole ≡ []
 
 -- what a use was writing where it stopped: all that it writes; but actors may have given a run up before its end
 abbrev pub IsBegun : Use → Option (List ℕ) → List ℕ → Type 0
@@ -266,5 +278,16 @@ IsDoneIfCalm source_old source_new out_old out_new result =
 abbrev pub IsComplete : Use → Option (List ℕ) → ℕ → ℕ → ℕ → ℕ → Outcome → Type 0
 IsComplete (Gen number) source source_old source_new out_old out_new result = IsDoneIfCalm source_old source_new out_old out_new result
 IsComplete (Demo number) source source_old source_new out_old out_new result = IsDoneIfCalm source_old source_new out_old out_new result
+IsComplete (Serve workers) source source_old source_new out_old out_new result = ⊤
 IsComplete wanted source source_old source_new out_old out_new result =
     IfSome source (λ bytes. Takes wanted bytes → IsDoneIfCalm source_old source_new out_old out_new result)
+
+-- what is said of source and sink, where the words are others than `serve N`: a session has a client
+abbrev pub UnlessServe : Result Use ℕ → Type 0 → Type 0
+UnlessServe (Ok (Serve workers)) Said = ⊤
+UnlessServe _ Said = Said
+
+-- what is said of a session, where the words are `serve N`
+abbrev pub OnServe : Result Use ℕ → (ℕ → Type 0) → Type 0
+OnServe (Ok (Serve workers)) Said = Said workers
+OnServe _ Said = ⊤

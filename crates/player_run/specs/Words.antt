@@ -1,8 +1,8 @@
--- Which words the program takes, and what they ask for: `step N`, `play N`, `gen NUMBER`, `demo NUMBER`, `film N`, `shot N`, `frames`, `check`.
+-- Which words the program takes, and what they ask for: `step N`, `play N`, `gen NUMBER`, `demo NUMBER`, `film N`, `shot N`, `serve N`, `frames`, `check`.
 use Rattle.std.specs.Prelude.{ℕ, Bool, true, false, ◌+◌, ◌-◌, ◌*◌, ◌^◌, ◌&&◌, nat_le, nat_lt, List, [], ◌∷◌, Option, Some, None, option_and_then, Result, Ok, Err, codes, decimal, if◌then◌else◌}
 use Rattle.std.specs.Str.{bytes_eq}
 use Rattle.player_run.specs.declared.words.Use.{Use}
-use Rattle.player_run.specs.declared.words.Use.TheVariants.{Step, Play, Gen, Demo, Film, Shot, Frames, Check}
+use Rattle.player_run.specs.declared.words.Use.TheVariants.{Step, Play, Gen, Demo, Film, Shot, Frames, Check, Serve}
 
 -- what the digits of a word say, where those before them say n
 abbrev pub digits_value : ℕ → List ℕ → ℕ
@@ -28,7 +28,7 @@ abbrev pub numbered : Option ℕ → (ℕ → Use) → List (List ℕ) → Resul
 numbered None wanted ws = Err 1
 numbered (Some n) wanted ws = no_more_words (wanted n) 2 ws
 
--- after `step`, `play`, `film` and `shot` stands a number of raster workers, after `gen` and `demo` that of which the script is made
+-- after `step`, `play`, `film`, `shot` and `serve` stands a number of raster workers, after `gen` and `demo` that of which the script is made
 abbrev pub with_number : (List ℕ → Option ℕ) → (ℕ → Use) → List (List ℕ) → Result Use ℕ
 with_number said_by wanted [] = Err 1
 with_number said_by wanted (w ∷ ws) = numbered (said_by w) wanted ws
@@ -42,7 +42,8 @@ after_other w ws =
     else (if bytes_eq w (codes "film") then with_number workers_in Film ws
     else (if bytes_eq w (codes "shot") then with_number workers_in Shot ws
     else (if bytes_eq w (codes "frames") then no_more_words Frames 1 ws
-    else (if bytes_eq w (codes "check") then no_more_words Check 1 ws else Err 0))))))
+    else (if bytes_eq w (codes "check") then no_more_words Check 1 ws
+    else (if bytes_eq w (codes "serve") then with_number workers_in Serve ws else Err 0)))))))
 
 -- what the words ask for; or the index of the first word that, with those before it, begins no use, and
 -- where there is no such word and more words are needed, their count
@@ -59,3 +60,24 @@ is_play _ = false
 abbrev pub asks_play : Result Use ℕ → Bool
 asks_play (Ok wanted) = is_play wanted
 asks_play (Err word) = false
+
+-- the use is `serve N`, the only one that talks with a client
+abbrev pub is_serve : Use → Bool
+is_serve (Serve workers) = true
+is_serve _ = false
+
+-- the words are those of `serve N`
+abbrev pub asks_serve : Result Use ℕ → Bool
+asks_serve (Ok wanted) = is_serve wanted
+asks_serve (Err word) = false
+
+-- the use is one of these two
+abbrev pub needs_more : Use → Bool
+needs_more (Play workers) = true
+needs_more (Serve workers) = true
+needs_more _ = false
+
+-- the words are those of one of them
+abbrev pub asks_more : Result Use ℕ → Bool
+asks_more (Ok wanted) = needs_more wanted
+asks_more (Err word) = false

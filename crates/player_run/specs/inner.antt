@@ -8,3 +8,4 @@ pub mod Shots
 pub mod Summaries
 pub mod Uses
 pub mod Actors
+pub mod Faults

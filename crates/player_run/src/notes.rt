@@ -91,8 +91,8 @@ fn text_line(text: &'static [u8]) -> [Fragment; 9]
     short_line(Fragment::Text(text), NOTHING, NOTHING)
 }
 
-// The line of an outcome.
-fn line(outcome: Outcome) -> [Fragment; 9]
+/// The line of an outcome.
+pub(crate) fn line(outcome: Outcome) -> [Fragment; 9]
     ensures { flat_map fragment_text result ≡ line_of outcome }
 {
     match outcome {

@@ -14,8 +14,8 @@ use std::alloc::Global;
 /// The greatest number of bytes of a script.
 pub const SCRIPT_LIMIT: usize = 16777216;
 
-// The script in a text, or why there is none.
-fn script_in(alloc: Global, bytes: &[u8]) -> Result<Script, Outcome>
+/// The script in a text, or why there is none.
+pub(crate) fn script_in(alloc: Global, bytes: &[u8]) -> Result<Script, Outcome>
     requires { length bytes.now ≤ script_limit }
     ensures script { ScriptIn bytes.now result }
     ensures answers { IfErr result AnswersScript }

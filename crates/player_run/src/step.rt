@@ -43,8 +43,8 @@ pub(crate) fn play_lockstep<R: Threads + Sync, K: Sink>(
     }
 }
 
-// The same, where the script is not shared yet.
-fn play<R: Threads + Sync, K: Sink>(
+/// The same, where the script is not shared yet.
+pub(crate) fn play<R: Threads + Sync, K: Sink>(
     rt: &R,
     alloc: Global,
     script: Script,

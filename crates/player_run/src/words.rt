@@ -45,6 +45,11 @@ pub enum Use {
     Frames,
     /// `check`: judges a recording without the core and what draws.
     Check,
+    /// `serve N`: answers each line of a client, which is a script, with its recording.
+    Serve {
+        /// How many raster workers there are, 1 to 16. The answers are the same for every number.
+        workers: u32,
+    },
 }
 
 impl Use {
@@ -58,6 +63,27 @@ impl Use {
         match self {
             Use::Play { workers } => Some(workers),
             Use::Step { .. }
+            | Use::Gen { .. }
+            | Use::Demo { .. }
+            | Use::Film { .. }
+            | Use::Shot { .. }
+            | Use::Frames
+            | Use::Check
+            | Use::Serve { .. } => None,
+        }
+    }
+
+    // The number of raster workers of `serve N`; None for other uses.
+    fn servers(self) -> Option<u32>
+        requires { IsFew self }
+        ensures serve { is_some result ≡ words.is_serve self }
+        ensures workers { IfSome result (λ workers. self ≡ Use.Serve workers) }
+        ensures few { IfSome result (λ workers. (1 ≤ workers) × (workers ≤ 16)) }
+    {
+        match self {
+            Use::Serve { workers } => Some(workers),
+            Use::Step { .. }
+            | Use::Play { .. }
             | Use::Gen { .. }
             | Use::Demo { .. }
             | Use::Film { .. }
@@ -194,6 +220,19 @@ fn after_shot(rest: &[String]) -> Result<Use, u32>
     }
 }
 
+// What the words after `serve` ask for, or the index of the first that does not fit.
+fn after_serve(rest: &[String]) -> Result<Use, u32>
+    ensures { result ≡ words.with_number words.workers_in Use.Serve (map string_bytes rest.now) }
+{
+    let [word, more @ ..] = rest else {
+        return Err(1);
+    };
+    match workers_of(word.as_str()) {
+        Some(workers) => no_more(Use::Serve { workers }, 2, more),
+        None => Err(1),
+    }
+}
+
 // What the words after `gen` ask for, or the index of the first that does not fit.
 fn after_gen(rest: &[String]) -> Result<Use, u32>
     ensures { result ≡ words.with_number words.number_in Use.Gen (map string_bytes rest.now) }
@@ -239,6 +278,8 @@ fn after_other(first: &str, rest: &[String]) -> Result<Use, u32>
         no_more(Use::Frames, 1, rest)
     } else if is_same(first, "check") {
         no_more(Use::Check, 1, rest)
+    } else if is_same(first, "serve") {
+        after_serve(rest)
     } else {
         Err(0)
     }
@@ -265,6 +306,18 @@ pub fn players(given: &[String]) -> Option<u32>
 {
     match use_of(given) {
         Ok(wanted) => wanted.players(),
+        Err(_) => None,
+    }
+}
+
+/// The number of raster workers of `serve N`; None where the words are others.
+pub fn servers(given: &[String]) -> Option<u32>
+    ensures serve { is_some result ≡ words.asks_serve (words.use_of (map string_bytes given.now)) }
+    ensures workers { IfSome result (λ workers. words.use_of (map string_bytes given.now) ≡ Ok (Use.Serve workers)) }
+    ensures few { IfSome result (λ workers. (1 ≤ workers) × (workers ≤ 16)) }
+{
+    match use_of(given) {
+        Ok(wanted) => wanted.servers(),
         Err(_) => None,
     }
 }

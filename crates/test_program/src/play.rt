@@ -3,6 +3,7 @@
 use crate::case::{Call, Case, InjectedFault};
 use crate::output::Short;
 use player_io::{MemSink, MemSource, OpenGate};
+use player_lines::{Ends, Session};
 use player_run::{Outcome, run, run_alone};
 use std::alloc::{AllocError, Global};
 use std::fmt;
@@ -80,6 +81,12 @@ fn notes_of(alloc: Global, case: &Case) -> MemSink {
     }
 }
 
+/// A session with a client that says nothing.
+fn silent(alloc: Global) -> Session<Ends<MemSource, MemSink>> {
+    let source = MemSource::new(Vec::new(alloc), 1, Vec::new(alloc));
+    Session::new(Ends::new(source, MemSink::endless(alloc)))
+}
+
 /// A run with this word over these bytes, with ample room.
 fn run_over<R: Threads + Wait + Sync>(
     rt: &R,
@@ -100,6 +107,7 @@ fn run_over<R: Threads + Wait + Sync>(
         &mut out,
         &mut notes,
         &OpenGate,
+        &mut silent(alloc),
     );
     Ok((outcome, out))
 }
@@ -129,9 +137,53 @@ fn called<R: Threads + Wait + Sync>(
 ) -> Option<Outcome> {
     let words = case.words.as_slice();
     match case.call {
-        Call::Run => Some(run(rt, alloc, words, source, out, notes, &OpenGate)),
+        Call::Run => Some(run(
+            rt,
+            alloc,
+            words,
+            source,
+            out,
+            notes,
+            &OpenGate,
+            &mut silent(alloc),
+        )),
         Call::Alone | Call::Declined => run_alone(rt, alloc, words, source, out, notes),
     }
+}
+
+/// Whether the words of a case ask for a session.
+fn is_served(case: &Case) -> bool {
+    case.call == Call::Run
+        && case
+            .words
+            .first()
+            .is_some_and(|word| word.as_str() == "serve")
+}
+
+/// Makes a session with a client that gives what the source gives, and takes what the sink takes. The source and the
+/// sink of the run are empty, and have to stay so.
+fn served<R: Threads + Wait + Sync>(
+    rt: &R,
+    alloc: Global,
+    case: &Case,
+    source: MemSource,
+    out: MemSink,
+    notes: &mut MemSink,
+) -> (Outcome, MemSink) {
+    let mut session = Session::new(Ends::new(source, out));
+    let mut no_source = MemSource::new(Vec::new(alloc), 1, Vec::new(alloc));
+    let mut no_out = MemSink::new(alloc, 0, Vec::new(alloc));
+    let outcome = run(
+        rt,
+        alloc,
+        case.words.as_slice(),
+        &mut no_source,
+        &mut no_out,
+        notes,
+        &OpenGate,
+        &mut session,
+    );
+    (outcome, session.into_client().into_out())
 }
 
 /// The run of this number.
@@ -145,6 +197,15 @@ pub fn play<R: Threads + Wait + Sync>(
     let mut source = source_of(alloc, case, input, number)?;
     let mut out = sink_of(alloc, case, number)?;
     let mut notes = notes_of(alloc, case);
+    if is_served(case) {
+        let (outcome, out) = served(rt, alloc, case, source, out, &mut notes);
+        return Ok(RunOutput {
+            outcome: Some(outcome),
+            out,
+            notes,
+            accepted: true,
+        });
+    }
     let outcome = called(rt, alloc, case, &mut source, &mut out, &mut notes);
     let mut accepted = true;
     if case.recording {

@@ -1,6 +1,7 @@
 //! Runs of the program over sources in memory.
 
 use player_io::{Gate, MemSink, MemSource, Sink};
+use player_lines::{Ends, Session};
 use player_run::{Outcome, run};
 use std::alloc::{AllocError, Global};
 use std::marker::Send;
@@ -22,6 +23,8 @@ pub fn run_over<R: Threads + Wait + Sync, K: Sink + Send, G: Gate + Sync>(
     }
     let mut source = MemSource::new(Vec::from_slice(alloc, input)?, 4096, Vec::new(alloc));
     let mut notes = MemSink::endless(alloc);
+    let silent = MemSource::new(Vec::new(alloc), 1, Vec::new(alloc));
+    let mut session = Session::new(Ends::new(silent, MemSink::endless(alloc)));
     Ok(run(
         rt,
         alloc,
@@ -30,5 +33,6 @@ pub fn run_over<R: Threads + Wait + Sync, K: Sink + Send, G: Gate + Sync>(
         out,
         &mut notes,
         gate,
+        &mut session,
     ))
 }

@@ -1,0 +1,17 @@
+-- What was played is what the line is answered.
+use Rattle.std.proofs.Common.{rules, ◌≡◌, true, false}
+use Rattle.player_run.specs.inner.Faults.{is_write_fault}
+use Rattle.player_run.proofs.ServedLines.{played_failed, played_answer}
+use Rattle.player_run.proofs.line_player.LinePlayer.play_line.Goals as goal
+
+pub returns-then-is_torn-clause-answered : goal.returns-then-is_torn-clause-answered
+returns-then-is_torn-clause-answered g c = λ line short text accepted. played_failed _ _ _ line _ _ _ _ _ c.play-outcome.result _ c.requires short text accepted c.play-outcome.ensures.plays
+
+pub returns-then-is_fault-clause-answered : goal.returns-then-is_fault-clause-answered
+returns-then-is_fault-clause-answered g c = λ line short text accepted. played_failed _ _ _ line _ _ _ _ _ c.play-outcome.result _ c.requires short text accepted c.play-outcome.ensures.plays
+
+pub returns-clause-answered : goal.returns-clause-answered
+returns-clause-answered g c =
+    let whole : c.play-outcome.new.out.torn ≡ false = search rules in
+    let calm : is_write_fault c.play-outcome.result ≡ false = search rules in
+    λ line short text accepted. played_answer _ _ line _ _ _ _ _ _ c.play-outcome.result c.put_verdict.result c.requires whole calm short text accepted c.play-outcome.ensures.plays c.put_verdict.ensures.said

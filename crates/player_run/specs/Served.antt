@@ -1,0 +1,52 @@
+-- What `serve N` answers a line, and what a session with a client was.
+use Rattle.std.specs.Prelude.{◌≡◌, ℕ, Bool, List, [], ◌∷◌, ◌++◌, codes, decimal, flat_map, ⊤, Option, Some}
+use Rattle.player_lines.specs.Sessions.{Act, AtOnce, IsAnswered, IsBegun, IsEnded, frame, Has, HasFailed, IsNew}
+use Rattle.player_run.specs.declared.outcome.Outcome.{Outcome}
+use Rattle.player_run.specs.declared.outcome.Outcome.TheVariants.{Done, Usage, Json, Shape, Script, ReadFault, WriteFault, TooLong, BadRecording, No, Memory}
+use Rattle.player_run.specs.declared.words.Use.TheVariants.{Step}
+use Rattle.player_run.specs.Outcomes.{joined_texts, line_of, status_of}
+use Rattle.player_run.specs.Runs.{CauseOf, Writes}
+
+-- how a line may end: it is played, refused, or there was no memory
+abbrev pub EndsLine : Outcome → Type 0
+EndsLine Done = ⊤
+EndsLine Json = ⊤
+EndsLine (Shape fault) = ⊤
+EndsLine (Script frame command why) = ⊤
+EndsLine (TooLong limit) = ⊤
+EndsLine Memory = ⊤
+EndsLine _ = ⊥
+
+-- the last line of an answer: `ok K`; or `no K S: ` with the status, and what the notes would say
+abbrev pub verdict_head : ℕ → Outcome → List (List ℕ)
+verdict_head number Done = codes "ok " ∷ decimal number ∷ codes "\n" ∷ []
+verdict_head number result = codes "no " ∷ decimal number ∷ codes " " ∷ decimal (status_of result) ∷ codes ": " ∷ []
+
+abbrev pub verdict : ℕ → Outcome → List ℕ
+verdict number result = joined_texts (verdict_head number result) ++ line_of result
+
+-- an answer to the line of a number: what `step N` writes where its source has this line, in frames, and its outcome
+abbrev pub IsLineAnswer : ℕ → ℕ → List ℕ → List ℕ → Type 0
+IsLineAnswer workers number line text =
+    (result : Outcome) × (pieces : List (List ℕ))
+    × EndsLine result × CauseOf (Step workers) line result
+    × Writes (Step workers) (Some line) (Some []) (Some (flat_map (λ piece. piece) pieces)) result
+    × (text ≡ flat_map frame pieces ++ verdict number result)
+
+-- what was answered where a session ended so: all lines; all that came whole, where the client could not be read; some first ones, the last of them maybe in part, where it took no more
+abbrev pub AnsweredTo : ℕ → Outcome → List Act → Type 0
+AnsweredTo workers Done h = IsEnded (IsLineAnswer workers) h
+AnsweredTo workers ReadFault h = IsAnswered (IsLineAnswer workers) h
+AnsweredTo workers WriteFault h = IsBegun (IsLineAnswer workers) h
+AnsweredTo workers Memory h = IsBegun (IsLineAnswer workers) h
+AnsweredTo workers _ h = ⊥
+
+-- a session with a client with which nothing had passed before: whenever bytes were asked for, all lines that had come were answered
+abbrev pub Serves : ℕ → Option (List Act) → Option (List Act) → Outcome → Type 0
+Serves workers old new result = IsNew old → Has (λ h. AtOnce (IsLineAnswer workers) h × AnsweredTo workers result h) new
+
+-- a fault of the client is answered only where a call of it failed
+abbrev pub ServeCause : ℕ → ℕ → Bool → Outcome → Type 0
+ServeCause old new torn ReadFault = HasFailed old new torn
+ServeCause old new torn WriteFault = HasFailed old new torn
+ServeCause old new torn _ = ⊤
