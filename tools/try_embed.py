@@ -19,15 +19,13 @@ import pathlib
 import random
 import re
 import shutil
-import struct
 import subprocess
 import sys
 import tempfile
-import zlib
 
 sys.dont_write_bytecode = True
 from lib import COMPILERS
-from png_chunks import chunks_of
+from png_chunks import picture_of
 
 ROOT = pathlib.Path(__file__).resolve().parent.parent
 EXAMPLES, CLIENTS = ROOT / "examples" / "embed", ROOT / "clients"
@@ -59,16 +57,8 @@ def ppm(data):
     return width, height, data[head.end():head.end() + 3 * width * height]
 
 
-def png(data):
-    """The same of a stored picture: RGB, with rows that begin with a 0."""
-    chunks = list(chunks_of(data))
-    width, height = struct.unpack(">II", chunks[0][1][:8])
-    rows, step = zlib.decompress(b"".join(it for kind, it in chunks if kind == b"IDAT")), 3 * width + 1
-    return width, height, b"".join(rows[step * y + 1:step * (y + 1)] for y in range(height))
-
-
 def is_stored(data, name):
-    if ppm(data) != png((EXAMPLES / (name + ".png")).read_bytes()):
+    if ppm(data) != picture_of((EXAMPLES / (name + ".png")).read_bytes()):
         raise Fault("the picture %s is not that of examples/embed/%s.png" % (name, name))
 
 

@@ -9,13 +9,11 @@ be the same for 1 and 4 raster workers.
 """
 import json
 import pathlib
-import struct
 import subprocess
 import sys
-import zlib
 
 sys.dont_write_bytecode = True
-from png_chunks import chunks_of
+from png_chunks import chunks_of, picture_of
 
 ROOT = pathlib.Path(__file__).resolve().parent.parent
 PLAYER = ROOT / "crates" / "cc_player" / "out" / "cc_player"
@@ -39,17 +37,12 @@ def last_image(images):
 
 
 def image_of(file):
-    """The picture of a PNG file as a raw portable pixmap. Its rows are as they are, or what they differ from the row above."""
+    """The picture of a PNG file as a raw portable pixmap. The file has one chunk of data, and eight bits a colour."""
     parts = list(chunks_of(file))
-    width, height, *form = struct.unpack(">IIBBBBB", parts[0][1])
-    if [kind for kind, _ in parts] != [b"IHDR", b"IDAT", b"IEND"] or form != [8, 2, 0, 0, 0]:
+    form = parts[0][1][8:]
+    if [kind for kind, _ in parts] != [b"IHDR", b"IDAT", b"IEND"] or form != bytes([8, 2, 0, 0, 0]):
         raise ValueError("another kind of file")
-    rows, above, pixels = zlib.decompress(parts[1][1]), bytes(3 * width), []
-    for at in range(0, len(rows), 3 * width + 1):
-        filtered = rows[at + 1:at + 1 + 3 * width]
-        above = {0: filtered, 2: bytes((a + b) % 256 for a, b in zip(filtered, above))}[rows[at]]
-        pixels.append(above)
-    return b"P6\n%d %d\n255\n" % (width, height) + b"".join(pixels)
+    return b"P6\n%d %d\n255\n%b" % picture_of(file)
 
 
 def is_right(program, script, played):
