@@ -3,11 +3,11 @@
 
 usage: tools/audit.py [--look] [--jobs N] [CRATE..]
 
-The gate tries the edits in crates/NAME/must-fail/. Others lie in crates/NAME/audit/: this puts them beside the
-first in a copy of the tree, outside the repository, and runs `rt must-fail` there on the crates that are named, or
-on all that have edits; with --jobs on that many crates side by side. What the repository has kept of proved libraries
-is used. It prints a line an edit and counts them; the status is 1 where one was not refused. For all crates it takes
-hours. --look tries no edit and says only whether each in audit/ can be applied.
+The gate tries the edits in crates/NAME/must-fail/. Others lie in crates/NAME/audit/: this puts them beside the first
+in a copy of the tree, outside the repository, and runs `rt must-fail` there on the crates that are named, or on all
+that have edits; with --jobs on that many crates side by side. What the repository has kept of proved libraries, of the
+gate too, is used. It prints a line an edit and counts them; the status is 1 where one was not refused. For all crates
+it takes hours. --look tries no edit and says only whether each in audit/ can be applied.
 """
 import argparse
 import concurrent.futures
@@ -24,6 +24,7 @@ import tempfile
 import threading
 
 sys.dont_write_bytecode = True
+import gate_libraries
 from crate_list import CRATES, ROOT, CrateList
 
 FOLDERS = ("must-fail", "audit")
@@ -80,9 +81,12 @@ def copy_tree(to, names):
             target = to / re.sub(r"^(crates/[^/]+)/audit/", r"\1/must-fail/", name)
             target.parent.mkdir(parents=True, exist_ok=True)
             shutil.copyfile(ROOT / name, target)
+    of_gate = gate_libraries.stamps(names)
     for name in names:
-        if (CRATES / name / KEPT / "stamp").is_file():
+        if name in of_gate or (CRATES / name / KEPT / "stamp").is_file():
             shutil.copytree(CRATES / name / KEPT, to / "crates" / name / KEPT)
+        if name in of_gate:
+            (to / "crates" / name / KEPT / "stamp").write_text(of_gate[name])
 
 
 class Lanes:

@@ -7,7 +7,8 @@ Where build/cc_player was built of the text that now stands in crates/, nothing 
 crates/cc_player/out/cc_player was, it is copied; and else the program is proved and built by `rt run`.
 
 --sum prints a sum of the text, of crates.txt and of the kit's name. --note SUM is for the gate: it notes that
-crates/cc_player/out/cc_player was built of the text with this sum, unless the text is another one by now.
+crates/cc_player/out/cc_player and the libraries were built of the text with this sum, unless the text is another one
+by now.
 """
 import argparse
 import hashlib
@@ -15,6 +16,9 @@ import pathlib
 import shutil
 import subprocess
 import sys
+
+sys.dont_write_bytecode = True
+import gate_libraries
 
 ROOT = pathlib.Path(__file__).resolve().parent.parent
 CRATE = ROOT / "crates" / "cc_player"
@@ -63,6 +67,7 @@ def main():
     elif words.note:
         if words.note == text and PROVED.is_file():
             write_note(PROVED, text)
+            gate_libraries.note()
     elif is_of(PLAYER, text):
         print(f"{name} is of this text")
     else:

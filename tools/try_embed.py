@@ -1,7 +1,7 @@
 #!/usr/bin/env python3
 """Tries the library for C: its callers, under sanitizers, with allocations refused, and with random pages.
 
-usage: tools/try_embed.py [--build FOLDER] [--program PROGRAM] [--pages N] [--seed S] [--gate SUM]
+usage: tools/try_embed.py [--build FOLDER] [--program PROGRAM] [--pages N] [--seed S] [--gate]
 
 `make lib` has to have left libcc.a and libcc.so in FOLDER (build/). Callers in C, C++, Python and Rust play the page
 of examples/embed, and their pictures have to equal the stored ones (examples/embed/*.png). Then N random pages (60)
@@ -9,8 +9,8 @@ are played through the library and, as scripts of the same effects, through PROG
 and each picture is compared. What is not installed (a second compiler, cargo, SDL2) is skipped with a line that says
 so. It ends with 1 where anything differs.
 
---gate SUM is for the gate's second half: the library is built over those that the gate proved of the text with this
-sum (tools/lib.py), and one caller in each language is tried, with fewer pages and without sanitizers.
+--gate is for the gate's second half: the library is built first (tools/lib.py), and one caller in each language is
+tried, with fewer pages and without sanitizers.
 """
 import argparse
 import json
@@ -277,14 +277,14 @@ def main():
     words.add_argument("--program", type=pathlib.Path, default=ROOT / "crates" / "cc_player" / "out" / "cc_player")
     words.add_argument("--pages", type=int)
     words.add_argument("--seed", type=int, default=1)
-    words.add_argument("--gate", metavar="SUM", help="build the library over the gate's, and try what takes seconds")
+    words.add_argument("--gate", action="store_true", help="build the library, and try what takes seconds")
     asked = words.parse_args()
     build, program, faults = asked.build.resolve(), asked.program.resolve(), 0
     if asked.gate and not any(map(shutil.which, COMPILERS)):
         print("skipped: the library for C (no %s is here)" % ", ".join(COMPILERS))
         return
     if asked.gate:
-        subprocess.run([sys.executable, ROOT / "tools" / "lib.py", "--gate", asked.gate, "--into", build], check=True)
+        subprocess.run([sys.executable, ROOT / "tools" / "lib.py", "--into", build], check=True)
     if not (build / "libcc.a").exists():
         sys.exit("try_embed: %s has no libcc.a: make lib" % build)
     quick, slow = tries(build, program, asked.pages or (20 if asked.gate else 60), asked.seed)
