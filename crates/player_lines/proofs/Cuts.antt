@@ -1,10 +1,10 @@
 -- Bytes that come in pieces are cut as one, and a line that has come whole is answered.
-use Rattle.std.specs.Prelude.{◌≡◌, ℕ, Bool, true, false, cond, ◌==◌, ◌+◌, ◌<◌, ◌≤◌, List, [], ◌∷◌, ◌++◌, length, take, ⊤, OnOk, Option, Some, None, Result, Ok, Err}
+use Rattle.std.specs.Prelude.{◌≡◌, ℕ, Bool, true, false, cond, ◌==◌, ◌+◌, ◌≤◌, List, [], ◌∷◌, ◌++◌, length, OnOk, Option, Some, None, Result, Ok, Err}
 use Rattle.std.proofs.Common.{refl, sym, ap, subst, ◌∙◌, append-nil, append_assoc, arith, inl, inr}
 use Rattle.std.proofs.lemmas.Bool.{false≢true}
-use Rattle.player_lines.specs.Sessions.{Act, Got, Cut, cut_byte, cut_from, cut, with_last, lines_of, came, went, asked, AreAll, AreAnswers, AtOnce, IsAnswered, IsBegun, IsEnded, Has, HasFailed, IsNew}
-use Rattle.player_lines.specs.inner.Pasts.{Adds, Stays, IsQuiet, Went, AnsweredBy, Answered}
-use Rattle.player_lines.specs.inner.Reading.{Keeps, IsLeft, IsNext, Feeds, Fits, StoppedBy, Ends, ClientCause, has_begun_by}
+use Rattle.player_lines.specs.Sessions.{Act, Got, Cut, cut_byte, cut_from, cut, with_last, lines_of, came, went, asked, AreAll, AreAnswers, AtOnce, HadCome, HasNoMore, IsAnswered, IsBegun, IsEnded, Has, HasFailed, IsNew}
+use Rattle.player_lines.specs.inner.Pasts.{Adds, Stays, IsQuiet, Went, Answered}
+use Rattle.player_lines.specs.inner.Reading.{Keeps, IsLeft, LeftLast, IsNext, Feeds, Fits, StoppedBy, Ends, ClientCause, has_begun_by}
 use Rattle.player_lines.specs.declared.answering.Stop.{Stop}
 use Rattle.player_lines.specs.declared.answering.Stop.TheVariants as stop
 use Rattle.player_lines.specs.declared.answering.Unkept.{Unkept}
@@ -146,6 +146,18 @@ module _ (Answers : ℕ → List ℕ → List ℕ → Type 0) (most : ℕ) where
   read_more number kept lost bytes (Some h) None adds i = absurd adds
   read_more number kept lost bytes (Some h) (Some g) adds i = read_known number kept lost bytes h g adds i
 
+  no_more_known : (number : ℕ) (kept : List ℕ) (lost : Option Unkept) (h g : List Act) → g ≡ Got [] ∷ h
+      → IsLeft Answers most number kept lost [] h → LeftLast (IsLeft Answers most number kept lost []) g
+  no_more_known number kept lost h g e i =
+      (read_known number kept lost [] h g e i, subst HasNoMore (sym e) (sym (append-nil (came h))))
+
+  -- no bytes came
+  pub read_none : (number : ℕ) (kept : List ℕ) (lost : Option Unkept) (old new : Option (List Act)) → Adds old new (Got [])
+      → Has (IsLeft Answers most number kept lost []) old → Has (LeftLast (IsLeft Answers most number kept lost [])) new
+  read_none number kept lost None new adds i = absurd i
+  read_none number kept lost (Some h) None adds i = absurd adds
+  read_none number kept lost (Some h) (Some g) adds i = no_more_known number kept lost h g adds i
+
   pub read_failed : (number : ℕ) (kept : List ℕ) (lost : Option Unkept) (old new : Option (List Act)) → Stays old new
       → Has (IsLeft Answers most number kept lost []) old → Has (λ h. AtOnce Answers h × IsAnswered Answers h) new
   read_failed number kept lost None new stays i = absurd i
@@ -156,14 +168,14 @@ module _ (Answers : ℕ → List ℕ → List ℕ → Type 0) (most : ℕ) where
   -- ---- the end
 
   -- with no line begun all are answered
-  pub none_left : (number : ℕ) (kept : List ℕ) (lost : Option Unkept) (past : Option (List Act)) → has_begun_by kept lost ≡ false → Has (IsLeft Answers most number kept lost []) past → Has (λ h. AtOnce Answers h × IsEnded Answers h) past
+  pub none_left : (number : ℕ) (kept : List ℕ) (lost : Option Unkept) (past : Option (List Act)) → has_begun_by kept lost ≡ false → Has (LeftLast (IsLeft Answers most number kept lost [])) past → Has (λ h. AtOnce Answers h × IsEnded Answers h) past
   none_left number (b ∷ kept) None past is i = absurd (false≢true (sym is))
   none_left number [] (Some why) past is i = absurd (false≢true (sym is))
   none_left number (b ∷ kept) (Some why) past is i = absurd (false≢true (sym is))
   none_left number [] None None is i = i
-  none_left number [] None (Some h) is i =
+  none_left number [] None (Some h) is (i, last) =
       let empty : (cut (came h)).rest ≡ [] = sym (ap (λ (d : Cut). d.rest) i.cuts) ∙ sym i.begun.0 in
-      (i.once, subst (λ (l : List (List ℕ)). AreAnswers Answers l (went h)) (sym (ap (λ (r : List ℕ). with_last r (cut (came h)).whole) empty)) (left_answered number [] None h i))
+      (i.once, (last, subst (λ (l : List (List ℕ)). AreAnswers Answers l (went h)) (sym (ap (λ (r : List ℕ). with_last r (cut (came h)).whole) empty)) (left_answered number [] None h i)))
 
   last_is : (kept : List ℕ) (lost : Option Unkept) (rest : List ℕ) (whole : List (List ℕ)) → has_begun_by kept lost ≡ true → Keeps most kept lost rest → with_last rest whole ≡ rest ∷ whole
   last_is kept lost (b ∷ rest) whole begins keeps = refl
@@ -176,25 +188,29 @@ module _ (Answers : ℕ → List ℕ → List ℕ → Type 0) (most : ℕ) where
   lines_are number kept lost h i begins =
       sym (ap (λ (d : Cut). with_last d.rest d.whole) i.cuts) ∙ last_is kept lost i.seen.rest i.seen.whole begins i.begun
 
-  last_known : (number : ℕ) (kept : List ℕ) (lost : Option Unkept) (h g : List Act) (i : IsLeft Answers most number kept lost [] h) → has_begun_by kept lost ≡ true
+  no_more_yet : (h g : List Act) → came g ≡ came h → asked g ≡ asked h → HasNoMore h → HasNoMore g
+  no_more_yet h g same asks last =
+      subst (HadCome (came g)) (sym asks) (subst (λ (bytes : List ℕ). HadCome bytes (asked h)) (sym same) last)
+
+  last_known : (number : ℕ) (kept : List ℕ) (lost : Option Unkept) (h g : List Act) (i : IsLeft Answers most number kept lost [] h) → HasNoMore h → has_begun_by kept lost ≡ true
       → ((text : List ℕ) × Answers number i.seen.rest text × Went h g text × IsQuiet g) → AtOnce Answers g × IsEnded Answers g
-  last_known number kept lost h g i begins (text, is, (same, goes, asks), quiet) =
+  last_known number kept lost h g i last begins (text, is, (same, goes, asks), quiet) =
       let lines : lines_of (came g) ≡ i.seen.rest ∷ i.seen.whole = ap lines_of same ∙ lines_are number kept lost h i begins in
-      (subst (AreAll (IsAnswered Answers)) (sym asks) i.once, subst (λ (l : List (List ℕ)). AreAnswers Answers l (went g)) (sym lines) (answered number kept lost [] h g i text is text goes refl))
+      (subst (AreAll (IsAnswered Answers)) (sym asks) i.once, (no_more_yet h g same asks last, subst (λ (l : List (List ℕ)). AreAnswers Answers l (went g)) (sym lines) (answered number kept lost [] h g i text is text goes refl)))
 
   pub last_ended : {X : Type 0} (E : Type 0) (number : ℕ) (kept : List ℕ) (lost : Option Unkept) (old new : Option (List Act)) (u : X) → has_begun_by kept lost ≡ true
       → ((line : List ℕ) → Keeps most kept lost line → Answered {X = X} {E = E} (Answers number line) old new (Ok u))
-      → Has (IsLeft Answers most number kept lost []) old → Has (λ g. AtOnce Answers g × IsEnded Answers g) new
+      → Has (LeftLast (IsLeft Answers most number kept lost [])) old → Has (λ g. AtOnce Answers g × IsEnded Answers g) new
   last_ended E number kept lost None new u begins says i = absurd i
-  last_ended E number kept lost (Some h) None u begins says i = says i.seen.rest i.begun i.quiet
-  last_ended E number kept lost (Some h) (Some g) u begins says i = last_known number kept lost h g i begins (says i.seen.rest i.begun i.quiet)
+  last_ended E number kept lost (Some h) None u begins says (i, last) = says i.seen.rest i.begun i.quiet
+  last_ended E number kept lost (Some h) (Some g) u begins says (i, last) = last_known number kept lost h g i last begins (says i.seen.rest i.begun i.quiet)
 
   pub last_torn : (X : Type 0) {E : Type 0} (number : ℕ) (kept : List ℕ) (lost : Option Unkept) (old new : Option (List Act)) (e : E) → has_begun_by kept lost ≡ true
       → ((line : List ℕ) → Keeps most kept lost line → Answered {X = X} {E = E} (Answers number line) old new (Err e))
-      → Has (IsLeft Answers most number kept lost []) old → Has (λ g. AtOnce Answers g × IsBegun Answers g) new
+      → Has (LeftLast (IsLeft Answers most number kept lost [])) old → Has (λ g. AtOnce Answers g × IsBegun Answers g) new
   last_torn X number kept lost None new e begins says i = absurd i
-  last_torn X number kept lost (Some h) None e begins says i = says i.seen.rest i.begun i.quiet
-  last_torn X number kept lost (Some h) (Some g) e begins says i =
+  last_torn X number kept lost (Some h) None e begins says (i, last) = says i.seen.rest i.begun i.quiet
+  last_torn X number kept lost (Some h) (Some g) e begins says (i, last) =
       torn_known number kept lost [] h g i ([], lines_are number kept lost h i begins) (says i.seen.rest i.begun i.quiet)
 
   -- ---- the next line

@@ -86,9 +86,18 @@ AreAll P (h ∷ hs) = P h × AreAll P hs
 abbrev pub AtOnce : (ℕ → List ℕ → List ℕ → Type 0) → List Act → Type 0
 AtOnce Answers h = AreAll (IsAnswered Answers) (asked h)
 
--- all lines are answered, also a last one without its newline
+-- when bytes were asked for last, these had come
+abbrev pub HadCome : List ℕ → List (List Act) → Type 0
+HadCome bytes [] = ⊥
+HadCome bytes (h ∷ earlier) = came h ≡ bytes
+
+-- the client has no more bytes: when they were asked for last, none came
+abbrev pub HasNoMore : List Act → Type 0
+HasNoMore h = HadCome (came h) (asked h)
+
+-- the client has no more bytes, and all lines are answered, also a last one without its newline
 abbrev pub IsEnded : (ℕ → List ℕ → List ℕ → Type 0) → List Act → Type 0
-IsEnded Answers h = AreAnswers Answers (lines_of (came h)) (went h)
+IsEnded Answers h = HasNoMore h × AreAnswers Answers (lines_of (came h)) (went h)
 
 -- what went are the answers to some first lines of those that came, or a prefix of these answers
 abbrev pub IsBegun : (ℕ → List ℕ → List ℕ → Type 0) → List Act → Type 0

@@ -15,7 +15,7 @@ pub enum Stop {
     Read,
     /// The client took no more. What went are the first answers, the last of them maybe in part.
     Write,
-    /// There was no memory for a buffer, or there were more than 2^64 lines: never so in a session.
+    /// There was no memory for a buffer; or there were 2^64 lines, or bytes came 2^64 times: never so in a session.
     Memory,
 }
 

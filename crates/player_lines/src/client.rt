@@ -1,6 +1,6 @@
 //! The other side of a session.
 
-ghost use Rattle.std.specs.Prelude.{◌≡◌, ℕ, List, Option, None, OnErr, ◌≤◌};
+ghost use Rattle.std.specs.Prelude.{◌≡◌, ℕ, List, Option, None, OnErr, ◌≤◌, length};
 ghost use Rattle.std.specs.Io.{ReadsAtMost};
 ghost use Rattle.player_io.specs.Counts.{Rose};
 ghost use Rattle.player_lines.specs.Sessions.{Act};
@@ -23,6 +23,7 @@ pub trait Client {
 
     /// Gives bytes that are there, waiting for at least one; 0 bytes mean the end.
     fn read(&mut self, buf: &mut [u8]) -> Result<usize, Failed>
+        requires room { 1 ≤ length buf.old }
         ensures bound { ReadsAtMost result buf.new }
         ensures adds { ReadAdds (past self.old) (past self.new) result buf.new }
         ensures grows { faults self.old ≤ faults self.new }

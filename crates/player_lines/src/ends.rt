@@ -5,11 +5,11 @@ ghost use Rattle.std.specs.Io.{ReadsAtMost};
 ghost use Rattle.std.specs.Io.KnownBytes.{ReadConsumes};
 ghost use Rattle.player_io.specs.Counts.{Rose};
 ghost use Rattle.player_lines.specs.Sessions.{frame};
-ghost use Rattle.player_lines.specs.inner.Pasts.{Gains, ReadAdds, DataAdds, TextAdds};
+ghost use Rattle.player_lines.specs.inner.Pasts.{Gains, HasRefused, ReadAdds, DataAdds, TextAdds};
 
 use crate::client::{Client, Failed};
 use itoa::Buffer;
-use player_io::{Sink, Source};
+use player_io::{PutFault, Sink, Source};
 
 /// A source that gives the bytes of a client, and a sink that takes those for it. What they tell apart says nothing
 /// of the order in which both were called, so as a client they tell no past.
@@ -23,18 +23,25 @@ pub struct Ends<S, K> {
 
 // Puts a piece.
 fn put_piece<K: Sink>(out: &mut K, piece: &[u8]) -> Result<(), Failed>
-    ensures { Gains (K.held out.old) (K.held out.new) piece.now result }
+    ensures bytes { Gains (K.held out.old) (K.held out.new) piece.now result }
+    ensures grows { K.faults out.old ≤ K.faults out.new }
+    ensures refused { K.refusals out.old ≤ K.refusals out.new }
+    ensures cause { OnErr result (HasRefused (K.faults out.old) (K.faults out.new) (K.refusals out.old) (K.refusals out.new)) }
 {
     match out.put(piece) {
         Ok(()) => Ok(()),
-        Err(_) => Err(Failed),
+        Err(PutFault::Failed) => Err(Failed),
+        Err(PutFault::Memory(_)) => Err(Failed),
     }
 }
 
 // Puts two pieces, one after the other.
-#[tactic(auto, using(crate::proofs::Gained::gains_then, crate::proofs::Gained::gains_early))]
+#[tactic(auto, using(crate::proofs::Gained::gains_then, crate::proofs::Gained::gains_early, crate::proofs::Gained::refused_later))]
 fn put_both<K: Sink>(out: &mut K, first: &[u8], second: &[u8]) -> Result<(), Failed>
-    ensures { Gains (K.held out.old) (K.held out.new) (first.now ++ second.now) result }
+    ensures bytes { Gains (K.held out.old) (K.held out.new) (first.now ++ second.now) result }
+    ensures grows { K.faults out.old ≤ K.faults out.new }
+    ensures refused { K.refusals out.old ≤ K.refusals out.new }
+    ensures cause { OnErr result (HasRefused (K.faults out.old) (K.faults out.new) (K.refusals out.old) (K.refusals out.new)) }
 {
     match put_piece(out, first) {
         Ok(()) => put_piece(out, second),
@@ -43,9 +50,12 @@ fn put_both<K: Sink>(out: &mut K, first: &[u8], second: &[u8]) -> Result<(), Fai
 }
 
 // Puts the line before a piece: the digits of the number of its bytes.
-#[tactic(auto, using(crate::proofs::Gained::gains_then, crate::proofs::Gained::gains_early))]
+#[tactic(auto, using(crate::proofs::Gained::gains_then, crate::proofs::Gained::gains_early, crate::proofs::Gained::refused_later))]
 fn put_line<K: Sink>(out: &mut K, digits: &[u8]) -> Result<(), Failed>
-    ensures { Gains (K.held out.old) (K.held out.new) ((codes "data " ++ digits.now) ++ codes "\n") result }
+    ensures bytes { Gains (K.held out.old) (K.held out.new) ((codes "data " ++ digits.now) ++ codes "\n") result }
+    ensures grows { K.faults out.old ≤ K.faults out.new }
+    ensures refused { K.refusals out.old ≤ K.refusals out.new }
+    ensures cause { OnErr result (HasRefused (K.faults out.old) (K.faults out.new) (K.refusals out.old) (K.refusals out.new)) }
 {
     match put_both(out, b"data ", digits) {
         Ok(()) => put_piece(out, b"\n"),
@@ -53,10 +63,14 @@ fn put_line<K: Sink>(out: &mut K, digits: &[u8]) -> Result<(), Failed>
     }
 }
 
-// Puts a line with the number of bytes of a piece, and the piece.
-#[tactic(auto, using(crate::proofs::Gained::gains_then, crate::proofs::Gained::gains_early))]
-fn put_framed<K: Sink>(out: &mut K, piece: &[u8]) -> Result<(), Failed>
-    ensures { Gains (K.held out.old) (K.held out.new) (frame piece.now) result }
+/// Puts a piece of data in its frame: a line with the number of its bytes, and the piece. Where the sink fails, or has
+/// no memory for a piece, it has gained a prefix of the frame.
+#[tactic(auto, using(crate::proofs::Gained::gains_then, crate::proofs::Gained::gains_early, crate::proofs::Gained::refused_later))]
+pub fn put_frame<K: Sink>(out: &mut K, piece: &[u8]) -> Result<(), Failed>
+    ensures bytes { Gains (K.held out.old) (K.held out.new) (frame piece.now) result }
+    ensures grows { K.faults out.old ≤ K.faults out.new }
+    ensures refused { K.refusals out.old ≤ K.refusals out.new }
+    ensures cause { OnErr result (HasRefused (K.faults out.old) (K.faults out.new) (K.refusals out.old) (K.refusals out.new)) }
 {
     let mut buffer = Buffer::new();
     match put_line(out, buffer.format(piece.len() as u64).as_bytes()) {
@@ -112,7 +126,7 @@ impl<S: Source, K: Sink> Client for Ends<S, K> {
         ensures grows { self.old.faults ≤ self.new.faults }
         ensures cause { OnErr result (Rose self.old.faults self.new.faults) }
     {
-        let put = put_framed(&mut self.out, piece);
+        let put = put_frame(&mut self.out, piece);
         if put.is_err() {
             self.faults = self.faults.saturating_add(1);
         }

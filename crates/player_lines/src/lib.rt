@@ -16,6 +16,6 @@ mod session;
 
 pub use answering::{Answerer, Stop, Unkept};
 pub use client::{Client, Failed};
-pub use ends::Ends;
+pub use ends::{Ends, put_frame};
 pub use lines::serve;
 pub use session::Session;

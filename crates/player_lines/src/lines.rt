@@ -3,7 +3,7 @@
 ghost use Rattle.std.specs.Prelude.{◌≡◌, ◌≤◌, ℕ, List, [], ◌∷◌, ◌++◌, Option, None, false, OnOk, OnErr, length, vec_len, IfOk};
 ghost use Rattle.player_lines.specs.Sessions.{AtOnce, Has, HasFailed, IsNew};
 ghost use Rattle.player_lines.specs.inner.Pasts.{Answered};
-ghost use Rattle.player_lines.specs.inner.Reading.{Keeps, IsLeft, Feeds, Ends, Fits, IsNext, ClientCause, has_begun_by};
+ghost use Rattle.player_lines.specs.inner.Reading.{Keeps, IsLeft, LeftLast, Feeds, GoesOn, Ends, Fits, IsNext, ClientCause, has_begun_by};
 
 use crate::answering::{Answerer, Stop, Unkept};
 use crate::client::{Client, Failed};
@@ -158,30 +158,8 @@ impl Begun {
         Ok(())
     }
 
-    // Looks at what was read. Whether there was something.
-    fn look_at<R: Threads + Sync, C: Client, A: Answerer>(
-        &mut self,
-        rt: &R,
-        answerer: &A,
-        session: &mut Session<C>,
-        bytes: &[u8],
-    ) -> Result<bool, Stop>
-        requires whole { session.old.torn ≡ false }
-        requires fits { Fits (A.most answerer.now) self.old.line.items self.old.lost }
-        ensures feeds { Has (IsLeft (A.answers answerer.now) (A.most answerer.now) self.old.number self.old.line.items self.old.lost bytes.now) (C.past session.old.client) → Feeds (IsLeft (A.answers answerer.now) (A.most answerer.now) self.new.number self.new.line.items self.new.lost []) (A.answers answerer.now) (C.past session.new.client) result }
-        ensures whole { OnOk result (session.new.torn ≡ false) }
-        ensures fits { OnOk result (Fits (A.most answerer.now) self.new.line.items self.new.lost) }
-        ensures grows { C.faults session.old.client ≤ C.faults session.new.client }
-        ensures cause { ClientCause (C.faults session.old.client) (C.faults session.new.client) session.new.torn result }
-    {
-        match self.feed(rt, answerer, session, bytes) {
-            Ok(()) => Ok(!bytes.is_empty()),
-            Err(stop) => Err(stop),
-        }
-    }
-
     // Reads what comes next, and answers its lines. Whether there was something.
-    #[tactic(auto, using(crate::proofs::Cuts::read_more, crate::proofs::Cuts::read_failed, crate::proofs::Cuts::cause_later))]
+    #[tactic(auto, using(crate::proofs::Cuts::read_more, crate::proofs::Cuts::read_none, crate::proofs::Cuts::read_failed, crate::proofs::Cuts::cause_later))]
     fn turn<R: Threads + Sync, C: Client, A: Answerer>(
         &mut self,
         rt: &R,
@@ -189,22 +167,27 @@ impl Begun {
         session: &mut Session<C>,
         buffer: &mut [u8],
     ) -> Result<bool, Stop>
+        requires room { 1 ≤ length buffer.old }
         requires whole { session.old.torn ≡ false }
         requires fits { Fits (A.most answerer.now) self.old.line.items self.old.lost }
-        ensures feeds { Has (IsLeft (A.answers answerer.now) (A.most answerer.now) self.old.number self.old.line.items self.old.lost []) (C.past session.old.client) → Feeds (IsLeft (A.answers answerer.now) (A.most answerer.now) self.new.number self.new.line.items self.new.lost []) (A.answers answerer.now) (C.past session.new.client) result }
+        ensures feeds { Has (IsLeft (A.answers answerer.now) (A.most answerer.now) self.old.number self.old.line.items self.old.lost []) (C.past session.old.client) → GoesOn (IsLeft (A.answers answerer.now) (A.most answerer.now) self.new.number self.new.line.items self.new.lost []) (A.answers answerer.now) (C.past session.new.client) result }
         ensures whole { OnOk result (session.new.torn ≡ false) }
         ensures fits { OnOk result (Fits (A.most answerer.now) self.new.line.items self.new.lost) }
         ensures grows { C.faults session.old.client ≤ C.faults session.new.client }
         ensures cause { ClientCause (C.faults session.old.client) (C.faults session.new.client) session.new.torn result }
     {
         match session.read(buffer) {
-            Ok(count) => self.look_at(rt, answerer, session, &buffer[..count]),
+            Ok(0) => Ok(false),
+            Ok(count) => {
+                self.feed(rt, answerer, session, &buffer[..count])?;
+                Ok(true)
+            }
             Err(_) => Err(Stop::Read),
         }
     }
 
     // Reads to the end of the input, and answers all lines that end by a newline.
-    #[tactic(auto, using(crate::proofs::Cuts::cause_later))]
+    #[tactic(auto, using(crate::proofs::Cuts::left_stops, crate::proofs::Cuts::cause_later))]
     fn read_on<R: Threads + Sync, C: Client, A: Answerer>(
         &mut self,
         rt: &R,
@@ -212,9 +195,10 @@ impl Begun {
         session: &mut Session<C>,
         buffer: &mut [u8],
     ) -> Result<(), Stop>
+        requires room { 1 ≤ length buffer.old }
         requires whole { session.old.torn ≡ false }
         requires fits { Fits (A.most answerer.now) self.old.line.items self.old.lost }
-        ensures feeds { Has (IsLeft (A.answers answerer.now) (A.most answerer.now) self.old.number self.old.line.items self.old.lost []) (C.past session.old.client) → Feeds (IsLeft (A.answers answerer.now) (A.most answerer.now) self.new.number self.new.line.items self.new.lost []) (A.answers answerer.now) (C.past session.new.client) result }
+        ensures feeds { Has (IsLeft (A.answers answerer.now) (A.most answerer.now) self.old.number self.old.line.items self.old.lost []) (C.past session.old.client) → Feeds (LeftLast (IsLeft (A.answers answerer.now) (A.most answerer.now) self.new.number self.new.line.items self.new.lost [])) (A.answers answerer.now) (C.past session.new.client) result }
         ensures whole { OnOk result (session.new.torn ≡ false) }
         ensures fits { OnOk result (Fits (A.most answerer.now) self.new.line.items self.new.lost) }
         ensures grows { C.faults session.old.client ≤ C.faults session.new.client }
@@ -227,7 +211,7 @@ impl Begun {
                 Err(stop) => return Err(stop),
             }
         }
-        Ok(())
+        Err(Stop::Memory)
     }
 
     // Whether a byte of the line has come.
@@ -247,7 +231,7 @@ impl Begun {
     ) -> Result<(), Stop>
         requires whole { session.old.torn ≡ false }
         requires fits { Fits (A.most answerer.now) self.now.line.items self.now.lost }
-        ensures ends { Has (IsLeft (A.answers answerer.now) (A.most answerer.now) self.now.number self.now.line.items self.now.lost []) (C.past session.old.client) → Has (λ h. AtOnce (A.answers answerer.now) h × Ends (A.answers answerer.now) result h) (C.past session.new.client) }
+        ensures ends { Has (LeftLast (IsLeft (A.answers answerer.now) (A.most answerer.now) self.now.number self.now.line.items self.now.lost [])) (C.past session.old.client) → Has (λ h. AtOnce (A.answers answerer.now) h × Ends (A.answers answerer.now) result h) (C.past session.new.client) }
         ensures grows { C.faults session.old.client ≤ C.faults session.new.client }
         ensures cause { ClientCause (C.faults session.old.client) (C.faults session.new.client) session.new.torn result }
     {
@@ -261,13 +245,14 @@ impl Begun {
     }
 }
 
-#[tactic(auto, using(crate::proofs::Cuts::at_first, crate::proofs::Cuts::ends_once, crate::proofs::Cuts::stops_once, crate::proofs::Cuts::cause_later))]
 /// Answers each line of the client as soon as it has come, to the end of its input; a last one without its newline
 /// counts.
 ///
 /// Where nothing had passed before: whenever bytes were asked for, all lines that had come were answered. At the end
-/// all lines are answered, each by an answer that this line may have, whatever the other lines are. Where the client
+/// the client has no more bytes, and all lines are answered, each by an answer that this line may have, whatever the
+/// other lines are. Where the client
 /// could not be read, the lines that had come whole are; where it took no more, what went is a prefix of the answers.
+#[tactic(auto, using(crate::proofs::Cuts::at_first, crate::proofs::Cuts::ends_once, crate::proofs::Cuts::stops_once, crate::proofs::Cuts::cause_later))]
 pub fn serve<R: Threads + Sync, C: Client, A: Answerer>(
     rt: &R,
     alloc: Global,

@@ -1,6 +1,6 @@
 //! A session: a client, and whether a piece of data was torn.
 
-ghost use Rattle.std.specs.Prelude.{◌≡◌, ℕ, ◌≤◌, List, Bool, true, false, OnErr, OnOk};
+ghost use Rattle.std.specs.Prelude.{◌≡◌, ℕ, ◌≤◌, List, Bool, true, false, OnErr, OnOk, length};
 ghost use Rattle.std.specs.Io.{ReadsAtMost};
 ghost use Rattle.player_io.specs.Counts.{Rose};
 ghost use Rattle.player_io.specs.Pieces.{PutAppends, PutCause};
@@ -52,6 +52,7 @@ impl<C: Client> Session<C> {
 
     /// Gives bytes of the client.
     pub(crate) fn read(&mut self, buf: &mut [u8]) -> Result<usize, Failed>
+        requires room { 1 ≤ length buf.old }
         ensures bound { ReadsAtMost result buf.new }
         ensures adds { ReadAdds (C.past self.old.client) (C.past self.new.client) result buf.new }
         ensures torn { self.new.torn ≡ self.old.torn }
@@ -66,6 +67,7 @@ impl<C: Client> Session<C> {
     pub fn put_text(&mut self, text: &[u8]) -> Result<(), Failed>
         ensures said { Said (C.past self.old.client) (C.past self.new.client) text.now result }
         ensures torn { self.new.torn ≡ self.old.torn }
+        ensures refused { self.new.refused ≡ self.old.refused }
         ensures grows { C.faults self.old.client ≤ C.faults self.new.client }
         ensures cause { OnErr result (Rose (C.faults self.old.client) (C.faults self.new.client)) }
     {

@@ -1,6 +1,6 @@
 -- What a session knows of the bytes that came while it looks at them.
-use Rattle.std.specs.Prelude.{◌≡◌, ℕ, Bool, true, false, ◌+◌, ◌<◌, ◌≤◌, List, [], ◌∷◌, ◌++◌, length, ⊤, Option, Some, None, Result, Ok, Err}
-use Rattle.player_lines.specs.Sessions.{Act, Cut, Has, HasFailed, came, went, asked, cut, cut_from, AreAnswers, AtOnce, IsAnswered, IsBegun, IsEnded}
+use Rattle.std.specs.Prelude.{◌≡◌, ℕ, Bool, true, false, ◌+◌, ◌<◌, ◌≤◌, List, [], ◌∷◌, length, ⊤, Option, Some, None, Result, Ok, Err}
+use Rattle.player_lines.specs.Sessions.{Act, Cut, Has, HasFailed, came, went, cut, cut_from, AreAnswers, AtOnce, HasNoMore, IsAnswered, IsBegun, IsEnded}
 use Rattle.player_lines.specs.inner.Pasts.{IsQuiet}
 use Rattle.player_lines.specs.declared.answering.Unkept.{Unkept}
 use Rattle.player_lines.specs.declared.answering.Unkept.TheVariants.{TooLong, Memory}
@@ -37,6 +37,16 @@ StoppedBy Answers stop.Memory h = IsBegun Answers h
 abbrev pub Feeds : {X : Type 0} → (List Act → Type 0) → (ℕ → List ℕ → List ℕ → Type 0) → Option (List Act) → Result X Stop → Type 0
 Feeds Left Answers past (Ok _) = Has Left past
 Feeds Left Answers past (Err why) = Has (λ h. AtOnce Answers h × StoppedBy Answers why h) past
+
+-- what is left where the client has no more bytes
+abbrev pub LeftLast : (List Act → Type 0) → List Act → Type 0
+LeftLast Left h = Left h × HasNoMore h
+
+-- something came and was looked at; or the client has no more bytes; or the session stopped
+abbrev pub GoesOn : (List Act → Type 0) → (ℕ → List ℕ → List ℕ → Type 0) → Option (List Act) → Result Bool Stop → Type 0
+GoesOn Left Answers past (Ok true) = Has Left past
+GoesOn Left Answers past (Ok false) = Has (LeftLast Left) past
+GoesOn Left Answers past (Err why) = Has (λ h. AtOnce Answers h × StoppedBy Answers why h) past
 
 -- what holds of the past at the end of a session
 abbrev pub Ends : {X : Type 0} → (ℕ → List ℕ → List ℕ → Type 0) → Result X Stop → List Act → Type 0
