@@ -1,0 +1,2 @@
+-- One act more.
+pub mod Acts

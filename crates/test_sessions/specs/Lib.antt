@@ -1,0 +1,2 @@
+-- What the client in memory tells.
+pub mod Talks

@@ -1,0 +1,150 @@
+//! A client in memory that tells what passed.
+
+ghost use Rattle.std.specs.Prelude.{◌≡◌, ◌≤◌, ◌-◌, [], drop, vec_len, Some};
+ghost use Rattle.player_lines.specs.Sessions.{AreAnswers, lines_of};
+ghost use Rattle.player_run.specs.Served.{IsLineAnswer};
+ghost use Rattle.player_run.specs.declared.outcome.Outcome.TheVariants.{Done};
+ghost use Rattle.test_sessions.specs.Talks.{IsTold, acts};
+
+use ghost_list::GhostList;
+use player_io::{MemSink, MemSource, Sink, Source};
+use player_lines::{Client, Failed, Session, put_frame};
+use player_run::{Outcome, serve};
+use std::alloc::Global;
+use std::marker::Sync;
+use std::thread::Threads;
+
+/// What passed between a session and its client, where the bytes are told to clauses alone.
+#[derive(Drop)]
+pub enum Passed {
+    /// These bytes came.
+    Got(GhostList<u8>),
+    /// This piece of data went, in its frame.
+    Data(GhostList<u8>),
+    /// This text of the last line of an answer went.
+    Text(GhostList<u8>),
+    /// Only the given number of bytes of a frame went.
+    TornData(GhostList<u8>, usize),
+    /// Only the given number of bytes of a text went.
+    TornText(GhostList<u8>, usize),
+}
+
+/// A client that gives the bytes of an input and keeps the answers, both in memory.
+#[derive(Drop)]
+pub struct Talk {
+    source: MemSource,
+    out: MemSink,
+    /// how many calls failed
+    faults: u64,
+    /// the oldest act first
+    passed: GhostList<Passed>,
+    ghost tells: { IsTold (acts passed.items) (drop source.given source.bytes.items) source.bytes.items out.bytes.items },
+}
+
+// The bytes, for clauses alone.
+fn told(bytes: &[u8]) -> GhostList<u8>
+    ensures { result.items ≡ bytes.now }
+{
+    let mut list = GhostList::new();
+    for byte in bytes {
+        list = list.and(byte);
+    }
+    list
+}
+
+// How many bytes a sink took since it held the given number.
+fn taken_since(out: &MemSink, before: usize) -> usize
+    ensures { result ≡ vec_len out.now.bytes - before }
+{
+    out.bytes().len().saturating_sub(before)
+}
+
+impl Talk {
+    /// A client of which the input has not been read. At most `step` of its bytes come at a time, and it takes at most
+    /// `room` bytes of answers.
+    pub fn new(alloc: Global, input: Vec<u8>, step: u32, room: u64) -> Talk
+        requires { 1 ≤ step }
+        ensures new { result.passed.items ≡ [] }
+        ensures input { result.source.bytes ≡ input }
+    {
+        Talk {
+            source: MemSource::new(input, step, Vec::new(alloc)),
+            out: MemSink::new(alloc, room, Vec::new(alloc)),
+            faults: 0,
+            passed: GhostList::new(),
+        }
+    }
+
+    /// The bytes that went to it.
+    pub fn answers(&self) -> &[u8]
+        ensures { result.now ≡ self.now.out.bytes.items }
+    {
+        self.out.bytes()
+    }
+
+    /// Serves this client, with which nothing has passed. Where that ends well, its answers are those to all lines of
+    /// its input, each by what `step N` writes for that line alone.
+    pub fn serve<R: Threads + Sync>(self, rt: &R, alloc: Global, workers: u32) -> (Outcome, Talk)
+        requires workers { (1 ≤ workers) × (workers ≤ 16) }
+        requires new { self.passed.items ≡ [] }
+        ensures { result.0 ≡ Done → AreAnswers (IsLineAnswer workers) (lines_of result.1.source.bytes.items) result.1.out.bytes.items }
+    {
+        let mut session = Session::new(self);
+        let outcome = serve(rt, alloc, workers, &mut session);
+        (outcome, session.into_client())
+    }
+}
+
+impl Client for Talk {
+    ghost past = { λ t. Some (acts t.passed.items) };
+
+    ghost faults = { λ t. t.faults };
+
+    fn read(&mut self, buf: &mut [u8]) -> Result<usize, Failed> {
+        match self.source.read(buf) {
+            Ok(count) => {
+                let passed = Passed::Got(told(&buf[..count]));
+                self.passed = self.passed.and(&passed);
+                Ok(count)
+            }
+            Err(_) => {
+                self.faults = self.faults.saturating_add(1);
+                Err(Failed)
+            }
+        }
+    }
+
+    fn put_data(&mut self, piece: &[u8]) -> Result<(), Failed> {
+        let before = self.out.bytes().len();
+        match put_frame(&mut self.out, piece) {
+            Ok(()) => {
+                let passed = Passed::Data(told(piece));
+                self.passed = self.passed.and(&passed);
+                Ok(())
+            }
+            Err(failed) => {
+                let passed = Passed::TornData(told(piece), taken_since(&self.out, before));
+                self.passed = self.passed.and(&passed);
+                self.faults = self.faults.saturating_add(1);
+                Err(failed)
+            }
+        }
+    }
+
+    fn put_text(&mut self, text: &[u8]) -> Result<(), Failed> {
+        let before = self.out.bytes().len();
+        match self.out.put(text) {
+            Ok(()) => {
+                let passed = Passed::Text(told(text));
+                self.passed = self.passed.and(&passed);
+                Ok(())
+            }
+            Err(_) => {
+                let passed = Passed::TornText(told(text), taken_since(&self.out, before));
+                self.passed = self.passed.and(&passed);
+                self.faults = self.faults.saturating_add(1);
+                Err(Failed)
+            }
+        }
+    }
+}
