@@ -6,4 +6,5 @@ pub mod Hulls
 pub mod QuadSteps
 pub mod Groups
 pub mod PassSteps
+pub mod ShownSteps
 pub mod SceneSteps

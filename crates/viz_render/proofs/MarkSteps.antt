@@ -20,7 +20,7 @@ use Rattle.viz_scene.specs.Views.{quad_view, tiled, plain}
 use Rattle.viz_scene.specs.Pixels.{placed_pixel}
 use Rattle.viz_scene.specs.Sound.{IsTaken}
 use Rattle.viz_render.specs.inner.Drawing.{rows_from, part_pixel}
-use Rattle.viz_render.specs.inner.Masks.{top, Hides, HidesIn, IsOfBlock, Marks, AreMarked}
+use Rattle.viz_render.specs.inner.Masks.{top, Hides, HidesIn, IsOfBlock, Marks, AreMarked, HaveNumbers, AreNumbers, AreOpenNumbers, AreHidden}
 use Rattle.viz_render.proofs.Tiles.{taken, pixel_taken, solid_pixel, band_pixel}
 
 -- marks after marks
@@ -141,24 +141,97 @@ pub quad_marked : (area : Rect) (quads : List Quad) (k n : ℕ) (q : Quad) (old 
     → q ≡ get_or quads k q
     → Marks n (λ x y. x < near area.w → y < near area.h → Hides (quad_view q) (area.x +ℤ pos x) (area.y +ℤ pos y)) old new
     → AreMarked area quads new
-quad_marked area quads k n q old new wide marked lt number e marks x y j xw yh is =
-    elim (marks x y (omega arith)) as (λ _. (j < length quads) × ((p : Quad) → p ≡ get_or quads j p → Hides (quad_view p) (area.x +ℤ pos x) (area.y +ℤ pos y))) [
-      | inl same ↦ marked x y j xw yh (sym same ∙ is)
+quad_marked area quads k n q old new wide marked lt number e marks x y j xw yh is few p f =
+    elim (marks x y (omega arith)) as (λ _. Hides (quad_view p) (area.x +ℤ pos x) (area.y +ℤ pos y)) [
+      | inl same ↦ marked x y j xw yh (sym same ∙ is) few p f
       | inr now ↦
           let there = now.0 in
-          let here : j ≡ k = omega arith in (
-            omega arith,
-            λ p f.
-                let item : get_or quads k p ≡ get_or quads k q = same_item quads k p q lt in
-                let one : q ≡ p = e ∙ sym item ∙ sym (ap (λ (i : ℕ). get_or quads i p) here) ∙ sym f in
-                subst (λ (r : Quad). Hides (quad_view r) (area.x +ℤ pos x) (area.y +ℤ pos y)) one (now.1 xw yh),
-          )
+          let here : j ≡ k = omega arith in
+          let item : get_or quads k p ≡ get_or quads k q = same_item quads k p q lt in
+          let one : q ≡ p = e ∙ sym item ∙ sym (ap (λ (i : ℕ). get_or quads i p) here) ∙ sym f in
+          subst (λ (r : Quad). Hides (quad_view r) (area.x +ℤ pos x) (area.y +ℤ pos y)) one (now.1 xw yh)
+    ]
+
+-- and its number
+pub numbers_more : (most n : ℕ) (H : ℕ → ℕ → Type 0) (start old new : List ℕ) → n ≤ most → HaveNumbers most start old → Marks n H old new → HaveNumbers most start new
+numbers_more most n H start old new le before marks x y lt =
+    elim (marks x y lt) as (λ _. (top new x y ≡ top start x y) ⊎ (top new x y ≤ most)) [
+      | inl same ↦ elim (before x y lt) as (λ _. (top new x y ≡ top start x y) ⊎ (top new x y ≤ most)) [
+        | inl was ↦ inl (same ∙ was)
+        | inr few ↦ inr (omega arith)
+      ]
+      | inr now ↦ let is = now.0 in inr (omega arith)
     ]
 
 -- a mask of zeros
 pub none_marked : (area : Rect) (quads : List Quad) (tops : List ℕ) → ((i : ℕ) → slice_index tops i ≤ 0) → AreMarked area quads tops
 unfolding top
-none_marked area quads tops zeros x y k xw yh is = let none = zeros (y / 8 * 129 + x / 16) in absurd (omega arith)
+none_marked area quads tops zeros x y k xw yh is few q e = let none = zeros (y / 8 * 129 + x / 16) in absurd (omega arith)
+
+pub none_numbered : (n : ℕ) (tops : List ℕ) → ((i : ℕ) → slice_index tops i ≤ 0) → AreNumbers n tops
+unfolding top
+none_numbered n tops zeros x y xw yh = let none = zeros (y / 8 * 129 + x / 16) in omega arith
+
+-- numbers given to one
+pub zeros_numbered : (n : ℕ) (old new : List ℕ) → ((i : ℕ) → slice_index old i ≤ 0) → HaveNumbers n old new → AreNumbers n new
+unfolding top
+zeros_numbered n old new zeros have x y xw yh =
+    let none = zeros (y / 8 * 129 + x / 16) in
+    elim (have x y xw) as (λ _. slice_index new (y / 8 * 129 + x / 16) ≤ n) [
+      | inl same ↦ omega arith
+      | inr few ↦ few
+    ]
+
+-- ---- blocks that the root's mask hides
+
+-- one more block
+pub hidden_more : (root : List ℕ) (last number count : ℕ) (old new : List ℕ) → AreHidden root last number count old
+    → (slice_index new count ≡ 0) ⊎ ((last < slice_index root count) × (slice_index new count ≡ number))
+    → ((i : ℕ) → i ≢ count → slice_index new i ≡ slice_index old i)
+    → AreHidden root last number (count + 1) new
+hidden_more root last number count old new before there other i lt =
+    elim (cases_lt i count) as (λ _. (slice_index new i ≡ 0) ⊎ ((last < slice_index root i) × (slice_index new i ≡ number))) [
+      | inl less ↦
+          let same = other i (λ e. absurd (omega arith)) in
+          elim (before i less) as (λ _. (slice_index new i ≡ 0) ⊎ ((last < slice_index root i) × (slice_index new i ≡ number))) [
+            | inl none ↦ inl (same ∙ none)
+            | inr hidden ↦ inr (hidden.0, same ∙ hidden.1)
+          ]
+      | inr from ↦
+          let here : count ≡ i = omega arith in
+          subst (λ (k : ℕ). (slice_index new k ≡ 0) ⊎ ((last < slice_index root k) × (slice_index new k ≡ number))) here there
+    ]
+
+-- none of them has the number of a quad
+pub hidden_marked : (area : Rect) (quads : List Quad) (root : List ℕ) (last number : ℕ) (tops : List ℕ) → near area.w ≤ 2048 → near area.h ≤ 64 → length quads < number
+    → AreHidden root last number 1032 tops → AreMarked area quads tops
+unfolding top
+hidden_marked area quads root last number tops wide low more hidden x y k xw yh is few q e =
+    elim (hidden (y / 8 * 129 + x / 16) (omega arith)) as (λ _. Hides (quad_view q) (area.x +ℤ pos x) (area.y +ℤ pos y)) [
+      | inl none ↦ absurd (omega arith)
+      | inr there ↦ let number_is = there.1 in absurd (omega arith)
+    ]
+
+hidden_at : (root : List ℕ) (last number : ℕ) (tops : List ℕ) (x y n : ℕ) → AreHidden root last number 1032 tops → x < 2064 → y < 64 → top root x y ≤ last
+    → top tops x y ≤ n
+unfolding top
+hidden_at root last number tops x y n hidden xw yh seen =
+    elim (hidden (y / 8 * 129 + x / 16) (omega arith)) as (λ _. slice_index tops (y / 8 * 129 + x / 16) ≤ n) [
+      | inl none ↦ omega arith
+      | inr there ↦ let over = there.0 in absurd (omega arith)
+    ]
+
+pub hidden_numbered : (n : ℕ) (root : List ℕ) (last number : ℕ) (tops : List ℕ) → AreHidden root last number 1032 tops → AreOpenNumbers n root last tops
+hidden_numbered n root last number tops hidden x y xw yh seen = hidden_at root last number tops x y n hidden xw yh seen
+
+-- and numbers given to them then
+pub open_numbered : (n : ℕ) (root : List ℕ) (last number : ℕ) (old new : List ℕ) → AreHidden root last number 1032 old → HaveNumbers n old new → AreOpenNumbers n root last new
+open_numbered n root last number old new hidden have x y xw yh seen =
+    let none = hidden_at root last number old x y n hidden xw yh seen in
+    elim (have x y xw) as (λ _. top new x y ≤ n) [
+      | inl same ↦ omega arith
+      | inr few ↦ few
+    ]
 
 -- a list of zeros
 pub zeros : (n i : ℕ) → slice_index (replicate n 0) i ≡ 0

@@ -15,7 +15,9 @@ use Rattle.viz_scene.specs.declared.RenderPass.{RenderPass}
 use Rattle.viz_scene.specs.Views.{QuadView, pass_view, passes_view}
 use Rattle.viz_scene.specs.Pixels.{quads_over, passes_at}
 use Rattle.viz_scene.proofs.Steps.{passes_push}
-use Rattle.viz_render.specs.inner.Drawing.{SurfaceView, colour_of, colours, CanBeDrawn, AreRoomy, PassesCanBeDrawn, ShowsQuads, ShowsPass, ShowPasses}
+use Rattle.viz_render.specs.inner.Drawing.{SurfaceView, colour_of, colours, CanBeDrawn, AreRoomy, PassesCanBeDrawn, ShowsQuads, ShowsPass}
+use Rattle.viz_render.specs.inner.Masks.{top, AreNumbers, AreOpenNumbers}
+use Rattle.viz_render.specs.inner.Shown.{ShowsSeen, IsSeenAt, ShowsOpenPass, ShowOpenPasses}
 use Rattle.viz_render.proofs.QuadSteps.{place_below}
 use Rattle.viz_render.proofs.Hulls.{place_in}
 
@@ -51,13 +53,43 @@ front_premultiplied n new old len fit front whole i lt =
     ]
 
 -- quads drawn into the first of some bytes
-pub shows_quads : (area : Rect) (passes : List SurfaceView) (below : Parts) (quads : List QuadView) (new rest : List ℕ)
+pub shows_seen : (n : ℕ) (area : Rect) (tops : List ℕ) (passes : List SurfaceView) (below : Parts) (quads : List QuadView) (new rest : List ℕ)
     → length new ≡ byte_count area.w area.h
-    → ShowsQuads area passes below quads new
-    → ShowsQuads area passes below quads (new ++ rest)
-shows_quads area passes below quads new rest size each x y xw yh =
+    → ShowsSeen n area tops passes below quads new
+    → ShowsSeen n area tops passes below quads (new ++ rest)
+shows_seen n area tops passes below quads new rest size each x y xw yh seen =
     let room : 4 * (y * near area.w + x) + 4 ≤ 4 * (near area.w * near area.h) = place_below (near area.w) (near area.h) x y xw yh in
-    pixel_of_front new rest (y * near area.w + x) (omega arith) ∙ each x y xw yh
+    pixel_of_front new rest (y * near area.w + x) (omega arith) ∙ each x y xw yh seen
+
+-- where all blocks have numbers of quads, all is seen
+pub all_seen : (n : ℕ) (area : Rect) (tops : List ℕ) (passes : List SurfaceView) (below : Parts) (quads : List QuadView) (bytes : List ℕ)
+    → near area.w ≤ 2048 → near area.h ≤ 64 → AreNumbers n tops
+    → ShowsSeen n area tops passes below quads bytes → ShowsQuads area passes below quads bytes
+all_seen n area tops passes below quads bytes wide low numbers each x y xw yh = each x y xw yh (numbers x y (omega arith) (omega arith))
+
+-- quads drawn where a quad of the root is seen
+pub open_shown : (area : Rect) (root : List ℕ) (last n : ℕ) (tops : List ℕ) (passes : List SurfaceView) (quads : List QuadView) (s : SurfaceView)
+    → near area.w ≤ 2048 → near area.h ≤ 64 → s.rect ≡ area → AreOpenNumbers n root last tops
+    → ShowsSeen n area tops passes clear quads s.bytes → ShowsOpenPass area root last passes quads s
+unfolding colour_of
+open_shown area root last n tops passes quads s wide low is numbers drawn x y seen =
+    at_point area s.rect root last n tops passes quads s.bytes wide low is numbers drawn x y seen
+    (ap (λ (r : Rect). covers r x y) is ∙ seen.0)
+  where
+    at_point : (area rect : Rect) (root : List ℕ) (last n : ℕ) (tops : List ℕ) (passes : List SurfaceView) (quads : List QuadView) (bytes : List ℕ)
+        → near area.w ≤ 2048 → near area.h ≤ 64 → rect ≡ area → AreOpenNumbers n root last tops → ShowsSeen n area tops passes clear quads bytes
+        → (x y : ℤ) → IsSeenAt area root last x y → covers rect x y ≡ true
+        → cond (covers rect x y) (pixel bytes (near (y -ℤ rect.y) * near rect.w + near (x -ℤ rect.x))) clear ≡ quads_over (colours passes x y) x y clear quads
+    at_point area rect root last n tops passes quads bytes wide low is numbers drawn x y seen on =
+        let k = both _ _ seen.0 in
+        let across = place_in area.x area.w x k.0 in
+        let down = place_in area.y area.h y k.1 in
+        let row = area.y +ℤ pos (near (y -ℤ area.y)) in
+        ap (λ (t : Bool). cond t (pixel bytes (near (y -ℤ rect.y) * near rect.w + near (x -ℤ rect.x))) clear) on
+        ∙ ap (λ (r : Rect). pixel bytes (near (y -ℤ r.y) * near r.w + near (x -ℤ r.x))) is
+        ∙ drawn (near (x -ℤ area.x)) (near (y -ℤ area.y)) across.0 down.0 (numbers (near (x -ℤ area.x)) (near (y -ℤ area.y)) (omega (arith, across.0)) (omega (arith, down.0)) seen.1)
+        ∙ ap (λ (z : ℤ). quads_over (colours passes z row) z row clear quads) across.1
+        ∙ ap (λ (z : ℤ). quads_over (colours passes x z) x z clear quads) down.1
 
 -- quads drawn on a rect outside of which they draw nothing
 pub pass_shown : (area hull : Rect) (passes : List SurfaceView) (quads : List QuadView) (s : SurfaceView) → s.rect ≡ hull
@@ -89,12 +121,12 @@ joined_set (x ∷ xs) zero y lt = refl
 joined_set (x ∷ xs) (suc i) y lt = ap (λ (ys : List SurfaceView). x ∷ ys) (joined_set xs i y (omega arith))
 
 -- one more pass
-pub passes_more : (area : Rect) (passes : List RenderPass) (surfaces : List SurfaceView) (i : ℕ) (pass : RenderPass) (own : SurfaceView)
+pub passes_more : (area : Rect) (root : List ℕ) (last : ℕ) (passes : List RenderPass) (surfaces : List SurfaceView) (i : ℕ) (pass : RenderPass) (own : SurfaceView)
     → i < length passes → length surfaces ≡ length passes → pass ≡ get_or passes i pass
-    → ShowPasses area (passes_view (take i passes)) (take i surfaces)
-    → ShowsPass area (take i surfaces) (pass_view pass) own
-    → ShowPasses area (passes_view (take (i + 1) passes)) (take (i + 1) (set surfaces i own))
-passes_more area passes surfaces i pass own lt same e before drawn x y on =
+    → ShowOpenPasses area root last (passes_view (take i passes)) (take i surfaces)
+    → ShowsOpenPass area root last (take i surfaces) (pass_view pass) own
+    → ShowOpenPasses area root last (passes_view (take (i + 1) passes)) (take (i + 1) (set surfaces i own))
+passes_more area root last passes surfaces i pass own lt same e before drawn x y on =
     let shown : List Parts = passes_at x y [] (passes_view (take i passes)) in
     let more : take (i + 1) passes ≡ take i passes ++ pass ∷ [] =
     take_more passes i pass lt ∙ ap (λ (p : RenderPass). take i passes ++ p ∷ []) (sym e) in
@@ -109,12 +141,12 @@ passes_more area passes surfaces i pass own lt same e before drawn x y on =
     ∙ ap (passes_at x y []) (sym views)
 
 -- all passes
-pub passes_all : (area : Rect) (passes : List RenderPass) (surfaces : List SurfaceView) (i : ℕ)
+pub passes_all : (area : Rect) (root : List ℕ) (last : ℕ) (passes : List RenderPass) (surfaces : List SurfaceView) (i : ℕ)
     → length passes ≤ i → length surfaces ≡ length passes
-    → ShowPasses area (passes_view (take i passes)) (take i surfaces) → ShowPasses area (passes_view passes) surfaces
-passes_all area passes surfaces i le same shown =
-    subst (λ (ss : List SurfaceView). ShowPasses area (passes_view passes) ss) (take_all i surfaces (omega arith))
-    (subst (λ (ps : List RenderPass). ShowPasses area (passes_view ps) (take i surfaces)) (take_all i passes le) shown)
+    → ShowOpenPasses area root last (passes_view (take i passes)) (take i surfaces) → ShowOpenPasses area root last (passes_view passes) surfaces
+passes_all area root last passes surfaces i le same shown =
+    subst (λ (ss : List SurfaceView). ShowOpenPasses area root last (passes_view passes) ss) (take_all i surfaces (omega arith))
+    (subst (λ (ps : List RenderPass). ShowOpenPasses area root last (passes_view ps) (take i surfaces)) (take_all i passes le) shown)
 
 -- the quads of a pass can be drawn
 pub pass_drawable : (passes : List RenderPass) (i : ℕ) (pass : RenderPass) → PassesCanBeDrawn (passes_view passes) → i < length passes

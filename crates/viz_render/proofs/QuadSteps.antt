@@ -79,15 +79,6 @@ seen_more area passes below quads tops i q old new x y marked lt e before drawn 
           drawn ∙ ap (λ (c : Parts). quad_over cs px py c (quad_view q)) (before (omega arith)) ∙ drawn_more cs px py below quads i q lt e
       | inr high ↦
           let same : top tops x y ≡ i + 1 = omega arith in
-          let hides = (marked x y i xw yh same).1 q e in
+          let hides = marked x y i xw yh same lt q e in
           drawn ∙ hides cs (pixel old (y * near area.w + x)) so_far ∙ drawn_more cs px py below quads i q lt e
     ]
-
--- all numbers of a mask are of quads
-pub seen_all : (area : Rect) (quads : List Quad) (tops : List ℕ) (i x y : ℕ) → AreMarked area quads tops → length quads ≤ i → x < near area.w → y < near area.h
-    → top tops x y ≤ i
-seen_all area quads tops i x y marked le xw yh = number_of quads (top tops x y) i le (λ k e. (marked x y k xw yh e).0)
-  where
-    number_of : (quads : List Quad) (t i : ℕ) → length quads ≤ i → ((k : ℕ) → t ≡ k + 1 → k < length quads) → t ≤ i
-    number_of quads zero i le few = omega arith
-    number_of quads (suc t) i le few = let lt = few t (omega arith) in omega arith

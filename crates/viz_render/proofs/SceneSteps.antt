@@ -1,5 +1,5 @@
 -- A scene, drawn strip by strip.
-use Rattle.std.proofs.Common.{◌≡◌, ℕ, ◌+◌, ◌-◌, ◌*◌, ◌<◌, ◌≤◌, ℤ, pos, ◌+ℤ◌, true, false, cond, List, [], ◌∷◌, ◌++◌, length, inl, inr, sym, ◌∙◌, ap, subst, arith}
+use Rattle.std.proofs.Common.{◌≡◌, ℕ, ◌+◌, ◌-◌, ◌*◌, ◌<◌, ◌≤◌, ℤ, pos, ◌+ℤ◌, ◌-ℤ◌, true, false, cond, List, [], ◌∷◌, ◌++◌, length, inl, inr, sym, ◌∙◌, ap, subst, arith}
 use Rattle.std.specs.Prelude.{All, slice_index_or}
 use Rattle.std.proofs.Math.Nat.{mul-le-mul_left}
 use Rattle.std.proofs.lemmas.Int.{ints}
@@ -13,12 +13,15 @@ use Rattle.pixel.specs.Colours.{Parts}
 use Rattle.pixel.specs.Rows.{pixel}
 use Rattle.pixel.specs.Surfaces.{IsPart, IsInside, EachPixel, within_rows, in_rows}
 use Rattle.pixel.specs.declared.Area.{Area}
+use Rattle.page_display_list.specs.Bitmaps.{near}
 use Rattle.viz_scene.specs.declared.RenderPass.{RenderPass}
 use Rattle.viz_scene.specs.Views.{QuadView, tiled, plain, grouped, pass_view, passes_view, SceneView}
 use Rattle.viz_scene.specs.Pixels.{quads_over, passes_at, scene_pixel}
 use Rattle.viz_scene.specs.Sound.{IsIn, QuadFits, IsSceneSide, IsScene}
 use Rattle.viz_scene.proofs.Steps.{sound_at, scene_last}
-use Rattle.viz_render.specs.inner.Drawing.{SurfaceView, CanBeDrawn, PassesCanBeDrawn, ShowsQuads, ShowPasses}
+use Rattle.viz_render.specs.inner.Drawing.{SurfaceView, colours, CanBeDrawn, PassesCanBeDrawn, ShowsQuads}
+use Rattle.viz_render.specs.inner.Masks.{top}
+use Rattle.viz_render.specs.inner.Shown.{ShowsNoPass, ShowOpenPasses}
 use Rattle.viz_render.specs.Surfaces.{ShowsArea}
 use Rattle.viz_render.specs.inner.Rooms.{HasRoom}
 use Rattle.viz_render.specs.declared.pass_surfaces.PassSurfaces.{PassSurfaces}
@@ -77,21 +80,49 @@ pub passes_count : (s : SceneView) (all inner : List RenderPass) (root : RenderP
 passes_count s all inner root e f =
     ap length (passes_split s all inner root e f) ∙ length-append (passes_view inner) (pass_view root ∷ []) ∙ ap (λ (n : ℕ). n + 1) (length-map inner pass_view)
 
--- the root over the background, where the passes before it are drawn
-pub scene_shown : (s : SceneView) (area : Rect) (all inner : List RenderPass) (root : RenderPass) (surfaces : List SurfaceView) (surface : List ℕ)
-    → passes_view all ≡ s.passes → all ≡ inner ++ root ∷ []
-    → ShowPasses area (passes_view inner) surfaces → ShowsQuads area surfaces s.background (pass_view root) surface → ShowsArea s area surface
-scene_shown s area all inner root surfaces surface e f before drawn x y xw yh =
+-- a place of a span, counted from its start
+pub place_back : (at : ℤ) (n : ℕ) → near ((at +ℤ pos n) -ℤ at) ≡ n
+place_back at n = ap near (same at n)
+  where
+    same : (at : ℤ) (n : ℕ) → (at +ℤ pos n) -ℤ at ≡ pos n
+    same at n = omega (arith, ints)
+
+-- what the root shows at a pixel: the passes before it where they are seen, and elsewhere the same over any passes
+pub root_over : (area : Rect) (tops : List ℕ) (last x y : ℕ) (surfaces : List SurfaceView) (passes : List (List QuadView)) (quads : List QuadView) (below : Parts)
+    → x < near area.w → y < near area.h → ShowOpenPasses area tops last passes surfaces
+    → (last < top tops x y → ShowsNoPass quads (area.x +ℤ pos x) (area.y +ℤ pos y))
+    → quads_over (colours surfaces (area.x +ℤ pos x) (area.y +ℤ pos y)) (area.x +ℤ pos x) (area.y +ℤ pos y) below quads
+    ≡ quads_over (passes_at (area.x +ℤ pos x) (area.y +ℤ pos y) [] passes) (area.x +ℤ pos x) (area.y +ℤ pos y) below quads
+root_over area tops last x y surfaces passes quads below xw yh before apart =
     let px = area.x +ℤ pos x in
     let py = area.y +ℤ pos y in
-    let last : scene_pixel (record { w = s.w; h = s.h; background = s.background; passes = passes_view inner ++ pass_view root ∷ [] }) px py
+    elim (cases_lt last (top tops x y)) as (λ _. quads_over (colours surfaces px py) px py below quads ≡ quads_over (passes_at px py [] passes) px py below quads) [
+      | inl hidden ↦ apart hidden (colours surfaces px py) (passes_at px py [] passes) below
+      | inr seen ↦
+          let here : top tops (near (px -ℤ area.x)) (near (py -ℤ area.y)) ≤ last =
+          subst (λ (n : ℕ). top tops n (near (py -ℤ area.y)) ≤ last) (sym (place_back area.x x))
+          (subst (λ (n : ℕ). top tops x n ≤ last) (sym (place_back area.y y)) seen) in
+          ap (λ (cs : List Parts). quads_over cs px py below quads)
+          (before px py (both_of _ _ (in_place area.x area.w x xw) (in_place area.y area.h y yh), here))
+    ]
+
+-- the root over the background, where the passes before it are drawn where they are seen
+pub scene_shown : (s : SceneView) (area : Rect) (tops : List ℕ) (last : ℕ) (all inner : List RenderPass) (root : RenderPass) (surfaces : List SurfaceView) (surface : List ℕ)
+    → passes_view all ≡ s.passes → all ≡ inner ++ root ∷ []
+    → ShowOpenPasses area tops last (passes_view inner) surfaces
+    → ((x y : ℕ) → x < near area.w → y < near area.h → last < top tops x y → ShowsNoPass (pass_view root) (area.x +ℤ pos x) (area.y +ℤ pos y))
+    → ShowsQuads area surfaces s.background (pass_view root) surface → ShowsArea s area surface
+scene_shown s area tops last all inner root surfaces surface e f before apart drawn x y xw yh =
+    let px = area.x +ℤ pos x in
+    let py = area.y +ℤ pos y in
+    let end : scene_pixel (record { w = s.w; h = s.h; background = s.background; passes = passes_view inner ++ pass_view root ∷ [] }) px py
     ≡ quads_over (passes_at px py [] (passes_view inner)) px py s.background (pass_view root) =
     scene_last s.w s.h s.background (passes_view inner) (pass_view root) px py in
     let whole : scene_pixel s px py ≡ scene_pixel (record { w = s.w; h = s.h; background = s.background; passes = passes_view inner ++ pass_view root ∷ [] }) px py =
     ap (λ (ps : List (List QuadView)). scene_pixel (record { w = s.w; h = s.h; background = s.background; passes = ps }) px py) (passes_split s all inner root e f) in
     drawn x y xw yh
-    ∙ ap (λ (cs : List Parts). quads_over cs px py s.background (pass_view root)) (before px py (both_of _ _ (in_place area.x area.w x xw) (in_place area.y area.h y yh)))
-    ∙ sym (whole ∙ last)
+    ∙ root_over area tops last x y surfaces (passes_view inner) (pass_view root) s.background xw yh before (apart x y xw yh)
+    ∙ sym (whole ∙ end)
 
 -- a strip is no larger than the surfaces
 pub strip_size : (w h wide tall : ℕ) → w ≤ wide → h ≤ tall → 4 * (w * h) ≤ 4 * (wide * tall)

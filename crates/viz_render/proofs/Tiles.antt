@@ -16,7 +16,7 @@ use Rattle.page_display_list.specs.Shared.{IsShared}
 use Rattle.page_display_list.specs.declared.CoveredArea.{CoveredArea}
 use Rattle.tile_raster.specs.Images.{Image, IsRow, AreSameRows, IsOneColour, list_colour}
 use Rattle.viz_scene.specs.Pixels.{placed_pixel}
-use Rattle.viz_scene.specs.Sound.{IsTaken}
+use Rattle.viz_scene.specs.Sound.{IsTaken, IsIn}
 use Rattle.viz_render.specs.inner.Drawing.{rows_from, part_pixel, laid_on}
 use Rattle.viz_render.specs.inner.Masks.{EachOpen, EachOpenPoint}
 
@@ -29,6 +29,14 @@ where_held false c d below h = refl
 pub near_is : (z : ℤ) → pos 0 ≤ℤ z → pos (near z) ≡ z
 near_is (pos n) h = refl
 near_is (negsuc n) h = absurd (omega (arith, ints))
+
+-- an area of a screen is no wider than the largest
+pub narrow : (area : Rect) → IsIn 2048 2048 area → near area.w ≤ 2048
+narrow area i =
+    let w = near_is area.w i.width in
+    let left = i.left in
+    let right = i.right in
+    omega (arith, ints)
 
 -- the place of the image that belongs to a place of the part, on one axis
 place_in : (start from at point : ℤ) (x first skipped : ℕ) → pos 0 ≤ℤ from → at ≤ℤ point

@@ -3,3 +3,4 @@ pub mod Hulls
 pub mod Masks
 pub mod Paints
 pub mod Rooms
+pub mod Shown

@@ -9,7 +9,7 @@ ghost use Rattle.viz_scene.specs.Views.{quad_view, quads_view, plain, tiled};
 ghost use Rattle.viz_scene.specs.Sound.{IsTaken};
 ghost use Rattle.tile_raster.specs.Images.{AreSameRows};
 ghost use Rattle.viz_render.specs.inner.Drawing.{CanBeDrawn, part_pixel};
-ghost use Rattle.viz_render.specs.inner.Masks.{Hides, HidesIn, IsOfBlock, Marks, AreMarked};
+ghost use Rattle.viz_render.specs.inner.Masks.{Hides, HidesIn, IsOfBlock, Marks, AreMarked, HaveNumbers};
 
 use crate::surface::Surface;
 use crate::tile::{equal_rows_at, row_number, taken_part};
@@ -20,7 +20,7 @@ use tile_raster::TileImage;
 use viz_scene::Quad;
 use viz_surface::are_sixteen_opaque;
 
-/// Marks what the opaque ones of some quads hide of an area, on a mask without a mark.
+/// Marks what the opaque ones of some quads hide of an area, on blocks without a number.
 pub(crate) fn mark_quads(tops: &mut [usize], area: Rect, quads: &[Quad], passes: &[Surface])
     requires tops { length tops.old ≡ 1032 }
     requires area { IsSound area }
@@ -30,6 +30,7 @@ pub(crate) fn mark_quads(tops: &mut [usize], area: Rect, quads: &[Quad], passes:
     requires marked { AreMarked area quads.now tops.old }
     ensures size { length tops.new ≡ 1032 }
     ensures marked { AreMarked area quads.now tops.new }
+    ensures numbers { HaveNumbers (length quads.now) tops.old tops.new }
 {
     let mut number = quads.len();
     while number > 0 {

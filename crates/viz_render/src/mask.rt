@@ -1,11 +1,11 @@
 //! What of an area opaque quads hide.
 
-ghost use Rattle.std.specs.Prelude.{◌≡◌, ℕ, ◌≤◌, All, length, slice_index};
+ghost use Rattle.std.specs.Prelude.{◌≡◌, ◌≢◌, ℕ, ◌<◌, ◌≤◌, ◌⊎◌, All, length, slice_index};
 ghost use Rattle.geom.specs.Covers.{IsSound};
 ghost use Rattle.page_display_list.specs.Bitmaps.{near};
 ghost use Rattle.viz_scene.specs.Views.{quads_view};
 ghost use Rattle.viz_render.specs.inner.Drawing.{CanBeDrawn};
-ghost use Rattle.viz_render.specs.inner.Masks.{AreMarked};
+ghost use Rattle.viz_render.specs.inner.Masks.{AreMarked, HaveNumbers, AreNumbers, AreOpenNumbers, AreHidden};
 
 use crate::marks::mark_quads;
 use crate::surface::Surface;
@@ -16,6 +16,9 @@ use viz_scene::{Quad, Scene};
 
 /// How many numbers a mask has: those of the blocks of 64 rows, 129 in each row of them.
 const COUNT: usize = 1032;
+
+/// How many pixels a block has.
+const PIXELS_OF_BLOCK: i32 = 128;
 
 /// How often the tiles and rects of a pass have to cover the screen on average for a mask to pay.
 const DEPTH: i32 = 3;
@@ -97,11 +100,53 @@ impl Mask {
         requires wide { near area.w ≤ 2048 }
         requires low { near area.h ≤ 64 }
         requires quads { All (CanBeDrawn (length passes.now)) (quads_view quads.now) }
-        ensures { AreMarked area quads.now self.new.tops }
+        ensures marked { AreMarked area quads.now self.new.tops }
+        ensures numbers { AreNumbers (length quads.now) self.new.tops }
     {
         let highest = self.highest;
         let deep = self.is_deep(passes.len());
         self.highest = marked(self.tops.as_mut_slice(), highest, deep, area, quads, passes);
+    }
+
+    /// Marks the same of an area of a pass before the root. Blocks of the area on which the root's mask hides a quad of
+    /// this number have a number after those of all quads.
+    pub(crate) fn mark_open(
+        &mut self,
+        area: Rect,
+        quads: &[Quad],
+        passes: &[Surface],
+        root: &Mask,
+        last: usize,
+    )
+        requires area { IsSound area }
+        requires wide { near area.w ≤ 2048 }
+        requires low { near area.h ≤ 64 }
+        requires quads { All (CanBeDrawn (length passes.now)) (quads_view quads.now) }
+        ensures marked { AreMarked area quads.now self.new.tops }
+        ensures numbers { AreOpenNumbers (length quads.now) root.now.tops last self.new.tops }
+    {
+        let deep = self.is_deep(passes.len());
+        self.highest = open_marked(
+            self.tops.as_mut_slice(),
+            root.tops(),
+            last,
+            deep,
+            area,
+            quads,
+            passes,
+        );
+    }
+
+    /// Whether a quad of this number is hidden on most blocks of an area.
+    pub(crate) fn hides_most(&self, area: Rect, number: usize) -> bool {
+        if self.highest <= number {
+            return false;
+        }
+        let mut hidden = 0i32;
+        for top in self.tops.as_slice() {
+            hidden = hidden.wrapping_add((*top > number) as i32);
+        }
+        hidden.saturating_mul(PIXELS_OF_BLOCK) > area.w.saturating_mul(area.h) / 2
     }
 }
 
@@ -124,6 +169,7 @@ fn marked(
     ensures size { length tops.new ≡ 1032 }
     ensures bound { (i : ℕ) → slice_index tops.new i ≤ result }
     ensures marked { AreMarked area quads.now tops.new }
+    ensures numbers { AreNumbers (length quads.now) tops.new }
 {
     clear(tops, highest);
     if deep {
@@ -164,9 +210,65 @@ fn mark_deep(tops: &mut [usize], area: Rect, quads: &[Quad], passes: &[Surface])
     ensures size { length tops.new ≡ length tops.old }
     ensures bound { (i : ℕ) → slice_index tops.new i ≤ result }
     ensures marked { AreMarked area quads.now tops.new }
+    ensures numbers { HaveNumbers (length quads.now) tops.old tops.new }
 {
     mark_quads(tops, area, quads, passes);
     highest_of(tops)
+}
+
+// the highest number of a mask after it was made for some quads of an area of which the root's mask hides blocks
+fn open_marked(
+    tops: &mut [usize],
+    root: &[usize],
+    last: usize,
+    deep: bool,
+    area: Rect,
+    quads: &[Quad],
+    passes: &[Surface],
+) -> usize
+    requires tops { length tops.old ≡ 1032 }
+    requires root { length root.now ≡ 1032 }
+    requires area { IsSound area }
+    requires wide { near area.w ≤ 2048 }
+    requires low { near area.h ≤ 64 }
+    requires quads { All (CanBeDrawn (length passes.now)) (quads_view quads.now) }
+    ensures size { length tops.new ≡ 1032 }
+    ensures bound { (i : ℕ) → slice_index tops.new i ≤ result }
+    ensures marked { AreMarked area quads.now tops.new }
+    ensures numbers { AreOpenNumbers (length quads.now) root.now last tops.new }
+{
+    hide_blocks(tops, root, last, quads.len() + 1);
+    if deep {
+        mark_deep(tops, area, quads, passes)
+    } else {
+        highest_of(tops)
+    }
+}
+
+// gives the blocks on which the root's mask hides a quad of number `last` this number, and all others 0
+fn hide_blocks(tops: &mut [usize], root: &[usize], last: usize, number: usize)
+    requires tops { length tops.old ≡ 1032 }
+    requires root { length root.now ≡ 1032 }
+    ensures size { length tops.new ≡ 1032 }
+    ensures hidden { AreHidden root.now last number 1032 tops.new }
+{
+    for place in 0..COUNT {
+        hide_block(tops, place, root[place], last, number);
+    }
+}
+
+// gives a block this number where that of the root's mask is above `last`, else 0
+fn hide_block(tops: &mut [usize], place: usize, top: usize, last: usize, number: usize)
+    requires place { place < length tops.old }
+    ensures size { length tops.new ≡ length tops.old }
+    ensures there { (slice_index tops.new place ≡ 0) ⊎ ((last < top) × (slice_index tops.new place ≡ number)) }
+    ensures other { (i : ℕ) → i ≢ place → slice_index tops.new i ≡ slice_index tops.old i }
+{
+    if top > last {
+        tops[place] = number;
+    } else {
+        tops[place] = 0;
+    }
 }
 
 // the highest of some numbers

@@ -5,11 +5,13 @@ ghost use Rattle.page_display_list.specs.Bitmaps.{near, byte_count};
 ghost use Rattle.viz_scene.specs.Views.{passes_view};
 ghost use Rattle.viz_scene.specs.Sound.{IsIn};
 ghost use Rattle.viz_render.specs.Surfaces.{ShowsArea};
-ghost use Rattle.viz_render.specs.inner.Drawing.{AreRoomy, PassesCanBeDrawn, ShowPasses};
+ghost use Rattle.viz_render.specs.inner.Drawing.{AreRoomy, PassesCanBeDrawn};
 ghost use Rattle.viz_render.specs.inner.Rooms.{HasRoom};
+ghost use Rattle.viz_render.specs.inner.Shown.{ShowOpenPasses};
 
 use crate::mask::Mask;
 use crate::passes::{draw_pass, draw_passes};
+use crate::shown::last_group;
 use crate::surface::Surface;
 use geom::Rect;
 use std::alloc::{AllocError, Global};
@@ -21,8 +23,10 @@ pub(crate) struct PassSurfaces {
     // those of the passes before the root
     pub(crate) passes: Vec<Surface>,
     pub(crate) root: Surface,
-    // what opaque quads hide of the current pass
+    // what opaque quads hide of the current one of these passes
     pub(crate) mask: Mask,
+    // what they hide of the root
+    pub(crate) root_mask: Mask,
 }
 
 impl PassSurfaces {
@@ -40,6 +44,7 @@ impl PassSurfaces {
             passes: inner_surfaces(alloc, inner, pixels)?,
             root: Surface::new(alloc, pixels)?,
             mask: Mask::new(alloc, scene)?,
+            root_mask: Mask::new(alloc, scene)?,
         })
     }
 }
@@ -57,7 +62,8 @@ fn inner_surfaces(alloc: Global, count: usize, pixels: usize) -> Result<Vec<Surf
     Ok(surfaces)
 }
 
-/// Draws the pixels of an area of all passes of a scene; those of the root are the scene's.
+/// Draws the pixels of an area of the passes of a scene: those of the root, which are the scene's, and of the passes before
+/// it at least those that are seen.
 pub(crate) fn draw_scene(scene: &Scene, area: Rect, surfaces: &mut PassSurfaces)
     requires area { IsIn 2048 2048 area }
     requires low { near area.h ≤ 64 }
@@ -68,27 +74,45 @@ pub(crate) fn draw_scene(scene: &Scene, area: Rect, surfaces: &mut PassSurfaces)
     let Some((root, inner)) = scene.passes().split_last() else {
         return;
     };
-    draw_inner(inner, area, &mut surfaces.passes, &mut surfaces.mask);
+    let quads = root.quads.as_slice();
+    let last = last_group(quads);
+    surfaces.root_mask.mark(area, quads, &surfaces.passes);
+    draw_inner(
+        inner,
+        area,
+        &mut surfaces.passes,
+        &mut surfaces.mask,
+        &surfaces.root_mask,
+        last,
+    );
     draw_pass(
         &mut surfaces.root,
         scene.background(),
         area,
-        &root.quads,
+        quads,
         &surfaces.passes,
-        &mut surfaces.mask,
+        &surfaces.root_mask,
     );
 }
 
-// draws the pixels of an area of the passes before the root
-fn draw_inner(passes: &[RenderPass], area: Rect, surfaces: &mut Vec<Surface>, mask: &mut Mask)
+// draws the pixels of an area of the passes before the root, at least where the root's mask leaves its quad of this number
+// to be seen
+fn draw_inner(
+    passes: &[RenderPass],
+    area: Rect,
+    surfaces: &mut Vec<Surface>,
+    mask: &mut Mask,
+    root: &Mask,
+    last: usize,
+)
     requires area { IsIn 2048 2048 area }
     requires low { near area.h ≤ 64 }
     requires each { length surfaces.old.items ≡ length passes.now }
     requires quads { PassesCanBeDrawn (passes_view passes.now) }
     requires room { AreRoomy (byte_count area.w area.h) surfaces.old.items }
-    ensures pixels { ShowPasses area (passes_view passes.now) surfaces.new.items }
+    ensures pixels { ShowOpenPasses area root.now.tops last (passes_view passes.now) surfaces.new.items }
     ensures count { length surfaces.new.items ≡ length surfaces.old.items }
     ensures room { (n : ℕ) → AreRoomy n surfaces.old.items → AreRoomy n surfaces.new.items }
 {
-    draw_passes(passes, area, surfaces.as_mut_slice(), mask);
+    draw_passes(passes, area, surfaces.as_mut_slice(), mask, root, last);
 }

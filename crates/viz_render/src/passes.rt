@@ -6,7 +6,9 @@ ghost use Rattle.pixel.specs.Rows.{ArePremultiplied};
 ghost use Rattle.page_display_list.specs.Bitmaps.{near, byte_count};
 ghost use Rattle.viz_scene.specs.Views.{quads_view, passes_view};
 ghost use Rattle.viz_scene.specs.Sound.{IsIn};
-ghost use Rattle.viz_render.specs.inner.Drawing.{CanBeDrawn, AreRoomy, PassesCanBeDrawn, ShowsQuads, ShowsPass, ShowPasses};
+ghost use Rattle.viz_render.specs.inner.Drawing.{CanBeDrawn, AreRoomy, PassesCanBeDrawn, ShowsPass};
+ghost use Rattle.viz_render.specs.inner.Masks.{AreMarked};
+ghost use Rattle.viz_render.specs.inner.Shown.{ShowsSeen, ShowsOpenPass, ShowOpenPasses};
 
 use crate::hull::hull_of;
 use crate::mask::Mask;
@@ -17,29 +19,79 @@ use geom::Rect;
 use pixel::Colour;
 use viz_scene::{Quad, RenderPass};
 
-/// Draws the pixels of an area of each pass into its surface, inner passes first.
+/// Draws the pixels of an area of each pass into its surface, inner passes first, at least where the root's mask leaves
+/// its quad of this number to be seen.
 pub(crate) fn draw_passes(
     passes: &[RenderPass],
     area: Rect,
     surfaces: &mut [Surface],
     mask: &mut Mask,
+    root: &Mask,
+    last: usize,
 )
     requires area { IsIn 2048 2048 area }
     requires low { near area.h ≤ 64 }
     requires each { length surfaces.old ≡ length passes.now }
     requires quads { PassesCanBeDrawn (passes_view passes.now) }
     requires room { AreRoomy (byte_count area.w area.h) surfaces.old }
-    ensures pixels { ShowPasses area (passes_view passes.now) surfaces.new }
+    ensures pixels { ShowOpenPasses area root.now.tops last (passes_view passes.now) surfaces.new }
     ensures room { (n : ℕ) → AreRoomy n surfaces.old → AreRoomy n surfaces.new }
 {
     for (i, pass) in passes.iter().enumerate() {
         let (before, rest) = surfaces.split_at_mut(i);
-        draw_inner_pass(&mut rest[0], area, &pass.quads, before, mask);
+        draw_inner_pass(&mut rest[0], area, &pass.quads, before, mask, root, last);
     }
 }
 
-// draws the pixels of an area of one pass before the root: only where its quads draw
+// draws the pixels of an area of one pass before the root, as `draw_passes` does; where much of it is hidden, no other
+// ones
 fn draw_inner_pass(
+    surface: &mut Surface,
+    area: Rect,
+    quads: &[Quad],
+    passes: &[Surface],
+    mask: &mut Mask,
+    root: &Mask,
+    last: usize,
+)
+    requires area { IsIn 2048 2048 area }
+    requires low { near area.h ≤ 64 }
+    requires quads { All (CanBeDrawn (length passes.now)) (quads_view quads.now) }
+    requires room { byte_count area.w area.h ≤ length surface.old.bytes }
+    ensures pixels { ShowsOpenPass area root.now.tops last passes.now (quads_view quads.now) surface.new }
+    ensures size { length surface.new.bytes ≡ length surface.old.bytes }
+{
+    if root.hides_most(area, last) {
+        draw_open_pass(surface, area, quads, passes, mask, root, last);
+    } else {
+        draw_whole_pass(surface, area, quads, passes, mask);
+    }
+}
+
+// draws the pixels of an area of one pass before the root: only where the root's mask leaves its quad of this number to
+// be seen
+fn draw_open_pass(
+    surface: &mut Surface,
+    area: Rect,
+    quads: &[Quad],
+    passes: &[Surface],
+    mask: &mut Mask,
+    root: &Mask,
+    last: usize,
+)
+    requires area { IsIn 2048 2048 area }
+    requires low { near area.h ≤ 64 }
+    requires quads { All (CanBeDrawn (length passes.now)) (quads_view quads.now) }
+    requires room { byte_count area.w area.h ≤ length surface.old.bytes }
+    ensures pixels { ShowsOpenPass area root.now.tops last passes.now (quads_view quads.now) surface.new }
+    ensures size { length surface.new.bytes ≡ length surface.old.bytes }
+{
+    mask.mark_open(area, quads, passes, root, last);
+    draw_pass(surface, Colour::CLEAR, area, quads, passes, mask);
+}
+
+// draws the pixels of an area of one pass before the root: only where its quads draw
+fn draw_whole_pass(
     surface: &mut Surface,
     area: Rect,
     quads: &[Quad],
@@ -54,25 +106,28 @@ fn draw_inner_pass(
     ensures size { length surface.new.bytes ≡ length surface.old.bytes }
 {
     let hull = hull_of(quads, area, passes);
+    mask.mark(hull, quads, passes);
     draw_pass(surface, Colour::CLEAR, hull, quads, passes, mask);
 }
 
-/// Draws the pixels of a pass on a rect over a colour. The passes before it have surfaces.
+/// Draws the pixels of a pass on a rect over a colour, but for what the mask of its quads hides. The passes before it
+/// have surfaces.
 pub(crate) fn draw_pass(
     surface: &mut Surface,
     below: Colour,
     area: Rect,
     quads: &[Quad],
     passes: &[Surface],
-    mask: &mut Mask,
+    mask: &Mask,
 )
     requires area { IsSound area }
     requires wide { near area.w ≤ 2048 }
     requires low { near area.h ≤ 64 }
     requires quads { All (CanBeDrawn (length passes.now)) (quads_view quads.now) }
+    requires marked { AreMarked area quads.now mask.now.tops }
     requires room { byte_count area.w area.h ≤ length surface.old.bytes }
     ensures rect { surface.new.rect ≡ area }
-    ensures pixels { ShowsQuads area passes.now below (quads_view quads.now) surface.new.bytes }
+    ensures pixels { ShowsSeen (length quads.now) area mask.now.tops passes.now below (quads_view quads.now) surface.new.bytes }
     ensures size { length surface.new.bytes ≡ length surface.old.bytes }
 {
     draw_over(
@@ -86,25 +141,26 @@ pub(crate) fn draw_pass(
     surface.rect = area;
 }
 
-/// Draws quads over a colour into the first of some bytes. The passes before theirs have surfaces.
+/// Draws quads over a colour into the first of some bytes, but for what their mask hides. The passes before theirs have
+/// surfaces.
 pub(crate) fn draw_over(
     bytes: &mut [u8],
     below: Colour,
     area: Rect,
     quads: &[Quad],
     passes: &[Surface],
-    mask: &mut Mask,
+    mask: &Mask,
 )
     requires area { IsSound area }
     requires wide { near area.w ≤ 2048 }
     requires low { near area.h ≤ 64 }
     requires quads { All (CanBeDrawn (length passes.now)) (quads_view quads.now) }
+    requires marked { AreMarked area quads.now mask.now.tops }
     requires room { byte_count area.w area.h ≤ length bytes.old }
-    ensures pixels { ShowsQuads area passes.now below (quads_view quads.now) bytes.new }
+    ensures pixels { ShowsSeen (length quads.now) area mask.now.tops passes.now below (quads_view quads.now) bytes.new }
     ensures premultiplied { ArePremultiplied bytes.old → ArePremultiplied bytes.new }
 {
     let size = 4 * (width_of(area) * height_of(area));
     let surface = &mut bytes[..size];
-    mask.mark(area, quads, passes);
     draw_quads(surface, below, area, quads, passes, mask);
 }

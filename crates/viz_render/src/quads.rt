@@ -6,8 +6,9 @@ ghost use Rattle.pixel.specs.Rows.{ArePremultiplied};
 ghost use Rattle.page_display_list.specs.Bitmaps.{near, byte_count};
 ghost use Rattle.viz_scene.specs.Views.{quad_view, quads_view};
 ghost use Rattle.viz_scene.specs.Pixels.{quad_over};
-ghost use Rattle.viz_render.specs.inner.Drawing.{colours, CanBeDrawn, ShowsQuads};
+ghost use Rattle.viz_render.specs.inner.Drawing.{colours, CanBeDrawn};
 ghost use Rattle.viz_render.specs.inner.Masks.{AreMarked, EachOpenPoint};
+ghost use Rattle.viz_render.specs.inner.Shown.{ShowsSeen};
 
 use crate::blank::fill_open;
 use crate::group::draw_group;
@@ -36,7 +37,7 @@ pub(crate) fn draw_quads(
     requires size { length surface.old ≡ byte_count area.w area.h }
     requires quads { All (CanBeDrawn (length passes.now)) (quads_view quads.now) }
     requires marked { AreMarked area quads.now mask.now.tops }
-    ensures pixels { ShowsQuads area passes.now below (quads_view quads.now) surface.new }
+    ensures pixels { ShowsSeen (length quads.now) area mask.now.tops passes.now below (quads_view quads.now) surface.new }
     ensures size { length surface.new ≡ length surface.old }
     ensures premultiplied { ArePremultiplied surface.old → ArePremultiplied surface.new }
 {

@@ -72,6 +72,7 @@ impl Surfaces {
         ensures { self.new ≡ self.old }
     {
         self.passes.mask.measure(scene);
+        self.passes.root_mask.measure(scene);
     }
 
     /// Whether a mask pays in some pass of the scene that was measured last. Then high strips take less time than low

@@ -9,7 +9,7 @@ use Rattle.page_display_list.specs.declared.CoveredArea.{CoveredArea}
 use Rattle.page_display_list.specs.Bitmaps.{near, byte_count}
 use Rattle.tile_raster.specs.Images.{Image, list_colour}
 use Rattle.viz_scene.specs.Views.{QuadView, tiled, plain, grouped}
-use Rattle.viz_scene.specs.Pixels.{quads_over, passes_at}
+use Rattle.viz_scene.specs.Pixels.{quads_over}
 use Rattle.viz_scene.specs.Sound.{IsTaken}
 
 -- rows `r` to `r + n` of an area
@@ -71,7 +71,3 @@ ShowsQuads area passes below quads bytes =
 abbrev pub ShowsPass : Rect → List SurfaceView → List QuadView → SurfaceView → Type 0
 ShowsPass area passes quads surface =
     (x y : ℤ) → covers area x y ≡ true → colour_of surface x y ≡ quads_over (colours passes x y) x y clear quads
-
--- the colours of surfaces on an area are those of passes
-abbrev pub ShowPasses : Rect → List (List QuadView) → List SurfaceView → Type 0
-ShowPasses area passes surfaces = (x y : ℤ) → covers area x y ≡ true → colours surfaces x y ≡ passes_at x y [] passes

@@ -46,11 +46,27 @@ Hides q x y = (passes : List Parts) (c d : Parts) → quad_over passes x y c q �
 abbrev pub Marks : ℕ → (ℕ → ℕ → Type 0) → List ℕ → List ℕ → Type 0
 Marks n H old new = (x y : ℕ) → x < 2064 → (top new x y ≡ top old x y) ⊎ ((top new x y ≡ n) × H x y)
 
--- a block without a number was not marked, and any other one by a quad that hides what is below it
+-- a block with the number of a quad was marked by one that hides what is below it
 abbrev pub AreMarked : Rect → List Quad → List ℕ → Type 0
 AreMarked area quads tops =
-    (x y k : ℕ) → x < near area.w → y < near area.h → top tops x y ≡ k + 1
-    → (k < length quads) × ((q : Quad) → q ≡ get_or quads k q → Hides (quad_view q) (area.x +ℤ pos x) (area.y +ℤ pos y))
+    (x y k : ℕ) → x < near area.w → y < near area.h → top tops x y ≡ k + 1 → k < length quads
+    → (q : Quad) → q ≡ get_or quads k q → Hides (quad_view q) (area.x +ℤ pos x) (area.y +ℤ pos y)
+
+-- a block has the number that it had, or one up to `n`
+abbrev pub HaveNumbers : ℕ → List ℕ → List ℕ → Type 0
+HaveNumbers n old new = (x y : ℕ) → x < 2064 → (top new x y ≡ top old x y) ⊎ (top new x y ≤ n)
+
+-- each block has a number up to `n`
+abbrev pub AreNumbers : ℕ → List ℕ → Type 0
+AreNumbers n tops = (x y : ℕ) → x < 2064 → y < 64 → top tops x y ≤ n
+
+-- so has each block on which another mask does not hide a quad of number `last`
+abbrev pub AreOpenNumbers : ℕ → List ℕ → ℕ → List ℕ → Type 0
+AreOpenNumbers n root last tops = (x y : ℕ) → x < 2064 → y < 64 → top root x y ≤ last → top tops x y ≤ n
+
+-- of the first `count` blocks each has the number 0, or another mask hides a quad of number `last` on it and it has this number
+abbrev pub AreHidden : List ℕ → ℕ → ℕ → ℕ → List ℕ → Type 0
+AreHidden root last number count tops = (i : ℕ) → i < count → (slice_index tops i ≡ 0) ⊎ ((last < slice_index root i) × (slice_index tops i ≡ number))
 
 -- pixel `p` of an area hides what is below it
 abbrev pub HidesIn : Area → (ℕ → ℕ → Parts) → ℕ → ℕ → Type 0

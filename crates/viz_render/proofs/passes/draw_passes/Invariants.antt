@@ -1,11 +1,12 @@
 -- The passes so far are drawn.
 use Rattle.std.specs.Prelude.{ℕ, take}
 use Rattle.viz_scene.specs.Views.{passes_view}
-use Rattle.viz_render.specs.inner.Drawing.{AreRoomy, ShowPasses}
+use Rattle.viz_render.specs.inner.Drawing.{AreRoomy}
+use Rattle.viz_render.specs.inner.Shown.{ShowOpenPasses}
 use Rattle.viz_render.proofs.passes.draw_passes.Given as given
 
 abbrev pub invariant-loop-i : given.invariant-loop-i
 invariant-loop-i l = record {
-  pixels : ShowPasses l.area (passes_view (take l.i l.passes)) (take l.i l.surfaces);
+  pixels : ShowOpenPasses l.area l.root.tops l.last (passes_view (take l.i l.passes)) (take l.i l.surfaces);
   room : (n : ℕ) → AreRoomy n l.initial.surfaces → AreRoomy n l.surfaces;
 }

@@ -8,4 +8,4 @@ returns c =
     let new = c.marked-self-inside.new.tops in
     let whole : take c.self.inside.tops.len (new ++ drop (length new) c.self.inside.tops.items) ≡ new =
     take_at new (drop (length new) c.self.inside.tops.items) c.self.inside.tops.len (omega arith) in
-    rw whole c.marked-self-inside.ensures.marked
+    rw whole (record { marked = c.marked-self-inside.ensures.marked; numbers = c.marked-self-inside.ensures.numbers })

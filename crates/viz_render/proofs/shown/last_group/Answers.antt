@@ -1,0 +1,12 @@
+-- Each quad that is passed by is no group.
+use Rattle.std.proofs.Common.{◌-◌, arith}
+use Rattle.viz_render.proofs.ShownSteps.{one_more, none_after}
+use Rattle.viz_render.proofs.shown.last_group.Goals as goal
+
+pub loop-number-preserved : goal.loop-number-preserved
+loop-number-preserved c = record {
+  some = omega (arith, c.loop-number.invariant.some);
+  after =
+      one_more c.args.quads.now c.loop-number.number (c.loop-number.number - 1) c.index-quads-number.result (omega (arith, c.loop-number-test.true))
+      (omega (arith, c.loop-number-test.true, c.loop-number.invariant.some)) c.index-quads-number.is (c.is_group.ensures c.if-is_group.false) c.loop-number.invariant.after;
+}

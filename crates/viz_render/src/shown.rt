@@ -1,0 +1,33 @@
+//! The last group of a pass.
+
+ghost use Rattle.std.specs.Prelude.{◌≡◌, ◌≤◌, false, length, drop};
+ghost use Rattle.viz_scene.specs.Views.{quad_view, quads_view};
+ghost use Rattle.viz_render.specs.inner.Shown.{IsGroup, HaveNoGroup};
+
+use viz_scene::Quad;
+
+/// The number of the last group among some quads, counted from 1; 0 where there is none.
+pub(crate) fn last_group(quads: &[Quad]) -> usize
+    ensures few { result ≤ length quads.now }
+    ensures after { HaveNoGroup (quads_view (drop result quads.now)) }
+{
+    let mut number = quads.len();
+    while number > 0 {
+        if is_group(&quads[number - 1]) {
+            return number;
+        }
+        number -= 1;
+    }
+    number
+}
+
+// whether a quad is a group
+fn is_group(quad: &Quad) -> bool
+    ensures { result ≡ false → IsGroup (quad_view quad.now) → ⊥ }
+{
+    match quad {
+        Quad::Tile { .. } => false,
+        Quad::Solid { .. } => false,
+        Quad::Group { .. } => true,
+    }
+}
