@@ -97,6 +97,22 @@ band_hides image part row rows bytes is equal fit low x y hides = (
     in_whole : (at : Area) (row rows x y : ℕ) → row + rows ≤ at.h → in_rows (rows_from at row rows) rows x y ≡ true → in_rows at at.h x y ≡ true
     in_whole at row rows x y low held = grind (arith, nat_tests)
 
+-- sixteen opaque pixels of a row, and of the rows that are equal to it, of a block after others
+pub joint_hides : (image : Image) (part : CoveredArea) (block down done rows row : ℕ) (bytes : List ℕ) → IsRow image.list image.rect (part.above + row) bytes
+    → ((k : ℕ) → k < rows → AreSameRows image.list image.rect (part.above + row) (part.above + row + k))
+    → part.left + part.at.w ≤ near image.rect.w → row + rows ≤ part.at.h → part.at.y + row ≡ 8 * down + done
+    → (part.at.x + 15) / 16 ≤ block → block < (part.at.x + part.at.w) / 16 → part.at.y ≤ 8 * down
+    → ((j : ℕ) → j < 16 → (below : Parts) → pixel bytes (16 * block - part.at.x + part.left + j) ≡ blend below (pixel bytes (16 * block - part.at.x + part.left + j)))
+    → ((x y : ℕ) → x / 16 ≡ block → 8 * down ≤ y → y < 8 * down + done → HidesIn part.at (part_pixel image part) x y)
+    → (x y : ℕ) → x / 16 ≡ block → 8 * down ≤ y → y < 8 * down + (done + rows) → HidesIn part.at (part_pixel image part) x y
+joint_hides image part block down done rows row bytes is equal fit low there from to above opaque before x y column start bottom =
+    elim (cases_lt y (8 * down + done)) as (λ _. HidesIn part.at (part_pixel image part) x y) [
+      | inl less ↦ before x y column start less
+      | inr rest ↦
+          band_hides image part row rows bytes is equal fit low x y
+          (block_hides (rows_from part.at row rows) block part.left x y bytes from to opaque (column, omega arith, omega arith))
+    ]
+
 -- where a test holds, what it chooses
 chosen : (t : Bool) (a b c d : Parts) → t ≡ true → a ≡ b → cond t a c ≡ cond t b d
 chosen true a b c d held same = same

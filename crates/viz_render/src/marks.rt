@@ -95,6 +95,20 @@ fn mark_part(tops: &mut [usize], image: &TileImage, part: CoveredArea, number: u
     ensures size { length tops.new ≡ 1032 }
     ensures marks { Marks number (HidesIn part.at (part_pixel image.now part)) tops.old tops.new }
 {
+    mark_bands(tops, image, part, number);
+    mark_joints(tops, image, part, number);
+}
+
+// marks where the rows of a part of an image are opaque, those that are equal at a time
+fn mark_bands(tops: &mut [usize], image: &TileImage, part: CoveredArea, number: usize)
+    requires tops { length tops.old ≡ 1032 }
+    requires wide { part.at.x + part.at.w ≤ 2048 }
+    requires low { part.at.y + part.at.h ≤ 64 }
+    requires columns { part.left + part.at.w ≤ near image.now.rect.w }
+    requires rows { part.above + part.at.h ≤ near image.now.rect.h }
+    ensures size { length tops.new ≡ 1032 }
+    ensures marks { Marks number (HidesIn part.at (part_pixel image.now part)) tops.old tops.new }
+{
     let mut done = 0;
     while done < part.at.h {
         let row = row_number(image, part, done);
@@ -102,6 +116,93 @@ fn mark_part(tops: &mut [usize], image: &TileImage, part: CoveredArea, number: u
         mark_band(tops, image, part, done, rows, number);
         done += rows;
     }
+}
+
+// marks the blocks on which a part of an image is opaque, but not all of its rows are equal
+fn mark_joints(tops: &mut [usize], image: &TileImage, part: CoveredArea, number: usize)
+    requires tops { length tops.old ≡ 1032 }
+    requires wide { part.at.x + part.at.w ≤ 2048 }
+    requires low { part.at.y + part.at.h ≤ 64 }
+    requires columns { part.left + part.at.w ≤ near image.now.rect.w }
+    requires rows { part.above + part.at.h ≤ near image.now.rect.h }
+    ensures size { length tops.new ≡ 1032 }
+    ensures marks { Marks number (HidesIn part.at (part_pixel image.now part)) tops.old tops.new }
+{
+    for down in (part.at.y + 7) / 8..(part.at.y + part.at.h) / 8 {
+        mark_joint(tops, image, part, down, number);
+    }
+}
+
+// marks the same in one row of blocks
+fn mark_joint(tops: &mut [usize], image: &TileImage, part: CoveredArea, down: usize, number: usize)
+    requires tops { length tops.old ≡ 1032 }
+    requires wide { part.at.x + part.at.w ≤ 2048 }
+    requires low { part.at.y + part.at.h ≤ 64 }
+    requires top { (part.at.y + 7) / 8 ≤ down }
+    requires bottom { down < (part.at.y + part.at.h) / 8 }
+    requires columns { part.left + part.at.w ≤ near image.now.rect.w }
+    requires rows { part.above + part.at.h ≤ near image.now.rect.h }
+    ensures size { length tops.new ≡ 1032 }
+    ensures marks { Marks number (HidesIn part.at (part_pixel image.now part)) tops.old tops.new }
+{
+    let row = row_number(image, part, 8 * down - part.at.y);
+    if equal_rows_at(image, row, 8) == 8 {
+        return;
+    }
+    for block in (part.at.x + 15) / 16..(part.at.x + part.at.w) / 16 {
+        mark_over_bands(tops, image, part, block, down, number);
+    }
+}
+
+// marks a block where a part of an image is opaque on it
+fn mark_over_bands(
+    tops: &mut [usize],
+    image: &TileImage,
+    part: CoveredArea,
+    block: usize,
+    down: usize,
+    number: usize,
+)
+    requires tops { length tops.old ≡ 1032 }
+    requires wide { part.at.x + part.at.w ≤ 2048 }
+    requires low { part.at.y + part.at.h ≤ 64 }
+    requires left { (part.at.x + 15) / 16 ≤ block }
+    requires right { block < (part.at.x + part.at.w) / 16 }
+    requires top { (part.at.y + 7) / 8 ≤ down }
+    requires bottom { down < (part.at.y + part.at.h) / 8 }
+    requires columns { part.left + part.at.w ≤ near image.now.rect.w }
+    requires rows { part.above + part.at.h ≤ near image.now.rect.h }
+    ensures size { length tops.new ≡ 1032 }
+    ensures marks { Marks number (HidesIn part.at (part_pixel image.now part)) tops.old tops.new }
+{
+    if tops[down * 129 + block] == 0 && is_opaque_block(image, part, block, down) {
+        mark_one(tops, down * 129 + block, number);
+    }
+}
+
+// whether a part of an image is opaque on a block that it has whole
+fn is_opaque_block(image: &TileImage, part: CoveredArea, block: usize, down: usize) -> bool
+    requires wide { part.at.x + part.at.w ≤ 2048 }
+    requires low { part.at.y + part.at.h ≤ 64 }
+    requires left { (part.at.x + 15) / 16 ≤ block }
+    requires right { block < (part.at.x + part.at.w) / 16 }
+    requires top { (part.at.y + 7) / 8 ≤ down }
+    requires bottom { down < (part.at.y + part.at.h) / 8 }
+    requires columns { part.left + part.at.w ≤ near image.now.rect.w }
+    requires rows { part.above + part.at.h ≤ near image.now.rect.h }
+    ensures { IsTrue result → (x y : ℕ) → x / 16 ≡ block → 8 * down ≤ y → y < 8 * down + 8 → HidesIn part.at (part_pixel image.now part) x y }
+{
+    let first = 8 * down - part.at.y;
+    let mut done = 0;
+    while done < 8 {
+        let row = row_number(image, part, first + done);
+        let pixels = image.row(row);
+        if !are_sixteen_opaque(pixels, 16 * block - part.at.x + part.left) {
+            return false;
+        }
+        done += equal_rows_at(image, row, 8 - done);
+    }
+    true
 }
 
 // marks where the given number of rows of a part of an image, from its row `row` on, are opaque, which are

@@ -2,7 +2,7 @@
 use Rattle.std.specs.Prelude.{◌-◌, ◌≤◌, ◌≡◌, length}
 use Rattle.viz_render.specs.inner.Drawing.{part_pixel}
 use Rattle.viz_render.specs.inner.Masks.{Marks, HidesIn}
-use Rattle.viz_render.proofs.marks.mark_part.Given as given
+use Rattle.viz_render.proofs.marks.mark_bands.Given as given
 
 abbrev pub invariant-loop-done : given.invariant-loop-done
 invariant-loop-done l = record {
