@@ -43,16 +43,16 @@ hull_grows old new x y left top right bottom h =
     let d = before_end old.top old.bottom y k.1 in
     both_of _ _ (is_between new.left new.right x (omega arith) (omega arith)) (is_between new.top new.bottom y (omega arith) (omega arith))
 
-area_left : (at : Area) (x y : ℕ) → holds at x y ≡ true → at.x ≤ x
+pub area_left : (at : Area) (x y : ℕ) → holds at x y ≡ true → at.x ≤ x
 area_left at x y h = grind (arith, nat_tests)
 
-area_right : (at : Area) (x y : ℕ) → holds at x y ≡ true → x < at.x + at.w
+pub area_right : (at : Area) (x y : ℕ) → holds at x y ≡ true → x < at.x + at.w
 area_right at x y h = grind (arith, nat_tests)
 
 area_top : (at : Area) (x y : ℕ) → holds at x y ≡ true → at.y ≤ y
 area_top at x y h = grind (arith, nat_tests)
 
-area_bottom : (at : Area) (x y : ℕ) → holds at x y ≡ true → y < at.y + at.h
+pub area_bottom : (at : Area) (x y : ℕ) → holds at x y ≡ true → y < at.y + at.h
 area_bottom at x y h = grind (arith, nat_tests)
 
 area_taken : (at : Area) (new : Hull) (x y : ℕ) → new.left ≤ at.x → new.top ≤ at.y → at.x + at.w ≤ new.right → at.y + at.h ≤ new.bottom

@@ -21,6 +21,7 @@ use Rattle.viz_scene.specs.Pixels.{placed_pixel}
 use Rattle.viz_scene.specs.Sound.{IsTaken}
 use Rattle.viz_render.specs.inner.Drawing.{rows_from, part_pixel}
 use Rattle.viz_render.specs.inner.Masks.{top, Hides, HidesIn, IsOfBlock, Marks, AreMarked, HaveNumbers, AreNumbers, AreOpenNumbers, AreHidden}
+use Rattle.viz_render.proofs.Hulls.{area_left, area_right}
 use Rattle.viz_render.proofs.Tiles.{taken, pixel_taken, solid_pixel, band_pixel}
 
 -- marks after marks
@@ -196,6 +197,20 @@ zeros_numbered n old new zeros have x y xw yh =
     elim (have x y xw) as (λ _. slice_index new (y / 8 * 129 + x / 16) ≤ n) [
       | inl same ↦ omega arith
       | inr few ↦ few
+    ]
+
+-- a row of blocks whose numbers are above
+pub row_above : (at : Area) (tops : List ℕ) (number down : ℕ) → ((x y : ℕ) → holds at x y ≡ true → y / 8 < down → number < top tops x y)
+    → ((i : ℕ) → down * 129 + at.x / 16 ≤ i → i < down * 129 + (at.x + at.w + 15) / 16 → number < slice_index tops i)
+    → (x y : ℕ) → holds at x y ≡ true → y / 8 < down + 1 → number < top tops x y
+unfolding top
+row_above at tops number down before above x y held lt =
+    elim (cases_lt (y / 8) down) as (λ _. number < slice_index tops (y / 8 * 129 + x / 16)) [
+      | inl less ↦ before x y held less
+      | inr from ↦
+          let left = area_left at x y held in
+          let right = area_right at x y held in
+          above (y / 8 * 129 + x / 16) (omega arith) (omega arith)
     ]
 
 -- ---- blocks that the root's mask hides

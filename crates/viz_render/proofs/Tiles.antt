@@ -18,7 +18,7 @@ use Rattle.tile_raster.specs.Images.{Image, IsRow, AreSameRows, IsOneColour, lis
 use Rattle.viz_scene.specs.Pixels.{placed_pixel}
 use Rattle.viz_scene.specs.Sound.{IsTaken, IsIn}
 use Rattle.viz_render.specs.inner.Drawing.{rows_from, part_pixel, laid_on}
-use Rattle.viz_render.specs.inner.Masks.{EachOpen, EachOpenPoint}
+use Rattle.viz_render.specs.inner.Masks.{top, EachOpen, EachOpenPoint, IsHiddenIn}
 
 -- two colours that are equal where a test holds
 pub where_held : (t : Bool) (c d below : Parts) → (t ≡ true → c ≡ d) → cond t c below ≡ cond t d below
@@ -158,3 +158,14 @@ band_shown w h image part row rows bytes tops number old new is equal fit each x
     ∙ where_held (in_rows (rows_from part.at row rows) rows x y) (blend before (pixel bytes (x - part.at.x + part.left)))
     (blend before (part_pixel image part x y)) before
     (λ t. ap (blend before) (band_pixel image part row rows bytes x y is equal fit t))
+
+-- nothing of a quad is seen where it is hidden as a whole
+pub hidden_whole : (at area : Rect) (part : CoveredArea) (c : ℤ → ℤ → Parts) (tops : List ℕ) (number : ℕ) (old : List ℕ) → IsShared at area part
+    → IsHiddenIn part.at tops number → EachOpenPoint area tops number (laid_on at c) old old
+hidden_whole at area part c tops number old shared hidden x y xw yh seen =
+    at_pixel (covers at (area.x +ℤ pos x) (area.y +ℤ pos y)) (blend (pixel old (y * near area.w + x)) (c (area.x +ℤ pos x) (area.y +ℤ pos y))) (pixel old (y * near area.w + x)) number (top tops x y) seen
+    (λ on. hidden x y (sym (shared.points x y xw yh) ∙ on))
+  where
+    at_pixel : (t : Bool) (drawn below : Parts) (n k : ℕ) → k ≤ n → (t ≡ true → n < k) → below ≡ cond t drawn below
+    at_pixel true drawn below n k le lt = let more = lt refl in absurd (omega arith)
+    at_pixel false drawn below n k le lt = refl

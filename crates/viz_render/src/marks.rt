@@ -11,6 +11,7 @@ ghost use Rattle.tile_raster.specs.Images.{AreSameRows};
 ghost use Rattle.viz_render.specs.inner.Drawing.{CanBeDrawn, part_pixel};
 ghost use Rattle.viz_render.specs.inner.Masks.{Hides, HidesIn, IsOfBlock, Marks, AreMarked, HaveNumbers};
 
+use crate::mask::are_above;
 use crate::surface::Surface;
 use crate::tile::{equal_rows_at, row_number, taken_part};
 use geom::{Point, Rect};
@@ -77,12 +78,30 @@ fn mark_tile(
     let Some(part) = shared_part(at, area) else {
         return;
     };
+    if are_marked(tops, part.at) {
+        return;
+    }
     if let Some(colour) = image.solid() {
         mark_solid(tops, area, at, colour, number);
         return;
     }
     let part = taken_part(part, from);
     mark_part(tops, image, part, number);
+}
+
+// whether all blocks that an area has whole are marked
+fn are_marked(tops: &[usize], at: Area) -> bool
+    requires tops { length tops.now ≡ 1032 }
+    requires wide { at.x + at.w ≤ 2048 }
+    requires low { at.y + at.h ≤ 64 }
+{
+    let (left, right) = ((at.x + 15) / 16, (at.x + at.w) / 16);
+    for down in (at.y + 7) / 8..(at.y + at.h) / 8 {
+        if !are_above(tops, down * 129 + left, down * 129 + right, 0) {
+            return false;
+        }
+    }
+    true
 }
 
 // marks where a part of an image is opaque

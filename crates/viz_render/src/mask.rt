@@ -1,15 +1,16 @@
 //! What of an area opaque quads hide.
 
-ghost use Rattle.std.specs.Prelude.{◌≡◌, ◌≢◌, ℕ, ◌<◌, ◌≤◌, ◌⊎◌, All, length, slice_index};
+ghost use Rattle.std.specs.Prelude.{◌≡◌, ◌≢◌, ℕ, ◌<◌, ◌≤◌, ◌⊎◌, ◌+◌, All, length, slice_index, IsTrue};
 ghost use Rattle.geom.specs.Covers.{IsSound};
 ghost use Rattle.page_display_list.specs.Bitmaps.{near};
 ghost use Rattle.viz_scene.specs.Views.{quads_view};
 ghost use Rattle.viz_render.specs.inner.Drawing.{CanBeDrawn};
-ghost use Rattle.viz_render.specs.inner.Masks.{AreMarked, HaveNumbers, AreNumbers, AreOpenNumbers, AreHidden};
+ghost use Rattle.viz_render.specs.inner.Masks.{AreMarked, HaveNumbers, AreNumbers, AreOpenNumbers, AreHidden, IsHiddenIn};
 
 use crate::marks::mark_quads;
 use crate::surface::Surface;
 use geom::Rect;
+use pixel::Area;
 use std::alloc::{AllocError, Global};
 use std::marker::Model;
 use viz_scene::{Quad, Scene};
@@ -135,6 +136,18 @@ impl Mask {
             quads,
             passes,
         );
+    }
+
+    /// Whether a quad of this number is hidden on all of a part of the area.
+    pub(crate) fn hides(&self, at: Area, number: usize) -> bool
+        requires wide { at.x + at.w ≤ 2048 }
+        requires low { at.y + at.h ≤ 64 }
+        ensures { IsTrue result → IsHiddenIn at self.now.tops number }
+    {
+        if self.highest <= number {
+            return false;
+        }
+        are_blocks_above(&self.tops, at, number)
     }
 
     /// Whether a quad of this number is hidden on most blocks of an area.
@@ -269,6 +282,36 @@ fn hide_block(tops: &mut [usize], place: usize, top: usize, last: usize, number:
     } else {
         tops[place] = 0;
     }
+}
+
+// whether the numbers of all blocks that an area touches are above another
+fn are_blocks_above(tops: &[usize], at: Area, number: usize) -> bool
+    requires tops { length tops.now ≡ 1032 }
+    requires wide { at.x + at.w ≤ 2048 }
+    requires low { at.y + at.h ≤ 64 }
+    ensures { IsTrue result → IsHiddenIn at tops.now number }
+{
+    let (left, right) = (at.x / 16, (at.x + at.w + 15) / 16);
+    for down in at.y / 8..(at.y + at.h + 7) / 8 {
+        if !are_above(tops, down * 129 + left, down * 129 + right, number) {
+            return false;
+        }
+    }
+    true
+}
+
+/// Whether the numbers from place `first` to before `end` are all above another.
+pub(crate) fn are_above(tops: &[usize], first: usize, end: usize, number: usize) -> bool
+    requires { end ≤ length tops.now }
+    ensures { IsTrue result → (i : ℕ) → first ≤ i → i < end → number < slice_index tops.now i }
+{
+    let mut above = true;
+    for place in first..end {
+        if tops[place] <= number {
+            above = false;
+        }
+    }
+    above
 }
 
 // the highest of some numbers

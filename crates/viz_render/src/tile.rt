@@ -44,6 +44,9 @@ pub(crate) fn draw_tile(
     let Some(part) = shared_part(at, area) else {
         return;
     };
+    if mask.hides(part.at, number) {
+        return;
+    }
     if let Some(colour) = image.solid() {
         draw_solid(surface, area, at, colour, mask, number);
         return;

@@ -42,6 +42,10 @@ EachOpenPoint area tops n f old new =
 abbrev pub Hides : QuadView → ℤ → ℤ → Type 0
 Hides q x y = (passes : List Parts) (c d : Parts) → quad_over passes x y c q ≡ quad_over passes x y d q
 
+-- a quad of this number is seen at no pixel of an area
+abbrev pub IsHiddenIn : Area → List ℕ → ℕ → Type 0
+IsHiddenIn at tops n = (x y : ℕ) → holds at x y ≡ true → n < top tops x y
+
 -- a block has the number that it had, or this one, and then `H` holds of its pixels
 abbrev pub Marks : ℕ → (ℕ → ℕ → Type 0) → List ℕ → List ℕ → Type 0
 Marks n H old new = (x y : ℕ) → x < 2064 → (top new x y ≡ top old x y) ⊎ ((top new x y ≡ n) × H x y)

@@ -1,5 +1,5 @@
 -- The tile hides what its image hides.
-use Rattle.std.proofs.Common.{◌<◌, pos, ◌+ℤ◌}
+use Rattle.std.proofs.Common.{◌<◌, pos, ◌+ℤ◌, inl, refl}
 use Rattle.page_display_list.specs.Bitmaps.{near}
 use Rattle.viz_scene.specs.Views.{plain, tiled}
 use Rattle.viz_render.specs.inner.Drawing.{part_pixel}
@@ -23,3 +23,6 @@ returns-in-Some-solid-clause-marks c =
     (λ x y. x < near c.args.area.w → y < near c.args.area.h → Hides (tiled c.args.image.now c.args.at c.args.from) (c.args.area.x +ℤ pos x) (c.args.area.y +ℤ pos y))
     c.args.tops.now c.mark_solid.new.tops c.mark_solid.ensures.marks
     (λ x y hides xw yh. solid_hides c.args.image.now c.args.at c.args.from c.in-Some-solid.colour (c.args.area.x +ℤ pos x) (c.args.area.y +ℤ pos y) c.requires.taken c.in-Some-solid.ensures (hides xw yh))
+
+pub returns-then-are_marked-clause-marks : goal.returns-then-are_marked-clause-marks
+returns-then-are_marked-clause-marks c = λ x y lt. inl refl
