@@ -1,9 +1,11 @@
 -- The part of an area that quads draw in.
-use Rattle.std.proofs.Common.{◌≡◌, ℕ, ◌+◌, ◌-◌, ◌<◌, ◌≤◌, ℤ, pos, negsuc, ◌+ℤ◌, ◌-ℤ◌, Bool, true, false, refl, arith}
+use Rattle.std.proofs.Common.{◌≡◌, ℕ, ◌+◌, ◌-◌, ◌<◌, ◌≤◌, ℤ, pos, negsuc, ◌+ℤ◌, ◌-ℤ◌, Bool, true, false, ◌&&◌, cond, refl, ◌∙◌, ap, arith}
 use Rattle.std.proofs.lemmas.Int.{ints}
 use Rattle.std.proofs.lemmas.Bool.Decides.{nat_tests}
-use Rattle.geom.specs.Covers.{within as in_span}
+use Rattle.geom.specs.declared.Rect.{Rect}
+use Rattle.geom.specs.Covers.{covers, within as in_span}
 use Rattle.geom.proofs.Spans.{Inside, inside, is_within_of, same_test, both, both_of}
+use Rattle.pixel.specs.Colours.{Parts}
 use Rattle.pixel.specs.Surfaces.{holds}
 use Rattle.pixel.specs.declared.Area.{Area}
 use Rattle.page_display_list.specs.Bitmaps.{near}
@@ -104,3 +106,11 @@ place_in at len p h =
 pub in_place : (at len : ℤ) (n : ℕ) → n < near len → in_span at len (at +ℤ pos n) ≡ true
 in_place at (pos len) n lt = is_within_of at (pos len) (at +ℤ pos n) (record { low = omega (arith, ints); high = omega (arith, ints) })
 in_place at (negsuc len) n lt = absurd (omega arith)
+
+-- a rect covers no point of a row that it has not
+pub misses_row : (r : Rect) (x y : ℤ) (c below : Parts) → in_span r.y r.h y ≡ false → cond (covers r x y) c below ≡ below
+misses_row r x y c below off = ap (λ (t : Bool). cond (in_span r.x r.w x && t) c below) off ∙ ap (λ (t : Bool). cond t c below) (and_false (in_span r.x r.w x))
+  where
+    and_false : (t : Bool) → t && false ≡ false
+    and_false true = refl
+    and_false false = refl

@@ -11,6 +11,7 @@ ghost use Rattle.viz_scene.specs.Sound.{IsIn};
 ghost use Rattle.viz_render.specs.inner.Drawing.{colours, CanBeDrawn};
 ghost use Rattle.viz_render.specs.inner.Hulls.{between, in_hull, IsHullIn};
 
+use crate::beside::lies_beside;
 use crate::size::{height_of, width_of};
 use crate::surface::Surface;
 use geom::Rect;
@@ -50,6 +51,7 @@ pub(crate) fn hull_of(quads: &[Quad], area: Rect, passes: &[Surface]) -> Rect
 }
 
 // the hull that takes in what a quad draws too
+#[inline(always)]
 fn with_quad(hull: Hull, quad: &Quad, area: Rect, passes: &[Surface]) -> Hull
     requires area { IsSound area }
     requires hull { IsHullIn area hull }
@@ -58,6 +60,9 @@ fn with_quad(hull: Hull, quad: &Quad, area: Rect, passes: &[Surface]) -> Hull
     ensures before { (x y : ℕ) → in_hull result x y ≡ false → in_hull hull x y ≡ false }
     ensures outside { (x y : ℕ) → x < near area.w → y < near area.h → in_hull result x y ≡ false → quad_over (colours passes.now (area.x +ℤ pos x) (area.y +ℤ pos y)) (area.x +ℤ pos x) (area.y +ℤ pos y) clear (quad_view quad.now) ≡ clear }
 {
+    if lies_beside(quad, area, passes.len()) {
+        return hull;
+    }
     let rect = quad_rect(quad, passes);
     match shared_part(rect, area) {
         Some(part) => joined(hull, part.at),

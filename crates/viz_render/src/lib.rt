@@ -12,6 +12,7 @@
 //! makes pictures of them.
 #![tactic(auto)]
 
+mod beside;
 mod blank;
 mod group;
 mod hull;

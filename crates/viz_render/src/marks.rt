@@ -11,6 +11,7 @@ ghost use Rattle.tile_raster.specs.Images.{AreSameRows};
 ghost use Rattle.viz_render.specs.inner.Drawing.{CanBeDrawn, part_pixel};
 ghost use Rattle.viz_render.specs.inner.Masks.{Hides, HidesIn, IsOfBlock, Marks, AreMarked, HaveNumbers};
 
+use crate::beside::lies_beside;
 use crate::mask::are_above;
 use crate::surface::Surface;
 use crate::tile::{equal_rows_at, row_number, taken_part};
@@ -41,6 +42,7 @@ pub(crate) fn mark_quads(tops: &mut [usize], area: Rect, quads: &[Quad], passes:
 }
 
 // marks where one quad is opaque
+#[inline(always)]
 fn mark_quad(tops: &mut [usize], area: Rect, quad: &Quad, passes: &[Surface], number: usize)
     requires tops { length tops.old ≡ 1032 }
     requires area { IsSound area }
@@ -50,6 +52,9 @@ fn mark_quad(tops: &mut [usize], area: Rect, quad: &Quad, passes: &[Surface], nu
     ensures size { length tops.new ≡ 1032 }
     ensures marks { Marks number (λ x y. x < near area.w → y < near area.h → Hides (quad_view quad.now) (area.x +ℤ pos x) (area.y +ℤ pos y)) tops.old tops.new }
 {
+    if lies_beside(quad, area, passes.len()) {
+        return;
+    }
     match quad {
         Quad::Tile { image, at, from } => mark_tile(tops, area, image, *at, *from, number),
         Quad::Solid { at, colour } => mark_solid(tops, area, *at, *colour, number),

@@ -10,6 +10,7 @@ ghost use Rattle.viz_render.specs.inner.Drawing.{colours, CanBeDrawn};
 ghost use Rattle.viz_render.specs.inner.Masks.{AreMarked, EachOpenPoint};
 ghost use Rattle.viz_render.specs.inner.Shown.{ShowsSeen};
 
+use crate::beside::lies_beside;
 use crate::blank::fill_open;
 use crate::group::draw_group;
 use crate::mask::Mask;
@@ -48,6 +49,7 @@ pub(crate) fn draw_quads(
 }
 
 // draws one quad
+#[inline(always)]
 fn draw_quad(
     surface: &mut [u8],
     area: Rect,
@@ -64,6 +66,9 @@ fn draw_quad(
     ensures pixels { EachOpenPoint area mask.now.tops number (λ x y below. quad_over (colours passes.now x y) x y below (quad_view quad.now)) surface.old surface.new }
     ensures premultiplied { ArePremultiplied surface.old → ArePremultiplied surface.new }
 {
+    if lies_beside(quad, area, passes.len()) {
+        return;
+    }
     match quad {
         Quad::Tile { image, at, from } => draw_tile(surface, area, image, *at, *from, mask, number),
         Quad::Solid { at, colour } => draw_solid(surface, area, *at, *colour, mask, number),

@@ -6,7 +6,7 @@ use Rattle.pixel.specs.Colours.{Parts, clear}
 use Rattle.pixel.specs.Rows.{pixel}
 use Rattle.page_display_list.specs.Bitmaps.{near}
 use Rattle.viz_scene.specs.Views.{QuadView, tiled, plain, grouped}
-use Rattle.viz_scene.specs.Pixels.{quads_over, passes_at}
+use Rattle.viz_scene.specs.Pixels.{quad_over, quads_over, passes_at}
 use Rattle.viz_render.specs.inner.Drawing.{SurfaceView, colour_of, colours}
 use Rattle.viz_render.specs.inner.Masks.{top}
 
@@ -43,3 +43,8 @@ HaveNoGroup (q ∷ qs) = (IsGroup q → ⊥) × HaveNoGroup qs
 -- what quads show at a point is the same over any passes
 abbrev pub ShowsNoPass : List QuadView → ℤ → ℤ → Type 0
 ShowsNoPass quads x y = (ps rs : List Parts) (below : Parts) → quads_over ps x y below quads ≡ quads_over rs x y below quads
+
+-- the quad changes nothing in an area
+abbrev pub Misses : Rect → QuadView → Type 0
+Misses area q =
+    (ps : List Parts) (x y : ℕ) (below : Parts) → x < near area.w → y < near area.h → quad_over ps (area.x +ℤ pos x) (area.y +ℤ pos y) below q ≡ below
