@@ -16,9 +16,9 @@ use Rattle.viz_damage.specs.Damage.{AreAlikeOutside, screen}
 use Rattle.viz_scroll_damage.specs.declared.shift.Shift.{Shift}
 use Rattle.viz_scroll_damage.specs.Moved.{IsShift, AreAlikeMoved, fall}
 use Rattle.viz_occlusion.specs.Culled.{IsCulled}
-use Rattle.viz_painter.specs.Painters.{ShowsWhole, HoldsCulled, IsKeptOutside}
+use Rattle.viz_painter.specs.Painters.{ShowsWhole, ShowsOutside, HoldsCulled, IsKeptOutside}
 use Rattle.viz_painter.specs.inner.Helds.{HeldView, culled_of}
-use Rattle.viz_painter.specs.inner.Rests.{ShowsOutside, HasOutside}
+use Rattle.viz_painter.specs.inner.Rests.{HasOutside}
 
 -- a pixel of the screen
 on_screen : (s : SceneView) (x y : ℕ) → x < s.w → y < s.h → covers (screen s) (pos x) (pos y) ≡ true
@@ -101,6 +101,16 @@ module _ (d : ℕ) (bytes_of : Parts → List ℕ) where
   -- what shows a scene outside of a region has its pixels there
   pub had_outside : (s : SceneView) (region : List Rect) (c : CanvasView) → ShowsOutside d bytes_of s region c → HasOutside d bytes_of s region c
   had_outside s region c shown = record { pixels = shown.pixels }
+
+  -- what shows a scene outside of a region shows it there without its hidden quads
+  pub culled_outside : (s t : SceneView) (region : List Rect) (c : CanvasView) → IsCulled s t → ShowsOutside d bytes_of s region c → ShowsOutside d bytes_of t region c
+  culled_outside s t region c culled shown = record {
+    size = record { wide = shown.size.wide ∙ sym culled.wide; tall = shown.size.tall ∙ sym culled.tall };
+    pixels = λ x y xw yh off.
+        let w = culled.wide in
+        let h = culled.tall in
+        shown.pixels x y (omega arith) (omega arith) off ∙ ap bytes_of (sym (culled.pixels (pos x) (pos y)));
+  }
 
   -- a canvas that had the pixels of the scene outside of the damage, and shows the scene now, kept them
   pub kept_outside : (s : SceneView) (region : List Rect) (old new : CanvasView) → HasOutside d bytes_of s region old → ShowsWhole d bytes_of s new → IsKeptOutside d region old new

@@ -4,6 +4,7 @@ use Rattle.geom.specs.declared.Rect.{Rect}
 use Rattle.region.specs.Points.{covered}
 use Rattle.pixel.specs.Colours.{Parts}
 use Rattle.viz_scene.specs.Views.{SceneView}
+use Rattle.viz_scene.specs.Pixels.{scene_pixel}
 use Rattle.viz_canvas.specs.Canvases.{CanvasView, IsOfSize, CanvasShows, canvas_pixel}
 use Rattle.viz_occlusion.specs.Culled.{IsCulled}
 
@@ -22,6 +23,11 @@ pub record ShowsWhole (depth : ℕ) (bytes_of : Parts → List ℕ) (s : SceneVi
   pub size : IsOfSize s.w s.h c
   pub bytes : length c.bytes ≡ depth * (s.w * s.h)
   pub pixels : CanvasShows depth bytes_of s c
+
+-- the canvas has a scene's size, and its pixels but for those of a region
+pub record ShowsOutside (depth : ℕ) (bytes_of : Parts → List ℕ) (s : SceneView) (region : List Rect) (c : CanvasView) : Type 0 where
+  pub size : IsOfSize s.w s.h c
+  pub pixels : (x y : ℕ) → x < s.w → y < s.h → covered region (pos x) (pos y) ≡ false → canvas_pixel depth c x y ≡ bytes_of (scene_pixel s (pos x) (pos y))
 
 -- what each painter keeps: its canvas shows the scene that it holds
 abbrev pub IsPainter : ℕ → (Parts → List ℕ) → PainterView → Type 0

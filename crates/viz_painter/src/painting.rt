@@ -4,10 +4,10 @@ ghost use Rattle.std.specs.Prelude.{◌≡◌, None, IfOk, OnOk, OnErr, All};
 ghost use Rattle.geom.specs.Covers.{IsSound};
 ghost use Rattle.viz_scene.specs.Sound.{IsSceneSide};
 ghost use Rattle.viz_canvas.specs.Canvases.{IsOfSize, EachIs, black};
-ghost use Rattle.viz_painter.specs.Painters.{ShowsWhole, HoldsCulled, IsKeptOutside};
+ghost use Rattle.viz_painter.specs.Painters.{ShowsWhole, ShowsOutside, HoldsCulled, IsKeptOutside};
 
 use crate::held_scene::{HeldScene, is_held};
-use crate::redrawing::begin;
+use crate::redrawing::{begin, begin_within};
 use geom::Rect;
 use region::Region;
 use std::alloc::{AllocError, Global};
@@ -89,6 +89,26 @@ impl<F: PixelFormat> Painter<F> {
             return Ok(());
         }
         self.draw(scene)
+    }
+
+    /// Draws a scene of which the canvas shows all but a region already, as where its maker knows what has changed: no
+    /// scene is compared, and the region alone is drawn, which is then the damage. An error means out of memory: the
+    /// painter then holds no scene, and the next one is drawn whole.
+    #[tactic(auto, using(crate::proofs::Redrawn::redrawn, crate::proofs::Redrawn::kept_outside))]
+    pub fn paint_within(&mut self, scene: Scene, region: Region) -> Result<(), AllocError>
+        requires { ShowsOutside F.DEPTH F.bytes_of scene region self.old.canvas }
+        ensures shown { OnOk result (ShowsWhole F.DEPTH F.bytes_of scene self.new.canvas) }
+        ensures held { OnOk result (HoldsCulled scene self.new.held) }
+        ensures kept { OnOk result (IsKeptOutside F.DEPTH self.new.damage self.old.canvas self.new.canvas) }
+        ensures damage { OnOk result (self.new.damage ≡ region) }
+        ensures err { OnErr result (self.new.held ≡ None) }
+    {
+        self.held = None;
+        let next = begin_within(self.alloc, &self.canvas, scene, &region)?;
+        self.canvas.draw_region(next.culled(), &region)?;
+        self.held = Some(next);
+        self.damage = region;
+        Ok(())
     }
 
     // Draws a scene that is not held.

@@ -7,9 +7,9 @@ ghost use Rattle.viz_canvas.specs.Canvases.{IsOfSize};
 ghost use Rattle.viz_damage.specs.Damage.{screen};
 ghost use Rattle.viz_scroll_damage.specs.Moved.{IsShift};
 ghost use Rattle.viz_occlusion.specs.Culled.{IsCulled};
-ghost use Rattle.viz_painter.specs.Painters.{ShowsWhole};
+ghost use Rattle.viz_painter.specs.Painters.{ShowsWhole, ShowsOutside};
 ghost use Rattle.viz_painter.specs.inner.Helds.{culled_of};
-ghost use Rattle.viz_painter.specs.inner.Rests.{ShowsOutside, HasOutside, rest_in};
+ghost use Rattle.viz_painter.specs.inner.Rests.{HasOutside, rest_in};
 
 use crate::held_scene::HeldScene;
 use crate::worth::pays;
@@ -59,6 +59,24 @@ pub(crate) fn begin<F: PixelFormat>(
     let next = HeldScene::new(alloc, scene)?;
     let left = left_of(alloc, canvas, held, next.culled())?;
     Ok((next, left))
+}
+
+/// The next scene without its hidden quads, where the canvas is known to show the scene outside of a region. An error
+/// means out of memory.
+#[tactic(auto, using(crate::proofs::Redrawn::culled_outside, crate::proofs::Redrawn::had_outside))]
+pub(crate) fn begin_within<F: PixelFormat>(
+    alloc: Global,
+    _canvas: &Canvas<F>,
+    scene: Scene,
+    _region: &Region,
+) -> Result<HeldScene, AllocError>
+    requires { ShowsOutside F.DEPTH F.bytes_of scene _region.now _canvas.now }
+    ensures culled { IfOk result (λ next. IsCulled scene next.culled) }
+    ensures scene { IfOk result (λ next. next.scene ≡ scene) }
+    ensures rest { IfOk result (λ next. ShowsOutside F.DEPTH F.bytes_of next.culled _region.now _canvas.now) }
+    ensures damage { IfOk result (λ next. HasOutside F.DEPTH F.bytes_of next.culled _region.now _canvas.now) }
+{
+    HeldScene::new(alloc, scene)
 }
 
 // what is left to draw of a scene; where the canvas shows one of the same size, that is the damage or less

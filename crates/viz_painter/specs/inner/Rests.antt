@@ -5,12 +5,7 @@ use Rattle.region.specs.Points.{covered}
 use Rattle.pixel.specs.Colours.{Parts}
 use Rattle.viz_scene.specs.Views.{SceneView}
 use Rattle.viz_scene.specs.Pixels.{scene_pixel}
-use Rattle.viz_canvas.specs.Canvases.{CanvasView, IsOfSize, canvas_pixel}
-
--- the canvas has a scene's size, and its pixels but for those of a region
-pub record ShowsOutside (depth : ℕ) (bytes_of : Parts → List ℕ) (s : SceneView) (region : List Rect) (c : CanvasView) : Type 0 where
-  pub size : IsOfSize s.w s.h c
-  pub pixels : (x y : ℕ) → x < s.w → y < s.h → covered region (pos x) (pos y) ≡ false → canvas_pixel depth c x y ≡ bytes_of (scene_pixel s (pos x) (pos y))
+use Rattle.viz_canvas.specs.Canvases.{CanvasView, canvas_pixel}
 
 -- a canvas of any size has the pixels of a scene but for those of a region
 pub record HasOutside (depth : ℕ) (bytes_of : Parts → List ℕ) (s : SceneView) (region : List Rect) (c : CanvasView) : Type 0 where
