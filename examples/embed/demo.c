@@ -114,6 +114,9 @@ int main(int argc, char **argv) {
   build(page);
   need(cc_commit(page), "commit");
   picture(page, folder, "rebuilt");
+  need(cc_replace_rect(page, LIST, 1, 0, 25, WIDTH, 25, 0xffcc00ff, NULL), "a row");
+  need(cc_commit(page), "commit");
+  picture(page, folder, "row");
   cc_free(page);
   return 0;
 }

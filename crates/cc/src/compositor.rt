@@ -10,15 +10,19 @@ ghost use Rattle.page_hit_test.specs.Wheels.{IsAmount, IsWheel};
 ghost use Rattle.viz_painter.specs.Painters.{IsKeptOutside};
 ghost use Rattle.cc_tiles.specs.KeptTiles.{AreKeptFor, AreCurrent};
 ghost use Rattle.cc.specs.Compositors.{CompositorView, Applied, AppliedTo, Scrolled, ShowsPage, empty_page, moved, offsets, wheel_moves, IsKeptOutsideRows};
+ghost use Rattle.cc.specs.inner.Flags.{TellsEdited};
 
 use crate::damage::{FrameRows, no_rows, paint, rows_of};
-use crate::moves::{move_both, move_main, scroll_active, shows_after, shows_still};
+use crate::edits::{known_union, noted};
+use crate::moves::{move_both, move_main, scroll_active};
 use crate::scenes::{scene_of, target_on, wheel_on};
+use crate::shown::{edited_after_moves, is_shown, unshown_after, unshown_after_parts};
 use cc_tiles::TileCache;
 use geom::{Point, Rect};
 use page_hit_test::Wheel;
 use page_layers::{Command, EditError, LayerTree, View};
 use pixel::Colour;
+use region::Region;
 use std::alloc::{AllocError, Global};
 use std::marker::Model;
 use viz_canvas::{Canvas, PixelFormat};
@@ -40,21 +44,23 @@ pub struct Compositor<F: PixelFormat> {
     is_painted: bool,
     // the main page is the active one
     is_committed: bool,
-    // the frame shows the active page
-    is_shown: bool,
+    // outside of these rects the main page looks like the active one; None where that is not known
+    edited: Option<Region>,
+    // outside of these rects the frame shows the active page; None where that is not known
+    unshown: Option<Region>,
 }
 
 impl<F: PixelFormat> Model for Compositor<F> {
     ghost use Rattle.std.specs.Prelude.{◌≡◌};
     ghost use Rattle.cc_tiles.specs.KeptTiles.{AreKeptFor, AreCurrent};
     ghost use Rattle.cc.specs.Compositors.{CompositorView};
-    ghost use Rattle.cc.specs.inner.Flags.{TellsCommitted, TellsShown, damage_in};
+    ghost use Rattle.cc.specs.inner.Flags.{TellsCommitted, TellsEdited, TellsShown, damage_in};
 
     ghost Value = { CompositorView };
 
     ghost view = { λ c. record { main = c.main; active = c.active; background = c.background; frame = c.painter.canvas; damage = damage_in c.lost c.is_painted c.painter.damage } };
 
-    ghost invariant = { λ c. AreKeptFor c.active c.cache × AreCurrent c.main c.cache × TellsCommitted c.is_committed c.active c.main × TellsShown F.DEPTH F.bytes_of c.is_shown c.active c.background c.painter.canvas };
+    ghost invariant = { λ c. AreKeptFor c.active c.cache × AreCurrent c.main c.cache × TellsCommitted c.is_committed c.active c.main × TellsEdited c.edited c.active c.main × TellsShown F.DEPTH F.bytes_of c.unshown c.active c.background c.painter.canvas };
 }
 
 impl<F: PixelFormat> Compositor<F> {
@@ -62,7 +68,7 @@ impl<F: PixelFormat> Compositor<F> {
     /// may take `budget` bytes beside those of the last draw. An error means out of memory.
     ///
     /// The view's sides are 1 to 2048, and its tiles 16 to 256.
-    #[tactic(auto, using(crate::proofs::Pages::kept_none, crate::proofs::Pages::current_none, crate::proofs::Pages::committed_both, crate::proofs::Pages::not_shown))]
+    #[tactic(auto, using(crate::proofs::Pages::kept_none, crate::proofs::Pages::current_none, crate::proofs::Pages::committed_both, crate::proofs::Pages::edited_itself, crate::proofs::Pages::shown_none))]
     pub fn new(
         alloc: Global,
         view: View,
@@ -85,7 +91,8 @@ impl<F: PixelFormat> Compositor<F> {
             lost: None,
             is_painted: false,
             is_committed: true,
-            is_shown: false,
+            edited: Some(Region::new(alloc)),
+            unshown: None,
         })
     }
 
@@ -101,6 +108,7 @@ impl<F: PixelFormat> Compositor<F> {
         self.main = LayerTree::new(self.alloc, view);
         self.cache.mark_all(&self.active, &self.main);
         self.is_committed = false;
+        self.edited = None;
     }
 
     /// Applies a command to the main page. It is refused with its first fault; after any error all is as it was.
@@ -109,12 +117,19 @@ impl<F: PixelFormat> Compositor<F> {
         ensures { Applied self.old command.now self.new result }
     {
         self.is_committed = false;
-        applied(&self.active, &mut self.main, &mut self.cache, command)
+        applied(
+            self.alloc,
+            &self.active,
+            &mut self.main,
+            &mut self.cache,
+            &mut self.edited,
+            command,
+        )
     }
 
     /// Shows the main page from now on, whose scrollers stand at their main values. Where it is the active page
     /// already, nothing is done. An error means out of memory, and all is as it was.
-    #[tactic(auto, using(crate::proofs::Pages::committed_itself, crate::proofs::Pages::committed_now, crate::proofs::Pages::not_shown))]
+    #[tactic(auto, using(crate::proofs::Pages::committed_itself, crate::proofs::Pages::committed_now, crate::proofs::Pages::edited_itself, crate::proofs::Pages::shown_committed))]
     pub fn commit(&mut self) -> Result<(), AllocError>
         ensures ok { OnOk result (self.new ≡ record self.old { active = self.old.main }) }
         ensures err { OnErr result (self.new ≡ self.old) }
@@ -126,7 +141,8 @@ impl<F: PixelFormat> Compositor<F> {
         self.cache.drop_stale(&self.main);
         self.active = page;
         self.is_committed = true;
-        self.is_shown = false;
+        self.unshown = known_union(self.unshown.take(), self.edited.take());
+        self.edited = Some(Region::new(self.alloc));
         Ok(())
     }
 
@@ -138,7 +154,8 @@ impl<F: PixelFormat> Compositor<F> {
         self.active.props().scroller(id)?;
         let by = scroll_active(&mut self.active, &self.cache, id, dx, dy);
         move_main(&mut self.main, &self.cache, id, by.x, by.y);
-        self.is_shown = shows_still(self.is_shown, by);
+        self.edited = edited_after_moves(self.alloc, self.is_committed);
+        self.unshown = unshown_after(self.unshown.take(), by);
         Some(by)
     }
 
@@ -156,7 +173,8 @@ impl<F: PixelFormat> Compositor<F> {
         let wheel = wheel_on(self.alloc, &self.active, at, asked)?;
         let parts = wheel.parts.as_slice();
         move_both(&mut self.active, &mut self.main, &self.cache, parts);
-        self.is_shown = shows_after(self.is_shown, parts);
+        self.edited = edited_after_moves(self.alloc, self.is_committed);
+        self.unshown = unshown_after_parts(self.unshown.take(), parts);
         Ok(wheel)
     }
 
@@ -178,7 +196,7 @@ impl<F: PixelFormat> Compositor<F> {
     pub fn is_changed(&self) -> bool
         ensures { result ≡ false → ShowsPage F.DEPTH F.bytes_of self.now.active (offsets self.now) self.now.background self.now.frame }
     {
-        !self.is_shown
+        !is_shown(&self.unshown)
     }
 
     /// Draws the active page, and tells the rows outside of which the frame's pixels are those before; `damage`
@@ -195,7 +213,7 @@ impl<F: PixelFormat> Compositor<F> {
     {
         self.lost = None;
         self.is_painted = false;
-        if self.is_shown {
+        if is_shown(&self.unshown) {
             return Ok(no_rows());
         }
         let scene = scene_of(
@@ -206,9 +224,10 @@ impl<F: PixelFormat> Compositor<F> {
             &mut self.cache,
             self.is_committed,
         )?;
-        paint(&mut self.painter, &mut self.lost, scene)?;
+        let unshown = self.unshown.take();
+        paint(&mut self.painter, &mut self.lost, scene, unshown)?;
         self.is_painted = true;
-        self.is_shown = true;
+        self.unshown = Some(Region::new(self.alloc));
         Ok(rows_of(self.painter.damage()))
     }
 
@@ -231,24 +250,29 @@ impl<F: PixelFormat> Compositor<F> {
     }
 }
 
-// Whether a command was applied to the main page; the tiles that it changed are marked.
-#[tactic(auto, using(crate::proofs::Applied::ok_applied, crate::proofs::Applied::err_applied, crate::proofs::Applied::err_current))]
+// Whether a command was applied to the main page; the tiles that it changed are marked, and where it shows is noted.
+#[tactic(auto, using(crate::proofs::Applied::ok_applied, crate::proofs::Applied::err_applied, crate::proofs::Applied::err_current, crate::proofs::Applied::err_edited))]
 fn applied(
+    alloc: Global,
     active: &LayerTree,
     main: &mut LayerTree,
     cache: &mut TileCache,
+    edited: &mut Option<Region>,
     command: &Command,
 ) -> Result<(), EditError>
     requires kept { AreKeptFor active.now cache.old }
     requires current { AreCurrent main.old cache.old }
+    requires edited { TellsEdited edited.old active.now main.old }
     ensures applied { AppliedTo main.old command.now main.new result }
     ensures kept { AreKeptFor active.now cache.new }
     ensures current { AreCurrent main.new cache.new }
+    ensures edited { TellsEdited edited.new active.now main.new }
 {
     main.is_page();
     match main.apply(command) {
         Ok(changes) => {
             cache.mark(main, &changes);
+            *edited = noted(alloc, edited.take(), command, main, &changes);
             Ok(())
         }
         Err(error) => Err(error),

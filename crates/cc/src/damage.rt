@@ -1,14 +1,15 @@
 //! What a draw may have changed of a frame.
 
-ghost use Rattle.std.specs.Prelude.{◌≡◌, ◌≤ℤ◌, ℕ, ℤ, pos, false, None, All, OnOk, OnErr};
+ghost use Rattle.std.specs.Prelude.{◌≡◌, ◌≤ℤ◌, ℕ, ℤ, pos, false, None, All, IfSome, OnOk, OnErr};
 ghost use Rattle.std.specs.Option.{option_to_list};
 ghost use Rattle.geom.specs.Covers.{IsSound, IsSpan, covers, within};
 ghost use Rattle.page_display_list.specs.Bitmaps.{near};
 ghost use Rattle.region.specs.Points.{covered};
-ghost use Rattle.viz_painter.specs.Painters.{ShowsWhole, IsKeptOutside};
+ghost use Rattle.viz_painter.specs.Painters.{ShowsWhole, ShowsOutside, IsKeptOutside};
 ghost use Rattle.cc.specs.Compositors.{has_row};
 
 use geom::Rect;
+use region::Region;
 use std::alloc::AllocError;
 use viz_canvas::{Canvas, PixelFormat};
 use viz_painter::Painter;
@@ -91,20 +92,39 @@ fn whole_of<F: PixelFormat>(frame: &Canvas<F>) -> Rect
     }
 }
 
-/// Draws a scene. An error means out of memory: `lost` is then the rect of the whole frame, which may show anything.
+// Draws a scene, of which the frame shows all but some rects already where these are known.
+fn draw<F: PixelFormat>(
+    painter: &mut Painter<F>,
+    scene: Scene,
+    unshown: Option<Region>,
+) -> Result<(), AllocError>
+    requires { IfSome unshown (λ rects. ShowsOutside F.DEPTH F.bytes_of scene rects painter.old.canvas) }
+    ensures shown { OnOk result (ShowsWhole F.DEPTH F.bytes_of scene painter.new.canvas) }
+    ensures kept { OnOk result (IsKeptOutside F.DEPTH painter.new.damage painter.old.canvas painter.new.canvas) }
+{
+    match unshown {
+        Some(region) => painter.paint_within(scene, region),
+        None => painter.paint(scene),
+    }
+}
+
+/// Draws a scene, of which the frame shows all but some rects already where these are known. An error means out of
+/// memory: `lost` is then the rect of the whole frame, which may show anything.
 #[tactic(auto, using(crate::proofs::Damages::kept_nowhere))]
 pub(crate) fn paint<F: PixelFormat>(
     painter: &mut Painter<F>,
     lost: &mut Option<Rect>,
     scene: Scene,
+    unshown: Option<Region>,
 ) -> Result<(), AllocError>
-    requires { lost.old ≡ None }
+    requires none { lost.old ≡ None }
+    requires outside { IfSome unshown (λ rects. ShowsOutside F.DEPTH F.bytes_of scene rects painter.old.canvas) }
     ensures shown { OnOk result (ShowsWhole F.DEPTH F.bytes_of scene painter.new.canvas) }
     ensures kept { OnOk result (IsKeptOutside F.DEPTH painter.new.damage painter.old.canvas painter.new.canvas) }
     ensures none { OnOk result (lost.new ≡ None) }
     ensures lost { OnErr result (IsKeptOutside F.DEPTH (option_to_list lost.new) painter.old.canvas painter.new.canvas) }
 {
-    match painter.paint(scene) {
+    match draw(painter, scene, unshown) {
         Ok(()) => Ok(()),
         Err(refused) => {
             *lost = Some(whole_of(painter.canvas()));

@@ -10,8 +10,10 @@
 
 mod compositor;
 mod damage;
+mod edits;
 mod moves;
 mod scenes;
+mod shown;
 
 pub use compositor::Compositor;
 pub use damage::FrameRows;

@@ -1,8 +1,7 @@
 //! Moves of scrollers.
 
-ghost use Rattle.std.specs.Prelude.{◌≡◌, ◌∷◌, [], true, map, IsTrue};
+ghost use Rattle.std.specs.Prelude.{◌≡◌, ◌∷◌, [], map, IsTrue};
 ghost use Rattle.page_properties.specs.Entries.{knows};
-ghost use Rattle.page_layers.specs.Scrolls.{origin};
 ghost use Rattle.page_layers.specs.Effects.{scrolled_by, page_after_pulls};
 ghost use Rattle.page_hit_test.specs.Wheels.{part_move};
 ghost use Rattle.cc_tiles.specs.KeptTiles.{AreKeptFor, AreCurrent};
@@ -82,22 +81,4 @@ pub(crate) fn move_both(
 {
     move_parts(active, parts);
     move_parts(main, parts);
-}
-
-/// Whether a frame that showed a page, if it did, shows it still after a scroll by this much.
-pub(crate) fn shows_still(is_shown: bool, by: Point) -> bool
-    ensures before { result ≡ true → is_shown ≡ true }
-    ensures still { result ≡ true → by ≡ origin }
-{
-    let across = by.x == 0;
-    let down = by.y == 0;
-    is_shown && across && down
-}
-
-/// The same after a wheel with these parts.
-pub(crate) fn shows_after(is_shown: bool, parts: &[WheelPart]) -> bool
-    ensures before { result ≡ true → is_shown ≡ true }
-    ensures still { result ≡ true → map part_move parts.now ≡ [] }
-{
-    is_shown && parts.is_empty()
 }
