@@ -5,6 +5,7 @@ Right after it, `note` writes down the stamp of each, and when the library was w
 those that are still the same, of the text that now stands there.
 """
 import contextlib
+import functools
 import importlib.machinery
 import importlib.util
 import json
@@ -17,15 +18,20 @@ ROOT = pathlib.Path(__file__).resolve().parent.parent
 NOTE = ROOT / "build" / "gate.libraries"
 
 
+def kit():
+    """The folder of the Rattle kit."""
+    rt = shutil.which("rt") or sys.exit("rt is missing: install the Rattle kit and put its bin/ on the PATH")
+    return pathlib.Path(rt).resolve().parent.parent
+
+
+@functools.cache
 def rt_crates():
     """The crates as rt's own library knows them, by name. Each stamp is made once."""
-    rt = pathlib.Path(shutil.which("rt") or sys.exit("rt is missing: install the Rattle kit and put its bin/ on the PATH"))
-    loader = importlib.machinery.SourceFileLoader("rtlib", str(rt.resolve().parent / "rtlib.py"))
+    loader = importlib.machinery.SourceFileLoader("rtlib", str(kit() / "bin" / "rtlib.py"))
     rtlib = importlib.util.module_from_spec(importlib.util.spec_from_loader("rtlib", loader))
     sys.modules["rtlib"] = rtlib
     loader.exec_module(rtlib)
-    known, made = {}, rtlib.Crate.stamp
-    rtlib.Crate.stamp = lambda crate: known.get(crate.folder) or known.setdefault(crate.folder, made(crate))
+    rtlib.Crate.stamp = functools.cache(rtlib.Crate.stamp)
     return {crate.name: crate for crate in rtlib.crates_below(str(ROOT))}
 
 
@@ -34,38 +40,41 @@ def room_of(crate):
     return pathlib.Path(crate.folder) / "out" / "rlib"
 
 
-def written(crate):
-    """How many files a crate's library has, and when the last of them was written."""
-    files = [os.stat(os.path.join(folder, name)) for folder, _, names in os.walk(room_of(crate) / (crate.name + ".rlib")) for name in names]
-    return [len(files), max((it.st_mtime_ns for it in files), default=0)]
+def state(crate):
+    """The stamp of a crate, how many files its library has, and when the last of them was written."""
+    walked = os.walk(room_of(crate) / (crate.name + ".rlib"))
+    times = [os.stat(os.path.join(folder, name)).st_mtime_ns for folder, _, names in walked for name in names]
+    return [crate.stamp(), len(times), max(times, default=0)]
 
 
 def note():
     """Writes down the libraries of the gate, which has just passed."""
+    states = {name: state(crate) for name, crate in rt_crates().items()}
     NOTE.parent.mkdir(exist_ok=True)
-    NOTE.write_text(json.dumps({name: [crate.stamp(), written(crate)] for name, crate in rt_crates().items()}, indent=0))
+    NOTE.write_text(json.dumps({name: it for name, it in states.items() if it[1]}, indent=0))
 
 
-def stamps(names=None):
-    """The stamp of each of these crates whose library is that of the gate, and has none; of all crates without names."""
+def stamps(names):
+    """The stamp of each of these crates whose library is that of the gate, and has none."""
     try:
         noted = json.loads(NOTE.read_text())
     except (OSError, ValueError):
         return {}
     crates = rt_crates()
-    some = [it for it in (crates if names is None else names) if it in noted and not (room_of(crates[it]) / "stamp").exists()]
-    return {it: noted[it][0] for it in some if written(crates[it])[0] and noted[it] == [crates[it].stamp(), written(crates[it])]}
+    bare = [it for it in names if it in noted and not (room_of(crates[it]) / "stamp").exists()]
+    return {it: noted[it][0] for it in bare if noted[it] == state(crates[it])}
 
 
 @contextlib.contextmanager
 def stamped(name):
     """The gate's libraries that a crate stands on have their stamps meanwhile."""
     crates = rt_crates()
-    files = [(room_of(crates[it]) / "stamp", stamp) for it, stamp in stamps([below.name for below in crates[name].below()]).items()]
+    below = stamps([it.name for it in crates[name].below()])
+    files = {room_of(crates[it]) / "stamp": stamp for it, stamp in below.items()}
     try:
-        for file, stamp in files:
+        for file, stamp in files.items():
             file.write_text(stamp)
         yield
     finally:
-        for file, _ in files:
+        for file in files:
             file.unlink(missing_ok=True)

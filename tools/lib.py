@@ -19,7 +19,7 @@ import tempfile
 
 sys.dont_write_bytecode = True
 from built import file_sum, is_of, text_sum, write_note
-from gate_libraries import stamped
+from gate_libraries import kit, stamped
 
 ROOT = pathlib.Path(__file__).resolve().parent.parent
 CRATE = ROOT / "crates" / "cc_c"
@@ -82,9 +82,8 @@ def main():
     words.add_argument("--into", type=pathlib.Path, default=ROOT / "build")
     words = words.parse_args()
     into = words.into.resolve()
-    rt = pathlib.Path(shutil.which("rt") or stop("rt is missing: install the Rattle kit and put its bin/ on the PATH"))
     compiler = next(filter(shutil.which, COMPILERS), None) or stop("no C compiler is here (%s)" % ", ".join(COMPILERS))
-    shim = rt.resolve().parent.parent / "c" / "liblibc_c.a"
+    shim = kit() / "c" / "liblibc_c.a"
     number = version()
     archive, shared, numbered = into / "libcc.a", into / "libcc.so", into / ("libcc.so." + number)
     made_of = library_sum()
