@@ -8,3 +8,4 @@ pub mod OneLayer
 pub mod SeenRanks
 pub mod BothTrees
 pub mod NearTiles
+pub mod StampedLayers
