@@ -81,7 +81,7 @@ impl Core {
     fn tiles_with(&self, frame: u32, needs: &Keys) -> Result<Activation, AllocError>
         requires waits { pending (past self.now) ≡ Some frame }
         requires keys { needs.now ≡ required self.now.script (past self.now) }
-        ensures { IfOk result (λ next. AreForActivation self.now.script (past self.now) next.pins next.live) }
+        ensures { IfOk result (λ next. AreForActivation self.now.script (past self.now) next.pins next.dead) }
     {
         // The contract alone speaks of the frame.
         let _ = frame;
@@ -94,7 +94,7 @@ impl Core {
     // What the activation of the pending tree brings to the tiles. An error means out of memory.
     fn activated_tiles(&self, frame: u32) -> Result<Activation, AllocError>
         requires { pending (past self.now) ≡ Some frame }
-        ensures { IfOk result (λ next. AreForActivation self.now.script (past self.now) next.pins next.live) }
+        ensures { IfOk result (λ next. AreForActivation self.now.script (past self.now) next.pins next.dead) }
     {
         match &self.required {
             Some(needs) => self.tiles_with(frame, needs),
@@ -142,9 +142,9 @@ impl Core {
         let (clamps, standing) = self.activated_scrollers(frame)?;
         let next = self.activated_tiles(frame)?;
         self.log.enter(0, Event::Activate { frame, clamps })?;
-        let Activation { pins, live } = next;
+        let Activation { pins, dead } = next;
         self.host.activate(standing);
-        self.tiles.activate(pins, &live);
+        self.tiles.activate(pins, &dead);
         self.required = None;
         Ok(())
     }

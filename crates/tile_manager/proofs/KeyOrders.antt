@@ -1,5 +1,5 @@
 -- Lists in key order, and what a search finds among ranks in key order.
-use Rattle.std.proofs.Common.{◌≡◌, ℕ, zero, suc, ◌+◌, ◌<◌, ◌≤◌, Bool, true, false, List, [], ◌∷◌, length, filter, get_or, Some, None, Result, Ok, Err, refl, ◌∙◌, ap, subst, arith}
+use Rattle.std.proofs.Common.{◌≡◌, ℕ, zero, suc, ◌+◌, ◌<◌, ◌≤◌, Bool, true, false, List, [], ◌∷◌, length, get_or, Some, None, Result, Ok, Err, refl, ◌∙◌, ap, subst, arith}
 use Rattle.std.specs.Prelude.{nat_lt}
 use Rattle.std.specs.Result.{result_ok}
 use Rattle.std.specs.declared.cmp.Ordering.{Ordering}
@@ -8,8 +8,6 @@ use Rattle.std.specs.Cmp.{tied_itself}
 use Rattle.std.specs.Ordering.{is_lt}
 use Rattle.std.specs.List.Sorted.{IsSearchInRange, IsBinarySearchResult, IsSorted, IsSortedByKey}
 use Rattle.std.proofs.lemmas.Bool.Decides.{nat_tests}
-use Rattle.std.proofs.lemmas.List.Kept.{IsSortedBy-filter}
-use Rattle.std.proofs.lemmas.List.MinMax.{ranks_by}
 use Rattle.std.proofs.lemmas.List.Sorted.{searchable_from_sorted}
 use Rattle.geom.specs.declared.tile.TileKey.{TileKey}
 use Rattle.geom.specs.KeyOrder.{key_cmp}
@@ -37,10 +35,6 @@ pub in_order_sorted : (ks : List TileKey) → IsInOrder key_cmp ks → IsSorted 
 in_order_sorted [] r k d low lt = absurd (omega arith)
 in_order_sorted (q ∷ ks) r zero d low lt = next_after q ks d r.0 (omega arith)
 in_order_sorted (q ∷ ks) r (suc k) d low lt = subst (λ n. is_lt (key_cmp (get_or (q ∷ ks) n d) (get_or ks k d)) ≡ false) {x = suc (k + 1)} (omega arith) (in_order_sorted ks r.1 k d (omega arith) (omega arith))
-
--- those of them that pass a test are sorted too
-pub filter_sorted : (f : TileKey → Bool) (ks : List TileKey) → IsInOrder key_cmp ks → IsSorted key_cmp (filter f ks)
-filter_sorted f ks r = IsSortedBy-filter (λ k q. is_lt (key_cmp k q)) (ranks_by key_total (λ k. k)) f ks (in_order_sorted ks r)
 
 -- where a search among ranks ends
 

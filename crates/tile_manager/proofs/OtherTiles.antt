@@ -1,5 +1,5 @@
 -- A manager at the beginning, with another queue, after an activation and after a send.
-use Rattle.std.proofs.Common.{◌≡◌, ℕ, true, ◌&&◌, Some, None, is_some, List, [], ◌∷◌, ◌++◌, filter_map, refl, sym, ◌∙◌, ap, subst}
+use Rattle.std.proofs.Common.{◌≡◌, ℕ, Bool, true, false, not, ◌&&◌, Some, None, is_some, List, [], ◌∷◌, ◌++◌, filter_map, refl, sym, ◌∙◌, ap, subst}
 use Rattle.std.specs.FinMap.{get-empty}
 use Rattle.std.specs.FinSet.{contains-empty}
 use Rattle.geom.specs.declared.tile.TileKey.{TileKey}
@@ -9,8 +9,8 @@ use Rattle.tile_priority.specs.Choice.{Choice}
 use Rattle.tile_priority.specs.Alike.{Alike}
 use Rattle.page_layers.specs.declared.moves.Move.{Move}
 use Rattle.tile_raster.specs.Images.{Image}
-use Rattle.tile_store.specs.Stores.{image_of, empty_store, kept}
-use Rattle.tile_store.proofs.StoreWords.{image_of-kept}
+use Rattle.tile_store.specs.Stores.{image_of, empty_store, without}
+use Rattle.tile_store.proofs.StoreWords.{image_of-without}
 use Rattle.model_history.specs.declared.history.Entry.{Entry}
 use Rattle.model_history.specs.Scripts.{ScriptModel}
 use Rattle.model_history.specs.Accepted.{IsAccepted}
@@ -61,22 +61,26 @@ reseen s h g m next holds same foresees = record {
 
 -- after an activation
 
-pub activate_holds : (s : ScriptModel) (n : ℕ) (h : List Entry) (a k : ℕ) (ms : List Move) (m : Managed) (pins live : List TileKey) (spare : ℕ)
+pub activate_holds : (s : ScriptModel) (n : ℕ) (h : List Entry) (a k : ℕ) (ms : List Move) (m : Managed) (pins dead : List TileKey) (spare : ℕ)
     → IsAccepted s → Legal s n (activate a k ms ∷ h) → Manages s h m → ((q : TileKey) → has_key pins q ≡ has_key (required s h) q)
-    → ((q : TileKey) → has_key (ready s h) q ≡ true → has_key live q ≡ has_key (keys_of (pending_tree s h)) q)
-    → Manages s (activate a k ms ∷ h) (record { store = kept m.store live spare; pinned = pins; outlook = outlook.Unseen })
-activate_holds s n h a k ms m pins live spare acc legal holds needed lives = record {
+    → ((q : TileKey) → has_key (ready s h) q ≡ true → has_key dead q ≡ not (has_key (keys_of (pending_tree s h)) q))
+    → Manages s (activate a k ms ∷ h) (record { store = without m.store dead spare; pinned = pins; outlook = outlook.Unseen })
+activate_holds s n h a k ms m pins dead spare acc legal holds needed dies = record {
   ready = λ q.
-      ap is_some (image_of-kept m.store spare q live)
-      ∙ (some_left (has_key live q) (image_of m.store q)
-      ∙ (ap (λ b. b && has_key live q) (holds.ready q)
-      ∙ (asked_where (has_key (ready s h) q) (has_key live q) (has_key (keys_of (pending_tree s h)) q) (lives q)
+      ap is_some (image_of-without m.store spare q dead)
+      ∙ (some_left (not (has_key dead q)) (image_of m.store q)
+      ∙ (ap (λ b. b && not (has_key dead q)) (holds.ready q)
+      ∙ (asked_where (has_key (ready s h) q) (not (has_key dead q)) (has_key (keys_of (pending_tree s h)) q) (λ t. ap not (dies q t) ∙ twice (has_key (keys_of (pending_tree s h)) q))
       ∙ (sym (has_filter (has_key (keys_of (pending_tree s h))) (ready s h) q) ∙ sym (ap (λ ks. has_key ks q) (activate_ready s n h a k ms acc legal))))));
   in_flight = holds.in_flight;
   pinned = needed;
-  images = λ q i e. holds.images q i (left_some (has_key live q) (image_of m.store q) i (sym (image_of-kept m.store spare q live) ∙ e));
+  images = λ q i e. holds.images q i (left_some (not (has_key dead q)) (image_of m.store q) i (sym (image_of-without m.store spare q dead) ∙ e));
   outlook = tt;
 }
+  where
+    twice : (b : Bool) → not (not b) ≡ b
+    twice true = refl
+    twice false = refl
 
 -- after an event that leaves the trees
 

@@ -4,7 +4,7 @@
 //! it is to be made, and keeps them in step with the history of a run. Where a tree has moved it may be left
 //! without both until the next question. Each call that represents an event takes
 //! no memory, so it may follow the entry of that event; what needs memory is taken before, by calls of their own.
-//! It knows no page: ranks, live keys and the keys that an activation needs are handed in.
+//! It knows no page: ranks, dead keys and the keys that an activation needs are handed in.
 //!
 //! The name is that of Chromium's `cc/tiles/tile_manager.h`, which schedules raster work under a budget.
 #![tactic(auto)]

@@ -1,6 +1,6 @@
 //! The tile manager.
 
-ghost use Rattle.std.specs.Prelude.{◌≡◌, ℕ, ◌≤◌, true, false, List, [], ◌∷◌, Some, take, option_map, IfOk, OnOk, OnErr};
+ghost use Rattle.std.specs.Prelude.{◌≡◌, ℕ, ◌≤◌, not, true, false, List, [], ◌∷◌, Some, take, option_map, IfOk, OnOk, OnErr};
 ghost use Rattle.std.specs.List.{list_all};
 ghost use Rattle.geom.specs.declared.tile.TileKey.{TileKey as Key};
 ghost use Rattle.geom.specs.KeyLists.{has_key, AreDistinctKeys};
@@ -246,12 +246,12 @@ impl TileManager {
         Ok(())
     }
 
-    /// The pending tree becomes the active one: the keys that it needs are pinned, the ready keys that are
-    /// not in `live` are dropped, and the ranks are forgotten, as by [`TileManager::forget`]. Takes no memory.
-    pub fn activate(&mut self, pins: Pins, live: &Keys)
-        ensures { (s : ScriptModel) (workers : ℕ) (h : List Entry) (actor k : ℕ) (clamps : List Move) → IsAccepted s → Legal s workers (activate actor k clamps ∷ h) → Manages s h self.old → ((q : Key) → has_key pins q ≡ has_key (required s h) q) → ((q : Key) → has_key (ready s h) q ≡ true → has_key live.now q ≡ has_key (keys_of (pending_tree s h)) q) → Manages s (activate actor k clamps ∷ h) self.new }
+    /// The pending tree becomes the active one: the keys that it needs are pinned, the ready keys that are in
+    /// `dead` are dropped, and the ranks are forgotten, as by [`TileManager::forget`]. Takes no memory.
+    pub fn activate(&mut self, pins: Pins, dead: &Keys)
+        ensures { (s : ScriptModel) (workers : ℕ) (h : List Entry) (actor k : ℕ) (clamps : List Move) → IsAccepted s → Legal s workers (activate actor k clamps ∷ h) → Manages s h self.old → ((q : Key) → has_key pins q ≡ has_key (required s h) q) → ((q : Key) → has_key (ready s h) q ≡ true → has_key dead.now q ≡ not (has_key (keys_of (pending_tree s h)) q)) → Manages s (activate actor k clamps ∷ h) self.new }
     {
-        self.store.keep(live);
+        self.store.give_up(dead);
         self.pins = pins;
         self.outlook = Outlook::Unseen;
     }

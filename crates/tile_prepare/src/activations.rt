@@ -9,7 +9,7 @@ ghost use Rattle.tile_ranks.specs.SeenTrees.{IsSeenTree};
 ghost use Rattle.tile_manager.specs.Managers.{Manages};
 ghost use Rattle.tile_prepare.specs.Rebuilds.{AreForActivation};
 
-use crate::live::kept_live;
+use crate::dead::dead_keys;
 use geom::Keys;
 use std::alloc::{AllocError, Global};
 use tile_manager::{Pins, TileManager};
@@ -20,21 +20,21 @@ use tile_ranks::SeenTree;
 pub struct Activation {
     /// the keys that are not to be evicted then
     pub pins: Pins,
-    /// the ready keys that stay
-    pub live: Keys,
+    /// the ready keys that go
+    pub dead: Keys,
 }
 
 /// What the activation of a pending tree brings to the tiles: the keys that it needs, which are `required`,
-/// are pinned, and of the ready keys those stay that the tree has. An error means out of memory.
+/// are pinned, and of the ready keys those go that the tree lacks. An error means out of memory.
 pub fn activation_of(
     alloc: Global,
     pending: &SeenTree<'_>,
     required: &Keys,
     manager: &TileManager,
 ) -> Result<Activation, AllocError>
-    ensures { IfOk result (λ all. (s : ScriptModel) (h : List Entry) → Manages s h manager.now → IsSeenTree (pending_tree s h) pending.now → required.now ≡ model.required s h → AreForActivation s h all.pins all.live) }
+    ensures { IfOk result (λ all. (s : ScriptModel) (h : List Entry) → Manages s h manager.now → IsSeenTree (pending_tree s h) pending.now → required.now ≡ model.required s h → AreForActivation s h all.pins all.dead) }
 {
-    let live = kept_live(alloc, manager, pending)?;
+    let dead = dead_keys(alloc, manager, pending)?;
     let pins = Pins::of(alloc, required)?;
-    Ok(Activation { pins, live })
+    Ok(Activation { pins, dead })
 }

@@ -11,8 +11,8 @@
 #![tactic(auto)]
 
 mod activations;
+mod dead;
 mod laws;
-mod live;
 mod rebuild;
 
 pub use activations::{Activation, activation_of};

@@ -1,6 +1,6 @@
 //! A tree as its tiles are seen.
 
-ghost use Rattle.std.specs.Prelude.{◌≡◌, ◌++◌, map, filter, IfOk, OnOk};
+ghost use Rattle.std.specs.Prelude.{◌≡◌, ◌++◌, not, map, filter, IfOk, OnOk};
 ghost use Rattle.std.specs.List.{flat_map};
 ghost use Rattle.page_layers.specs.Layers.{parts_of};
 ghost use Rattle.geom.specs.KeyLists as key_lists;
@@ -106,12 +106,12 @@ impl<'a> SeenTree<'a> {
         self.layers_have(key)
     }
 
-    /// Those of the keys that it has, in their order. An error means out of memory.
-    pub fn those_of(&self, alloc: Global, keys: &Keys) -> Result<Keys, AllocError>
-        ensures { IfOk result (λ own. (t : Tree) → IsSeenTree t self.now → own ≡ filter (key_lists.has_key (keys_of t)) keys.now) }
+    /// Those of the keys that it lacks, in their order. An error means out of memory.
+    pub fn lacked(&self, alloc: Global, keys: &Keys) -> Result<Keys, AllocError>
+        ensures { IfOk result (λ lacked. (t : Tree) → IsSeenTree t self.now → lacked ≡ filter (λ q. not (key_lists.has_key (keys_of t) q)) keys.now) }
     {
         self.page.is_page();
-        keys_on(alloc, self.layers.as_slice(), keys.as_slice())
+        keys_off(alloc, self.layers.as_slice(), keys.as_slice())
     }
 
     /// The rank that one of its layers gives a key.
@@ -134,21 +134,21 @@ impl<'a> SeenTree<'a> {
     }
 }
 
-// Those of the keys that one of the layers has, in their order. Keys of one layer stand together, so that it is
+// Those of the keys that none of the layers has, in their order. Keys of one layer stand together, so that it is
 // looked for once.
-fn keys_on(alloc: Global, layers: &[SeenLayer<'_>], keys: &[TileKey]) -> Result<Keys, AllocError>
-    ensures { IfOk result (λ own. own ≡ filter (spec.seen_has layers.now) keys.now) }
+fn keys_off(alloc: Global, layers: &[SeenLayer<'_>], keys: &[TileKey]) -> Result<Keys, AllocError>
+    ensures { IfOk result (λ lacked. lacked ≡ filter (λ q. not (spec.seen_has layers.now q)) keys.now) }
 {
-    let mut own = Keys::new(alloc);
+    let mut lacked = Keys::new(alloc);
     let mut run = LayerRun::new(layers);
     for key in keys {
-        if run.has(*key) {
-            if let Err((full, _)) = own.push(*key) {
+        if !run.has(*key) {
+            if let Err((full, _)) = lacked.push(*key) {
                 return Err(full);
             }
         }
     }
-    Ok(own)
+    Ok(lacked)
 }
 
 // The keys of the visible tiles of layers, in the order of these.

@@ -71,14 +71,7 @@ marked_more keys live i d (h ∷ hs) lt =
     named_more (has_key (take i keys) h.key) (eq_by_cmp key_cmp h.key (get_or keys i d)) live ∙ ap (λ b. cond b live (not live)) (sym (has_key_more keys i d h.key lt)) in
     λ j. record h { live = same j } ∷ marked_more keys live i d hs lt j
 
--- the mark of a list of live keys, and of one of others
-pub mark_of_live : (named : List TileKey) (q : TileKey) → mark_of named true q ≡ has_key named q
-mark_of_live named q = either (has_key named q)
-  where
-    either : (b : Bool) → cond b true false ≡ b
-    either true = refl
-    either false = refl
-
+-- the mark of a list of keys that are not live
 pub mark_of_others : (named : List TileKey) (q : TileKey) → mark_of named false q ≡ not (has_key named q)
 mark_of_others named q = either (has_key named q)
   where

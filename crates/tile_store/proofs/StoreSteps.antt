@@ -151,18 +151,18 @@ module _ {X : Type 0} where
   flying_one false (Some None) = refl
   flying_one false (Some (Some x)) = refl
 
-  module _ (m new : FinMap key_cmp (Option X)) (live : List TileKey) (left : (q : TileKey) → get new q ≡ if_live (has_key live q) (get m q)) where
-    pub kept_ready : ready_of new ≡ fin.retain_keys (ready_of m) (has_key live)
+  module _ (m new : FinMap key_cmp (Option X)) (live : TileKey → Bool) (left : (q : TileKey) → get new q ≡ if_live (live q) (get m q)) where
+    pub kept_ready : ready_of new ≡ fin.retain_keys (ready_of m) live
     kept_ready = same_map key_total key_ties _ _ (λ q.
         get_ready new q
         ∙ ap option_flatten (left q)
-        ∙ kept_one (has_key live q) (get m q)
-        ∙ ap (λ o. cond (has_key live q) o None) (sym (get_ready m q))
-        ∙ sym (get-retain_keys (ready_of m) (has_key live) q (λ x t. ap (has_key live) (sym (key_ties q x t)))))
+        ∙ kept_one (live q) (get m q)
+        ∙ ap (λ o. cond (live q) o None) (sym (get_ready m q))
+        ∙ sym (get-retain_keys (ready_of m) live q (λ x t. ap live (sym (key_ties q x t)))))
 
     pub kept_flying : flying_of new ≡ flying_of m
     kept_flying = same_set key_total key_ties _ _ (λ q.
-        contains_flying new q ∙ ap is_flying (left q) ∙ flying_one (has_key live q) (get m q) ∙ sym (contains_flying m q))
+        contains_flying new q ∙ ap is_flying (left q) ∙ flying_one (live q) (get m q) ∙ sym (contains_flying m q))
 
 -- what is seen of an optional image through references and through its shared value
 pub seen : {A B C : Type 0} (f : A → B) (g : B → C) (o : Option A) → option_map (λ x. g (f x)) o ≡ option_map g (option_map f o)

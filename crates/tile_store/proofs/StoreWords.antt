@@ -9,7 +9,7 @@ use Rattle.std.specs.FinSet.{contains-insert, contains-remove, contains-from_lis
 use Rattle.geom.specs.declared.tile.TileKey.{TileKey}
 use Rattle.geom.specs.KeyOrder.{key_cmp}
 use Rattle.tile_raster.specs.Images.{Image}
-use Rattle.tile_store.specs.Stores.{Store, image_of, is_in_flight, started, done_with, kept}
+use Rattle.tile_store.specs.Stores.{Store, image_of, is_in_flight, started, done_with, without}
 use Rattle.geom.specs.KeyLists.{has_key, AreDistinctKeys}
 use Rattle.geom.proofs.KeyOrders.{key_total, key_ties}
 use Rattle.geom.proofs.KeyLists.{same_ties, has_key_ties}
@@ -29,8 +29,8 @@ module _ (s : Store) (spare : ℕ) (q : TileKey) where
   pub is_in_flight-done_with : (image : Image) (live : Bool) → is_in_flight (done_with s image live spare) q ≡ (not (eq_by_cmp key_cmp q image.key) && is_in_flight s q)
   is_in_flight-done_with image live = contains-remove key_total s.in_flight image.key q
 
-  pub image_of-kept : (live : List TileKey) → image_of (kept s live spare) q ≡ cond (has_key live q) (image_of s q) None
-  image_of-kept live = get-retain_keys s.ready (has_key live) q (λ x t. ap (has_key live) (sym (key_ties q x t)))
+  pub image_of-without : (dead : List TileKey) → image_of (without s dead spare) q ≡ cond (not (has_key dead q)) (image_of s q) None
+  image_of-without dead = get-retain_keys s.ready (λ k. not (has_key dead k)) q (λ x t. ap (λ k. not (has_key dead k)) (sym (key_ties q x t)))
 
 pub len-from_list : (ks : List TileKey) → AreDistinctKeys ks → set.len (set.from_list {R = key_cmp} ks) ≡ length ks
 len-from_list [] n = set.len-empty key_cmp

@@ -62,6 +62,6 @@ abbrev pub done_with : Store → Image → Bool → ℕ → Store
 done_with s image live spare =
     record s { ready = (if live then map.insert s.ready image.key image else s.ready); in_flight = set.remove s.in_flight image.key; spare = spare }
 
--- of the ready keys those of the list are left
-abbrev pub kept : Store → List TileKey → ℕ → Store
-kept s live spare = record s { ready = map.retain_keys s.ready (has_key live); spare = spare }
+-- the keys of the list are ready no more
+abbrev pub without : Store → List TileKey → ℕ → Store
+without s dead spare = record s { ready = map.retain_keys s.ready (λ k. not (has_key dead k)); spare = spare }

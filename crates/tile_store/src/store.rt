@@ -2,7 +2,7 @@
 
 ghost use Rattle.std.specs.Prelude.{◌≡◌, ◌≤◌, ◌+◌, true, IfOk, OnOk, OnErr, option_map};
 ghost use Rattle.std.specs.FinMap as map;
-ghost use Rattle.tile_store.specs.Stores.{image_of, is_in_flight, store_used, empty_store, MayStart, started, done_with, kept};
+ghost use Rattle.tile_store.specs.Stores.{image_of, is_in_flight, store_used, empty_store, MayStart, started, done_with, without};
 
 use crate::ready_keys::ReadyKeys;
 use crate::tile_table::TileTable;
@@ -100,13 +100,12 @@ impl TileStore {
         }
     }
 
-    /// Drops the ready keys that are not in `live`, whatever its order. Keys in flight stay. Takes no
-    /// memory.
-    pub fn keep(&mut self, live: &Keys)
-        ensures store { self.new ≡ kept self.old live.now self.new.spare }
+    /// Drops the ready keys that are in `dead`, whatever its order. Keys in flight stay. Takes no memory.
+    pub fn give_up(&mut self, dead: &Keys)
+        ensures store { self.new ≡ without self.old dead.now self.new.spare }
         ensures spare { self.old.spare ≤ self.new.spare }
     {
-        self.table.keep(live.as_slice());
+        self.table.give_up(dead.as_slice());
     }
 
     /// The image of a key; None exactly where it is not ready. To have the image for longer, take a second

@@ -32,7 +32,7 @@ fn each_step_agrees_with_a_plain_list(rt: HostRuntime) -> Result<(), AllocError>
         match state(&plain, one) {
             Some(true) => {
                 if step % 5 == 0 {
-                    keep_thirds(rt.alloc(), &mut store, &mut plain)?;
+                    give_up_thirds(rt.alloc(), &mut store, &mut plain)?;
                 }
             }
             Some(false) => {
@@ -74,13 +74,13 @@ fn compare(
     Ok(())
 }
 
-// keeps the ready keys whose number is a multiple of 3
-fn keep_thirds(
+// gives up the ready keys whose number is a multiple of 3
+fn give_up_thirds(
     alloc: Global,
     store: &mut TileStore,
     plain: &mut Vec<(TileKey, bool)>,
 ) -> Result<(), AllocError> {
-    let live = keys(
+    let dead = keys(
         alloc,
         &[
             key(21),
@@ -93,8 +93,8 @@ fn keep_thirds(
             key(0),
         ],
     )?;
-    store.keep(&live);
-    plain.retain(|one| !one.1 || one.0.x % 3 == 0);
+    store.give_up(&dead);
+    plain.retain(|one| !one.1 || one.0.x % 3 != 0);
     Ok(())
 }
 

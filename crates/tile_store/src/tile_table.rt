@@ -1,6 +1,6 @@
 //! The held keys with their tiles.
 
-ghost use Rattle.std.specs.Prelude.{◌≡◌, ◌≤◌, ◌+◌, true, false, Some, None, IsSome, IfOk, OnOk, OnErr, option_map};
+ghost use Rattle.std.specs.Prelude.{◌≡◌, ◌≤◌, ◌+◌, not, true, false, Some, None, IsSome, IfOk, OnOk, OnErr, option_map};
 ghost use Rattle.geom.specs.declared.tile.TileKey.{TileKey};
 ghost use Rattle.std.specs.FinMap as fin;
 ghost use Rattle.geom.specs.KeyLists.{has_key};
@@ -167,13 +167,12 @@ impl TileTable {
         }
     }
 
-    // Drops images with their keys: those of the list where it isn't of live keys, else those of all others. Keys
-    // whose images are being made stay.
-    fn sift(&mut self, named: &[TileKey], live: bool)
-        ensures held { (q : TileKey) → fin.get self.new.held q ≡ if_live (mark_of named.now live q) (fin.get self.old.held q) }
+    // Drops the images of these keys with the keys, in one walk over all. Keys whose images are being made stay.
+    fn sift(&mut self, named: &[TileKey])
+        ensures held { (q : TileKey) → fin.get self.new.held q ≡ if_live (mark_of named.now false q) (fin.get self.old.held q) }
         ensures spare { self.old.spare ≤ self.new.spare }
     {
-        mark(&mut self.held, named, live);
+        mark(&mut self.held, named, false);
         let kept = drop_unmarked(&mut self.held, &mut self.tiles);
         self.held.truncate(kept);
     }
@@ -187,17 +186,17 @@ impl TileTable {
         if keys.len() <= FEW {
             self.remove_each(keys);
         } else {
-            self.sift(keys, false);
+            self.sift(keys);
         }
     }
 
-    /// Drops the images of the keys that are not in `live`, whatever its order, with these keys. Keys whose
-    /// images are being made stay.
-    pub(crate) fn keep(&mut self, live: &[TileKey])
-        ensures held { (q : TileKey) → fin.get self.new.held q ≡ if_live (has_key live.now q) (fin.get self.old.held q) }
+    /// Drops the images of the keys that are in `dead`, whatever its order, with these keys. Keys whose images
+    /// are being made stay.
+    pub(crate) fn give_up(&mut self, dead: &[TileKey])
+        ensures held { (q : TileKey) → fin.get self.new.held q ≡ if_live (not (has_key dead.now q)) (fin.get self.old.held q) }
         ensures spare { self.old.spare ≤ self.new.spare }
     {
-        self.sift(live, true);
+        self.sift(dead);
     }
 
     /// The keys that have an image, in their order. An error means out of memory.

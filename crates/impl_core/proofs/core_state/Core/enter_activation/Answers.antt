@@ -49,11 +49,11 @@ invariant_of-self-2 c =
     let activation : OfActivation r.script r.workers h k ms = of_activation r.script r.workers h k ms c.is_legal.ensures.legal may waits listed in
     let stands : StandsForPast r.script (activate 0 k ms ∷ h) c.in_ok-clamps.standing = subst (λ (l : List Move). StandsForPast r.script (activate 0 k l ∷ h) c.in_ok-clamps.standing) (sym listed)
     (subst (λ (z : Run). StandsForPast z.script (activate 0 k (next_clamps z.script (past z)) ∷ past z) c.in_ok-clamps.standing) (sym c.self.view_is) c.in_ok-clamps.ensures.stands) in
-    let brings : AreForActivation r.script h c.in_ok-next.next.pins c.in_ok-next.next.live =
-    subst (λ (z : Run). AreForActivation z.script (past z) c.in_ok-next.next.pins c.in_ok-next.next.live) (sym c.self.view_is) c.in_ok-next.ensures in
+    let brings : AreForActivation r.script h c.in_ok-next.next.pins c.in_ok-next.next.dead =
+    subst (λ (z : Run). AreForActivation z.script (past z) c.in_ok-next.next.pins c.in_ok-next.next.dead) (sym c.self.view_is) c.in_ok-next.ensures in
     let hosts : Hosts r.script (activate 0 k ms ∷ h) c.activate.new.self = c.activate.ensures r.script r.workers h 0 k ms activation.legal c.self.invariant.host stands in
     let holds : Manages r.script (activate 0 k ms ∷ h) c.activate-2.new.self =
-    c.activate-2.ensures r.script r.workers h 0 k ms c.is_legal.ensures.accepted activation.legal c.self.invariant.tiles brings.pins brings.live in
+    c.activate-2.ensures r.script r.workers h 0 k ms c.is_legal.ensures.accepted activation.legal c.self.invariant.tiles brings.pins brings.dead in
     one_more (record { host = c.activate.new.self; tiles = c.activate-2.new.self; told = c.self.inside.told; prepared = c.self.inside.prepared; required = None }) r c.enter.new.self 0 (event.Activate k ms) c.in_ok-enter.ensures.ok
     (activate_core r.script h (record { host = c.self.inside.host; tiles = c.self.inside.tiles; told = c.self.inside.told; prepared = c.self.inside.prepared; required = c.self.inside.required }) c.self.invariant
     c.activate.new.self c.activate-2.new.self None k ms hosts holds tt)
