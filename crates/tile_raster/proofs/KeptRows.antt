@@ -1,5 +1,5 @@
 -- The rows that a picture keeps.
-use Rattle.std.proofs.Common.{◌≡◌, ℕ, ◌<◌, ◌≤◌, ◌+◌, ◌*◌, inl, inr, List, [], length, slice_index, sym, ◌∙◌, ap, subst, arith}
+use Rattle.std.proofs.Common.{◌≡◌, ℕ, ◌<◌, ◌≤◌, ◌+◌, ◌*◌, ◌/◌, inl, inr, List, [], length, slice_index, sym, ◌∙◌, ap, subst, arith}
 use Rattle.std.proofs.Math.Nat.{mul-le-mul_left}
 use Rattle.std.proofs.lemmas.Bool.{cases_lt}
 use Rattle.std.proofs.lemmas.Int.{clamps}
@@ -9,9 +9,9 @@ use Rattle.pixel.specs.Colours.{Parts}
 use Rattle.pixel.specs.Rows.{pixel, ArePremultiplied}
 use Rattle.page_display_list.specs.declared.Item.{Item}
 use Rattle.page_display_list.specs.Bitmaps.{near}
-use Rattle.tile_raster.specs.Images.{list_colour, IsRow, HasTwoColours, row_bytes}
+use Rattle.tile_raster.specs.Images.{list_colour, IsRow, HasTwoColours, HasTranslucentPixel, row_bytes}
 use Rattle.tile_raster.specs.Images.{AreSameRows}
-use Rattle.tile_raster.specs.inner.Bands.{AreSteps, IsCount, AreKept, IsEnd}
+use Rattle.tile_raster.specs.inner.Bands.{AreSteps, IsCount, AreKept, IsEnd, HasTranslucentIn}
 use Rattle.tile_raster.proofs.Places.{place_below}
 use Rattle.tile_raster.proofs.RowBytes.{pixel_part, part_premultiplied}
 
@@ -62,19 +62,39 @@ one_for_all level list r places bytes kept s last few k = record {
       subst (λ (p : ℕ). IsRow list r y (row_bytes (near r.w) p bytes)) zero (k.rows y lt);
 }
 
--- the rows of one place show the colour of the first
-pub same_colour : (list : List Item) (r : Rect) (places bytes : List ℕ) (y end : ℕ) (c : Parts) → AreKept list r places bytes
-    → IsEnd (near r.h) places y end → ((x j : ℕ) → x < near r.w → j < y → list_colour list r x j ≡ c) → ((x : ℕ) → x < near r.w → list_colour list r x y ≡ c)
-    → (x j : ℕ) → x < near r.w → j < end → list_colour list r x j ≡ c
-same_colour list r places bytes y end c kept stop before here x j low lt =
-    elim (cases_lt j y) as (λ _. list_colour list r x j ≡ c) [
+-- what is so of each pixel above a row and of that row is so of the rows of one place with it
+pub same_part : {A : Type 0} (part : Parts → A) (list : List Item) (r : Rect) (places bytes : List ℕ) (y end : ℕ) (c : A) → AreKept list r places bytes
+    → IsEnd (near r.h) places y end → ((x j : ℕ) → x < near r.w → j < y → part (list_colour list r x j) ≡ c) → ((x : ℕ) → x < near r.w → part (list_colour list r x y) ≡ c)
+    → (x j : ℕ) → x < near r.w → j < end → part (list_colour list r x j) ≡ c
+same_part part list r places bytes y end c kept stop before here x j low lt =
+    elim (cases_lt j y) as (λ _. part (list_colour list r x j) ≡ c) [
       | inl less ↦ before x j low less
       | inr from ↦
           let some = stop.some in
           let inside = stop.inside in
           let same = kept_agree list r places bytes y j kept (omega arith) (omega arith) (stop.equal j from lt) in
-          sym (same x low) ∙ here x low
+          ap part (sym (same x low)) ∙ here x low
     ]
+
+-- the rows of one place show the colour of the first
+pub same_colour : (list : List Item) (r : Rect) (places bytes : List ℕ) (y end : ℕ) (c : Parts) → AreKept list r places bytes
+    → IsEnd (near r.h) places y end → ((x j : ℕ) → x < near r.w → j < y → list_colour list r x j ≡ c) → ((x : ℕ) → x < near r.w → list_colour list r x y ≡ c)
+    → (x j : ℕ) → x < near r.w → j < end → list_colour list r x j ≡ c
+same_colour = same_part (λ c. c)
+
+-- the rows of one place are as opaque as the first
+pub same_alpha : (list : List Item) (r : Rect) (places bytes : List ℕ) (y end : ℕ) → AreKept list r places bytes
+    → IsEnd (near r.h) places y end → ((x j : ℕ) → x < near r.w → j < y → (list_colour list r x j).a ≡ 255) → ((x : ℕ) → x < near r.w → (list_colour list r x y).a ≡ 255)
+    → (x j : ℕ) → x < near r.w → j < end → (list_colour list r x j).a ≡ 255
+same_alpha list r places bytes y end = same_part (λ c. c.a) list r places bytes y end 255
+
+-- a pixel that is not opaque
+pub other_alpha : (list : List Item) (r : Rect) (row : List ℕ) (y : ℕ) → y < near r.h → IsRow list r y row → HasTranslucentIn row → HasTranslucentPixel list r
+other_alpha list r row y lt is other =
+    let size = is.size in
+    let inside = other.inside in
+    let low : other.x < near r.w = omega arith in
+    record { x = other.x; y = y; across = low; down = lt; other = λ e. other.other (ap (λ (c : Parts). c.a) (is.pixels other.x low) ∙ e) }
 
 -- a pixel that differs from the first
 pub two_colours : (list : List Item) (r : Rect) (first row : List ℕ) (y k : ℕ) (c : Parts) → 0 < near r.w → y < near r.h → IsRow list r 0 first → IsRow list r y row → c ≡ pixel first 0 → k < near r.w → (pixel row k ≡ c → ⊥)

@@ -39,6 +39,18 @@ pub record HasTwoColours (list : List Item) (r : Rect) : Type 0 where
   pub other_inside : (other_x < near r.w) × (other_y < near r.h)
   pub differ : list_colour list r x y ≢ list_colour list r other_x other_y
 
+-- each pixel has alpha 255
+abbrev pub AreAllOpaque : List Item → Rect → Type 0
+AreAllOpaque list r = (x y : ℕ) → x < near r.w → y < near r.h → (list_colour list r x y).a ≡ 255
+
+-- a pixel has another alpha
+pub record HasTranslucentPixel (list : List Item) (r : Rect) : Type 0 where
+  pub x : ℕ
+  pub y : ℕ
+  pub across : x < near r.w
+  pub down : y < near r.h
+  pub other : (list_colour list r x y).a ≢ 255
+
 -- row y of bytes whose rows are w pixels long
 abbrev pub row_bytes : ℕ → ℕ → List ℕ → List ℕ
 row_bytes w y bytes = take (4 * w) (drop (4 * (w * y)) bytes)

@@ -1,11 +1,12 @@
 //! The picture of one tile.
 
-ghost use Rattle.std.specs.Prelude.{◌≡◌, ℕ, ◌+◌, ◌<◌, ◌≤◌, IfOk, IsTrue, MatchOption};
+ghost use Rattle.std.specs.Prelude.{◌≡◌, ℕ, ◌+◌, ◌<◌, ◌≤◌, false, IfOk, IsTrue, MatchOption};
 ghost use Rattle.geom.specs.Covers.{IsSound};
 ghost use Rattle.page_display_list.specs.Bitmaps.{near};
 ghost use Rattle.tile_raster.specs.Images.{Image, IsRow, IsOneColour, HasTwoColours};
-ghost use Rattle.tile_raster.specs.Images.{AreSameRows, ShowAlike};
+ghost use Rattle.tile_raster.specs.Images.{AreSameRows, AreAllOpaque, HasTranslucentPixel, ShowAlike};
 
+use crate::opaque::are_all_opaque;
 use crate::picture_rows::{PictureRows, are_same_rows, end_of, kept_rows, place_of};
 use crate::pixels::{height_of, is_same_colour, one_colour, row_at, width_of};
 use geom::{Rect, TileKey};
@@ -23,6 +24,8 @@ pub struct TileImage {
     list: Arc<DisplayList>,
     // the colour of all pixels, where they have one
     solid: Option<Colour>,
+    // whether all pixels are opaque
+    is_opaque: bool,
     // the rows, of which equal ones that follow one another are kept once
     rows: PictureRows,
 }
@@ -31,13 +34,13 @@ impl Model for TileImage {
     ghost use Rattle.geom.specs.Covers.{IsSound};
     ghost use Rattle.page_display_list.specs.Bitmaps.{near};
     ghost use Rattle.tile_raster.specs.Images.{Image};
-    ghost use Rattle.tile_raster.specs.inner.Bands.{AreKept, AreEnds, IsSolid};
+    ghost use Rattle.tile_raster.specs.inner.Bands.{AreKept, AreEnds, IsSolid, TellsOpaque};
 
     ghost Value = { Image };
 
     ghost view = { λ i. record { key = i.key; rect = i.rect; list = i.list.value } };
 
-    ghost invariant = { λ i. IsSound i.rect × AreKept i.list.value i.rect i.rows.places.items i.rows.bytes.items × AreEnds (near i.rect.h) i.rows.places.items i.rows.ends.items × IsSolid i.list.value i.rect i.solid };
+    ghost invariant = { λ i. IsSound i.rect × AreKept i.list.value i.rect i.rows.places.items i.rows.bytes.items × AreEnds (near i.rect.h) i.rows.places.items i.rows.ends.items × IsSolid i.list.value i.rect i.solid × TellsOpaque i.list.value i.rect i.is_opaque };
 }
 
 impl TileImage {
@@ -53,11 +56,13 @@ impl TileImage {
     {
         let rows = kept_rows(alloc, &list, rect)?;
         let solid = one_colour(&list, rect, &rows);
+        let is_opaque = are_all_opaque(&list, rect, &rows);
         Ok(TileImage {
             key,
             rect,
             list,
             solid,
+            is_opaque,
             rows,
         })
     }
@@ -127,5 +132,13 @@ impl TileImage {
         ensures { MatchOption result (HasTwoColours self.now.list self.now.rect) (λ c. IsOneColour self.now.list self.now.rect c) }
     {
         self.solid
+    }
+
+    /// Whether all pixels are opaque; true where there is none. It is known, so that no pixel is read.
+    pub fn is_opaque(&self) -> bool
+        ensures yes { IsTrue result → AreAllOpaque self.now.list self.now.rect }
+        ensures no { result ≡ false → HasTranslucentPixel self.now.list self.now.rect }
+    {
+        self.is_opaque
     }
 }

@@ -10,6 +10,7 @@ mod changes;
 mod draw;
 mod image;
 mod job;
+mod opaque;
 mod picture_rows;
 mod pixels;
 #[cfg(test)]

@@ -44,8 +44,13 @@ pub(crate) fn one_colour(list: &DisplayList, rect: Rect, rows: &PictureRows) -> 
     Some(first)
 }
 
-// row y of the picture that shows this list on this rect
-fn row_of<'a>(_list: &DisplayList, rect: Rect, rows: &'a PictureRows, y: usize) -> &'a [u8]
+/// Row y of the picture that shows this list on this rect.
+pub(crate) fn row_of<'a>(
+    _list: &DisplayList,
+    rect: Rect,
+    rows: &'a PictureRows,
+    y: usize,
+) -> &'a [u8]
     requires sound { IsSound rect }
     requires kept { AreKept _list.now rect rows.now.places.items rows.now.bytes.items }
     requires inside { y < near rect.h }

@@ -1,13 +1,14 @@
 -- Rows of a picture that are equal, and the rows that it keeps.
-use Rattle.std.specs.Prelude.{◌≡◌, ◌<◌, ◌≤◌, ◌⊎◌, ℕ, ◌+◌, ◌-◌, pos, ◌+ℤ◌, false, Option, Some, None, List, length, slice_index, slice_index_or, All}
+use Rattle.std.specs.Prelude.{◌≡◌, ◌≢◌, ◌<◌, ◌≤◌, ◌⊎◌, ℕ, ◌+◌, ◌-◌, ◌/◌, pos, ◌+ℤ◌, Bool, true, false, Option, Some, None, List, length, slice_index, slice_index_or, All}
 use Rattle.geom.specs.declared.Rect.{Rect}
 use Rattle.geom.specs.Covers.{covers}
 use Rattle.pixel.specs.Colours.{Parts}
+use Rattle.pixel.specs.Rows.{pixel}
 use Rattle.pixel.specs.declared.Area.{Area}
 use Rattle.page_display_list.specs.declared.Item.{Item}
 use Rattle.page_display_list.specs.declared.item.Item.TheVariants as kind
 use Rattle.page_display_list.specs.Bitmaps.{near}
-use Rattle.tile_raster.specs.Images.{IsRow, IsOneColour, HasTwoColours, row_bytes}
+use Rattle.tile_raster.specs.Images.{IsRow, IsOneColour, HasTwoColours, AreAllOpaque, HasTranslucentPixel, row_bytes}
 
 -- an item covers the same columns in row y of the rect and in the row below it, and a bitmap covers none in both
 abbrev pub IsLevel : Item → Rect → ℕ → Type 0
@@ -52,6 +53,23 @@ pub record AreKept (list : List Item) (r : Rect) (places bytes : List ℕ) : Typ
 abbrev pub IsSolid : List Item → Rect → Option Parts → Type 0
 IsSolid list r None = HasTwoColours list r
 IsSolid list r (Some c) = IsOneColour list r c
+
+-- a pixel of a row has this alpha
+pub record IsAlphaIn (row : List ℕ) (alpha : ℕ) : Type 0 where
+  pub x : ℕ
+  pub inside : x < length row / 4
+  pub is : (pixel row x).a ≡ alpha
+
+-- a pixel of a row has another alpha than 255
+pub record HasTranslucentIn (row : List ℕ) : Type 0 where
+  pub x : ℕ
+  pub inside : x < length row / 4
+  pub other : (pixel row x).a ≢ 255
+
+-- whether all pixels are opaque
+pub record TellsOpaque (list : List Item) (r : Rect) (flag : Bool) : Type 0 where
+  pub yes : flag ≡ true → AreAllOpaque list r
+  pub no : flag ≡ false → HasTranslucentPixel list r
 
 -- the rows from row y to before row `end` are among the given number of rows, and have the place of row y
 pub record IsEnd (rows : ℕ) (places : List ℕ) (y end : ℕ) : Type 0 where
