@@ -91,6 +91,9 @@ fn is_opaque_part(image: &TileImage, part: ImagePart) -> bool
     ensures yes { IsTrue result → IsOpaquePart image.now part }
     ensures no { result ≡ false → HasOtherAlpha image.now part }
 {
+    if image.is_opaque() {
+        return true;
+    }
     let mut y = 0;
     while y < part.h {
         let place = (part.top + y) as u32;
