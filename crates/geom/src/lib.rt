@@ -15,6 +15,3 @@ pub use grid::{Grid, places_cover_once, places_part_the_layer};
 pub use keys::Keys;
 pub use rect::{Point, Rect};
 pub use tile::{Place, TileKey};
-
-#[cfg(test)]
-mod tests;

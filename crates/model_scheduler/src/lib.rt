@@ -14,8 +14,6 @@ ghost use Rattle.model_scheduler.specs.Kinds.{may, sched_after, begun_for, start
 
 mod kind;
 mod states;
-#[cfg(test)]
-mod tests;
 
 pub use kind::Kind;
 pub use states::{Begun, ImplState, MainState};

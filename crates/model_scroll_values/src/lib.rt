@@ -15,8 +15,6 @@ ghost use Rattle.model_scroll_values.specs.Table.{active_value, pending_value, p
 ghost use Rattle.model_scroll_values.specs.Bounds.{IsBounded, IsBoundedNumber};
 
 mod laws;
-#[cfg(test)]
-mod tests;
 
 pub use laws::{activation_takes_pending_value, move_adds_to_both, starts_at_zero, values_survive};
 

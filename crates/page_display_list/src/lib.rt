@@ -14,6 +14,3 @@ pub use bitmap::{BadBitmap, Bitmap, BitmapCause};
 pub use covered_area::{CoveredArea, shared_part};
 pub use item::Item;
 pub use list::DisplayList;
-
-#[cfg(test)]
-mod tests;

@@ -10,8 +10,6 @@ mod changes;
 mod joining;
 mod laws;
 mod region;
-#[cfg(test)]
-mod tests;
 
 pub use change::LayerChange;
 pub use changes::Changes;

@@ -15,9 +15,6 @@
 //! tested.
 #![tactic(auto)]
 
-#[cfg(test)]
-mod tests;
-
 use std::sync::Wait;
 use std::sync::atomic::{AtomicBool, AtomicU64, Ordering};
 use std::time::Duration;

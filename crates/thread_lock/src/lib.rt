@@ -22,6 +22,3 @@ pub use journal::{Journal, write_all, write_both, write_note};
 pub use lock::TurnLock;
 pub use pass::{Busy, Empty, HeldTurn, Pass, SplitFault};
 pub use turn::Turn;
-
-#[cfg(test)]
-mod tests;

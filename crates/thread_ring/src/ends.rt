@@ -71,11 +71,8 @@ pub fn ring(alloc: Global) -> Result<(RingSink, Presenter), AllocError>
     ring_within(alloc, MOST_WAITING)
 }
 
-// The same with another bound on the bytes that wait.
-pub(crate) fn ring_within(
-    alloc: Global,
-    most_waiting: u64,
-) -> Result<(RingSink, Presenter), AllocError>
+/// The same, where the one who puts waits for space once more than this many bytes wait.
+pub fn ring_within(alloc: Global, most_waiting: u64) -> Result<(RingSink, Presenter), AllocError>
     ensures pair { IfOk result (λ r. OneRing r.0 r.1) }
     ensures empty { IfOk result (λ r. (whole r.0 ≡ []) × (bytes_taken r.1 ≡ [])) }
     ensures places { IfOk result (λ r. (producer_capacity r.0.producer ≡ 64) × (r.0.refused ≡ 0)) }

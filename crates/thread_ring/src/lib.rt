@@ -22,9 +22,7 @@ mod life;
 mod rest;
 mod serving;
 mod shared;
-#[cfg(test)]
-mod tests;
 
-pub use ends::{Label, Presented, Presenter, RingSink, ring};
+pub use ends::{Label, Presented, Presenter, RingSink, ring, ring_within};
 pub use life::present_from;
 pub use rest::finish;

@@ -12,8 +12,6 @@
 mod laws;
 mod rank;
 mod ready_tile;
-#[cfg(test)]
-mod tests;
 mod tile;
 mod tree_priority;
 

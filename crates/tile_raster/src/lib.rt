@@ -13,8 +13,6 @@ mod job;
 mod opaque;
 mod picture_rows;
 mod pixels;
-#[cfg(test)]
-mod tests;
 
 pub use batch::run_all;
 pub use image::TileImage;

@@ -9,8 +9,6 @@ mod held;
 mod ready_keys;
 mod search;
 mod store;
-#[cfg(test)]
-mod tests;
 mod tile_table;
 mod tiles;
 mod walks;

@@ -13,8 +13,6 @@
 
 mod laws;
 mod stamps;
-#[cfg(test)]
-mod tests;
 mod tiling;
 
 pub use laws::carry_steps_the_stamps;

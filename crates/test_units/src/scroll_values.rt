@@ -1,4 +1,4 @@
-use crate::Synced;
+use model_scroll_values::Synced;
 
 #[test]
 fn abort_and_activation_with_a_commit_pending(rt: HostRuntime) {

@@ -1,8 +1,8 @@
 ghost use Rattle.std.specs.Prelude.{pos, ◌≤ℤ◌};
 ghost use Rattle.geom.specs.Covers.{IsSound};
 
-use crate::{Changes, LayerChange, Region};
 use geom::{Point, Rect};
+use region::{Changes, LayerChange, Region};
 use std::alloc::AllocError;
 
 #[test]

@@ -1,4 +1,4 @@
-use crate::{Kind, Sched};
+use model_scheduler::{Kind, Sched};
 
 #[test]
 fn one_send_in_an_impl_frame(rt: HostRuntime) {

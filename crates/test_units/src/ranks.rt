@@ -1,8 +1,8 @@
 ghost use Rattle.std.specs.Prelude.{pos, ◌≤ℤ◌};
 ghost use Rattle.geom.specs.Covers.{IsSound};
 
-use crate::{Bin, Borders, Rank, Seen, Side, TreePriority, is_visible, least, rank_in};
 use geom::{Rect, TileKey};
+use tile_priority::{Bin, Borders, Rank, Seen, Side, TreePriority, is_visible, least, rank_in};
 
 const KEY: TileKey = TileKey {
     layer: 1,

@@ -1,12 +1,12 @@
 ghost use Rattle.std.specs.Prelude.{◌≡◌, pos, IfOk};
 ghost use Rattle.geom.specs.Covers.{IsSound};
 
-use crate::{Job, TileImage};
 use geom::{Rect, TileKey};
 use page_display_list::{DisplayList, Item};
 use pixel::Colour;
 use std::alloc::{AllocError, Global};
 use std::sync::Arc;
+use tile_raster::{Job, TileImage};
 
 #[test]
 fn a_rect_over_half_of_a_tile(rt: HostRuntime) -> Result<(), AllocError> {

@@ -1,4 +1,4 @@
-use super::*;
+use geom::{Grid, Keys, Place, Point, Rect, TileKey};
 use std::test::Fail;
 
 #[test]
@@ -51,7 +51,7 @@ fn rects_by_hand(rt: HostRuntime) {
 }
 
 #[test]
-#[tactic(auto, unfolding(crate::specs::Covers::within))]
+#[tactic(auto, unfolding(geom::specs::Covers::within))]
 fn places_by_hand(rt: HostRuntime) -> Result<(), Fail> {
     let grid = Grid {
         w: 48,

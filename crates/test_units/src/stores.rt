@@ -1,13 +1,13 @@
 ghost use Rattle.std.specs.Prelude.{◌≡◌, true, false, IfOk};
 ghost use Rattle.geom.specs.declared.tile.TileKey.{TileKey};
 
-use crate::TileStore;
 use geom::{Keys, Rect, TileKey};
 use page_display_list::DisplayList;
 use std::alloc::{AllocError, Global};
 use std::process::Abort;
 use std::sync::Arc;
 use tile_raster::{Job, TileImage};
+use tile_store::TileStore;
 
 #[test]
 fn one_tile_is_started_and_done(rt: HostRuntime) -> Result<(), AllocError> {

@@ -1,8 +1,6 @@
 //! Rings from end to end, over sinks in memory.
 ghost use Rattle.std.specs.Prelude.{◌<◌};
 
-use super::*;
-use crate::ends::ring_within;
 use player_io::{MemSink, PutFault, Sink};
 use recording_pieces::{Painters, ScenePainter, SceneSink};
 use std::alloc::{AllocError, Global};
@@ -12,6 +10,7 @@ use std::sync::Wait;
 use std::sync::atomic::{AtomicU64, Ordering};
 use std::test::Fail;
 use std::thread::{Threads, join_mut, yield_now};
+use thread_ring::{Presented, RingSink, finish, present_from, ring, ring_within};
 use viz_scene::Scene;
 
 /// A painter that never finds memory.

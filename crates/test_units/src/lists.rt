@@ -1,7 +1,7 @@
 //! Lists and bitmaps worked by hand.
 
-use super::*;
 use geom::Rect;
+use page_display_list::{BitmapCause, DisplayList, Item};
 use pixel::Colour;
 use std::alloc::{AllocError, Global};
 use std::sync::Arc;

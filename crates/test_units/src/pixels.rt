@@ -2,7 +2,7 @@
 
 ghost use Rattle.std.specs.Prelude.{◌*◌, ◌≤◌, length};
 
-use super::*;
+use pixel::{Colour, fill_row, first_wrong, over_row, over_row_plain, scale_row, scale_row_plain};
 use std::alloc::{AllocError, Global};
 use std::test::Fail;
 

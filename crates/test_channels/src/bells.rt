@@ -1,8 +1,8 @@
-use crate::{Bell, Post};
 use std::sync::Wait;
 use std::test::*;
 use std::thread::join;
 use std::time::Duration;
+use thread_bell::{Bell, Post};
 
 #[test]
 fn a_ring_since_the_count_was_read_is_not_slept_over(rt: HostRuntime) {

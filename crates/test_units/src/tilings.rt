@@ -1,10 +1,10 @@
 ghost use Rattle.std.specs.Prelude.{pos, ◌≤◌, ◌≤ℤ◌, IfSome};
 ghost use Rattle.geom.specs.Covers.{IsSound};
 
-use crate::Tiling;
 use geom::{Grid, Rect, TileKey};
 use region::{LayerChange, Region};
 use std::alloc::{AllocError, Global};
+use tile_tiling::Tiling;
 
 #[test]
 fn a_change_stamps_the_places_that_it_touches(rt: HostRuntime) -> Result<(), AllocError> {

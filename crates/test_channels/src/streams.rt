@@ -1,7 +1,9 @@
 //! The answers of the sources and sinks, call by call, each through its trait.
 ghost use Rattle.std.specs.Prelude.{◌≤◌, IfOk};
 
-use super::*;
+use player_io::{
+    Failed, Gate, MemSink, MemSource, OpenGate, PutFault, Sink, Source, StdSink, StdSource,
+};
 use std::io::{Error, ErrorKind, Read, Write};
 use std::test::Fail;
 

@@ -1,12 +1,14 @@
 ghost use Rattle.std.specs.Prelude.{◌≡◌, ◌<◌, [], All, vec_len};
 ghost use Rattle.thread_lock.specs.PassModels.{IsOf};
 
-use crate::{HeldTurn, Journal, Pass, SplitFault, TurnLock, write_all, write_both, write_note};
 use std::alloc::{AllocError, Global};
 use std::process::Abort;
 use std::sync::Wait;
 use std::test::*;
 use std::thread::{Threads, join};
+use thread_lock::{
+    HeldTurn, Journal, Pass, SplitFault, TurnLock, write_all, write_both, write_note,
+};
 
 type Lock = TurnLock<Journal>;
 
