@@ -1,5 +1,5 @@
 -- What a draw leaves of a frame.
-use Rattle.std.proofs.Common.{◌≡◌, ℕ, ◌<◌, ◌≤◌, ℤ, pos, negsuc, ◌≤ℤ◌, ◌+ℤ◌, Bool, true, false, ◌&&◌, ◌||◌, List, [], ◌∷◌, refl, sym, ◌∙◌, arith}
+use Rattle.std.proofs.Common.{◌≡◌, ℕ, ◌<◌, ◌≤◌, ℤ, pos, negsuc, ◌≤ℤ◌, ◌+ℤ◌, Bool, true, false, ◌&&◌, ◌||◌, List, [], ◌∷◌, refl, sym, ◌∙◌, subst, arith}
 use Rattle.std.specs.Prelude.{nat_le, nat_lt, Option, Some, None}
 use Rattle.std.specs.Option.{option_to_list}
 use Rattle.std.specs.Int.{int_max}
@@ -43,10 +43,13 @@ outside_span at len top bottom y first last off = never _ (λ on.
     let high = i.high in
     apart _ off (is_row top bottom y (omega (arith, ints, clamps, first, low)) (omega (arith, ints, clamps, last, high))))
 
--- what is kept outside of some rects is kept outside of the rows that they lie in
-pub kept_rows : (d : ℕ) (rows : FrameRows) (rects : List Rect) (old new : CanvasView) → ((x : ℤ) → (y : ℕ) → has_row rows y ≡ false → covered rects x (pos y) ≡ false)
+-- what is kept outside of some rects is kept outside of the rows of the frame that they lie in
+pub kept_rows : (d height : ℕ) (rows : FrameRows) (rects : List Rect) (old new : CanvasView) → height ≡ new.h
+    → ((x : ℤ) → (y : ℕ) → y < height → has_row rows y ≡ false → covered rects x (pos y) ≡ false)
     → IsKeptOutside d rects old new → IsKeptOutsideRows d rows old new
-kept_rows d rows rects old new outside kept = record { pixels = λ x y across down off. kept.pixels x y across down (outside (pos x) y off) }
+kept_rows d height rows rects old new tall outside kept = record {
+  pixels = λ x y across down off. kept.pixels x y across down (outside (pos x) y (subst (λ h. y < h) (sym tall) down) off);
+}
 
 -- ---- the whole
 

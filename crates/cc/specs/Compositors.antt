@@ -1,5 +1,5 @@
 -- Compositors: the page that commands change, the page that is shown, and the frame.
-use Rattle.std.specs.Prelude.{⊤, ℕ, ℤ, pos, ◌≡◌, ◌<◌, ◌&&◌, nat_le, nat_lt, Bool, true, false, Result, Ok, Err, List, [], ◌∷◌, map, Option, Some, None}
+use Rattle.std.specs.Prelude.{⊤, ℕ, ℤ, pos, ◌≡◌, ◌<◌, ◌≤◌, ◌&&◌, nat_le, nat_lt, Bool, true, false, Result, Ok, Err, List, [], ◌∷◌, map, Option, Some, None}
 use Rattle.geom.specs.declared.rect.Point.{Point}
 use Rattle.geom.specs.declared.rect.Rect.{Rect}
 use Rattle.geom.specs.Covers.{covers}
@@ -85,6 +85,11 @@ has_row rows y = nat_le rows.top y && nat_lt y rows.bottom
 -- outside of some rows a frame has the pixels of the frame before
 pub record IsKeptOutsideRows (depth : ℕ) (rows : FrameRows) (old new : CanvasView) : Type 0 where
   pub pixels : (x y : ℕ) → x < new.w → y < new.h → has_row rows y ≡ false → canvas_pixel depth new x y ≡ canvas_pixel depth old x y
+
+-- the rows are some of a frame of this height, or none
+pub record AreRowsOf (height : ℕ) (rows : FrameRows) : Type 0 where
+  pub order : rows.top ≤ rows.bottom
+  pub inside : rows.bottom ≤ height
 
 -- a scene has the size of a page's view and shows the direct painting of the page in the viewport
 pub record IsSceneOf (p : Page) (offset : ℕ → Point) (background : Parts) (s : SceneView) : Type 0 where

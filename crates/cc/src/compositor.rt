@@ -7,12 +7,13 @@ ghost use Rattle.page_layers.specs.Effects.{main_point};
 ghost use Rattle.page_layers.specs.Hits as hits;
 ghost use Rattle.page_layers.specs.Outcomes.{Outcome};
 ghost use Rattle.page_hit_test.specs.Wheels.{IsAmount, IsWheel};
+ghost use Rattle.viz_canvas.specs.Canvases.{IsOfSize, EachIs, black};
 ghost use Rattle.viz_painter.specs.Painters.{IsKeptOutside};
 ghost use Rattle.cc_tiles.specs.KeptTiles.{AreKeptFor, AreCurrent};
-ghost use Rattle.cc.specs.Compositors.{CompositorView, Applied, AppliedTo, Scrolled, ShowsPage, empty_page, moved, offsets, wheel_moves, IsKeptOutsideRows};
+ghost use Rattle.cc.specs.Compositors.{CompositorView, Applied, AppliedTo, Scrolled, ShowsPage, empty_page, moved, offsets, wheel_moves, AreRowsOf, IsKeptOutsideRows};
 ghost use Rattle.cc.specs.inner.Flags.{TellsEdited};
 
-use crate::damage::{FrameRows, no_rows, paint, rows_of};
+use crate::damage::{FrameRows, frame_rows, no_rows, paint};
 use crate::edits::{known_union, noted};
 use crate::moves::{move_both, move_main, scroll_active};
 use crate::scenes::{scene_of, target_on, wheel_on};
@@ -64,8 +65,9 @@ impl<F: PixelFormat> Model for Compositor<F> {
 }
 
 impl<F: PixelFormat> Compositor<F> {
-    /// A compositor whose pages have this view and no layers, over this colour. The images of tiles that are kept
-    /// may take `budget` bytes beside those of the last draw. An error means out of memory.
+    /// A compositor whose pages have this view and no layers, over this colour. Its frame has the view's size, and is
+    /// black and opaque until the first draw. The images of tiles that are kept may take `budget` bytes beside those
+    /// of the last draw. An error means out of memory.
     ///
     /// The view's sides are 1 to 2048, and its tiles 16 to 256.
     #[tactic(auto, using(crate::proofs::Pages::kept_none, crate::proofs::Pages::current_none, crate::proofs::Pages::committed_both, crate::proofs::Pages::edited_itself, crate::proofs::Pages::shown_none))]
@@ -79,6 +81,9 @@ impl<F: PixelFormat> Compositor<F> {
         ensures main { IfOk result (λ c. c.main ≡ empty_page view) }
         ensures active { IfOk result (λ c. c.active ≡ empty_page view) }
         ensures background { IfOk result (λ c. c.background ≡ background) }
+        ensures frame { IfOk result (λ c. IsOfSize view.w view.h c.frame) }
+        ensures black { IfOk result (λ c. EachIs F.DEPTH (λ x y. F.bytes_of black) c.frame) }
+        ensures damage { IfOk result (λ c. c.damage ≡ []) }
     {
         let painter = Painter::new(alloc, view.w, view.h)?;
         Ok(Compositor {
@@ -206,6 +211,7 @@ impl<F: PixelFormat> Compositor<F> {
     pub fn draw(&mut self) -> Result<FrameRows, AllocError>
         ensures shown { OnOk result (ShowsPage F.DEPTH F.bytes_of self.new.active (offsets self.new) self.new.background self.new.frame) }
         ensures rows { IfOk result (λ rows. IsKeptOutsideRows F.DEPTH rows self.old.frame self.new.frame) }
+        ensures inside { IfOk result (AreRowsOf self.new.frame.h) }
         ensures rects { IsKeptOutside F.DEPTH self.new.damage self.old.frame self.new.frame }
         ensures main { self.new.main ≡ self.old.main }
         ensures active { self.new.active ≡ self.old.active }
@@ -228,7 +234,8 @@ impl<F: PixelFormat> Compositor<F> {
         paint(&mut self.painter, &mut self.lost, scene, unshown)?;
         self.is_painted = true;
         self.unshown = Some(Region::new(self.alloc));
-        Ok(rows_of(self.painter.damage()))
+        let height = self.painter.canvas().h();
+        Ok(frame_rows(self.painter.damage(), height))
     }
 
     /// The frame: after a draw, what it drew.

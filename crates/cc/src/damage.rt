@@ -1,12 +1,12 @@
 //! What a draw may have changed of a frame.
 
-ghost use Rattle.std.specs.Prelude.{◌≡◌, ◌≤ℤ◌, ℕ, ℤ, pos, false, None, All, IfSome, OnOk, OnErr};
+ghost use Rattle.std.specs.Prelude.{◌≡◌, ◌<◌, ◌≤ℤ◌, ℕ, ℤ, pos, false, None, All, IfSome, OnOk, OnErr};
 ghost use Rattle.std.specs.Option.{option_to_list};
 ghost use Rattle.geom.specs.Covers.{IsSound, IsSpan, covers, within};
 ghost use Rattle.page_display_list.specs.Bitmaps.{near};
 ghost use Rattle.region.specs.Points.{covered};
 ghost use Rattle.viz_painter.specs.Painters.{ShowsWhole, ShowsOutside, IsKeptOutside};
-ghost use Rattle.cc.specs.Compositors.{has_row};
+ghost use Rattle.cc.specs.Compositors.{has_row, AreRowsOf};
 
 use geom::Rect;
 use region::Region;
@@ -15,22 +15,43 @@ use viz_canvas::{Canvas, PixelFormat};
 use viz_painter::Painter;
 use viz_scene::Scene;
 
-/// Rows of a frame that follow one another, counted from its top; none where `bottom` does not lie below `top`.
+/// Rows of a frame that follow one another, counted from its top; none where `bottom` is `top`.
 #[derive(Clone, Copy, Debug, PartialEq, Eq)]
 pub struct FrameRows {
     /// The uppermost row.
     pub top: u32,
-    /// The row after the lowest. It may lie below the frame.
+    /// The row after the lowest.
     pub bottom: u32,
 }
 
 /// No rows.
-pub(crate) fn no_rows() -> FrameRows {
+pub(crate) fn no_rows() -> FrameRows
+    ensures { result ≡ record { top = 0; bottom = 0 } }
+{
     FrameRows { top: 0, bottom: 0 }
 }
 
-/// The rows that some rects lie in, and those between.
-pub(crate) fn rows_of(rects: &[Rect]) -> FrameRows
+/// The rows of a frame of this height that some rects lie in, and those between.
+pub(crate) fn frame_rows(rects: &[Rect], height: u32) -> FrameRows
+    requires { All IsSound rects.now }
+    ensures rows { (x : ℤ) → (y : ℕ) → y < height → has_row result y ≡ false → covered rects.now x (pos y) ≡ false }
+    ensures inside { AreRowsOf height result }
+{
+    rows_above(rows_of(rects), height)
+}
+
+// Those of some rows that a frame of this height has.
+fn rows_above(rows: FrameRows, height: u32) -> FrameRows
+    ensures rows { (y : ℕ) → y < height → has_row result y ≡ false → has_row rows y ≡ false }
+    ensures inside { AreRowsOf height result }
+{
+    let bottom = rows.bottom.min(height);
+    let top = rows.top.min(bottom);
+    FrameRows { top, bottom }
+}
+
+// The rows that some rects lie in, and those between.
+fn rows_of(rects: &[Rect]) -> FrameRows
     requires { All IsSound rects.now }
     ensures { (x : ℤ) → (y : ℕ) → has_row result y ≡ false → covered rects.now x (pos y) ≡ false }
 {
