@@ -80,11 +80,11 @@ static void draws(cc *page) {
   uint32_t layer;
   TIMES("first draw", 1, need(cc_draw(page, NULL, NULL)));
   TIMES("scrolled frame", 300, {
-    need(cc_scroll(page, 1, 0, 3));
+    need(cc_scroll(page, 1, 0, 3, NULL, NULL));
     need(cc_draw(page, NULL, NULL));
   });
   TIMES("scrolled back", 300, {
-    need(cc_scroll(page, 1, 0, -3));
+    need(cc_scroll(page, 1, 0, -3, NULL, NULL));
     need(cc_draw(page, NULL, NULL));
   });
   TIMES("unchanged frame", 300, need(cc_draw(page, NULL, NULL)));

@@ -93,7 +93,7 @@ static inline const char *cc_fault_text(uint32_t why) {
 
 uint32_t cc_version(void);
 uint32_t cc_new_(uint32_t w, uint32_t h, uint32_t tile, uint32_t rgba, size_t budget, cc **out);
-void cc_free(cc *page);
+void cc_free_(cc *page);
 uint32_t cc_reset_(cc *page, uint32_t w, uint32_t h, uint32_t tile, cc **out);
 uint32_t cc_edit_(cc *page, uint32_t op, const int32_t *fields, size_t count, uint32_t rgba, const uint8_t *pixels,
                   size_t bytes, cc_fault *fault, cc **out);
@@ -119,6 +119,11 @@ static inline uint32_t cc_new(uint32_t w, uint32_t h, uint32_t tile, uint32_t rg
   return cc_new_(w, h, tile, rgba, budget, out);
 }
 
+/* Ends a compositor; nothing where it is null. */
+static inline void cc_free(cc *page) {
+  if (page) cc_free_(page);
+}
+
 /* Starts the main page anew, so that all ids are free. The active page is shown until the next commit. */
 static inline uint32_t cc_reset(cc *page, uint32_t w, uint32_t h, uint32_t tile) {
   return cc_reset_(page, w, h, tile, &page);
@@ -127,14 +132,15 @@ static inline uint32_t cc_reset(cc *page, uint32_t w, uint32_t h, uint32_t tile)
 /* Shows what the commands made of the main page. Its scrollers stand at its own values from then on. */
 static inline uint32_t cc_commit(cc *page) { return cc_commit_(page, &page); }
 
-/* Scrolls the active page as far as the scroller's range allows; the main page takes the same. Needs no memory. */
-static inline uint32_t cc_scroll(cc *page, uint32_t scroller, int32_t dx, int32_t dy) {
-  int32_t by_x, by_y;
-  return cc_scroll_(page, scroller, dx, dy, &by_x, &by_y, &page);
+/* Scrolls the active page as far as the scroller's range allows, and tells how far; the main page takes the same.
+ * `by_x` and `by_y` may be null. Needs no memory. */
+static inline uint32_t cc_scroll(cc *page, uint32_t scroller, int32_t dx, int32_t dy, int32_t *by_x, int32_t *by_y) {
+  int32_t a, b;
+  return cc_scroll_(page, scroller, dx, dy, by_x ? by_x : &a, by_y ? by_y : &b, &page);
 }
 
 /* Scrolls what lies under a point, the nearest scroller first, and tells what none of them took. At most 1048576 is
- * asked along an axis. */
+ * asked along an axis. `rest_x` and `rest_y` may be null. */
 static inline uint32_t cc_wheel(cc *page, int32_t x, int32_t y, int32_t dx, int32_t dy, int32_t *rest_x,
                                 int32_t *rest_y) {
   int32_t a, b;
@@ -154,23 +160,27 @@ static inline uint32_t cc_target(cc *page, int32_t x, int32_t y, uint32_t *layer
 /* Whether a draw may change the frame. */
 static inline int cc_is_changed(cc *page) { return cc_is_changed_(page, &page) != 0; }
 
-/* Draws the active page. The rows outside of `top` to `bottom` (the row after the last) are as they were. */
+/* Draws the active page. The rows outside of `top` to `bottom` (the row after the last) are as they were: those between
+ * are what cc_copy has to take. The two are equal where nothing was drawn, and may be null. */
 static inline uint32_t cc_draw(cc *page, uint32_t *top, uint32_t *bottom) {
   uint32_t a, b;
   return cc_draw_(page, top ? top : &a, bottom ? bottom : &b, &page);
 }
 
 /* The rects outside of which the last draw left the frame as it was: as many as fit are written, and the answer is
- * how many there are. */
+ * how many there are. They may overlap, and some may be empty or reach beyond the frame. `rects` may be null: none is
+ * written then. */
 static inline size_t cc_damage(cc *page, cc_rect *rects, size_t count) {
-  return cc_damage_(page, rects, count, &page);
+  cc_rect none;
+  return cc_damage_(page, rects ? rects : &none, rects ? count : 0, &page);
 }
 
-/* The frame's sides: those of the view that was drawn last. */
+/* The frame's sides: those of the view that was drawn last, before the first draw those of cc_new. */
 static inline void cc_size(cc *page, uint32_t *w, uint32_t *h) { cc_size_(page, w, h, &page); }
 
 /* Copies rows `top` to `bottom` of the frame into a buffer whose rows begin `stride` bytes apart, in this order of
- * bytes. */
+ * bytes. Bytes between the rows stay, so the buffer may be a part of a larger picture. CC_SHORT where the frame lacks
+ * one of the rows, `stride` is less than a row, or the last row does not fit. Before the first draw all is black. */
 static inline uint32_t cc_copy(cc *page, uint32_t order, uint32_t top, uint32_t bottom, size_t stride, uint8_t *to,
                                size_t bytes) {
   return cc_copy_(page, order, top, bottom, stride, to, bytes, &page);

@@ -12,6 +12,7 @@ that the library refuses raises `Refused`, one that runs out of memory MemoryErr
 ValueError. A compositor is used on the thread that made it.
 """
 import ctypes
+import operator
 import os
 
 VERSION = 1
@@ -22,6 +23,15 @@ FAULTS = {1: "a layer or node is not there", 2: "the id is taken", 3: "a place p
           6: "the layers of an effect would not stand together"}
 STATUSES = {BAD: "a number is outside what any page could take", UNKNOWN: "the active page has no such scroller",
             SHORT: "the buffer is too small"}
+
+RANGES = {ctypes.c_int32: range(-(1 << 31), 1 << 31), ctypes.c_uint32: range(1 << 32), ctypes.c_size_t: range(1 << 63)}
+
+
+def within(kinds, words):
+    """Raises ValueError where a number does not fit its type of C, to which ctypes would cut it."""
+    for kind, word in zip(kinds, words):
+        if kind in RANGES and operator.index(word) not in RANGES[kind]:
+            raise ValueError(STATUSES[BAD])
 
 
 class Fault(ctypes.Structure):
@@ -48,7 +58,7 @@ def load(path=None):
     types = {
         "cc_version": (u32,),
         "cc_new_": (u32, u32, u32, u32, u32, size, to(pointer)),
-        "cc_free": (None, pointer),
+        "cc_free_": (None, pointer),
         "cc_reset_": (u32, pointer, u32, u32, u32, to(pointer)),
         "cc_edit_": (u32, pointer, u32, to(i32), size, u32, octets, size, to(Fault), to(pointer)),
         "cc_commit_": (u32, pointer, to(pointer)),
@@ -76,12 +86,14 @@ class Compositor:
     def __init__(self, w, h, tile=256, background=0xFFFFFFFF, budget=64 << 20, library=None):
         self._handle = ctypes.c_void_p()
         self._library = library or load()
-        self._answer(self._library.cc_new_(w, h, tile, background, budget, ctypes.byref(self._handle)))
+        words = w, h, tile, background, budget
+        within(self._library.cc_new_.argtypes, words)
+        self._answer(self._library.cc_new_(*words, ctypes.byref(self._handle)))
 
     def close(self):
         """Ends the compositor."""
         if self._handle:
-            self._library.cc_free(self._handle)
+            self._library.cc_free_(self._handle)
             self._handle = ctypes.c_void_p()
 
     def __enter__(self):
@@ -95,7 +107,9 @@ class Compositor:
             self.close()
 
     def _call(self, name, *words):
-        return getattr(self._library, name)(self._handle, *words, ctypes.byref(self._handle))
+        function = getattr(self._library, name)
+        within(function.argtypes[1:], words)
+        return function(self._handle, *words, ctypes.byref(self._handle))
 
     @staticmethod
     def _answer(status, fault=None):
@@ -107,6 +121,7 @@ class Compositor:
             raise ValueError(STATUSES[status])
 
     def _edit(self, op, *fields, colour=0, pixels=b""):
+        within((ctypes.c_int32,) * len(fields), fields)
         fault, list_of = Fault(), (ctypes.c_int32 * len(fields))(*fields)
         told = ctypes.byref(fault)
         self._answer(self._call("cc_edit_", op, list_of, len(fields), colour, pixels, len(pixels), told), fault)

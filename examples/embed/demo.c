@@ -86,7 +86,7 @@ int main(int argc, char **argv) {
   need(cc_commit(page), "commit");
   picture(page, folder, "built");
 
-  need(cc_scroll(page, 1, 0, 65), "scroll");
+  need(cc_scroll(page, 1, 0, 65, NULL, NULL), "scroll");
   picture(page, folder, "scrolled");
   picture(page, folder, "again");
 

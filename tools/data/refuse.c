@@ -62,7 +62,7 @@ static uint32_t play(cc *page, int step) {
     case 1: return cc_draw(page, NULL, NULL);
     case 2: return cc_wheel(page, 30, 30, 3, 17, NULL, NULL);
     case 3: return cc_target(page, 30, 30, &layer);
-    case 4: return cc_scroll(page, 1, 1, 5);
+    case 4: return cc_scroll(page, 1, 1, 5, NULL, NULL);
     case 5: return cc_set_opacity(page, 1, 100 + turn, NULL);
     default: return cc_replace_rect(page, 1, turn % 20, 0, 15 * (turn % 20), 100, 15, 0x8040c0ff, NULL);
   }

@@ -92,7 +92,7 @@ struct RectOfC {
 
 extern "C" {
     fn cc_new_(w: u32, h: u32, tile: u32, rgba: u32, budget: usize, out: *mut *mut c_void) -> u32;
-    fn cc_free(page: *mut c_void);
+    fn cc_free_(page: *mut c_void);
     fn cc_reset_(page: *mut c_void, w: u32, h: u32, tile: u32, out: *mut *mut c_void) -> u32;
     fn cc_edit_(
         page: *mut c_void,
@@ -390,6 +390,6 @@ impl Compositor {
 
 impl Drop for Compositor {
     fn drop(&mut self) {
-        unsafe { cc_free(self.0) }
+        unsafe { cc_free_(self.0) }
     }
 }

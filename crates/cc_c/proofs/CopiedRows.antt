@@ -6,7 +6,7 @@ use Rattle.pixel.specs.Colours.{Parts}
 use Rattle.pixel.specs.Rows.{pixel}
 use borrow.Rule.Slice.PartMut.{put_mid}
 use Rattle.viz_canvas.specs.Canvases.{CanvasView}
-use Rattle.cc_c.specs.Copies.{frame_pixel, HasParts, ArePut, IsRowCopied, HoldsRows}
+use Rattle.cc_c.specs.Copies.{frame_pixel, HasParts, ArePut, IsRowCopied, HoldsRows, KeepsBetween, HasRoom}
 
 -- ---- products
 
@@ -23,6 +23,9 @@ row_before a b s h = let next : suc a * s ≤ b * s = product_le (suc a) b s (om
 
 byte_before : (a k : ℕ) (xs ys : List ℕ) (i : ℕ) → i < a → a ≤ length xs → slice_index (put_mid a k xs ys) i ≡ slice_index xs i
 byte_before a k xs ys i lt le = grind (arith, common_steps)
+
+byte_after : (a k : ℕ) (xs ys : List ℕ) (i : ℕ) → k ≡ length ys → a + k ≤ length xs → a + k ≤ i → slice_index (put_mid a k xs ys) i ≡ slice_index xs i
+byte_after a k xs ys i long le from = grind (arith, common_steps)
 
 byte_inside : (a k : ℕ) (xs ys : List ℕ) (j : ℕ) → j < length ys → a ≤ length xs → slice_index (put_mid a k xs ys) (a + j) ≡ slice_index ys j
 byte_inside a k xs ys j lt le = grind (arith, common_steps)
@@ -47,14 +50,15 @@ row_more bgra n m at row old mid new are more = record {
         subst (λ (i : ℕ). HasParts bgra (pixel row k) i new) place (subst (λ (i : ℕ). HasParts bgra (pixel row i) (at + 4 * n + 4 * (k - n)) new) is (more.inside (k - n) (omega (arith, lt, from))))
   ];
   before = λ i lt. more.before i (omega (arith, lt)) ∙ are.before i lt;
+  after = λ i le. more.after i (omega (arith, le)) ∙ are.after i (omega (arith, le));
 }
 
 pub row_none : (bgra : Bool) (at : ℕ) (row old : List ℕ) → IsRowCopied bgra 0 at row old old
-row_none bgra at row old = record { inside = λ k lt. absurd (omega (arith, lt)); before = λ i lt. refl }
+row_none bgra at row old = record { inside = λ k lt. absurd (omega (arith, lt)); before = λ i lt. refl; after = λ i le. refl }
 
 -- a row that was put as it is
-pub row_put : (at m : ℕ) (row old : List ℕ) → length row % 4 ≡ 0 → at + length row ≤ length old → IsRowCopied false (length row / 4) at row old (put_mid at m old row)
-row_put at m row old whole room = record {
+pub row_put : (at m : ℕ) (row old : List ℕ) → m ≡ length row → length row % 4 ≡ 0 → at + length row ≤ length old → IsRowCopied false (length row / 4) at row old (put_mid at m old row)
+row_put at m row old long whole room = record {
   inside = λ k lt.
       let end : 4 * k + 4 ≤ length row = omega (arith, lt) in
       let a1 : at + 4 * k + 1 ≡ at + (4 * k + 1) = omega arith in
@@ -67,6 +71,7 @@ row_put at m row old whole room = record {
         fourth = ap (slice_index (put_mid at m old row)) a3 ∙ byte_inside at m old row (4 * k + 3) (omega (arith, end)) (omega (arith, room));
       };
   before = λ i lt. byte_before at m old row i lt (omega (arith, room));
+  after = λ i le. byte_after at m old row i long (omega (arith, room, long)) (omega (arith, le, long, whole));
 }
 
 -- ---- rows
@@ -88,8 +93,38 @@ rows_more f bgra top y stride start row old new from apart is long pixels held c
       ];
 }
 
+-- what lies in none of the rows stays as one row more is copied
+pub between_more : (bgra : Bool) (w top y stride start : ℕ) (row old mid new : List ℕ) → top ≤ y → start ≡ (y - top) * stride → length row ≡ 4 * w
+    → KeepsBetween (4 * w) top y stride old mid → IsRowCopied bgra (length row / 4) start row mid new → KeepsBetween (4 * w) top (y + 1) stride old new
+between_more bgra w top y stride start row old mid new from is long kept copied = record {
+  bytes = λ i outside.
+      let before : slice_index mid i ≡ slice_index old i = kept.bytes i (λ k low below here there. outside k low (omega (arith, below)) here there) in
+      elim (cases_lt i start) as (λ _. slice_index new i ≡ slice_index old i) [
+        | inl lt ↦ copied.before i lt ∙ before
+        | inr ge ↦
+            elim (cases_lt i (start + 4 * w)) as (λ _. slice_index new i ≡ slice_index old i) [
+              | inl inside ↦ absurd (outside y from (omega arith) (omega (arith, ge, is)) (omega (arith, inside, is)))
+              | inr past ↦ copied.after i (omega (arith, past, long)) ∙ before
+            ]
+      ];
+}
+
+pub between_same : (width top bottom stride : ℕ) (bytes : List ℕ) → KeepsBetween width top bottom stride bytes bytes
+between_same width top bottom stride bytes = record { bytes = λ i outside. refl }
+
 pub rows_none : (f : CanvasView) (bgra : Bool) (top stride : ℕ) (bytes : List ℕ) → HoldsRows f bgra top top stride bytes
 rows_none f bgra top stride bytes = record { pixels = λ x y across low high. absurd (omega (arith, low, high)) }
 
 pub rows_upside : (f : CanvasView) (bgra : Bool) (top bottom stride : ℕ) (bytes : List ℕ) → bottom ≤ top → HoldsRows f bgra top bottom stride bytes
 rows_upside f bgra top bottom stride bytes le = record { pixels = λ x y across low high. absurd (omega (arith, low, high, le)) }
+
+-- ---- no room
+
+pub no_row : (f : CanvasView) (top bottom stride len : ℕ) → f.h < bottom → HasRoom f top bottom stride len → ⊥
+no_row f top bottom stride len lt room = let there = room.there in omega (arith, lt, there)
+
+pub no_gap : (f : CanvasView) (top bottom stride len : ℕ) → stride < 4 * f.w → HasRoom f top bottom stride len → ⊥
+no_gap f top bottom stride len lt room = let apart = room.apart in omega (arith, lt, apart)
+
+pub no_end : (f : CanvasView) (top bottom stride len : ℕ) → top < bottom → len < (bottom - top - 1) * stride + 4 * f.w → HasRoom f top bottom stride len → ⊥
+no_end f top bottom stride len some lt room = let fits = room.room some in omega (arith, lt, fits)

@@ -1,7 +1,7 @@
 -- Four pixels at a time, with red and blue exchanged.
 use Rattle.std.proofs.Common.{◌≡◌, ℕ, zero, suc, ◌+◌, ◌*◌, ◌<◌, ◌≤◌, true, List, [], ◌∷◌, ◌++◌, slice_index, length, refl, ◌∙◌, ap, subst, sym, arith}
 use Rattle.std.specs.Simd.Lanes.{chunk, put_chunk, pick_l}
-use Rattle.std.proofs.lemmas.Simd.{get_or-chunk, get_or-put_chunk_at, get_or-put_chunk_below, pick_l_left}
+use Rattle.std.proofs.lemmas.Simd.{get_or-chunk, get_or-put_chunk_above, get_or-put_chunk_at, get_or-put_chunk_below, pick_l_left}
 use Rattle.pixel.specs.Rows.{pixel}
 use Rattle.cc_c.specs.Copies.{HasParts, ArePut}
 
@@ -42,4 +42,5 @@ four_put row old v at place given room count each = record {
         fourth = byte_put row old v at place (4 * j + 3) (4 * j + 3) (at + 4 * j + 3) (4 * (place + j) + 3) given room count (omega arith) (omega arith) (omega arith) (omega arith) is.fourth;
       };
   before = λ i lt. get_or-put_chunk_below at old v i 0 lt;
+  after = λ i le. get_or-put_chunk_above at old v i 0 (omega (arith, le, count));
 }

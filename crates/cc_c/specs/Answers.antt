@@ -1,24 +1,30 @@
 -- What the calls of C tell.
-use Rattle.std.specs.Prelude.{◌≡◌, ◌⊎◌, ◌==◌, ℕ, ℤ, false, not, List, Some, None}
+use Rattle.std.specs.Prelude.{◌≡◌, ◌⊎◌, ◌==◌, ◌*◌, ℕ, ℤ, false, not, List, [], ◌∷◌, length, Some, None}
+use Rattle.geom.specs.declared.rect.Point.{Point}
 use Rattle.pixel.specs.Colours.{Parts}
 use Rattle.page_layers.specs.declared.view.View.{View}
 use Rattle.page_layers.specs.Pages.{IsView}
 use Rattle.page_layers.specs.Axes.{across, down}
 use Rattle.page_layers.specs.Scrollers.{has_scroller}
-use Rattle.page_layers.specs.Wheels.{wheel_rest}
+use Rattle.page_layers.specs.Effects.{scrolled_by, page_after_pulls}
+use Rattle.page_layers.specs.Hits.{target}
+use Rattle.page_layers.specs.Wheels.{wheel_parts, wheel_rest}
 use Rattle.page_hit_test.specs.Wheels.{IsAmount}
-use Rattle.viz_canvas.specs.Canvases.{CanvasView}
+use Rattle.viz_canvas.specs.Canvases.{CanvasView, IsOfSize, EachIs, black}
 use Rattle.cc.specs.declared.damage.FrameRows.{FrameRows}
 use Rattle.viz_painter.specs.Painters.{IsKeptOutside}
-use Rattle.cc.specs.Compositors.{CompositorView, ShowsPage, IsKeptOutsideRows, offsets, empty_page, amount_scrolled}
+use Rattle.cc.specs.Compositors.{CompositorView, ShowsPage, AreRowsOf, IsKeptOutsideRows, offsets, empty_page, amount_scrolled, move_by, moved}
 use Rattle.cc_c.specs.Commands.{colour_of}
-use Rattle.cc_c.specs.Copies.{HoldsRows, rgba}
+use Rattle.cc_c.specs.Copies.{HoldsRows, KeepsBetween, HasRoom, rgba}
 
--- both pages are empty and have this view
+-- both pages are empty and have this view; the frame has its size, and is black and opaque
 pub record IsNew (view : View) (colour : Parts) (new : CompositorView) : Type 0 where
   pub main : new.main ≡ empty_page view
   pub active : new.active ≡ empty_page view
   pub background : new.background ≡ colour
+  pub size : IsOfSize view.w view.h new.frame
+  pub black : EachIs 4 (λ x y. rgba black) new.frame
+  pub damage : new.damage ≡ []
 
 -- 0: a compositor of an empty page was made; 1: the view is out of its ranges, or the background is not premultiplied; 11: memory ran out
 pub record TellsNew (view : View) (colour : ℕ) (status : ℕ) : Type 0 where
@@ -38,32 +44,49 @@ pub record TellsCommit (old new : CompositorView) (status : ℕ) : Type 0 where
   pub memory : status ≡ 11 → new ≡ old
   pub answers : (status ≡ 0) ⊎ (status ≡ 11)
 
--- 0: the frame shows the active page, and outside of the rows that are told it is as it was; 11: memory ran out; the pages stay, and so does the frame outside of the damage
-pub record TellsDraw (old : CompositorView) (rows : FrameRows) (new : CompositorView) (status : ℕ) : Type 0 where
+-- 0: the frame shows the active page, and outside of the rows that are told, which are rows of it, it is as it was; 11: memory ran out, and no rows are told; the pages stay, and so does the frame outside of the damage
+pub record TellsDraw (old : CompositorView) (before rows : FrameRows) (new : CompositorView) (status : ℕ) : Type 0 where
   pub shown : status ≡ 0 → ShowsPage 4 rgba new.active (offsets new) new.background new.frame
   pub kept : status ≡ 0 → IsKeptOutsideRows 4 rows old.frame new.frame
+  pub inside : status ≡ 0 → AreRowsOf new.frame.h rows
+  pub memory : status ≡ 11 → rows ≡ before
   pub rects : IsKeptOutside 4 new.damage old.frame new.frame
   pub main : new.main ≡ old.main
   pub active : new.active ≡ old.active
   pub background : new.background ≡ old.background
   pub answers : (status ≡ 0) ⊎ (status ≡ 11)
 
--- 0: the active page scrolled as far as it was told; 2: it has no such scroller
-pub record TellsScroll (old : CompositorView) (id : ℕ) (dx dy by_x by_y : ℤ) (status : ℕ) : Type 0 where
-  pub across : status ≡ 0 → by_x ≡ (amount_scrolled old.active id dx dy).x
-  pub down : status ≡ 0 → by_y ≡ (amount_scrolled old.active id dx dy).y
-  pub unknown : status ≡ 2 → has_scroller old.active id ≡ false
+-- 0: the active page scrolled as far as it was told, and the main page took the same; 2: the active page has no such scroller, all is as it was, and nothing is told
+pub record TellsScroll (old : CompositorView) (id : ℕ) (dx dy : ℤ) (before told : Point) (new : CompositorView) (status : ℕ) : Type 0 where
+  pub across : status ≡ 0 → told.x ≡ (amount_scrolled old.active id dx dy).x
+  pub down : status ≡ 0 → told.y ≡ (amount_scrolled old.active id dx dy).y
+  pub takes : status ≡ 0 → new ≡ record old { active = scrolled_by old.active id dx dy; main = page_after_pulls (move_by id told ∷ []) old.main }
+  pub unknown : status ≡ 2 → (has_scroller old.active id ≡ false) × (new ≡ old) × (told ≡ before)
   pub answers : (status ≡ 0) ⊎ (status ≡ 2)
 
--- 0: what the scrollers under the point left was told; 1: more was asked than may be; 11: memory ran out
-pub record TellsWheel (old : CompositorView) (x y dx dy rest_x rest_y : ℤ) (status : ℕ) : Type 0 where
-  pub across : status ≡ 0 → rest_x ≡ wheel_rest old.active (offsets old) x y across dx
-  pub down : status ≡ 0 → rest_y ≡ wheel_rest old.active (offsets old) x y down dy
-  pub bad : status ≡ 1 → IsAmount dx × IsAmount dy → ⊥
+-- 0: both pages took what the scrollers under the point take, and what these left is told; 1: more was asked than may be; 11: memory ran out; after these two all is as it was, and nothing is told
+pub record TellsWheel (old : CompositorView) (at asked before told : Point) (new : CompositorView) (status : ℕ) : Type 0 where
+  pub across : status ≡ 0 → told.x ≡ wheel_rest old.active (offsets old) at.x at.y across asked.x
+  pub down : status ≡ 0 → told.y ≡ wheel_rest old.active (offsets old) at.x at.y down asked.y
+  pub takes : status ≡ 0 → new ≡ moved (wheel_parts old.active (offsets old) at.x at.y asked.x asked.y) old
+  pub bad : status ≡ 1 → (IsAmount asked.x × IsAmount asked.y → ⊥) × (new ≡ old) × (told ≡ before)
+  pub memory : status ≡ 11 → (new ≡ old) × (told ≡ before)
   pub answers : (status ≡ 0) ⊎ (status ≡ 1) ⊎ (status ≡ 11)
 
--- 0: the buffer has the rows, as red, green, blue and alpha where the order is 0, else with red and blue exchanged; 4: it is as it was
+-- 0: the topmost layer at the point is told; 11: memory ran out, and nothing is told
+pub record TellsTarget (old : CompositorView) (x y : ℤ) (before told : ℕ) (status : ℕ) : Type 0 where
+  pub done : status ≡ 0 → told ≡ target old.active (offsets old) x y
+  pub memory : status ≡ 11 → told ≡ before
+  pub answers : (status ≡ 0) ⊎ (status ≡ 11)
+
+-- 0: the frame shows the active page; 1: it may not
+pub record TellsChanged (old : CompositorView) (answer : ℕ) : Type 0 where
+  pub shown : answer ≡ 0 → ShowsPage 4 rgba old.active (offsets old) old.background old.frame
+  pub answers : (answer ≡ 0) ⊎ (answer ≡ 1)
+
+-- 0: the buffer has the rows, as red, green, blue and alpha where the order is 0, else with red and blue exchanged, and its other bytes are what they were; 4: the frame lacks one of them, or the buffer has no room for them, and it is as it was
 pub record TellsCopy (f : CanvasView) (order top bottom stride : ℕ) (old new : List ℕ) (status : ℕ) : Type 0 where
   pub done : status ≡ 0 → HoldsRows f (not (order == 0)) top bottom stride new
-  pub short : status ≡ 4 → new ≡ old
+  pub between : status ≡ 0 → KeepsBetween (4 * f.w) top bottom stride old new
+  pub short : status ≡ 4 → (HasRoom f top bottom stride (length old) → ⊥) × (new ≡ old)
   pub answers : (status ≡ 0) ⊎ (status ≡ 4)

@@ -66,9 +66,10 @@ Edited old op fields rgba pixels new (Err (failure.Refused fault)) = (c : Comman
 Edited old op fields rgba pixels new (Err failure.Bad) = MeansNone op fields rgba pixels × (new ≡ old)
 Edited old op fields rgba pixels new (Err failure.Memory) = new ≡ old
 
--- 0: the command was applied; 1: the numbers mean none; 3: the page refuses it, with the fault that is told; 11: memory ran out
-pub record TellsEdit (old : CompositorView) (op : ℕ) (fields : List ℤ) (rgba : ℕ) (pixels : List ℕ) (fault : Fault) (status : ℕ) : Type 0 where
-  pub done : status ≡ 0 → (c : Command) × Means op fields rgba pixels c × Accepts old.main c
-  pub bad : status ≡ 1 → MeansNone op fields rgba pixels
-  pub refused : status ≡ 3 → (c : Command) × (why : EditFault) × Means op fields rgba pixels c × Refuses old.main c why × (fault ≡ tells_fault why)
+-- 0: the command was applied; 1: the numbers mean none; 3: the page refuses it, with the fault that is told, and no other status tells one; 11: memory ran out; after any but 0 all is as it was
+pub record TellsEdit (old : CompositorView) (op : ℕ) (fields : List ℤ) (rgba : ℕ) (pixels : List ℕ) (before fault : Fault) (new : CompositorView) (status : ℕ) : Type 0 where
+  pub done : status ≡ 0 → (c : Command) × Means op fields rgba pixels c × Accepts old.main c × (new ≡ record old { main = page_after_command old.main c }) × (fault ≡ before)
+  pub bad : status ≡ 1 → MeansNone op fields rgba pixels × (new ≡ old) × (fault ≡ before)
+  pub refused : status ≡ 3 → (c : Command) × (why : EditFault) × Means op fields rgba pixels c × Refuses old.main c why × (fault ≡ tells_fault why) × (new ≡ old)
+  pub memory : status ≡ 11 → (new ≡ old) × (fault ≡ before)
   pub answers : (status ≡ 0) ⊎ (status ≡ 1) ⊎ (status ≡ 3) ⊎ (status ≡ 11)

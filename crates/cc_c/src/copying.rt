@@ -2,7 +2,7 @@
 
 ghost use Rattle.std.specs.Prelude.{◌≡◌, ◌≤◌, ◌<◌, ◌+◌, ◌-◌, ◌*◌, ◌/◌, ◌%◌, ℕ, true, false, length};
 ghost use Rattle.pixel.specs.Rows.{pixel};
-ghost use Rattle.cc_c.specs.Copies.{IsRowCopied, HoldsRows, frame_pixel};
+ghost use Rattle.cc_c.specs.Copies.{IsRowCopied, HoldsRows, KeepsBetween, HasRoom, frame_pixel};
 
 use crate::exchange::copy_exchanged;
 use viz_canvas::{Canvas, Rgba};
@@ -44,12 +44,24 @@ fn row_of(frame: &Canvas<Rgba>, y: u32) -> &[u8]
 // Whether a buffer of this length has room for the given number of rows.
 fn has_room(len: usize, rows: u32, width: usize, stride: usize) -> bool
     requires { 1 ≤ rows }
-    ensures { result ≡ true → (rows - 1) * stride + width ≤ len }
+    ensures yes { result ≡ true → (rows - 1) * stride + width ≤ len }
+    ensures no { result ≡ false → len < (rows - 1) * stride + width }
 {
     match (rows as usize - 1).checked_mul(stride) {
-        Some(last) => last <= len && width <= len - last,
+        Some(last) => fits_from(last, width, len),
         None => false,
     }
+}
+
+// Whether a row that begins with a byte lies in a buffer of this length.
+fn fits_from(start: usize, width: usize, len: usize) -> bool
+    ensures yes { result ≡ true → start + width ≤ len }
+    ensures no { result ≡ false → len < start + width }
+{
+    if len < start {
+        return false;
+    }
+    width <= len - start
 }
 
 // Where a row begins.
@@ -69,6 +81,7 @@ fn copy_rows(frame: &Canvas<Rgba>, bgra: bool, top: u32, bottom: u32, stride: us
     requires apart { 4 * frame.now.w ≤ stride }
     requires room { (bottom - top - 1) * stride + 4 * frame.now.w ≤ length to.old }
     ensures rows { HoldsRows frame.now bgra top bottom stride to.new }
+    ensures between { KeepsBetween (4 * frame.now.w) top bottom stride to.old to.new }
     ensures length { length to.new ≡ length to.old }
 {
     let width = 4 * frame.w() as usize;
@@ -80,6 +93,7 @@ fn copy_rows(frame: &Canvas<Rgba>, bgra: bool, top: u32, bottom: u32, stride: us
 
 /// Copies rows of a frame to a buffer whose rows begin `stride` bytes apart, as they are or with red and blue
 /// exchanged. False where the frame lacks one of them, or the buffer has no room for them; nothing is copied then.
+#[tactic(auto, using(crate::proofs::CopiedRows::no_row, crate::proofs::CopiedRows::no_gap, crate::proofs::CopiedRows::no_end))]
 pub(crate) fn copied(
     frame: &Canvas<Rgba>,
     bgra: bool,
@@ -89,10 +103,15 @@ pub(crate) fn copied(
     to: &mut [u8],
 ) -> bool
     ensures done { result ≡ true → HoldsRows frame.now bgra top bottom stride to.new }
+    ensures between { result ≡ true → KeepsBetween (4 * frame.now.w) top bottom stride to.old to.new }
+    ensures room { result ≡ false → HasRoom frame.now top bottom stride (length to.old) → ⊥ }
     ensures short { result ≡ false → to.new ≡ to.old }
 {
     let width = 4 * frame.w() as usize;
-    if bottom > frame.h() || stride < width {
+    if bottom > frame.h() {
+        return false;
+    }
+    if stride < width {
         return false;
     }
     if top >= bottom {

@@ -43,7 +43,7 @@ pub(crate) fn edited(
     pixels: &[u8],
     fault: &mut Fault,
 ) -> u32
-    ensures { TellsEdit page.old op fields.now rgba pixels.now fault.new result }
+    ensures { TellsEdit page.old op fields.now rgba pixels.now fault.old fault.new page.new result }
 {
     match edit(alloc, page, op, fields, rgba, pixels) {
         Ok(()) => DONE,

@@ -22,12 +22,10 @@ mod status;
 
 ghost use Rattle.std.specs.Prelude.{◌≡◌, ◌≤◌, ℕ, true, false, length, IfSome};
 ghost use Rattle.page_layers.specs.Pages.{IsView};
-ghost use Rattle.page_layers.specs.Hits as hits;
-ghost use Rattle.cc.specs.Compositors.{CompositorView, ShowsPage, offsets};
-ghost use Rattle.cc_c.specs.Copies.{rgba};
+ghost use Rattle.cc.specs.Compositors.{CompositorView, offsets};
 ghost use Rattle.cc_c.specs.Damages.{written};
 ghost use Rattle.cc_c.specs.Edits.{TellsEdit};
-ghost use Rattle.cc_c.specs.Answers.{IsNew, TellsNew, TellsReset, TellsCommit, TellsDraw, TellsCopy, TellsScroll, TellsWheel};
+ghost use Rattle.cc_c.specs.Answers.{IsNew, TellsNew, TellsReset, TellsCommit, TellsDraw, TellsCopy, TellsScroll, TellsWheel, TellsTarget, TellsChanged};
 ghost use Rattle.page_hit_test.specs.Wheels.{IsAmount};
 
 use crate::copying::copied;
@@ -98,7 +96,9 @@ pub extern "C" fn cc_new_(
     budget: usize,
     out: &mut *mut u8,
 ) -> u32
-    ensures { TellsNew (record { w = w; h = h; tile = tile }) rgba result }
+    ensures tells { TellsNew (record { w = w; h = h; tile = tile }) rgba result }
+    ensures bad { result ≡ 1 → out.new ≡ out.old }
+    ensures memory { result ≡ 11 → out.new ≡ out.old }
 {
     let view = View { w, h, tile };
     let Some(background) = colour_of(rgba) else {
@@ -118,7 +118,7 @@ pub extern "C" fn cc_new_(
 
 /// Ends a compositor.
 #[unsafe(no_mangle)]
-pub extern "C" fn cc_free(page: Handle) {
+pub extern "C" fn cc_free_(page: Handle) {
     drop(page.into_box());
 }
 
@@ -157,7 +157,7 @@ pub extern "C" fn cc_edit_(
     fault: &mut Fault,
     out: &mut *mut u8,
 ) -> u32
-    ensures { TellsEdit page.value.compositor op fields.now rgba pixels.now fault.new result }
+    ensures { (new : CompositorView) × TellsEdit page.value.compositor op fields.now rgba pixels.now fault.old fault.new new result }
 {
     let mut page = page.into_box();
     let status = edited(alloc, &mut page.compositor, op, fields, rgba, pixels, fault);
@@ -195,7 +195,7 @@ fn scrolled(
     by_x: &mut i32,
     by_y: &mut i32,
 ) -> u32
-    ensures { TellsScroll page.old scroller dx dy by_x.new by_y.new result }
+    ensures { TellsScroll page.old scroller dx dy (record { x = by_x.old; y = by_y.old }) (record { x = by_x.new; y = by_y.new }) page.new result }
 {
     match page.scroll(scroller, dx, dy) {
         Some(by) => {
@@ -218,7 +218,7 @@ pub extern "C" fn cc_scroll_(
     by_y: &mut i32,
     out: &mut *mut u8,
 ) -> u32
-    ensures { TellsScroll page.value.compositor scroller dx dy by_x.new by_y.new result }
+    ensures { (new : CompositorView) × TellsScroll page.value.compositor scroller dx dy (record { x = by_x.old; y = by_y.old }) (record { x = by_x.new; y = by_y.new }) new result }
 {
     let mut page = page.into_box();
     let status = scrolled(&mut page.compositor, scroller, dx, dy, by_x, by_y);
@@ -234,7 +234,7 @@ fn wheeled(
     rest_x: &mut i32,
     rest_y: &mut i32,
 ) -> u32
-    ensures { TellsWheel page.old at.x at.y asked.x asked.y rest_x.new rest_y.new result }
+    ensures { TellsWheel page.old at asked (record { x = rest_x.old; y = rest_y.old }) (record { x = rest_x.new; y = rest_y.new }) page.new result }
 {
     if !is_amount(asked.x) {
         return BAD;
@@ -272,7 +272,7 @@ pub extern "C" fn cc_wheel_(
     rest_y: &mut i32,
     out: &mut *mut u8,
 ) -> u32
-    ensures { TellsWheel page.value.compositor x y dx dy rest_x.new rest_y.new result }
+    ensures { (new : CompositorView) × TellsWheel page.value.compositor (record { x = x; y = y }) (record { x = dx; y = dy }) (record { x = rest_x.old; y = rest_y.old }) (record { x = rest_x.new; y = rest_y.new }) new result }
 {
     let mut page = page.into_box();
     let at = Point { x, y };
@@ -310,7 +310,7 @@ pub extern "C" fn cc_target_(
     layer: &mut u32,
     out: &mut *mut u8,
 ) -> u32
-    ensures { result ≡ 0 → layer.new ≡ hits.target page.value.compositor.active (offsets page.value.compositor) x y }
+    ensures { TellsTarget page.value.compositor x y layer.old layer.new result }
 {
     let page = page.into_box();
     let status = match page.compositor.target(Point { x, y }) {
@@ -327,7 +327,7 @@ pub extern "C" fn cc_target_(
 /// Whether a draw may change the frame: 1, or 0 where the frame shows the active page already.
 #[unsafe(no_mangle)]
 pub extern "C" fn cc_is_changed_(page: Handle, out: &mut *mut u8) -> u32
-    ensures { result ≡ 0 → ShowsPage 4 rgba page.value.compositor.active (offsets page.value.compositor) page.value.compositor.background page.value.compositor.frame }
+    ensures { TellsChanged page.value.compositor result }
 {
     let page = page.into_box();
     let changed = if page.compositor.is_changed() { 1 } else { 0 };
@@ -337,7 +337,7 @@ pub extern "C" fn cc_is_changed_(page: Handle, out: &mut *mut u8) -> u32
 
 // Draws, and tells the rows that may have changed.
 fn drawn(page: &mut Compositor<Rgba>, top: &mut u32, bottom: &mut u32) -> u32
-    ensures { TellsDraw page.old (record { top = top.new; bottom = bottom.new }) page.new result }
+    ensures { TellsDraw page.old (record { top = top.old; bottom = bottom.old }) (record { top = top.new; bottom = bottom.new }) page.new result }
 {
     match page.draw() {
         Ok(rows) => {
@@ -352,7 +352,7 @@ fn drawn(page: &mut Compositor<Rgba>, top: &mut u32, bottom: &mut u32) -> u32
 /// Draws, and tells the rows that may have changed: those from `top` on that lie above `bottom`.
 #[unsafe(no_mangle)]
 pub extern "C" fn cc_draw_(page: Handle, top: &mut u32, bottom: &mut u32, out: &mut *mut u8) -> u32
-    ensures { (new : CompositorView) × TellsDraw page.value.compositor (record { top = top.new; bottom = bottom.new }) new result }
+    ensures { (new : CompositorView) × TellsDraw page.value.compositor (record { top = top.old; bottom = bottom.old }) (record { top = top.new; bottom = bottom.new }) new result }
 {
     let mut page = page.into_box();
     let status = drawn(&mut page.compositor, top, bottom);

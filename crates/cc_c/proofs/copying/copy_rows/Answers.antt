@@ -1,6 +1,6 @@
 -- One row more is copied.
 use Rattle.std.proofs.Common.{◌≡◌, ◌≤◌, ◌-◌, ◌*◌, length, ◌∙◌, ap, arith, rules}
-use Rattle.cc_c.proofs.CopiedRows.{rows_more}
+use Rattle.cc_c.proofs.CopiedRows.{rows_more, between_more}
 use Rattle.cc_c.proofs.copying.copy_rows.Goals as goal
 
 pub loop-y-preserved : goal.loop-y-preserved
@@ -14,4 +14,5 @@ loop-y-preserved c =
     record {
       length = long;
       rows = rows_more f c.args.bgra c.args.top y c.args.stride c.row_start-start.result row c.loop-y.to c.copy_row.new.to from c.requires.apart start c.row_of.ensures.length c.row_of.ensures.pixels c.loop-y.invariant.rows c.copy_row.ensures.row;
+      between = between_more c.args.bgra f.w c.args.top y c.args.stride c.row_start-start.result row c.args.to.now c.loop-y.to c.copy_row.new.to from start c.row_of.ensures.length c.loop-y.invariant.between c.copy_row.ensures.row;
     }
