@@ -120,8 +120,15 @@ KINDS = ["transform", "clip", "effect", "scroller", "layer", "item", "item", "it
          "view"]
 
 
+def exchanged(pixels):
+    """The same pixels with red and blue exchanged."""
+    found = bytearray(pixels)
+    found[0::4], found[2::4] = pixels[2::4], pixels[0::4]
+    return bytes(found)
+
+
 class Page:
-    """Random commands, scrolls and commits, played through the library, and as commands of a script."""
+    """Random commands, scrolls, wheels and commits, played through the library, and as commands of a script."""
 
     def __init__(self, cc, library, seed):
         self.cc, self.random = cc, random.Random(seed)
@@ -212,9 +219,27 @@ class Page:
             by = self.page.scroll(id, self.random.randint(-40, 40), self.random.randint(-40, 40))
         except ValueError:
             return
-        moved = {"op": "scroll_by", "id": id, "dx": by[0], "dy": by[1]}
-        self.active.append(moved)
-        self.main.append(moved)
+        self.moved(id, by)
+
+    def moved(self, id, by):
+        """Both pages took this move, the main page where it has the scroller."""
+        move = {"op": "scroll_by", "id": id, "dx": by[0], "dy": by[1]}
+        self.active.append(move)
+        self.main.append(move)
+
+    def wheel(self):
+        """A wheel on the active page: what its scrollers moved by and what is left are what was asked, on each axis."""
+        r, ids = self.random, range(1, self.counts.get("scrollers", 0) + 1)
+        before = [self.page.offset(id) for id in ids]
+        asked = r.randint(-40, 40), r.randint(-40, 40)
+        left = self.page.wheel(r.randint(0, 47), r.randint(0, 47), *asked)
+        for id, (x, y) in zip(ids, before):
+            now_x, now_y = self.page.offset(id)
+            if (now_x, now_y) != (x, y):
+                self.moved(id, (now_x - x, now_y - y))
+                left = left[0] + now_x - x, left[1] + now_y - y
+        if left != asked:
+            raise Fault("of a wheel of %s, %s is told" % (asked, left))
 
     def commit(self):
         self.page.commit()
@@ -228,9 +253,20 @@ class Page:
                            "main": [commands], "inputs": inputs}).encode()
 
     def picture(self):
-        self.page.draw()
-        pixels = self.page.pixels()
-        return self.page.size() + (bytes(byte for at, byte in enumerate(pixels) if at % 4 < 3),)
+        """Draws, and looks that the frame stays outside of the rows and of the rects that are told."""
+        size, old = self.page.size(), self.page.pixels()
+        (top, bottom), rects = self.page.draw(), self.page.damage()
+        (w, h), new = self.page.size(), self.page.pixels()
+        if not top <= bottom <= h:
+            raise Fault("rows %d to %d of %d are told" % (top, bottom, h))
+        for at in range(w * h if size == (w, h) else 0):
+            x, y = at % w, at // w
+            drawn = top <= y < bottom and any(l <= x < l + a and t <= y < t + b for l, t, a, b in rects)
+            if not drawn and old[4 * at:4 * at + 4] != new[4 * at:4 * at + 4]:
+                raise Fault("pixel %d, %d changed outside of the damage" % (x, y))
+        if self.page.is_changed or self.page.pixels(self.cc.BGRA) != exchanged(new):
+            raise Fault("after a draw a frame is taken for changed, or its bytes are not exchanged")
+        return w, h, bytes(byte for at, byte in enumerate(new) if at % 4 < 3)
 
 
 def random_pages(build, program, pages, seed):
@@ -240,8 +276,9 @@ def random_pages(build, program, pages, seed):
     for number in range(seed, seed + pages):
         one = Page(cc, library, number)
         with one.page:
+            kinds = (one.edit, one.scroll, one.wheel, one.commit, one.picture)
             for _ in range(one.random.randint(10, 60)):
-                kind = one.random.choices((one.edit, one.scroll, one.commit, one.picture), (20, 3, 3, 2))[0]
+                kind = one.random.choices(kinds, (20, 3, 3, 3, 2))[0]
                 kind()
             one.commit()
             one.scroll()
