@@ -4,10 +4,11 @@
 usage: tools/try_embed.py [--build FOLDER] [--program PROGRAM] [--pages N] [--seed S] [--gate]
 
 `make lib` has to have left libcc.a and libcc.so in FOLDER (build/). Callers in C, C++, Python and Rust play the page
-of examples/embed, and their pictures have to equal the stored ones (examples/embed/*.png). Then N random pages (60)
-are played through the library and, as scripts of the same effects, through PROGRAM (crates/cc_player/out/cc_player),
-and each picture is compared. What is not installed (a second compiler, cargo, SDL2) is skipped with a line that says
-so. It ends with 1 where anything differs.
+of examples/embed, and their pictures have to equal the stored ones (examples/embed/*.png); tools/data/rules.c tries
+what the header says of errors, null pointers and buffers. Then N random pages (60) are played through the library and,
+as scripts of the same effects, through PROGRAM (crates/cc_player/out/cc_player), and each picture is compared. What is
+not installed (a second compiler, cargo, SDL2) is skipped with a line that says so. It ends with 1 where anything
+differs.
 
 --gate is for the gate's second half: the library is built first (tools/lib.py), and one caller in each language is
 tried, with fewer pages and without sanitizers.
@@ -86,6 +87,12 @@ def in_c(compiler, build, room, *more):
 def the_first(compiler, build, room):
     compiled(compiler, EXAMPLES / "first.c", room / "first", build)
     is_stored(run(room / "first"), "first")
+
+
+def the_rules(compiler, build, room, *more):
+    compiled(compiler, ROOT / "tools" / "data" / "rules.c", room / "rules", build, *more)
+    run(room / "rules")
+    return "as the header says"
 
 
 def refused(compiler, build, room, *more):
@@ -295,6 +302,7 @@ def tries(build, program, pages, seed):
     compiler = next(filter(shutil.which, COMPILERS), COMPILERS[0])
     quick = [(compiler, "demo by " + compiler, lambda room: in_c(compiler, build, room)),
              (compiler, "first.c", lambda room: the_first(compiler, build, room)),
+             (compiler, "errors, null pointers and buffers", lambda room: the_rules(compiler, build, room)),
              (sys.executable, "demo in Python", lambda room: in_python(build, room)),
              ("cargo", "demo in Rust", lambda room: in_rust(build, room)),
              (str(program), "random pages", lambda room: random_pages(build, program, pages, seed))]
@@ -302,7 +310,9 @@ def tries(build, program, pages, seed):
             for other in ("gcc", "clang", "g++") if other != compiler]
     slow += [(other, "demo by %s under ASan and UBSan" % other, lambda room, c=other: in_c(c, build, room, *SANITIZERS))
              for other in ("gcc", "clang")]
-    slow += [("gcc", "refused allocations", lambda room: refused("gcc", build, room)),
+    slow += [("gcc", "errors, null pointers and buffers under ASan and UBSan",
+              lambda room: the_rules("gcc", build, room, *SANITIZERS)),
+             ("gcc", "refused allocations", lambda room: refused("gcc", build, room)),
              ("gcc", "refused allocations under ASan and UBSan", lambda room: refused("gcc", build, room, *SANITIZERS)),
              ("sdl2-config", "a window", lambda room: in_a_window(build, room))]
     return quick, slow
