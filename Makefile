@@ -16,8 +16,11 @@ MANUAL := share/man/man1/cc_player.1
 BASH_WORDS := share/bash-completion/completions/cc_player
 ZSH_WORDS := share/zsh/site-functions/_cc_player
 FISH_WORDS := share/fish/vendor_completions.d/cc_player.fish
+# What `make install-lib` installs there. The number of the interface is that of include/cc.h.
+SONAME := libcc.so.$(shell sed -n 's/^.define CC_VERSION //p' include/cc.h)
+LIBRARY := include/cc.h lib/libcc.a lib/$(SONAME) lib/libcc.so lib/pkgconfig/cc.pc
 
-.PHONY: build help demo pictures film view bench lib embed test audit check install uninstall dist clean kit python FORCE
+.PHONY: build help demo pictures film view bench lib embed test audit check install install-lib uninstall dist clean kit python FORCE
 
 build: $(PLAYER)
 
@@ -34,7 +37,8 @@ help:
 	@echo 'make check     the gate: all proofs, edits, tests and programs, and our own checks (an hour at first, then what changed)'
 	@echo 'make audit     tries all must-fail edits, also those that the gate leaves out (hours); ONLY="geom pixel": of these crates; JOBS=2'
 	@echo 'make install   puts program, manual page and completions below DESTDIR and PREFIX (/usr/local)'
-	@echo 'make uninstall removes what make install put there'
+	@echo 'make install-lib  the library for C, its header and cc.pc, in the same place'
+	@echo 'make uninstall removes what these put there'
 	@echo 'make dist      packs the sources of the last commit into build/cc_player-VERSION.tar.gz'
 	@echo 'make clean     removes build/'
 
@@ -103,8 +107,16 @@ install: $(PLAYER)
 	install -D -m 644 completions/_cc_player '$(DESTDIR)$(PREFIX)/$(ZSH_WORDS)'
 	install -D -m 644 completions/cc_player.fish '$(DESTDIR)$(PREFIX)/$(FISH_WORDS)'
 
+install-lib: lib
+	install -D -m 644 include/cc.h '$(DESTDIR)$(PREFIX)/include/cc.h'
+	install -D -m 644 build/libcc.a '$(DESTDIR)$(PREFIX)/lib/libcc.a'
+	install -D -m 755 build/$(SONAME) '$(DESTDIR)$(PREFIX)/lib/$(SONAME)'
+	ln -sf $(SONAME) '$(DESTDIR)$(PREFIX)/lib/libcc.so'
+	install -D -m 644 build/cc.pc '$(DESTDIR)$(PREFIX)/lib/pkgconfig/cc.pc'
+	sed -i 's|^libdir=.*|libdir=$(PREFIX)/lib|; s|^includedir=.*|includedir=$(PREFIX)/include|' '$(DESTDIR)$(PREFIX)/lib/pkgconfig/cc.pc'
+
 uninstall:
-	rm -f '$(DESTDIR)$(PREFIX)/bin/cc_player' $(foreach file,$(MANUAL) $(BASH_WORDS) $(ZSH_WORDS) $(FISH_WORDS),'$(DESTDIR)$(PREFIX)/$(file)')
+	rm -f '$(DESTDIR)$(PREFIX)/bin/cc_player' $(foreach file,$(MANUAL) $(BASH_WORDS) $(ZSH_WORDS) $(FISH_WORDS) $(LIBRARY),'$(DESTDIR)$(PREFIX)/$(file)')
 
 dist:
 	@mkdir -p build
