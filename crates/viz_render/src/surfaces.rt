@@ -1,6 +1,6 @@
 //! Surfaces that scenes are drawn into.
 
-ghost use Rattle.std.specs.Prelude.{◌≡◌, ◌≤◌, length, IfOk, IsTrue};
+ghost use Rattle.std.specs.Prelude.{◌≡◌, ◌≤◌, false, length, IfOk, IsTrue};
 ghost use Rattle.page_display_list.specs.Bitmaps.{near, byte_count};
 ghost use Rattle.viz_scene.specs.Sound.{IsIn};
 ghost use Rattle.viz_render.specs.Surfaces.{AreReady, ShowsArea};
@@ -60,7 +60,8 @@ impl Surfaces {
 
     /// Whether there is room for strips of a scene.
     pub fn are_ready(&self, scene: &Scene) -> bool
-        ensures { IsTrue result → AreReady scene.now self.now }
+        ensures yes { IsTrue result → AreReady scene.now self.now }
+        ensures no { result ≡ false → AreReady scene.now self.now → ⊥ }
     {
         let passes = self.passes.passes.len() + 1;
         self.width == scene.w() as usize && passes == scene.passes().len()
