@@ -1,7 +1,7 @@
 -- What the two ends of a ring hold, and which ring they belong to.
-use Rattle.std.specs.Prelude.{◌≡◌, ℕ, List, ◌++◌, flat_map, Result, Ok, Err}
+use Rattle.std.specs.Prelude.{◌≡◌, ℕ, ⊤, ◌⊎◌, List, [], ◌++◌, flat_map, Result, Ok, Err}
 use Rattle.std.specs.Global.{Vec}
-use Rattle.rtrb.specs.Ring.{sent, received}
+use Rattle.rtrb.specs.Ring.{sent, received, known_free, known_items}
 use Rattle.recording_pieces.specs.declared.shot.Shot.{Shot}
 use Rattle.recording_pieces.specs.Shots.{all_shown}
 use Rattle.thread_ring.specs.declared.ends.RingSink.{RingSink}
@@ -19,6 +19,18 @@ whole s = (all_shown (sent s.producer) ++ all_shown s.kept.items) ++ s.lines.ite
 -- all bytes that the presenter took out of the ring
 abbrev pub bytes_taken : Presenter → List ℕ
 bytes_taken p = all_shown (received p.consumer)
+
+-- the pieces that the presenter has seen in the ring and not taken yet
+abbrev pub seen : Presenter → List Shot
+seen p = known_items p.consumer
+
+-- the sink keeps no piece, or the ring was found full
+abbrev pub HasMovedKept : RingSink → Type 0
+HasMovedKept s = (s.kept.items ≡ []) ⊎ (known_free s.producer ≡ 0)
+
+-- all that was put is in the ring, or the ring was found full
+abbrev pub HasMovedAll : RingSink → Type 0
+HasMovedAll s = ((s.kept.items ≡ []) × (s.lines.items ≡ [])) ⊎ (known_free s.producer ≡ 0)
 
 -- the ring that a sink fills
 abbrev pub ring_filled : RingSink → Label
@@ -44,3 +56,8 @@ SamePresenter old new = ring_emptied new ≡ ring_emptied old
 abbrev pub TakesBatch : {E : Type 0} → List ℕ → List ℕ → Result (Vec Shot) E → Type 0
 TakesBatch before after (Ok batch) = after ≡ before ++ all_shown batch.items
 TakesBatch before after (Err _) = (more : List ℕ) × (after ≡ before ++ more)
+
+-- a batch without pieces is answered only where the presenter has seen none in the ring
+abbrev pub EmptyBatch : {E : Type 0} → List Shot → Result (Vec Shot) E → Type 0
+EmptyBatch left (Ok batch) = batch.items ≡ [] → left ≡ []
+EmptyBatch left (Err _) = ⊤

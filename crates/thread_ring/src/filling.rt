@@ -1,12 +1,12 @@
 //! Putting bytes and scenes into a ring, without waiting.
-ghost use Rattle.std.specs.Prelude.{Some, [], ◌≡◌, ◌≤◌, ◌<◌, ◌++◌, OnOk, OnErr};
-ghost use Rattle.rtrb.specs.Ring.{known_free};
+ghost use Rattle.std.specs.Prelude.{Some, [], ◌≡◌, ◌≤◌, ◌<◌, ◌++◌, IsFalse, IsTrue, OnOk, OnErr};
+ghost use Rattle.rtrb.specs.Ring.{known_free, sent};
 ghost use Rattle.player_io.specs.Counts.{Rose};
 ghost use Rattle.player_io.specs.Pieces.{NotFailed, PutAppends, PutCause};
 ghost use Rattle.player_io.specs.declared.writing.PutFault.TheVariants.{Memory};
 ghost use Rattle.recording_pieces.specs.Scenes.{scene_image};
 ghost use Rattle.recording_pieces.specs.Shots.{shown};
-ghost use Rattle.thread_ring.specs.Ring.{SameSink, ring_filled, whole};
+ghost use Rattle.thread_ring.specs.Ring.{HasMovedAll, HasMovedKept, SameSink, ring_filled, whole};
 
 use crate::ends::{Label, RingSink};
 use crate::shared::byte_count;
@@ -26,6 +26,7 @@ impl RingSink {
         ensures ring { SameSink self.old self.new }
         ensures bytes { whole self.new ≡ whole self.old }
         ensures lines { self.new.lines ≡ self.old.lines }
+        ensures moved { HasMovedKept self.new }
         ensures refused { self.new.refused ≡ self.old.refused }
     {
         while !self.producer.is_full() {
@@ -56,6 +57,7 @@ impl RingSink {
         requires kept { self.old.kept.items ≡ [] }
         ensures ring { SameSink self.old self.new }
         ensures bytes { whole self.new ≡ whole self.old ++ shown piece }
+        ensures left { (self.new.kept ≡ self.old.kept) × (self.new.lines ≡ self.old.lines) }
         ensures refused { self.new.refused ≡ self.old.refused }
     {
         self.shared.add(byte_count(&piece));
@@ -63,13 +65,25 @@ impl RingSink {
         self.shared.ring();
     }
 
+    // Whether nothing is kept and the ring has a place.
+    fn has_place(&mut self) -> bool
+        ensures ring { SameSink self.old self.new }
+        ensures same { (sent self.new.producer ≡ sent self.old.producer) × (self.new.kept ≡ self.old.kept) × (self.new.lines ≡ self.old.lines) }
+        ensures yes { IsTrue result → (self.new.kept.items ≡ []) × (0 < known_free self.new.producer) }
+        ensures no { IsFalse result → HasMovedKept self.old → known_free self.new.producer ≡ 0 }
+        ensures refused { self.new.refused ≡ self.old.refused }
+    {
+        self.kept.is_empty() && !self.producer.is_full()
+    }
+
     // Moves the lines that were gathered into the ring as a piece, where nothing is kept and there is a place.
     fn move_lines(&mut self)
         ensures ring { SameSink self.old self.new }
         ensures bytes { whole self.new ≡ whole self.old }
+        ensures moved { HasMovedKept self.old → HasMovedAll self.new }
         ensures refused { self.new.refused ≡ self.old.refused }
     {
-        if self.lines.is_empty() || !self.kept.is_empty() || self.producer.is_full() {
+        if self.lines.is_empty() || !self.has_place() {
             return;
         }
         let lines = self.take_lines();
@@ -80,6 +94,7 @@ impl RingSink {
     fn move_all(&mut self)
         ensures ring { SameSink self.old self.new }
         ensures bytes { whole self.new ≡ whole self.old }
+        ensures moved { HasMovedAll self.new }
         ensures refused { self.new.refused ≡ self.old.refused }
     {
         self.move_on();
@@ -139,6 +154,7 @@ impl RingSink {
     fn wait_until<R: Wait>(&mut self, rt: &R, bytes: u64, pieces: usize)
         ensures ring { SameSink self.old self.new }
         ensures bytes { whole self.new ≡ whole self.old }
+        ensures moved { HasMovedKept self.new }
         ensures refused { self.new.refused ≡ self.old.refused }
     {
         for _ in rt.forever() {
@@ -154,11 +170,12 @@ impl RingSink {
         unreachable!()
     }
 
-    /// Waits until the presenter has taken what the ring had no place for, where one is serving. What was put
-    /// stays the same.
+    /// Moves kept pieces into the ring as far as there is a place, and waits until it keeps none, where a presenter is
+    /// serving. What was put stays the same.
     pub fn drain<R: Wait>(&mut self, rt: &R)
         ensures ring { SameSink self.old self.new }
         ensures bytes { whole self.new ≡ whole self.old }
+        ensures moved { HasMovedKept self.new }
         ensures refused { self.new.refused ≡ self.old.refused }
     {
         self.wait_until(rt, u64::MAX, 0);
@@ -172,6 +189,7 @@ impl RingSink {
     pub fn end(&mut self)
         ensures ring { SameSink self.old self.new }
         ensures bytes { whole self.new ≡ whole self.old }
+        ensures moved { HasMovedAll self.new }
         ensures refused { self.new.refused ≡ self.old.refused }
     {
         self.move_all();
@@ -231,12 +249,21 @@ impl SceneSink for RingSink {
     }
 
     /// Moves what was gathered and kept into the ring as far as there is a place.
-    fn pass_on(&mut self) {
+    fn pass_on(&mut self)
+        ensures bytes { Some (whole self.new) ≡ Some (whole self.old) }
+        ensures place { SameSink self.old self.new }
+        ensures moved { HasMovedAll self.new }
+    {
         self.move_all();
     }
 
-    /// Waits while more wait than may, and the presenter takes them.
-    fn wait_for_space<R: Wait>(&mut self, rt: &R) {
+    /// Moves kept pieces into the ring as far as there is a place, and waits while more bytes wait to be written than
+    /// may, and a presenter is serving.
+    fn wait_for_space<R: Wait>(&mut self, rt: &R)
+        ensures bytes { Some (whole self.new) ≡ Some (whole self.old) }
+        ensures place { SameSink self.old self.new }
+        ensures moved { HasMovedKept self.new }
+    {
         let most = self.most_waiting;
         self.wait_until(rt, most, usize::MAX);
     }

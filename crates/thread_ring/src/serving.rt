@@ -1,7 +1,7 @@
 //! Handing the pieces of a ring on.
-ghost use Rattle.std.specs.Prelude.{◌≡◌, ◌≤◌, ℕ, ◌++◌, List, MatchOption};
+ghost use Rattle.std.specs.Prelude.{◌≡◌, ◌≤◌, ℕ, ◌++◌, List, [], length, IfNone, IfOk, IsFalse, MatchOption};
 ghost use Rattle.recording_pieces.specs.Shots.{all_shown, shown};
-ghost use Rattle.thread_ring.specs.Ring.{SamePresenter, TakesBatch, bytes_taken};
+ghost use Rattle.thread_ring.specs.Ring.{EmptyBatch, SamePresenter, TakesBatch, bytes_taken, seen};
 ghost use Rattle.thread_ring.specs.Answers.{AddsBytes, Blames, FaultRose, Served, Stops, Takes, told_of};
 
 use crate::ends::{Presented, Presenter};
@@ -74,6 +74,7 @@ impl Presenter {
     fn take_one(&mut self) -> Option<Shot>
         ensures ring { SamePresenter self.old self.new }
         ensures bytes { MatchOption result (bytes_taken self.new ≡ bytes_taken self.old) (λ piece. bytes_taken self.new ≡ bytes_taken self.old ++ shown piece) }
+        ensures none { IfNone result (seen self.new ≡ []) }
     {
         match self.consumer.pop() {
             Ok(piece) => {
@@ -84,14 +85,14 @@ impl Presenter {
         }
     }
 
-    // Takes at most the given number of pieces out of the ring, until there is none or they are large. An error means
-    // out of memory, and the piece that was taken last is lost.
+    // Takes more pieces out of the ring and adds them to those of a batch, at most the given number, until there is
+    // none or they are large. An error means out of memory, and the piece that was taken last is lost.
     #[tactic(auto, using(crate::proofs::Gains::taken_and_lost, recording_pieces::proofs::Parts::one_more))]
-    fn take_batch(&mut self, most: usize) -> Result<Vec<Shot>, AllocError>
+    fn take_more(&mut self, most: usize, mut batch: Vec<Shot>) -> Result<Vec<Shot>, AllocError>
         ensures ring { SamePresenter self.old self.new }
-        ensures bytes { TakesBatch (bytes_taken self.old) (bytes_taken self.new) result }
+        ensures bytes { (before : List ℕ) → bytes_taken self.old ≡ before ++ all_shown batch.items → TakesBatch before (bytes_taken self.new) result }
+        ensures some { IfOk result (λ all. length batch.items ≤ length all.items) }
     {
-        let mut batch = Vec::new(self.alloc);
         for _ in 0..most {
             if self.taken >= MOST_TAKEN {
                 return Ok(batch);
@@ -106,33 +107,53 @@ impl Presenter {
         Ok(batch)
     }
 
+    // Takes pieces out of the ring, at least one where there is any, and at most the given number more, until there is
+    // none or they are large. An error means out of memory, and the piece that was taken last is lost.
+    #[tactic(auto, using(crate::proofs::Gains::taken_and_lost, recording_pieces::proofs::Parts::one_more))]
+    fn take_batch(&mut self, more: usize) -> Result<Vec<Shot>, AllocError>
+        ensures ring { SamePresenter self.old self.new }
+        ensures bytes { TakesBatch (bytes_taken self.old) (bytes_taken self.new) result }
+        ensures empty { EmptyBatch (seen self.new) result }
+    {
+        let mut batch = Vec::new(self.alloc);
+        let Some(piece) = self.take_one() else {
+            return Ok(batch);
+        };
+        if let Err(_) = batch.push(piece) {
+            return Err(AllocError);
+        }
+        self.take_more(more, batch)
+    }
+
     // What was taken is written, or is not going to be.
     fn let_go(&mut self)
         ensures ring { SamePresenter self.old self.new }
         ensures taken { bytes_taken self.new ≡ bytes_taken self.old }
+        ensures seen { seen self.new ≡ seen self.old }
     {
         self.shared.remove(self.taken);
         self.taken = 0;
     }
 
-    // Takes at most the given number of pieces out of the ring, and puts them, unless an earlier one was refused;
-    // answers whether there were any, and for all pieces.
+    // Takes pieces out of the ring, at most the given number besides the first, and puts them, unless an earlier one was
+    // refused; answers whether there were any, and for all pieces.
     fn step<R: Threads + Sync, K: Sink, P: ScenePainter>(
         &mut self,
         rt: &R,
         state: Presented,
-        most: usize,
+        more: usize,
         painters: &mut Painters<P>,
         out: &mut K,
     ) -> (bool, Presented)
         ensures ring { SamePresenter self.old self.new }
+        ensures none { IsFalse result.0 → seen self.new ≡ [] }
         ensures bytes { Takes state result.1 (K.held out.old) (K.held out.new) (bytes_taken self.old) (bytes_taken self.new) }
         ensures faults { K.faults out.old ≤ K.faults out.new }
         ensures refusals { K.refusals out.old ≤ K.refusals out.new }
         ensures cause { Blames state result.1 (K.faults out.old) (K.faults out.new) }
         ensures place { K.place out.new ≡ K.place out.old }
     {
-        match self.take_batch(most) {
+        match self.take_batch(more) {
             Ok(batch) => {
                 let any = !batch.is_empty();
                 (any, present(rt, state, batch, painters, out))
@@ -151,19 +172,20 @@ impl Presenter {
     ) -> Presented
         ensures ring { SamePresenter self.old self.new }
         ensures bytes { Served result (K.held out.old) (K.held out.new) (bytes_taken self.old) (bytes_taken self.new) }
+        ensures none { seen self.new ≡ [] }
         ensures faults { K.faults out.old ≤ K.faults out.new }
         ensures refusals { K.refusals out.old ≤ K.refusals out.new }
         ensures cause { FaultRose result (K.faults out.old) (K.faults out.new) }
         ensures place { K.place out.new ≡ K.place out.old }
     {
-        let most = painters.most().saturating_mul(RUN);
+        let more = painters.most().saturating_mul(RUN).saturating_sub(1);
         let mut state = Presented::Written;
         for _ in rt.forever() {
             // Both are read before the ring is looked at: a piece that comes later rings again, and what was
             // put before the mark is then found.
             let pushed = self.shared.pushed();
             let ended = self.shared.is_closed();
-            let (any, answer) = self.step(rt, state, most, painters, out);
+            let (any, answer) = self.step(rt, state, more, painters, out);
             state = answer;
             self.let_go();
             if !any {
@@ -182,7 +204,8 @@ impl Presenter {
     ///
     /// `Written`: `out` gained exactly the pieces that were taken, in order. `Fault` comes only where
     /// the count of faults of `out` rose in this call, or stands at its last value; `Memory` where
-    /// `out` or a painter found none. In both `out` gained a prefix of the pieces that were taken.
+    /// `out` or a painter found none. In both `out` gained a prefix of the pieces that were taken. With each answer no
+    /// piece is left that was seen in the ring.
     pub fn serve<R: Threads + Wait + Sync, K: Sink, P: ScenePainter>(
         &mut self,
         rt: &R,
@@ -191,6 +214,7 @@ impl Presenter {
     ) -> Presented
         ensures ring { SamePresenter self.old self.new }
         ensures bytes { Served result (K.held out.old) (K.held out.new) (bytes_taken self.old) (bytes_taken self.new) }
+        ensures none { seen self.new ≡ [] }
         ensures faults { K.faults out.old ≤ K.faults out.new }
         ensures refusals { K.refusals out.old ≤ K.refusals out.new }
         ensures cause { FaultRose result (K.faults out.old) (K.faults out.new) }
