@@ -1,6 +1,6 @@
 //! Painters among whom pieces are dealt.
 
-ghost use Rattle.std.specs.Prelude.{◌≡◌, ◌≤◌, ◌++◌, [], IfOk, OnOk};
+ghost use Rattle.std.specs.Prelude.{◌≡◌, ◌≤◌, ◌++◌, [], max, IfOk, OnOk};
 ghost use Rattle.recording_pieces.specs.Shots.{all_due, all_shown, due_of, shown};
 ghost use Rattle.recording_pieces.specs.Writing.{PutsAll, WriteCause};
 
@@ -21,13 +21,16 @@ pub struct Painters<P> {
     idle: Vec<Hand<P>>,
     /// those that have, in the order of their pieces
     pub(crate) hands: Vec<Hand<P>>,
-    /// how many there are at most
+    /// how many work side by side at most
     most: usize,
+    ghost some: { 1 ≤ most },
 }
 
 impl<P: ScenePainter> Painters<P> {
     /// At most the given number of painters, at least one. Each is made where it is needed.
-    pub fn new(alloc: Global, most: usize) -> Painters<P> {
+    pub fn new(alloc: Global, most: usize) -> Painters<P>
+        ensures { result.most ≡ max most 1 }
+    {
         Painters {
             alloc,
             idle: Vec::new(alloc),
@@ -37,7 +40,9 @@ impl<P: ScenePainter> Painters<P> {
     }
 
     /// How many work side by side at most.
-    pub fn most(&self) -> usize {
+    pub fn most(&self) -> usize
+        ensures { result ≡ self.now.most }
+    {
         self.most
     }
 
@@ -45,6 +50,7 @@ impl<P: ScenePainter> Painters<P> {
     fn free_hand(&mut self) -> Result<Hand<P>, AllocError>
         ensures free { IfOk result (λ hand. due_of hand ≡ []) }
         ensures others { self.new.hands ≡ self.old.hands }
+        ensures most { self.new.most ≡ self.old.most }
     {
         if let Some(mut hand) = self.idle.pop() {
             hand.due.clear();
@@ -55,12 +61,14 @@ impl<P: ScenePainter> Painters<P> {
             painter: P::blank(self.alloc)?,
             due: Vec::new(self.alloc),
             made: Vec::new(self.alloc),
+            waits: false,
         })
     }
 
     // The last hand, out of the others, if it has fewer pieces than its share; else a free one.
     fn next_hand(&mut self, share: usize) -> Result<Hand<P>, AllocError>
-        ensures { IfOk result (λ hand. all_due self.new.hands.items ++ due_of hand ≡ all_due self.old.hands.items) }
+        ensures due { IfOk result (λ hand. all_due self.new.hands.items ++ due_of hand ≡ all_due self.old.hands.items) }
+        ensures most { self.new.most ≡ self.old.most }
     {
         let has_room = match self.hands.last() {
             Some(hand) => hand.due.len() < share,
@@ -78,7 +86,8 @@ impl<P: ScenePainter> Painters<P> {
     // Gives a piece to the last hand, or where that has its share, to another.
     #[tactic(auto, using(crate::proofs::Parts::one_more))]
     fn deal_one(&mut self, shot: Shot, share: usize) -> Result<(), AllocError>
-        ensures { OnOk result (all_due self.new.hands.items ≡ all_due self.old.hands.items ++ shown shot) }
+        ensures due { OnOk result (all_due self.new.hands.items ≡ all_due self.old.hands.items ++ shown shot) }
+        ensures most { self.new.most ≡ self.old.most }
     {
         let mut hand = self.next_hand(share)?;
         hand.due.push(shot)?;
@@ -88,7 +97,8 @@ impl<P: ScenePainter> Painters<P> {
 
     // Lets all hands go.
     fn rest(&mut self)
-        ensures { self.new.hands.items ≡ [] }
+        ensures none { self.new.hands.items ≡ [] }
+        ensures most { self.new.most ≡ self.old.most }
     {
         while let Some(hand) = self.hands.pop() {
             if self.idle.push(hand).is_err() {
@@ -101,9 +111,10 @@ impl<P: ScenePainter> Painters<P> {
     // Deals pieces among the hands: to each a run of consecutive ones.
     #[tactic(auto, using(crate::proofs::Parts::one_more))]
     fn deal(&mut self, shots: Vec<Shot>) -> Result<(), AllocError>
-        ensures { OnOk result (all_due self.new.hands.items ≡ all_shown shots.items) }
+        ensures due { OnOk result (all_due self.new.hands.items ≡ all_shown shots.items) }
+        ensures most { self.new.most ≡ self.old.most }
     {
-        let share = shots.len().div_ceil(self.most.max(1));
+        let share = shots.len().div_ceil(self.most);
         self.rest();
         for shot in shots {
             self.deal_one(shot, share)?;
@@ -122,13 +133,14 @@ impl<P: ScenePainter> Painters<P> {
         ensures refusals { K.refusals out.old ≤ K.refusals out.new }
         ensures cause { WriteCause (K.faults out.old) (K.faults out.new) result }
         ensures place { K.place out.new ≡ K.place out.old }
+        ensures most { self.new.most ≡ self.old.most }
     {
         let parts = (self.most / self.hands.len().max(1)).max(1);
         put_hands(rt, self.hands.as_mut_slice(), parts, out)
     }
 
     /// Paints pieces side by side, and puts them in order. Where there are fewer pieces than painters, each scene is
-    /// painted in several parts.
+    /// painted in several parts. How many work side by side at most stays the same.
     pub fn put<R: Threads + Sync, K: Sink>(
         &mut self,
         rt: &R,
@@ -140,6 +152,7 @@ impl<P: ScenePainter> Painters<P> {
         ensures refusals { K.refusals out.old ≤ K.refusals out.new }
         ensures cause { WriteCause (K.faults out.old) (K.faults out.new) result }
         ensures place { K.place out.new ≡ K.place out.old }
+        ensures most { self.new.most ≡ self.old.most }
     {
         if self.deal(shots).is_err() {
             return Err(WriteStop::Memory);

@@ -18,7 +18,8 @@ pub trait SceneSink: Sink {
         ensures cause { PutCause (Self.faults self.old) (Self.faults self.new) (Self.refusals self.old) (Self.refusals self.new) result }
         ensures place { Self.place self.new ≡ Self.place self.old };
 
-    /// Passes on what was gathered, as nothing else comes for now. What it holds stays the same.
+    /// Passes on what was gathered. It is called before the caller waits for others, so that no reader waits for these
+    /// bytes meanwhile. What it holds stays the same.
     fn pass_on(&mut self)
         ensures bytes { Self.held self.new ≡ Self.held self.old }
         ensures faults { Self.faults self.new ≡ Self.faults self.old }

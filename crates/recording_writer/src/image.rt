@@ -1,6 +1,6 @@
 //! The image of a canvas.
 
-ghost use Rattle.std.specs.Prelude.{◌≡◌, ◌++◌, IfOk, OnOk};
+ghost use Rattle.std.specs.Prelude.{◌≡◌, IfOk};
 ghost use Rattle.recording_writer.specs.inner.Repeats.{image_of as image_of_canvas};
 
 use recording_text::push_image_head;
@@ -10,20 +10,12 @@ use viz_canvas::{Canvas, Rgb};
 // How many bytes the head of an image has at most, where each side has four digits.
 const HEAD: usize = 17;
 
-/// Adds the head of an image, and after it the pixels of a canvas. An error means out of memory.
-pub(crate) fn push_image(bytes: &mut Vec<u8>, canvas: &Canvas<Rgb>) -> Result<(), AllocError>
-    ensures { OnOk result (bytes.new.items ≡ bytes.old.items ++ image_of_canvas canvas.now) }
-{
-    push_image_head(bytes, canvas.w(), canvas.h())?;
-    bytes.extend_from_slice(canvas.bytes())?;
-    Ok(())
-}
-
 /// The head of an image, and after it the pixels of a canvas. An error means out of memory.
 pub(crate) fn image_of(alloc: Global, canvas: &Canvas<Rgb>) -> Result<Vec<u8>, AllocError>
     ensures { IfOk result (λ image. image.items ≡ image_of_canvas canvas.now) }
 {
     let mut image = Vec::with_capacity(alloc, HEAD + canvas.bytes().len())?;
-    push_image(&mut image, canvas)?;
+    push_image_head(&mut image, canvas.w(), canvas.h())?;
+    image.extend_from_slice(canvas.bytes())?;
     Ok(image)
 }

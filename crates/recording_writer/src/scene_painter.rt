@@ -2,23 +2,38 @@
 
 use crate::image_painter::ImagePainter;
 use recording_pieces::ScenePainter;
+use recording_text::push_image_head;
 use std::alloc::{AllocError, Global};
 use std::marker::Sync;
 use std::thread::Threads;
 use viz_scene::Scene;
 
 impl ScenePainter for ImagePainter {
+    ghost use Rattle.model_history.specs.Recordings.{image_head};
+
+    ghost head = { λ p. image_head p.painter.canvas.w p.painter.canvas.h };
+
+    ghost rows = { λ p. p.painter.canvas.bytes };
+
     fn blank(alloc: Global) -> Result<ImagePainter, AllocError> {
         ImagePainter::new(alloc)
     }
 
-    fn push_image<R: Threads + Sync>(
+    fn paint_scene<R: Threads + Sync>(
         &mut self,
         rt: &R,
         scene: Scene,
         parts: usize,
-        bytes: &mut Vec<u8>,
     ) -> Result<(), AllocError> {
-        self.push_painted(rt, scene, parts, bytes)
+        self.show(rt, scene, parts)
+    }
+
+    fn push_head(&self, bytes: &mut Vec<u8>) -> Result<(), AllocError> {
+        let canvas = self.canvas();
+        push_image_head(bytes, canvas.w(), canvas.h())
+    }
+
+    fn pixels(&self) -> &[u8] {
+        self.canvas().bytes()
     }
 }

@@ -18,18 +18,31 @@ use viz_scene::Scene;
 struct Refuser;
 
 impl ScenePainter for Refuser {
+    ghost use Rattle.std.specs.Prelude.{[]};
+
+    ghost head = { λ _. [] };
+
+    ghost rows = { λ _. [] };
+
     fn blank(_alloc: Global) -> Result<Refuser, AllocError> {
         Ok(Refuser)
     }
 
-    fn push_image<R: Threads + Sync>(
+    fn paint_scene<R: Threads + Sync>(
         &mut self,
         _rt: &R,
         _scene: Scene,
         _parts: usize,
-        _bytes: &mut Vec<u8>,
     ) -> Result<(), AllocError> {
         Err(AllocError)
+    }
+
+    fn push_head(&self, _bytes: &mut Vec<u8>) -> Result<(), AllocError> {
+        Err(AllocError)
+    }
+
+    fn pixels(&self) -> &[u8] {
+        &[]
     }
 }
 
