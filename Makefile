@@ -16,9 +16,9 @@ MANUAL := share/man/man1/cc_player.1
 BASH_WORDS := share/bash-completion/completions/cc_player
 ZSH_WORDS := share/zsh/site-functions/_cc_player
 FISH_WORDS := share/fish/vendor_completions.d/cc_player.fish
-# What `make install-lib` installs there. The number of the interface is that of include/cc.h.
-SONAME := libcc.so.$(shell sed -n 's/^.define CC_VERSION //p' include/cc.h)
-LIBRARY := include/cc.h lib/libcc.a lib/$(SONAME) lib/libcc.so lib/pkgconfig/cc.pc
+# What `make install-lib` installs there. The number of the interface is that of include/cc.h, read where it is asked for.
+SONAME = libcc.so.$(shell sed -n 's/^.define CC_VERSION //p' include/cc.h)
+LIBRARY = include/cc.h lib/libcc.a lib/$(SONAME) lib/libcc.so lib/pkgconfig/cc.pc
 
 .PHONY: build help demo pictures film view bench lib embed test audit check install install-lib uninstall dist clean kit python FORCE
 

@@ -267,9 +267,10 @@ class Page:
         if not top <= bottom <= h:
             raise Fault("rows %d to %d of %d are told" % (top, bottom, h))
         for at in range(w * h if size == (w, h) else 0):
-            x, y = at % w, at // w
-            drawn = top <= y < bottom and any(l <= x < l + a and t <= y < t + b for l, t, a, b in rects)
-            if not drawn and old[4 * at:4 * at + 4] != new[4 * at:4 * at + 4]:
+            if old[4 * at:4 * at + 4] == new[4 * at:4 * at + 4]:
+                continue
+            y, x = divmod(at, w)
+            if not (top <= y < bottom and any(l <= x < l + a and t <= y < t + b for l, t, a, b in rects)):
                 raise Fault("pixel %d, %d changed outside of the damage" % (x, y))
         if self.page.is_changed or self.page.pixels(self.cc.BGRA) != exchanged(new):
             raise Fault("after a draw a frame is taken for changed, or its bytes are not exchanged")
