@@ -121,26 +121,18 @@ impl DisplayList {
         let alloc = *self.items.allocator();
         let width = width_of(area);
         let mut bytes = clear_pixels(alloc, width * height_of(area))?;
-        let mut scratch = clear_pixels(alloc, width)?;
-        draw_items(
-            self.items.as_slice(),
-            bytes.as_mut_slice(),
-            area,
-            scratch.as_mut_slice(),
-        );
+        draw_items(self.items.as_slice(), bytes.as_mut_slice(), area);
         Ok(bytes)
     }
 
     /// Writes the pixels that the list shows in an area, row by row from the top: four bytes a pixel.
-    /// What `scratch` holds afterwards is not said.
-    pub fn raster_into(&self, area: Rect, bytes: &mut [u8], scratch: &mut [u8])
+    pub fn raster_into(&self, area: Rect, bytes: &mut [u8])
         requires area { IsSound area }
         requires size { length bytes.old ≡ byte_count area.w area.h }
-        requires room { 4 * near area.w ≤ length scratch.old }
         ensures { IsRaster self.now area bytes.new }
     {
         fill_row(bytes, Colour::CLEAR);
-        draw_items(self.items.as_slice(), bytes, area, scratch);
+        draw_items(self.items.as_slice(), bytes, area);
     }
 
     /// A copy of the list, on the same allocator, which shares the pixels of its bitmaps.

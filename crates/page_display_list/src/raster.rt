@@ -50,24 +50,16 @@ pub(crate) fn clear_pixels(alloc: Global, count: usize) -> Result<Vec<u8>, Alloc
 }
 
 /// Draws one colour into a part of an area's pixels.
-fn draw_colour(
-    surface: &mut [u8],
-    width: usize,
-    height: usize,
-    part: CoveredArea,
-    colour: Colour,
-    scratch: &mut [u8],
-)
+fn draw_colour(surface: &mut [u8], width: usize, height: usize, part: CoveredArea, colour: Colour)
     requires size { length surface.old ≡ 4 * (width * height) }
     requires inside { IsInside part.at width height }
-    requires room { 4 * width ≤ length scratch.old }
     ensures pixels { EachPixel width height (within_rows part.at part.at.h (λ x y below. blend below colour)) surface.old surface.new }
     ensures premultiplied { ArePremultiplied surface.old → ArePremultiplied surface.new }
 {
     if colour.a() == 255 {
         fill_area(surface, width, height, part.at, colour);
     } else {
-        colour_over_area(surface, width, height, part.at, colour, scratch);
+        colour_over_area(surface, width, height, part.at, colour);
     }
 }
 
@@ -97,11 +89,10 @@ fn draw_bitmap(surface: &mut [u8], width: usize, height: usize, part: CoveredAre
 }
 
 /// Draws an item into the pixels of an area.
-fn draw(item: &Item, surface: &mut [u8], area: Rect, scratch: &mut [u8])
+fn draw(item: &Item, surface: &mut [u8], area: Rect)
     requires item { IsSoundItem item.now }
     requires area { IsSound area }
     requires size { length surface.old ≡ byte_count area.w area.h }
-    requires room { 4 * near area.w ≤ length scratch.old }
     ensures pixels { EachPixel (near area.w) (near area.h) (λ x y below. painted (area.x +ℤ pos x) (area.y +ℤ pos y) below item.now) surface.old surface.new }
     ensures premultiplied { ArePremultiplied surface.old → ArePremultiplied surface.new }
 {
@@ -111,21 +102,20 @@ fn draw(item: &Item, surface: &mut [u8], area: Rect, scratch: &mut [u8])
     let width = width_of(area);
     let height = height_of(area);
     match item {
-        Item::Rect { colour, .. } => draw_colour(surface, width, height, part, *colour, scratch),
+        Item::Rect { colour, .. } => draw_colour(surface, width, height, part, *colour),
         Item::Bitmap(bitmap) => draw_bitmap(surface, width, height, part, bitmap),
     }
 }
 
 /// Draws items into the pixels of an area, in order.
-pub(crate) fn draw_items(items: &[Item], surface: &mut [u8], area: Rect, scratch: &mut [u8])
+pub(crate) fn draw_items(items: &[Item], surface: &mut [u8], area: Rect)
     requires items { All IsSoundItem items.now }
     requires area { IsSound area }
     requires size { length surface.old ≡ byte_count area.w area.h }
-    requires room { 4 * near area.w ≤ length scratch.old }
     ensures pixels { EachPixel (near area.w) (near area.h) (λ x y below. fold (painted (area.x +ℤ pos x) (area.y +ℤ pos y)) below items.now) surface.old surface.new }
     ensures premultiplied { ArePremultiplied surface.old → ArePremultiplied surface.new }
 {
     for item in items {
-        draw(item, surface, area, scratch);
+        draw(item, surface, area);
     }
 }

@@ -4,3 +4,4 @@ pub mod Parts
 pub mod LaneWise
 pub mod LaneTests
 pub mod Blends
+pub mod FourPixels

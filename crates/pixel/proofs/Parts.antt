@@ -1,6 +1,6 @@
 -- What a call on a run of a surface's pixels did to the surface.
 use Rattle.std.specs.Prelude.{ℕ, ◌+◌, ◌*◌, ◌-◌, ◌/◌, ◌%◌, ◌<◌, ◌≤◌, ◌≡◌, List, length, slice_index, take, drop}
-use Rattle.std.proofs.Common.{arith, ◌∙◌, ap, sym, inl, inr}
+use Rattle.std.proofs.Common.{arith, ◌∙◌, ap, sym, subst, inl, inr}
 use Rattle.std.proofs.lemmas.Bool.{cases_lt}
 use Rattle.std.proofs.lemmas.List.{length-take, length-drop}
 use Rattle.std.proofs.lemmas.Int.{clamps}
@@ -179,3 +179,22 @@ image_place x y w from_x from_y r j from e =
     let row : y + r - y + from_y ≡ from_y + r = omega arith in
     let column : x + j - x + from_x ≡ from_x + j = omega arith in
     rw (row, column) (omega arith)
+
+-- the run after it was changed too
+pub part_more : (k n m : ℕ) (g h : ℕ → Parts → Parts) (old mid new : List ℕ) → IsPart k n g old mid → IsPart (k + n) m h mid new
+    → ((j : ℕ) (below : Parts) → j < m → h j below ≡ g (n + j) below) → IsPart k (n + m) g old new
+part_more k n m g h old mid new one two same = record {
+  inside = λ j lt.
+      elim (cases_lt j n) as (λ _. pixel new (k + j) ≡ g j (pixel old (k + j))) [
+        | inl low ↦ two.before (k + j) (omega arith) ∙ one.inside j low
+        | inr from ↦
+            let here : k + n + (j - n) ≡ k + j = omega arith in
+            let there : n + (j - n) ≡ j = omega arith in
+            let was = one.behind (k + n + (j - n)) (omega arith) in
+            let now = two.inside (j - n) (omega arith) ∙ same (j - n) (pixel mid (k + n + (j - n))) (omega arith) ∙ ap (g (n + (j - n))) was in
+            subst (λ (i : ℕ). pixel new i ≡ g j (pixel old i)) here (now ∙ ap (λ (i : ℕ). g i (pixel old (k + n + (j - n)))) there)
+      ];
+  before = λ i lt. two.before i (omega arith) ∙ one.before i lt;
+  behind = λ i le. two.behind i (omega arith) ∙ one.behind i (omega arith);
+  premultiplied = λ ready. two.premultiplied (one.premultiplied ready);
+}

@@ -3,11 +3,13 @@
 
 mod blocks;
 mod colour;
+pub mod four;
 pub mod lanes;
 mod laws;
 mod plain;
 mod row;
 mod surface;
+pub mod vectors;
 
 pub use colour::{Colour, mul255};
 pub use laws::{clear_source_shows, clear_takes_source, opaque_source_hides};

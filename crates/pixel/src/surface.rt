@@ -6,6 +6,7 @@ ghost use Rattle.pixel.specs.Rows.{pixel, ArePremultiplied};
 ghost use Rattle.pixel.specs.Surfaces.{IsPart, IsInside, EachPixel, within_rows};
 
 use crate::colour::Colour;
+use crate::four::{four_of, lay_four, lay_one};
 use crate::row::{fill_row, over_row};
 
 /// A rect of the pixels of a surface, counted from the surface's top left corner.
@@ -40,15 +41,21 @@ fn fill_part(surface: &mut [u8], k: usize, n: usize, colour: Colour)
     fill_row(&mut surface[4 * k..4 * (k + n)], colour);
 }
 
-/// Lays a row of `n` pixels of one colour over those from pixel `k` on.
-fn colour_over_part(surface: &mut [u8], k: usize, n: usize, source: &[u8], colour: Colour)
-    requires there { 4 * (k + n) ≤ length surface.old }
-    requires given { length source.now ≡ 4 * n }
-    requires premultiplied { ArePremultiplied source.now }
-    requires same { (j : ℕ) → j < n → pixel source.now j ≡ colour }
+/// Lays one colour over `n` pixels from pixel `k` on.
+fn colour_over_part(surface: &mut [u8], k: usize, n: usize, colour: Colour)
+    requires { 4 * (k + n) ≤ length surface.old }
     ensures { IsPart k n (λ j below. blend below colour) surface.old surface.new }
 {
-    over_row(&mut surface[4 * k..4 * (k + n)], source);
+    let pixels = four_of(colour);
+    let mut done = 0;
+    'fours: while done + 4 <= n {
+        lay_four(surface, k + done, pixels);
+        done += 4;
+    }
+    'ones: while done < n {
+        lay_one(surface, k + done, colour);
+        done += 1;
+    }
 }
 
 /// Lays `n` pixels of an image, from its pixel `from` on, over those from pixel `k` on.
@@ -78,26 +85,16 @@ pub fn fill_area(surface: &mut [u8], width: usize, height: usize, at: Area, colo
     }
 }
 
-/// Lays one colour over each pixel of an area of a surface. What `scratch` holds afterwards is not said.
-pub fn colour_over_area(
-    surface: &mut [u8],
-    width: usize,
-    height: usize,
-    at: Area,
-    colour: Colour,
-    scratch: &mut [u8],
-)
+/// Lays one colour over each pixel of an area of a surface.
+pub fn colour_over_area(surface: &mut [u8], width: usize, height: usize, at: Area, colour: Colour)
     requires size { length surface.old ≡ 4 * (width * height) }
     requires inside { IsInside at width height }
-    requires room { 4 * at.w ≤ length scratch.old }
     ensures pixels { EachPixel width height (within_rows at at.h (λ x y below. blend below colour)) surface.old surface.new }
     ensures premultiplied { ArePremultiplied surface.old → ArePremultiplied surface.new }
 {
-    let source = &mut scratch[..4 * at.w];
-    fill_row(source, colour);
     for row in 0..at.h {
         let place = place_of(width, height, at.x, at.y + row, at.w);
-        colour_over_part(surface, place, at.w, source, colour);
+        colour_over_part(surface, place, at.w, colour);
     }
 }
 

@@ -48,8 +48,8 @@ fn screen_row(width: usize, y: u32) -> Rect
     }
 }
 
-// Draws a row of a layer from this point of it on. What `spare` holds afterwards is not said.
-fn draw_row(sheet: &Sheet, tile: u32, from: Point, width: usize, row: &mut [u8], spare: &mut [u8])
+// Draws a row of a layer from this point of it on.
+fn draw_row(sheet: &Sheet, tile: u32, from: Point, width: usize, row: &mut [u8])
     requires cut { 1 ≤ tile }
     requires left { neg_ℤ (pos (2 ^ 29)) ≤ℤ from.x }
     requires right { from.x ≤ℤ pos (2 ^ 29) }
@@ -57,12 +57,11 @@ fn draw_row(sheet: &Sheet, tile: u32, from: Point, width: usize, row: &mut [u8],
     requires lower { from.y ≤ℤ pos (2 ^ 29) }
     requires few { width ≤ 2048 }
     requires size { length row.old ≡ 4 * width }
-    requires room { 4 * width ≤ length spare.old }
     ensures pixels { (k : ℕ) → k < width → pixel row.new k ≡ colour_there tile sheet.now.placed (record { x = from.x +ℤ pos k; y = from.y }) }
     ensures size { length row.new ≡ 4 * width }
     ensures premultiplied { ArePremultiplied row.new }
 {
-    sheet.list().raster_into(row_from(from, width), row, spare);
+    sheet.list().raster_into(row_from(from, width), row);
     draw_missing(sheet, tile, from, width, row);
 }
 
@@ -92,7 +91,6 @@ fn lay_part(
     part: CoveredArea,
     row: &mut [u8],
     line: &mut [u8],
-    spare: &mut [u8],
 )
     requires cut { 1 ≤ tile }
     requires few { width ≤ 2048 }
@@ -100,18 +98,17 @@ fn lay_part(
     requires shared { IsShared sheet.now.placed.area (record { x = pos 0; y = pos y; w = pos width; h = pos 1 }) part }
     requires size { length row.old ≡ 4 * width }
     requires line { 4 * width ≤ length line.old }
-    requires room { 4 * width ≤ length spare.old }
     ensures pixels { (x : ℕ) → x < width → pixel row.new x ≡ blend (pixel row.old x) (colour_in tile (pos x) (pos y) sheet.now) }
     ensures premultiplied { ArePremultiplied row.old → ArePremultiplied row.new }
 {
     let from = point_at(part.at.x, y, sheet.by());
     let columns = &mut line[..4 * part.at.w];
-    draw_row(sheet, tile, from, part.at.w, columns, spare);
+    draw_row(sheet, tile, from, part.at.w, columns);
     image_over_area(row, width, 1, part.at, columns, part.at.w, 1, 0, 0);
 }
 
 /// Lays a layer over row `y` of the screen, whose tiles have this side: over as many pixels as `width`
-/// says, at most 2048. What `line` and `spare` hold afterwards is not said.
+/// says, at most 2048. What `line` holds afterwards is not said.
 pub(crate) fn lay_over(
     sheet: &Sheet,
     tile: u32,
@@ -119,18 +116,16 @@ pub(crate) fn lay_over(
     y: u32,
     row: &mut [u8],
     line: &mut [u8],
-    spare: &mut [u8],
 )
     requires cut { 1 ≤ tile }
     requires few { width ≤ 2048 }
     requires down { y ≤ 2047 }
     requires size { length row.old ≡ 4 * width }
     requires line { 4 * width ≤ length line.old }
-    requires room { 4 * width ≤ length spare.old }
     ensures pixels { (x : ℕ) → x < width → pixel row.new x ≡ blend (pixel row.old x) (colour_in tile (pos x) (pos y) sheet.now) }
     ensures premultiplied { ArePremultiplied row.old → ArePremultiplied row.new }
 {
     if let Some(part) = shared_part(sheet.area(), screen_row(width, y)) {
-        lay_part(sheet, tile, width, y, part, row, line, spare);
+        lay_part(sheet, tile, width, y, part, row, line);
     }
 }

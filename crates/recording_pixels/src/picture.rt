@@ -38,7 +38,7 @@ fn behind_row<'a>(row: &[u8], w: usize, bytes: &'a [u8]) -> Option<&'a [u8]>
     Some(rest)
 }
 
-// Paints the first w pixels of row y of the screen. What `line` and `spare` hold afterwards is not said.
+// Paints the first w pixels of row y of the screen. What `line` holds afterwards is not said.
 fn paint_row(
     alloc: Global,
     sheets: &[Sheet],
@@ -48,25 +48,23 @@ fn paint_row(
     y: u32,
     row: &mut [u8],
     line: &mut [u8],
-    spare: &mut [u8],
 ) -> Result<(), AllocError>
     requires cut { 1 ≤ tile }
     requires few { w ≤ 2048 }
     requires down { y ≤ 2047 }
     requires size { length row.old ≡ 4 * w }
     requires line { 4 * w ≤ length line.old }
-    requires room { 4 * w ≤ length spare.old }
     ensures pixels { OnOk result ((p : Page) (offset : ℕ → Point) (missing : List Key) → ReadyShows p offset missing (ready tile sheets.now) →
         (x : ℕ) → x < w → pixel row.new x ≡ pixel_of p offset missing background x y) }
     ensures premultiplied { ArePremultiplied row.new }
 {
     fill_row(row, background);
-    paint_from(alloc, sheets, 0, tile, w, y, row, line, spare)?;
+    paint_from(alloc, sheets, 0, tile, w, y, row, line)?;
     Ok(())
 }
 
 // What stands after the first w pixels of each of the first h rows of the screen; None where the bytes do
-// not begin with them. What `row`, `line` and `spare` hold afterwards is not said.
+// not begin with them. What `row` and `line` hold afterwards is not said.
 fn behind_rows<'a>(
     alloc: Global,
     sheets: &[Sheet],
@@ -76,7 +74,6 @@ fn behind_rows<'a>(
     h: u32,
     row: &mut [u8],
     line: &mut [u8],
-    spare: &mut [u8],
     bytes: &'a [u8],
 ) -> Result<Option<&'a [u8]>, AllocError>
     requires cut { 1 ≤ tile }
@@ -84,13 +81,12 @@ fn behind_rows<'a>(
     requires height { h ≤ 2048 }
     requires size { length row.old ≡ 4 * w }
     requires line { 4 * w ≤ length line.old }
-    requires room { 4 * w ≤ length spare.old }
     ensures { IfOk result (λ rest. (p : Page) (offset : ℕ → Point) (missing : List Key) → ReadyShows p offset missing (ready tile sheets.now) →
         option_copied rest ≡ behind_each h (row_text (pixel_of p offset missing background) w) bytes.now) }
 {
     let mut rest = bytes;
     for y in 0..h {
-        paint_row(alloc, sheets, tile, background, w, y, row, line, spare)?;
+        paint_row(alloc, sheets, tile, background, w, y, row, line)?;
         match behind_row(row, w, rest) {
             None => return Ok(None),
             Some(next) => rest = next,
@@ -119,7 +115,6 @@ fn behind_pixels<'a>(
     let width = w as usize;
     let mut row = clear_row(alloc, width)?;
     let mut line = clear_row(alloc, width)?;
-    let mut spare = clear_row(alloc, width)?;
     let rest = behind_rows(
         alloc,
         sheets,
@@ -129,7 +124,6 @@ fn behind_pixels<'a>(
         h,
         row.as_mut_slice(),
         line.as_mut_slice(),
-        spare.as_mut_slice(),
         bytes,
     )?;
     Ok(rest)

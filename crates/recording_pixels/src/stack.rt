@@ -61,7 +61,7 @@ fn fade_over(row: &mut [u8], width: usize, inner: &[u8], opacity: u8)
 
 /// Layers, those of one effect with their groups from a depth on, laid over row `y` of the screen in order.
 /// Layers that stand together in a group are blended from transparent, faded by the group's opacity, and laid
-/// over what stands below them. What `line` and `spare` hold afterwards is not said. An error means out of
+/// over what stands below them. What `line` holds afterwards is not said. An error means out of
 /// memory.
 pub(crate) fn paint_from(
     alloc: Global,
@@ -72,7 +72,6 @@ pub(crate) fn paint_from(
     y: u32,
     row: &mut [u8],
     line: &mut [u8],
-    spare: &mut [u8],
 ) -> Result<(), AllocError>
     requires deep { depth ≤ 256 }
     requires cut { 1 ≤ tile }
@@ -80,7 +79,6 @@ pub(crate) fn paint_from(
     requires down { y ≤ 2047 }
     requires size { length row.old ≡ 4 * width }
     requires line { 4 * width ≤ length line.old }
-    requires room { 4 * width ≤ length spare.old }
     ensures pixels { OnOk result ((opacity : ℕ → ℕ) (x : ℕ) → HaveOpacities opacity sheets.now → x < width →
         pixel row.new x ≡ folded opacity (items_at effects_of (colour_in tile (pos x) (pos y)) depth sheets.now) (pixel row.old x)) }
     ensures premultiplied { ArePremultiplied row.old → ArePremultiplied row.new }
@@ -89,7 +87,7 @@ pub(crate) fn paint_from(
     while let Some((first, tail)) = rest.split_first() {
         match first.group(depth) {
             None => {
-                lay_over(first, tile, width, y, row, line, spare);
+                lay_over(first, tile, width, y, row, line);
                 rest = tail;
             }
             Some(group) => {
@@ -104,7 +102,6 @@ pub(crate) fn paint_from(
                     y,
                     inner.as_mut_slice(),
                     line,
-                    spare,
                 )?;
                 fade_over(row, width, inner.as_slice(), group.opacity);
                 rest = after;

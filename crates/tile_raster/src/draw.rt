@@ -21,37 +21,27 @@ pub(crate) fn draw_items(
     places: &[u32],
     kept: usize,
     bytes: &mut [u8],
-    scratch: &mut [u8],
 )
     requires rect { IsSound rect }
     requires steps { AreSteps (AreLevel list.now rect) (near rect.h) places.now }
     requires kept { IsCount places.now kept }
     requires size { length bytes.old ≡ 4 * (near rect.w * kept) }
-    requires room { 4 * near rect.w ≤ length scratch.old }
     requires blank { (k : ℕ) → k < near rect.w * kept → pixel bytes.old k ≡ clear }
     requires premultiplied { ArePremultiplied bytes.old }
     ensures { AreKept list.now rect places.now bytes.new }
 {
     for item in list.items() {
-        draw_item(item, rect, places, kept, bytes, scratch);
+        draw_item(item, rect, places, kept, bytes);
     }
 }
 
 // draws an item into the rows that are kept
-fn draw_item(
-    item: &Item,
-    rect: Rect,
-    places: &[u32],
-    kept: usize,
-    bytes: &mut [u8],
-    scratch: &mut [u8],
-)
+fn draw_item(item: &Item, rect: Rect, places: &[u32], kept: usize, bytes: &mut [u8])
     requires item { IsSoundItem item.now }
     requires rect { IsSound rect }
     requires steps { AreSteps (IsLevel item.now rect) (near rect.h) places.now }
     requires kept { IsCount places.now kept }
     requires size { length bytes.old ≡ 4 * (near rect.w * kept) }
-    requires room { 4 * near rect.w ≤ length scratch.old }
     ensures pixels { (x y : ℕ) → x < near rect.w → y < near rect.h
         → pixel bytes.new (slice_index places.now y * near rect.w + x)
         ≡ painted (rect.x +ℤ pos x) (rect.y +ℤ pos y) (pixel bytes.old (slice_index places.now y * near rect.w + x)) item.now }
@@ -63,30 +53,22 @@ fn draw_item(
     let width = width_of(rect);
     let at = kept_part(part.at, places, kept);
     match item {
-        Item::Rect { colour, .. } => draw_colour(bytes, width, kept, at, *colour, scratch),
+        Item::Rect { colour, .. } => draw_colour(bytes, width, kept, at, *colour),
         Item::Bitmap(bitmap) => draw_bitmap(bytes, width, kept, at, bitmap, part),
     }
 }
 
 // lays one colour over an area of rows
-fn draw_colour(
-    bytes: &mut [u8],
-    width: usize,
-    kept: usize,
-    at: Area,
-    colour: Colour,
-    scratch: &mut [u8],
-)
+fn draw_colour(bytes: &mut [u8], width: usize, kept: usize, at: Area, colour: Colour)
     requires size { length bytes.old ≡ 4 * (width * kept) }
     requires inside { IsInside at width kept }
-    requires room { 4 * width ≤ length scratch.old }
     ensures pixels { EachPixel width kept (within_rows at at.h (λ x y below. blend below colour)) bytes.old bytes.new }
     ensures premultiplied { ArePremultiplied bytes.old → ArePremultiplied bytes.new }
 {
     if colour.a() == 255 {
         fill_area(bytes, width, kept, at, colour);
     } else {
-        colour_over_area(bytes, width, kept, at, colour, scratch);
+        colour_over_area(bytes, width, kept, at, colour);
     }
 }
 

@@ -143,15 +143,7 @@ fn drawn_rows(
     let width = width_of(rect);
     let kept = kept_count(places);
     let mut bytes = clear_rows(alloc, width, kept)?;
-    let mut scratch = clear_rows(alloc, width, 1)?;
-    draw_items(
-        list,
-        rect,
-        places,
-        kept,
-        bytes.as_mut_slice(),
-        scratch.as_mut_slice(),
-    );
+    draw_items(list, rect, places, kept, bytes.as_mut_slice());
     Ok(bytes)
 }
 

@@ -11,7 +11,7 @@ use Rattle.pixel.specs.Rows.{AreOpaque, AreClear, alpha_place}
 use Rattle.pixel.specs.Colours.{blend, clear, scaled, times_255}
 use Rattle.pixel.proofs.Blends.{opaque_hides, clear_shows}
 use Rattle.pixel.proofs.Fills.{same_parts}
-use Rattle.pixel.proofs.Parts.{part_like}
+use Rattle.pixel.proofs.Parts.{part_like, part_more}
 use Rattle.pixel.proofs.Steps.{row_step}
 use Rattle.viz_surface.specs.inner.Columns.{columns_of}
 
@@ -22,25 +22,6 @@ nothing_changed k g old = record {
   before = λ i lt. refl;
   behind = λ i le. refl;
   premultiplied = λ ready. ready;
-}
-
--- the run after it was changed too
-pub part_more : (k n m : ℕ) (g h : ℕ → Parts → Parts) (old mid new : List ℕ) → IsPart k n g old mid → IsPart (k + n) m h mid new
-    → ((j : ℕ) (below : Parts) → j < m → h j below ≡ g (n + j) below) → IsPart k (n + m) g old new
-part_more k n m g h old mid new one two same = record {
-  inside = λ j lt.
-      elim (cases_lt j n) as (λ _. pixel new (k + j) ≡ g j (pixel old (k + j))) [
-        | inl low ↦ two.before (k + j) (omega arith) ∙ one.inside j low
-        | inr from ↦
-            let here : k + n + (j - n) ≡ k + j = omega arith in
-            let there : n + (j - n) ≡ j = omega arith in
-            let was = one.behind (k + n + (j - n)) (omega arith) in
-            let now = two.inside (j - n) (omega arith) ∙ same (j - n) (pixel mid (k + n + (j - n))) (omega arith) ∙ ap (g (n + (j - n))) was in
-            subst (λ (i : ℕ). pixel new i ≡ g j (pixel old i)) here (now ∙ ap (λ (i : ℕ). g i (pixel old (k + n + (j - n)))) there)
-      ];
-  before = λ i lt. two.before i (omega arith) ∙ one.before i lt;
-  behind = λ i le. two.behind i (omega arith) ∙ one.behind i (omega arith);
-  premultiplied = λ ready. two.premultiplied (one.premultiplied ready);
 }
 
 -- the same at the start

@@ -1,2 +1,1 @@
-mod FourPixels
 mod Areas

@@ -6,10 +6,10 @@ ghost use Rattle.pixel.specs.Colours.{blend};
 ghost use Rattle.pixel.specs.Rows.{pixel, ArePremultiplied};
 ghost use Rattle.pixel.specs.Surfaces.{IsPart};
 
-use crate::four::{four_at, lay_four, lay_one};
 use crate::sixteen::are_sixteen_clear;
-use crate::vectors::scaled;
 use pixel::colour_at;
+use pixel::four::{four_at, lay_four, lay_one};
+use pixel::vectors::scaled;
 
 /// Lays the pixels of a pass, faded to an opacity, over those of a surface: as many as the surface has.
 pub fn faded_over(surface: &mut [u8], pass: &[u8], opacity: u8)

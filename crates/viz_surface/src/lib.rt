@@ -5,15 +5,11 @@
 //! another surface, each sixteen bytes at a time and without rows made for it.
 #![tactic(auto)]
 
-mod colour;
 mod fade;
-mod four;
 mod place;
 mod rows;
 mod sixteen;
-mod vectors;
 
-pub use colour::colour_over_area;
 pub use fade::faded_over;
 pub use rows::rows_over_area;
 pub use sixteen::are_sixteen_opaque;

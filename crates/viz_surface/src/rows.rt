@@ -7,12 +7,11 @@ ghost use Rattle.pixel.specs.LaneBytes.{IsBytes};
 ghost use Rattle.pixel.specs.Surfaces.{IsPart, IsInside, EachPixel, within_rows};
 ghost use Rattle.viz_surface.specs.inner.Columns.{columns_of};
 
-use crate::colour::colour_over_area;
-use crate::four::{four_at, lay_four, put_four};
 use crate::place::place_of;
 use crate::sixteen::{are_sixteen_clear, are_sixteen_opaque, opaque_run};
+use pixel::four::{four_at, lay_four, put_four};
 use pixel::lanes::{are_clear, are_opaque};
-use pixel::{Area, colour_at, over_row};
+use pixel::{Area, colour_at, colour_over_area, over_row};
 use std::simd::prelude::*;
 
 /// Lays the pixels of a row, from its pixel `from` on, over each row of an area of a surface.

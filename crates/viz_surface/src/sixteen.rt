@@ -4,7 +4,7 @@ ghost use Rattle.std.specs.Prelude.{◌≡◌, ℕ, ◌+◌, ◌*◌, ◌<◌, �
 ghost use Rattle.pixel.specs.Colours.{Parts, blend, clear};
 ghost use Rattle.pixel.specs.Rows.{pixel, ArePremultiplied};
 
-use crate::four::four_at;
+use pixel::four::four_at;
 use pixel::lanes::{are_clear, are_opaque};
 
 /// Whether sixteen pixels of a row, from pixel `k` on, are opaque.

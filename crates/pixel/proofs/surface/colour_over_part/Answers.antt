@@ -1,16 +1,23 @@
--- The run with the colour over it stands in place of the run before.
-use Rattle.std.proofs.Common.{◌+◌, ◌-◌, ◌*◌, take, drop, arith, ap, ◌∙◌}
+-- The run grows by the pixels that the colour is laid over.
+use Rattle.std.proofs.Common.{ap, arith, refl}
 use Rattle.pixel.specs.Colours.{blend}
 use Rattle.pixel.specs.Rows.{pixel}
-use Rattle.pixel.proofs.Parts.{part_made, run_length, laid_pixel}
+use Rattle.pixel.proofs.Parts.{part_more}
 use Rattle.pixel.proofs.surface.colour_over_part.Goals as goal
 
-pub returns : goal.returns
-returns c =
-    let long = run_length c.args.k c.args.n c.args.surface.now (omega arith) in
-    let old = take (4 * (c.args.k + c.args.n) - 4 * c.args.k) (drop (4 * c.args.k) c.args.surface.now) in
-    part_made c.args.k c.args.n (λ j below. blend below c.args.colour) c.args.surface.now c.over_row.new.dst (omega arith) (omega arith)
-    (λ j lt.
-    laid_pixel (4 * c.args.n) old c.args.source.now c.over_row.new.dst (λ i short. c.over_row.ensures.bytes i (omega (arith, long))) j (omega arith)
-    ∙ ap (blend (pixel old j)) (c.requires.same j lt))
-    c.over_row.ensures.premultiplied
+pub fours-preserved : goal.fours-preserved
+fours-preserved c = record {
+  inside = omega (arith, c.fours-test.true);
+  part =
+      part_more c.args.k c.fours.done 4 (λ j below. blend below c.args.colour) (λ j below. blend below (pixel c.four_of-pixels.result j)) c.args.surface.now
+      c.fours.surface c.lay_four.new.surface c.fours.invariant.part c.lay_four.ensures
+      (λ j below lt. ap (blend below) (c.four_of-pixels.ensures.pixels j lt));
+}
+
+pub ones-preserved : goal.ones-preserved
+ones-preserved c = record {
+  inside = omega (arith, c.ones-test.true);
+  part =
+      part_more c.args.k c.ones.done 1 (λ j below. blend below c.args.colour) (λ j below. blend below c.args.colour) c.args.surface.now
+      c.ones.surface c.lay_one.new.surface c.ones.invariant.part c.lay_one.ensures (λ j below lt. refl);
+}

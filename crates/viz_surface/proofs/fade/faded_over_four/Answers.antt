@@ -3,7 +3,7 @@ use Rattle.std.proofs.Common.{◌+◌, ap, ◌∙◌}
 use Rattle.pixel.specs.Colours.{Parts, blend, scaled}
 use Rattle.pixel.specs.Rows.{pixel}
 use Rattle.pixel.proofs.Parts.{part_like}
-use Rattle.viz_surface.proofs.FourPixels.{scaled_pixel}
+use Rattle.pixel.proofs.FourPixels.{scaled_pixel}
 use Rattle.viz_surface.proofs.fade.faded_over_four.Goals as goal
 
 pub returns : goal.returns

@@ -5,12 +5,12 @@ ghost use Rattle.pixel.specs.Colours.{above, times_255};
 ghost use Rattle.pixel.specs.Rows.{alpha_place, ArePremultiplied};
 ghost use Rattle.pixel.specs.LaneBytes.{IsBytes};
 
-use pixel::lanes::{faded, shown};
+use crate::lanes::{faded, shown};
 use std::simd::prelude::*;
 
 /// Four pixels laid over four others.
 #[inline(always)]
-pub(crate) fn laid(below: u8x16, over: u8x16) -> u8x16
+pub fn laid(below: u8x16, over: u8x16) -> u8x16
     requires below { IsBytes below }
     requires over { IsBytes over }
     requires premultiplied { ArePremultiplied over }
@@ -22,7 +22,7 @@ pub(crate) fn laid(below: u8x16, over: u8x16) -> u8x16
 
 /// Four pixels faded to an opacity.
 #[inline(always)]
-pub(crate) fn scaled(pixels: u8x16, opacity: u8) -> u8x16
+pub fn scaled(pixels: u8x16, opacity: u8) -> u8x16
     requires pixels { IsBytes pixels }
     requires premultiplied { ArePremultiplied pixels }
     ensures bytes { IsBytes result }

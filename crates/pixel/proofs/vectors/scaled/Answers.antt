@@ -1,6 +1,6 @@
 -- Each byte is faded.
-use Rattle.viz_surface.proofs.FourPixels.{scaled_bytes, scaled_premultiplied}
-use Rattle.viz_surface.proofs.vectors.scaled.Goals as goal
+use Rattle.pixel.proofs.FourPixels.{scaled_bytes, scaled_premultiplied}
+use Rattle.pixel.proofs.vectors.scaled.Goals as goal
 
 pub returns-clause-bytes : goal.returns-clause-bytes
 returns-clause-bytes c =

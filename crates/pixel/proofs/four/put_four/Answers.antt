@@ -1,8 +1,8 @@
 -- The four pixels stand in place of those before.
 use Rattle.std.proofs.Common.{refl}
 use Rattle.pixel.specs.Rows.{pixel}
-use Rattle.viz_surface.proofs.FourPixels.{four_made}
-use Rattle.viz_surface.proofs.four.put_four.Goals as goal
+use Rattle.pixel.proofs.FourPixels.{four_made}
+use Rattle.pixel.proofs.four.put_four.Goals as goal
 
 pub returns : goal.returns
 returns c =

@@ -1,7 +1,7 @@
 use Rattle.std.proofs.Common.{◌≤◌, ◌-◌}
 use Rattle.pixel.specs.Colours.{blend}
 use Rattle.pixel.specs.Surfaces.{IsPart}
-use Rattle.viz_surface.proofs.colour.colour_over_run.Given as given
+use Rattle.pixel.proofs.surface.colour_over_part.Given as given
 
 abbrev pub invariant-fours : given.invariant-fours
 invariant-fours l = record {

@@ -6,8 +6,8 @@ use Rattle.pixel.specs.Colours.{blend}
 use Rattle.pixel.specs.Rows.{pixel}
 use Rattle.pixel.proofs.LaneWise.{loaded}
 use Rattle.pixel.proofs.Parts.{pixel_taken, run_premultiplied, laid_pixel}
-use Rattle.viz_surface.proofs.FourPixels.{four_made, laid_premultiplied}
-use Rattle.viz_surface.proofs.four.lay_four.Goals as goal
+use Rattle.pixel.proofs.FourPixels.{four_made, laid_premultiplied}
+use Rattle.pixel.proofs.four.lay_four.Goals as goal
 
 pub laid-requires-clause-below : goal.laid-requires-clause-below
 laid-requires-clause-below c = loaded c.args.surface.now (4 * c.args.k) (omega (arith, c.requires.inside)) c.type_inv.surface

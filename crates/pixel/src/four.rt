@@ -1,4 +1,4 @@
-//! Four pixels of a surface, and one.
+//! Four pixels of a surface at a time, and one.
 
 ghost use Rattle.std.specs.Prelude.{◌≡◌, ℕ, ◌+◌, ◌*◌, ◌<◌, ◌≤◌, length, slice_index};
 ghost use Rattle.pixel.specs.Colours.{blend};
@@ -6,13 +6,15 @@ ghost use Rattle.pixel.specs.Rows.{pixel, ArePremultiplied};
 ghost use Rattle.pixel.specs.LaneBytes.{IsBytes};
 ghost use Rattle.pixel.specs.Surfaces.{IsPart};
 
+use crate::colour::Colour;
+use crate::lanes::four_pixels;
+use crate::row::{fill_row, over_row};
 use crate::vectors::laid;
-use pixel::{Colour, fill_row, over_row};
 use std::simd::prelude::*;
 
 /// The four pixels of a row from pixel `k` on.
 #[inline(always)]
-pub(crate) fn four_at(row: &[u8], k: usize) -> u8x16
+pub fn four_at(row: &[u8], k: usize) -> u8x16
     requires inside { 4 * (k + 4) ≤ length row.now }
     requires premultiplied { ArePremultiplied row.now }
     ensures bytes { IsBytes result }
@@ -24,7 +26,7 @@ pub(crate) fn four_at(row: &[u8], k: usize) -> u8x16
 
 /// Gives the four pixels of a surface from pixel `k` on those of a vector.
 #[inline(always)]
-pub(crate) fn put_four(surface: &mut [u8], k: usize, pixels: u8x16)
+pub fn put_four(surface: &mut [u8], k: usize, pixels: u8x16)
     requires inside { 4 * (k + 4) ≤ length surface.old }
     requires bytes { IsBytes pixels }
     requires premultiplied { ArePremultiplied pixels }
@@ -35,7 +37,7 @@ pub(crate) fn put_four(surface: &mut [u8], k: usize, pixels: u8x16)
 
 /// Lays the four pixels of a vector over those of a surface from pixel `k` on.
 #[inline(always)]
-pub(crate) fn lay_four(surface: &mut [u8], k: usize, pixels: u8x16)
+pub fn lay_four(surface: &mut [u8], k: usize, pixels: u8x16)
     requires inside { 4 * (k + 4) ≤ length surface.old }
     requires bytes { IsBytes pixels }
     requires premultiplied { ArePremultiplied pixels }
@@ -47,11 +49,21 @@ pub(crate) fn lay_four(surface: &mut [u8], k: usize, pixels: u8x16)
 
 /// Lays a colour over pixel `k` of a surface.
 #[inline(always)]
-pub(crate) fn lay_one(surface: &mut [u8], k: usize, colour: Colour)
+pub fn lay_one(surface: &mut [u8], k: usize, colour: Colour)
     requires { 4 * (k + 1) ≤ length surface.old }
     ensures { IsPart k 1 (λ j below. blend below colour) surface.old surface.new }
 {
     let mut pixel = [0u8; 4];
     fill_row(&mut pixel, colour);
     over_row(&mut surface[4 * k..4 * (k + 1)], &pixel);
+}
+
+/// Four pixels of one colour.
+#[inline(always)]
+pub fn four_of(colour: Colour) -> u8x16
+    ensures bytes { IsBytes result }
+    ensures pixels { (j : ℕ) → j < 4 → pixel result j ≡ colour }
+    ensures premultiplied { ArePremultiplied result }
+{
+    four_pixels(colour)
 }

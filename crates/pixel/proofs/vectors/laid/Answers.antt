@@ -2,8 +2,8 @@
 use Rattle.std.proofs.Common.{◌∙◌, sym}
 use Rattle.std.proofs.lemmas.Simd.{length-zip2}
 use Rattle.pixel.proofs.LaneWise.{sum_8}
-use Rattle.viz_surface.proofs.FourPixels.{laid_lane}
-use Rattle.viz_surface.proofs.vectors.laid.Goals as goal
+use Rattle.pixel.proofs.FourPixels.{laid_lane}
+use Rattle.pixel.proofs.vectors.laid.Goals as goal
 
 pub returns-clause-lanes : goal.returns-clause-lanes
 returns-clause-lanes c =

@@ -2,7 +2,7 @@
 use Rattle.std.proofs.Common.{refl, arith, ◌*◌}
 use Rattle.pixel.proofs.LaneWise.{loaded}
 use Rattle.pixel.proofs.Parts.{pixel_taken, run_premultiplied}
-use Rattle.viz_surface.proofs.four.four_at.Goals as goal
+use Rattle.pixel.proofs.four.four_at.Goals as goal
 
 pub returns-clause-bytes : goal.returns-clause-bytes
 returns-clause-bytes c = loaded c.args.row.now (4 * c.args.k) (omega (arith, c.requires.inside)) c.type_inv.row

@@ -3,7 +3,7 @@ use Rattle.std.proofs.Common.{◌+◌, ◌-◌, ◌*◌, take, drop, arith, ap, 
 use Rattle.pixel.specs.Colours.{blend}
 use Rattle.pixel.specs.Rows.{pixel}
 use Rattle.pixel.proofs.Parts.{part_made, run_length, laid_pixel}
-use Rattle.viz_surface.proofs.four.lay_one.Goals as goal
+use Rattle.pixel.proofs.four.lay_one.Goals as goal
 
 pub returns : goal.returns
 returns c =
