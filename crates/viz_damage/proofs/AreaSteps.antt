@@ -1,7 +1,7 @@
 -- Rects that hold others.
-use Rattle.std.proofs.Common.{◌≡◌, ℕ, zero, suc, ◌+◌, ◌<◌, ℤ, ◌+ℤ◌, ◌≤ℤ◌, Bool, true, false, ◌||◌, List, [], ◌∷◌, ◌++◌, length, get_or, take, drop, refl, sym, ◌∙◌, ap, add-one, drop-cons, arith}
+use Rattle.std.proofs.Common.{◌≡◌, ℕ, zero, suc, ◌+◌, ◌<◌, ℤ, ◌+ℤ◌, ◌≤ℤ◌, Bool, true, false, ◌||◌, List, [], ◌∷◌, ◌++◌, length, get_or, take, drop, set, refl, sym, ◌∙◌, ap, add-one, drop-cons, arith}
 use Rattle.std.proofs.lemmas.Int.{ints}
-use Rattle.std.proofs.lemmas.List.{take-append-drop}
+use Rattle.std.proofs.lemmas.List.{take-append-drop, take-set, drop-set}
 use Rattle.std.proofs.lemmas.List.Folds.{list_any-append}
 use Rattle.geom.specs.declared.Rect.{Rect}
 use Rattle.geom.specs.Covers.{covers, within}
@@ -39,6 +39,25 @@ joined_holds rs rest i r area whole lt e f first second x y h =
     (ap (λ ss. covered ss x y) (out_of rs i r lt e) ∙ list_any-append (λ s. covers s x y) (take i rs) (r ∷ drop (i + 1) rs)
     ∙ neither_of (covered (take i rs) x y) (covered (r ∷ drop (i + 1) rs) x y) p.0
     (neither_of (covers r x y) (covered (drop (i + 1) rs) x y) (second x y k.0) p.1))
+
+-- rects of which one is put in the place of another
+set_at : (rs : List Rect) (i : ℕ) (whole : Rect) → i < length rs → set rs i whole ≡ take i rs ++ whole ∷ drop (i + 1) rs
+set_at rs i whole lt =
+    sym (take-append-drop i (set rs i whole))
+    ∙ ap (λ (ts : List Rect). ts ++ drop i (set rs i whole)) (take-set rs i whole)
+    ∙ ap (λ (ts : List Rect). take i rs ++ ts) (drop-set rs i whole lt)
+
+-- a rect that holds an area, and the rect in whose place it is put
+pub set_holds : (rs : List Rect) (i : ℕ) (r area whole : Rect) → i < length rs → r ≡ get_or rs i r
+    → Holds whole r → Holds whole area → HoldAll (set rs i whole) (area ∷ rs)
+set_holds rs i r area whole lt e first second x y h =
+    let parts = sym (ap (λ ss. covered ss x y) (set_at rs i whole lt) ∙ list_any-append (λ s. covers s x y) (take i rs) (whole ∷ drop (i + 1) rs)) ∙ h in
+    let p = neither (covered (take i rs) x y) (covered (whole ∷ drop (i + 1) rs) x y) parts in
+    let k = neither (covers whole x y) (covered (drop (i + 1) rs) x y) p.1 in
+    neither_of (covers area x y) (covered rs x y) (second x y k.0)
+    (ap (λ ss. covered ss x y) (out_of rs i r lt e) ∙ list_any-append (λ s. covers s x y) (take i rs) (r ∷ drop (i + 1) rs)
+    ∙ neither_of (covered (take i rs) x y) (covered (r ∷ drop (i + 1) rs) x y) p.0
+    (neither_of (covers r x y) (covered (drop (i + 1) rs) x y) (first x y k.0) k.1))
 
 pub holds_through : (rs ss ts : List Rect) → HoldAll rs ss → HoldAll ss ts → HoldAll rs ts
 holds_through rs ss ts f g x y h = g x y (f x y h)

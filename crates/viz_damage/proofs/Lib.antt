@@ -3,3 +3,4 @@ pub mod QuadSteps
 pub mod ListSteps
 pub mod PassSteps
 pub mod SceneSteps
+pub mod MovedSteps

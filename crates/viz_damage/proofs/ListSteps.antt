@@ -33,6 +33,17 @@ changed reaches damage first second qs qs2 rs rs2 holds more d gone come x y h p
     let out = more x y h in
     gone x y out passes clears below ∙ d x y (holds x y out) passes clears below ∙ sym (come x y h passes clears below)
 
+-- a quad that stands in the place of another
+pub changed_one : (reaches damage more : List Rect) (olds news : List Quad) (i j : ℕ) (q r : Quad) → i < length olds → j < length news
+    → q ≡ get_or olds i q → r ≡ get_or news j r → HoldAll more damage → DifferWithin reaches more (quad_view q ∷ []) (quad_view r ∷ [])
+    → DifferWithin reaches damage (take i (quads_view olds)) (take j (quads_view news))
+    → DifferWithin reaches more (take (i + 1) (quads_view olds)) (take (j + 1) (quads_view news))
+changed_one reaches damage more olds news i j q r lt less e f held one d x y out passes clears below =
+    over_more passes x y below olds i q lt e
+    ∙ one x y out passes clears (quads_over passes x y below (take i (quads_view olds)))
+    ∙ ap (λ (c : Parts). quad_over passes x y c (quad_view r)) (d x y (held x y out) passes clears below)
+    ∙ sym (over_more passes x y below news j r less f)
+
 -- one more area
 pub area_more : (reaches damage more : List Rect) (area : Rect) (quads : List Quad) (start i : ℕ) (q : Quad) → i < length quads → q ≡ get_or quads i q
     → HoldAll more (area ∷ damage) → ActWithin reaches (area ∷ []) (quad_view q ∷ [])

@@ -11,6 +11,9 @@ use viz_scene::{hull, is_empty};
 // how many rects damage is kept as at most
 const MOST_RECTS: usize = 16;
 
+// the same where rows of tiles are added
+const MOST_ROWS: usize = 64;
+
 /// Adds an area to damage, unless a rect of it holds the area. It is joined with what it costs least to join
 /// with, as long as that costs nothing or there are too many rects.
 pub(crate) fn add_area(damage: &mut Vec<Rect>, area: Rect) -> Result<(), AllocError>
@@ -29,6 +32,54 @@ pub(crate) fn add_area(damage: &mut Vec<Rect>, area: Rect) -> Result<(), AllocEr
     }
     damage.push(whole)?;
     Ok(())
+}
+
+/// Adds some rows to damage: to the rect that stands left of them on the same rows, else as a rect of its own, as long as
+/// there are few. `hint` is where that rect is looked for first, and then the place after it: the rows of a tile are
+/// added in the order in which those of the tile left of it were.
+pub(crate) fn add_rows(
+    damage: &mut Vec<Rect>,
+    hint: &mut usize,
+    rows: Rect,
+) -> Result<(), AllocError>
+    requires damage { All IsOnScreen damage.old.items }
+    requires rows { IsOnScreen rows }
+    ensures held { OnOk result (HoldAll damage.new.items (rows ∷ damage.old.items)) }
+    ensures damage { All IsOnScreen damage.new.items }
+{
+    if is_empty(rows) {
+        return Ok(());
+    }
+    if let Some(place) = place_beside(damage, *hint, rows) {
+        damage[place] = hull(damage[place], rows);
+        *hint = place + 1;
+        return Ok(());
+    }
+    if damage.len() < MOST_ROWS {
+        damage.push(rows)?;
+        return Ok(());
+    }
+    add_area(damage, rows)
+}
+
+// which rect of the same rows ends where some rows begin; looked for at a place first
+fn place_beside(damage: &[Rect], hint: usize, rows: Rect) -> Option<usize>
+    ensures { IfSome result (λ place. place < length damage.now) }
+{
+    if hint < damage.len() && is_beside(damage[hint], rows) {
+        return Some(hint);
+    }
+    for place in 0..damage.len() {
+        if is_beside(damage[place], rows) {
+            return Some(place);
+        }
+    }
+    None
+}
+
+// whether some rows begin where a rect of the same rows ends
+fn is_beside(rect: Rect, rows: Rect) -> bool {
+    rect.y == rows.y && rect.h == rows.h && rect.x.saturating_add(rect.w) == rows.x
 }
 
 // whether one of some rects holds an area

@@ -151,8 +151,8 @@ pub(crate) fn is_same_point(a: Point, b: Point) -> bool
     is_same_number(a.x, b.x) && is_same_number(a.y, b.y)
 }
 
-// whether two numbers are one
-fn is_same_number(a: i32, b: i32) -> bool
+/// Whether two numbers are one.
+pub(crate) fn is_same_number(a: i32, b: i32) -> bool
     ensures { IsTrue result → a ≡ b }
 {
     a == b

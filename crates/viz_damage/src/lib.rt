@@ -1,10 +1,10 @@
 //! Where two scenes may differ: the part of a frame that is to be drawn again.
 //!
 //! Quads of a pass are compared in drawing order with those of the same pass before. A quad that both passes
-//! have costs nothing; the rect of each other quad, old or new, is damaged. A group is damaged where its own
-//! quads are, so a change inside a pass stays within what that pass changed. The damage is a few rects: two
-//! are joined where the rect of both is no larger than they are together. Whether two scenes are one is told
-//! by less work.
+//! have costs nothing; the rect of each other quad, old or new, is damaged, or of a tile that moved up or down the
+//! rows that differ. A group is damaged where its own quads are, so a change inside a pass stays within what that
+//! pass changed. The damage is a few rects: two are joined where the rect of both is no larger than they are
+//! together. Whether two scenes are one is told by less work.
 //!
 //! In: two scenes of one size. Out: a region. Time grows with the number of quads, and with the items of the
 //! display lists of tiles that stand in both scenes; the bytes of bitmaps are read where they lie in a tile.
@@ -15,6 +15,7 @@ mod areas;
 mod damage;
 mod images;
 mod lists;
+mod moved;
 mod quads;
 mod same;
 

@@ -8,6 +8,7 @@ ghost use Rattle.viz_damage.specs.inner.Areas.{HoldAll};
 ghost use Rattle.viz_damage.specs.inner.Alike.{ActListsAlike, DifferWithin, GoOnAlike};
 
 use crate::areas::add_area;
+use crate::moved::add_change;
 use crate::quads::{act_alike, area_of, stand_for_one};
 use geom::Rect;
 use std::alloc::AllocError;
@@ -121,6 +122,13 @@ fn add_step(
 {
     let step = step_at(old, i, new, j, reaches.len());
     if step.act_alike {
+        return Ok(Places {
+            old: i + 1,
+            new: j + 1,
+        });
+    }
+    if step.gone == 1 && step.come == 1 {
+        add_change(&old[i], &new[j], reaches, damage)?;
         return Ok(Places {
             old: i + 1,
             new: j + 1,

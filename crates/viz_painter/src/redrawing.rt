@@ -4,7 +4,7 @@ ghost use Rattle.std.specs.Prelude.{◌≡◌, ℤ, false, None, IfSome, IfOk, O
 ghost use Rattle.geom.specs.Covers.{covers};
 ghost use Rattle.region.specs.Points.{covered};
 ghost use Rattle.viz_canvas.specs.Canvases.{IsOfSize};
-ghost use Rattle.viz_damage.specs.Damage.{screen};
+ghost use Rattle.viz_damage.specs.Damage.{screen, AreAlikeOutside};
 ghost use Rattle.viz_scroll_damage.specs.Moved.{IsShift};
 ghost use Rattle.viz_occlusion.specs.Culled.{IsCulled};
 ghost use Rattle.viz_painter.specs.Painters.{ShowsWhole, ShowsOutside};
@@ -12,7 +12,7 @@ ghost use Rattle.viz_painter.specs.inner.Helds.{culled_of};
 ghost use Rattle.viz_painter.specs.inner.Rests.{HasOutside, rest_in};
 
 use crate::held_scene::HeldScene;
-use crate::worth::pays;
+use crate::worth::{may_pay, pays};
 use geom::Rect;
 use region::Region;
 use std::alloc::{AllocError, Global};
@@ -166,15 +166,15 @@ fn left_of_change<F: PixelFormat>(
     ensures rest { IfOk result (λ left. ShowsOutside F.DEPTH F.bytes_of scene.now (rest_in left.damage left.moved) canvas.new) }
     ensures damage { IfOk result (λ left. HasOutside F.DEPTH F.bytes_of scene.now left.damage canvas.old) }
 {
+    let damage = damage_of(alloc, old, scene)?;
     match shift_of(old, scene) {
-        Some(shift) => left_of_shift(alloc, canvas, old, scene, shift),
-        None => {
-            let damage = damage_of(alloc, old, scene)?;
-            Ok(Left {
-                damage,
-                moved: None,
-            })
+        Some(shift) if may_pay(shift, scene.w(), &damage) => {
+            left_of_shift(alloc, canvas, old, scene, shift, damage)
         }
+        _ => Ok(Left {
+            damage,
+            moved: None,
+        }),
     }
 }
 
@@ -185,17 +185,18 @@ fn left_of_shift<F: PixelFormat>(
     old: &Scene,
     scene: &Scene,
     shift: Shift,
+    damage: Region,
 ) -> Result<Left, AllocError>
     requires wide { old.now.w ≡ scene.now.w }
     requires tall { old.now.h ≡ scene.now.h }
     requires shift { IsShift scene.now.h shift }
     requires shown { ShowsWhole F.DEPTH F.bytes_of old.now canvas.old }
+    requires damage { AreAlikeOutside damage old.now scene.now }
     ensures rest { IfOk result (λ left. ShowsOutside F.DEPTH F.bytes_of scene.now (rest_in left.damage left.moved) canvas.new) }
     ensures damage { IfOk result (λ left. HasOutside F.DEPTH F.bytes_of scene.now left.damage canvas.old) }
 {
     let rest = damage_of_shift(alloc, old, scene, shift)?;
-    let damage = damage_of(alloc, old, scene)?;
-    if !pays(&rest, &damage) {
+    if !pays(shift, scene.w(), &rest, &damage) {
         return Ok(Left {
             damage,
             moved: None,

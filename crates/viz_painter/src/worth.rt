@@ -1,10 +1,21 @@
 //! Whether moving rows of a canvas is worth it.
 
 use region::Region;
+use viz_scroll_damage::Shift;
 
-/// Whether what is left to draw once rows were moved has at most three quarters of the pixels that the damage has.
-pub(crate) fn pays(rest: &Region, damage: &Region) -> bool {
-    pixels_of(rest).saturating_mul(4) <= pixels_of(damage).saturating_mul(3)
+/// Whether moving the rows of a shift may be worth it: moving a pixel costs half of what drawing one does.
+pub(crate) fn may_pay(shift: Shift, width: u32, damage: &Region) -> bool {
+    moving_cost(shift, width) <= pixels_of(damage)
+}
+
+/// Whether moving the rows of a shift and drawing what is left then is worth it.
+pub(crate) fn pays(shift: Shift, width: u32, rest: &Region, damage: &Region) -> bool {
+    moving_cost(shift, width).saturating_add(pixels_of(rest)) <= pixels_of(damage)
+}
+
+// what moving the rows of a shift costs, in pixels that are drawn
+fn moving_cost(shift: Shift, width: u32) -> u64 {
+    (shift.count as u64).saturating_mul(width as u64) / 2
 }
 
 // how many pixels the rects of a region have, where they do not overlap

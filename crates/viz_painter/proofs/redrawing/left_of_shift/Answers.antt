@@ -4,12 +4,12 @@ use Rattle.viz_painter.proofs.redrawing.left_of_shift.Goals as goal
 
 pub returns-then-not-pays-clause-rest : goal.returns-then-not-pays-clause-rest
 returns-then-not-pays-clause-rest g c =
-    shown_outside g.F.PixelFormat.DEPTH g.F.PixelFormat.bytes_of c.args.old.now c.args.scene.now c.in_ok-damage.damage c.args.canvas.now
-    c.requires.wide c.requires.tall c.requires.shown c.in_ok-damage.ensures
+    shown_outside g.F.PixelFormat.DEPTH g.F.PixelFormat.bytes_of c.args.old.now c.args.scene.now c.args.damage c.args.canvas.now
+    c.requires.wide c.requires.tall c.requires.shown c.requires.damage
 
 pub returns-then-not-pays-clause-damage : goal.returns-then-not-pays-clause-damage
 returns-then-not-pays-clause-damage g c =
-    had_outside g.F.PixelFormat.DEPTH g.F.PixelFormat.bytes_of c.args.scene.now c.in_ok-damage.damage c.args.canvas.now (returns-then-not-pays-clause-rest g c)
+    had_outside g.F.PixelFormat.DEPTH g.F.PixelFormat.bytes_of c.args.scene.now c.args.damage c.args.canvas.now (returns-then-not-pays-clause-rest g c)
 
 pub returns-clause-rest : goal.returns-clause-rest
 returns-clause-rest g c =
@@ -18,6 +18,6 @@ returns-clause-rest g c =
 
 pub returns-clause-damage : goal.returns-clause-damage
 returns-clause-damage g c =
-    had_outside g.F.PixelFormat.DEPTH g.F.PixelFormat.bytes_of c.args.scene.now c.in_ok-damage.damage c.args.canvas.now
-    (shown_outside g.F.PixelFormat.DEPTH g.F.PixelFormat.bytes_of c.args.old.now c.args.scene.now c.in_ok-damage.damage c.args.canvas.now
-    c.requires.wide c.requires.tall c.requires.shown c.in_ok-damage.ensures)
+    had_outside g.F.PixelFormat.DEPTH g.F.PixelFormat.bytes_of c.args.scene.now c.args.damage c.args.canvas.now
+    (shown_outside g.F.PixelFormat.DEPTH g.F.PixelFormat.bytes_of c.args.old.now c.args.scene.now c.args.damage c.args.canvas.now
+    c.requires.wide c.requires.tall c.requires.shown c.requires.damage)
