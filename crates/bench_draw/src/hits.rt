@@ -32,7 +32,7 @@ const SCREEN: Rect = Rect {
 };
 
 /// How many layers a page has and how many nodes each of its property trees, which stand in chains.
-#[derive(Clone, Copy, Debug)]
+#[derive(Clone, Copy)]
 pub(crate) struct PageSize {
     /// The layers.
     pub(crate) layers: u32,

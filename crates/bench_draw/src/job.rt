@@ -12,7 +12,7 @@ pub(crate) const MOST_PIXELS: usize = 65536;
 pub(crate) const MOST_ITEMS: usize = 256;
 
 /// What the items of a list are.
-#[derive(Clone, Copy, Debug, PartialEq, Eq)]
+#[derive(Clone, Copy, PartialEq, Eq)]
 pub(crate) enum ItemKind {
     /// Opaque rects.
     Opaque,
@@ -23,7 +23,7 @@ pub(crate) enum ItemKind {
 }
 
 /// One job, done the given number of times.
-#[derive(Clone, Copy, Debug)]
+#[derive(Clone, Copy)]
 pub(crate) enum BenchJob {
     /// A row of the given number of pixels is laid over another.
     Over {

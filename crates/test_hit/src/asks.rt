@@ -12,7 +12,7 @@ use page_properties::Offsets;
 use std::alloc::{AllocError, Global};
 
 /// A question about a page.
-#[derive(Clone, Copy, Debug)]
+#[derive(Clone, Copy)]
 pub enum Question {
     /// Which layer a point hits.
     Target(Point),
