@@ -29,8 +29,9 @@ const MAIN: Post = Post::Second;
 
 const WORKERS: Post = Post::Third;
 
-// Wakes the others up that have something to do.
+// Says whether a tile may start, and wakes the others up that have something to do.
 fn wake(bell: &Bell, wakes: Wakes) {
+    bell.tell_work(wakes.may_start);
     if wakes.main {
         bell.ring_at(MAIN);
     }
@@ -48,7 +49,8 @@ fn wake_and_sleep<R: Wait>(rt: &R, bell: &Bell, wakes: Wakes, rung: u32) {
 /// Turns of the compositor on the calling thread, until one answers `Ended`, `Memory` or `WriteFault`, which is
 /// the answer. The others take their turns on threads of their own. The compositor rings the bell for the main side
 /// where it has sent a frame, and for the workers where it has begun a draw or is blocked, and a tile may start.
-/// Where it is blocked, it sleeps at the bell until another has entered an event, or for a moment.
+/// Where it is blocked, it sleeps at the bell until another has entered an event, or for a moment. The bell tells of
+/// work while a tile may start as far as the compositor knows.
 pub fn drive_compositor<R: Wait, K: SceneSink>(
     rt: &R,
     lock: &TurnLock<Core>,
@@ -76,8 +78,15 @@ pub fn drive_compositor<R: Wait, K: SceneSink>(
     unreachable!()
 }
 
+// Wakes the compositor up, and sleeps until it has sent another frame, or has since the count was read.
+fn ring_and_sleep<R: Wait>(rt: &R, bell: &Bell, rung: u32) {
+    bell.ring();
+    bell.wait_at(rt, MAIN, rung);
+}
+
 /// Turns of the main side, until the bell is closed, or one answers `Ended` or `Memory`. It rings the bell for the
-/// compositor where it has entered an event, and where it is blocked, it sleeps at the bell.
+/// compositor where it has entered an event. Then, and where it is blocked, it sleeps at the bell: the next frame is
+/// sent after the end of this one, so it rings again.
 pub fn drive_main<R: Wait>(rt: &R, lock: &TurnLock<Core>, bell: &Bell, main: &mut MainActor)
     requires { Of main.old.pass (MainIsReady lock.now.id main.old.host) }
     ensures { Of main.new.pass (MainIsReady lock.now.id main.new.host) }
@@ -88,7 +97,7 @@ pub fn drive_main<R: Wait>(rt: &R, lock: &TurnLock<Core>, bell: &Bell, main: &mu
             return;
         }
         match main.turn(rt, lock) {
-            Turned::Went => bell.ring(),
+            Turned::Went => ring_and_sleep(rt, bell, rung),
             Turned::Blocked => bell.wait_at(rt, MAIN, rung),
             Turned::Memory => return bell.ring_all(),
             Turned::Ended | Turned::WriteFault => return,
@@ -97,8 +106,26 @@ pub fn drive_main<R: Wait>(rt: &R, lock: &TurnLock<Core>, bell: &Bell, main: &mu
     unreachable!()
 }
 
+// A turn of a worker, where the bell tells of work. Where it does not, the answer is that of a worker that might start
+// no tile, which it then does not ask.
+fn seek<R: Wait, G: Gate>(
+    rt: &R,
+    lock: &TurnLock<Core>,
+    bell: &Bell,
+    worker: &mut RasterActor<G>,
+) -> Turned
+    requires { Of worker.old.pass (WorkIsReady lock.now.id worker.old.worker) }
+    ensures { Of worker.new.pass (WorkIsReady lock.now.id worker.new.worker) }
+{
+    if !bell.has_work() {
+        return Turned::Blocked;
+    }
+    worker.turn(rt, lock)
+}
+
 /// Turns of a worker, until the bell is closed, or one answers `Ended` or `Memory`. It rings the bell for the
-/// compositor where it has entered an event, and where it is blocked, it sleeps at the bell.
+/// compositor where it has entered an event. Where it is blocked, and where the bell tells of no work, it sleeps at
+/// the bell.
 pub fn drive_worker<R: Wait, G: Gate>(
     rt: &R,
     lock: &TurnLock<Core>,
@@ -113,7 +140,7 @@ pub fn drive_worker<R: Wait, G: Gate>(
         if bell.is_closed() {
             return;
         }
-        match worker.turn(rt, lock) {
+        match seek(rt, lock, bell, worker) {
             Turned::Went => bell.ring(),
             Turned::Blocked => bell.wait_at(rt, WORKERS, rung),
             Turned::Memory => return bell.ring_all(),

@@ -12,6 +12,8 @@ pub(crate) struct Wakes {
     pub(crate) main: bool,
     /// the workers
     pub(crate) workers: bool,
+    /// whether a tile may start, as far as is known: it was asked, and nothing but draws was played since
+    pub(crate) may_start: bool,
     /// how many main frames were sent then
     sends: u32,
     /// the draw that was begun last then
@@ -26,6 +28,7 @@ impl Wakes {
         Wakes {
             main: false,
             workers: false,
+            may_start: false,
             sends: 0,
             begun: None,
             asked: 0,
@@ -34,7 +37,8 @@ impl Wakes {
 
     /// Finds out whom to wake up after what was played: the main side where a main frame was sent, the workers where
     /// a draw was begun or nothing may be entered, and a tile may start; and all where the run has ended. Most
-    /// scrolls are followed by another, which changes again what may start: after those nobody asks.
+    /// scrolls are followed by another, which changes again what may start, and whoever asks then has all tiles
+    /// ranked anew while the others wait for the turn: so after those nobody asks, no worker either.
     pub(crate) fn renew(&mut self, played: &Played, core: &mut Core)
         ensures { core.new ≡ core.old }
     {
@@ -42,7 +46,7 @@ impl Wakes {
         self.workers = false;
         match played {
             Played::Plain => self.heed(core),
-            Played::Blocked => self.workers = self.may_start(core),
+            Played::Blocked => self.workers = self.ask(core),
             Played::Ended | Played::Shown(_) | Played::Memory => {}
         }
     }
@@ -54,19 +58,23 @@ impl Wakes {
         let progress = core.progress();
         let begins = progress.begun != self.begun;
         self.main = progress.has_ended || progress.sends != self.sends;
-        self.workers = progress.has_ended || begins && self.may_start(core);
+        self.may_start = false;
+        self.workers = progress.has_ended || begins && self.ask(core);
         self.sends = progress.sends;
         self.begun = progress.begun;
     }
 
-    // Whether a tile may start, where anything was entered, by whomever, since this was asked last. Where memory is
-    // refused, one may.
-    fn may_start(&mut self, core: &mut Core) -> bool
+    // Asks whether a tile may start, where anything was entered, by whomever, since this was asked last, and answers
+    // whether one may. Where memory is refused, one may.
+    fn ask(&mut self, core: &mut Core) -> bool
         ensures { core.new ≡ core.old }
     {
         let entries = core.history().len();
-        let anew = entries != self.asked;
+        if entries == self.asked {
+            return false;
+        }
         self.asked = entries;
-        anew && !matches!(core.next_start(), Ok(None))
+        self.may_start = !matches!(core.next_start(), Ok(None));
+        self.may_start
     }
 }
