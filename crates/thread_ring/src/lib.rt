@@ -10,10 +10,10 @@
 //! the whole life for a list of pieces.
 //!
 //! What was put goes out in the order in which it came in: nothing is left out or overtaken. Bytes are gathered until
-//! a scene follows, until they are 64 KiB, or until `pass_on`, which the one who puts calls before it waits for others.
-//! Who waits for whom: the presenter waits for the next piece or for the end mark; a put waits for nobody. What the ring has no
-//! place for is kept in order in the sink; so that it does not grow without bound, the one who puts calls
-//! `wait_for_space` now and then, which waits while more than 256 MiB wait to be written.
+//! a scene follows, until they are 64 KiB, or until `pass_on`, which the one who puts calls before it waits for
+//! others. Who waits for whom: the presenter waits for the next piece or for the end mark; a put waits for nobody.
+//! What the ring has no place for is kept in order in the sink; so that it does not grow without bound, the one who
+//! puts calls `wait_for_space` now and then, which waits while more than 256 MiB wait to be written.
 #![tactic(auto)]
 
 mod ends;

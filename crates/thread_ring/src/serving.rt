@@ -1,5 +1,5 @@
 //! Handing the pieces of a ring on.
-ghost use Rattle.std.specs.Prelude.{◌≡◌, ◌≤◌, ℕ, ◌++◌, List, [], length, IfNone, IfOk, IsFalse, MatchOption};
+ghost use Rattle.std.specs.Prelude.{◌≡◌, ◌≤◌, ℕ, ◌++◌, List, [], IfNone, IsFalse, MatchOption};
 ghost use Rattle.recording_pieces.specs.Shots.{all_shown, shown};
 ghost use Rattle.thread_ring.specs.Ring.{EmptyBatch, SamePresenter, TakesBatch, bytes_taken, seen};
 ghost use Rattle.thread_ring.specs.Answers.{AddsBytes, Blames, FaultRose, Served, Stops, Takes, told_of};
@@ -85,16 +85,18 @@ impl Presenter {
         }
     }
 
-    // Takes more pieces out of the ring and adds them to those of a batch, at most the given number, until there is
-    // none or they are large. An error means out of memory, and the piece that was taken last is lost.
+    // Takes pieces out of the ring, at least one where there is any, and at most the given number, until there is none
+    // or they are large. An error means out of memory, and the piece that was taken last is lost.
     #[tactic(auto, using(crate::proofs::Gains::taken_and_lost, recording_pieces::proofs::Parts::one_more))]
-    fn take_more(&mut self, most: usize, mut batch: Vec<Shot>) -> Result<Vec<Shot>, AllocError>
+    fn take_batch(&mut self, most: usize) -> Result<Vec<Shot>, AllocError>
+        requires { 1 ≤ most }
         ensures ring { SamePresenter self.old self.new }
-        ensures bytes { (before : List ℕ) → bytes_taken self.old ≡ before ++ all_shown batch.items → TakesBatch before (bytes_taken self.new) result }
-        ensures some { IfOk result (λ all. length batch.items ≤ length all.items) }
+        ensures bytes { TakesBatch (bytes_taken self.old) (bytes_taken self.new) result }
+        ensures empty { EmptyBatch (seen self.new) result }
     {
-        for _ in 0..most {
-            if self.taken >= MOST_TAKEN {
+        let mut batch = Vec::new(self.alloc);
+        while batch.len() < most {
+            if self.taken >= MOST_TAKEN && !batch.is_empty() {
                 return Ok(batch);
             }
             let Some(piece) = self.take_one() else {
@@ -107,24 +109,6 @@ impl Presenter {
         Ok(batch)
     }
 
-    // Takes pieces out of the ring, at least one where there is any, and at most the given number more, until there is
-    // none or they are large. An error means out of memory, and the piece that was taken last is lost.
-    #[tactic(auto, using(crate::proofs::Gains::taken_and_lost, recording_pieces::proofs::Parts::one_more))]
-    fn take_batch(&mut self, more: usize) -> Result<Vec<Shot>, AllocError>
-        ensures ring { SamePresenter self.old self.new }
-        ensures bytes { TakesBatch (bytes_taken self.old) (bytes_taken self.new) result }
-        ensures empty { EmptyBatch (seen self.new) result }
-    {
-        let mut batch = Vec::new(self.alloc);
-        let Some(piece) = self.take_one() else {
-            return Ok(batch);
-        };
-        if let Err(_) = batch.push(piece) {
-            return Err(AllocError);
-        }
-        self.take_more(more, batch)
-    }
-
     // What was taken is written, or is not going to be.
     fn let_go(&mut self)
         ensures ring { SamePresenter self.old self.new }
@@ -135,16 +119,17 @@ impl Presenter {
         self.taken = 0;
     }
 
-    // Takes pieces out of the ring, at most the given number besides the first, and puts them, unless an earlier one was
-    // refused; answers whether there were any, and for all pieces.
+    // Takes pieces out of the ring, at most the given number, and puts them, unless an earlier one was refused;
+    // answers whether there were any, and for all pieces.
     fn step<R: Threads + Sync, K: Sink, P: ScenePainter>(
         &mut self,
         rt: &R,
         state: Presented,
-        more: usize,
+        most: usize,
         painters: &mut Painters<P>,
         out: &mut K,
     ) -> (bool, Presented)
+        requires { 1 ≤ most }
         ensures ring { SamePresenter self.old self.new }
         ensures none { IsFalse result.0 → seen self.new ≡ [] }
         ensures bytes { Takes state result.1 (K.held out.old) (K.held out.new) (bytes_taken self.old) (bytes_taken self.new) }
@@ -153,49 +138,13 @@ impl Presenter {
         ensures cause { Blames state result.1 (K.faults out.old) (K.faults out.new) }
         ensures place { K.place out.new ≡ K.place out.old }
     {
-        match self.take_batch(more) {
+        match self.take_batch(most) {
             Ok(batch) => {
                 let any = !batch.is_empty();
                 (any, present(rt, state, batch, painters, out))
             }
             Err(_) => (true, without_memory(state, out)),
         }
-    }
-
-    // Takes pieces and puts them, until the end mark was raised and after that there were none.
-    #[tactic(auto, using(crate::proofs::Gains::served_on))]
-    fn serve_all<R: Threads + Wait + Sync, K: Sink, P: ScenePainter>(
-        &mut self,
-        rt: &R,
-        painters: &mut Painters<P>,
-        out: &mut K,
-    ) -> Presented
-        ensures ring { SamePresenter self.old self.new }
-        ensures bytes { Served result (K.held out.old) (K.held out.new) (bytes_taken self.old) (bytes_taken self.new) }
-        ensures none { seen self.new ≡ [] }
-        ensures faults { K.faults out.old ≤ K.faults out.new }
-        ensures refusals { K.refusals out.old ≤ K.refusals out.new }
-        ensures cause { FaultRose result (K.faults out.old) (K.faults out.new) }
-        ensures place { K.place out.new ≡ K.place out.old }
-    {
-        let more = painters.most().saturating_mul(RUN).saturating_sub(1);
-        let mut state = Presented::Written;
-        for _ in rt.forever() {
-            // Both are read before the ring is looked at: a piece that comes later rings again, and what was
-            // put before the mark is then found.
-            let pushed = self.shared.pushed();
-            let ended = self.shared.is_closed();
-            let (any, answer) = self.step(rt, state, more, painters, out);
-            state = answer;
-            self.let_go();
-            if !any {
-                if ended {
-                    return state;
-                }
-                self.shared.wait_for_pieces(rt, pushed);
-            }
-        }
-        unreachable!()
     }
 
     /// Takes pieces out of the ring, paints their scenes, several at once where several wait, and puts all into
@@ -206,6 +155,7 @@ impl Presenter {
     /// the count of faults of `out` rose in this call, or stands at its last value; `Memory` where
     /// `out` or a painter found none. In both `out` gained a prefix of the pieces that were taken. With each answer no
     /// piece is left that was seen in the ring.
+    #[tactic(auto, using(crate::proofs::Gains::served_on))]
     pub fn serve<R: Threads + Wait + Sync, K: Sink, P: ScenePainter>(
         &mut self,
         rt: &R,
@@ -220,9 +170,25 @@ impl Presenter {
         ensures cause { FaultRose result (K.faults out.old) (K.faults out.new) }
         ensures place { K.place out.new ≡ K.place out.old }
     {
+        let most = painters.most().saturating_mul(RUN).max(1);
+        let mut state = Presented::Written;
         self.shared.serve(true);
-        let served = self.serve_all(rt, painters, out);
-        self.shared.serve(false);
-        served
+        for _ in rt.forever() {
+            // Both are read before the ring is looked at: a piece that comes later rings again, and what was
+            // put before the mark is then found.
+            let pushed = self.shared.pushed();
+            let ended = self.shared.is_closed();
+            let (any, answer) = self.step(rt, state, most, painters, out);
+            state = answer;
+            self.let_go();
+            if !any {
+                if ended {
+                    self.shared.serve(false);
+                    return state;
+                }
+                self.shared.wait_for_pieces(rt, pushed);
+            }
+        }
+        unreachable!()
     }
 }

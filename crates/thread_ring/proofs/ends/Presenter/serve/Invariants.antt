@@ -1,7 +1,7 @@
 use Rattle.std.proofs.Common.{◌≡◌, ◌≤◌}
 use Rattle.thread_ring.specs.Ring.{SamePresenter, bytes_taken}
 use Rattle.thread_ring.specs.Answers.{FaultRose, Served}
-use Rattle.thread_ring.proofs.ends.Presenter.serve_all.Given as goal
+use Rattle.thread_ring.proofs.ends.Presenter.serve.Given as goal
 
 abbrev pub invariant-loop : goal.invariant-loop
 invariant-loop g l = record {
