@@ -5,13 +5,13 @@ ghost use Rattle.geom.specs.declared.tile.TileKey.{TileKey};
 ghost use Rattle.std.specs.FinMap as fin;
 ghost use Rattle.geom.specs.KeyLists.{has_key};
 ghost use Rattle.tile_store.specs.inner.Rows.{ready_of, is_flying, if_live, if_not_named};
-ghost use Rattle.tile_store.specs.inner.TileTables.{shown, mark_of};
+ghost use Rattle.tile_store.specs.inner.TileTables.{shown, is_unnamed};
 
 use crate::held::{KeyedPlace, Tile};
 use crate::ready_keys::ReadyKeys;
 use crate::search::{search, search_near};
 use crate::tiles::{give, is_made};
-use crate::walks::{drop_unmarked, mark};
+use crate::walks::{drop_unmarked, mark_unnamed};
 use geom::{Keys, TileKey};
 use slab::Slab;
 use std::alloc::{AllocError, Global};
@@ -167,12 +167,13 @@ impl TileTable {
         }
     }
 
-    // Drops the images of these keys with the keys, in one walk over all. Keys whose images are being made stay.
-    fn sift(&mut self, named: &[TileKey])
-        ensures held { (q : TileKey) → fin.get self.new.held q ≡ if_live (mark_of named.now false q) (fin.get self.old.held q) }
+    /// Drops the images of the keys that are in `dead`, whatever its order, with these keys, in one walk over all. Keys
+    /// whose images are being made stay.
+    pub(crate) fn give_up(&mut self, dead: &[TileKey])
+        ensures held { (q : TileKey) → fin.get self.new.held q ≡ if_live (is_unnamed dead.now q) (fin.get self.old.held q) }
         ensures spare { self.old.spare ≤ self.new.spare }
     {
-        mark(&mut self.held, named, false);
+        mark_unnamed(&mut self.held, dead);
         let kept = drop_unmarked(&mut self.held, &mut self.tiles);
         self.held.truncate(kept);
     }
@@ -186,17 +187,8 @@ impl TileTable {
         if keys.len() <= FEW {
             self.remove_each(keys);
         } else {
-            self.sift(keys);
+            self.give_up(keys);
         }
-    }
-
-    /// Drops the images of the keys that are in `dead`, whatever its order, with these keys. Keys whose images
-    /// are being made stay.
-    pub(crate) fn give_up(&mut self, dead: &[TileKey])
-        ensures held { (q : TileKey) → fin.get self.new.held q ≡ if_live (not (has_key dead.now q)) (fin.get self.old.held q) }
-        ensures spare { self.old.spare ≤ self.new.spare }
-    {
-        self.sift(dead);
     }
 
     /// The keys that have an image, in their order. An error means out of memory.

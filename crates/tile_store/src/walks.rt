@@ -1,8 +1,8 @@
 //! Walks over the held keys that keep the live ones.
 
-ghost use Rattle.std.specs.Prelude.{◌≡◌, ◌≤◌, map, filter, take, length};
+ghost use Rattle.std.specs.Prelude.{◌≡◌, ◌≤◌, true, map, filter, take, length};
 ghost use Rattle.slab.specs.Slab.{get, slab_len};
-ghost use Rattle.tile_store.specs.inner.TileTables.{Rises, AreKept, AreSame, marked, marked_one, mark_of, stays};
+ghost use Rattle.tile_store.specs.inner.TileTables.{Rises, AreKept, AreSame, marked, unmarked_one, is_unnamed, stays};
 
 use crate::held::{KeyedPlace, Tile};
 use crate::search::search_near;
@@ -10,37 +10,37 @@ use crate::tiles::is_made;
 use geom::TileKey;
 use slab::Slab;
 
-/// Says of all keys alike whether they are live.
-fn mark_all(held: &mut [KeyedPlace], live: bool)
-    ensures { held.new ≡ map (marked (λ _. live)) held.old }
+/// Marks all keys as live.
+fn mark_all(held: &mut [KeyedPlace])
+    ensures { held.new ≡ map (marked (λ _. true)) held.old }
 {
     for one in held.iter_mut() {
-        one.live = live;
+        one.live = true;
     }
 }
 
-/// Says of this key whether it is live, where it is there. A key that stands at index `near` is found without a
-/// search, and `near` is then the index after it.
-fn mark_one(held: &mut [KeyedPlace], near: &mut usize, key: TileKey, live: bool)
+/// Takes the mark from this key, where it is there. A key that stands at index `near` is found without a search, and
+/// `near` is then the index after it.
+fn unmark(held: &mut [KeyedPlace], near: &mut usize, key: TileKey)
     requires { Rises held.old }
-    ensures { held.new ≡ map (marked_one key live) held.old }
+    ensures { held.new ≡ map (unmarked_one key) held.old }
 {
     if let Ok(at) = search_near(held, *near, key) {
-        held[at].live = live;
+        held[at].live = false;
         *near = at + 1;
     }
 }
 
-/// Says of the keys of the list whether they are live, and of all others the opposite. Where the list stands in key
-/// order, most are found without a search.
-pub(crate) fn mark(held: &mut [KeyedPlace], named: &[TileKey], live: bool)
+/// Marks the keys as live that a list does not name, and no other. Where the list stands in key order, most of its keys
+/// are found without a search.
+pub(crate) fn mark_unnamed(held: &mut [KeyedPlace], named: &[TileKey])
     requires { Rises held.old }
-    ensures { held.new ≡ map (marked (mark_of named.now live)) held.old }
+    ensures { held.new ≡ map (marked (is_unnamed named.now)) held.old }
 {
-    mark_all(held, !live);
+    mark_all(held);
     let mut near = 0;
     for key in named {
-        mark_one(held, &mut near, *key, live);
+        unmark(held, &mut near, *key);
     }
 }
 

@@ -90,13 +90,13 @@ pub record IsTileTable (tiles : Slab Tile) (held : List KeyedPlace) : Type 0 whe
 abbrev pub marked : (TileKey → Bool) → KeyedPlace → KeyedPlace
 marked live h = record h { live = live h.key }
 
--- this key gets another mark
-abbrev pub marked_one : TileKey → Bool → KeyedPlace → KeyedPlace
-marked_one key live h = record h { live = if eq_by_cmp key_cmp h.key key then live else h.live }
+-- this key loses its mark
+abbrev pub unmarked_one : TileKey → KeyedPlace → KeyedPlace
+unmarked_one key h = record h { live = if eq_by_cmp key_cmp h.key key then false else h.live }
 
--- the mark of the keys of a list, and of all others the opposite
-abbrev pub mark_of : List TileKey → Bool → TileKey → Bool
-mark_of named live k = if has_key named k then live else not live
+-- a list does not name the key
+abbrev pub is_unnamed : List TileKey → TileKey → Bool
+is_unnamed named k = not (has_key named k)
 
 -- the tile has its image
 abbrev pub is_made : Option Tile → Bool

@@ -1,5 +1,5 @@
 -- One key more is marked.
-use Rattle.std.proofs.Common.{◌<◌, false, length, get_or, arith}
+use Rattle.std.proofs.Common.{◌<◌, true, false, length, get_or, arith}
 use Rattle.std.proofs.lemmas.List.{get_or_default}
 use Rattle.std.proofs.lemmas.List.Edits.{map_over_more}
 use Rattle.tile_store.specs.declared.held.KeyedPlace.{KeyedPlace}
@@ -13,4 +13,4 @@ loop-one-preserved c =
     let none : KeyedPlace = record { key = record { layer = 0; x = 0; y = 0; stamp = 0 }; place = 0; live = false } in
     let one : KeyedPlace = get_or held at none in
     let within : at < length c.args.held.now = omega arith in
-    map_over_more (marked (λ _. c.args.live)) c.args.held.now held at one within c.loop-one.invariant (get_or_default held at none one (omega arith))
+    map_over_more (marked (λ _. true)) c.args.held.now held at one within c.loop-one.invariant (get_or_default held at none one (omega arith))
