@@ -6,6 +6,7 @@ pub mod SeenLayers
 pub mod VisibleKeys
 pub mod OneLayer
 pub mod SeenRanks
+pub mod Pairs
 pub mod BothTrees
 pub mod NearTiles
 pub mod StampedLayers

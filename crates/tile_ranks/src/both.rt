@@ -1,25 +1,28 @@
 //! The keys and the ranks of an active and a pending tree, either of which may be missing.
 
 ghost use Rattle.std.specs.Prelude.{◌≡◌, ◌++◌, filter_map, map, IfOk, option_copied};
+ghost use Rattle.std.specs.List.{flat_map};
 ghost use Rattle.geom.specs.Covers.{IsSound};
 ghost use Rattle.geom.specs.KeyLists.{has_key, AreDistinctKeys};
 ghost use Rattle.tile_priority.specs.declared.rank.Rank.{Rank as RankModel};
+ghost use Rattle.tile_priority.specs.declared.rank.Side.TheVariants as side;
 ghost use Rattle.tile_priority.specs.Ordered.{SameMembers};
+ghost use Rattle.model_history.specs.Ranking as ranking;
 ghost use Rattle.model_history.specs.Tiles.{Tree, keys_of};
 ghost use Rattle.model_steps.specs.Choices.{rank_in_both};
 ghost use Rattle.tile_ranks.specs.SeenTrees.{IsSeenWhere};
 ghost use Rattle.tile_ranks.specs.inner.Lists as spec;
+ghost use Rattle.tile_ranks.specs.inner.Lists.{IsNarrow};
 
 use crate::found::borders;
-use crate::layer::SeenLayer;
-use crate::near::ranks_near;
+use crate::layer::{SeenLayer, layer_at};
+use crate::pair::Pair;
 use crate::ready::ready_tile;
-use crate::run::LayerRun;
 use crate::tree::SeenTree;
 use geom::TileKey;
 use model_history::Script;
 use std::alloc::{AllocError, Global};
-use tile_priority::{Borders, Rank, ReadyTile, Side, least};
+use tile_priority::{Borders, Rank, ReadyTile, Side};
 
 /// An active and a pending tree, either of which may be missing.
 #[derive(Drop)]
@@ -73,110 +76,108 @@ pub fn tile(
     ready_tile(key, in_active, in_pending, pinned)
 }
 
-// The ranks of a tree that may be missing.
-fn ranks_where(
-    alloc: Global,
-    script: &Script,
-    side: Side,
-    tree: Option<&SeenTree<'_>>,
-) -> Result<Vec<Rank>, AllocError>
-    ensures { IfOk result (λ ranks. ranks.items ≡ spec.ranks_where script.now side (option_copied tree.entry)) }
-{
-    match tree {
-        None => Ok(Vec::new(alloc)),
-        Some(tree) => {
-            let page = tree.page();
-            script.is_accepted();
-            page.is_page();
-            let borders = borders(script, page);
-            ranks_near(alloc, &borders, side, tree.layers())
-        }
-    }
-}
-
-// Ranks of the active tree, each as the better one that its key has in the pending tree, where there is one.
-fn with_better(
-    alloc: Global,
-    script: &Script,
-    pending: Option<&SeenTree<'_>>,
-    ranks: Vec<Rank>,
-) -> Result<Vec<Rank>, AllocError>
-    ensures { IfOk result (λ all. all.items ≡ filter_map (spec.or_better script.now (option_copied pending.entry)) ranks.items) }
-{
-    match pending {
-        None => Ok(ranks),
-        Some(tree) => {
-            let borders = borders(script, tree.page());
-            all_better(alloc, &borders, tree.layers(), ranks.as_slice())
-        }
-    }
-}
-
-// Ranks, each as the better one that its key has in a pending tree of these layers.
+// The ranks of active layers near the viewport, each as the better one that its key has among pending layers.
 fn all_better(
     alloc: Global,
     borders: &Borders,
     layers: &[SeenLayer<'_>],
-    ranks: &[Rank],
+    theirs: &Borders,
+    others: &[SeenLayer<'_>],
 ) -> Result<Vec<Rank>, AllocError>
-    requires { IsSound borders.now.viewport }
-    ensures { IfOk result (λ all. all.items ≡ filter_map (spec.better_on borders.now layers.now) ranks.now) }
+    requires own { IsSound borders.now.viewport }
+    requires narrow { IsNarrow borders.now }
+    requires theirs { IsSound theirs.now.viewport }
+    ensures { IfOk result (λ all. all.items ≡ filter_map (spec.better_on theirs.now others.now) (flat_map (spec.near_ranks borders.now side.Active) layers.now)) }
 {
-    let mut all = Vec::with_capacity(alloc, ranks.len())?;
-    let mut run = LayerRun::new(layers);
-    let mut rest = ranks;
-    while let Some((rank, others)) = rest.split_first() {
-        let other = run.rank(borders, Side::Pending, rank.key);
-        if let Some(better) = least(Some(*rank), other) {
-            all.push(better)?;
-        }
-        rest = others;
+    let mut all = Vec::new(alloc);
+    for layer in layers {
+        let other = layer_at(others, layer.id());
+        let pair = Pair::new(borders, layer, theirs, other);
+        pair.push_better(alloc, &mut all)?;
     }
     Ok(all)
 }
 
-// Ranks, and those of the pending tree after them whose keys have none in the active tree.
-fn with_alone(
-    script: &Script,
-    active: Option<&SeenTree<'_>>,
-    ranks: &[Rank],
-    before: Vec<Rank>,
-) -> Result<Vec<Rank>, AllocError>
-    ensures { IfOk result (λ all. all.items ≡ before.items ++ filter_map (spec.alone script.now (option_copied active.entry)) ranks.now) }
-{
-    match active {
-        None => {
-            let mut all = before;
-            all.extend_from_slice(ranks)?;
-            Ok(all)
-        }
-        Some(tree) => {
-            let borders = borders(script, tree.page());
-            all_alone(&borders, tree.layers(), ranks, before)
-        }
-    }
-}
-
-// Ranks, and those others after them whose keys have none in an active tree of these layers.
+// Ranks, and those of pending layers near the viewport after them whose keys have none among active layers.
 fn all_alone(
+    alloc: Global,
     borders: &Borders,
     layers: &[SeenLayer<'_>],
-    ranks: &[Rank],
+    theirs: &Borders,
+    others: &[SeenLayer<'_>],
     before: Vec<Rank>,
 ) -> Result<Vec<Rank>, AllocError>
-    requires { IsSound borders.now.viewport }
-    ensures { IfOk result (λ all. all.items ≡ before.items ++ filter_map (spec.alone_on borders.now layers.now) ranks.now) }
+    requires own { IsSound borders.now.viewport }
+    requires narrow { IsNarrow borders.now }
+    requires theirs { IsSound theirs.now.viewport }
+    ensures { IfOk result (λ all. all.items ≡ before.items ++ filter_map (spec.alone_on theirs.now others.now) (flat_map (spec.near_ranks borders.now side.Pending) layers.now)) }
 {
     let mut all = before;
-    let mut run = LayerRun::new(layers);
-    let mut rest = ranks;
-    while let Some((rank, others)) = rest.split_first() {
-        if run.rank(borders, Side::Active, rank.key).is_none() {
-            all.push(*rank)?;
-        }
-        rest = others;
+    for layer in layers {
+        let other = layer_at(others, layer.id());
+        let pair = Pair::new(borders, layer, theirs, other);
+        pair.push_alone(alloc, &mut all)?;
     }
     Ok(all)
+}
+
+// The borders of a tree, whose viewport is narrow.
+fn narrow_borders(script: &Script, tree: &SeenTree<'_>) -> Borders
+    ensures value { result ≡ ranking.borders script.now tree.now.page }
+    ensures sound { IsSound result.viewport }
+    ensures narrow { IsNarrow result }
+{
+    let page = tree.page();
+    script.is_accepted();
+    page.is_page();
+    borders(script, page)
+}
+
+// The ranks of the active tree, each as the better one that its key has in the pending tree. Either tree may be
+// missing.
+fn ranks_better(
+    alloc: Global,
+    script: &Script,
+    active: Option<&SeenTree<'_>>,
+    pending: Option<&SeenTree<'_>>,
+) -> Result<Vec<Rank>, AllocError>
+    ensures { IfOk result (λ all. all.items ≡ filter_map (spec.or_better script.now (option_copied pending.entry)) (spec.ranks_where script.now side.Active (option_copied active.entry))) }
+{
+    let Some(tree) = active else {
+        return Ok(Vec::new(alloc));
+    };
+    let own = narrow_borders(script, tree);
+    match pending {
+        None => all_better(alloc, &own, tree.layers(), &own, &[]),
+        Some(other) => {
+            let theirs = narrow_borders(script, other);
+            all_better(alloc, &own, tree.layers(), &theirs, other.layers())
+        }
+    }
+}
+
+// Ranks, and those of the pending tree after them whose keys have none in the active tree. Either tree may be
+// missing.
+fn with_alone(
+    alloc: Global,
+    script: &Script,
+    active: Option<&SeenTree<'_>>,
+    pending: Option<&SeenTree<'_>>,
+    before: Vec<Rank>,
+) -> Result<Vec<Rank>, AllocError>
+    ensures { IfOk result (λ all. all.items ≡ before.items ++ filter_map (spec.alone script.now (option_copied active.entry)) (spec.ranks_where script.now side.Pending (option_copied pending.entry))) }
+{
+    let Some(tree) = pending else {
+        return Ok(before);
+    };
+    let own = narrow_borders(script, tree);
+    match active {
+        None => all_alone(alloc, &own, tree.layers(), &own, &[], before),
+        Some(other) => {
+            let theirs = narrow_borders(script, other);
+            all_alone(alloc, &own, tree.layers(), &theirs, other.layers(), before)
+        }
+    }
 }
 
 /// The ranks of all keys of the two trees that have one, each key once. The work grows with the tiles near
@@ -193,8 +194,6 @@ pub fn ranked(
     script.is_accepted();
     is_page_where(active);
     is_page_where(pending);
-    let in_active = ranks_where(alloc, script, Side::Active, active)?;
-    let in_pending = ranks_where(alloc, script, Side::Pending, pending)?;
-    let all = with_better(alloc, script, pending, in_active)?;
-    with_alone(script, active, in_pending.as_slice(), all)
+    let in_active = ranks_better(alloc, script, active, pending)?;
+    with_alone(alloc, script, active, pending, in_active)
 }

@@ -1,6 +1,6 @@
 //! A layer as its tiles are seen.
 
-ghost use Rattle.std.specs.Prelude.{◌≡◌, ◌*◌, ◌++◌, neg_ℤ, map, IsTrue, IfOk, OnOk, All, FitsSigned, option_copied};
+ghost use Rattle.std.specs.Prelude.{◌≡◌, ◌*◌, ◌++◌, neg_ℤ, true, map, IsTrue, IfOk, OnOk, All, FitsSigned, option_copied};
 ghost use mir.Syntax.{w32};
 ghost use Rattle.geom.specs.Covers.{IsSound};
 ghost use Rattle.geom.specs.Gaps.{shifted};
@@ -14,6 +14,7 @@ ghost use Rattle.tile_tiling.specs.Tiles.{key_of};
 ghost use Rattle.tile_visible.specs.Visible as visible;
 ghost use Rattle.tile_ranks.specs.SeenTrees.{IsSeenIn};
 ghost use Rattle.tile_ranks.specs.inner.Lists.{back, layer_at, layer_has, tile_seen, visible_of, IsArea};
+ghost use Rattle.tile_ranks.specs.inner.Pairs.{StandAlike};
 
 use geom::{Grid, Keys, Place, Point, Rect, TileKey};
 use page_layers::{Layer, LayerTree};
@@ -31,6 +32,9 @@ pub(crate) struct SeenLayer<'a> {
     id: u32,
     // how it is cut
     grid: Grid,
+    // how many columns and rows that makes
+    columns: u32,
+    rows: u32,
     // how far it is moved on the screen
     by: Point,
     // its clip, cut by the viewport
@@ -47,6 +51,7 @@ impl<'a> Model for SeenLayer<'a> {
     ghost use Rattle.std.specs.Prelude.{◌≡◌, ◌*◌};
     ghost use Rattle.geom.specs.Covers.{IsSound};
     ghost use Rattle.geom.specs.Gaps.{shifted};
+    ghost use Rattle.geom.specs.Grids.{tiles};
     ghost use Rattle.page_properties.specs.Placement.{IsWithin};
     ghost use Rattle.tile_ranks.specs.SeenTrees.{SeenLayerModel};
     ghost use Rattle.tile_ranks.specs.inner.Lists.{back};
@@ -55,7 +60,7 @@ impl<'a> Model for SeenLayer<'a> {
 
     ghost view = { λ l. record { id = l.id; grid = l.grid; by = l.by; clip = l.clip; draws = l.draws; stamps = l.tiling.now } };
 
-    ghost invariant = { λ l. IsWithin (256 * 1114112) l.by × IsSound l.clip × IsSound l.clip_inside × (l.clip_inside ≡ shifted l.clip (back l.by)) × (l.tiling.now.grid ≡ l.grid) };
+    ghost invariant = { λ l. IsWithin (256 * 1114112) l.by × IsSound l.clip × IsSound l.clip_inside × (l.clip_inside ≡ shifted l.clip (back l.by)) × (l.tiling.now.grid ≡ l.grid) × (l.columns ≡ tiles l.grid.w l.grid.tile) × (l.rows ≡ tiles l.grid.h l.grid.tile) };
 }
 
 // The opposite of a number.
@@ -109,9 +114,12 @@ impl<'a> SeenLayer<'a> {
         let clip = clip_in(page, offsets, layer);
         let by = props.translation(layer.transform, offsets);
         let clip_inside = moved_back(clip, by);
+        let grid = grid_of(page, layer);
         SeenLayer {
             id: layer.id,
-            grid: grid_of(page, layer),
+            grid,
+            columns: grid.columns(),
+            rows: grid.rows(),
             by,
             clip,
             clip_inside,
@@ -125,7 +133,48 @@ impl<'a> SeenLayer<'a> {
         ensures { result ≡ layer_has self.now key }
     {
         let place = Place { x: key.x, y: key.y };
-        self.grid.has(place) && self.tiling.key_at(self.id, place).stamp == key.stamp
+        self.has_place(place) && self.tiling.key_at(self.id, place).stamp == key.stamp
+    }
+
+    // Whether its grid has a place.
+    fn has_place(&self, place: Place) -> bool
+        ensures { result ≡ grids.has self.now.grid place }
+    {
+        let across = place.x < self.columns;
+        let down = place.y < self.rows;
+        across && down
+    }
+
+    /// Its number.
+    pub(crate) fn id(&self) -> u32
+        ensures { result ≡ self.now.id }
+    {
+        self.id
+    }
+
+    // Whether it is moved and clipped as another layer.
+    fn is_placed_as(&self, other: &SeenLayer<'_>) -> bool
+        ensures by { result ≡ true → other.now.by ≡ self.now.by }
+        ensures clip { result ≡ true → other.now.clip ≡ self.now.clip }
+    {
+        self.by == other.by && self.clip == other.clip
+    }
+
+    // Whether it is cut as another layer, and both are drawn, or neither.
+    fn is_cut_as(&self, other: &SeenLayer<'_>) -> bool
+        ensures grid { result ≡ true → other.now.grid ≡ self.now.grid }
+        ensures draws { result ≡ true → other.now.draws ≡ self.now.draws }
+    {
+        self.grid == other.grid && self.draws == other.draws
+    }
+
+    /// Whether it stands on the screen as another layer, so that a tile is seen alike in both.
+    pub(crate) fn stands_as(&self, other: &SeenLayer<'_>) -> bool
+        ensures { result ≡ true → StandAlike self.now other.now }
+    {
+        let is_placed = self.is_placed_as(other);
+        let is_cut = self.is_cut_as(other);
+        is_placed && is_cut
     }
 
     /// The key of a place, which it is to have.

@@ -12,6 +12,7 @@ mod found;
 mod laws;
 mod layer;
 mod near;
+mod pair;
 mod placed;
 mod placed_trees;
 mod ready;

@@ -1,14 +1,12 @@
 //! What layers say of keys, of which many in a row are of one layer.
 
 ghost use Rattle.std.specs.Prelude.{◌≡◌, option_copied};
-ghost use Rattle.geom.specs.Covers.{IsSound};
 ghost use Rattle.tile_ranks.specs.inner.Lists as spec;
 
-use crate::found::{has_on, rank_on};
+use crate::found::has_on;
 use crate::layer::{SeenLayer, layer_at};
 use geom::TileKey;
 use std::marker::Model;
-use tile_priority::{Borders, Rank, Side};
 
 /// Layers, of which the one that was looked for last is at hand.
 #[derive(Drop)]
@@ -63,15 +61,5 @@ impl<'b, 'a> LayerRun<'b, 'a> {
     {
         let layer = self.find(key.layer);
         has_on(layer, key)
-    }
-
-    /// The rank that one of them gives a key.
-    pub(crate) fn rank(&mut self, borders: &Borders, side: Side, key: TileKey) -> Option<Rank>
-        requires { IsSound borders.now.viewport }
-        ensures rank { result ≡ spec.seen_rank borders.now side self.old key }
-        ensures same { self.new ≡ self.old }
-    {
-        let layer = self.find(key.layer);
-        rank_on(borders, side, layer, key)
     }
 }

@@ -1,10 +1,8 @@
--- What was found, and what the rest gives, are all that is wanted.
-use Rattle.std.proofs.Common.{◌≡◌, ◌++◌, length, filter_map}
-use Rattle.tile_ranks.specs.inner.Lists.{alone_on}
+-- The ranks of the layers so far were added.
+use Rattle.std.proofs.Common.{◌≡◌, ◌++◌, take}
+use Rattle.std.specs.List.{flat_map}
+use Rattle.tile_ranks.specs.inner.Pairs.{alone_near}
 use Rattle.tile_ranks.proofs.both.all_alone.Given as goal
 
-abbrev pub invariant-loop-rank : goal.invariant-loop-rank
-invariant-loop-rank l = (l.all.items ++ filter_map (alone_on l.borders l.layers) l.rest ≡ l.fn.before.items ++ filter_map (alone_on l.borders l.layers) l.ranks) × (l.run ≡ l.layers)
-
-abbrev pub decreases-loop-rank : goal.decreases-loop-rank
-decreases-loop-rank l = length l.rest
+abbrev pub invariant-loop-layer : goal.invariant-loop-layer
+invariant-loop-layer l = l.all.items ≡ l.fn.before.items ++ flat_map (alone_near l.borders l.theirs l.others) (take l.layer-index l.layers)

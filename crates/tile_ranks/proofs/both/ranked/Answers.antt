@@ -16,11 +16,10 @@ returns-clause-members c =
     let s = c.args.script.now in
     let o = option_copied c.args.active in
     let w = option_copied c.args.pending in
-    let first : c.in_ok-all.all.items ≡ filter_map (or_better s w) (ranks_where s side.Active o) = c.in_ok-all.ensures ∙ ap (λ (rs : List Rank). filter_map (or_better s w) rs) c.in_ok-in_active.ensures in
-    let second = ap (λ (rs : List Rank). filter_map (alone s o) rs) (c.as_slice.ensures.value ∙ c.in_ok-in_pending.ensures) in
+    let first : c.in_ok-in_active.in_active.items ≡ filter_map (or_better s w) (ranks_where s side.Active o) = c.in_ok-in_active.ensures in
     weaken c.with_alone.result
     (λ v e a p left right.
-    let all : v.items ≡ ranks_both s o w = e ∙ (λ i. first i ++ second i) in
+    let all : v.items ≡ ranks_both s o w = e ∙ ap (λ (rs : List Rank). rs ++ filter_map (alone s o) (ranks_where s side.Pending w)) first in
     subst (λ (rs : List Rank). SameMembers rs (filter_map (rank_in_both s a p) (keys_of a ++ keys_of p))) (sym all)
     (ranked_members s c.is_accepted.ensures.accepted a p o w left right c.is_page_where.ensures c.is_page_where-2.ensures))
     c.with_alone.ensures
@@ -30,11 +29,10 @@ returns-clause-once c =
     let s = c.args.script.now in
     let o = option_copied c.args.active in
     let w = option_copied c.args.pending in
-    let first : c.in_ok-all.all.items ≡ filter_map (or_better s w) (ranks_where s side.Active o) = c.in_ok-all.ensures ∙ ap (λ (rs : List Rank). filter_map (or_better s w) rs) c.in_ok-in_active.ensures in
-    let second = ap (λ (rs : List Rank). filter_map (alone s o) rs) (c.as_slice.ensures.value ∙ c.in_ok-in_pending.ensures) in
+    let first : c.in_ok-in_active.in_active.items ≡ filter_map (or_better s w) (ranks_where s side.Active o) = c.in_ok-in_active.ensures in
     weaken c.with_alone.result
     (λ v e a p left right.
-    let all : v.items ≡ ranks_both s o w = e ∙ (λ i. first i ++ second i) in
+    let all : v.items ≡ ranks_both s o w = e ∙ ap (λ (rs : List Rank). rs ++ filter_map (alone s o) (ranks_where s side.Pending w)) first in
     subst (λ (rs : List Rank). AreDistinctKeys (map (λ (r : Rank). r.key) rs)) (sym all)
     (ranked_once s c.is_accepted.ensures.accepted a p o w left right c.is_page_where.ensures c.is_page_where-2.ensures))
     c.with_alone.ensures

@@ -1,5 +1,5 @@
 -- The layer as it is seen is the one with the stamps.
-use Rattle.std.proofs.Common.{◌≡◌, ap, ◌∙◌}
+use Rattle.std.proofs.Common.{ap, ◌∙◌}
 use Rattle.page_properties.specs.OffsetMap.{offset_at}
 use Rattle.page_layers.specs.Layers.{parts_of}
 use Rattle.tile_ranks.specs.SeenTrees.{SeenLayerModel}
