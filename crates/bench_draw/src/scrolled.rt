@@ -1,6 +1,6 @@
 //! A page like a long text: sections that scroll below a header, and a side bar that they shine through.
 //!
-//! The screen has 1024 by 768 pixels, and tiles have 128 by 128. A section is 1024 by 500 pixels large and has
+//! The screen has 1024 by 1024 pixels, and tiles have 128 by 128. A section is 1024 by 500 pixels large and has
 //! 16 boxes and 240 words.
 
 ghost use Rattle.std.specs.Prelude.{◌<◌, ◌≤ℤ◌, pos};
@@ -24,7 +24,7 @@ const SECTIONS: u32 = 8;
 const TOP: i32 = 40;
 
 /// The height of the screen.
-const BOTTOM: i32 = 768;
+const BOTTOM: i32 = 1024;
 
 // a rect that lies in a section, or sticks out a little
 fn box_of(dice: &mut Dice) -> Rect
@@ -187,7 +187,7 @@ fn side_bar() -> Quad {
         x: 800,
         y: TOP,
         w: 224,
-        h: 728,
+        h: BOTTOM - TOP,
     };
     solid_of(at, 64, 192)
 }
@@ -219,7 +219,7 @@ fn scene_at(
     let mut passes = Vec::new(alloc);
     passes.push(RenderPass { quads })?;
     let white = Colour::new(255, 255, 255, 255).unwrap_or(Colour::CLEAR);
-    Ok(scene_of(1024, 768, white, passes))
+    Ok(scene_of(1024, 1024, white, passes))
 }
 
 /// Shows the page alternately where it is not scrolled and where it is scrolled the given number of pixels
