@@ -3,4 +3,4 @@ pub mod Counts
 pub mod Fits
 pub mod Orders
 pub mod Back
-mod Fours
+mod Eights

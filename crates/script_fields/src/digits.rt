@@ -1,10 +1,11 @@
 //! The digits of bytes and colours.
 
-ghost use Rattle.std.specs.Prelude.{◌≡◌, ◌++◌, ◌<◌, ℕ, length, slice_index, take, OnOk, IfOk, string_bytes};
+ghost use Rattle.std.specs.Prelude.{◌≡◌, ◌++◌, ◌+◌, ◌*◌, ◌/◌, ◌%◌, ◌<◌, ◌≤◌, ℕ, length, map, slice_index, drop, OnOk, IfOk, string_bytes};
 ghost use Rattle.script_fields.specs.Hex.{digit_of, byte_digits, bytes_digits, six_digits, eight_digits};
 
 use pixel::Colour;
 use std::alloc::{AllocError, Global};
+use std::simd::prelude::*;
 
 // The digit of a number below 16.
 #[tactic(auto, unfolding(crate::specs::Hex::digit_of))]
@@ -52,25 +53,42 @@ pub fn eight(alloc: Global, colour: Colour) -> Result<String, AllocError>
     Ok(text)
 }
 
-// Adds the digits of bytes, of four at a time, and gives the bytes that are left over.
-fn push_fours<'a>(digits: &mut Vec<u8>, bytes: &'a [u8]) -> Result<&'a [u8], AllocError>
-    ensures { IfOk result (λ rest. digits.new.items ++ bytes_digits rest.now ≡ digits.old.items ++ bytes_digits bytes.now) }
+// The digits of eight numbers below 16.
+#[inline(always)]
+fn digit_lanes(numbers: u8x8) -> u8x8
+    requires { (length numbers ≡ 8) × ((i : ℕ) → i < 8 → slice_index numbers i < 16) }
+    ensures { result ≡ map digit_of numbers }
 {
-    let mut rest = bytes;
-    while let [a, b, c, d, after @ ..] = rest {
-        digits.extend_from_slice(&[
-            digit_of(*a / 16),
-            digit_of(*a % 16),
-            digit_of(*b / 16),
-            digit_of(*b % 16),
-            digit_of(*c / 16),
-            digit_of(*c % 16),
-            digit_of(*d / 16),
-            digit_of(*d % 16),
-        ])?;
-        rest = after;
+    numbers
+        .simd_lt(u8x8::splat(10))
+        .select(numbers + u8x8::splat(48), numbers + u8x8::splat(87))
+}
+
+// The digits of eight bytes.
+#[inline(always)]
+fn sixteen_of(bytes: u8x8) -> [u8; 16]
+    requires { (length bytes ≡ 8) × ((i : ℕ) → i < 8 → slice_index bytes i < 256) }
+    ensures size { length result ≡ 16 }
+    ensures high { (j : ℕ) → j < 8 → slice_index result (2 * j) ≡ digit_of (slice_index bytes j / 16) }
+    ensures low { (j : ℕ) → j < 8 → slice_index result (2 * j + 1) ≡ digit_of (slice_index bytes j % 16) }
+{
+    let high = digit_lanes(bytes >> u8x8::splat(4));
+    let low = digit_lanes(bytes & u8x8::splat(15));
+    high.shuffle(low, [0, 8, 1, 9, 2, 10, 3, 11, 4, 12, 5, 13, 6, 14, 7, 15])
+        .to_array()
+}
+
+// Adds the digits of bytes, of eight at a time, and tells the place of the bytes that are left over.
+fn push_sixteens(digits: &mut Vec<u8>, bytes: &[u8]) -> Result<usize, AllocError>
+    ensures inside { IfOk result (λ at. at ≤ length bytes.now) }
+    ensures written { IfOk result (λ at. digits.new.items ++ bytes_digits (drop at bytes.now) ≡ digits.old.items ++ bytes_digits bytes.now) }
+{
+    let mut at = 0;
+    while at + 8 <= bytes.len() {
+        digits.extend_from_slice(&sixteen_of(u8x8::from_slice(&bytes[at..])))?;
+        at += 8;
     }
-    Ok(rest)
+    Ok(at)
 }
 
 // Adds the digits of bytes, of one at a time.
@@ -88,8 +106,8 @@ fn digits_of(alloc: Global, bytes: &[u8]) -> Result<Vec<u8>, AllocError>
     ensures { IfOk result (λ digits. digits.items ≡ bytes_digits bytes.now) }
 {
     let mut digits = Vec::with_capacity(alloc, bytes.len().saturating_mul(2))?;
-    let rest = push_fours(&mut digits, bytes)?;
-    push_each(&mut digits, rest)?;
+    let start = push_sixteens(&mut digits, bytes)?;
+    push_each(&mut digits, &bytes[start..])?;
     Ok(digits)
 }
 

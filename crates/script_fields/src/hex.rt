@@ -1,11 +1,14 @@
 //! Bytes and colours as hexadecimal digits in lower case.
 
-ghost use Rattle.std.specs.Prelude.{◌≡◌, ◌<◌, ◌≤◌, ◌+◌, length, drop, slice_index, Some, IfSome, IfOk, option_map};
+ghost use Rattle.std.specs.Prelude.{◌≡◌, ◌<◌, ◌≤◌, ◌+◌, ◌*◌, ℕ, length, map, drop, slice_index, Some, IsTrue, IfSome, IfOk, option_map};
+ghost use Rattle.pixel.specs.LaneBytes.{IsBytes};
 ghost use Rattle.script_fields.specs.Hex.{digit_value, byte_of, bytes_of, colour_of_six, colour_of_eight};
 ghost use Rattle.script_fields.specs.inner.Fronts.{after};
+ghost use Rattle.script_fields.specs.inner.Lanes.{lane_value, AreBytesAt};
 
 use pixel::Colour;
 use std::alloc::{AllocError, Global};
+use std::simd::prelude::*;
 
 // The value of a digit `0` to `9` or `a` to `f`.
 #[tactic(auto, unfolding(crate::specs::Hex::digit_value))]
@@ -59,78 +62,68 @@ pub fn six(text: &[u8]) -> Option<Colour>
     Colour::new(red, green, blue, 255)
 }
 
-// The value of a digit `0` to `9`, or 256 for another character.
-#[tactic(auto, unfolding(crate::specs::Hex::digit_value))]
-fn numeral(c: u8) -> u32
-    ensures known { result < 256 → digit_value c ≡ Some result }
-    ensures small { result ≤ 256 }
+// The values of sixteen digits; a lane is 255 where the character is no digit.
+#[inline(always)]
+fn values(digits: u8x16) -> u8x16
+    requires { IsBytes digits }
+    ensures { result ≡ map lane_value digits }
 {
-    match c {
-        48..=57 => (c - 48) as u32,
-        _ => 256,
+    let numerals = digits - u8x16::splat(48);
+    let letters = digits - u8x16::splat(97);
+    let others = letters
+        .simd_lt(u8x16::splat(6))
+        .select(letters + u8x16::splat(10), u8x16::splat(255));
+    numerals.simd_lt(u8x16::splat(10)).select(numerals, others)
+}
+
+// Whether sixteen numbers are all below 16.
+#[inline(always)]
+fn are_values(values: u8x16) -> bool
+    requires { length values ≡ 16 }
+    ensures { IsTrue result → (i : ℕ) → i < 16 → slice_index values i < 16 }
+{
+    values.simd_gt(u8x16::splat(15)).to_bitmask() == 0
+}
+
+// The bytes whose upper and lower halves are sixteen numbers below 16 in turn.
+#[inline(always)]
+fn joined(values: u8x16) -> [u8; 8]
+    requires size { length values ≡ 16 }
+    requires low { (i : ℕ) → i < 16 → slice_index values i < 16 }
+    ensures size { length result ≡ 8 }
+    ensures bytes { (j : ℕ) → j < 8 → slice_index result j ≡ 16 * slice_index values (2 * j) + slice_index values (2 * j + 1) }
+{
+    let high = values.swizzle([0, 2, 4, 6, 8, 10, 12, 14]);
+    let low = values.swizzle([1, 3, 5, 7, 9, 11, 13, 15]);
+    (high * u8x8::splat(16) + low).to_array()
+}
+
+// The bytes of the sixteen digits from a place on; None where one of them is no digit.
+#[inline(always)]
+fn eight_at(text: &[u8], at: usize) -> Option<[u8; 8]>
+    requires { at + 16 ≤ length text.now }
+    ensures { IfSome result (λ bytes. AreBytesAt text.now at bytes) }
+{
+    let values = values(u8x16::from_slice(&text[at..]));
+    if are_values(values) {
+        Some(joined(values))
+    } else {
+        None
     }
 }
 
-// The value of a digit `a` to `f`, or 256 for another character.
-#[tactic(auto, unfolding(crate::specs::Hex::digit_value))]
-fn letter(c: u8) -> u32
-    ensures known { result < 256 → digit_value c ≡ Some result }
-    ensures small { result ≤ 256 }
-{
-    match c {
-        97..=102 => (c - 87) as u32,
-        _ => 256,
-    }
-}
-
-// The value of a digit, or 256 where it is none. Both values are taken first, so that no jump depends on the digit.
-fn value(c: u8) -> u32
-    ensures known { result < 256 → digit_value c ≡ Some result }
-    ensures small { result ≤ 256 }
-{
-    let numeral = numeral(c);
-    let letter = letter(c);
-    if numeral < 256 { numeral } else { letter }
-}
-
-// The byte of the two digits at a place, or a number above 255 where one of them is none.
-fn pair_at(text: &[u8], at: usize) -> u32
-    requires { at + 1 < length text.now }
-    ensures { result < 256 → byte_of (slice_index text.now at) (slice_index text.now (at + 1)) ≡ Some result }
-{
-    let high = value(text[at]);
-    let low = value(text[at + 1]);
-    16 * high + low
-}
-
-// A number below 256 as a byte.
-fn low(n: u32) -> u8
-    requires { n < 256 }
-    ensures { result ≡ n }
-{
-    n as u8
-}
-
-// Adds the bytes of digits, of eight at a time, and tells the place of the digits that are left over.
-fn push_fours(bytes: &mut Vec<u8>, text: &[u8]) -> Result<usize, AllocError>
+// Adds the bytes of digits, of sixteen at a time, and tells the place of the digits that are left over.
+fn push_eights(bytes: &mut Vec<u8>, text: &[u8]) -> Result<usize, AllocError>
     ensures inside { IfOk result (λ at. at ≤ length text.now) }
     ensures read { IfOk result (λ at. after bytes.new.items (bytes_of (drop at text.now)) ≡ after bytes.old.items (bytes_of text.now)) }
 {
     let mut at = 0;
-    while at + 8 <= text.len() {
-        let a = pair_at(text, at);
-        let b = pair_at(text, at + 2);
-        let c = pair_at(text, at + 4);
-        let d = pair_at(text, at + 6);
-        if a > 255 || b > 255 || c > 255 || d > 255 {
+    while at + 16 <= text.len() {
+        let Some(eight) = eight_at(text, at) else {
             return Ok(at);
-        }
-        let first = low(a);
-        let second = low(b);
-        let third = low(c);
-        let last = low(d);
-        bytes.extend_from_slice(&[first, second, third, last])?;
-        at += 8;
+        };
+        bytes.extend_from_slice(&eight)?;
+        at += 16;
     }
     Ok(at)
 }
@@ -140,7 +133,7 @@ pub fn bytes(alloc: Global, text: &[u8]) -> Result<Option<Vec<u8>>, AllocError>
     ensures { IfOk result (λ o. option_map (λ v. v.items) o ≡ bytes_of text.now) }
 {
     let mut bytes = Vec::with_capacity(alloc, text.len() / 2)?;
-    let start = push_fours(&mut bytes, text)?;
+    let start = push_eights(&mut bytes, text)?;
     let mut rest = &text[start..];
     while let [high, low, after @ ..] = rest {
         let Some(b) = byte(*high, *low) else {

@@ -2,7 +2,7 @@
 use Rattle.std.proofs.Common.{sym, subst}
 use Rattle.std.specs.Str.{IsAscii}
 use Rattle.std.proofs.lemmas.Str.{IsUtf8-from_ascii}
-use Rattle.script_fields.proofs.Fours.{digits_ascii, false_true}
+use Rattle.script_fields.proofs.Eights.{digits_ascii, false_true}
 use Rattle.script_fields.proofs.digits.text_of.Goals as goal
 
 pub unreachable-requires : goal.unreachable-requires

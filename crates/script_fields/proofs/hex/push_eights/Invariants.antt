@@ -1,7 +1,7 @@
 use Rattle.std.proofs.Common.{◌≡◌, ◌≤◌, ◌-◌, length, drop}
 use Rattle.script_fields.specs.Hex.{bytes_of}
 use Rattle.script_fields.specs.inner.Fronts.{after}
-use Rattle.script_fields.proofs.hex.push_fours.Given as goal
+use Rattle.script_fields.proofs.hex.push_eights.Given as goal
 
 -- what is read, before the bytes of the rest, is the bytes of all
 abbrev pub invariant-loop-at : goal.invariant-loop-at
