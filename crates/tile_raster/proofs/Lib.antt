@@ -4,4 +4,6 @@ pub mod KeptRows
 pub mod Ends
 pub mod Alike
 pub mod Draws
+pub mod RowRuns
+pub mod PatchRows
 pub mod Batches

@@ -11,8 +11,10 @@ mod draw;
 mod image;
 mod job;
 mod opaque;
+mod patches;
 mod picture_rows;
 mod pixels;
+mod spans;
 
 pub use batch::run_all;
 pub use image::TileImage;

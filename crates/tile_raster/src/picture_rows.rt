@@ -1,6 +1,6 @@
 //! The rows that a picture keeps: of equal rows that follow one another only the first.
 
-ghost use Rattle.std.specs.Prelude.{◌≡◌, ℕ, ◌+◌, ◌*◌, ◌<◌, ◌≤◌, ◌^◌, length, true, false, cond, slice_index, slice_index_or, IsTrue, IfOk};
+ghost use Rattle.std.specs.Prelude.{◌≡◌, ℕ, ◌+◌, ◌*◌, ◌<◌, ◌≤◌, ◌^◌, length, true, false, cond, slice_index, slice_index_or, IsTrue, IfOk, OnOk};
 ghost use Rattle.geom.specs.Covers.{IsSound};
 ghost use Rattle.pixel.specs.Colours.{clear};
 ghost use Rattle.pixel.specs.Rows.{pixel, ArePremultiplied};
@@ -9,6 +9,7 @@ ghost use Rattle.tile_raster.specs.inner.Bands.{AreLevel, AreSteps, AreKept, IsE
 
 use crate::changes::changing_rows;
 use crate::draw::draw_items;
+use crate::patches::{draw_patches, patches_of};
 use crate::pixels::width_of;
 use geom::Rect;
 use page_display_list::DisplayList;
@@ -143,8 +144,35 @@ fn drawn_rows(
     let width = width_of(rect);
     let kept = kept_count(places);
     let mut bytes = clear_rows(alloc, width, kept)?;
-    draw_items(list, rect, places, kept, bytes.as_mut_slice());
+    draw_list(alloc, list, rect, places, kept, bytes.as_mut_slice())?;
     Ok(bytes)
+}
+
+// draws what the list shows on the rect into the rows that are kept, which are transparent before: each pixel once,
+// where no bitmap is among the items
+fn draw_list(
+    alloc: Global,
+    list: &DisplayList,
+    rect: Rect,
+    places: &[u32],
+    kept: usize,
+    bytes: &mut [u8],
+) -> Result<(), AllocError>
+    requires rect { IsSound rect }
+    requires steps { AreSteps (AreLevel list.now rect) (near rect.h) places.now }
+    requires kept { IsCount places.now kept }
+    requires size { length bytes.old ≡ 4 * (near rect.w * kept) }
+    requires blank { (k : ℕ) → k < near rect.w * kept → pixel bytes.old k ≡ clear }
+    requires premultiplied { ArePremultiplied bytes.old }
+    ensures { OnOk result (AreKept list.now rect places.now bytes.new) }
+{
+    match patches_of(alloc, list, rect)? {
+        Some(patches) => draw_patches(alloc, list, rect, patches.as_slice(), places, kept, bytes),
+        None => {
+            draw_items(list, rect, places, kept, bytes);
+            Ok(())
+        }
+    }
 }
 
 // how many rows are kept
