@@ -28,7 +28,8 @@ impl ImagePainter {
         })
     }
 
-    // Paints a scene in at most the given number of parts: the canvas then has its pixels. An error means out of memory.
+    // Paints a scene in at most the given number of parts: the canvas then has its pixels. An error means out of
+    // memory.
     #[tactic(auto, using(crate::proofs::ShownImages::shown_image))]
     pub(crate) fn show<R: Threads + Sync>(
         &mut self,
