@@ -7,6 +7,7 @@ pub mod FreshSteps
 pub mod Joins
 pub mod MovedRows
 pub mod PackedRuns
+pub mod PieceSteps
 pub mod PixelRuns
 pub mod Redraws
 pub mod StripSteps

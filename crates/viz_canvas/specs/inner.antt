@@ -4,3 +4,4 @@ pub mod Fresh
 pub mod Halves
 pub mod Packing
 pub mod Parts
+pub mod Pieces

@@ -8,7 +8,7 @@ ghost use Rattle.viz_canvas.specs.inner.Bands.{AreAllReady, IsRectDrawn, AreDraw
 use crate::band::Band;
 use crate::format::PixelFormat;
 use crate::parts::{BandArea, draw_parts, parts_of, pixels_of};
-use crate::strip::draw_area;
+use crate::pieces::draw_area;
 use geom::Rect;
 use page_display_list::shared_part;
 use std::alloc::{AllocError, Global};

@@ -129,8 +129,16 @@ fn mark_tile(fresh: &mut [u8], image: &TileImage, at: Rect, from: Point, area: R
     }
 }
 
-// the row of a point that does not lie above all rows
-fn row_of(from: Point) -> usize
+/// The column of a point that does not lie to the left of all columns.
+pub(crate) fn column_of(from: Point) -> usize
+    requires { pos 0 ≤ℤ from.x }
+    ensures { result ≡ near from.x }
+{
+    count(from.x)
+}
+
+/// The row of a point that does not lie above all rows.
+pub(crate) fn row_of(from: Point) -> usize
     requires { pos 0 ≤ℤ from.y }
     ensures { result ≡ near from.y }
 {

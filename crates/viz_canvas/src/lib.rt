@@ -1,7 +1,8 @@
 //! Pictures of scenes, in the bytes that their reader wants.
 //!
-//! A canvas keeps one picture, in a pixel format: what a file or a window takes as it is. A scene is drawn onto it strip
-//! by strip: each strip into surfaces, and from there straight into the canvas's bytes, while it is in the processor's
+//! A canvas keeps one picture, in a pixel format: what a file or a window takes as it is. A scene is drawn onto it piece
+//! by piece. Where an opaque tile is seen, the rows of its image are written into the canvas's bytes; the other pieces
+//! are drawn strip by strip: each strip into surfaces, and from there into those bytes, while it is in the processor's
 //! cache. Rows may be copied to other rows, as when a page was scrolled.
 //!
 //! A large area may be drawn in parts of whole rows, each by a thread of its own and with surfaces of its own, which
@@ -19,6 +20,7 @@ mod fresh;
 mod lanes;
 mod moving;
 mod parts;
+mod pieces;
 mod rgb;
 mod rgba;
 mod row;

@@ -7,7 +7,7 @@ ghost use Rattle.viz_canvas.specs.inner.Halves.{upper_place, lower_place};
 
 use crate::band::Band;
 use crate::format::PixelFormat;
-use crate::strip::draw_area;
+use crate::pieces::draw_area;
 use pixel::Area;
 use std::marker::Sync;
 use std::thread::{Threads, join_mut};

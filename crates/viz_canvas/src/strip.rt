@@ -28,8 +28,9 @@ const LEAST_COPIES: usize = 4;
 const PIXELS_OF_VISIT: usize = 16;
 
 /// Draws the pixels of a scene in an area of a band of its picture, which counts its rows from the band's first; the
-/// other pixels stay. Rows that show what the row above them shows are copied where that takes less time.
-pub(crate) fn draw_area<F: PixelFormat>(
+/// other pixels stay. Each strip goes through surfaces; rows that show what the row above them shows are copied where
+/// that takes less time.
+pub(crate) fn draw_strips<F: PixelFormat>(
     scene: &Scene,
     bytes: &mut [u8],
     band: Band,
@@ -127,8 +128,8 @@ fn rows_to_draw(fresh: &[u8], from: usize, most: usize, copies: usize) -> usize
     rows
 }
 
-// the given number of rows of an area from row `first` on
-fn strip_of(at: Area, first: usize, rows: usize) -> Area
+/// The given number of rows of an area from row `first` on.
+pub(crate) fn strip_of(at: Area, first: usize, rows: usize) -> Area
     requires { at.y + first < 2 ^ 64 }
     ensures { result ≡ record { x = at.x; y = at.y + first; w = at.w; h = rows } }
 {
@@ -172,8 +173,8 @@ fn draw_strip<F: PixelFormat>(
     write_area::<F>(bytes, band.across, band.rows, at, surfaces.drawn());
 }
 
-// the rect of the screen that an area of a band is
-fn rect_of(band: Band, at: Area, scene: &Scene) -> Rect
+/// The rect of the screen that an area of a band is.
+pub(crate) fn rect_of(band: Band, at: Area, scene: &Scene) -> Rect
     requires inside { IsInside at scene.now.w band.rows }
     requires end { band.top + band.rows ≤ 2048 }
     ensures value { result ≡ rect_in_band band at }
