@@ -4,7 +4,7 @@ ghost use Rattle.std.specs.Prelude.{◌≡◌, ◌≤◌, ◌-◌, [], drop, vec
 ghost use Rattle.player_lines.specs.Sessions.{AreAnswers, lines_of};
 ghost use Rattle.player_run.specs.Served.{IsLineAnswer};
 ghost use Rattle.player_run.specs.declared.outcome.Outcome.TheVariants.{Done};
-ghost use Rattle.test_sessions.specs.Talks.{IsTold, acts};
+ghost use Rattle.test_threads.specs.Talks.{IsTold, acts};
 
 use ghost_list::GhostList;
 use player_io::{MemSink, MemSource, Sink, Source};

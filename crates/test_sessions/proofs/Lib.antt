@@ -1,2 +1,0 @@
--- One act more.
-pub mod Acts

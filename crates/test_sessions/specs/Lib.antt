@@ -1,2 +1,0 @@
--- What the client in memory tells.
-pub mod Talks
