@@ -1,10 +1,10 @@
 -- Which jobs the program does.
-use Rattle.std.specs.Prelude.{ℕ, ◌≤◌, ◌≡◌, List, All, ⊤}
+use Rattle.std.specs.Prelude.{ℕ, ◌≤◌, ◌≡◌, List, All}
 use Rattle.viz_scene.specs.declared.Quad.{Quad}
 use Rattle.viz_scene.specs.Views.{quads_view, SceneView}
 use Rattle.viz_scene.specs.Sound.{QuadFits}
 use Rattle.bench_draw.specs.declared.job.BenchJob.{BenchJob}
-use Rattle.bench_draw.specs.declared.job.BenchJob.TheVariants.{Over, Scale, Fill, Raster, Scene, Target, Wheel}
+use Rattle.bench_draw.specs.declared.job.BenchJob.TheVariants.{Over, Scale, Fill, Raster, Scene}
 
 -- a row of at most 65536 pixels, or a list of at most 256 items
 abbrev pub IsSmallJob : BenchJob → Type 0
@@ -13,8 +13,6 @@ IsSmallJob (Scale pixels times) = pixels ≤ 65536
 IsSmallJob (Fill pixels times) = pixels ≤ 65536
 IsSmallJob (Raster kind items times) = items ≤ 256
 IsSmallJob (Scene in_groups items layers times) = items ≤ 256
-IsSmallJob (Target size times) = ⊤
-IsSmallJob (Wheel size times) = ⊤
 
 -- a scene of 1024 by 1024 pixels
 abbrev pub IsLarge : SceneView → Type 0

@@ -3,8 +3,6 @@
 ghost use Rattle.std.specs.Prelude.{◌≤◌, IfSome};
 ghost use Rattle.bench_draw.specs.Jobs.{IsSmallJob};
 
-use crate::hits::PageSize;
-
 /// The most pixels of a row.
 pub(crate) const MOST_PIXELS: usize = 65536;
 
@@ -51,16 +49,6 @@ pub(crate) enum BenchJob {
         in_groups: bool,
         items: usize,
         layers: u32,
-        times: u32,
-    },
-    /// A point of a page is asked which layer it hits.
-    Target {
-        size: PageSize,
-        times: u32,
-    },
-    /// A wheel turns at a point of a page.
-    Wheel {
-        size: PageSize,
         times: u32,
     },
 }
@@ -115,14 +103,6 @@ impl BenchJob {
                 layers: times(second.as_str())?,
                 times: times(third.as_str())?,
             }),
-            [name, layers, nodes, depth, count] => {
-                let size = PageSize {
-                    layers: times(layers.as_str())?,
-                    nodes: times(nodes.as_str())?,
-                    depth: times(depth.as_str())?,
-                };
-                BenchJob::of_page(name.as_str(), size, times(count.as_str())?)
-            }
             _ => None,
         }
     }
@@ -137,17 +117,6 @@ impl BenchJob {
             "over" => Some(BenchJob::Over { pixels, times }),
             "scale" => Some(BenchJob::Scale { pixels, times }),
             "fill" => Some(BenchJob::Fill { pixels, times }),
-            _ => None,
-        }
-    }
-
-    /// The job on a page of this name.
-    fn of_page(name: &str, size: PageSize, times: u32) -> Option<BenchJob>
-        ensures { IfSome result IsSmallJob }
-    {
-        match name {
-            "target" => Some(BenchJob::Target { size, times }),
-            "wheel" => Some(BenchJob::Wheel { size, times }),
             _ => None,
         }
     }

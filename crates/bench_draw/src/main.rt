@@ -8,19 +8,13 @@
 //! - `scene ITEMS LAYERS TIMES`, `groups ITEMS LAYERS TIMES`: a scene of 1024 by 1024 pixels in tiles of 256
 //!   by 256, of the given number of layers of the given number of translucent items; with `groups` each layer
 //!   is in a group of its own,
-//! - `target LAYERS NODES DEPTH TIMES`, `wheel LAYERS NODES DEPTH TIMES`: a page of the given number of
-//!   layers and the given number of nodes in each property tree, which stand in chains of DEPTH; the lowest
-//!   layer alone shows. It prints the sum of the ids of the layers that a point hits, or of how many
-//!   scrollers a wheel there moves,
-//! - what `redraws` lists, and what `frames` does.
+//! - what `redraws` lists.
 //!
 //! With no words it makes a small tile's pictures and tries pairs of scenes, of which none may be wrong.
 //!
-//! The scripts `bench/rows`, `bench/redraws` and `bench/pushes` time it.
+//! The scripts `bench/rows` and `bench/redraws` time it.
 #![tactic(auto)]
 
-mod frames;
-mod hits;
 mod job;
 mod large;
 mod pairs;
@@ -48,7 +42,7 @@ fn main(rt: HostRuntime) -> io::Result<()> {
     if words.is_empty() {
         return check(&rt);
     }
-    if redraws::run(&rt, words.as_slice())? || frames::run(&rt, words.as_slice())? {
+    if redraws::run(&rt, words.as_slice())? {
         return Ok(());
     }
     let Some(job) = BenchJob::of_words(words.as_slice()) else {
@@ -65,8 +59,6 @@ fn main(rt: HostRuntime) -> io::Result<()> {
             times,
         } => scenes::draw(rt.alloc(), in_groups, items, layers, times)?,
         BenchJob::Raster { kind, items, times } => tiles::raster(rt.alloc(), kind, items, times)?,
-        BenchJob::Target { size, times } => hits::targets(rt.alloc(), size, times)?,
-        BenchJob::Wheel { size, times } => hits::wheels(rt.alloc(), size, times)?,
     };
     println!(rt; "{sum}")?;
     Ok(())
