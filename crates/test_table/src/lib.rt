@@ -13,7 +13,7 @@ mod values;
 pub use answer::Answer;
 pub use fault::LineFault;
 pub use lines::{Table, check_table, end_counted, end_unread, says_something};
-pub use questions::{Subject, check_questions};
+pub use questions::{Questions, Subject, check_questions};
 pub use tally::Tally;
 pub use titles::Titles;
 pub use values::{key_and_value, numbers, signed, whole};

@@ -23,13 +23,22 @@ pub trait Subject {
 
 /// A table of questions about a subject.
 #[derive(Drop)]
-struct Questions<S> {
+pub struct Questions<S> {
     alloc: Global,
     subject: S,
     tally: Tally,
 }
 
 impl<S: Subject> Questions<S> {
+    /// No question was asked.
+    pub fn new(alloc: Global, subject: S) -> Questions<S> {
+        Questions {
+            alloc,
+            subject,
+            tally: Tally::NONE,
+        }
+    }
+
     /// Takes a line with a question and the answer that is wanted: `KIND: QUESTION => ANSWER`.
     fn take_question<R: Print>(
         &mut self,
@@ -69,10 +78,5 @@ impl<R: Print, S: Subject> Table<R> for Questions<S> {
 /// Takes the lines `KEY: VALUE` of the table on standard input, as `check_table` does: those that the subject takes,
 /// and questions with the answers that are wanted, `KIND: QUESTION => ANSWER`. It tells how many answers there were.
 pub fn check_questions<S: Subject + Drop>(rt: &HostRuntime, subject: S) -> ExitCode {
-    let mut questions = Questions {
-        alloc: rt.alloc(),
-        subject,
-        tally: Tally::NONE,
-    };
-    check_table(rt, &mut questions)
+    check_table(rt, &mut Questions::new(rt.alloc(), subject))
 }

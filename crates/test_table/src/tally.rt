@@ -34,6 +34,15 @@ impl Tally {
         }
     }
 
+    /// The answers and the wrong cases of two tables, of which the other one stands below.
+    pub fn and(self, other: Tally) -> Tally {
+        Tally {
+            answers: self.answers.saturating_add(other.answers),
+            wrong: self.wrong.saturating_add(other.wrong),
+            first: self.first.or(other.first),
+        }
+    }
+
     /// How many answers were compared.
     pub fn answers(&self) -> usize {
         self.answers

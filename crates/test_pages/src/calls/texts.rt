@@ -1,0 +1,73 @@
+//! Scripts and commands out of their texts, and what is asked of the texts.
+
+use crate::fault::PageLineFault;
+use model_history::Script;
+use page_layers::{Command, LayerTree};
+use script_json::{TextFault, print_parts, read_parts, read_script};
+use std::alloc::{AllocError, Global};
+use test_table::Answer;
+
+/// The text of a script of one main frame with these commands, which have commas between.
+pub fn script_text(alloc: Global, commands: &str) -> Result<String, AllocError> {
+    format!(in alloc;
+        r#"{{"background":"000000","budget":0,"eventually":0,"inputs":[],"main":[[{commands}]],"priority":"same","raster_per_frame":0,"soon":0,"tile":16,"version":2,"viewport":[16,16]}}"#
+    )
+}
+
+/// The script of a text.
+pub fn script_of(alloc: Global, text: &str) -> Result<Script, PageLineFault> {
+    match read_script(alloc, text.as_bytes()) {
+        Ok(script) => Ok(script),
+        Err(_) => Err(PageLineFault::NoScript),
+    }
+}
+
+/// The page of a script after all its main frames.
+pub fn page_of(alloc: Global, text: &str) -> Result<LayerTree, PageLineFault> {
+    let script = script_of(alloc, text)?;
+    Ok(script.page(alloc)?)
+}
+
+/// The commands of the last main frame of a script's text.
+fn last_frame(alloc: Global, text: &str) -> Result<Vec<Command>, PageLineFault> {
+    match read_parts(alloc, text.as_bytes()) {
+        Ok(mut parts) => parts.main.pop().ok_or(PageLineFault::NoScript),
+        Err(_) => Err(PageLineFault::NoScript),
+    }
+}
+
+/// The commands of a text with commas between.
+pub fn commands_of(alloc: Global, commands: &str) -> Result<Vec<Command>, PageLineFault> {
+    let text = script_text(alloc, commands)?;
+    last_frame(alloc, text.as_str())
+}
+
+/// Says what the fault of a text is.
+fn say_fault(alloc: Global, fault: TextFault, answer: &mut Answer) -> Result<(), PageLineFault> {
+    let text = format!(in alloc; "{fault}")?;
+    answer.say(text.as_str(), &[]);
+    Ok(())
+}
+
+/// The fault of a text.
+pub fn reads(alloc: Global, text: &str, answer: &mut Answer) -> Result<(), PageLineFault> {
+    match read_script(alloc, text.as_bytes()) {
+        Ok(_) => answer.say("a script", &[]),
+        Err(fault) => say_fault(alloc, fault, answer)?,
+    }
+    Ok(())
+}
+
+/// Whether the canonical text of a script is the text itself.
+pub fn prints(alloc: Global, text: &str, answer: &mut Answer) -> Result<(), PageLineFault> {
+    let Ok(parts) = read_parts(alloc, text.as_bytes()) else {
+        return Err(PageLineFault::NoScript);
+    };
+    let again = print_parts(alloc, &parts)?;
+    if again.as_slice() == text.as_bytes() {
+        answer.say("the same", &[]);
+    } else {
+        answer.say("another text", &[]);
+    }
+    Ok(())
+}

@@ -1,0 +1,106 @@
+//! The trees of one script.
+
+ghost use Rattle.std.specs.Prelude.{◌≡◌, None, IfOk, IsSome};
+ghost use Rattle.impl_trees.specs.Trees.{MayFollow};
+
+use crate::commits::frames::Frames;
+use crate::commits::next_tree::NextTree;
+use crate::fault::PageLineFault;
+use impl_trees::{TreeState, Trees, may_push};
+use model_history::Script;
+use std::alloc::{AllocError, Global};
+
+/// A script's main frames, and the trees that its commits make.
+#[derive(Drop)]
+pub struct Pushing {
+    frames: Frames,
+    trees: Trees,
+    /// What was taken back last and not pushed again.
+    taken: Option<NextTree>,
+}
+
+// Makes a tree the pending one, which it may be.
+fn push(trees: &mut Trees, next: NextTree) -> Result<(), PageLineFault>
+    requires free { trees.old.pending ≡ None }
+    requires follows { MayFollow trees.old.active next.tree next.changes }
+{
+    match trees.push(next.tree, next.changes, next.frame) {
+        Ok(()) => Ok(()),
+        Err((full, _, _)) => Err(PageLineFault::Memory(full)),
+    }
+}
+
+// Makes a tree the pending one.
+fn push_tree(trees: &mut Trees, next: NextTree) -> Result<(), PageLineFault> {
+    if may_push(trees, &next.tree, &next.changes) {
+        push(trees, next)
+    } else {
+        Err(PageLineFault::NotNext)
+    }
+}
+
+// A copy of the pending tree, which is there.
+fn copy_of_pending(trees: &Trees) -> Result<NextTree, PageLineFault>
+    ensures { IfOk result (λ _. IsSome trees.now.pending) }
+{
+    match trees.pending() {
+        Some(pending) => Ok(NextTree::of_pushed(pending)?),
+        None => Err(PageLineFault::OtherTrees),
+    }
+}
+
+impl Pushing {
+    /// Before the first main frame of a script.
+    pub fn new(alloc: Global, script: Script) -> Result<Pushing, AllocError> {
+        Ok(Pushing {
+            frames: Frames::new(alloc, script)?,
+            trees: Trees::new(alloc),
+            taken: None,
+        })
+    }
+
+    /// Ends the next main frame, which changes nothing.
+    pub fn abort(&mut self) -> Result<(), PageLineFault> {
+        self.frames.abort()
+    }
+
+    /// Ends the next main frame, which is committed, and makes its tree the pending one.
+    pub fn push(&mut self) -> Result<(), PageLineFault> {
+        let next = self.frames.commit()?;
+        push_tree(&mut self.trees, next)
+    }
+
+    /// Takes the pending tree back.
+    pub fn take_back(&mut self) -> Result<(), PageLineFault> {
+        self.taken = Some(copy_of_pending(&self.trees)?);
+        self.trees.take_back();
+        Ok(())
+    }
+
+    /// Makes the tree that was taken back the pending one again.
+    pub fn push_again(&mut self) -> Result<(), PageLineFault> {
+        match self.taken.take() {
+            Some(taken) => push_tree(&mut self.trees, taken),
+            None => Err(PageLineFault::OtherTrees),
+        }
+    }
+
+    /// Makes the pending tree the active one.
+    pub fn activate(&mut self) -> Result<(), PageLineFault> {
+        if self.trees.pending().is_none() {
+            return Err(PageLineFault::OtherTrees);
+        }
+        self.trees.activate();
+        Ok(())
+    }
+
+    /// The pending tree, if there is one.
+    pub fn pending(&self) -> Option<&TreeState> {
+        self.trees.pending()
+    }
+
+    /// The active tree, if there is one.
+    pub fn active(&self) -> Option<&TreeState> {
+        self.trees.active()
+    }
+}
