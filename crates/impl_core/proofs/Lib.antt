@@ -8,6 +8,7 @@ pub mod EmptyTrees
 pub mod LastEntry
 pub mod AllJobs
 pub mod Pictures
+pub mod DrawnImages
 pub mod ActivationSteps
 pub mod CommitSteps
 pub mod QuietAborts

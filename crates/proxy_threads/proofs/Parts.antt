@@ -15,8 +15,8 @@ use Rattle.model_history.specs.Texts.{event_line}
 use Rattle.model_history.proofs.BoolFacts.{other_number}
 use Rattle.model_history.proofs.DueFacts.{entry}
 use Rattle.impl_core.specs.Replies.{IsPicture, is_draw_kind}
+use Rattle.impl_core.proofs.DrawnImages.{drawn_image}
 use Rattle.recording_pieces.specs.Scenes.{scene_image}
-use Rattle.recording_writer.proofs.DrawnScenes.{draw_image}
 use Rattle.proxy_threads.specs.Seats.{entry_of_pair, entries_of, past_of}
 use Rattle.proxy_threads.specs.Writing.{part}
 use Rattle.proxy_threads.specs.inner.Steps.{lines_of}
@@ -39,8 +39,8 @@ plain_piece s h e f = append-nil (event_line e)
 
 -- a draw adds its line and the image of its picture
 drawn_piece : (s : ScriptModel) (n : ℕ) (h : List Entry) (e : Event) (scene : SceneView) → kind_of e ≡ kind.Draw → Legal s n (entry 0 e ∷ h) → IsPicture s h scene → piece s h e ≡ event_line e ++ scene_image scene
-unfolding piece
-drawn_piece s n h (event.Draw i lacks) scene k legal is = ap (λ (image : List ℕ). event_line (event.Draw i lacks) ++ image) (sym (draw_image s n h 0 i lacks scene legal.1 is))
+unfolding piece scene_image
+drawn_piece s n h (event.Draw i lacks) scene k legal is = ap (λ (image : List ℕ). event_line (event.Draw i lacks) ++ image) (sym (drawn_image s n h 0 i lacks scene legal.1 is))
 drawn_piece s n h _ scene k legal is = absurd (cc)
 
 -- ---- several

@@ -4,51 +4,27 @@ use Rattle.std.specs.Prelude.{reverse, slice_get}
 use Rattle.std.proofs.lemmas.List.{reverse-append, reverse-reverse, length-reverse, take-append-drop}
 use mathlib.Core.List.{reverse_aux}
 use Rattle.geom.specs.declared.tile.TileKey.{TileKey}
-use Rattle.geom.specs.Covers.{within, covers}
-use Rattle.geom.proofs.Cuts.{within_natural}
-use Rattle.geom.proofs.Spans.{both_of}
 use Rattle.viz_scene.specs.Views.{SceneView}
-use Rattle.viz_scene.specs.Pixels.{scene_pixel}
-use Rattle.tile_visible.specs.Visible.{viewport}
 use Rattle.model_history.specs.declared.event.Event.{Event}
 use Rattle.model_history.specs.declared.event.Event.TheVariants as event
 use Rattle.model_history.specs.declared.history.Entry.{Entry}
 use Rattle.model_history.specs.Scripts.{ScriptModel}
-use Rattle.model_history.specs.Frames.{active_page}
-use Rattle.model_history.specs.Tiles.{missing_visible}
 use Rattle.model_history.specs.Legal.{Legal, Next}
-use Rattle.model_history.specs.Recordings.{image, screen_colour, shown_image, image_behind, piece, pieces}
+use Rattle.model_history.specs.Recordings.{shown_image, image_behind, piece, pieces}
 use Rattle.model_history.specs.Texts.{event_line}
-use Rattle.model_history.proofs.DueFacts.{at_draw}
 use Rattle.impl_core.specs.Replies.{IsPicture}
+use Rattle.impl_core.proofs.DrawnImages.{drawn_image}
 use Rattle.proxy_single_thread.specs.Singles.{AddsScene, AreScenes}
 use Rattle.recording_pieces.specs.Scenes.{scene_image, image_if}
 use Rattle.recording_writer.specs.inner.Scenes.{scene_of, left_behind, Comes, AllCome}
 use Rattle.recording_writer.proofs.Places.{first_behind, newest_before}
 use Rattle.recording_writer.proofs.QuietEvents.{quiet_stays}
-use Rattle.recording_writer.proofs.Rows.{image_alike}
-
--- a natural point of the view is one of the viewport
-inside : (s : ScriptModel) (h : List Entry) (x y : ℕ) → x < (active_page s h).view.w → y < (active_page s h).view.h → covers (viewport (active_page s h)) (pos x) (pos y) ≡ true
-inside s h x y across down =
-    let w : ℕ = (active_page s h).view.w in
-    let t : ℕ = (active_page s h).view.h in
-    both_of (within (pos 0) (pos w) (pos x)) (within (pos 0) (pos t) (pos y)) (within_natural 0 w x (omega arith) (omega (arith, across))) (within_natural 0 t y (omega arith) (omega (arith, down)))
-
--- the image of the picture of a past is the image of what the screen shows
-picture_image : (s : ScriptModel) (h : List Entry) (scene : SceneView) → IsPicture s h scene → scene_image scene ≡ shown_image s h (missing_visible s h)
-unfolding scene_image shown_image
-picture_image s h scene is =
-    let w : ℕ = (active_page s h).view.w in
-    let t : ℕ = (active_page s h).view.h in
-    ap (λ (n : ℕ). image (λ x y. scene_pixel scene (pos x) (pos y)) n scene.h) is.width
-    ∙ ap (λ (n : ℕ). image (λ x y. scene_pixel scene (pos x) (pos y)) w n) is.height
-    ∙ image_alike w t (λ x y. scene_pixel scene (pos x) (pos y)) (screen_colour s h (missing_visible s h)) (λ x y across down. is.pixels (pos x) (pos y) (inside s h x y across down))
 
 -- a draw that may come has the image of its picture after its line
 pub draw_image : (s : ScriptModel) (n : ℕ) (h : List Entry) (a i : ℕ) (lacks : List TileKey) (scene : SceneView) → Next s n h (record { actor = a; event = event.Draw i lacks }) → IsPicture s h scene
     → scene_image scene ≡ shown_image s h lacks
-draw_image s n h a i lacks scene next is = picture_image s h scene is ∙ ap (λ (keys : List TileKey). shown_image s h keys) (sym (at_draw s n h a i lacks next).lacking)
+unfolding scene_image
+draw_image s n h a i lacks scene next is = drawn_image s n h a i lacks scene next is
 
 -- an event that may come: its scene, if it is a draw, stands after those before it
 record Added (s : ScriptModel) (h : List Entry) (e : Event) (rest : List SceneView → Type 0) (scenes back : List SceneView) : Type 0 where

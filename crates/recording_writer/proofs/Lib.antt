@@ -6,7 +6,6 @@ pub mod Places
 pub mod PlayedWays
 pub mod QuietEvents
 pub mod RecordedRuns
-pub mod Rows
 pub mod ShownImages
 mod FilmedRuns
 mod ShotRuns
