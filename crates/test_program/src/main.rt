@@ -33,12 +33,6 @@
 //! says what its output is; another that says nothing of it wants none.
 #![tactic(auto)]
 
-mod bytes;
-mod case;
-mod fault;
-mod names;
-mod numbers;
-mod output;
 mod play;
 mod table;
 

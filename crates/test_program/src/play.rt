@@ -1,7 +1,5 @@
 //! One run of a case.
 
-use crate::case::{Call, Case, InjectedFault};
-use crate::output::Short;
 use player_io::{MemSink, MemSource, OpenGate};
 use player_lines::{Ends, Session};
 use player_run::{Outcome, run, run_alone};
@@ -9,6 +7,7 @@ use std::alloc::{AllocError, Global};
 use std::fmt;
 use std::sync::Wait;
 use std::thread::Threads;
+use test_cases::{Call, Case, InjectedFault, Short};
 
 /// What a run left behind.
 #[derive(Drop)]

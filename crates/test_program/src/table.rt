@@ -1,12 +1,10 @@
 //! The lines of the table, one after another.
 
-use crate::case::{Call, Case};
-use crate::fault::ProgramRowFault;
-use crate::names::Names;
 use crate::play::play;
 use std::alloc::Global;
 use std::sync::Wait;
 use std::thread::Threads;
+use test_cases::{Call, Case, Names, ProgramRowFault};
 use test_table::{Tally, Titles, key_and_value, says_something};
 
 /// What was played.

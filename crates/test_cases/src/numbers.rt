@@ -5,7 +5,9 @@ use crate::fault::ProgramRowFault;
 /// The numbers from `start` on and below `end`.
 #[derive(Clone, Copy)]
 pub struct Numbers {
+    /// The first one.
     pub start: u64,
+    /// The one after the last.
     pub end: u64,
 }
 
@@ -32,16 +34,16 @@ impl Numbers {
 }
 
 /// A number in digits.
-pub fn number(text: &str) -> Result<u64, ProgramRowFault> {
+pub(crate) fn number(text: &str) -> Result<u64, ProgramRowFault> {
     text.parse::<u64>().map_err(|_| ProgramRowFault::NoNumber)
 }
 
 /// A number of 32 bits in digits.
-pub fn number_32(text: &str) -> Result<u32, ProgramRowFault> {
+pub(crate) fn number_32(text: &str) -> Result<u32, ProgramRowFault> {
     text.parse::<u32>().map_err(|_| ProgramRowFault::NoNumber)
 }
 
 /// A status.
-pub fn status(text: &str) -> Result<u8, ProgramRowFault> {
+pub(crate) fn status(text: &str) -> Result<u8, ProgramRowFault> {
     text.parse::<u8>().map_err(|_| ProgramRowFault::NoNumber)
 }

@@ -1,4 +1,4 @@
-//! A case of the table.
+//! Cases.
 
 use crate::bytes::{bytes_of, changed};
 use crate::fault::ProgramRowFault;
@@ -33,29 +33,35 @@ pub enum Call {
     Declined,
 }
 
-/// A case of the table.
+/// A case.
 #[derive(Drop)]
 pub struct Case {
     alloc: Global,
     /// The line where it begins.
     pub line: usize,
+    /// Its title.
     pub title: String,
+    /// The words of its runs.
     pub words: Vec<String>,
+    /// The call that makes them.
     pub call: Call,
     /// What the source holds; none where the case does not say it.
     pub input: Option<Vec<u8>>,
     /// The most bytes of one read.
     pub step: u32,
+    /// What goes wrong around its runs.
     pub trouble: InjectedFault,
     /// The numbers of its runs.
     pub numbers: Numbers,
     /// The most bytes of the notes, where there is a limit.
     pub notes_room: Option<u64>,
+    /// The status that its runs end with.
     pub status: u8,
     /// The line in the notes.
     pub note: Option<String>,
     /// Whether the output is a legal recording, whose pictures are what is told of the output.
     pub recording: bool,
+    /// What is said of the output.
     pub output: Output,
 }
 

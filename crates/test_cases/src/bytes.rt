@@ -5,7 +5,7 @@ use crate::numbers::number_32;
 use std::alloc::Global;
 
 /// The bytes of hexadecimal digits, in groups with blanks between.
-pub fn bytes_of(alloc: Global, text: &str) -> Result<Vec<u8>, ProgramRowFault> {
+pub(crate) fn bytes_of(alloc: Global, text: &str) -> Result<Vec<u8>, ProgramRowFault> {
     let mut bytes = Vec::new(alloc);
     for group in text.split_whitespace() {
         match hex::decode(alloc, group) {
@@ -30,7 +30,7 @@ fn pixels_of(alloc: Global, text: &str) -> Result<Vec<u8>, ProgramRowFault> {
 }
 
 /// The image of a picture: its width, its height, and the colours of its pixels.
-pub fn image_of(alloc: Global, text: &str) -> Result<Vec<u8>, ProgramRowFault> {
+pub(crate) fn image_of(alloc: Global, text: &str) -> Result<Vec<u8>, ProgramRowFault> {
     let (width, rest) = text.split_once(' ').ok_or(ProgramRowFault::NoImage)?;
     let (height, colours) = rest.split_once(' ').ok_or(ProgramRowFault::NoImage)?;
     let across = u64::from(number_32(width)?);
@@ -46,7 +46,7 @@ pub fn image_of(alloc: Global, text: &str) -> Result<Vec<u8>, ProgramRowFault> {
 }
 
 /// The bytes with one part, which stands in them once, changed.
-pub fn changed(
+pub(crate) fn changed(
     alloc: Global,
     bytes: &[u8],
     old: &[u8],
