@@ -15,8 +15,8 @@ use Rattle.recording_check.proofs.LegalRecordings.{legal_not_wrong, legal_not_ba
 use Rattle.recording_check.proofs.OneReading.{not_bad}
 use Rattle.player_run.specs.declared.outcome.Outcome.{Outcome}
 use Rattle.player_run.specs.declared.outcome.Outcome.TheVariants.{Done, Usage, Json, Shape, Script, ReadFault, WriteFault, TooLong, BadRecording, No, Memory, NoPicture}
-use Rattle.player_run.specs.declared.words.Use.{Use}
-use Rattle.player_run.specs.declared.words.Use.TheVariants.{Step, Play, Gen, Demo, Film, Shot, Frames, Check, Serve}
+use Rattle.player_words.specs.declared.words.Use.{Use}
+use Rattle.player_words.specs.declared.words.Use.TheVariants.{Step, Play, Gen, Demo, Film, Shot, Frames, Check, Serve}
 use Rattle.recording_writer.specs.Films.{IsLastImage}
 use Rattle.player_run.specs.Shots.{with_shot}
 use Rattle.player_run.proofs.ShotsTaken.{one_last_image}

@@ -4,7 +4,7 @@ use Rattle.std.specs.Prelude.{Option, Ok}
 use Rattle.std.specs.Io.KnownBytes.{Appends}
 use Rattle.player_run.specs.declared.outcome.Outcome.{Outcome}
 use Rattle.player_run.specs.declared.outcome.Outcome.TheVariants.{Done, Usage, Json, Shape, Script, ReadFault, WriteFault, TooLong, BadRecording, No, Memory, NoPicture}
-use Rattle.player_run.specs.declared.words.Use.TheVariants.{Check}
+use Rattle.player_words.specs.declared.words.Use.TheVariants.{Check}
 use Rattle.player_run.specs.inner.Inputs.{ReadWhole}
 use Rattle.player_run.specs.inner.Judged.{IsJudgement, IsSilent}
 use Rattle.player_run.specs.Runs.{TellsMisfit, CauseOf, CauseFrom, Causes, IsJudgedWhole, Writes, recording_limit}

@@ -1,7 +1,6 @@
 pub mod Gains
 pub mod Told
 pub mod Promised
-pub mod RightWords
 pub mod Tallies
 pub mod Summed
 pub mod Outputs

@@ -8,8 +8,8 @@ use Rattle.script_json.proofs.CanonicalTexts.{said}
 use Rattle.recording_writer.specs.Films.{IsLockstepFilm}
 use Rattle.player_run.specs.declared.outcome.Outcome.{Outcome}
 use Rattle.player_run.specs.declared.outcome.Outcome.TheVariants.{Done, Usage, Json, Shape, Script, ReadFault, WriteFault, TooLong, BadRecording, No, Memory, NoPicture}
-use Rattle.player_run.specs.declared.words.Use.{Use}
-use Rattle.player_run.specs.declared.words.Use.TheVariants.{Step, Film}
+use Rattle.player_words.specs.declared.words.Use.{Use}
+use Rattle.player_words.specs.declared.words.Use.TheVariants.{Step, Film}
 use Rattle.player_run.specs.inner.Outputs.{WritesSome}
 use Rattle.player_run.specs.Runs.{script_limit, IsRunOf, Takes, CauseOf, CauseFrom, Writes}
 use Rattle.player_run.proofs.Outputs.{some_output}

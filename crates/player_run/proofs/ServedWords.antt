@@ -6,9 +6,9 @@ use Rattle.std.specs.Io.KnownBytes.{Appends, Consumes}
 use Rattle.player_lines.specs.Sessions.{Act}
 use Rattle.player_run.specs.declared.outcome.Outcome.{Outcome}
 use Rattle.player_run.specs.declared.outcome.Outcome.TheVariants.{Done, Usage, Json, Shape, Script, ReadFault, WriteFault, TooLong, BadRecording, No, Memory, NoPicture}
-use Rattle.player_run.specs.declared.words.Use.{Use}
-use Rattle.player_run.specs.declared.words.Use.TheVariants.{Step, Play, Gen, Demo, Film, Shot, Frames, Check, Serve}
-use Rattle.player_run.specs.Words.{asks_more, asks_play, asks_serve}
+use Rattle.player_words.specs.declared.words.Use.{Use}
+use Rattle.player_words.specs.declared.words.Use.TheVariants.{Step, Play, Gen, Demo, Film, Shot, Frames, Check, Serve}
+use Rattle.player_words.specs.Words.{asks_more, asks_play, asks_serve}
 use Rattle.player_run.specs.Runs.{TellsMisfit, AnswersSession, CauseFrom, MayAnswer, Reads, ReadToEnd, Writes, IsComplete, OnServe, UnlessServe}
 use Rattle.player_run.specs.Served.{Serves, ServeCause}
 

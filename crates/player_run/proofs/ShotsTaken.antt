@@ -10,7 +10,7 @@ use Rattle.recording_writer.specs.Films.{IsLastImage}
 use Rattle.recording_writer.specs.Shots.{IsShot}
 use Rattle.player_run.specs.declared.outcome.Outcome.{Outcome}
 use Rattle.player_run.specs.declared.outcome.Outcome.TheVariants.{Done, Usage, Json, Shape, Script, ReadFault, WriteFault, TooLong, BadRecording, No, Memory, NoPicture}
-use Rattle.player_run.specs.declared.words.Use.TheVariants.{Shot}
+use Rattle.player_words.specs.declared.words.Use.TheVariants.{Shot}
 use Rattle.player_run.specs.inner.Inputs.{ReadWhole}
 use Rattle.player_run.specs.inner.Outputs.{WritesSome}
 use Rattle.player_run.specs.inner.Scripts.{IsNone, IsNoneOf, IsStopped}

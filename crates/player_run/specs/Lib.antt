@@ -1,4 +1,3 @@
-pub mod Words
 pub mod Outcomes
 pub mod Promises
 pub mod Demos

@@ -23,8 +23,8 @@ use Rattle.recording_writer.specs.Shots.{IsShot}
 use Rattle.script_generator.specs.Generated.{script_of_number}
 use Rattle.player_run.specs.declared.outcome.Outcome.{Outcome}
 use Rattle.player_run.specs.declared.outcome.Outcome.TheVariants.{Done, Usage, Json, Shape, Script, ReadFault, WriteFault, TooLong, BadRecording, No, Memory, NoPicture}
-use Rattle.player_run.specs.declared.words.Use.{Use}
-use Rattle.player_run.specs.declared.words.Use.TheVariants.{Step, Play, Gen, Demo, Film, Shot, Frames, Check, Serve}
+use Rattle.player_words.specs.declared.words.Use.{Use}
+use Rattle.player_words.specs.declared.words.Use.TheVariants.{Step, Play, Gen, Demo, Film, Shot, Frames, Check, Serve}
 use Rattle.player_run.specs.Promises.{IsSoundHistory, IsPlayed, IsPromised}
 use Rattle.player_run.specs.Demos.{demo_line}
 use Rattle.player_run.specs.Shots.{with_shot, HasPicture}

@@ -3,7 +3,7 @@ use Rattle.std.specs.Prelude.{◌≡◌, ℕ, Bool, List, [], ◌∷◌, ◌++�
 use Rattle.player_lines.specs.Sessions.{Act, AtOnce, IsAnswered, IsBegun, IsEnded, frame, Has, HasFailed, IsNew}
 use Rattle.player_run.specs.declared.outcome.Outcome.{Outcome}
 use Rattle.player_run.specs.declared.outcome.Outcome.TheVariants.{Done, Usage, Json, Shape, Script, ReadFault, WriteFault, TooLong, BadRecording, No, Memory}
-use Rattle.player_run.specs.declared.words.Use.TheVariants.{Step}
+use Rattle.player_words.specs.declared.words.Use.TheVariants.{Step}
 use Rattle.player_run.specs.Outcomes.{joined_texts, line_of, status_of}
 use Rattle.player_run.specs.Runs.{CauseOf, Writes}
 

@@ -6,6 +6,5 @@ pub mod Recordings
 pub mod Scripts
 pub mod Shots
 pub mod Summaries
-pub mod Uses
 pub mod Actors
 pub mod Faults

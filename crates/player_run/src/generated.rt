@@ -7,8 +7,8 @@ ghost use Rattle.player_run.specs.Runs.{Causes, IsOutput};
 ghost use Rattle.player_run.specs.inner.Outputs.{WritesSome};
 
 use crate::outcome::Outcome;
-use crate::words::Use;
 use player_io::Sink;
+use player_words::Use;
 use recording_pieces::{WriteStop, put_all};
 use script_generator::script_of_number;
 use script_json::print_script;

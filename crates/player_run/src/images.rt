@@ -9,8 +9,8 @@ ghost use Rattle.player_run.specs.inner.Recordings.{RecordingFrom, WritesImages,
 
 use crate::input::{RECORDING_LIMIT, ReadStop, read_all};
 use crate::outcome::Outcome;
-use crate::words::Use;
 use player_io::{Sink, Source};
+use player_words::Use;
 use recording_check::{RecordingFault, read_images};
 use recording_pieces::{WriteStop, put_all};
 use recording_reader::ImageSpan;

@@ -6,8 +6,8 @@ ghost use Rattle.player_run.specs.inner.Judged.{IsJudgement, IsSilent};
 
 use crate::input::{RECORDING_LIMIT, ReadStop, read_all};
 use crate::outcome::Outcome;
-use crate::words::Use;
 use player_io::Source;
+use player_words::Use;
 use recording_check::{RecordingFault, Verdict, check};
 use std::alloc::Global;
 

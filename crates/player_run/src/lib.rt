@@ -3,8 +3,8 @@
 //! of a client, `frames` takes the images out of a recording, `check` judges one, `gen NUMBER` makes a script, and
 //! `demo NUMBER` plays one and sums it up.
 //!
-//! The modules in the order in which a run meets them: the words, the input, the program that joins all;
-//! a module for each use; and the notes that tell the outcome.
+//! The modules in the order in which a run meets them: the input, the program that joins all; a module for each
+//! use; and the notes that tell the outcome. What the words ask for is in `player_words`.
 #![tactic(auto)]
 
 mod beside;
@@ -30,7 +30,6 @@ mod shot_input;
 mod step;
 mod threads;
 mod verdicts;
-mod words;
 
 pub use outcome::Outcome;
 pub use program::{run, run_alone};

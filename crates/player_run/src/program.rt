@@ -1,11 +1,11 @@
 //! The words, the input and the output of one run.
 
 ghost use Rattle.std.specs.Prelude.{◌≡◌, Ok, true, false, is_none, IfNone, IfOk, IfSome, OnErr, map, string_bytes};
-ghost use Rattle.player_run.specs.Words.{asks_more, asks_play, asks_serve, needs_more, use_of as use_in};
+ghost use Rattle.player_words.specs.Words.{asks_more, asks_play, asks_serve, needs_more, use_of as use_in};
 ghost use Rattle.player_run.specs.Outcomes.{line_of, Told};
 ghost use Rattle.player_run.specs.Runs.{TellsMisfit, CauseFrom, MayAnswer, Reads, ReadToEnd, Writes, Causes, StopsAtFault, IsComplete, OnServe, UnlessServe};
 ghost use Rattle.player_run.specs.Served.{Serves, ServeCause};
-ghost use Rattle.player_run.specs.inner.Uses.{IsFew};
+ghost use Rattle.player_words.specs.Words.{IsFew};
 
 use crate::demo::run_demo;
 use crate::filmed::run_film;
@@ -18,9 +18,9 @@ use crate::play::run_play;
 use crate::serving::serve;
 use crate::shot::run_shot;
 use crate::step::run_step;
-use crate::words::{Use, players, servers, use_of};
 use player_io::{Gate, Sink, Source};
 use player_lines::{Client, Session};
+use player_words::{Use, players, servers, use_of};
 use std::alloc::Global;
 use std::marker::Send;
 use std::sync::Wait;

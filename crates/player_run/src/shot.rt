@@ -7,9 +7,9 @@ ghost use Rattle.player_run.specs.inner.Shots.{Shoots};
 
 use crate::outcome::Outcome;
 use crate::shot_input::read_shot_from;
-use crate::words::Use;
 use model_history::Script;
 use player_io::{Sink, Source};
+use player_words::Use;
 use recording_pieces::{WriteStop, put_all};
 use recording_writer::shoot;
 use std::alloc::Global;

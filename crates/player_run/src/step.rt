@@ -6,9 +6,9 @@ ghost use Rattle.player_run.specs.inner.Outputs.{WritesSome};
 
 use crate::outcome::Outcome;
 use crate::script_input::read_script_from;
-use crate::words::Use;
 use model_history::Script;
 use player_io::{Sink, Source};
+use player_words::Use;
 use recording_pieces::WriteStop;
 use recording_writer::{Recorded, record_lockstep};
 use std::alloc::Global;

@@ -9,7 +9,7 @@ use Rattle.recording_check.specs.Recordings.{IsRecording}
 use Rattle.player_run.specs.declared.images.Images.{Images}
 use Rattle.player_run.specs.declared.outcome.Outcome.{Outcome}
 use Rattle.player_run.specs.declared.outcome.Outcome.TheVariants.{Done, WriteFault, Memory}
-use Rattle.player_run.specs.declared.words.Use.TheVariants.{Frames}
+use Rattle.player_words.specs.declared.words.Use.TheVariants.{Frames}
 use Rattle.player_run.specs.inner.Scripts.{IsStopped}
 use Rattle.player_run.specs.Runs.{recording_limit, CauseOf, ReadToEnd}
 

@@ -1,6 +1,6 @@
 -- What was written is what the use writes.
 use Rattle.std.proofs.Common.{sym, subst}
-use Rattle.player_run.specs.declared.words.Use.{Use}
+use Rattle.player_words.specs.declared.words.Use.{Use}
 use Rattle.player_run.specs.Runs.{Writes}
 use Rattle.player_run.proofs.JudgedInputs.{nothing_written}
 use Rattle.player_run.proofs.program.run_use.Goals as goal

@@ -1,7 +1,7 @@
 -- Where one digit more is too much, so is the whole.
 use Rattle.std.proofs.Common.{◌^◌}
-use Rattle.player_run.proofs.RightWords.{value_passes}
-use Rattle.player_run.proofs.words.value_of.Goals as goal
+use Rattle.player_words.proofs.RightWords.{value_passes}
+use Rattle.player_words.proofs.words.value_of.Goals as goal
 
 pub returns-in_default-value_behind : goal.returns-in_default-value_behind
 returns-in_default-value_behind c =

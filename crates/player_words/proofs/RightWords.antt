@@ -1,6 +1,6 @@
 -- What the digits of a word say, digit by digit.
 use Rattle.std.proofs.Common.{◌≡◌, ℕ, ◌+◌, ◌-◌, ◌*◌, ◌≤◌, List, [], ◌∷◌, ap, sym, ◌∙◌, arith}
-use Rattle.player_run.specs.Words.{digits_value}
+use Rattle.player_words.specs.Words.{digits_value}
 
 -- digits after a number do not make it less
 pub value_grows : (n : ℕ) (cs : List ℕ) → n ≤ digits_value n cs

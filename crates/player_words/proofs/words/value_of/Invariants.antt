@@ -1,7 +1,7 @@
 -- The value of the digits so far and the digits that are left say what all say.
 use Rattle.std.proofs.Common.{◌≡◌, length}
-use Rattle.player_run.specs.Words.{digits_value}
-use Rattle.player_run.proofs.words.value_of.Given as goal
+use Rattle.player_words.specs.Words.{digits_value}
+use Rattle.player_words.proofs.words.value_of.Given as goal
 
 abbrev pub invariant-loop-digit : goal.invariant-loop-digit
 invariant-loop-digit l = digits_value l.value l.rest ≡ digits_value 0 l.word

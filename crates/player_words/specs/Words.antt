@@ -1,8 +1,8 @@
 -- Which words the program takes, and what they ask for: `step N`, `play N`, `gen NUMBER`, `demo NUMBER`, `film N`, `shot N`, `serve N`, `frames`, `check`.
-use Rattle.std.specs.Prelude.{ℕ, Bool, true, false, ◌+◌, ◌-◌, ◌*◌, ◌^◌, ◌&&◌, nat_le, nat_lt, List, [], ◌∷◌, Option, Some, None, option_and_then, Result, Ok, Err, codes, decimal, if◌then◌else◌}
+use Rattle.std.specs.Prelude.{ℕ, ◌≤◌, ⊤, Bool, true, false, ◌+◌, ◌-◌, ◌*◌, ◌^◌, ◌&&◌, nat_le, nat_lt, List, [], ◌∷◌, Option, Some, None, option_and_then, Result, Ok, Err, codes, decimal, if◌then◌else◌}
 use Rattle.std.specs.Str.{bytes_eq}
-use Rattle.player_run.specs.declared.words.Use.{Use}
-use Rattle.player_run.specs.declared.words.Use.TheVariants.{Step, Play, Gen, Demo, Film, Shot, Frames, Check, Serve}
+use Rattle.player_words.specs.declared.words.Use.{Use}
+use Rattle.player_words.specs.declared.words.Use.TheVariants.{Step, Play, Gen, Demo, Film, Shot, Frames, Check, Serve}
 
 -- what the digits of a word say, where those before them say n
 abbrev pub digits_value : ℕ → List ℕ → ℕ
@@ -81,3 +81,12 @@ needs_more _ = false
 abbrev pub asks_more : Result Use ℕ → Bool
 asks_more (Ok wanted) = needs_more wanted
 asks_more (Err word) = false
+
+-- where it has raster workers, they are 1 to 16
+abbrev pub IsFew : Use → Type 0
+IsFew (Step workers) = (1 ≤ workers) × (workers ≤ 16)
+IsFew (Play workers) = (1 ≤ workers) × (workers ≤ 16)
+IsFew (Film workers) = (1 ≤ workers) × (workers ≤ 16)
+IsFew (Shot workers) = (1 ≤ workers) × (workers ≤ 16)
+IsFew (Serve workers) = (1 ≤ workers) × (workers ≤ 16)
+IsFew _ = ⊤

@@ -2,8 +2,8 @@
 
 ghost use Rattle.std.specs.Prelude.{◌≡◌, ◌≤◌, ◌^◌, ◌+◌, ◌-◌, ◌*◌, Ok, is_some, IfOk, IfSome, MatchOption, decimal, map, string_bytes};
 ghost use Rattle.std.specs.Str.{bytes_eq};
-ghost use Rattle.player_run.specs.Words as words;
-ghost use Rattle.player_run.specs.inner.Uses.{IsFew};
+ghost use Rattle.player_words.specs.Words as words;
+ghost use Rattle.player_words.specs.Words.{IsFew};
 
 use itoa::Buffer;
 
