@@ -1,13 +1,12 @@
 -- Commands and main frames: a canonical value that reads as one is the one that is printed for it.
-use Rattle.std.proofs.Common.{◌≡◌, ℕ, ◌+◌, ◌≤◌, List, [], ◌∷◌, map, true, false, Option, Some, None, Result, Ok, Err, IfOk, IfSome, option_and_then, codes, bytes_eq, if◌then◌else◌, refl, sym, ap, ap₂, ◌∙◌, subst}
+use Rattle.std.proofs.Common.{◌≡◌, ℕ, ◌+◌, ◌≤◌, List, map, true, false, Option, Some, None, Result, Ok, Err, IfOk, IfSome, option_and_then, codes, bytes_eq, if◌then◌else◌, refl, sym, ap, ap₂, ◌∙◌, subst}
 use Rattle.std.proofs.lemmas.Slice.Eq.{bytes_eq-Decides}
-use Rattle.serde_json.specs.Data.{Data, null, boolean, number, string, array, object, Items, no_items, item}
+use Rattle.serde_json.specs.Data.{Data, string, array, Items, no_items, item}
 use Rattle.serde_json.specs.Find.{get, as_str, as_array, as_object}
 use Rattle.serde_json.specs.View.{items_of}
 use Rattle.geom.specs.declared.rect.Rect.{Rect}
 use Rattle.page_display_list.specs.declared.item.Item.{Item}
 use Rattle.page_display_list.specs.declared.item.Item.TheVariants as kind
-use Rattle.page_layers.specs.declared.command.Command.TheVariants.{InsertItem, ReplaceItem}
 use Rattle.model_history.specs.Ranges.{is_picture}
 use Rattle.script_fields.specs.Canonical.{IsCanonical, AreCanonical}
 use Rattle.script_fields.specs.Faults.{or_fault}

@@ -1,5 +1,5 @@
 -- Inputs: what is printed reads back, and what is read is in the ranges.
-use Rattle.std.proofs.Common.{◌≡◌, ℕ, suc, ◌+◌, ◌<◌, ◌≤◌, ℤ, pos, negsuc, List, [], ◌∷◌, length, map, true, false, nat_lt, Some, None, Result, Ok, Err, IfOk, IfSome, codes, lit<, if◌then◌else◌, refl, ap, arith}
+use Rattle.std.proofs.Common.{◌≡◌, ℕ, suc, ◌+◌, ◌<◌, ◌≤◌, ℤ, pos, negsuc, List, [], ◌∷◌, length, map, true, false, nat_lt, Result, Ok, Err, IfOk, codes, lit<, if◌then◌else◌, refl, ap, arith}
 use Rattle.std.proofs.lemmas.Bool.Decides.{nat_tests}
 use Rattle.std.specs.List.{list_all}
 use Rattle.serde_json.specs.Data.{Data, Items, no_items, item}
@@ -8,10 +8,10 @@ use Rattle.serde_json.specs.View.{items_of}
 use Rattle.model_history.specs.declared.input.Input.{Input}
 use Rattle.model_history.specs.declared.input.Input.TheVariants.{Scroll, Wheel, Draw, Await, Settle}
 use Rattle.model_history.specs.Ranges.{in_range, is_u32, is_amount, input_in_range, draw_count}
-use Rattle.script_fields.specs.Faults.{fault, or_fault}
+use Rattle.script_fields.specs.Faults.{fault}
 use Rattle.script_fields.specs.Fields.{object_at, no_more_members, number_at, int_at}
 use Rattle.script_fields.proofs.Again.{left, right, both, number_again, int_again}
-use Rattle.script_fields.proofs.Fits.{then_ok, then_any, or_fault_ok, number_fits, int_fits}
+use Rattle.script_fields.proofs.Fits.{then_ok, then_any, number_fits, int_fits}
 use Rattle.script_json.specs.declared.fault.ShapeFault.{ShapeFault}
 use Rattle.script_json.specs.declared.op.InputOp.{InputOp}
 use Rattle.script_json.specs.declared.op.InputOp.TheVariants as op

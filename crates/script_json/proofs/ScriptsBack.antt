@@ -1,24 +1,21 @@
 -- Inputs and scripts: a canonical value that reads as one is the one that is printed for it.
-use Rattle.std.proofs.Common.{◌≡◌, ℕ, ◌+◌, ◌≤◌, ℤ, pos, negsuc, List, [], ◌∷◌, length, map, nat_lt, Option, Some, None, Result, Ok, Err, IfOk, IfSome, option_and_then, codes, refl, sym, ap, ◌∙◌, subst}
+use Rattle.std.proofs.Common.{◌≡◌, ℕ, ◌+◌, ◌≤◌, pos, negsuc, List, length, map, Option, Some, Result, Ok, IfOk, IfSome, option_and_then, codes, refl, ap, ◌∙◌, subst}
 use Rattle.serde_json.specs.Data.{Data, string, array, Items, no_items, item}
 use Rattle.serde_json.specs.Find.{get, as_str, as_object}
 use Rattle.serde_json.specs.View.{items_of}
-use Rattle.tile_priority.specs.declared.tree_priority.TreePriority.{TreePriority}
-use Rattle.model_history.specs.declared.input.Input.{Input}
 use Rattle.model_history.specs.Ranges.{longest_side}
 use Rattle.model_history.specs.Scripts.{ScriptModel}
 use Rattle.script_fields.specs.Canonical.{IsCanonical, AreCanonical}
-use Rattle.script_fields.specs.Faults.{or_fault}
 use Rattle.script_fields.specs.Fields.{object_at, number_at, sides_at, opaque_at, list_at, member_count, no_more_members}
 use Rattle.script_fields.specs.Values.{number_data, int_data, opaque_data, sides_data}
 use Rattle.script_fields.proofs.Fits.{then_ok, then_any, or_fault_ok}
 use Rattle.script_fields.proofs.Orders.{object_is, canonical_found}
-use Rattle.script_fields.proofs.Back.{weaker, if_true, int_found, number_found, opaque_found, sides_found, list_found, few_members}
+use Rattle.script_fields.proofs.Back.{weaker, int_found, number_found, opaque_found, sides_found, list_found, few_members}
 use Rattle.script_json.specs.declared.fault.ShapeFault.{ShapeFault}
 use Rattle.script_json.specs.declared.head.Head.{Head}
 use Rattle.script_json.specs.declared.op.InputOp.{InputOp}
 use Rattle.script_json.specs.declared.op.InputOp.TheVariants as op
-use Rattle.script_json.specs.Faults.{placed, before_rest}
+use Rattle.script_json.specs.Faults.{placed}
 use Rattle.script_json.specs.InputReading.{input_named, input_op_at, amount_at, below, input_fields_at, input_at, draws_after, inputs_at}
 use Rattle.script_json.specs.InputValues.{scroll_data, wheel_data, draw_data, await_data, settle_data, input_data}
 use Rattle.script_json.specs.CommandReading.{frames_at}
