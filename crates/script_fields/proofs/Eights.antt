@@ -7,8 +7,6 @@ use mir.Val.{bits, hbits}
 use Rattle.std.proofs.lemmas.Simd.{zip2_splat, zip2_of_maps, splat_is_map, zip2_splat_left, tops_compared, mask_l-mod, length-zip2, length-chunk, get_or-chunk, chunk-drop}
 use Rattle.std.proofs.lemmas.Bool.Decides.{nat_tests}
 use Rattle.std.proofs.lemmas.Grind.{and_numeral}
-use Rattle.std.proofs.lemmas.Str.Ascii.{IsAscii-nil, IsAscii-cons}
-use Rattle.std.specs.Str.{IsAscii}
 use Rattle.std.proofs.lemmas.List.{drop_more, get_or-map, length-map, get_or_append_left, get_or-append-add, append_assoc}
 use Rattle.script_fields.specs.Hex.{digit_value, digit_of, byte_of, bytes_of, bytes_digits}
 use Rattle.script_fields.specs.inner.Fronts.{after}
@@ -340,19 +338,3 @@ eight_written front bytes ds at fit size high low =
     append_assoc front ds (bytes_digits (drop (at + 8) bytes))
     ∙ ap (λ (l : List ℕ). front ++ (l ++ bytes_digits (drop (at + 8) bytes))) own
     ∙ ap (λ (l : List ℕ). front ++ l) (sym (digits_joined (chunk at 8 bytes) (drop (at + 8) bytes)) ∙ ap bytes_digits (sym (chunk-drop at 8 bytes)))
-
-digit_low : (n : ℕ) → n < 16 → digit_of n < 128
-unfolding digit_of
-digit_low n lt = grind (arith, nat_tests)
-
--- digits are ASCII
-pub digits_ascii : (bytes : List ℕ) → ((i : ℕ) → i < length bytes → slice_index bytes i < 256) → IsAscii (bytes_digits bytes)
-digits_ascii [] fits = IsAscii-nil
-digits_ascii (b ∷ rest) fits =
-    let low : b < 256 = fits 0 (omega arith) in
-    IsAscii-cons (digit_of (b / 16)) (digit_of (b % 16) ∷ bytes_digits rest) (digit_low (b / 16) (omega arith))
-    (IsAscii-cons (digit_of (b % 16)) (bytes_digits rest) (digit_low (b % 16) (omega arith))
-    (digits_ascii rest (λ i lt. fits (suc i) (omega arith))))
-
-pub false_true : false ≡ true → ⊥
-false_true h = cc

@@ -1,56 +1,45 @@
-//! The digits of bytes and colours.
+//! The digits of bytes and colours, added to a text.
 
-ghost use Rattle.std.specs.Prelude.{◌≡◌, ◌++◌, ◌+◌, ◌*◌, ◌/◌, ◌%◌, ◌<◌, ◌≤◌, ℕ, length, map, slice_index, drop, OnOk, IfOk, string_bytes};
+ghost use Rattle.std.specs.Prelude.{◌≡◌, ◌++◌, ◌+◌, ◌*◌, ◌/◌, ◌%◌, ◌<◌, ◌≤◌, ℕ, length, map, slice_index, drop, OnOk, IfOk};
+ghost use Rattle.json.specs.Print.{escape};
 ghost use Rattle.script_fields.specs.Hex.{digit_of, byte_digits, bytes_digits, six_digits, eight_digits};
 
 use pixel::Colour;
-use std::alloc::{AllocError, Global};
+use std::alloc::AllocError;
 use std::simd::prelude::*;
 
 // The digit of a number below 16.
 #[tactic(auto, unfolding(crate::specs::Hex::digit_of))]
 fn digit_of(n: u8) -> u8
     requires { n < 16 }
-    ensures value { result ≡ digit_of n }
-    ensures ascii { result < 128 }
+    ensures { result ≡ digit_of n }
 {
     if n < 10 { 48 + n } else { 87 + n }
 }
 
-// Adds the two digits of a byte.
-fn push_byte(text: &mut String, byte: u8) -> Result<(), AllocError>
-    ensures { OnOk result (string_bytes text.new ≡ string_bytes text.old ++ byte_digits byte) }
+// Adds the two digits of a byte. A digit needs no escape.
+#[tactic(auto, using(crate::proofs::Quoted::byte_plain))]
+fn push_byte(text: &mut Vec<u8>, byte: u8) -> Result<(), AllocError>
+    ensures { OnOk result (text.new.items ≡ text.old.items ++ escape (byte_digits byte)) }
 {
-    text.push(digit_of(byte / 16) as char)?;
-    text.push(digit_of(byte % 16) as char)
+    text.extend_from_slice(&[digit_of(byte / 16), digit_of(byte % 16)])
 }
 
-// Adds the six digits of a colour's red, green and blue.
-fn push_six(text: &mut String, colour: Colour) -> Result<(), AllocError>
-    ensures { OnOk result (string_bytes text.new ≡ string_bytes text.old ++ six_digits colour) }
+/// Adds the six digits of a colour's red, green and blue. A digit needs no escape.
+pub(crate) fn push_six(text: &mut Vec<u8>, colour: Colour) -> Result<(), AllocError>
+    ensures { OnOk result (text.new.items ≡ text.old.items ++ escape (six_digits colour)) }
 {
     push_byte(text, colour.r())?;
     push_byte(text, colour.g())?;
     push_byte(text, colour.b())
 }
 
-/// The six digits of a colour's red, green and blue.
-pub fn six(alloc: Global, colour: Colour) -> Result<String, AllocError>
-    ensures { IfOk result (λ s. string_bytes s ≡ six_digits colour) }
+/// Adds the eight digits of a colour. A digit needs no escape.
+pub(crate) fn push_eight(text: &mut Vec<u8>, colour: Colour) -> Result<(), AllocError>
+    ensures { OnOk result (text.new.items ≡ text.old.items ++ escape (eight_digits colour)) }
 {
-    let mut text = String::with_capacity(alloc, 6)?;
-    push_six(&mut text, colour)?;
-    Ok(text)
-}
-
-/// The eight digits of a colour.
-pub fn eight(alloc: Global, colour: Colour) -> Result<String, AllocError>
-    ensures { IfOk result (λ s. string_bytes s ≡ eight_digits colour) }
-{
-    let mut text = String::with_capacity(alloc, 8)?;
-    push_six(&mut text, colour)?;
-    push_byte(&mut text, colour.a())?;
-    Ok(text)
+    push_six(text, colour)?;
+    push_byte(text, colour.a())
 }
 
 // The digits of eight numbers below 16.
@@ -101,32 +90,16 @@ fn push_each(digits: &mut Vec<u8>, bytes: &[u8]) -> Result<(), AllocError>
     Ok(())
 }
 
-// The digits of bytes as bytes.
-fn digits_of(alloc: Global, bytes: &[u8]) -> Result<Vec<u8>, AllocError>
-    ensures { IfOk result (λ digits. digits.items ≡ bytes_digits bytes.now) }
-{
-    let mut digits = Vec::with_capacity(alloc, bytes.len().saturating_mul(2))?;
-    let start = push_sixteens(&mut digits, bytes)?;
-    push_each(&mut digits, &bytes[start..])?;
-    Ok(digits)
-}
+// The digits of bytes need no escape.
+fn are_plain(_bytes: &[u8])
+    ensures { escape (bytes_digits _bytes.now) ≡ bytes_digits _bytes.now }
+{}
 
-// The digits of some bytes as a text.
-fn text_of(digits: Vec<u8>, _bytes: &[u8]) -> String
-    requires digits { digits.items ≡ bytes_digits _bytes.now }
-    requires small { (i : ℕ) → i < length _bytes.now → slice_index _bytes.now i < 256 }
-    ensures { string_bytes result ≡ bytes_digits _bytes.now }
+/// Adds the digits of bytes, two a byte. A digit needs no escape.
+pub(crate) fn push_bytes(text: &mut Vec<u8>, bytes: &[u8]) -> Result<(), AllocError>
+    ensures { OnOk result (text.new.items ≡ text.old.items ++ escape (bytes_digits bytes.now)) }
 {
-    match String::from_utf8(digits) {
-        Ok(text) => text,
-        Err(_) => unreachable!(),
-    }
-}
-
-/// The digits of bytes, two a byte.
-pub fn bytes(alloc: Global, bytes: &[u8]) -> Result<String, AllocError>
-    ensures { IfOk result (λ s. string_bytes s ≡ bytes_digits bytes.now) }
-{
-    let digits = digits_of(alloc, bytes)?;
-    Ok(text_of(digits, bytes))
+    are_plain(bytes);
+    let start = push_sixteens(text, bytes)?;
+    push_each(text, &bytes[start..])
 }

@@ -5,7 +5,7 @@ mod fault;
 pub mod fields;
 pub mod forms;
 mod hex;
-pub mod values;
+pub mod texts;
 
 pub use fault::{FieldFault, Trouble};
 pub use hex::bytes;

@@ -1,4 +1,6 @@
 mod Behind
+mod Objects
+mod Nesting
 mod CommandLaws
 mod InputLaws
 mod ItemLaws
@@ -12,6 +14,5 @@ mod ValuesReadBack
 pub mod TextsReadBack
 pub mod CanonicalTexts
 pub mod Pixels
-pub mod Plain
 pub mod ScriptLaws
 pub mod OneAnswer

@@ -4,7 +4,7 @@ use Rattle.std.proofs.lemmas.Bool.Decides.{nat_tests}
 use Rattle.std.proofs.lemmas.Str.{IsUtf8-append}
 use Rattle.std.specs.List.{list_all}
 use Rattle.json.proofs.Printed.Utf8.{IsUtf8-are_ascii}
-use Rattle.serde_json.specs.Data.{Data, string, array, member, no_members}
+use Rattle.serde_json.specs.Data.{Data, string, member, no_members}
 use Rattle.serde_json.specs.View.{items_of}
 use Rattle.geom.specs.declared.rect.Rect.{Rect}
 use Rattle.pixel.specs.Colours.{Parts, is_colour}
@@ -17,7 +17,7 @@ use Rattle.tile_priority.specs.declared.tree_priority.TreePriority.{TreePriority
 use Rattle.tile_priority.specs.declared.tree_priority.TreePriority.TheVariants.{Same, Smooth, New}
 use Rattle.model_history.specs.declared.input.Input.{Input}
 use Rattle.model_history.specs.declared.input.Input.TheVariants.{Scroll, Wheel, Draw, Await, Settle}
-use Rattle.model_history.specs.Ranges.{command_in_range, input_in_range, head_in_range, main_in_range, inputs_in_range, is_in_ranges, longest_side, item_in_range, is_rect, is_signed, is_u32, is_picture, are_pixels, draw_count}
+use Rattle.model_history.specs.Ranges.{command_in_range, input_in_range, is_in_ranges, longest_side, item_in_range, is_rect, is_signed, is_u32, is_picture, are_pixels}
 use Rattle.model_history.specs.Scripts.{ScriptModel}
 use Rattle.script_fields.specs.Hex.{bytes_digits, six_digits, eight_digits, digit_of}
 use Rattle.script_fields.specs.Values.{number_data, int_data, opaque_data, colour_data, bytes_data, rect_data, sides_data}
@@ -31,7 +31,7 @@ use Rattle.script_json.specs.CommandValues.{command_data, frame_data}
 use Rattle.script_json.specs.Recordings.{script_text}
 use Rattle.script_json.specs.ScriptValue.{priority_name, main_data, inputs_data, parts_data}
 use Rattle.script_json.proofs.ItemLaws.{picture_pixels}
-use Rattle.script_json.proofs.Plain.{plain_parts}
+use Rattle.script_json.proofs.Nesting.{nests_parts}
 use Rattle.script_json.proofs.ValuesReadBack.{Prints, PrintsItems, members_print, plain_reads, plain_utf8}
 use Rattle.script_json.proofs.ScriptLaws.{parts_again}
 
@@ -450,7 +450,7 @@ parts_print s all =
 pub text_is : (s : ScriptModel) → is_in_ranges s ≡ true → IsTextOf (script_text s) (parts_data s)
 text_is s ranges =
     let p = parts_print s ranges in
-    (plain_utf8 (parts_data s) p, plain_reads (parts_data s) p (plain_parts s).nests)
+    (plain_utf8 (parts_data s) p, plain_reads (parts_data s) p (nests_parts s))
 
 -- so it is a text of the script
 pub text_reads_back : (s : ScriptModel) → is_in_ranges s ≡ true → IsScriptText (script_text s) s

@@ -12,3 +12,4 @@ pub mod CommandValues
 pub mod InputValues
 pub mod ScriptValue
 pub mod Recordings
+pub mod inner

@@ -1,6 +1,6 @@
 -- The JSON value of a script: its compact text is the script's canonical text.
 use Rattle.std.specs.Prelude.{ℕ, List, codes, map}
-use Rattle.serde_json.specs.Data.{Data, string, array, object, Members, member, no_members, put}
+use Rattle.serde_json.specs.Data.{Data, string, array, object, member, no_members}
 use Rattle.serde_json.specs.View.{items_of}
 use Rattle.page_layers.specs.declared.command.Command.{Command}
 use Rattle.model_history.specs.declared.input.Input.{Input}
@@ -40,25 +40,3 @@ parts_data s =
     (member (codes "version") (number_data s.version)
     (member (codes "viewport") (sides_data s.viewport_w s.viewport_h)
     no_members)))))))))))
-
--- the members with what is drawn and in which order
-unfoldable pub with_picture : ScriptModel → Members → Members
-with_picture s ms =
-    put (codes "viewport") (sides_data s.viewport_w s.viewport_h)
-    (put (codes "tile") (number_data s.tile)
-    (put (codes "priority") (string (priority_name s.priority))
-    (put (codes "background") (opaque_data s.background) ms)))
-
--- the members with the numbers that bound a run
-unfoldable pub with_bounds : ScriptModel → Members → Members
-with_bounds s ms =
-    put (codes "version") (number_data s.version)
-    (put (codes "soon") (number_data s.soon)
-    (put (codes "raster_per_frame") (number_data s.raster_per_frame)
-    (put (codes "eventually") (number_data s.eventually)
-    (put (codes "budget") (number_data s.budget) ms))))
-
--- the members with the main frames and the inputs
-unfoldable pub with_lists : ScriptModel → Members → Members
-with_lists s ms =
-    put (codes "main") (main_data s.main) (put (codes "inputs") (inputs_data s.inputs) ms)

@@ -11,7 +11,6 @@ mod script;
 mod text_fault;
 
 pub use fault::{PartsFault, ShapeFault};
-pub use print::parts::print_parts;
 pub use read::parts::read_parts;
 pub use script::{print_script, read_script};
 pub use text_fault::TextFault;

@@ -1,8 +1,10 @@
-//! Printing, part by part: each function is named as the definition that says what it prints.
+//! Scripts as JSON texts.
 
 mod commands;
+mod field;
 mod inputs;
 mod items;
 mod layers;
 mod nodes;
+mod object;
 pub(crate) mod parts;

@@ -1,17 +1,18 @@
-//! Commands and main frames, as JSON values.
+//! Commands and main frames, as JSON texts.
 
-ghost use Rattle.std.specs.Prelude.{◌≡◌, IfOk};
-ghost use Rattle.serde_json.specs.View.{view};
+ghost use Rattle.std.specs.Prelude.{◌≡◌, ◌++◌, OnOk};
+ghost use Rattle.serde_json.specs.Written.{compact_text};
 ghost use Rattle.script_json.specs.CommandValues.{command_data, frame_data};
 
+use super::object::push_comma;
 use super::{items, layers, nodes};
 use page_layers::Command;
-use serde_json::Value;
-use std::alloc::{AllocError, Global};
+use std::alloc::AllocError;
 
-// A command.
-fn command(alloc: Global, command: &Command) -> Result<Value, AllocError>
-    ensures { IfOk result (λ v. view v ≡ command_data command.now) }
+// Adds a command.
+#[tactic(auto, unfolding(json::specs::Print::escape_byte))]
+fn push_command(text: &mut Vec<u8>, command: &Command) -> Result<(), AllocError>
+    ensures { OnOk result (text.new.items ≡ text.old.items ++ compact_text (command_data command.now)) }
 {
     match command {
         Command::AddTransform {
@@ -20,30 +21,30 @@ fn command(alloc: Global, command: &Command) -> Result<Value, AllocError>
             x,
             y,
             scroller,
-        } => nodes::add_transform(alloc, *id, *parent, *x, *y, *scroller),
-        Command::SetTransform { id, x, y } => nodes::set_transform(alloc, *id, *x, *y),
+        } => nodes::push_add_transform(text, *id, *parent, x, y, *scroller),
+        Command::SetTransform { id, x, y } => nodes::push_set_transform(text, *id, x, y),
         Command::AddClip {
             id,
             parent,
             transform,
             rect,
-        } => nodes::add_clip(alloc, *id, *parent, *transform, *rect),
-        Command::SetClip { id, rect } => nodes::set_clip(alloc, *id, *rect),
+        } => nodes::push_add_clip(text, *id, *parent, *transform, *rect),
+        Command::SetClip { id, rect } => nodes::push_set_clip(text, *id, *rect),
         Command::AddEffect {
             id,
             parent,
             opacity,
-        } => nodes::add_effect(alloc, *id, *parent, *opacity),
-        Command::SetOpacity { id, opacity } => nodes::set_opacity(alloc, *id, *opacity),
+        } => nodes::push_add_effect(text, *id, *parent, *opacity),
+        Command::SetOpacity { id, opacity } => nodes::push_set_opacity(text, *id, *opacity),
         Command::AddScroller {
             id,
             parent,
             max_x,
             max_y,
-        } => nodes::add_scroller(alloc, *id, *parent, *max_x, *max_y),
-        Command::SetRange { id, max_x, max_y } => nodes::set_range(alloc, *id, *max_x, *max_y),
-        Command::ScrollBy { id, dx, dy } => nodes::scroll_by(alloc, *id, *dx, *dy),
-        Command::ScrollTo { id, x, y } => nodes::scroll_to(alloc, *id, *x, *y),
+        } => nodes::push_add_scroller(text, *id, *parent, *max_x, *max_y),
+        Command::SetRange { id, max_x, max_y } => nodes::push_set_range(text, *id, *max_x, *max_y),
+        Command::ScrollBy { id, dx, dy } => nodes::push_scroll_by(text, *id, dx, dy),
+        Command::ScrollTo { id, x, y } => nodes::push_scroll_to(text, *id, *x, *y),
         Command::AddLayer {
             id,
             at,
@@ -53,38 +54,42 @@ fn command(alloc: Global, command: &Command) -> Result<Value, AllocError>
             w,
             h,
             colour,
-        } => layers::add_layer(alloc, *id, *at, *transform, *clip, *effect, *w, *h, *colour),
-        Command::RemoveLayer { id } => layers::remove_layer(alloc, *id),
-        Command::ResizeLayer { id, w, h } => layers::resize_layer(alloc, *id, *w, *h),
-        Command::SetColour { id, colour } => layers::set_colour(alloc, *id, *colour),
-        Command::InsertItem { layer, at, item } => items::item(
-            alloc,
+        } => layers::push_add_layer(text, *id, *at, *transform, *clip, *effect, *w, *h, *colour),
+        Command::RemoveLayer { id } => layers::push_remove_layer(text, *id),
+        Command::ResizeLayer { id, w, h } => layers::push_resize_layer(text, *id, *w, *h),
+        Command::SetColour { id, colour } => layers::push_set_colour(text, *id, *colour),
+        Command::InsertItem { layer, at, item } => items::push_item(
+            text,
             "insert_item",
             *layer,
             *at,
             item,
         ),
-        Command::RemoveItem { layer, at } => layers::remove_item(alloc, *layer, *at),
-        Command::ReplaceItem { layer, at, item } => items::item(
-            alloc,
+        Command::RemoveItem { layer, at } => layers::push_remove_item(text, *layer, *at),
+        Command::ReplaceItem { layer, at, item } => items::push_item(
+            text,
             "replace_item",
             *layer,
             *at,
             item,
         ),
-        Command::MoveLayer { id, at } => layers::move_layer(alloc, *id, *at),
-        Command::SetView { w, h, tile } => layers::set_view(alloc, *w, *h, *tile),
+        Command::MoveLayer { id, at } => layers::push_move_layer(text, *id, *at),
+        Command::SetView { w, h, tile } => layers::push_set_view(text, *w, *h, *tile),
     }
 }
 
-/// A main frame: the list of its commands.
+/// Adds a main frame: the list of its commands.
 #[tactic(auto, unfolding(crate::specs::CommandValues::frame_data))]
-pub(crate) fn frame(alloc: Global, commands: &[Command]) -> Result<Value, AllocError>
-    ensures { IfOk result (λ v. view v ≡ frame_data commands.now) }
+pub(crate) fn push_frame(text: &mut Vec<u8>, commands: &[Command]) -> Result<(), AllocError>
+    ensures { OnOk result (text.new.items ≡ text.old.items ++ compact_text (frame_data commands.now)) }
 {
-    let mut values = Vec::with_capacity(alloc, commands.len())?;
-    for item in commands {
-        serde_json::push(&mut values, command(alloc, item)?)?;
+    text.push(b'[')?;
+    let mut later = false;
+    for command in commands {
+        push_comma(text, later)?;
+        push_command(text, command)?;
+        later = true;
     }
-    Ok(Value::Array(values))
+    text.push(b']')?;
+    Ok(())
 }

@@ -1,89 +1,109 @@
-//! Inputs, as JSON values.
+//! Inputs, as JSON texts.
 
-ghost use Rattle.std.specs.Prelude.{◌≡◌, IfOk};
-ghost use Rattle.serde_json.specs.View.{view};
+ghost use Rattle.std.specs.Prelude.{◌≡◌, ◌++◌, OnOk};
+ghost use Rattle.serde_json.specs.Written.{compact_text};
 ghost use Rattle.script_json.specs.InputValues.{scroll_data, wheel_data, draw_data, await_data, settle_data, input_data};
 ghost use Rattle.script_json.specs.ScriptValue.{inputs_data};
 
+use super::field::Field;
+use super::object::{push_comma, push_object};
 use model_history::Input;
-use script_fields::values;
-use serde_json::{Map, Value};
-use std::alloc::{AllocError, Global};
+use std::alloc::AllocError;
 
-#[tactic(auto, unfolding(crate::specs::InputValues::scroll_data))]
-fn scroll(alloc: Global, scroller: u32, dx: i32, dy: i32) -> Result<Value, AllocError>
-    ensures { IfOk result (λ v. view v ≡ scroll_data scroller dx dy) }
+#[tactic(auto, unfolding(crate::specs::InputValues::scroll_data, json::specs::Print::escape_byte))]
+fn push_scroll<'a>(
+    text: &mut Vec<u8>,
+    scroller: u32,
+    dx: &'a i32,
+    dy: &'a i32,
+) -> Result<(), AllocError>
+    ensures { OnOk result (text.new.items ≡ text.old.items ++ compact_text (scroll_data scroller dx.now dy.now)) }
 {
-    let map = Map::new(alloc);
-    let map = values::with(map, alloc, "dx", values::int(dx))?;
-    let map = values::with(map, alloc, "dy", values::int(dy))?;
-    let map = values::with_text(map, alloc, "op", "scroll")?;
-    let map = values::with(map, alloc, "scroller", values::number(scroller))?;
-    Ok(Value::Object(map))
+    push_object(
+        text,
+        &[
+            ("dx", Field::Signed(dx)),
+            ("dy", Field::Signed(dy)),
+            ("op", Field::Name("scroll")),
+            ("scroller", Field::Number(scroller)),
+        ],
+    )
 }
 
-#[tactic(auto, unfolding(crate::specs::InputValues::wheel_data))]
-fn wheel(alloc: Global, x: u32, y: u32, dx: i32, dy: i32) -> Result<Value, AllocError>
-    ensures { IfOk result (λ v. view v ≡ wheel_data x y dx dy) }
+#[tactic(auto, unfolding(crate::specs::InputValues::wheel_data, json::specs::Print::escape_byte))]
+fn push_wheel<'a>(
+    text: &mut Vec<u8>,
+    x: u32,
+    y: u32,
+    dx: &'a i32,
+    dy: &'a i32,
+) -> Result<(), AllocError>
+    ensures { OnOk result (text.new.items ≡ text.old.items ++ compact_text (wheel_data x y dx.now dy.now)) }
 {
-    let map = Map::new(alloc);
-    let map = values::with(map, alloc, "dx", values::int(dx))?;
-    let map = values::with(map, alloc, "dy", values::int(dy))?;
-    let map = values::with_text(map, alloc, "op", "wheel")?;
-    let map = values::with(map, alloc, "x", values::number(x))?;
-    let map = values::with(map, alloc, "y", values::number(y))?;
-    Ok(Value::Object(map))
+    push_object(
+        text,
+        &[
+            ("dx", Field::Signed(dx)),
+            ("dy", Field::Signed(dy)),
+            ("op", Field::Name("wheel")),
+            ("x", Field::Number(x)),
+            ("y", Field::Number(y)),
+        ],
+    )
 }
 
-#[tactic(auto, unfolding(crate::specs::InputValues::draw_data))]
-fn draw(alloc: Global) -> Result<Value, AllocError>
-    ensures { IfOk result (λ v. view v ≡ draw_data) }
+#[tactic(auto, unfolding(crate::specs::InputValues::draw_data, json::specs::Print::escape_byte))]
+fn push_draw(text: &mut Vec<u8>) -> Result<(), AllocError>
+    ensures { OnOk result (text.new.items ≡ text.old.items ++ compact_text draw_data) }
 {
-    let map = Map::new(alloc);
-    let map = values::with_text(map, alloc, "op", "draw")?;
-    Ok(Value::Object(map))
+    push_object(text, &[("op", Field::Name("draw"))])
 }
 
-#[tactic(auto, unfolding(crate::specs::InputValues::await_data))]
-fn await_of(alloc: Global, frame: u32) -> Result<Value, AllocError>
-    ensures { IfOk result (λ v. view v ≡ await_data frame) }
+#[tactic(auto, unfolding(crate::specs::InputValues::await_data, json::specs::Print::escape_byte))]
+fn push_await(text: &mut Vec<u8>, frame: u32) -> Result<(), AllocError>
+    ensures { OnOk result (text.new.items ≡ text.old.items ++ compact_text (await_data frame)) }
 {
-    let map = Map::new(alloc);
-    let map = values::with(map, alloc, "frame", values::number(frame))?;
-    let map = values::with_text(map, alloc, "op", "await")?;
-    Ok(Value::Object(map))
+    push_object(
+        text,
+        &[
+            ("frame", Field::Number(frame)),
+            ("op", Field::Name("await")),
+        ],
+    )
 }
 
-#[tactic(auto, unfolding(crate::specs::InputValues::settle_data))]
-fn settle(alloc: Global) -> Result<Value, AllocError>
-    ensures { IfOk result (λ v. view v ≡ settle_data) }
+#[tactic(auto, unfolding(crate::specs::InputValues::settle_data, json::specs::Print::escape_byte))]
+fn push_settle(text: &mut Vec<u8>) -> Result<(), AllocError>
+    ensures { OnOk result (text.new.items ≡ text.old.items ++ compact_text settle_data) }
 {
-    let map = Map::new(alloc);
-    let map = values::with_text(map, alloc, "op", "settle")?;
-    Ok(Value::Object(map))
+    push_object(text, &[("op", Field::Name("settle"))])
 }
 
-// An input.
-fn input(alloc: Global, input: Input) -> Result<Value, AllocError>
-    ensures { IfOk result (λ v. view v ≡ input_data input) }
+// Adds an input.
+fn push_input(text: &mut Vec<u8>, input: &Input) -> Result<(), AllocError>
+    ensures { OnOk result (text.new.items ≡ text.old.items ++ compact_text (input_data input.now)) }
 {
     match input {
-        Input::Scroll { scroller, dx, dy } => scroll(alloc, scroller, dx, dy),
-        Input::Wheel { x, y, dx, dy } => wheel(alloc, x, y, dx, dy),
-        Input::Draw => draw(alloc),
-        Input::Await { frame } => await_of(alloc, frame),
-        Input::Settle => settle(alloc),
+        Input::Scroll { scroller, dx, dy } => push_scroll(text, *scroller, dx, dy),
+        Input::Wheel { x, y, dx, dy } => push_wheel(text, *x, *y, dx, dy),
+        Input::Draw => push_draw(text),
+        Input::Await { frame } => push_await(text, *frame),
+        Input::Settle => push_settle(text),
     }
 }
 
-/// The list of inputs.
+/// Adds the list of inputs.
 #[tactic(auto, unfolding(crate::specs::ScriptValue::inputs_data))]
-pub(crate) fn inputs(alloc: Global, inputs: &[Input]) -> Result<Value, AllocError>
-    ensures { IfOk result (λ v. view v ≡ inputs_data inputs.now) }
+pub(crate) fn push_inputs(text: &mut Vec<u8>, inputs: &[Input]) -> Result<(), AllocError>
+    ensures { OnOk result (text.new.items ≡ text.old.items ++ compact_text (inputs_data inputs.now)) }
 {
-    let mut values = Vec::with_capacity(alloc, inputs.len())?;
-    for item in inputs {
-        serde_json::push(&mut values, input(alloc, *item)?)?;
+    text.push(b'[')?;
+    let mut later = false;
+    for input in inputs {
+        push_comma(text, later)?;
+        push_input(text, input)?;
+        later = true;
     }
-    Ok(Value::Array(values))
+    text.push(b']')?;
+    Ok(())
 }

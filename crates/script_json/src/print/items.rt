@@ -1,69 +1,79 @@
-//! The commands that put an item into a display list, as JSON values.
+//! The commands that put an item into a display list, as JSON texts.
 
-ghost use Rattle.std.specs.Prelude.{◌≡◌, IfOk};
-ghost use Rattle.serde_json.specs.View.{view};
+ghost use Rattle.std.specs.Prelude.{◌≡◌, ◌++◌, OnOk};
+ghost use Rattle.json.specs.Print.{escape};
+ghost use Rattle.serde_json.specs.Written.{compact_text};
 ghost use Rattle.script_json.specs.ItemValues.{rect_item_data, bitmap_data, item_data};
 
+use super::field::Field;
+use super::object::push_object;
 use geom::Rect;
 use page_display_list::{Bitmap, Item};
 use pixel::Colour;
-use script_fields::values;
-use serde_json::{Map, Value};
-use std::alloc::{AllocError, Global};
+use std::alloc::AllocError;
 
-// An item of one colour.
-#[tactic(auto, unfolding(crate::specs::ItemValues::rect_item_data))]
-fn rect_item(
-    alloc: Global,
+// Adds a command that puts in an item of one colour.
+#[tactic(auto, unfolding(crate::specs::ItemValues::rect_item_data, json::specs::Print::escape_byte))]
+fn push_rect_item(
+    text: &mut Vec<u8>,
     op: &str,
     layer: u32,
     at: u32,
     rect: Rect,
     colour: Colour,
-) -> Result<Value, AllocError>
-    ensures { IfOk result (λ v. view v ≡ rect_item_data op.now layer at rect colour) }
+) -> Result<(), AllocError>
+    requires { escape op.now ≡ op.now }
+    ensures { OnOk result (text.new.items ≡ text.old.items ++ compact_text (rect_item_data op.now layer at rect colour)) }
 {
-    let map = Map::new(alloc);
-    let map = values::with(map, alloc, "at", values::number(at))?;
-    let map = values::with(map, alloc, "colour", values::colour(alloc, colour)?)?;
-    let map = values::with(map, alloc, "layer", values::number(layer))?;
-    let map = values::with_text(map, alloc, "op", op)?;
-    let map = values::with(map, alloc, "rect", values::rect(alloc, rect)?)?;
-    Ok(Value::Object(map))
+    push_object(
+        text,
+        &[
+            ("at", Field::Number(at)),
+            ("colour", Field::Colour(colour)),
+            ("layer", Field::Number(layer)),
+            ("op", Field::Name(op)),
+            ("rect", Field::Rect(rect)),
+        ],
+    )
 }
 
-// A bitmap.
-#[tactic(auto, unfolding(crate::specs::ItemValues::bitmap_data))]
-fn bitmap_item(
-    alloc: Global,
-    op: &str,
+// Adds a command that puts in a bitmap.
+#[tactic(auto, unfolding(crate::specs::ItemValues::bitmap_data, json::specs::Print::escape_byte))]
+fn push_bitmap_item<'a>(
+    text: &mut Vec<u8>,
+    op: &'a str,
     layer: u32,
     at: u32,
-    bitmap: &Bitmap,
-) -> Result<Value, AllocError>
-    ensures { IfOk result (λ v. view v ≡ bitmap_data op.now layer at bitmap.now) }
+    bitmap: &'a Bitmap,
+) -> Result<(), AllocError>
+    requires { escape op.now ≡ op.now }
+    ensures { OnOk result (text.new.items ≡ text.old.items ++ compact_text (bitmap_data op.now layer at bitmap.now)) }
 {
-    let map = Map::new(alloc);
-    let map = values::with(map, alloc, "at", values::number(at))?;
-    let map = values::with(map, alloc, "layer", values::number(layer))?;
-    let map = values::with_text(map, alloc, "op", op)?;
-    let map = values::with(map, alloc, "pixels", values::bytes(alloc, bitmap.pixels())?)?;
-    let map = values::with(map, alloc, "rect", values::rect(alloc, bitmap.rect())?)?;
-    Ok(Value::Object(map))
+    push_object(
+        text,
+        &[
+            ("at", Field::Number(at)),
+            ("layer", Field::Number(layer)),
+            ("op", Field::Name(op)),
+            ("pixels", Field::Bytes(bitmap.pixels())),
+            ("rect", Field::Rect(bitmap.rect())),
+        ],
+    )
 }
 
-/// A command of this name that puts the item at a place of a layer's list.
-pub(crate) fn item(
-    alloc: Global,
+/// Adds the command of this name, which needs no escape, that puts the item at a place of a layer's list.
+pub(crate) fn push_item(
+    text: &mut Vec<u8>,
     op: &str,
     layer: u32,
     at: u32,
     item: &Item,
-) -> Result<Value, AllocError>
-    ensures { IfOk result (λ v. view v ≡ item_data op.now layer at item.now) }
+) -> Result<(), AllocError>
+    requires { escape op.now ≡ op.now }
+    ensures { OnOk result (text.new.items ≡ text.old.items ++ compact_text (item_data op.now layer at item.now)) }
 {
     match item {
-        Item::Rect { rect, colour } => rect_item(alloc, op, layer, at, *rect, *colour),
-        Item::Bitmap(bitmap) => bitmap_item(alloc, op, layer, at, bitmap),
+        Item::Rect { rect, colour } => push_rect_item(text, op, layer, at, *rect, *colour),
+        Item::Bitmap(bitmap) => push_bitmap_item(text, op, layer, at, bitmap),
     }
 }

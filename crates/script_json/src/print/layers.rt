@@ -1,18 +1,18 @@
-//! Layers and the view, and items that go, as JSON values.
+//! Layers and the view, and items that go, as JSON texts.
 
-ghost use Rattle.std.specs.Prelude.{◌≡◌, IfOk};
-ghost use Rattle.serde_json.specs.View.{view};
+ghost use Rattle.std.specs.Prelude.{◌≡◌, ◌++◌, OnOk};
+ghost use Rattle.serde_json.specs.Written.{compact_text};
 ghost use Rattle.script_json.specs.LayerValues.{add_layer_data, remove_layer_data, resize_layer_data, set_colour_data, remove_item_data, move_layer_data, set_view_data};
 
+use super::field::Field;
+use super::object::push_object;
 use pixel::Colour;
-use script_fields::values;
-use serde_json::{Map, Value};
-use std::alloc::{AllocError, Global};
+use std::alloc::AllocError;
 
-/// A new layer.
-#[tactic(auto, unfolding(crate::specs::LayerValues::add_layer_data))]
-pub(crate) fn add_layer(
-    alloc: Global,
+/// Adds the command that adds a layer.
+#[tactic(auto, unfolding(crate::specs::LayerValues::add_layer_data, json::specs::Print::escape_byte))]
+pub(crate) fn push_add_layer(
+    text: &mut Vec<u8>,
     id: u32,
     at: u32,
     transform: u32,
@@ -21,91 +21,117 @@ pub(crate) fn add_layer(
     w: u32,
     h: u32,
     colour: Colour,
-) -> Result<Value, AllocError>
-    ensures { IfOk result (λ v. view v ≡ add_layer_data id at transform clip effect w h colour) }
+) -> Result<(), AllocError>
+    ensures { OnOk result (text.new.items ≡ text.old.items ++ compact_text (add_layer_data id at transform clip effect w h colour)) }
 {
-    let map = Map::new(alloc);
-    let map = values::with(map, alloc, "at", values::number(at))?;
-    let map = values::with(map, alloc, "clip", values::number(clip))?;
-    let map = values::with(map, alloc, "colour", values::colour(alloc, colour)?)?;
-    let map = values::with(map, alloc, "effect", values::number(effect))?;
-    let map = values::with(map, alloc, "h", values::number(h))?;
-    let map = values::with(map, alloc, "id", values::number(id))?;
-    let map = values::with_text(map, alloc, "op", "add_layer")?;
-    let map = values::with(map, alloc, "transform", values::number(transform))?;
-    let map = values::with(map, alloc, "w", values::number(w))?;
-    Ok(Value::Object(map))
+    push_object(
+        text,
+        &[
+            ("at", Field::Number(at)),
+            ("clip", Field::Number(clip)),
+            ("colour", Field::Colour(colour)),
+            ("effect", Field::Number(effect)),
+            ("h", Field::Number(h)),
+            ("id", Field::Number(id)),
+            ("op", Field::Name("add_layer")),
+            ("transform", Field::Number(transform)),
+            ("w", Field::Number(w)),
+        ],
+    )
 }
 
-/// A layer that goes.
-#[tactic(auto, unfolding(crate::specs::LayerValues::remove_layer_data))]
-pub(crate) fn remove_layer(alloc: Global, id: u32) -> Result<Value, AllocError>
-    ensures { IfOk result (λ v. view v ≡ remove_layer_data id) }
+/// Adds the command that takes a layer out.
+#[tactic(auto, unfolding(crate::specs::LayerValues::remove_layer_data, json::specs::Print::escape_byte))]
+pub(crate) fn push_remove_layer(text: &mut Vec<u8>, id: u32) -> Result<(), AllocError>
+    ensures { OnOk result (text.new.items ≡ text.old.items ++ compact_text (remove_layer_data id)) }
 {
-    let map = Map::new(alloc);
-    let map = values::with(map, alloc, "id", values::number(id))?;
-    let map = values::with_text(map, alloc, "op", "remove_layer")?;
-    Ok(Value::Object(map))
+    push_object(
+        text,
+        &[
+            ("id", Field::Number(id)),
+            ("op", Field::Name("remove_layer")),
+        ],
+    )
 }
 
-/// Another size of a layer.
-#[tactic(auto, unfolding(crate::specs::LayerValues::resize_layer_data))]
-pub(crate) fn resize_layer(alloc: Global, id: u32, w: u32, h: u32) -> Result<Value, AllocError>
-    ensures { IfOk result (λ v. view v ≡ resize_layer_data id w h) }
+/// Adds the command that gives a layer another size.
+#[tactic(auto, unfolding(crate::specs::LayerValues::resize_layer_data, json::specs::Print::escape_byte))]
+pub(crate) fn push_resize_layer(
+    text: &mut Vec<u8>,
+    id: u32,
+    w: u32,
+    h: u32,
+) -> Result<(), AllocError>
+    ensures { OnOk result (text.new.items ≡ text.old.items ++ compact_text (resize_layer_data id w h)) }
 {
-    let map = Map::new(alloc);
-    let map = values::with(map, alloc, "h", values::number(h))?;
-    let map = values::with(map, alloc, "id", values::number(id))?;
-    let map = values::with_text(map, alloc, "op", "resize_layer")?;
-    let map = values::with(map, alloc, "w", values::number(w))?;
-    Ok(Value::Object(map))
+    push_object(
+        text,
+        &[
+            ("h", Field::Number(h)),
+            ("id", Field::Number(id)),
+            ("op", Field::Name("resize_layer")),
+            ("w", Field::Number(w)),
+        ],
+    )
 }
 
-/// Another background colour of a layer.
-#[tactic(auto, unfolding(crate::specs::LayerValues::set_colour_data))]
-pub(crate) fn set_colour(alloc: Global, id: u32, colour: Colour) -> Result<Value, AllocError>
-    ensures { IfOk result (λ v. view v ≡ set_colour_data id colour) }
+/// Adds the command that gives a layer another background colour.
+#[tactic(auto, unfolding(crate::specs::LayerValues::set_colour_data, json::specs::Print::escape_byte))]
+pub(crate) fn push_set_colour(text: &mut Vec<u8>, id: u32, colour: Colour) -> Result<(), AllocError>
+    ensures { OnOk result (text.new.items ≡ text.old.items ++ compact_text (set_colour_data id colour)) }
 {
-    let map = Map::new(alloc);
-    let map = values::with(map, alloc, "colour", values::colour(alloc, colour)?)?;
-    let map = values::with(map, alloc, "id", values::number(id))?;
-    let map = values::with_text(map, alloc, "op", "set_colour")?;
-    Ok(Value::Object(map))
+    push_object(
+        text,
+        &[
+            ("colour", Field::Colour(colour)),
+            ("id", Field::Number(id)),
+            ("op", Field::Name("set_colour")),
+        ],
+    )
 }
 
-/// An item that goes.
-#[tactic(auto, unfolding(crate::specs::LayerValues::remove_item_data))]
-pub(crate) fn remove_item(alloc: Global, layer: u32, at: u32) -> Result<Value, AllocError>
-    ensures { IfOk result (λ v. view v ≡ remove_item_data layer at) }
+/// Adds the command that takes an item out.
+#[tactic(auto, unfolding(crate::specs::LayerValues::remove_item_data, json::specs::Print::escape_byte))]
+pub(crate) fn push_remove_item(text: &mut Vec<u8>, layer: u32, at: u32) -> Result<(), AllocError>
+    ensures { OnOk result (text.new.items ≡ text.old.items ++ compact_text (remove_item_data layer at)) }
 {
-    let map = Map::new(alloc);
-    let map = values::with(map, alloc, "at", values::number(at))?;
-    let map = values::with(map, alloc, "layer", values::number(layer))?;
-    let map = values::with_text(map, alloc, "op", "remove_item")?;
-    Ok(Value::Object(map))
+    push_object(
+        text,
+        &[
+            ("at", Field::Number(at)),
+            ("layer", Field::Number(layer)),
+            ("op", Field::Name("remove_item")),
+        ],
+    )
 }
 
-/// Another place of a layer among the others.
-#[tactic(auto, unfolding(crate::specs::LayerValues::move_layer_data))]
-pub(crate) fn move_layer(alloc: Global, id: u32, at: u32) -> Result<Value, AllocError>
-    ensures { IfOk result (λ v. view v ≡ move_layer_data id at) }
+/// Adds the command that moves a layer to another place among the others.
+#[tactic(auto, unfolding(crate::specs::LayerValues::move_layer_data, json::specs::Print::escape_byte))]
+pub(crate) fn push_move_layer(text: &mut Vec<u8>, id: u32, at: u32) -> Result<(), AllocError>
+    ensures { OnOk result (text.new.items ≡ text.old.items ++ compact_text (move_layer_data id at)) }
 {
-    let map = Map::new(alloc);
-    let map = values::with(map, alloc, "at", values::number(at))?;
-    let map = values::with(map, alloc, "id", values::number(id))?;
-    let map = values::with_text(map, alloc, "op", "move_layer")?;
-    Ok(Value::Object(map))
+    push_object(
+        text,
+        &[
+            ("at", Field::Number(at)),
+            ("id", Field::Number(id)),
+            ("op", Field::Name("move_layer")),
+        ],
+    )
 }
 
-/// Another viewport and tile size.
-#[tactic(auto, unfolding(crate::specs::LayerValues::set_view_data))]
-pub(crate) fn set_view(alloc: Global, w: u32, h: u32, tile: u32) -> Result<Value, AllocError>
-    ensures { IfOk result (λ v. view v ≡ set_view_data w h tile) }
+/// Adds the command that sets another viewport and tile size.
+#[tactic(auto, unfolding(crate::specs::LayerValues::set_view_data, json::specs::Print::escape_byte))]
+pub(crate) fn push_set_view(text: &mut Vec<u8>, w: u32, h: u32, tile: u32) -> Result<(), AllocError>
+    ensures { OnOk result (text.new.items ≡ text.old.items ++ compact_text (set_view_data w h tile)) }
 {
-    let map = Map::new(alloc);
-    let map = values::with(map, alloc, "h", values::number(h))?;
-    let map = values::with_text(map, alloc, "op", "set_view")?;
-    let map = values::with(map, alloc, "tile", values::number(tile))?;
-    let map = values::with(map, alloc, "w", values::number(w))?;
-    Ok(Value::Object(map))
+    push_object(
+        text,
+        &[
+            ("h", Field::Number(h)),
+            ("op", Field::Name("set_view")),
+            ("tile", Field::Number(tile)),
+            ("w", Field::Number(w)),
+        ],
+    )
 }

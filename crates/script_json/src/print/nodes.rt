@@ -1,166 +1,211 @@
-//! Transforms, clips, effects and scrollers, as JSON values.
+//! Transforms, clips, effects and scrollers, as JSON texts.
 
-ghost use Rattle.std.specs.Prelude.{◌≡◌, IfOk};
-ghost use Rattle.serde_json.specs.View.{view};
+ghost use Rattle.std.specs.Prelude.{◌≡◌, ◌++◌, OnOk};
+ghost use Rattle.serde_json.specs.Written.{compact_text};
 ghost use Rattle.script_json.specs.NodeValues.{add_transform_data, set_transform_data, add_clip_data, set_clip_data, add_effect_data, set_opacity_data, add_scroller_data, set_range_data, scroll_by_data, scroll_to_data};
 
+use super::field::Field;
+use super::object::push_object;
 use geom::Rect;
-use script_fields::values;
-use serde_json::{Map, Value};
-use std::alloc::{AllocError, Global};
+use std::alloc::AllocError;
 
-/// A new transform.
-#[tactic(auto, unfolding(crate::specs::NodeValues::add_transform_data))]
-pub(crate) fn add_transform(
-    alloc: Global,
+/// Adds the command that adds a transform.
+#[tactic(auto, unfolding(crate::specs::NodeValues::add_transform_data, json::specs::Print::escape_byte))]
+pub(crate) fn push_add_transform<'a>(
+    text: &mut Vec<u8>,
     id: u32,
     parent: u32,
-    x: i32,
-    y: i32,
+    x: &'a i32,
+    y: &'a i32,
     scroller: u32,
-) -> Result<Value, AllocError>
-    ensures { IfOk result (λ v. view v ≡ add_transform_data id parent x y scroller) }
+) -> Result<(), AllocError>
+    ensures { OnOk result (text.new.items ≡ text.old.items ++ compact_text (add_transform_data id parent x.now y.now scroller)) }
 {
-    let map = Map::new(alloc);
-    let map = values::with(map, alloc, "id", values::number(id))?;
-    let map = values::with_text(map, alloc, "op", "add_transform")?;
-    let map = values::with(map, alloc, "parent", values::number(parent))?;
-    let map = values::with(map, alloc, "scroller", values::number(scroller))?;
-    let map = values::with(map, alloc, "x", values::int(x))?;
-    let map = values::with(map, alloc, "y", values::int(y))?;
-    Ok(Value::Object(map))
+    push_object(
+        text,
+        &[
+            ("id", Field::Number(id)),
+            ("op", Field::Name("add_transform")),
+            ("parent", Field::Number(parent)),
+            ("scroller", Field::Number(scroller)),
+            ("x", Field::Signed(x)),
+            ("y", Field::Signed(y)),
+        ],
+    )
 }
 
-/// Another place of a transform.
-#[tactic(auto, unfolding(crate::specs::NodeValues::set_transform_data))]
-pub(crate) fn set_transform(alloc: Global, id: u32, x: i32, y: i32) -> Result<Value, AllocError>
-    ensures { IfOk result (λ v. view v ≡ set_transform_data id x y) }
+/// Adds the command that moves a transform.
+#[tactic(auto, unfolding(crate::specs::NodeValues::set_transform_data, json::specs::Print::escape_byte))]
+pub(crate) fn push_set_transform<'a>(
+    text: &mut Vec<u8>,
+    id: u32,
+    x: &'a i32,
+    y: &'a i32,
+) -> Result<(), AllocError>
+    ensures { OnOk result (text.new.items ≡ text.old.items ++ compact_text (set_transform_data id x.now y.now)) }
 {
-    let map = Map::new(alloc);
-    let map = values::with(map, alloc, "id", values::number(id))?;
-    let map = values::with_text(map, alloc, "op", "set_transform")?;
-    let map = values::with(map, alloc, "x", values::int(x))?;
-    let map = values::with(map, alloc, "y", values::int(y))?;
-    Ok(Value::Object(map))
+    push_object(
+        text,
+        &[
+            ("id", Field::Number(id)),
+            ("op", Field::Name("set_transform")),
+            ("x", Field::Signed(x)),
+            ("y", Field::Signed(y)),
+        ],
+    )
 }
 
-/// A new clip.
-#[tactic(auto, unfolding(crate::specs::NodeValues::add_clip_data))]
-pub(crate) fn add_clip(
-    alloc: Global,
+/// Adds the command that adds a clip.
+#[tactic(auto, unfolding(crate::specs::NodeValues::add_clip_data, json::specs::Print::escape_byte))]
+pub(crate) fn push_add_clip(
+    text: &mut Vec<u8>,
     id: u32,
     parent: u32,
     transform: u32,
     rect: Rect,
-) -> Result<Value, AllocError>
-    ensures { IfOk result (λ v. view v ≡ add_clip_data id parent transform rect) }
+) -> Result<(), AllocError>
+    ensures { OnOk result (text.new.items ≡ text.old.items ++ compact_text (add_clip_data id parent transform rect)) }
 {
-    let map = Map::new(alloc);
-    let map = values::with(map, alloc, "id", values::number(id))?;
-    let map = values::with_text(map, alloc, "op", "add_clip")?;
-    let map = values::with(map, alloc, "parent", values::number(parent))?;
-    let map = values::with(map, alloc, "rect", values::rect(alloc, rect)?)?;
-    let map = values::with(map, alloc, "transform", values::number(transform))?;
-    Ok(Value::Object(map))
+    push_object(
+        text,
+        &[
+            ("id", Field::Number(id)),
+            ("op", Field::Name("add_clip")),
+            ("parent", Field::Number(parent)),
+            ("rect", Field::Rect(rect)),
+            ("transform", Field::Number(transform)),
+        ],
+    )
 }
 
-/// Another rect of a clip.
-#[tactic(auto, unfolding(crate::specs::NodeValues::set_clip_data))]
-pub(crate) fn set_clip(alloc: Global, id: u32, rect: Rect) -> Result<Value, AllocError>
-    ensures { IfOk result (λ v. view v ≡ set_clip_data id rect) }
+/// Adds the command that gives a clip another rect.
+#[tactic(auto, unfolding(crate::specs::NodeValues::set_clip_data, json::specs::Print::escape_byte))]
+pub(crate) fn push_set_clip(text: &mut Vec<u8>, id: u32, rect: Rect) -> Result<(), AllocError>
+    ensures { OnOk result (text.new.items ≡ text.old.items ++ compact_text (set_clip_data id rect)) }
 {
-    let map = Map::new(alloc);
-    let map = values::with(map, alloc, "id", values::number(id))?;
-    let map = values::with_text(map, alloc, "op", "set_clip")?;
-    let map = values::with(map, alloc, "rect", values::rect(alloc, rect)?)?;
-    Ok(Value::Object(map))
+    push_object(
+        text,
+        &[
+            ("id", Field::Number(id)),
+            ("op", Field::Name("set_clip")),
+            ("rect", Field::Rect(rect)),
+        ],
+    )
 }
 
-/// A new effect.
-#[tactic(auto, unfolding(crate::specs::NodeValues::add_effect_data))]
-pub(crate) fn add_effect(
-    alloc: Global,
+/// Adds the command that adds an effect.
+#[tactic(auto, unfolding(crate::specs::NodeValues::add_effect_data, json::specs::Print::escape_byte))]
+pub(crate) fn push_add_effect(
+    text: &mut Vec<u8>,
     id: u32,
     parent: u32,
     opacity: u32,
-) -> Result<Value, AllocError>
-    ensures { IfOk result (λ v. view v ≡ add_effect_data id parent opacity) }
+) -> Result<(), AllocError>
+    ensures { OnOk result (text.new.items ≡ text.old.items ++ compact_text (add_effect_data id parent opacity)) }
 {
-    let map = Map::new(alloc);
-    let map = values::with(map, alloc, "id", values::number(id))?;
-    let map = values::with_text(map, alloc, "op", "add_effect")?;
-    let map = values::with(map, alloc, "opacity", values::number(opacity))?;
-    let map = values::with(map, alloc, "parent", values::number(parent))?;
-    Ok(Value::Object(map))
+    push_object(
+        text,
+        &[
+            ("id", Field::Number(id)),
+            ("op", Field::Name("add_effect")),
+            ("opacity", Field::Number(opacity)),
+            ("parent", Field::Number(parent)),
+        ],
+    )
 }
 
-/// Another opacity of an effect.
-#[tactic(auto, unfolding(crate::specs::NodeValues::set_opacity_data))]
-pub(crate) fn set_opacity(alloc: Global, id: u32, opacity: u32) -> Result<Value, AllocError>
-    ensures { IfOk result (λ v. view v ≡ set_opacity_data id opacity) }
+/// Adds the command that gives an effect another opacity.
+#[tactic(auto, unfolding(crate::specs::NodeValues::set_opacity_data, json::specs::Print::escape_byte))]
+pub(crate) fn push_set_opacity(text: &mut Vec<u8>, id: u32, opacity: u32) -> Result<(), AllocError>
+    ensures { OnOk result (text.new.items ≡ text.old.items ++ compact_text (set_opacity_data id opacity)) }
 {
-    let map = Map::new(alloc);
-    let map = values::with(map, alloc, "id", values::number(id))?;
-    let map = values::with_text(map, alloc, "op", "set_opacity")?;
-    let map = values::with(map, alloc, "opacity", values::number(opacity))?;
-    Ok(Value::Object(map))
+    push_object(
+        text,
+        &[
+            ("id", Field::Number(id)),
+            ("op", Field::Name("set_opacity")),
+            ("opacity", Field::Number(opacity)),
+        ],
+    )
 }
 
-/// A new scroller.
-#[tactic(auto, unfolding(crate::specs::NodeValues::add_scroller_data))]
-pub(crate) fn add_scroller(
-    alloc: Global,
+/// Adds the command that adds a scroller.
+#[tactic(auto, unfolding(crate::specs::NodeValues::add_scroller_data, json::specs::Print::escape_byte))]
+pub(crate) fn push_add_scroller(
+    text: &mut Vec<u8>,
     id: u32,
     parent: u32,
     max_x: u32,
     max_y: u32,
-) -> Result<Value, AllocError>
-    ensures { IfOk result (λ v. view v ≡ add_scroller_data id parent max_x max_y) }
+) -> Result<(), AllocError>
+    ensures { OnOk result (text.new.items ≡ text.old.items ++ compact_text (add_scroller_data id parent max_x max_y)) }
 {
-    let map = Map::new(alloc);
-    let map = values::with(map, alloc, "id", values::number(id))?;
-    let map = values::with(map, alloc, "max_x", values::number(max_x))?;
-    let map = values::with(map, alloc, "max_y", values::number(max_y))?;
-    let map = values::with_text(map, alloc, "op", "add_scroller")?;
-    let map = values::with(map, alloc, "parent", values::number(parent))?;
-    Ok(Value::Object(map))
+    push_object(
+        text,
+        &[
+            ("id", Field::Number(id)),
+            ("max_x", Field::Number(max_x)),
+            ("max_y", Field::Number(max_y)),
+            ("op", Field::Name("add_scroller")),
+            ("parent", Field::Number(parent)),
+        ],
+    )
 }
 
-/// Another range of a scroller.
-#[tactic(auto, unfolding(crate::specs::NodeValues::set_range_data))]
-pub(crate) fn set_range(alloc: Global, id: u32, max_x: u32, max_y: u32) -> Result<Value, AllocError>
-    ensures { IfOk result (λ v. view v ≡ set_range_data id max_x max_y) }
+/// Adds the command that gives a scroller another range.
+#[tactic(auto, unfolding(crate::specs::NodeValues::set_range_data, json::specs::Print::escape_byte))]
+pub(crate) fn push_set_range(
+    text: &mut Vec<u8>,
+    id: u32,
+    max_x: u32,
+    max_y: u32,
+) -> Result<(), AllocError>
+    ensures { OnOk result (text.new.items ≡ text.old.items ++ compact_text (set_range_data id max_x max_y)) }
 {
-    let map = Map::new(alloc);
-    let map = values::with(map, alloc, "id", values::number(id))?;
-    let map = values::with(map, alloc, "max_x", values::number(max_x))?;
-    let map = values::with(map, alloc, "max_y", values::number(max_y))?;
-    let map = values::with_text(map, alloc, "op", "set_range")?;
-    Ok(Value::Object(map))
+    push_object(
+        text,
+        &[
+            ("id", Field::Number(id)),
+            ("max_x", Field::Number(max_x)),
+            ("max_y", Field::Number(max_y)),
+            ("op", Field::Name("set_range")),
+        ],
+    )
 }
 
-/// A move of a scroller's main value.
-#[tactic(auto, unfolding(crate::specs::NodeValues::scroll_by_data))]
-pub(crate) fn scroll_by(alloc: Global, id: u32, dx: i32, dy: i32) -> Result<Value, AllocError>
-    ensures { IfOk result (λ v. view v ≡ scroll_by_data id dx dy) }
+/// Adds the command that moves a scroller by an amount.
+#[tactic(auto, unfolding(crate::specs::NodeValues::scroll_by_data, json::specs::Print::escape_byte))]
+pub(crate) fn push_scroll_by<'a>(
+    text: &mut Vec<u8>,
+    id: u32,
+    dx: &'a i32,
+    dy: &'a i32,
+) -> Result<(), AllocError>
+    ensures { OnOk result (text.new.items ≡ text.old.items ++ compact_text (scroll_by_data id dx.now dy.now)) }
 {
-    let map = Map::new(alloc);
-    let map = values::with(map, alloc, "dx", values::int(dx))?;
-    let map = values::with(map, alloc, "dy", values::int(dy))?;
-    let map = values::with(map, alloc, "id", values::number(id))?;
-    let map = values::with_text(map, alloc, "op", "scroll_by")?;
-    Ok(Value::Object(map))
+    push_object(
+        text,
+        &[
+            ("dx", Field::Signed(dx)),
+            ("dy", Field::Signed(dy)),
+            ("id", Field::Number(id)),
+            ("op", Field::Name("scroll_by")),
+        ],
+    )
 }
 
-/// Another main value of a scroller.
-#[tactic(auto, unfolding(crate::specs::NodeValues::scroll_to_data))]
-pub(crate) fn scroll_to(alloc: Global, id: u32, x: u32, y: u32) -> Result<Value, AllocError>
-    ensures { IfOk result (λ v. view v ≡ scroll_to_data id x y) }
+/// Adds the command that moves a scroller to a place.
+#[tactic(auto, unfolding(crate::specs::NodeValues::scroll_to_data, json::specs::Print::escape_byte))]
+pub(crate) fn push_scroll_to(text: &mut Vec<u8>, id: u32, x: u32, y: u32) -> Result<(), AllocError>
+    ensures { OnOk result (text.new.items ≡ text.old.items ++ compact_text (scroll_to_data id x y)) }
 {
-    let map = Map::new(alloc);
-    let map = values::with(map, alloc, "id", values::number(id))?;
-    let map = values::with_text(map, alloc, "op", "scroll_to")?;
-    let map = values::with(map, alloc, "x", values::number(x))?;
-    let map = values::with(map, alloc, "y", values::number(y))?;
-    Ok(Value::Object(map))
+    push_object(
+        text,
+        &[
+            ("id", Field::Number(id)),
+            ("op", Field::Name("scroll_to")),
+            ("x", Field::Number(x)),
+            ("y", Field::Number(y)),
+        ],
+    )
 }

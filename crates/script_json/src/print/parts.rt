@@ -1,24 +1,27 @@
-//! A whole script, as a JSON value and as its canonical text.
+//! A whole script as its canonical text.
 
-ghost use Rattle.std.specs.Prelude.{◌≡◌, true, IfOk, OnOk, map};
-ghost use Rattle.serde_json.specs.View.{view, members_view};
+ghost use Rattle.std.specs.Prelude.{◌≡◌, ◌++◌, true, IfOk, OnOk, map};
+ghost use Rattle.json.specs.Print.{escape};
 ghost use Rattle.serde_json.specs.Written.{compact_text};
 ghost use Rattle.model_history.specs.Ranges.{is_in_ranges};
 ghost use Rattle.model_history.specs.Scripts.{script_of};
-ghost use Rattle.script_json.specs.Causes.{IsTextOf, IsScriptText};
-ghost use Rattle.script_json.specs.ScriptValue.{priority_name, main_data, parts_data, with_picture, with_bounds, with_lists};
+ghost use Rattle.script_json.specs.Causes.{IsScriptText};
+ghost use Rattle.script_json.specs.inner.Objects.{head_text, lists_text, tail_text};
+ghost use Rattle.script_json.specs.ScriptValue.{priority_name, main_data, parts_data};
 
+use super::field::Field;
+use super::object::{push_comma, push_last_members, push_members};
 use super::{commands, inputs};
 use model_history::ScriptParts;
 use page_layers::Command;
-use script_fields::values;
-use serde_json::{Map, Value, put};
 use std::alloc::{AllocError, Global};
 use tile_priority::TreePriority;
 
 // The name of a priority.
+#[tactic(auto, unfolding(json::specs::Print::escape_byte))]
 fn priority_name(priority: TreePriority) -> &'static str
-    ensures { result.now ≡ priority_name priority }
+    ensures value { result.now ≡ priority_name priority }
+    ensures plain { escape result.now ≡ result.now }
 {
     match priority {
         TreePriority::Same => "same",
@@ -27,89 +30,77 @@ fn priority_name(priority: TreePriority) -> &'static str
     }
 }
 
-// The main frames.
+// Adds the members before the lists.
+#[tactic(auto, unfolding(json::specs::Print::escape_byte))]
+fn push_head(text: &mut Vec<u8>, parts: &ScriptParts) -> Result<(), AllocError>
+    ensures { OnOk result (text.new.items ≡ text.old.items ++ head_text (script_of parts.now)) }
+{
+    push_members(
+        text,
+        b'{',
+        &[
+            ("background", Field::Opaque(parts.background)),
+            ("budget", Field::Number(parts.budget)),
+            ("eventually", Field::Number(parts.eventually)),
+        ],
+    )
+}
+
+// Adds the main frames.
 #[tactic(auto, unfolding(crate::specs::ScriptValue::main_data))]
-fn main(alloc: Global, frames: &[Vec<Command>]) -> Result<Value, AllocError>
-    ensures { IfOk result (λ v. view v ≡ main_data (map (λ frame. frame.items) frames.now)) }
+fn push_main(text: &mut Vec<u8>, frames: &[Vec<Command>]) -> Result<(), AllocError>
+    ensures { OnOk result (text.new.items ≡ text.old.items ++ compact_text (main_data (map (λ frame. frame.items) frames.now))) }
 {
-    let mut values = Vec::with_capacity(alloc, frames.len())?;
+    text.push(b'[')?;
+    let mut later = false;
     for frame in frames {
-        serde_json::push(&mut values, commands::frame(alloc, frame.as_slice())?)?;
+        push_comma(text, later)?;
+        commands::push_frame(text, frame.as_slice())?;
+        later = true;
     }
-    Ok(Value::Array(values))
+    text.push(b']')?;
+    Ok(())
 }
 
-// What is drawn and in which order.
-#[tactic(auto, unfolding(crate::specs::ScriptValue::with_picture))]
-fn put_picture(
-    map: &mut Map<String, Value>,
-    alloc: Global,
-    parts: &ScriptParts,
-) -> Result<(), AllocError>
-    ensures { OnOk result (members_view map.new.entries
-        ≡ with_picture (script_of parts.now) (members_view map.old.entries)) }
+// Adds the inputs and the main frames, each after a comma and its name.
+#[tactic(auto, unfolding(json::specs::Print::escape_byte))]
+fn push_lists(text: &mut Vec<u8>, parts: &ScriptParts) -> Result<(), AllocError>
+    ensures { OnOk result (text.new.items ≡ text.old.items ++ lists_text (script_of parts.now)) }
 {
-    let background = values::opaque(alloc, parts.background)?;
-    put(map, alloc, "background", background)?;
-    let priority = Value::try_from_str(alloc, priority_name(parts.priority))?;
-    put(map, alloc, "priority", priority)?;
-    put(map, alloc, "tile", values::number(parts.tile))?;
-    let viewport = values::sides(alloc, parts.viewport_w, parts.viewport_h)?;
-    put(map, alloc, "viewport", viewport)
+    text.extend_from_slice(b",\"inputs\":")?;
+    inputs::push_inputs(text, parts.inputs.as_slice())?;
+    text.extend_from_slice(b",\"main\":")?;
+    push_main(text, parts.main.as_slice())
 }
 
-// The numbers that bound a run.
-#[tactic(auto, unfolding(crate::specs::ScriptValue::with_bounds))]
-fn put_bounds(
-    map: &mut Map<String, Value>,
-    alloc: Global,
-    parts: &ScriptParts,
-) -> Result<(), AllocError>
-    ensures { OnOk result (members_view map.new.entries
-        ≡ with_bounds (script_of parts.now) (members_view map.old.entries)) }
+// Adds the members after the lists, and the bracket that closes the script.
+#[tactic(auto, unfolding(json::specs::Print::escape_byte))]
+fn push_tail(text: &mut Vec<u8>, parts: &ScriptParts) -> Result<(), AllocError>
+    ensures { OnOk result (text.new.items ≡ text.old.items ++ tail_text (script_of parts.now)) }
 {
-    put(map, alloc, "budget", values::number(parts.budget))?;
-    put(map, alloc, "eventually", values::number(parts.eventually))?;
-    let raster_per_frame = values::number(parts.raster_per_frame);
-    put(map, alloc, "raster_per_frame", raster_per_frame)?;
-    put(map, alloc, "soon", values::number(parts.soon))?;
-    put(map, alloc, "version", values::number(parts.version))
+    push_last_members(
+        text,
+        b',',
+        &[
+            ("priority", Field::Name(priority_name(parts.priority))),
+            ("raster_per_frame", Field::Number(parts.raster_per_frame)),
+            ("soon", Field::Number(parts.soon)),
+            ("tile", Field::Number(parts.tile)),
+            ("version", Field::Number(parts.version)),
+            ("viewport", Field::Sides(parts.viewport_w, parts.viewport_h)),
+        ],
+    )
 }
 
-// The main frames and the inputs.
-#[tactic(auto, unfolding(crate::specs::ScriptValue::with_lists))]
-fn put_lists(
-    map: &mut Map<String, Value>,
-    alloc: Global,
-    parts: &ScriptParts,
-) -> Result<(), AllocError>
-    ensures { OnOk result (members_view map.new.entries
-        ≡ with_lists (script_of parts.now) (members_view map.old.entries)) }
-{
-    let inputs = inputs::inputs(alloc, parts.inputs.as_slice())?;
-    put(map, alloc, "inputs", inputs)?;
-    let main = main(alloc, parts.main.as_slice())?;
-    put(map, alloc, "main", main)
-}
-
-// The value of a script.
-#[tactic(auto, unfolding(crate::specs::ScriptValue::parts_data, crate::specs::ScriptValue::with_picture, crate::specs::ScriptValue::with_bounds, crate::specs::ScriptValue::with_lists))]
-fn value(alloc: Global, parts: &ScriptParts) -> Result<Value, AllocError>
-    ensures { IfOk result (λ v. view v ≡ parts_data (script_of parts.now)) }
-{
-    let mut map = Map::new(alloc);
-    put_picture(&mut map, alloc, parts)?;
-    put_bounds(&mut map, alloc, parts)?;
-    put_lists(&mut map, alloc, parts)?;
-    Ok(Value::Object(map))
-}
-
-/// The canonical text of a script: one line without a newline, which reads back as the script.
-#[tactic(auto, using(crate::proofs::Plain::plain_parts, crate::proofs::ScriptLaws::parts_again))]
-pub fn print_parts(alloc: Global, parts: &ScriptParts) -> Result<Vec<u8>, AllocError>
+/// The canonical text of a script's parts: one line without a newline, which reads back as the script where the
+/// parts are in the format's ranges.
+pub(crate) fn print_parts(alloc: Global, parts: &ScriptParts) -> Result<Vec<u8>, AllocError>
     ensures text { IfOk result (λ b. b.items ≡ compact_text (parts_data (script_of parts.now))) }
-    ensures reads_back { IfOk result (λ b. IsTextOf b.items (parts_data (script_of parts.now))) }
     ensures again { is_in_ranges (script_of parts.now) ≡ true → IfOk result (λ b. IsScriptText b.items (script_of parts.now)) }
 {
-    value(alloc, parts)?.to_vec(alloc)
+    let mut text = Vec::new(alloc);
+    push_head(&mut text, parts)?;
+    push_lists(&mut text, parts)?;
+    push_tail(&mut text, parts)?;
+    Ok(text)
 }

@@ -3,7 +3,7 @@
 use crate::fault::PageLineFault;
 use model_history::Script;
 use page_layers::{Command, LayerTree};
-use script_json::{TextFault, print_parts, read_parts, read_script};
+use script_json::{TextFault, print_script, read_parts, read_script};
 use std::alloc::{AllocError, Global};
 use test_table::Answer;
 
@@ -60,10 +60,8 @@ pub fn reads(alloc: Global, text: &str, answer: &mut Answer) -> Result<(), PageL
 
 /// Whether the canonical text of a script is the text itself.
 pub fn prints(alloc: Global, text: &str, answer: &mut Answer) -> Result<(), PageLineFault> {
-    let Ok(parts) = read_parts(alloc, text.as_bytes()) else {
-        return Err(PageLineFault::NoScript);
-    };
-    let again = print_parts(alloc, &parts)?;
+    let script = script_of(alloc, text)?;
+    let again = print_script(alloc, &script)?;
     if again.as_slice() == text.as_bytes() {
         answer.say("the same", &[]);
     } else {
