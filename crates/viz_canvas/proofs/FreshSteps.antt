@@ -1,20 +1,17 @@
 -- Where a scene shows in a row what it shows in the row above.
-use Rattle.std.proofs.Common.{◌≡◌, ℕ, ◌+◌, ◌-◌, ◌<◌, ◌≤◌, ℤ, pos, ◌+ℤ◌, ◌-ℤ◌, ◌≤ℤ◌, ◌<ℤ◌, Bool, true, false, cond, ◌&&◌, List, [], ◌∷◌, ◌++◌, length, get_or, take, inl, inr, refl, sym, ◌∙◌, ap, subst, arith, zero, suc}
+use Rattle.std.proofs.Common.{◌≡◌, ℕ, ◌+◌, ◌-◌, ◌<◌, ◌≤◌, ℤ, pos, ◌+ℤ◌, ◌-ℤ◌, ◌≤ℤ◌, ◌<ℤ◌, Bool, true, cond, ◌&&◌, List, [], ◌∷◌, ◌++◌, length, get_or, take, inl, inr, refl, sym, ◌∙◌, ap, subst, arith, zero, suc}
 use Rattle.std.specs.Prelude.{All, map, slice_index, nat_le, nat_lt}
 use Rattle.std.proofs.lemmas.Int.{ints}
 use Rattle.std.proofs.lemmas.Bool.{cases_lt}
 use Rattle.std.proofs.lemmas.Bool.Decides.{nat_tests}
 use Rattle.std.proofs.lemmas.List.{get_or-map, length-map, take_all, take_more}
 use Rattle.std.proofs.lemmas.List.Elements.{All-weaker, All-append}
-use Rattle.viz_scene.specs.declared.quad.Quad.{Quad}
-use Rattle.viz_scene.specs.declared.quad.RenderPass.{RenderPass}
-use Rattle.viz_scene.specs.Views.{quad_view, quads_view, pass_view, passes_view}
 use Rattle.geom.specs.declared.Rect.{Rect}
 use Rattle.geom.specs.declared.Point.{Point}
-use Rattle.geom.specs.Covers.{covers, IsSound}
+use Rattle.geom.specs.Covers.{covers}
 use Rattle.geom.proofs.Spans.{inside, both}
 use Rattle.pixel.specs.Colours.{Parts, blend, clear}
-use Rattle.pixel.specs.Surfaces.{holds, in_rows}
+use Rattle.pixel.specs.Surfaces.{holds}
 use Rattle.pixel.specs.declared.surface.Area.{Area}
 use Rattle.page_display_list.specs.Bitmaps.{near}
 use Rattle.page_display_list.specs.Shared.{IsShared, IsOutside}
@@ -24,8 +21,7 @@ use Rattle.viz_scene.specs.Views.{QuadView, tiled, plain, grouped, SceneView}
 use Rattle.viz_scene.specs.Pixels.{placed_pixel, quad_over, quads_over, root_pixel, scene_pixel}
 use Rattle.viz_scene.specs.Sound.{IsTaken, QuadFits, AreSound, IsScene, IsSceneSide}
 use Rattle.viz_render.proofs.SceneSteps.{sound_in}
-use Rattle.viz_render.proofs.Tiles.{where_held, near_is, pixel_taken, from_top, taken}
-use Rattle.viz_render.specs.inner.Drawing.{part_pixel}
+use Rattle.viz_render.proofs.Tiles.{where_held, near_is, pixel_taken, from_top}
 use Rattle.viz_canvas.specs.inner.Fresh.{IsPlaced, IsEven, ActsAlike, AreStale, StaysMarked, AreBands}
 
 -- ---- rows of an image

@@ -16,7 +16,7 @@ use Rattle.viz_canvas.specs.declared.band.Band.{Band}
 use Rattle.viz_canvas.specs.Formats.{bytes_at}
 use Rattle.viz_canvas.specs.inner.Bands.{IsInBand, IsBandDrawn, AreAllReady}
 use Rattle.viz_canvas.specs.inner.Halves.{upper_place, lower_place}
-use Rattle.viz_canvas.proofs.Bytes.{before_pixel, pixel_end, pixels_sum, all_there, as_many, same_bytes}
+use Rattle.viz_canvas.proofs.Bytes.{before_pixel, pixel_end, pixels_sum, all_there, same_bytes}
 
 -- ---- bytes of two bands
 

@@ -1,5 +1,5 @@
 -- Each band adds its mark.
-use Rattle.std.proofs.Common.{◌≡◌, arith, ◌∙◌}
+use Rattle.std.proofs.Common.{arith, ◌∙◌}
 use Rattle.viz_canvas.proofs.FreshSteps.{bands_more}
 use Rattle.viz_canvas.proofs.fresh.mark_bands.Goals as goal
 

@@ -1,5 +1,5 @@
 -- Each pass adds its marks.
-use Rattle.std.proofs.Common.{◌≡◌, List, subst, sym, ◌∙◌, ap}
+use Rattle.std.proofs.Common.{◌≡◌, List, subst, sym, ◌∙◌}
 use Rattle.std.specs.Prelude.{All, take, ◌+◌}
 use Rattle.viz_scene.specs.declared.quad.Quad.{Quad}
 use Rattle.viz_scene.specs.Views.{QuadView, quads_view, pass_view, passes_view}

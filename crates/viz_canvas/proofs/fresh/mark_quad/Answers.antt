@@ -1,7 +1,4 @@
 -- Each kind of quad.
-use Rattle.std.proofs.Common.{subst, sym, ap}
-use Rattle.viz_scene.specs.Views.{QuadView, quad_view}
-use Rattle.viz_canvas.specs.inner.Fresh.{ActsAlike, AreStale}
 use Rattle.viz_canvas.proofs.FreshSteps.{plain_alike}
 use Rattle.viz_canvas.proofs.fresh.mark_quad.Goals as goal
 

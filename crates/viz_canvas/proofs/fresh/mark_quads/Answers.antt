@@ -1,5 +1,5 @@
 -- Each quad adds its marks.
-use Rattle.std.proofs.Common.{◌≡◌, List, subst, ◌∙◌}
+use Rattle.std.proofs.Common.{List, subst, ◌∙◌}
 use Rattle.std.specs.Prelude.{All, take, ◌+◌}
 use Rattle.viz_scene.specs.Views.{QuadView, quad_view, quads_view}
 use Rattle.viz_canvas.specs.inner.Fresh.{IsPlaced, ActsAlike, AreStale}

@@ -1,8 +1,6 @@
 -- Where the tile begins, ends and changes is marked.
-use Rattle.std.proofs.Common.{◌≡◌, ◌≤◌, ◌+◌, length, subst, sym, arith}
-use Rattle.page_display_list.specs.Bitmaps.{near}
-use Rattle.viz_canvas.specs.inner.Fresh.{AreBands}
-use Rattle.viz_canvas.proofs.FreshSteps.{even_part, even_outside, stale_kept, tile_alike, tile_outside, rows_in}
+use Rattle.std.proofs.Common.{length}
+use Rattle.viz_canvas.proofs.FreshSteps.{even_part, stale_kept, tile_alike, tile_outside, rows_in}
 use Rattle.viz_canvas.specs.inner.Fresh.{IsEven}
 use Rattle.viz_canvas.proofs.fresh.mark_tile.Goals as goal
 

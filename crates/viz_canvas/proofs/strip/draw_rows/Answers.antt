@@ -1,7 +1,5 @@
 -- Each strip adds its rows, and each copy the next one.
-use Rattle.std.proofs.Common.{ℕ, ◌+◌, ◌-◌, ◌*◌, List, pos, arith}
-use Rattle.viz_scene.specs.Pixels.{scene_pixel}
-use Rattle.viz_canvas.specs.Formats.{bytes_at}
+use Rattle.std.proofs.Common.{arith}
 use Rattle.viz_canvas.proofs.CopySteps.{row_copied}
 use Rattle.viz_canvas.proofs.strip.draw_rows.Goals as goal
 
