@@ -94,7 +94,7 @@ rows_joined at r n x y = grind (arith, nat_tests)
 rows_apart : (at : Area) (r n x y : ℕ) → in_rows at r x y ≡ true → in_rows (rows_from at r n) n x y ≡ true → ⊥
 rows_apart at r n x y h k = absurd (grind (arith, nat_tests))
 
-step : {C : Type 0} (first more all : Bool) (start old new : C) (f : C → C) → all ≡ first || more → (first ≡ true → more ≡ true → ⊥)
+pub step : {C : Type 0} (first more all : Bool) (start old new : C) (f : C → C) → all ≡ first || more → (first ≡ true → more ≡ true → ⊥)
     → old ≡ cond first (f start) start → new ≡ cond more (f old) old → new ≡ cond all (f start) start
 step true true all start old new f e apart o n = absurd (apart refl refl)
 step true false all start old new f e apart o n = rw e (n ∙ o)

@@ -10,5 +10,6 @@ pub mod PackedRuns
 pub mod PieceSteps
 pub mod PixelRuns
 pub mod Redraws
+pub mod RowMoves
 pub mod StripSteps
 pub mod TwoBands

@@ -1,5 +1,6 @@
 -- Rects of a scene that were drawn into its picture.
-use Rattle.std.proofs.Common.{◌≡◌, ℕ, ◌+◌, ◌*◌, ◌<◌, ℤ, pos, ◌+ℤ◌, Bool, true, false, cond, ◌||◌, List, [], ◌∷◌, length, take, get_or, refl, sym, ◌∙◌, ap, subst, arith}
+use Rattle.std.proofs.Common.{◌≡◌, ℕ, ◌+◌, ◌*◌, ◌<◌, ◌≤◌, ℤ, pos, ◌+ℤ◌, Bool, true, false, cond, ◌||◌, List, [], ◌∷◌, length, take, get_or, refl, sym, ◌∙◌, ap, subst, arith}
+use Rattle.std.proofs.lemmas.Bool.Decides.{nat_tests}
 use Rattle.std.proofs.lemmas.Int.{ints}
 use Rattle.std.proofs.lemmas.List.{take_more}
 use Rattle.std.proofs.lemmas.List.Folds.{list_any-append}
@@ -8,15 +9,17 @@ use Rattle.geom.specs.Covers.{covers, within as in_span}
 use Rattle.geom.proofs.Spans.{is_within_of, both_of}
 use Rattle.pixel.specs.Colours.{Parts}
 use Rattle.pixel.specs.Surfaces.{holds}
+use Rattle.pixel.specs.declared.surface.Area.{Area}
 use Rattle.page_display_list.specs.declared.CoveredArea.{CoveredArea}
 use Rattle.page_display_list.specs.Shared.{IsShared, IsOutside}
 use Rattle.region.specs.Points.{covered}
 use Rattle.viz_scene.specs.Views.{SceneView}
 use Rattle.viz_scene.specs.Pixels.{scene_pixel}
 use Rattle.viz_canvas.specs.declared.band.Band.{Band}
-use Rattle.viz_canvas.specs.Canvases.{CanvasView, IsOfSize, canvas_pixel, EachIs, CanvasShows, ShowsIn}
+use Rattle.viz_canvas.specs.Buffers.{IsDrawnIn}
+use Rattle.viz_canvas.specs.Canvases.{CanvasView, IsOfSize, canvas_pixel, CanvasShows, ShowsIn}
 use Rattle.viz_canvas.specs.Formats.{bytes_at}
-use Rattle.viz_canvas.specs.inner.Bands.{IsBandDrawn, IsRectDrawn, AreDrawn}
+use Rattle.viz_canvas.specs.inner.Bands.{IsBandDrawn, IsRectDrawn}
 
 -- the rect of a screen
 abbrev pub screen : ℕ → ℕ → Rect
@@ -47,50 +50,69 @@ covered_more rects i r x y lt =
     ∙ list_any-append (λ (q : Rect). covers q x y) (take i rects) (get_or rects i r ∷ [])
     ∙ ap (λ (b : Bool). covered (take i rects) x y || b) (or_false (covers (get_or rects i r) x y))
 
-module _ (d : ℕ) (bytes_of : Parts → List ℕ) (s : SceneView) where
+-- an area holds no pixel to the right of it
+right_of : (at : Area) (x y : ℕ) → at.x + at.w ≤ x → holds at x y ≡ false
+right_of at x y le = grind (arith, nat_tests)
+
+module _ (d : ℕ) (bytes_of : Parts → List ℕ) (s : SceneView) (across : ℕ) where
   -- the part of the screen that a rect covers was drawn, in a band of all rows
-  pub rect_drawn : (rect : Rect) (part : CoveredArea) (band : Band) (old new : List ℕ) → IsShared rect (screen s.w s.h) part
-      → band ≡ record { top = 0; rows = s.h; across = s.w } → IsBandDrawn d bytes_of s band part.at old new
-      → IsRectDrawn d bytes_of s rect old new
-  rect_drawn rect part band old new shared is drawn x y xw yh =
+  pub rect_drawn : (rect : Rect) (part : CoveredArea) (band : Band) (old new : List ℕ) → s.w ≤ across → IsShared rect (screen s.w s.h) part
+      → band ≡ record { top = 0; rows = s.h; across = across } → IsBandDrawn d bytes_of s band part.at old new
+      → IsRectDrawn d bytes_of s across rect old new
+  rect_drawn rect part band old new wide shared is drawn =
       let each = subst (λ (b : Band). IsBandDrawn d bytes_of s b part.at old new) is drawn in
-      let row : 0 + y ≡ y = omega arith in
-      let points : holds part.at x y ≡ covers rect (pos x) (pos y) =
-      sym (shared.points x y xw yh)
-      ∙ ap (λ (z : ℤ). covers rect z (pos 0 +ℤ pos y)) (from_origin x) ∙ ap (covers rect (pos x)) (from_origin y) in
-      each x y xw yh
-      ∙ ap (λ (n : ℕ). cond (holds part.at x y) (bytes_of (scene_pixel s (pos x) (pos n))) (bytes_at d old (y * s.w + x))) row
-      ∙ ap (λ (b : Bool). cond b (bytes_of (scene_pixel s (pos x) (pos y))) (bytes_at d old (y * s.w + x))) points
+      let end : part.at.x + part.at.w ≤ s.w = shared.inside.across in
+      record {
+        pixels = λ x y xw yh.
+            let row : 0 + y ≡ y = omega arith in
+            let points : holds part.at x y ≡ covers rect (pos x) (pos y) =
+            sym (shared.points x y xw yh)
+            ∙ ap (λ (z : ℤ). covers rect z (pos 0 +ℤ pos y)) (from_origin x) ∙ ap (covers rect (pos x)) (from_origin y) in
+            each x y (omega arith) yh
+            ∙ ap (λ (n : ℕ). cond (holds part.at x y) (bytes_of (scene_pixel s (pos x) (pos n))) (bytes_at d old (y * across + x))) row
+            ∙ ap (λ (b : Bool). cond b (bytes_of (scene_pixel s (pos x) (pos y))) (bytes_at d old (y * across + x))) points;
+        gaps = record {
+          bytes = λ x y from xw yh.
+              each x y xw yh
+              ∙ ap (λ (b : Bool). cond b (bytes_of (scene_pixel s (pos x) (pos (0 + y)))) (bytes_at d old (y * across + x))) (right_of part.at x y (omega arith));
+        };
+      }
 
   pub rect_outside : (rect : Rect) (old : List ℕ) → IsOutside rect (screen s.w s.h)
-      → IsRectDrawn d bytes_of s rect old old
-  rect_outside rect old out x y xw yh =
-      let off : covers rect (pos x) (pos y) ≡ false =
-      sym (ap (λ (z : ℤ). covers rect z (pos 0 +ℤ pos y)) (from_origin x) ∙ ap (covers rect (pos x)) (from_origin y)) ∙ out x y xw yh in
-      sym (ap (λ (b : Bool). cond b (bytes_of (scene_pixel s (pos x) (pos y))) (bytes_at d old (y * s.w + x))) off)
+      → IsRectDrawn d bytes_of s across rect old old
+  rect_outside rect old out = record {
+    pixels = λ x y xw yh.
+        let off : covers rect (pos x) (pos y) ≡ false =
+        sym (ap (λ (z : ℤ). covers rect z (pos 0 +ℤ pos y)) (from_origin x) ∙ ap (covers rect (pos x)) (from_origin y)) ∙ out x y xw yh in
+        sym (ap (λ (b : Bool). cond b (bytes_of (scene_pixel s (pos x) (pos y))) (bytes_at d old (y * across + x))) off);
+    gaps = record { bytes = λ x y from xw yh. refl };
+  }
 
   pub region_more : (rects : List Rect) (i : ℕ) (r : Rect) (start old new : List ℕ) → i < length rects
-      → AreDrawn d bytes_of s (take i rects) start old
-      → IsRectDrawn d bytes_of s (get_or rects i r) old new
-      → AreDrawn d bytes_of s (take (i + 1) rects) start new
-  region_more rects i r start old new lt before drawn x y xw yh =
-      both_drawn (covered (take i rects) (pos x) (pos y)) (covers (get_or rects i r) (pos x) (pos y)) (covered (take (i + 1) rects) (pos x) (pos y))
-      (bytes_at d start (y * s.w + x)) (bytes_at d old (y * s.w + x)) (bytes_at d new (y * s.w + x)) (bytes_of (scene_pixel s (pos x) (pos y)))
-      (covered_more rects i r (pos x) (pos y) lt) (before x y xw yh) (drawn x y xw yh)
+      → IsDrawnIn d bytes_of s across (take i rects) start old
+      → IsRectDrawn d bytes_of s across (get_or rects i r) old new
+      → IsDrawnIn d bytes_of s across (take (i + 1) rects) start new
+  region_more rects i r start old new lt before drawn = record {
+    pixels = λ x y xw yh.
+        both_drawn (covered (take i rects) (pos x) (pos y)) (covers (get_or rects i r) (pos x) (pos y)) (covered (take (i + 1) rects) (pos x) (pos y))
+        (bytes_at d start (y * across + x)) (bytes_at d old (y * across + x)) (bytes_at d new (y * across + x)) (bytes_of (scene_pixel s (pos x) (pos y)))
+        (covered_more rects i r (pos x) (pos y) lt) (before.pixels x y xw yh) (drawn.pixels x y xw yh);
+    gaps = record { bytes = λ x y from xw yh. drawn.gaps.bytes x y from xw yh ∙ before.gaps.bytes x y from xw yh };
+  }
 
+module _ (d : ℕ) (bytes_of : Parts → List ℕ) (s : SceneView) where
   -- a region of a canvas
   pub shown_in : (rects : List Rect) (c : CanvasView) (new : List ℕ) → IsOfSize s.w s.h c
-      → AreDrawn d bytes_of s rects c.bytes new
+      → IsDrawnIn d bytes_of s c.w rects c.bytes new
       → ShowsIn d bytes_of s rects c (record { w = c.w; h = c.h; bytes = new })
   shown_in rects c new size drawn x y xw yh =
       let wide = size.wide in
       let tall = size.tall in
-      subst (λ (w : ℕ). bytes_at d new (y * w + x) ≡ cond (covered rects (pos x) (pos y)) (bytes_of (scene_pixel s (pos x) (pos y))) (bytes_at d c.bytes (y * w + x))) (sym wide)
-      (drawn x y (omega arith) (omega arith))
+      drawn.pixels x y (omega arith) (omega arith)
 
   -- the whole screen of a canvas
   pub screen_shown : (c : CanvasView) (new : List ℕ) → IsOfSize s.w s.h c
-      → AreDrawn d bytes_of s (screen s.w s.h ∷ []) c.bytes new
+      → IsDrawnIn d bytes_of s c.w (screen s.w s.h ∷ []) c.bytes new
       → CanvasShows d bytes_of s (record { w = c.w; h = c.h; bytes = new })
   screen_shown c new size drawn x y xw yh =
       let wide = size.wide in

@@ -1,12 +1,12 @@
 -- Canvases: pictures in a pixel format, and what is drawn onto them.
-use Rattle.std.specs.Prelude.{ℕ, ◌+◌, ◌*◌, ◌<◌, ◌≡◌, pos, cond, List, length}
+use Rattle.std.specs.Prelude.{ℕ, ◌*◌, ◌≡◌, pos, cond, List, length}
 use Rattle.geom.specs.declared.Rect.{Rect}
 use Rattle.pixel.specs.Colours.{Parts}
 use Rattle.region.specs.Points.{covered}
 use Rattle.viz_scene.specs.Views.{SceneView}
 use Rattle.viz_scene.specs.Pixels.{scene_pixel}
 use Rattle.viz_scene.specs.Sound.{IsSceneSide}
-use Rattle.viz_canvas.specs.Formats.{bytes_at}
+use Rattle.viz_canvas.specs.Buffers.{pixel_at, EachPixelIs}
 
 -- the sides of a canvas in pixels, and the bytes of its pixels, row by row from the top
 pub record CanvasView : Type 0 where
@@ -20,13 +20,13 @@ pub record IsCanvas (depth : ℕ) (c : CanvasView) : Type 0 where
   pub tall : IsSceneSide c.h
   pub size : length c.bytes ≡ depth * (c.w * c.h)
 
--- the bytes of the pixel of column `x` and row `y`
+-- the bytes of the pixel of column `x` and row `y`: a canvas is a picture whose rows have no gap between them
 abbrev pub canvas_pixel : ℕ → CanvasView → ℕ → ℕ → List ℕ
-canvas_pixel depth c x y = bytes_at depth c.bytes (y * c.w + x)
+canvas_pixel depth c x y = pixel_at depth c.w c.bytes x y
 
 -- the bytes of each pixel are what `p` says of its column and row
 abbrev pub EachIs : ℕ → (ℕ → ℕ → List ℕ) → CanvasView → Type 0
-EachIs depth p c = (x y : ℕ) → x < c.w → y < c.h → canvas_pixel depth c x y ≡ p x y
+EachIs depth p c = EachPixelIs depth c.w c.w c.h p c.bytes
 
 -- the colour of a canvas at first
 abbrev pub black : Parts

@@ -1,3 +1,4 @@
+pub mod Buffers
 pub mod Canvases
 pub mod CopiedRows
 pub mod Formats

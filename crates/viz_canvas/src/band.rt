@@ -1,5 +1,9 @@
 //! Rows of a picture.
 
+ghost use Rattle.std.specs.Prelude.{◌≡◌, ◌≤◌};
+
+use viz_scene::Scene;
+
 /// Whole rows of a picture, one under another.
 #[derive(Clone, Copy)]
 pub(crate) struct Band {
@@ -9,4 +13,16 @@ pub(crate) struct Band {
     pub(crate) rows: usize,
     /// How many pixels there are from the start of a row to that of the next: the picture's width, or more.
     pub(crate) across: usize,
+}
+
+/// All rows of the picture of a scene, with `across` pixels from one to the next.
+pub(crate) fn band_of(scene: &Scene, across: usize) -> Band
+    ensures value { result ≡ record { top = 0; rows = scene.now.h; across = across } }
+    ensures tall { scene.now.h ≤ 2048 }
+{
+    Band {
+        top: 0,
+        rows: scene.h() as usize,
+        across,
+    }
 }

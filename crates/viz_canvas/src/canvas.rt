@@ -114,8 +114,9 @@ impl<F: PixelFormat> Canvas<F> {
         let screen = [screen_of(scene)];
         let alloc = *self.bytes.allocator();
         prepare(alloc, scene, &screen, 1, &mut self.surfaces)?;
+        let across = self.w as usize;
         let bytes = self.bytes.as_mut_slice();
-        draw_rects::<F>(scene, bytes, &screen, &mut self.surfaces[0]);
+        draw_rects::<F>(scene, bytes, across, &screen, &mut self.surfaces[0]);
         Ok(())
     }
 
@@ -130,8 +131,9 @@ impl<F: PixelFormat> Canvas<F> {
     {
         let alloc = *self.bytes.allocator();
         prepare(alloc, scene, region.rects(), 1, &mut self.surfaces)?;
+        let across = self.w as usize;
         let bytes = self.bytes.as_mut_slice();
-        draw_rects::<F>(scene, bytes, region.rects(), &mut self.surfaces[0]);
+        draw_rects::<F>(scene, bytes, across, region.rects(), &mut self.surfaces[0]);
         Ok(())
     }
 }
@@ -155,9 +157,10 @@ impl<F: PixelFormat + Sync> Canvas<F> {
     {
         let alloc = *self.bytes.allocator();
         prepare(alloc, scene, region.rects(), parts, &mut self.surfaces)?;
+        let across = self.w as usize;
         let bytes = self.bytes.as_mut_slice();
         let surfaces = self.surfaces.as_mut_slice();
-        draw_rects_in_parts::<R, F>(rt, scene, bytes, region.rects(), surfaces);
+        draw_rects_in_parts::<R, F>(rt, scene, bytes, across, region.rects(), surfaces);
         Ok(())
     }
 }

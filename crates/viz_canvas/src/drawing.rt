@@ -1,11 +1,12 @@
 //! Drawing what some rects of a picture cover.
 
-ghost use Rattle.std.specs.Prelude.{◌≡◌, ◌*◌, ◌≤◌, pos, [], length, All, OnOk, IsTrue};
+ghost use Rattle.std.specs.Prelude.{◌≡◌, ◌≤◌, pos, [], All, OnOk, IsTrue};
 ghost use Rattle.geom.specs.Covers.{IsSound};
 ghost use Rattle.viz_render.specs.Surfaces.{AreReady};
-ghost use Rattle.viz_canvas.specs.inner.Bands.{AreAllReady, IsRectDrawn, AreDrawn};
+ghost use Rattle.viz_canvas.specs.Buffers.{HasRows, IsDrawnIn};
+ghost use Rattle.viz_canvas.specs.inner.Bands.{AreAllReady, IsRectDrawn};
 
-use crate::band::Band;
+use crate::band::band_of;
 use crate::format::PixelFormat;
 use crate::parts::{BandArea, draw_parts, parts_of, pixels_of};
 use crate::pieces::draw_area;
@@ -93,33 +94,41 @@ fn pixel_count(scene: &Scene, rect: Rect) -> usize
     }
 }
 
-/// Draws the pixels of a scene that some of the rects cover into its picture; the others stay.
+/// Draws the pixels of a scene that some of the rects cover into its picture, which lies in a buffer with `across` pixels
+/// from row to row; all other bytes stay.
 pub(crate) fn draw_rects<F: PixelFormat>(
     scene: &Scene,
     bytes: &mut [u8],
+    across: usize,
     rects: &[Rect],
     surfaces: &mut Surfaces,
 )
     requires rects { All IsSound rects.now }
-    requires size { length bytes.old ≡ F.DEPTH * (scene.now.w * scene.now.h) }
+    requires rows { HasRows F.DEPTH across scene.now.w scene.now.h bytes.old }
     requires ready { AreReady scene.now surfaces.old }
-    ensures { AreDrawn F.DEPTH F.bytes_of scene.now rects.now bytes.old bytes.new }
+    ensures { IsDrawnIn F.DEPTH F.bytes_of scene.now across rects.now bytes.old bytes.new }
 {
     for rect in rects {
-        draw_rect::<F>(scene, bytes, *rect, surfaces);
+        draw_rect::<F>(scene, bytes, across, *rect, surfaces);
     }
 }
 
 // draws the pixels of a scene that a rect covers
-fn draw_rect<F: PixelFormat>(scene: &Scene, bytes: &mut [u8], rect: Rect, surfaces: &mut Surfaces)
+fn draw_rect<F: PixelFormat>(
+    scene: &Scene,
+    bytes: &mut [u8],
+    across: usize,
+    rect: Rect,
+    surfaces: &mut Surfaces,
+)
     requires rect { IsSound rect }
-    requires size { length bytes.old ≡ F.DEPTH * (scene.now.w * scene.now.h) }
+    requires rows { HasRows F.DEPTH across scene.now.w scene.now.h bytes.old }
     requires ready { AreReady scene.now surfaces.old }
-    ensures drawn { IsRectDrawn F.DEPTH F.bytes_of scene.now rect bytes.old bytes.new }
+    ensures drawn { IsRectDrawn F.DEPTH F.bytes_of scene.now across rect bytes.old bytes.new }
     ensures ready { AreReady scene.now surfaces.new }
 {
     if let Some(part) = shared_part(rect, screen_of(scene)) {
-        let band = band_of(scene);
+        let band = band_of(scene, across);
         draw_area::<F>(scene, bytes, band, part.at, surfaces);
     }
 }
@@ -129,16 +138,17 @@ pub(crate) fn draw_rects_in_parts<R: Threads + Sync, F: PixelFormat + Sync>(
     rt: &R,
     scene: &Scene,
     bytes: &mut [u8],
+    across: usize,
     rects: &[Rect],
     surfaces: &mut [Surfaces],
 )
     requires rects { All IsSound rects.now }
-    requires size { length bytes.old ≡ F.DEPTH * (scene.now.w * scene.now.h) }
+    requires rows { HasRows F.DEPTH across scene.now.w scene.now.h bytes.old }
     requires ready { AreAllReady scene.now surfaces.old }
-    ensures { AreDrawn F.DEPTH F.bytes_of scene.now rects.now bytes.old bytes.new }
+    ensures { IsDrawnIn F.DEPTH F.bytes_of scene.now across rects.now bytes.old bytes.new }
 {
     for rect in rects {
-        draw_rect_in_parts::<R, F>(rt, scene, bytes, *rect, surfaces);
+        draw_rect_in_parts::<R, F>(rt, scene, bytes, across, *rect, surfaces);
     }
 }
 
@@ -147,33 +157,22 @@ fn draw_rect_in_parts<R: Threads + Sync, F: PixelFormat + Sync>(
     rt: &R,
     scene: &Scene,
     bytes: &mut [u8],
+    across: usize,
     rect: Rect,
     surfaces: &mut [Surfaces],
 )
     requires rect { IsSound rect }
-    requires size { length bytes.old ≡ F.DEPTH * (scene.now.w * scene.now.h) }
+    requires rows { HasRows F.DEPTH across scene.now.w scene.now.h bytes.old }
     requires ready { AreAllReady scene.now surfaces.old }
-    ensures drawn { IsRectDrawn F.DEPTH F.bytes_of scene.now rect bytes.old bytes.new }
+    ensures drawn { IsRectDrawn F.DEPTH F.bytes_of scene.now across rect bytes.old bytes.new }
     ensures ready { AreAllReady scene.now surfaces.new }
 {
     if let Some(part) = shared_part(rect, screen_of(scene)) {
         let place = BandArea {
-            band: band_of(scene),
+            band: band_of(scene, across),
             at: part.at,
         };
         draw_parts::<R, F>(rt, scene, place, bytes, surfaces);
-    }
-}
-
-// all rows of the picture of a scene, with nothing between them
-fn band_of(scene: &Scene) -> Band
-    ensures value { result ≡ record { top = 0; rows = scene.now.h; across = scene.now.w } }
-    ensures tall { scene.now.h ≤ 2048 }
-{
-    Band {
-        top: 0,
-        rows: scene.h() as usize,
-        across: scene.w() as usize,
     }
 }
 

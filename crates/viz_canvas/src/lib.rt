@@ -8,6 +8,9 @@
 //! A large area may be drawn in parts of whole rows, each by a thread of its own and with surfaces of its own, which
 //! puts its own rows into the canvas. Surfaces are kept for the next scene of that size and number of passes. All
 //! memory is taken before the canvas is changed.
+//!
+//! A picture may also lie in a buffer of somebody else's, whose rows may have gaps between them: a renderer draws onto it
+//! by the same code, of which a canvas is the case without gaps.
 #![tactic(auto)]
 
 mod band;
@@ -21,6 +24,7 @@ mod lanes;
 mod moving;
 mod parts;
 mod pieces;
+mod renderer;
 mod rgb;
 mod rgba;
 mod row;
@@ -30,5 +34,7 @@ mod strip;
 pub use bgra::Bgra;
 pub use canvas::Canvas;
 pub use format::PixelFormat;
+pub use moving::copy_rows;
+pub use renderer::Renderer;
 pub use rgb::Rgb;
 pub use rgba::Rgba;

@@ -12,7 +12,8 @@ ghost use Rattle.viz_canvas.specs.inner.Parts.{PartOf, EachOf, only_in};
 use crate::band::Band;
 use crate::format::PixelFormat;
 use crate::fresh::{mark_all, mark_fresh};
-use crate::runs::{copy_run, place_of, write_run};
+use crate::moving::copy_row;
+use crate::runs::{place_of, write_run};
 use geom::Rect;
 use pixel::Area;
 use viz_render::Surfaces;
@@ -149,10 +150,7 @@ fn copy_down<F: PixelFormat>(bytes: &mut [u8], band: Band, at: Area, row: usize)
     requires there { row < at.h }
     ensures { PartOf (bytes_at F.DEPTH) ((at.y + row) * band.across + at.x) at.w (λ j below. bytes_at F.DEPTH bytes.old ((at.y + row - 1) * band.across + (at.x + j))) bytes.old bytes.new }
 {
-    let y = at.y + row;
-    let place = place_of(band.across, band.rows, at.x, y, at.w);
-    let above = place_of(band.across, band.rows, at.x, y - 1, at.w);
-    copy_run::<F>(bytes, above, place, at.w);
+    copy_row::<F>(bytes, band, at, row, at.y + row - 1);
 }
 
 // draws the pixels of a scene in one strip of its picture

@@ -1,8 +1,7 @@
 -- What is drawn into whole rows of a picture.
-use Rattle.std.specs.Prelude.{ℕ, ◌+◌, ◌*◌, ◌≤◌, ◌≡◌, pos, cond, List, length, All}
+use Rattle.std.specs.Prelude.{ℕ, ◌+◌, ◌*◌, ◌≤◌, ◌≡◌, pos, List, length, All}
 use Rattle.geom.specs.declared.Rect.{Rect}
 use Rattle.geom.specs.Covers.{covers}
-use Rattle.region.specs.Points.{covered}
 use Rattle.pixel.specs.Colours.{Parts}
 use Rattle.pixel.specs.Surfaces.{IsInside}
 use Rattle.pixel.specs.declared.surface.Area.{Area}
@@ -10,6 +9,7 @@ use Rattle.viz_scene.specs.Views.{SceneView}
 use Rattle.viz_scene.specs.Pixels.{scene_pixel}
 use Rattle.viz_render.specs.Surfaces.{SurfacesView, AreReady}
 use Rattle.viz_canvas.specs.declared.band.Band.{Band}
+use Rattle.viz_canvas.specs.Buffers.{IsDrawnWhere}
 use Rattle.viz_canvas.specs.Formats.{bytes_at}
 use Rattle.viz_canvas.specs.inner.Parts.{EachOf, only_in}
 
@@ -29,15 +29,9 @@ abbrev pub IsBandDrawn : ℕ → (Parts → List ℕ) → SceneView → Band →
 IsBandDrawn depth bytes_of s band at old new =
     EachOf (bytes_at depth) band.across band.rows (only_in at at.h (λ x y below. bytes_of (scene_pixel s (pos x) (pos (band.top + y))))) old new
 
--- the pixels of the picture of a scene that a rect covers got the bytes of the scene's, and the others have what they had
-abbrev pub IsRectDrawn : ℕ → (Parts → List ℕ) → SceneView → Rect → List ℕ → List ℕ → Type 0
-IsRectDrawn depth bytes_of s rect old new =
-    EachOf (bytes_at depth) s.w s.h (λ x y below. cond (covers rect (pos x) (pos y)) (bytes_of (scene_pixel s (pos x) (pos y))) below) old new
-
--- the same of those that some of the rects cover
-abbrev pub AreDrawn : ℕ → (Parts → List ℕ) → SceneView → List Rect → List ℕ → List ℕ → Type 0
-AreDrawn depth bytes_of s rects old new =
-    EachOf (bytes_at depth) s.w s.h (λ x y below. cond (covered rects (pos x) (pos y)) (bytes_of (scene_pixel s (pos x) (pos y))) below) old new
+-- the pixels of the picture of a scene that a rect covers got the bytes of the scene's; all other bytes are kept
+abbrev pub IsRectDrawn : ℕ → (Parts → List ℕ) → SceneView → ℕ → Rect → List ℕ → List ℕ → Type 0
+IsRectDrawn depth bytes_of s across rect old new = IsDrawnWhere depth bytes_of s across (λ x y. covers rect (pos x) (pos y)) old new
 
 -- there are surfaces, and each has room for a strip of a scene
 pub record AreAllReady (s : SceneView) (surfaces : List SurfacesView) : Type 0 where

@@ -1,10 +1,11 @@
 -- The rects so far are drawn.
 use Rattle.std.specs.Prelude.{take}
-use Rattle.viz_canvas.specs.inner.Bands.{AreAllReady, AreDrawn}
+use Rattle.viz_canvas.specs.Buffers.{IsDrawnIn}
+use Rattle.viz_canvas.specs.inner.Bands.{AreAllReady}
 use Rattle.viz_canvas.proofs.drawing.draw_rects_in_parts.Given as given
 
 abbrev pub invariant-loop-rect : given.invariant-loop-rect
 invariant-loop-rect g l = record {
-  pixels : AreDrawn g.F.PixelFormat.DEPTH g.F.PixelFormat.bytes_of l.scene (take l.rect-index l.rects) l.initial.bytes l.bytes;
+  drawn : IsDrawnIn g.F.PixelFormat.DEPTH g.F.PixelFormat.bytes_of l.scene l.across (take l.rect-index l.rects) l.initial.bytes l.bytes;
   ready : AreAllReady l.scene l.surfaces;
 }
