@@ -1,1 +1,2 @@
 pub mod Redrawn
+pub mod RedrawnIn

@@ -1,46 +1,40 @@
 -- Canvases that show one scene, and so another one too.
-use Rattle.std.proofs.Common.{◌≡◌, ℕ, ◌+◌, ◌-◌, ◌*◌, ◌<◌, ℤ, pos, ◌-ℤ◌, Bool, true, false, cond, List, length, refl, sym, ◌∙◌, ap, subst, arith}
+use Rattle.std.proofs.Common.{◌≡◌, ℕ, ◌*◌, ◌<◌, pos, List, length, refl, sym, ◌∙◌, ap, subst, arith}
 use Rattle.std.specs.Prelude.{Option, Some, IfSome}
-use Rattle.std.proofs.lemmas.Int.{ints}
 use Rattle.geom.specs.declared.Rect.{Rect}
-use Rattle.geom.specs.Covers.{covers}
-use Rattle.geom.proofs.Spans.{is_within_of, both_of}
 use Rattle.region.specs.Points.{covered}
 use Rattle.pixel.specs.Colours.{Parts}
 use Rattle.viz_scene.specs.Views.{SceneView}
 use Rattle.viz_scene.specs.Pixels.{scene_pixel}
+use Rattle.viz_canvas.specs.Buffers.{ShowsScene}
 use Rattle.viz_canvas.specs.Canvases.{CanvasView, IsOfSize, EachIs, ShowsIn, canvas_pixel}
-use Rattle.viz_canvas.specs.CopiedRows.{row_before}
-use Rattle.viz_canvas.proofs.MovedRows.{row_in}
-use Rattle.viz_damage.specs.Damage.{AreAlikeOutside, screen}
-use Rattle.viz_scroll_damage.specs.declared.shift.Shift.{Shift}
-use Rattle.viz_scroll_damage.specs.Moved.{IsShift, AreAlikeMoved, fall}
+use Rattle.viz_damage.specs.Damage.{AreAlikeOutside}
 use Rattle.viz_occlusion.specs.Culled.{IsCulled}
 use Rattle.viz_painter.specs.Painters.{ShowsWhole, ShowsOutside, HoldsCulled, IsKeptOutside}
+use Rattle.viz_painter.specs.Redrawers.{ShowsSceneOutside}
+use Rattle.viz_painter.specs.declared.left.MovedRows.{MovedRows}
 use Rattle.viz_painter.specs.inner.Helds.{HeldView, culled_of}
-use Rattle.viz_painter.specs.inner.Rests.{HasOutside}
-
--- a pixel of the screen
-on_screen : (s : SceneView) (x y : ℕ) → x < s.w → y < s.h → covers (screen s) (pos x) (pos y) ≡ true
-on_screen s x y xw yh =
-    both_of _ _ (is_within_of (pos 0) (pos s.w) (pos x) (record { low = omega (arith, ints); high = omega (arith, ints) }))
-    (is_within_of (pos 0) (pos s.h) (pos y) (record { low = omega (arith, ints); high = omega (arith, ints) }))
-
-differs : (t : Bool) → t ≡ false → t ≡ true → ⊥
-differs true off on = cc
-differs false off on = cc
-
-by_place : {C : Type 0} (t : Bool) (new kept : C) → (t ≡ false → kept ≡ new) → cond t new kept ≡ new
-by_place true new kept h = refl
-by_place false new kept h = h refl
+use Rattle.viz_painter.specs.inner.Rests.{HasOutside, IsLeft, CoversScreen, row_moved, rest_in}
+use Rattle.viz_painter.proofs.RedrawnIn.{by_place, off_screen, unchanged_in, culled_in}
 
 module _ (d : ℕ) (bytes_of : Parts → List ℕ) where
+  -- a canvas is a picture in a buffer without gaps
+  shown_in_buffer : (s : SceneView) (c : CanvasView) → ShowsWhole d bytes_of s c → ShowsScene d bytes_of c.w s c.bytes
+  shown_in_buffer s c shown = record {
+    pixels = λ x y xw yh.
+        let w = shown.size.wide in
+        let h = shown.size.tall in
+        shown.pixels x y (omega arith) (omega arith);
+  }
+
+  outside_in_buffer : (s : SceneView) (region : List Rect) (c : CanvasView) → ShowsOutside d bytes_of s region c → ShowsSceneOutside d bytes_of c.w s region c.bytes
+  outside_in_buffer s region c shown = record { pixels = shown.pixels }
+
   -- outside of the whole screen there is nothing
-  pub nothing_outside : (s : SceneView) (region : List Rect) (c : CanvasView) → IsOfSize s.w s.h c
-      → ((x y : ℤ) → covered region x y ≡ false → covers (screen s) x y ≡ false) → ShowsOutside d bytes_of s region c
-  nothing_outside s region c size out = record {
+  pub nothing_outside : (s : SceneView) (region : List Rect) (c : CanvasView) → IsOfSize s.w s.h c → CoversScreen s region → ShowsOutside d bytes_of s region c
+  nothing_outside s region c size all = record {
     size = size;
-    pixels = λ x y xw yh off. absurd (differs (covers (screen s) (pos x) (pos y)) (out (pos x) (pos y) off) (on_screen s x y xw yh));
+    pixels = λ x y xw yh off. absurd (off_screen s region x y all xw yh off);
   }
 
   -- a canvas of the scene before shows the next one outside of the damage
@@ -48,17 +42,14 @@ module _ (d : ℕ) (bytes_of : Parts → List ℕ) where
       → AreAlikeOutside region old s → ShowsOutside d bytes_of s region c
   shown_outside old s region c wide tall shown alike = record {
     size = record { wide = shown.size.wide ∙ wide; tall = shown.size.tall ∙ tall };
-    pixels = λ x y xw yh off.
-        let w = shown.size.wide in
-        let h = shown.size.tall in
-        shown.pixels x y (omega arith) (omega arith) ∙ ap bytes_of (alike (pos x) (pos y) (on_screen old x y (omega arith) (omega arith)) off);
+    pixels = (unchanged_in d bytes_of c.w old s region c.bytes wide tall (shown_in_buffer old c shown) alike).pixels;
   }
 
-  -- so does one whose rows were moved
-  pub moved_outside : (old s : SceneView) (shift : Shift) (region : List Rect) (before c : CanvasView) → old.w ≡ s.w → old.h ≡ s.h
-      → ShowsWhole d bytes_of old before → IsShift s.h shift → AreAlikeMoved shift region old s → IsOfSize before.w before.h c
-      → EachIs d (λ x y. canvas_pixel d before x (row_before shift.from shift.to shift.count y)) c → ShowsOutside d bytes_of s region c
-  moved_outside old s shift region before c wide tall shown is alike same moved =
+  -- so does one whose rows were moved, outside of what is left
+  pub moved_outside : (old s : SceneView) (damage : List Rect) (moved : Option MovedRows) (before c : CanvasView) → old.w ≡ s.w → old.h ≡ s.h
+      → ShowsWhole d bytes_of old before → IsLeft old s damage moved → IsOfSize before.w before.h c
+      → EachIs d (λ x y. canvas_pixel d before x (row_moved moved y)) c → ShowsOutside d bytes_of s (rest_in damage moved) c
+  moved_outside old s damage moved before c wide tall shown left same each =
       let bw = shown.size.wide in
       let bh = shown.size.tall in
       let cw = same.wide in
@@ -66,16 +57,8 @@ module _ (d : ℕ) (bytes_of : Parts → List ℕ) where
       record {
         size = record { wide = cw ∙ bw ∙ wide; tall = ch ∙ bh ∙ tall };
         pixels = λ x y xw yh off.
-            let inside = is.before in
-            let here = alike (pos x) (pos y) (on_screen s x y xw yh) off in
-            let low = here.0.low in
-            let high = here.0.high in
-            let j = y - shift.to in
-            let from : row_before shift.from shift.to shift.count y ≡ shift.from + j =
-            row_in shift.from shift.to shift.count y j (omega (arith, ints)) (omega (arith, ints)) in
-            let row : pos (shift.from + j) ≡ pos y -ℤ fall shift = omega (arith, ints) in
-            moved x y (omega arith) (omega arith) ∙ ap (canvas_pixel d before x) from ∙ shown.pixels x (shift.from + j) (omega arith) (omega (arith, ints))
-            ∙ ap bytes_of (ap (scene_pixel old (pos x)) row ∙ sym here.1);
+            let row : row_moved moved y < s.h = left.inside x y xw yh off in
+            each x y (omega arith) (omega arith) ∙ shown.pixels x (row_moved moved y) (omega arith) (omega arith) ∙ ap bytes_of (left.pixels x y xw yh off);
       }
 
   -- where the rest is drawn, the scene is shown
@@ -93,10 +76,8 @@ module _ (d : ℕ) (bytes_of : Parts → List ℕ) where
   }
 
   -- outside of the whole screen there is nothing, whatever the size
-  pub nothing_had : (s : SceneView) (region : List Rect) (c : CanvasView) → ((x y : ℤ) → covered region x y ≡ false → covers (screen s) x y ≡ false) → HasOutside d bytes_of s region c
-  nothing_had s region c out = record {
-    pixels = λ x y xw yh off. absurd (differs (covers (screen s) (pos x) (pos y)) (out (pos x) (pos y) off) (on_screen s x y xw yh));
-  }
+  pub nothing_had : (s : SceneView) (region : List Rect) (c : CanvasView) → CoversScreen s region → HasOutside d bytes_of s region c
+  nothing_had s region c all = record { pixels = λ x y xw yh off. absurd (off_screen s region x y all xw yh off) }
 
   -- what shows a scene outside of a region has its pixels there
   pub had_outside : (s : SceneView) (region : List Rect) (c : CanvasView) → ShowsOutside d bytes_of s region c → HasOutside d bytes_of s region c
@@ -106,10 +87,7 @@ module _ (d : ℕ) (bytes_of : Parts → List ℕ) where
   pub culled_outside : (s t : SceneView) (region : List Rect) (c : CanvasView) → IsCulled s t → ShowsOutside d bytes_of s region c → ShowsOutside d bytes_of t region c
   culled_outside s t region c culled shown = record {
     size = record { wide = shown.size.wide ∙ sym culled.wide; tall = shown.size.tall ∙ sym culled.tall };
-    pixels = λ x y xw yh off.
-        let w = culled.wide in
-        let h = culled.tall in
-        shown.pixels x y (omega arith) (omega arith) off ∙ ap bytes_of (sym (culled.pixels (pos x) (pos y)));
+    pixels = (culled_in d bytes_of c.w s t region c.bytes culled (outside_in_buffer s region c shown)).pixels;
   }
 
   -- a canvas that had the pixels of the scene outside of the damage, and shows the scene now, kept them

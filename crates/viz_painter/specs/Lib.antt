@@ -1,2 +1,3 @@
 pub mod Painters
+pub mod Redrawers
 pub mod inner

@@ -1,4 +1,4 @@
-//! Drawing scenes one after another onto one canvas, where only what changed is drawn again.
+//! Drawing scenes one after another onto one picture, where only what changed is drawn again.
 //!
 //! A painter holds the scene that its canvas shows. Where the new scene is the held one, nothing is done. Else
 //! its hidden quads are left out, it is compared with the held one, and the damage alone is drawn. Where no
@@ -7,11 +7,17 @@
 //!
 //! In: scenes. Out: the canvas, which shows the last one, in the bytes of its pixel format. Out of memory costs the
 //! held scene, so the next one is drawn whole.
+//!
+//! A redrawer does the same to a picture in a buffer of its caller's, such as one that a window shares.
 #![tactic(auto)]
 
+mod buffer_redrawing;
 mod held_scene;
+mod left;
 mod painting;
+mod redrawer;
 mod redrawing;
 mod worth;
 
 pub use painting::Painter;
+pub use redrawer::Redrawer;

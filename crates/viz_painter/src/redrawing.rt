@@ -1,46 +1,19 @@
 //! What is left to draw of a scene on a canvas that may show another one.
 
-ghost use Rattle.std.specs.Prelude.{◌≡◌, ℤ, false, None, IfSome, IfOk, OnOk, IsTrue};
-ghost use Rattle.geom.specs.Covers.{covers};
-ghost use Rattle.region.specs.Points.{covered};
-ghost use Rattle.viz_canvas.specs.Canvases.{IsOfSize};
-ghost use Rattle.viz_damage.specs.Damage.{screen, AreAlikeOutside};
+ghost use Rattle.std.specs.Prelude.{◌≡◌, IfSome, IfOk, OnOk, IsTrue};
+ghost use Rattle.viz_canvas.specs.Canvases.{IsOfSize, EachIs, canvas_pixel};
 ghost use Rattle.viz_scroll_damage.specs.Moved.{IsShift};
 ghost use Rattle.viz_occlusion.specs.Culled.{IsCulled};
 ghost use Rattle.viz_painter.specs.Painters.{ShowsWhole, ShowsOutside};
 ghost use Rattle.viz_painter.specs.inner.Helds.{culled_of};
-ghost use Rattle.viz_painter.specs.inner.Rests.{HasOutside, rest_in};
+ghost use Rattle.viz_painter.specs.inner.Rests.{HasOutside, rest_in, row_moved};
 
 use crate::held_scene::HeldScene;
-use crate::worth::{may_pay, pays};
-use geom::Rect;
+use crate::left::{Left, MovedRows};
 use region::Region;
 use std::alloc::{AllocError, Global};
 use viz_canvas::{Canvas, PixelFormat};
-use viz_damage::damage_of;
 use viz_scene::Scene;
-use viz_scroll_damage::{Shift, damage_of_shift, shift_of};
-
-/// What is left to draw of a scene.
-#[derive(Drop)]
-pub(crate) struct Left {
-    /// Outside of the damage the canvas showed the scene beforehand.
-    pub(crate) damage: Region,
-    /// What is left of the damage where rows were moved; None where that is all of it.
-    pub(crate) moved: Option<Region>,
-}
-
-impl Left {
-    /// What is left to draw.
-    pub(crate) fn rest(&self) -> &Region
-        ensures { result.now ≡ rest_in self.now.damage self.now.moved }
-    {
-        match &self.moved {
-            Some(rest) => rest,
-            None => &self.damage,
-        }
-    }
-}
 
 /// The next scene without its hidden quads, and what is left to draw of it: elsewhere the canvas, which then has the
 /// scene's size, shows it already. An error means out of memory, and the canvas may then show anything.
@@ -98,8 +71,8 @@ fn left_of<F: PixelFormat>(
     }
 }
 
-// whether two scenes are of one size
-fn are_of_one_size(a: &Scene, b: &Scene) -> bool
+/// Whether two scenes are of one size.
+pub(crate) fn are_of_one_size(a: &Scene, b: &Scene) -> bool
     ensures wide { IsTrue result → a.now.w ≡ b.now.w }
     ensures tall { IsTrue result → a.now.h ≡ b.now.h }
 {
@@ -116,25 +89,8 @@ fn left_of_whole<F: PixelFormat>(
     ensures damage { IfOk result (λ left. HasOutside F.DEPTH F.bytes_of scene.now left.damage canvas.old) }
 {
     fit(alloc, canvas, scene)?;
-    let screen = whole_screen(alloc, scene)?;
-    Ok(Left {
-        damage: screen,
-        moved: None,
-    })
-}
-
-// the region of all points of the screen
-fn whole_screen(alloc: Global, scene: &Scene) -> Result<Region, AllocError>
-    ensures { IfOk result (λ region. (x y : ℤ) → covered region x y ≡ false → covers (screen scene.now) x y ≡ false) }
-{
-    let mut region = Region::new(alloc);
-    region.add(Rect {
-        x: 0,
-        y: 0,
-        w: scene.w() as i32,
-        h: scene.h() as i32,
-    })?;
-    Ok(region)
+    let left = Left::of_whole(alloc, scene)?;
+    Ok(left)
 }
 
 // takes a new canvas where the old one is not of a scene's size
@@ -153,7 +109,7 @@ fn fit<F: PixelFormat>(
     Ok(())
 }
 
-// what is left to draw where the canvas shows a scene of the same size, which may have been scrolled
+// what is left to draw where the canvas shows a scene of the same size; its rows are moved
 fn left_of_change<F: PixelFormat>(
     alloc: Global,
     canvas: &mut Canvas<F>,
@@ -166,45 +122,19 @@ fn left_of_change<F: PixelFormat>(
     ensures rest { IfOk result (λ left. ShowsOutside F.DEPTH F.bytes_of scene.now (rest_in left.damage left.moved) canvas.new) }
     ensures damage { IfOk result (λ left. HasOutside F.DEPTH F.bytes_of scene.now left.damage canvas.old) }
 {
-    let damage = damage_of(alloc, old, scene)?;
-    match shift_of(old, scene) {
-        Some(shift) if may_pay(shift, scene.w(), &damage) => {
-            left_of_shift(alloc, canvas, old, scene, shift, damage)
-        }
-        _ => Ok(Left {
-            damage,
-            moved: None,
-        }),
-    }
+    let left = Left::of_change(alloc, old, scene)?;
+    move_rows(canvas, &left.moved);
+    Ok(left)
 }
 
-// moves rows of the canvas where less is left then than the damage
-fn left_of_shift<F: PixelFormat>(
-    alloc: Global,
-    canvas: &mut Canvas<F>,
-    old: &Scene,
-    scene: &Scene,
-    shift: Shift,
-    damage: Region,
-) -> Result<Left, AllocError>
-    requires wide { old.now.w ≡ scene.now.w }
-    requires tall { old.now.h ≡ scene.now.h }
-    requires shift { IsShift scene.now.h shift }
-    requires shown { ShowsWhole F.DEPTH F.bytes_of old.now canvas.old }
-    requires damage { AreAlikeOutside damage old.now scene.now }
-    ensures rest { IfOk result (λ left. ShowsOutside F.DEPTH F.bytes_of scene.now (rest_in left.damage left.moved) canvas.new) }
-    ensures damage { IfOk result (λ left. HasOutside F.DEPTH F.bytes_of scene.now left.damage canvas.old) }
+// moves the rows of a canvas
+fn move_rows<F: PixelFormat>(canvas: &mut Canvas<F>, moved: &Option<MovedRows>)
+    requires { IfSome moved.now (λ rows. IsShift canvas.old.h rows.shift) }
+    ensures size { IsOfSize canvas.old.w canvas.old.h canvas.new }
+    ensures pixels { EachIs F.DEPTH (λ x y. canvas_pixel F.DEPTH canvas.old x (row_moved moved.now y)) canvas.new }
 {
-    let rest = damage_of_shift(alloc, old, scene, shift)?;
-    if !pays(shift, scene.w(), &rest, &damage) {
-        return Ok(Left {
-            damage,
-            moved: None,
-        });
+    match moved {
+        Some(rows) => canvas.copy_rows(rows.shift.from, rows.shift.to, rows.shift.count),
+        None => {}
     }
-    canvas.copy_rows(shift.from, shift.to, shift.count);
-    Ok(Left {
-        damage,
-        moved: Some(rest),
-    })
 }
