@@ -1,9 +1,10 @@
 -- What a core keeps stays right with each entry.
-use Rattle.std.proofs.Common.{◌≡◌, ℕ, Bool, true, false, cond, List, [], ◌∷◌, ◌++◌, Some, None, Result, Ok, Err, refl, sym, ◌∙◌, ap, subst}
+use Rattle.std.proofs.Common.{◌≡◌, ℕ, Bool, true, false, cond, not, filter, List, [], ◌∷◌, ◌++◌, Some, None, Result, Ok, Err, refl, sym, ◌∙◌, ap, subst}
 use Rattle.std.specs.Prelude.{IfOk, IfSome, OnOk, OnErr, ⊤}
 use Rattle.std.specs.declared.alloc.AllocError.{AllocError}
 use Rattle.model_scheduler.specs.declared.kind.Kind.{Kind}
 use Rattle.geom.specs.declared.tile.TileKey.{TileKey}
+use Rattle.geom.specs.KeyLists.{has_key}
 use Rattle.page_layers.specs.declared.moves.Move.{Move}
 use Rattle.model_history.specs.declared.event.Event.{Event}
 use Rattle.model_history.specs.declared.event.Event.TheVariants as event
@@ -12,21 +13,29 @@ use Rattle.model_history.specs.Scripts.{ScriptModel}
 use Rattle.model_history.specs.Commits.{CommitModel}
 use Rattle.model_history.specs.EventFields.{kind_of}
 use Rattle.model_history.specs.Frames.{pulls_of}
-use Rattle.model_history.specs.Tiles.{required, visible_in}
+use Rattle.model_history.specs.Tiles.{Tree, active_tree, ready, required, visible_in}
 use Rattle.model_history.specs.Legal.{Legal}
 use Rattle.model_history.proofs.BoolFacts.{is_same}
 use Rattle.model_history.proofs.DueFacts.{entry, at_ready}
 use Rattle.model_steps.specs.Events.{send, start, done}
-use Rattle.model_steps.proofs.TreesAfter.{send_pending}
+use Rattle.model_steps.proofs.TreesAfter.{send_active, send_pending, send_ready}
 use Rattle.impl_log.specs.Runs.{Run, past, with_entry, is_plain_kind, Plays}
 use Rattle.impl_log.proofs.LogSteps.{past_more, plain_row}
 use Rattle.tile_manager.specs.Managers.{Managed, Manages}
 use Rattle.impl_host.specs.Hosts.{ImplHostModel, Hosts}
-use Rattle.impl_core.specs.inner.Cores.{Kept, IsPreparedFor, IsCore}
+use Rattle.impl_core.specs.declared.drawn.Drawn.{Drawn}
+use Rattle.impl_core.specs.declared.drawn.Drawn.TheVariants as drawn
+use Rattle.impl_core.specs.inner.Cores.{Kept, IsPreparedFor, ShowsPage, IfKept, IsDrawnAt, IsCore}
+
+-- a drawing that is kept, where the active tree and the ready keys are the same after another past
+pub same_drawn : (s : ScriptModel) (d : Drawn) (h g : List Entry) → active_tree s g ≡ active_tree s h → ready s g ≡ ready s h → IsDrawnAt s h d → IsDrawnAt s g d
+same_drawn s d h g tree made shows =
+    subst (λ (t : Tree). IfKept d (ShowsPage s t.page t.offset (filter (λ q. not (has_key (ready s g) q)) (visible_in t)))) (sym tree)
+    (subst (λ (ks : List TileKey). IfKept d (ShowsPage s (active_tree s h).page (active_tree s h).offset (filter (λ q. not (has_key ks q)) (visible_in (active_tree s h))))) (sym made) shows)
 
 -- at the beginning
-pub begin_core : (s : ScriptModel) (host : ImplHostModel) (m : Managed) → Hosts s [] host → Manages s [] m → IsCore s [] (record { host = host; tiles = m; told = []; prepared = None; required = None })
-begin_core s host m hosts holds = record { host = hosts; tiles = holds; told = λ t k e. absurd cc; prepared = λ t k e. absurd cc; required = tt }
+pub begin_core : (s : ScriptModel) (host : ImplHostModel) (m : Managed) → Hosts s [] host → Manages s [] m → IsCore s [] (record { host = host; tiles = m; told = []; prepared = None; required = None; drawn = drawn.Nothing })
+begin_core s host m hosts holds = record { host = hosts; tiles = holds; told = λ t k e. absurd cc; prepared = λ t k e. absurd cc; required = tt; drawn = tt }
 
 module _ (kept : Kept) where
   -- a core of a run
@@ -68,42 +77,49 @@ module _ (kept : Kept) where
 -- a core after a send
 pub send_core : (s : ScriptModel) (n : ℕ) (h : List Entry) (a k : ℕ) (ms told : List Move) (kept : Kept) (host : ImplHostModel) → Legal s n (send a k ms ∷ h) → IsCore s h kept → Hosts s (send a k ms ∷ h) host
     → Manages s (send a k ms ∷ h) kept.tiles → told ≡ ms
-    → IsCore s (send a k ms ∷ h) (record { host = host; tiles = kept.tiles; told = told; prepared = kept.prepared; required = kept.required })
+    → IsCore s (send a k ms ∷ h) (record { host = host; tiles = kept.tiles; told = told; prepared = kept.prepared; required = kept.required; drawn = kept.drawn })
 send_core s n h a k ms told kept host legal core hosts holds is = record {
   host = hosts;
   tiles = holds;
   told = λ t j e. let same : k ≡ j = cc in is ∙ sym (ap (λ b. cond b ms (pulls_of h j)) (is_same k j same));
   prepared = λ t j e. absurd cc;
   required = subst (λ needs. IfSome kept.required (λ ks. ks ≡ needs)) (sym (ap (λ t. visible_in t) (send_pending s n h a k ms legal))) core.required;
+  drawn = same_drawn s kept.drawn h (send a k ms ∷ h) (send_active s n h a k ms legal) (send_ready s n h a k ms legal) core.drawn;
 }
 
 -- a core whose frame is ready
 pub ready_core : (s : ScriptModel) (n : ℕ) (h : List Entry) (k : ℕ) (c : CommitModel) (kept : Kept) → Legal s n (entry 1 (event.Ready k) ∷ h) → IsCore s h kept → IsPreparedFor s (pulls_of h) k c
-    → IsCore s (entry 1 (event.Ready k) ∷ h) (record { host = kept.host; tiles = kept.tiles; told = kept.told; prepared = Some c; required = kept.required })
+    → IsCore s (entry 1 (event.Ready k) ∷ h) (record { host = kept.host; tiles = kept.tiles; told = kept.told; prepared = Some c; required = kept.required; drawn = kept.drawn })
 ready_core s n h k c kept legal core is = record {
   host = core.host;
   tiles = core.tiles;
   told = λ t j e. absurd cc;
   prepared = λ t j e. let last = (at_ready s n h 1 k legal.1).last in let same : k ≡ j = cc in subst (λ i. IsPreparedFor s (pulls_of h) i c) same is;
   required = core.required;
+  drawn = core.drawn;
 }
 
 -- a core with the keys that are needed
 pub with_required : (s : ScriptModel) (h : List Entry) (kept : Kept) (ks : List TileKey) → IsCore s h kept → ks ≡ required s h
-    → IsCore s h (record { host = kept.host; tiles = kept.tiles; told = kept.told; prepared = kept.prepared; required = Some ks })
-with_required s h kept ks core needs = record { host = core.host; tiles = core.tiles; told = core.told; prepared = core.prepared; required = needs }
+    → IsCore s h (record { host = kept.host; tiles = kept.tiles; told = kept.told; prepared = kept.prepared; required = Some ks; drawn = kept.drawn })
+with_required s h kept ks core needs = record { host = core.host; tiles = core.tiles; told = core.told; prepared = core.prepared; required = needs; drawn = core.drawn }
+
+-- a core with another drawing
+pub with_drawing : (s : ScriptModel) (h : List Entry) (kept : Kept) (d : Drawn) → IsCore s h kept → IsDrawnAt s h d
+    → IsCore s h (record { host = kept.host; tiles = kept.tiles; told = kept.told; prepared = kept.prepared; required = kept.required; drawn = d })
+with_drawing s h kept d core shows = record { host = core.host; tiles = core.tiles; told = core.told; prepared = core.prepared; required = core.required; drawn = shows }
 
 -- a core with other tiles
 pub with_tiles : (s : ScriptModel) (h : List Entry) (kept : Kept) (m : Managed) → IsCore s h kept → Manages s h m
-    → IsCore s h (record { host = kept.host; tiles = m; told = kept.told; prepared = kept.prepared; required = kept.required })
-with_tiles s h kept m core holds = record { host = core.host; tiles = holds; told = core.told; prepared = core.prepared; required = core.required }
+    → IsCore s h (record { host = kept.host; tiles = m; told = kept.told; prepared = kept.prepared; required = kept.required; drawn = kept.drawn })
+with_tiles s h kept m core holds = record { host = core.host; tiles = holds; told = core.told; prepared = core.prepared; required = core.required; drawn = core.drawn }
 
 -- a core after a start, and after its end
 
 pub start_core : (s : ScriptModel) (h : List Entry) (a w : ℕ) (q : TileKey) (ks : List TileKey) (kept : Kept) (m : Managed) → IsCore s h kept → Manages s (start a w q ks ∷ h) m
-    → IsCore s (start a w q ks ∷ h) (record { host = kept.host; tiles = m; told = kept.told; prepared = kept.prepared; required = kept.required })
-start_core s h a w q ks kept m core holds = record { host = core.host; tiles = holds; told = core.told; prepared = core.prepared; required = core.required }
+    → IsCore s (start a w q ks ∷ h) (record { host = kept.host; tiles = m; told = kept.told; prepared = kept.prepared; required = kept.required; drawn = drawn.Nothing })
+start_core s h a w q ks kept m core holds = record { host = core.host; tiles = holds; told = core.told; prepared = core.prepared; required = core.required; drawn = tt }
 
 pub done_core : (s : ScriptModel) (h : List Entry) (a w : ℕ) (q : TileKey) (kept : Kept) (m : Managed) → IsCore s h kept → Manages s (done a w q ∷ h) m
-    → IsCore s (done a w q ∷ h) (record { host = kept.host; tiles = m; told = kept.told; prepared = kept.prepared; required = kept.required })
-done_core s h a w q kept m core holds = record { host = core.host; tiles = holds; told = core.told; prepared = core.prepared; required = core.required }
+    → IsCore s (done a w q ∷ h) (record { host = kept.host; tiles = m; told = kept.told; prepared = kept.prepared; required = kept.required; drawn = drawn.Nothing })
+done_core s h a w q kept m core holds = record { host = core.host; tiles = holds; told = core.told; prepared = core.prepared; required = core.required; drawn = tt }

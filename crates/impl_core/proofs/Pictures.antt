@@ -12,7 +12,9 @@ use Rattle.model_history.specs.Scripts.{ScriptModel}
 use Rattle.model_history.specs.Frames.{active_page}
 use Rattle.model_history.specs.Scrolls.{active_offsets}
 use Rattle.model_history.specs.Tiles.{missing_visible}
+use Rattle.impl_drawing.specs.declared.drawing.Drawing.{Drawing}
 use Rattle.impl_core.specs.Replies.{IsPicture}
+use Rattle.impl_core.specs.inner.Cores.{ShowsPage}
 
 pub is_picture : {D E : Type 0} (scene : D → SceneView) (s : ScriptModel) (h : List Entry) (p : Page) (x : Result D E) → p ≡ active_page s h
     → IfOk x (λ d. (scene d).w ≡ p.view.w) → IfOk x (λ d. (scene d).h ≡ p.view.h)
@@ -24,3 +26,11 @@ is_picture scene s h p (Ok d) page w t pixels = record {
   pixels = λ x y inside. pixels x y (ap (λ (q : Page). covers (viewport q) x y) page ∙ inside);
 }
 is_picture scene s h p (Err e) page w t pixels = tt
+
+-- a drawing of the run's picture shows its active page, and the other way round
+
+pub shows_page : (s : ScriptModel) (h : List Entry) (d : Drawing) → d.missing ≡ missing_visible s h → IsPicture s h d.scene → ShowsPage s (active_page s h) (active_offsets s h) (missing_visible s h) d
+shows_page s h d missing is = record { width = is.width; height = is.height; pixels = is.pixels; missing_is = missing }
+
+pub picture_of : (s : ScriptModel) (h : List Entry) (d : Drawing) → ShowsPage s (active_page s h) (active_offsets s h) (missing_visible s h) d → IsPicture s h d.scene
+picture_of s h d shows = record { width = shows.width; height = shows.height; pixels = shows.pixels }

@@ -8,11 +8,14 @@ use Rattle.model_history.specs.Tiles.{visible_in, required}
 use Rattle.model_history.specs.Legal.{Legal}
 use Rattle.model_history.proofs.BoolFacts.{same_number}
 use Rattle.model_steps.specs.Events.{abort}
-use Rattle.model_steps.proofs.TreesAfter.{abort_active, abort_pending, abort_choice}
+use Rattle.model_steps.proofs.TreesAfter.{same_ready, abort_active, abort_pending, abort_choice}
 use Rattle.impl_scroll.specs.Rows.{has_number}
 use Rattle.tile_prepare.proofs.SameTiles.{same_tiles}
 use Rattle.tile_manager.specs.Managers.{Managed, Manages}
 use Rattle.tile_manager.proofs.OtherTiles.{reseen, stays_foreseen}
+use Rattle.impl_core.specs.declared.drawn.Drawn.{Drawn}
+use Rattle.impl_core.specs.inner.Cores.{IsDrawnAt}
+use Rattle.impl_core.proofs.CoreSteps.{same_drawn}
 
 -- an empty list names no scroller
 pub none_named : (ids : List ℕ) → (length ids == 0) ≡ true → (sc : ℕ) → has_number ids sc ≡ false
@@ -27,3 +30,7 @@ module _ (s : ScriptModel) (n : ℕ) (h : List Entry) (a k : ℕ) (legal : Legal
 
   pub needs_stay : required s (abort a k ∷ h) ≡ required s h
   needs_stay = ap visible_in (abort_pending s n h a k legal none)
+
+  pub drawing_stays : (d : Drawn) → IsDrawnAt s h d → IsDrawnAt s (abort a k ∷ h) d
+  drawing_stays d shows =
+      same_drawn s d h (abort a k ∷ h) (abort_active s n h a k legal) (same_ready s h (abort a k ∷ h) (abort_active s n h a k legal) (abort_pending s n h a k legal none) refl) shows

@@ -10,6 +10,7 @@ ghost use Rattle.impl_scroll.specs.Standings.{StandsForPast};
 ghost use Rattle.impl_log.specs.Runs.{past, now, with_entry};
 
 use crate::core_state::Core;
+use crate::drawn::Drawn;
 use impl_scroll::Standing;
 use model_history::Event;
 use std::alloc::AllocError;
@@ -41,6 +42,7 @@ impl Core {
         self.host.stand(standing);
         self.tiles.forget();
         self.required = None;
+        self.drawn = Drawn::Nothing;
         Ok(())
     }
 

@@ -11,6 +11,7 @@ ghost use Rattle.tile_prepare.specs.Rebuilds.{AreForActivation};
 ghost use Rattle.impl_log.specs.Runs.{past, now, Entered, Plays};
 
 use crate::core_state::Core;
+use crate::drawn::Drawn;
 use crate::outlooks::visible_of;
 use geom::Keys;
 use impl_scroll::Standing;
@@ -146,6 +147,7 @@ impl Core {
         self.host.activate(standing);
         self.tiles.activate(pins, &dead);
         self.required = None;
+        self.drawn = Drawn::Nothing;
         Ok(())
     }
 

@@ -14,6 +14,7 @@ ghost use Rattle.impl_core.specs.inner.Cores.{IsPrepared};
 ghost use Rattle.impl_core.specs.inner.Pushes.{PushesNow};
 
 use crate::core_state::Core;
+use crate::drawn::Drawn;
 use impl_host::ImplHost;
 use impl_scroll::Standing;
 use model_history::{Commit, Event, Script};
@@ -74,6 +75,7 @@ impl Core {
             Ok(()) => {
                 self.tiles.forget();
                 self.required = None;
+                self.drawn = Drawn::Nothing;
                 Ok(())
             }
             Err(refused) => {

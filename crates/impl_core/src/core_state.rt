@@ -16,6 +16,7 @@ ghost use Rattle.model_history.specs.Tiles.{tiles_used};
 ghost use Rattle.impl_core.specs.Replies as replies;
 ghost use Rattle.impl_core.specs.Replies.{next_key, told_frame, is_played};
 
+use crate::drawn::Drawn;
 use crate::outlooks::look;
 use geom::{Keys, TileKey};
 use impl_host::ImplHost;
@@ -41,6 +42,8 @@ pub struct Core {
     pub(crate) prepared: Option<Commit>,
     // the visible keys of the pending tree, which an activation needs, once they were asked for
     pub(crate) required: Option<Keys>,
+    // what was drawn since the picture may have changed
+    pub(crate) drawn: Drawn,
     pub(crate) alloc: Global,
 }
 
@@ -52,7 +55,7 @@ impl Model for Core {
 
     ghost view = { λ c. c.log };
 
-    ghost invariant = { λ c. IsCore c.log.script (past c.log) (record { host = c.host; tiles = c.tiles; told = c.told; prepared = c.prepared; required = c.required }) };
+    ghost invariant = { λ c. IsCore c.log.script (past c.log) (record { host = c.host; tiles = c.tiles; told = c.told; prepared = c.prepared; required = c.required; drawn = c.drawn }) };
 }
 
 // Written out, so that whoever drops a core does not name in its proof all that it holds.
@@ -65,6 +68,7 @@ impl Drop for Core {
             told: _,
             prepared: _,
             required: _,
+            drawn: _,
             alloc: _,
         } = self;
     }
@@ -97,6 +101,7 @@ impl Core {
             told: Moves::new(alloc),
             prepared: None,
             required: None,
+            drawn: Drawn::Nothing,
             alloc,
         })
     }

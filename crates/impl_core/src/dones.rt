@@ -8,6 +8,7 @@ ghost use Rattle.tile_manager.specs.Managers.{tile_made};
 ghost use Rattle.impl_log.specs.Runs.{past, with_entry};
 
 use crate::core_state::Core;
+use crate::drawn::Drawn;
 use model_history::Event;
 use std::sync::Arc;
 use tile_priority::ReadyTile;
@@ -27,6 +28,7 @@ impl Core {
         let actor = 2 + worker;
         self.log.enter_kept(actor, Event::DoneTile { worker, key });
         self.tiles.done(image, tile);
+        self.drawn = Drawn::Nothing;
     }
 
     /// A worker is done with the image of the key that it holds, which shows it as every page of the script

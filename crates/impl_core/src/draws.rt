@@ -6,9 +6,10 @@ ghost use Rattle.model_history.specs.declared.event.Event.TheVariants as event;
 ghost use Rattle.model_history.specs.Frames.{active};
 ghost use Rattle.model_history.specs.Tiles.{missing_visible};
 ghost use Rattle.impl_log.specs.Runs.{past, now};
-ghost use Rattle.impl_core.specs.Replies.{Draws, IsPicture};
+ghost use Rattle.impl_core.specs.Replies.{Draws, DrawsScene, IsPicture};
 
 use crate::core_state::Core;
+use crate::drawn::Drawn;
 use crate::outlooks::visible_of;
 use impl_drawing::{Drawing, draw};
 use model_history::Event;
@@ -32,7 +33,7 @@ impl Core {
         }
     }
 
-    // What a draw shows now. There is an active tree.
+    // What a draw shows now, made anew. There is an active tree.
     fn drawing(&self) -> Result<Drawing, AllocError>
         requires { is_some (active (past self.now)) ≡ true }
         ensures missing { IfOk result (λ drawing. drawing.missing ≡ missing_visible self.now.script (past self.now)) }
@@ -54,6 +55,57 @@ impl Core {
         )
     }
 
+    // The same, of which it is noted that it was made.
+    fn drawing_once(&mut self) -> Result<Drawing, AllocError>
+        requires { is_some (active (past self.old)) ≡ true }
+        ensures missing { IfOk result (λ drawing. drawing.missing ≡ missing_visible self.old.script (past self.old)) }
+        ensures picture { IfOk result (λ drawing. IsPicture self.old.script (past self.old) drawing.scene) }
+        ensures same { self.new ≡ self.old }
+    {
+        let drawing = self.drawing()?;
+        self.drawn = Drawn::Once;
+        Ok(drawing)
+    }
+
+    // The same, of which a copy is kept.
+    fn drawing_kept(&mut self) -> Result<Drawing, AllocError>
+        requires { is_some (active (past self.old)) ≡ true }
+        ensures missing { IfOk result (λ drawing. drawing.missing ≡ missing_visible self.old.script (past self.old)) }
+        ensures picture { IfOk result (λ drawing. IsPicture self.old.script (past self.old) drawing.scene) }
+        ensures same { self.new ≡ self.old }
+    {
+        let drawing = self.drawing()?;
+        let kept = drawing.copy(self.alloc)?;
+        self.drawn = Drawn::Kept(kept);
+        Ok(drawing)
+    }
+
+    // What a draw shows now. It is made anew only where none is kept. There is an active tree.
+    fn shown(&mut self) -> Result<Drawing, AllocError>
+        requires { is_some (active (past self.old)) ≡ true }
+        ensures missing { IfOk result (λ drawing. drawing.missing ≡ missing_visible self.old.script (past self.old)) }
+        ensures picture { IfOk result (λ drawing. IsPicture self.old.script (past self.old) drawing.scene) }
+        ensures same { self.new ≡ self.old }
+    {
+        match &self.drawn {
+            Drawn::Kept(drawing) => drawing.copy(self.alloc),
+            Drawn::Once => self.drawing_kept(),
+            Drawn::Nothing => self.drawing_once(),
+        }
+    }
+
+    // Enters a draw that shows this.
+    fn enter_draw(&mut self, input: u32, drawing: Drawing) -> Result<Scene, AllocError>
+        requires is_now { now self.old kind.Draw 0 ≡ Some (event.Draw input drawing.missing) }
+        requires picture { IsPicture self.old.script (past self.old) drawing.scene }
+        ensures draws { IfOk result (λ scene. DrawsScene self.old self.new scene) }
+        ensures err { OnErr result (self.new ≡ self.old) }
+    {
+        let Drawing { scene, missing } = drawing;
+        self.log.enter(0, Event::Draw { input, missing })?;
+        Ok(scene)
+    }
+
     /// Draws the active tree, where a draw may come now: the scene whose pixels are the painting at this
     /// point. None exactly where no draw may come. An error means out of memory, and nothing was entered.
     pub fn draw(&mut self) -> Result<Option<Scene>, AllocError>
@@ -63,8 +115,8 @@ impl Core {
         match self.draw_now() {
             None => Ok(None),
             Some(input) => {
-                let Drawing { scene, missing } = self.drawing()?;
-                self.log.enter(0, Event::Draw { input, missing })?;
+                let drawing = self.shown()?;
+                let scene = self.enter_draw(input, drawing)?;
                 Ok(Some(scene))
             }
         }

@@ -2,8 +2,9 @@
 //!
 //! A [`Core`] keeps what the model tells of its history: how far the run has come, the two trees and where
 //! their scrollers stand, the tiles with the raster queue, what the main side was told, the commit that it
-//! made ready, and the keys that the pending tree needs. Its calls take all their memory before they enter
-//! their event, and step the rest after it, so that when memory runs out a core is as it was.
+//! made ready, the keys that the pending tree needs, and what draws show while nothing changes. Its calls take all
+//! their memory before they enter their event, and step the rest after it, so that when memory runs out a core is as
+//! it was.
 //!
 //! Where a tree has moved, the ranks of its tiles and the keys that it needs are looked for once somebody asks:
 //! most scrolls are followed by another before that.
@@ -14,6 +15,7 @@ mod activations;
 mod commits;
 mod core_state;
 mod dones;
+mod drawn;
 mod draws;
 mod outlooks;
 mod plain;

@@ -9,6 +9,7 @@ ghost use Rattle.model_history.specs.Legal as legal;
 ghost use Rattle.impl_log.specs.Runs.{past, now, Entered, Plays};
 
 use crate::core_state::Core;
+use crate::drawn::Drawn;
 use geom::Point;
 use model_history::{Event, Input};
 use model_scheduler::Kind;
@@ -77,6 +78,7 @@ impl Core {
         self.host.stand(standing);
         self.tiles.forget();
         self.required = None;
+        self.drawn = Drawn::Nothing;
         Ok(())
     }
 

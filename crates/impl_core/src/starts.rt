@@ -6,6 +6,7 @@ ghost use Rattle.impl_log.specs.Runs.{past};
 ghost use Rattle.impl_core.specs.Replies.{next_key, StartsKey, Starts};
 
 use crate::core_state::Core;
+use crate::drawn::Drawn;
 use crate::outlooks::look;
 use geom::TileKey;
 use model_history::Event;
@@ -34,6 +35,7 @@ impl Core {
         };
         self.log.enter(actor, event)?;
         self.tiles.start(key, &evicted);
+        self.drawn = Drawn::Nothing;
         Ok(())
     }
 

@@ -9,6 +9,7 @@ ghost use Rattle.model_history.specs.Legal as legal;
 ghost use Rattle.impl_log.specs.Runs.{past, now, Entered, Plays};
 
 use crate::core_state::Core;
+use crate::drawn::Drawn;
 use geom::Point;
 use impl_scroll::moves_of;
 use model_history::{Event, Input, Moves};
@@ -64,6 +65,7 @@ impl Core {
         self.host.stand(standing);
         self.tiles.forget();
         self.required = None;
+        self.drawn = Drawn::Nothing;
         Ok(())
     }
 

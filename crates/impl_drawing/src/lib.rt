@@ -5,6 +5,7 @@
 //! listed. The scene stays as it is, whatever becomes of the page and of the tiles.
 #![tactic(auto)]
 
+mod copying;
 mod drawing;
 mod tiles;
 

@@ -9,6 +9,7 @@ use Rattle.tile_prepare.proofs.SameTiles.{same_tiles}
 use Rattle.tile_manager.specs.Managers.{Manages}
 use Rattle.impl_host.specs.Hosts.{Hosts}
 use Rattle.impl_log.specs.Runs.{Run, past, now}
+use Rattle.impl_core.specs.declared.drawn.Drawn.TheVariants as drawn
 use Rattle.impl_core.proofs.CoreSteps.{one_more, refused}
 use Rattle.impl_core.proofs.SeenSteps.{abort_core}
 use Rattle.impl_core.proofs.core_state.Core.abort_moving.Goals as goal
@@ -17,7 +18,7 @@ pub enter-requires-clause-is_now : goal.enter-requires-clause-is_now
 enter-requires-clause-is_now c = subst (λ (z : Run). now z kind.Abort 1 ≡ Some (event.Abort c.args.frame)) (sym c.self.view_is) c.requires.is_now
 
 pub invariant_of-self : goal.invariant_of-self
-invariant_of-self c = refused (record { host = c.self.inside.host; tiles = c.self.inside.tiles; told = c.self.inside.told; prepared = c.self.inside.prepared; required = c.self.inside.required }) c.self.inside.log c.enter.new.self c.in_err-enter.ensures.err c.self.invariant
+invariant_of-self c = refused (record { host = c.self.inside.host; tiles = c.self.inside.tiles; told = c.self.inside.told; prepared = c.self.inside.prepared; required = c.self.inside.required; drawn = c.self.inside.drawn }) c.self.inside.log c.enter.new.self c.in_err-enter.ensures.err c.self.invariant
 
 pub invariant_of-self-2 : goal.invariant_of-self-2
 invariant_of-self-2 c =
@@ -27,5 +28,5 @@ invariant_of-self-2 c =
     let stood : StandsForPast r.script (abort 1 k ∷ h) c.args.standing = subst (λ (z : Run). StandsForPast z.script (abort 1 k ∷ past z) c.args.standing) (sym c.self.view_is) c.requires.stands in
     let hosts : Hosts r.script (abort 1 k ∷ h) c.stand.new.self = c.stand.ensures.keeps r.script h (abort 1 k) refl refl refl c.self.invariant.host stood in
     let holds : Manages r.script (abort 1 k ∷ h) c.forget.new.self = c.forget.ensures r.script h (abort 1 k ∷ h) c.self.invariant.tiles (same_tiles r.script h (abort 1 k) refl) in
-    one_more (record { host = c.stand.new.self; tiles = c.forget.new.self; told = c.self.inside.told; prepared = c.self.inside.prepared; required = None }) r c.enter.new.self 1 (event.Abort k) c.in_ok-enter.ensures.ok
-    (abort_core r.script h (record { host = c.self.inside.host; tiles = c.self.inside.tiles; told = c.self.inside.told; prepared = c.self.inside.prepared; required = c.self.inside.required }) c.self.invariant c.stand.new.self c.forget.new.self None k hosts holds tt)
+    one_more (record { host = c.stand.new.self; tiles = c.forget.new.self; told = c.self.inside.told; prepared = c.self.inside.prepared; required = None; drawn = drawn.Nothing }) r c.enter.new.self 1 (event.Abort k) c.in_ok-enter.ensures.ok
+    (abort_core r.script h (record { host = c.self.inside.host; tiles = c.self.inside.tiles; told = c.self.inside.told; prepared = c.self.inside.prepared; required = c.self.inside.required; drawn = c.self.inside.drawn }) c.self.invariant c.stand.new.self c.forget.new.self None drawn.Nothing k hosts holds tt tt)

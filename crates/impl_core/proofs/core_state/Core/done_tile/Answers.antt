@@ -10,6 +10,7 @@ use Rattle.model_steps.specs.Events.{done}
 use Rattle.model_steps.specs.ShownKeys.{KeyShows}
 use Rattle.tile_manager.specs.Managers.{Manages, tile_made}
 use Rattle.impl_log.specs.Runs.{Run, past, with_entry}
+use Rattle.impl_core.specs.declared.drawn.Drawn.TheVariants as drawn
 use Rattle.impl_core.proofs.CoreSteps.{done_core, one_more}
 use Rattle.impl_core.proofs.MayCome.{done_now, comes_next}
 use Rattle.impl_core.proofs.core_state.Core.done_tile.Goals as goal
@@ -62,5 +63,5 @@ invariant_of-self c =
     let made : Manages r.script (done (2 + w) w q ∷ past r) c.done.new.self = c.done.ensures.tiles r.script r.workers (past r) (2 + w) w c.self.invariant.tiles legal is_tile shows in
     let same : c.key-key.result ≡ q = c.key-key.ensures ∙ ap (λ (i : Image). i.key) c.deref.ensures in
     let entered : c.enter_kept.new.self ≡ with_entry r (2 + w) (event.DoneTile w q) = subst (λ (k : TileKey). c.enter_kept.new.self ≡ with_entry r (2 + w) (event.DoneTile w k)) same c.enter_kept.ensures in
-    one_more (record { host = c.self.inside.host; tiles = c.done.new.self; told = c.self.inside.told; prepared = c.self.inside.prepared; required = c.self.inside.required }) r c.enter_kept.new.self (2 + w) (event.DoneTile w q) entered
-    (done_core r.script (past r) (2 + w) w q (record { host = c.self.inside.host; tiles = c.self.inside.tiles; told = c.self.inside.told; prepared = c.self.inside.prepared; required = c.self.inside.required }) c.done.new.self c.self.invariant made)
+    one_more (record { host = c.self.inside.host; tiles = c.done.new.self; told = c.self.inside.told; prepared = c.self.inside.prepared; required = c.self.inside.required; drawn = drawn.Nothing }) r c.enter_kept.new.self (2 + w) (event.DoneTile w q) entered
+    (done_core r.script (past r) (2 + w) w q (record { host = c.self.inside.host; tiles = c.self.inside.tiles; told = c.self.inside.told; prepared = c.self.inside.prepared; required = c.self.inside.required; drawn = c.self.inside.drawn }) c.done.new.self c.self.invariant made)

@@ -12,6 +12,7 @@ use Rattle.tile_prepare.specs.Rebuilds.{AreForActivation}
 use Rattle.tile_manager.specs.Managers.{Manages}
 use Rattle.impl_host.specs.Hosts.{Hosts}
 use Rattle.impl_log.specs.Runs.{Run, past, now, Entered}
+use Rattle.impl_core.specs.declared.drawn.Drawn.TheVariants as drawn
 use Rattle.impl_core.proofs.CoreSteps.{one_more}
 use Rattle.impl_core.proofs.SeenSteps.{activate_core}
 use Rattle.impl_core.proofs.ActivationSteps.{OfActivation, of_activation}
@@ -54,9 +55,9 @@ invariant_of-self-2 c =
     let hosts : Hosts r.script (activate 0 k ms ∷ h) c.activate.new.self = c.activate.ensures r.script r.workers h 0 k ms activation.legal c.self.invariant.host stands in
     let holds : Manages r.script (activate 0 k ms ∷ h) c.activate-2.new.self =
     c.activate-2.ensures r.script r.workers h 0 k ms c.is_legal.ensures.accepted activation.legal c.self.invariant.tiles brings.pins brings.dead in
-    one_more (record { host = c.activate.new.self; tiles = c.activate-2.new.self; told = c.self.inside.told; prepared = c.self.inside.prepared; required = None }) r c.enter.new.self 0 (event.Activate k ms) c.in_ok-enter.ensures.ok
-    (activate_core r.script h (record { host = c.self.inside.host; tiles = c.self.inside.tiles; told = c.self.inside.told; prepared = c.self.inside.prepared; required = c.self.inside.required }) c.self.invariant
-    c.activate.new.self c.activate-2.new.self None k ms hosts holds tt)
+    one_more (record { host = c.activate.new.self; tiles = c.activate-2.new.self; told = c.self.inside.told; prepared = c.self.inside.prepared; required = None; drawn = drawn.Nothing }) r c.enter.new.self 0 (event.Activate k ms) c.in_ok-enter.ensures.ok
+    (activate_core r.script h (record { host = c.self.inside.host; tiles = c.self.inside.tiles; told = c.self.inside.told; prepared = c.self.inside.prepared; required = c.self.inside.required; drawn = c.self.inside.drawn }) c.self.invariant
+    c.activate.new.self c.activate-2.new.self None drawn.Nothing k ms hosts holds tt tt)
 
 pub returns-clause-ok : goal.returns-clause-ok
 returns-clause-ok c =

@@ -13,6 +13,7 @@ use Rattle.impl_host.specs.Hosts.{Hosts}
 use Rattle.impl_log.specs.Runs.{Run, past, now}
 use Rattle.impl_core.specs.inner.Cores.{Kept, IsPrepared}
 use Rattle.impl_core.specs.inner.Pushes.{PushesNow}
+use Rattle.impl_core.specs.declared.drawn.Drawn.TheVariants as drawn
 use Rattle.impl_core.proofs.CoreSteps.{one_more, refused}
 use Rattle.impl_core.proofs.SeenSteps.{commit_core}
 use Rattle.impl_core.proofs.CommitSteps.{OfCommit, of_commit}
@@ -23,7 +24,7 @@ push_prepared-requires c =
     let r : Run = c.self.inside.log in
     let h : List Entry = past r in
     let k : ℕ = c.args.frame in
-    let kept : Kept = record { host = c.self.inside.host; tiles = c.self.inside.tiles; told = c.self.inside.told; prepared = c.self.inside.prepared; required = c.self.inside.required } in
+    let kept : Kept = record { host = c.self.inside.host; tiles = c.self.inside.tiles; told = c.self.inside.told; prepared = c.self.inside.prepared; required = c.self.inside.required; drawn = c.self.inside.drawn } in
     let may_come : now r kind.Commit 0 ≡ Some (event.Commit k) = subst (λ (z : Run). now z kind.Commit 0 ≡ Some (event.Commit k)) (sym c.self.view_is) c.requires in
     let is : OfCommit r.script r.workers h k kept = of_commit r.script r.workers h k kept c.is_legal.ensures.accepted c.is_legal.ensures.legal c.self.invariant may_come in
     let same : c.deref.result.now ≡ r.script = c.deref.ensures ∙ c.script.ensures in
@@ -38,7 +39,7 @@ invariant_of-self-in-Ok-1 c =
     let r : Run = c.self.inside.log in
     let h : List Entry = past r in
     let k : ℕ = c.args.frame in
-    let kept : Kept = record { host = c.self.inside.host; tiles = c.self.inside.tiles; told = c.self.inside.told; prepared = c.self.inside.prepared; required = c.self.inside.required } in
+    let kept : Kept = record { host = c.self.inside.host; tiles = c.self.inside.tiles; told = c.self.inside.told; prepared = c.self.inside.prepared; required = c.self.inside.required; drawn = c.self.inside.drawn } in
     let may_come : now r kind.Commit 0 ≡ Some (event.Commit k) = subst (λ (z : Run). now z kind.Commit 0 ≡ Some (event.Commit k)) (sym c.self.view_is) c.requires in
     let is : OfCommit r.script r.workers h k kept = of_commit r.script r.workers h k kept c.is_legal.ensures.accepted c.is_legal.ensures.legal c.self.invariant may_come in
     let same : c.deref.result.now ≡ r.script = c.deref.ensures ∙ c.script.ensures in
@@ -46,17 +47,17 @@ invariant_of-self-in-Ok-1 c =
     subst (λ (z : ScriptModel). (workers : ℕ) (past : List Entry) (actor : ℕ) → IsAccepted z → Legal z workers (commit actor k ∷ past) → Hosts z past kept.host → IsPrepared z (pulls_of past) k kept.prepared → Hosts z (commit actor k ∷ past) c.push_prepared.new.host)
     same c.in_ok-before.ensures.hosts r.workers h 0 c.is_legal.ensures.accepted is.legal c.self.invariant.host is.is_prepared in
     let holds : Manages r.script (commit 0 k ∷ h) c.forget.new.self = c.forget.ensures r.script h (commit 0 k ∷ h) c.self.invariant.tiles is.same in
-    one_more (record { host = c.push_prepared.new.host; tiles = c.forget.new.self; told = kept.told; prepared = kept.prepared; required = None }) r c.enter.new.self 0 (event.Commit k) c.in-Ok.ensures.ok
-    (commit_core r.script h kept c.self.invariant c.push_prepared.new.host c.forget.new.self None k pushed holds tt)
+    one_more (record { host = c.push_prepared.new.host; tiles = c.forget.new.self; told = kept.told; prepared = kept.prepared; required = None; drawn = drawn.Nothing }) r c.enter.new.self 0 (event.Commit k) c.in-Ok.ensures.ok
+    (commit_core r.script h kept c.self.invariant c.push_prepared.new.host c.forget.new.self None drawn.Nothing k pushed holds tt tt)
 
 pub invariant_of-self-in-Err : goal.invariant_of-self-in-Err
 invariant_of-self-in-Err c =
     let r : Run = c.self.inside.log in
     let h : List Entry = past r in
     let k : ℕ = c.args.frame in
-    let kept : Kept = record { host = c.self.inside.host; tiles = c.self.inside.tiles; told = c.self.inside.told; prepared = c.self.inside.prepared; required = c.self.inside.required } in
+    let kept : Kept = record { host = c.self.inside.host; tiles = c.self.inside.tiles; told = c.self.inside.told; prepared = c.self.inside.prepared; required = c.self.inside.required; drawn = c.self.inside.drawn } in
     let may_come : now r kind.Commit 0 ≡ Some (event.Commit k) = subst (λ (z : Run). now z kind.Commit 0 ≡ Some (event.Commit k)) (sym c.self.view_is) c.requires in
     let is : OfCommit r.script r.workers h k kept = of_commit r.script r.workers h k kept c.is_legal.ensures.accepted c.is_legal.ensures.legal c.self.invariant may_come in
     let before : Hosts r.script h c.take_back.new.self = c.take_back.ensures r.script h kept.host is.none c.self.invariant.host c.in_ok-before.ensures.active c.in_ok-before.ensures.before in
-    refused (record { host = c.take_back.new.self; tiles = kept.tiles; told = kept.told; prepared = kept.prepared; required = kept.required }) r c.enter.new.self c.in-Err.ensures.err
-    (record { host = before; tiles = c.self.invariant.tiles; told = c.self.invariant.told; prepared = c.self.invariant.prepared; required = c.self.invariant.required })
+    refused (record { host = c.take_back.new.self; tiles = kept.tiles; told = kept.told; prepared = kept.prepared; required = kept.required; drawn = kept.drawn }) r c.enter.new.self c.in-Err.ensures.err
+    (record { host = before; tiles = c.self.invariant.tiles; told = c.self.invariant.told; prepared = c.self.invariant.prepared; required = c.self.invariant.required; drawn = c.self.invariant.drawn })

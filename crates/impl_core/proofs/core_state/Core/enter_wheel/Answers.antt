@@ -16,6 +16,7 @@ use Rattle.tile_prepare.proofs.SameTiles.{same_tiles}
 use Rattle.tile_manager.specs.Managers.{Manages}
 use Rattle.impl_host.specs.Hosts.{Hosts}
 use Rattle.impl_log.specs.Runs.{Run, past, now, with_entry, Entered}
+use Rattle.impl_core.specs.declared.drawn.Drawn.TheVariants as drawn
 use Rattle.impl_core.proofs.CoreSteps.{one_more, refused}
 use Rattle.impl_core.proofs.SeenSteps.{wheel_core}
 use Rattle.impl_core.proofs.InputEvents.{OfWheel, of_wheel}
@@ -82,7 +83,7 @@ enter-requires-clause-is_now c =
     subst (λ (z : Event). now r (kind_of z) 0 ≡ Some z) (sym is_event) of.may_come
 
 pub invariant_of-self : goal.invariant_of-self
-invariant_of-self c = refused (record { host = c.self.inside.host; tiles = c.self.inside.tiles; told = c.self.inside.told; prepared = c.self.inside.prepared; required = c.self.inside.required }) c.self.inside.log c.enter.new.self c.in_err-enter.ensures.err c.self.invariant
+invariant_of-self c = refused (record { host = c.self.inside.host; tiles = c.self.inside.tiles; told = c.self.inside.told; prepared = c.self.inside.prepared; required = c.self.inside.required; drawn = c.self.inside.drawn }) c.self.inside.log c.enter.new.self c.in_err-enter.ensures.err c.self.invariant
 
 pub invariant_of-self-2 : goal.invariant_of-self-2
 invariant_of-self-2 c =
@@ -108,8 +109,8 @@ invariant_of-self-2 c =
     let entered : c.enter.new.self ≡ with_entry r 0 e = subst (λ (z : Event). c.enter.new.self ≡ with_entry r 0 z) is_event c.in_ok-enter.ensures.ok in
     let hosts : Hosts r.script (entry 0 e ∷ h) c.stand.new.self = c.stand.ensures.keeps r.script h (entry 0 e) refl refl refl c.self.invariant.host moved in
     let holds : Manages r.script (entry 0 e ∷ h) c.forget.new.self = c.forget.ensures r.script h (entry 0 e ∷ h) c.self.invariant.tiles (same_tiles r.script h (entry 0 e) refl) in
-    one_more (record { host = c.stand.new.self; tiles = c.forget.new.self; told = c.self.inside.told; prepared = c.self.inside.prepared; required = None }) r c.enter.new.self 0 e entered
-    (wheel_core r.script h (record { host = c.self.inside.host; tiles = c.self.inside.tiles; told = c.self.inside.told; prepared = c.self.inside.prepared; required = c.self.inside.required }) c.self.invariant c.stand.new.self c.forget.new.self None i layer rest_x rest_y ms hosts holds tt)
+    one_more (record { host = c.stand.new.self; tiles = c.forget.new.self; told = c.self.inside.told; prepared = c.self.inside.prepared; required = None; drawn = drawn.Nothing }) r c.enter.new.self 0 e entered
+    (wheel_core r.script h (record { host = c.self.inside.host; tiles = c.self.inside.tiles; told = c.self.inside.told; prepared = c.self.inside.prepared; required = c.self.inside.required; drawn = c.self.inside.drawn }) c.self.invariant c.stand.new.self c.forget.new.self None drawn.Nothing i layer rest_x rest_y ms hosts holds tt tt)
 
 pub returns-clause-ok : goal.returns-clause-ok
 returns-clause-ok c =

@@ -14,5 +14,5 @@ returns-clause-ready c =
 pub invariant_of-self : goal.invariant_of-self
 invariant_of-self c =
     let r : Run = c.self.inside.log in
-    with_required r.script (past r) (record { host = c.self.inside.host; tiles = c.self.inside.tiles; told = c.self.inside.told; prepared = c.self.inside.prepared; required = c.self.inside.required }) c.in_ok-required.required c.self.invariant
+    with_required r.script (past r) (record { host = c.self.inside.host; tiles = c.self.inside.tiles; told = c.self.inside.told; prepared = c.self.inside.prepared; required = c.self.inside.required; drawn = c.self.inside.drawn }) c.in_ok-required.required c.self.invariant
     (subst (λ (z : Run). c.in_ok-required.required ≡ required z.script (past z)) (sym c.self.view_is) c.in_ok-required.ensures)

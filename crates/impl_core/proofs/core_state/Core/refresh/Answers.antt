@@ -14,12 +14,12 @@ look-requires c =
 pub invariant_of-self : goal.invariant_of-self
 invariant_of-self c =
     let r : Run = c.self.inside.log in
-    with_tiles r.script (past r) (record { host = c.self.inside.host; tiles = c.self.inside.tiles; told = c.self.inside.told; prepared = c.self.inside.prepared; required = c.self.inside.required }) c.look.new.tiles c.self.invariant
+    with_tiles r.script (past r) (record { host = c.self.inside.host; tiles = c.self.inside.tiles; told = c.self.inside.told; prepared = c.self.inside.prepared; required = c.self.inside.required; drawn = c.self.inside.drawn }) c.look.new.tiles c.self.invariant
     (c.look.ensures.same r.script (past r) (c.deref.ensures ∙ c.script.ensures) c.self.invariant.host c.self.invariant.tiles)
 
 pub invariant_of-self-2 : goal.invariant_of-self-2
 invariant_of-self-2 c =
     let r : Run = c.self.inside.log in
-    with_tiles r.script (past r) (record { host = c.self.inside.host; tiles = c.self.inside.tiles; told = c.self.inside.told; prepared = c.self.inside.prepared; required = c.self.inside.required }) c.refresh.new.self c.self.invariant
+    with_tiles r.script (past r) (record { host = c.self.inside.host; tiles = c.self.inside.tiles; told = c.self.inside.told; prepared = c.self.inside.prepared; required = c.self.inside.required; drawn = c.self.inside.drawn }) c.refresh.new.self c.self.invariant
     (c.refresh.ensures.same r.script r.workers (past r) c.is_legal.ensures.legal
     (c.look.ensures.same r.script (past r) (c.deref.ensures ∙ c.script.ensures) c.self.invariant.host c.self.invariant.tiles))

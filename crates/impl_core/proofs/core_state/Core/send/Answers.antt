@@ -34,7 +34,7 @@ enter-requires-clause-is_now c =
     (c.in_ok-pulls.ensures r.script r.workers (past r) c.is_legal.ensures.legal stands is_open)
 
 pub invariant_of-self : goal.invariant_of-self
-invariant_of-self c = refused (record { host = c.self.inside.host; tiles = c.self.inside.tiles; told = c.self.inside.told; prepared = c.self.inside.prepared; required = c.self.inside.required }) c.self.inside.log c.enter.new.self c.in_err-enter.ensures.err c.self.invariant
+invariant_of-self c = refused (record { host = c.self.inside.host; tiles = c.self.inside.tiles; told = c.self.inside.told; prepared = c.self.inside.prepared; required = c.self.inside.required; drawn = c.self.inside.drawn }) c.self.inside.log c.enter.new.self c.in_err-enter.ensures.err c.self.invariant
 
 pub sent-requires : goal.sent-requires
 sent-requires c =
@@ -65,8 +65,8 @@ invariant_of-self-then-left c =
     let stands = subst (λ (st : StandingModel). StandsForPast r.script (past r) st) (sym c.standing.ensures) c.self.invariant.host.standing in
     let may_come = send_now r.script (past r) is_open (sym c.is_left-left.ensures ∙ c.if-left.true) k (ap (λ (p : Progress). p.sends) c.progress-frame.ensures) ms (c.in_ok-pulls.ensures r.script r.workers (past r) c.is_legal.ensures.legal stands is_open) in
     let legal : Legal r.script r.workers (send 0 k ms ∷ past r) = comes_next r.script r.workers (past r) 0 (event.Send k ms) c.is_legal.ensures.legal may_come refl (omega arith) in
-    one_more (record { host = c.sent.new.self; tiles = c.self.inside.tiles; told = c.in_ok-told.told; prepared = c.self.inside.prepared; required = c.self.inside.required }) r c.enter.new.self 0 (event.Send k ms) c.in_ok-enter.ensures.ok
-    (send_core r.script r.workers (past r) 0 k ms c.in_ok-told.told (record { host = c.self.inside.host; tiles = c.self.inside.tiles; told = c.self.inside.told; prepared = c.self.inside.prepared; required = c.self.inside.required }) c.sent.new.self legal c.self.invariant (c.sent.ensures r.script r.workers (past r) 0 k ms legal c.self.invariant.host)
+    one_more (record { host = c.sent.new.self; tiles = c.self.inside.tiles; told = c.in_ok-told.told; prepared = c.self.inside.prepared; required = c.self.inside.required; drawn = c.self.inside.drawn }) r c.enter.new.self 0 (event.Send k ms) c.in_ok-enter.ensures.ok
+    (send_core r.script r.workers (past r) 0 k ms c.in_ok-told.told (record { host = c.self.inside.host; tiles = c.self.inside.tiles; told = c.self.inside.told; prepared = c.self.inside.prepared; required = c.self.inside.required; drawn = c.self.inside.drawn }) c.sent.new.self legal c.self.invariant (c.sent.ensures r.script r.workers (past r) 0 k ms legal c.self.invariant.host)
     (send_holds r.script r.workers (past r) c.self.inside.tiles 0 k ms legal c.self.invariant.tiles) c.in_ok-told.ensures)
 
 pub returns-in_ok-enter-clause-plays : goal.returns-in_ok-enter-clause-plays

@@ -5,8 +5,8 @@ use Rattle.impl_core.proofs.core_state.Core.settle.Goals as goal
 
 pub invariant_of-self : goal.invariant_of-self
 invariant_of-self c =
-    tried (record { host = c.self.inside.host; tiles = c.self.inside.tiles; told = c.self.inside.told; prepared = c.self.inside.prepared; required = c.self.inside.required }) c.self.inside.log c.enter.new.self 0 (event.Settle c.next_input-input.result) c.enter.result c.enter.ensures.ok c.enter.ensures.err c.self.invariant c.self.invariant
+    tried (record { host = c.self.inside.host; tiles = c.self.inside.tiles; told = c.self.inside.told; prepared = c.self.inside.prepared; required = c.self.inside.required; drawn = c.self.inside.drawn }) c.self.inside.log c.enter.new.self 0 (event.Settle c.next_input-input.result) c.enter.result c.enter.ensures.ok c.enter.ensures.err c.self.invariant c.self.invariant
 
 pub invariant_of-self-then-branch : goal.invariant_of-self-then-branch
 invariant_of-self-then-branch c =
-    tried (record { host = c.self.inside.host; tiles = c.self.inside.tiles; told = c.self.inside.told; prepared = c.self.inside.prepared; required = c.self.inside.required }) c.self.inside.log c.enter.new.self 0 (event.Settle c.next_input-input.result) c.enter.result c.enter.ensures.ok c.enter.ensures.err c.self.invariant c.self.invariant
+    tried (record { host = c.self.inside.host; tiles = c.self.inside.tiles; told = c.self.inside.told; prepared = c.self.inside.prepared; required = c.self.inside.required; drawn = c.self.inside.drawn }) c.self.inside.log c.enter.new.self 0 (event.Settle c.next_input-input.result) c.enter.result c.enter.ensures.ok c.enter.ensures.err c.self.invariant c.self.invariant

@@ -11,6 +11,7 @@ use Rattle.tile_manager.specs.Managers.{Manages}
 use Rattle.impl_log.specs.Runs.{Run, past, now, with_entry}
 use Rattle.impl_core.specs.Replies.{next_key, StartsKey}
 use Rattle.impl_core.specs.inner.Outlooks.{LooksNow}
+use Rattle.impl_core.specs.declared.drawn.Drawn.TheVariants as drawn
 use Rattle.impl_core.proofs.CoreSteps.{with_tiles, start_core, one_more, refused}
 use Rattle.impl_core.proofs.MayCome.{IsFirst, next_first, start_now, comes_next}
 use Rattle.impl_core.proofs.core_state.Core.start_key.Goals as goal
@@ -23,32 +24,32 @@ look-requires c =
 pub invariant_of-self : goal.invariant_of-self
 invariant_of-self c =
     let r : Run = c.self.inside.log in
-    with_tiles r.script (past r) (record { host = c.self.inside.host; tiles = c.self.inside.tiles; told = c.self.inside.told; prepared = c.self.inside.prepared; required = c.self.inside.required }) c.look.new.tiles c.self.invariant
+    with_tiles r.script (past r) (record { host = c.self.inside.host; tiles = c.self.inside.tiles; told = c.self.inside.told; prepared = c.self.inside.prepared; required = c.self.inside.required; drawn = c.self.inside.drawn }) c.look.new.tiles c.self.invariant
     (c.look.ensures.same r.script (past r) (c.deref.ensures ∙ c.script.ensures) c.self.invariant.host c.self.invariant.tiles)
 
 pub invariant_of-self-in_err-evicted : goal.invariant_of-self-in_err-evicted
 invariant_of-self-in_err-evicted c =
     let r : Run = c.self.inside.log in
-    with_tiles r.script (past r) (record { host = c.self.inside.host; tiles = c.self.inside.tiles; told = c.self.inside.told; prepared = c.self.inside.prepared; required = c.self.inside.required }) c.look.new.tiles c.self.invariant
+    with_tiles r.script (past r) (record { host = c.self.inside.host; tiles = c.self.inside.tiles; told = c.self.inside.told; prepared = c.self.inside.prepared; required = c.self.inside.required; drawn = c.self.inside.drawn }) c.look.new.tiles c.self.invariant
     (c.look.ensures.same r.script (past r) (c.deref.ensures ∙ c.script.ensures) c.self.invariant.host c.self.invariant.tiles)
 
 pub invariant_of-self-in_err-evicted_keys : goal.invariant_of-self-in_err-evicted_keys
 invariant_of-self-in_err-evicted_keys c =
     let r : Run = c.self.inside.log in
-    with_tiles r.script (past r) (record { host = c.self.inside.host; tiles = c.self.inside.tiles; told = c.self.inside.told; prepared = c.self.inside.prepared; required = c.self.inside.required }) c.look.new.tiles c.self.invariant
+    with_tiles r.script (past r) (record { host = c.self.inside.host; tiles = c.self.inside.tiles; told = c.self.inside.told; prepared = c.self.inside.prepared; required = c.self.inside.required; drawn = c.self.inside.drawn }) c.look.new.tiles c.self.invariant
     (c.look.ensures.same r.script (past r) (c.deref.ensures ∙ c.script.ensures) c.self.invariant.host c.self.invariant.tiles)
 
 pub invariant_of-self-in_err-reserve : goal.invariant_of-self-in_err-reserve
 invariant_of-self-in_err-reserve c =
     let r : Run = c.self.inside.log in
-    with_tiles r.script (past r) (record { host = c.self.inside.host; tiles = c.self.inside.tiles; told = c.self.inside.told; prepared = c.self.inside.prepared; required = c.self.inside.required }) c.reserve.new.self c.self.invariant
+    with_tiles r.script (past r) (record { host = c.self.inside.host; tiles = c.self.inside.tiles; told = c.self.inside.told; prepared = c.self.inside.prepared; required = c.self.inside.required; drawn = c.self.inside.drawn }) c.reserve.new.self c.self.invariant
     (c.reserve.ensures.same r.script (past r) (c.look.ensures.same r.script (past r) (c.deref.ensures ∙ c.script.ensures) c.self.invariant.host c.self.invariant.tiles))
 
 pub invariant_of-self-in_err-enter : goal.invariant_of-self-in_err-enter
 invariant_of-self-in_err-enter c =
     let r : Run = c.self.inside.log in
-    refused (record { host = c.self.inside.host; tiles = c.reserve.new.self; told = c.self.inside.told; prepared = c.self.inside.prepared; required = c.self.inside.required }) r c.enter.new.self c.in_err-enter.ensures.err
-    (with_tiles r.script (past r) (record { host = c.self.inside.host; tiles = c.self.inside.tiles; told = c.self.inside.told; prepared = c.self.inside.prepared; required = c.self.inside.required }) c.reserve.new.self c.self.invariant (c.reserve.ensures.same r.script (past r) (c.look.ensures.same r.script (past r) (c.deref.ensures ∙ c.script.ensures) c.self.invariant.host c.self.invariant.tiles)))
+    refused (record { host = c.self.inside.host; tiles = c.reserve.new.self; told = c.self.inside.told; prepared = c.self.inside.prepared; required = c.self.inside.required; drawn = c.self.inside.drawn }) r c.enter.new.self c.in_err-enter.ensures.err
+    (with_tiles r.script (past r) (record { host = c.self.inside.host; tiles = c.self.inside.tiles; told = c.self.inside.told; prepared = c.self.inside.prepared; required = c.self.inside.required; drawn = c.self.inside.drawn }) c.reserve.new.self c.self.invariant (c.reserve.ensures.same r.script (past r) (c.look.ensures.same r.script (past r) (c.deref.ensures ∙ c.script.ensures) c.self.invariant.host c.self.invariant.tiles)))
 
 pub enter-requires-clause-is_now : goal.enter-requires-clause-is_now
 enter-requires-clause-is_now c =
@@ -99,8 +100,8 @@ invariant_of-self-2 c =
     c.start.ensures.tiles r.script r.workers (past r) (2 + w) w (c.reserve.ensures.same r.script (past r) (c.look.ensures.same r.script (past r) (c.deref.ensures ∙ c.script.ensures) c.self.invariant.host c.self.invariant.tiles)) legal in
     let entered : c.enter.new.self ≡ with_entry r (2 + w) (event.Start w q ks) =
     subst (λ (z : List TileKey). c.enter.new.self ≡ with_entry r (2 + w) (event.Start w q z)) c.in_ok-evicted_keys.ensures c.in_ok-enter.ensures.ok in
-    one_more (record { host = c.self.inside.host; tiles = c.start.new.self; told = c.self.inside.told; prepared = c.self.inside.prepared; required = c.self.inside.required }) r c.enter.new.self (2 + w) (event.Start w q ks) entered
-    (start_core r.script (past r) (2 + w) w q ks (record { host = c.self.inside.host; tiles = c.self.inside.tiles; told = c.self.inside.told; prepared = c.self.inside.prepared; required = c.self.inside.required }) c.start.new.self c.self.invariant started)
+    one_more (record { host = c.self.inside.host; tiles = c.start.new.self; told = c.self.inside.told; prepared = c.self.inside.prepared; required = c.self.inside.required; drawn = drawn.Nothing }) r c.enter.new.self (2 + w) (event.Start w q ks) entered
+    (start_core r.script (past r) (2 + w) w q ks (record { host = c.self.inside.host; tiles = c.self.inside.tiles; told = c.self.inside.told; prepared = c.self.inside.prepared; required = c.self.inside.required; drawn = c.self.inside.drawn }) c.start.new.self c.self.invariant started)
 
 pub returns-clause-ok : goal.returns-clause-ok
 returns-clause-ok c =

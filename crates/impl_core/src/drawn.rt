@@ -1,0 +1,25 @@
+//! What was drawn since the picture may have changed.
+
+use impl_drawing::Drawing;
+
+/// What was drawn since the active tree was moved, or one of its tiles made or evicted. Most draws come after such a
+/// change, so the first drawing is handed out and no more; of the second one a copy is kept for those after it.
+pub(crate) enum Drawn {
+    /// nothing
+    Nothing,
+    /// one drawing
+    Once,
+    /// more than one: this one
+    Kept(Drawing),
+}
+
+// Written out, so that whoever drops it does not name in its proof all that it may hold.
+impl Drop for Drawn {
+    fn drop(self) {
+        match self {
+            Drawn::Nothing => {}
+            Drawn::Once => {}
+            Drawn::Kept(_) => {}
+        }
+    }
+}
