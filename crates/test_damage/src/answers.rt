@@ -8,7 +8,7 @@ use std::alloc::{AllocError, Global};
 use std::sync::Arc;
 use test_table::{Answer, LineFault, Subject, numbers, whole};
 use tile_raster::TileImage;
-use viz_painter::Painter;
+use viz_painter::{Painter, Redrawer};
 use viz_scene::Scene;
 
 /// What a line says of a scene.
@@ -72,6 +72,22 @@ impl Scenes {
         asks::show(&mut painter, again, answer)
     }
 
+    /// Shows both scenes and the old one again in a buffer, whose rows have a gap of one pixel of sevens.
+    fn show_in_buffer(&self, answer: &mut Answer) -> Result<(), DamageLineFault> {
+        let old = self.scene_of_line(&self.old)?;
+        let (w, h) = (old.w(), old.h());
+        let mut bytes = vec![in self.alloc; 7u8; 4 * ((w as usize + 1) * h as usize)]?;
+        let buffer = bytes.as_mut_slice();
+        let mut redrawer = Redrawer::new(self.alloc);
+        asks::redraw(&mut redrawer, old, w, h, buffer, answer)?;
+        answer.say("then", &[]);
+        let new = self.scene_of_line(&self.new)?;
+        asks::redraw(&mut redrawer, new, w, h, buffer, answer)?;
+        answer.say("then", &[]);
+        let again = self.scene_of_line(&self.old)?;
+        asks::redraw(&mut redrawer, again, w, h, buffer, answer)
+    }
+
     /// Answers a question about the change from the old scene to the new one.
     fn ask_change(&self, kind: &str, answer: &mut Answer) -> Result<(), DamageLineFault> {
         let old = self.scene_of_line(&self.old)?;
@@ -123,6 +139,7 @@ impl Subject for Scenes {
         match kind {
             "damage" | "painted" | "redrawn" => self.ask_change(kind, answer),
             "shown" => self.show_both(answer),
+            "buffer" => self.show_in_buffer(answer),
             "colour" => self.ask_colour(question, answer),
             "culled" => {
                 let new = self.scene_of_line(&self.new)?;

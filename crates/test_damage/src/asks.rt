@@ -1,6 +1,7 @@
 //! What is asked of scenes.
 
-ghost use Rattle.std.specs.Prelude.{◌≡◌, IsTrue};
+ghost use Rattle.std.specs.Prelude.{◌≡◌, ◌+◌, ◌*◌, ◌≤◌, [], ◌∷◌, length, IsTrue};
+ghost use Rattle.viz_painter.specs.Redrawers.{ShowsHeld};
 
 use crate::fault::DamageLineFault;
 use crate::pictures::{differing, drawn, point_count, say_pixels};
@@ -10,7 +11,7 @@ use tile_raster::TileImage;
 use viz_canvas::Rgba;
 use viz_damage::damage_of;
 use viz_occlusion::cull;
-use viz_painter::Painter;
+use viz_painter::{Painter, Redrawer};
 use viz_scene::{Quad, Scene};
 
 // whether two scenes are of one size
@@ -79,6 +80,28 @@ pub fn show(
 ) -> Result<(), DamageLineFault> {
     painter.paint(scene)?;
     say_pixels(answer, painter.canvas().bytes());
+    Ok(())
+}
+
+/// Draws a scene of this size into a buffer of rows with a gap of one pixel, and says all pixels of the buffer.
+pub fn redraw(
+    redrawer: &mut Redrawer<Rgba>,
+    scene: Scene,
+    w: u32,
+    h: u32,
+    buffer: &mut [u8],
+    answer: &mut Answer,
+) -> Result<(), DamageLineFault>
+    requires small { w ≤ 2048 }
+    requires size { length buffer.old ≡ 4 * ((w + 1) * h) }
+    requires held { ShowsHeld 4 (λ c. c.r ∷ c.g ∷ c.b ∷ c.a ∷ []) (w + 1) redrawer.old.held buffer.old }
+    ensures { ShowsHeld 4 (λ c. c.r ∷ c.g ∷ c.b ∷ c.a ∷ []) (w + 1) redrawer.new.held buffer.new }
+{
+    if scene.w() != w || scene.h() != h {
+        return Err(DamageLineFault::OtherSize);
+    }
+    redrawer.paint(scene, buffer, w as usize + 1)?;
+    say_pixels(answer, buffer);
     Ok(())
 }
 

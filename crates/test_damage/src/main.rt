@@ -20,6 +20,7 @@
 //! | `painted` | | the same of both scenes without their hidden quads |
 //! | `redrawn` | | the colours of the old picture in which the damage was drawn again |
 //! | `shown` | | the colours of both pictures as one painter shows them, and of the old one when it is shown once more |
+//! | `buffer` | | the same as one redrawer shows them in a buffer of rows with a gap of one pixel, which is told too |
 //! | `culled` | | the parts of the new scene without its hidden quads |
 //! | `colour` | the number of an image | its colour, where it has only one |
 //!
