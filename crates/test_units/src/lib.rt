@@ -1,18 +1,13 @@
-//! Cases worked by hand for the calls of the lowest crates, one file a crate, and for what threads share and bytes go
-//! through: locks, bells, rings, sources, sinks.
+//! Cases worked by hand for the calls of the lowest crates, one file a crate.
 //!
 //! They stand here and not in those crates because a crate with tests is proved a second time for them. Nobody calls
 //! this crate.
 #![tactic(auto)]
 
 #[cfg(test)]
-mod bells;
-#[cfg(test)]
 mod images;
 #[cfg(test)]
 mod lists;
-#[cfg(test)]
-mod locks;
 #[cfg(test)]
 mod pixels;
 #[cfg(test)]
@@ -22,14 +17,10 @@ mod rects;
 #[cfg(test)]
 mod regions;
 #[cfg(test)]
-mod rings;
-#[cfg(test)]
 mod scroll_values;
 #[cfg(test)]
 mod states;
 #[cfg(test)]
 mod stores;
-#[cfg(test)]
-mod streams;
 #[cfg(test)]
 mod tilings;
