@@ -17,7 +17,9 @@
 mod calls;
 mod commits;
 mod fault;
+mod frames;
 mod hits;
+mod scripts;
 mod table;
 
 use crate::table::PageTables;

@@ -2,9 +2,10 @@
 
 use crate::calls::frames::frames;
 use crate::calls::missing::missing;
-use crate::calls::texts::{page_of, script_text};
+use crate::calls::texts::script_text;
 use crate::calls::{lists, pages, texts};
 use crate::fault::PageLineFault;
+use crate::scripts::page_of;
 use page_layers::LayerTree;
 use std::alloc::Global;
 use test_table::{Answer, LineFault, Subject};

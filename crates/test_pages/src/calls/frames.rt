@@ -1,18 +1,18 @@
 //! What is asked of main frames.
 
-ghost use Rattle.std.specs.Prelude.{◌≡◌, length, IfOk};
+ghost use Rattle.std.specs.Prelude.{IfOk};
 ghost use Rattle.model_scroll_values.specs.Bounds.{IsBoundedNumber};
 ghost use Rattle.model_history.specs.Ended.{AreBounded};
 
 use crate::calls::changes::{say_changes, say_point};
 use crate::calls::moves::pull_of;
-use crate::calls::texts::script_of;
 use crate::fault::PageLineFault;
-use main_host::{MainEnd, MainHost};
-use model_history::{Commit, Moves, Script};
+use crate::frames::Frames;
+use crate::scripts::script_of;
+use main_host::MainEnd;
+use model_history::{Commit, Moves};
 use page_layers::Move;
 use std::alloc::{AllocError, Global};
-use std::sync::Arc;
 use test_table::Answer;
 
 /// The pulls of a frame: one, or none where it is 0 0.
@@ -47,63 +47,31 @@ fn say_end(end: &MainEnd, answer: &mut Answer) {
     }
 }
 
-/// Ends the next main frame, which is one of the given number, with a pull of scroller 1.
+/// Ends the next main frame with a pull of scroller 1.
 fn end_next(
     alloc: Global,
-    host: &mut MainHost,
-    frames: usize,
+    frames: &mut Frames,
     by: &str,
     answer: &mut Answer,
-) -> Result<(), PageLineFault>
-    requires { frames ≡ length host.old.script.main }
-    ensures { host.new.script ≡ host.old.script }
-{
+) -> Result<(), PageLineFault> {
     let by = pull_of(by)?;
-    if host.next_frame() as usize >= frames {
-        return Err(PageLineFault::Refused);
-    }
     let pulls = pulls_of(alloc, by)?;
-    let end = host.begin(&pulls)?;
+    let end = frames.end_next(&pulls)?;
     say_end(&end, answer);
     Ok(())
 }
 
-/// The main side of a script.
-fn host_of(alloc: Global, script: Script) -> Result<MainHost, PageLineFault>
-    ensures { IfOk result (λ host. host.script ≡ script) }
-{
-    match Arc::new(alloc, script) {
-        Ok(shared) => Ok(MainHost::new(alloc, shared)),
-        Err(_) => Err(PageLineFault::Memory(AllocError)),
-    }
-}
-
-/// Ends main frames with these pulls of scroller 1, and says which is next.
-fn end_all(
-    alloc: Global,
-    host: &mut MainHost,
-    frames: usize,
-    pulls: &str,
-    answer: &mut Answer,
-) -> Result<(), PageLineFault>
-    requires { frames ≡ length host.old.script.main }
-{
-    for by in pulls.split("; ") {
-        end_next(alloc, host, frames, by, answer)?;
-    }
-    answer.say("next", &[i64::from(host.next_frame())]);
-    Ok(())
-}
-
-/// Says how main frames of a script end with these pulls of scroller 1.
+/// Says how main frames of a script end with these pulls of scroller 1, and which is next.
 pub fn frames(
     alloc: Global,
     text: &str,
     pulls: &str,
     answer: &mut Answer,
 ) -> Result<(), PageLineFault> {
-    let script = script_of(alloc, text)?;
-    let frames = script.main().len();
-    let mut host = host_of(alloc, script)?;
-    end_all(alloc, &mut host, frames, pulls, answer)
+    let mut frames = Frames::new(alloc, script_of(alloc, text)?)?;
+    for by in pulls.split("; ") {
+        end_next(alloc, &mut frames, by, answer)?;
+    }
+    answer.say("next", &[i64::from(frames.next_frame())]);
+    Ok(())
 }

@@ -1,8 +1,8 @@
-//! Scripts and commands out of their texts, and what is asked of the texts.
+//! Commands out of their texts, and what is asked of the texts of scripts.
 
 use crate::fault::PageLineFault;
-use model_history::Script;
-use page_layers::{Command, LayerTree};
+use crate::scripts::script_of;
+use page_layers::Command;
 use script_json::{TextFault, print_script, read_parts, read_script};
 use std::alloc::{AllocError, Global};
 use test_table::Answer;
@@ -12,20 +12,6 @@ pub fn script_text(alloc: Global, commands: &str) -> Result<String, AllocError> 
     format!(in alloc;
         r#"{{"background":"000000","budget":0,"eventually":0,"inputs":[],"main":[[{commands}]],"priority":"same","raster_per_frame":0,"soon":0,"tile":16,"version":2,"viewport":[16,16]}}"#
     )
-}
-
-/// The script of a text.
-pub fn script_of(alloc: Global, text: &str) -> Result<Script, PageLineFault> {
-    match read_script(alloc, text.as_bytes()) {
-        Ok(script) => Ok(script),
-        Err(_) => Err(PageLineFault::NoScript),
-    }
-}
-
-/// The page of a script after all its main frames.
-pub fn page_of(alloc: Global, text: &str) -> Result<LayerTree, PageLineFault> {
-    let script = script_of(alloc, text)?;
-    Ok(script.page(alloc)?)
 }
 
 /// The commands of the last main frame of a script's text.

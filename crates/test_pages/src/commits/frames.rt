@@ -1,68 +1,22 @@
-//! The main frames of a script.
+//! How main frames end whose commits make trees.
 
 use crate::commits::next_tree::NextTree;
 use crate::fault::PageLineFault;
-use main_host::{MainEnd, MainHost};
-use model_history::{Moves, Script};
-use std::alloc::{AllocError, Global};
-use std::marker::Model;
-use std::sync::Arc;
+use crate::frames::Frames;
+use main_host::MainEnd;
 
-/// The main frames of a script, which get no pulls.
-#[derive(Drop)]
-pub struct Frames {
-    alloc: Global,
-    host: MainHost,
-    /// How many the script has.
-    count: usize,
+/// Ends the next main frame, which changes nothing.
+pub fn abort(frames: &mut Frames) -> Result<(), PageLineFault> {
+    match frames.end_plain()? {
+        MainEnd::Abort { .. } => Ok(()),
+        MainEnd::Ready(_) => Err(PageLineFault::OtherEnd),
+    }
 }
 
-impl Model for Frames {
-    ghost use Rattle.std.specs.Prelude.{◌≡◌, length};
-    ghost use Rattle.main_host.specs.Hosts.{MainHostModel};
-
-    ghost Value = { MainHostModel };
-
-    ghost view = { λ f. f.host };
-
-    ghost invariant = { λ f. f.count ≡ length f.host.script.main };
-}
-
-impl Frames {
-    /// Before the first main frame of a script.
-    pub fn new(alloc: Global, script: Script) -> Result<Frames, AllocError> {
-        let count = script.main().len();
-        match Arc::new(alloc, script) {
-            Ok(script) => Ok(Frames {
-                alloc,
-                host: MainHost::new(alloc, script),
-                count,
-            }),
-            Err(_) => Err(AllocError),
-        }
-    }
-
-    // Ends the next main frame.
-    fn end_next(&mut self) -> Result<MainEnd, PageLineFault> {
-        if self.host.next_frame() as usize >= self.count {
-            return Err(PageLineFault::NoFrame);
-        }
-        Ok(self.host.begin(&Moves::new(self.alloc))?)
-    }
-
-    /// Ends the next main frame, which changes nothing.
-    pub fn abort(&mut self) -> Result<(), PageLineFault> {
-        match self.end_next()? {
-            MainEnd::Abort { .. } => Ok(()),
-            MainEnd::Ready(_) => Err(PageLineFault::OtherEnd),
-        }
-    }
-
-    /// Ends the next main frame, which is committed.
-    pub fn commit(&mut self) -> Result<NextTree, PageLineFault> {
-        match self.end_next()? {
-            MainEnd::Ready(commit) => Ok(NextTree::of_commit(commit)),
-            MainEnd::Abort { .. } => Err(PageLineFault::OtherEnd),
-        }
+/// Ends the next main frame, which is committed.
+pub fn commit(frames: &mut Frames) -> Result<NextTree, PageLineFault> {
+    match frames.end_plain()? {
+        MainEnd::Ready(commit) => Ok(NextTree::of_commit(commit)),
+        MainEnd::Abort { .. } => Err(PageLineFault::OtherEnd),
     }
 }

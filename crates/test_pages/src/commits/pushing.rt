@@ -3,9 +3,10 @@
 ghost use Rattle.std.specs.Prelude.{◌≡◌, None, IfOk, IsSome};
 ghost use Rattle.impl_trees.specs.Trees.{MayFollow};
 
-use crate::commits::frames::Frames;
+use crate::commits::frames;
 use crate::commits::next_tree::NextTree;
 use crate::fault::PageLineFault;
+use crate::frames::Frames;
 use impl_trees::{TreeState, Trees, may_push};
 use model_history::Script;
 use std::alloc::{AllocError, Global};
@@ -61,12 +62,12 @@ impl Pushing {
 
     /// Ends the next main frame, which changes nothing.
     pub fn abort(&mut self) -> Result<(), PageLineFault> {
-        self.frames.abort()
+        frames::abort(&mut self.frames)
     }
 
     /// Ends the next main frame, which is committed, and makes its tree the pending one.
     pub fn push(&mut self) -> Result<(), PageLineFault> {
-        let next = self.frames.commit()?;
+        let next = frames::commit(&mut self.frames)?;
         push_tree(&mut self.trees, next)
     }
 

@@ -3,7 +3,7 @@
 use crate::commits::keys::{told_keys, told_sum};
 use crate::commits::pushing::Pushing;
 use crate::fault::PageLineFault;
-use script_json::read_script;
+use crate::scripts::script_of;
 use std::alloc::Global;
 use std::io;
 use test_table::{LineFault, Table, Tally};
@@ -55,9 +55,7 @@ impl Pushes {
 
     /// Takes a line with a script.
     fn take_script(&mut self, text: &str) -> Result<(), PageLineFault> {
-        let Ok(script) = read_script(self.alloc, text.as_bytes()) else {
-            return Err(PageLineFault::NoScript);
-        };
+        let script = script_of(self.alloc, text)?;
         self.pushing = Some(Pushing::new(self.alloc, script)?);
         self.scripts = self.scripts.saturating_add(1);
         Ok(())

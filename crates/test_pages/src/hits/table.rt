@@ -2,9 +2,9 @@
 
 use crate::fault::PageLineFault;
 use crate::hits::asks::{Question, answer};
+use crate::scripts::page_of;
 use geom::Point;
 use page_layers::LayerTree;
-use script_json::read_script;
 use std::alloc::Global;
 use std::io;
 use test_table::{LineFault, Table, Tally};
@@ -87,10 +87,7 @@ impl HitQuestions {
 
     /// Takes a line with a script, whose page after all its main frames is asked about.
     fn take_script(&mut self, text: &str) -> Result<(), PageLineFault> {
-        let Ok(script) = read_script(self.alloc, text.as_bytes()) else {
-            return Err(PageLineFault::NoScript);
-        };
-        self.page = Some(script.page(self.alloc)?);
+        self.page = Some(page_of(self.alloc, text)?);
         self.pages = self.pages.saturating_add(1);
         Ok(())
     }
