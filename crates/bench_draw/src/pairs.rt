@@ -1,4 +1,5 @@
-//! Pairs of random scenes: the damage from one to the other is drawn over the picture of the first.
+//! Pairs of random scenes: the damage from one to the other is drawn over the picture of the first, and a painter
+//! shows both.
 
 ghost use Rattle.std.specs.Prelude.{◌≡◌, IsTrue, IfOk};
 ghost use Rattle.viz_scene.specs.Views.{SceneView};
@@ -18,6 +19,15 @@ use viz_damage::damage_of;
 use viz_occlusion::cull;
 use viz_painter::Painter;
 use viz_scene::Scene;
+
+/// How the second sketch of a pair comes from the first.
+#[derive(Clone, Copy)]
+pub(crate) enum PairKind {
+    /// By a few changes, or it has nothing to do with the first.
+    Changed,
+    /// By a scroll, and by a few changes.
+    Shifted,
+}
 
 /// What came out of some pairs.
 #[derive(Clone, Copy)]
@@ -192,12 +202,16 @@ fn try_throw(
     alloc: Global,
     pool: &[Arc<TileImage>],
     painter: &mut Painter<Rgba>,
+    kind: PairKind,
     seed: u64,
     figures: &mut PairCounts,
 ) -> Result<(), AllocError> {
     let mut dice = Dice::new(seed);
     let sketch = Sketch::thrown(alloc, &mut dice)?;
-    let next = sketch.next(alloc, &mut dice)?;
+    let next = match kind {
+        PairKind::Changed => sketch.next(alloc, &mut dice)?,
+        PairKind::Shifted => sketch.shifted(alloc, &mut dice)?,
+    };
     match (sketch.scene(alloc, pool)?, next.scene(alloc, pool)?) {
         (Some(old), Some(new)) => try_pair(alloc, painter, old, new, figures),
         _ => {
@@ -208,7 +222,12 @@ fn try_throw(
 }
 
 // what comes out of the given number of pairs
-fn figures_of(alloc: Global, count: u32, seed: u32) -> Result<PairCounts, AllocError> {
+fn figures_of(
+    alloc: Global,
+    kind: PairKind,
+    count: u32,
+    seed: u32,
+) -> Result<PairCounts, AllocError> {
     let pool = pool_of(alloc)?;
     let mut painter = Painter::new(alloc, 1, 1)?;
     let mut figures = PairCounts::NONE;
@@ -217,14 +236,21 @@ fn figures_of(alloc: Global, count: u32, seed: u32) -> Result<PairCounts, AllocE
             break;
         }
         let number = (seed as u64) << 32 | turn as u64;
-        try_throw(alloc, pool.as_slice(), &mut painter, number, &mut figures)?;
+        try_throw(
+            alloc,
+            pool.as_slice(),
+            &mut painter,
+            kind,
+            number,
+            &mut figures,
+        )?;
     }
     Ok(figures)
 }
 
 /// Tries the given number of pairs of scenes and tells how many are wrong.
 pub(crate) fn tell_wrong(rt: &HostRuntime, count: u32, seed: u32) -> io::Result<()> {
-    let figures = figures_of(rt.alloc(), count, seed)?;
+    let figures = figures_of(rt.alloc(), PairKind::Changed, count, seed)?;
     let (pairs, wrong, otherwise) = (figures.pairs, figures.wrong, figures.shown_otherwise);
     println!(rt; "{pairs} pairs of scenes: {wrong} wrong, {otherwise} shown otherwise")?;
     Ok(())
@@ -232,8 +258,8 @@ pub(crate) fn tell_wrong(rt: &HostRuntime, count: u32, seed: u32) -> io::Result<
 
 /// Tries the given number of pairs of scenes and tells what came out: how many are wrong, and how many points
 /// are damaged and how many have another colour, in all.
-pub(crate) fn tell(rt: &HostRuntime, count: u32, seed: u32) -> io::Result<()> {
-    let figures = figures_of(rt.alloc(), count, seed)?;
+pub(crate) fn tell(rt: &HostRuntime, kind: PairKind, count: u32, seed: u32) -> io::Result<()> {
+    let figures = figures_of(rt.alloc(), kind, count, seed)?;
     let (pairs, skipped) = (figures.pairs, figures.skipped);
     let (wrong, otherwise) = (figures.wrong, figures.shown_otherwise);
     let (damaged, changed, culled) = (figures.damaged, figures.changed, figures.culled);

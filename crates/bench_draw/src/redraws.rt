@@ -1,6 +1,7 @@
 //! Redrawing what changed from one scene to the next.
 //!
 //! - `pairs COUNT SEED`: the given number of pairs of random scenes, tried by `pairs`,
+//! - `shifts COUNT SEED`: the same, of which each second one is the first scrolled up or down,
 //! - `copy LAYERS TIMES`, `cull LAYERS TIMES`, `damage LAYERS TIMES`: a scene of 1024 by 1024 pixels of the
 //!   given number of layers of 25 tiles is copied, has its hidden quads left out, or is compared with its
 //!   equal,
@@ -9,6 +10,7 @@
 //! - `scroll DOWN TIMES`: a painter shows the page of `scrolled` alternately where it is not scrolled and the
 //!   given number of pixels further down.
 
+use crate::pairs::PairKind;
 use crate::{pairs, scrolled, showing};
 use std::io;
 
@@ -16,7 +18,7 @@ use std::io;
 #[derive(Clone, Copy)]
 enum Task {
     /// Tries pairs of scenes.
-    Pairs,
+    Pairs(PairKind),
     /// Scrolls a page.
     Scroll,
     /// Does one thing with a large scene, again and again.
@@ -26,7 +28,8 @@ enum Task {
 /// The task of a name.
 fn task_of(name: &str) -> Option<Task> {
     match name {
-        "pairs" => Some(Task::Pairs),
+        "pairs" => Some(Task::Pairs(PairKind::Changed)),
+        "shifts" => Some(Task::Pairs(PairKind::Shifted)),
         "scroll" => Some(Task::Scroll),
         "copy" => Some(Task::Large(showing::Act::Copy)),
         "cull" => Some(Task::Large(showing::Act::Cull)),
@@ -52,7 +55,7 @@ pub(crate) fn run(rt: &HostRuntime, words: &[String]) -> io::Result<bool> {
         return Ok(false);
     };
     match task {
-        Task::Pairs => pairs::tell(rt, first, second)?,
+        Task::Pairs(kind) => pairs::tell(rt, kind, first, second)?,
         Task::Scroll => {
             let sum = scrolled::sum_of(rt.alloc(), first, second)?;
             println!(rt; "{sum}")?;

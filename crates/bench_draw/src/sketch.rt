@@ -212,16 +212,11 @@ fn change_at(
     Ok(())
 }
 
-// some parts, all moved by one way
-fn scrolled(
-    alloc: Global,
-    dice: &mut Dice,
-    parts: &[SketchPart],
-) -> Result<Vec<SketchPart>, AllocError> {
-    let by = dice.throw() % 3;
+// some parts, whose tiles all lie this much higher
+fn scrolled(alloc: Global, parts: &[SketchPart], by: i32) -> Result<Vec<SketchPart>, AllocError> {
     let mut after = Vec::new(alloc);
     for part in parts {
-        after.push(scrolled_part(*part, by as i32))?;
+        after.push(scrolled_part(*part, by))?;
     }
     Ok(after)
 }
@@ -263,6 +258,16 @@ impl Sketch {
         })
     }
 
+    /// This sketch with its tiles up to sixteen pixels higher or lower, and with up to two changes.
+    pub(crate) fn shifted(&self, alloc: Global, dice: &mut Dice) -> Result<Sketch, AllocError> {
+        let by = (dice.throw() % 33) as i32 - 16;
+        let parts = scrolled(alloc, self.parts.as_slice(), by)?;
+        Ok(Sketch {
+            background: self.background,
+            parts: with_changes(alloc, dice, parts)?,
+        })
+    }
+
     /// The scene of this sketch. None where its parts make none.
     pub(crate) fn scene(
         &self,
@@ -280,11 +285,22 @@ fn parts_after(
     dice: &mut Dice,
     parts: &[SketchPart],
 ) -> Result<Vec<SketchPart>, AllocError> {
-    let mut after = if dice.throw() % 4 == 0 {
-        scrolled(alloc, dice, parts)?
+    let after = if dice.throw() % 4 == 0 {
+        let by = (dice.throw() % 3) as i32;
+        scrolled(alloc, parts, by)?
     } else {
         with_change(alloc, dice, parts)?
     };
+    with_changes(alloc, dice, after)
+}
+
+// some parts with up to two changes
+fn with_changes(
+    alloc: Global,
+    dice: &mut Dice,
+    parts: Vec<SketchPart>,
+) -> Result<Vec<SketchPart>, AllocError> {
+    let mut after = parts;
     for _change in 0..dice.throw() % 3 {
         after = with_change(alloc, dice, after.as_slice())?;
     }
