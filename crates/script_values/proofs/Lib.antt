@@ -1,0 +1,3 @@
+mod Turns
+pub mod Signs
+pub mod Progress
