@@ -10,6 +10,9 @@ mod PlainBack
 mod CommandsBack
 mod ScriptsBack
 mod ReadCanonical
+mod AnyVersion
+mod Kept
+pub mod Streams
 mod ValuesReadBack
 pub mod TextsReadBack
 pub mod CanonicalTexts

@@ -2,6 +2,7 @@
 #![tactic(auto)]
 
 mod fault;
+mod halt;
 mod head;
 pub mod laws;
 mod op;

@@ -6,3 +6,4 @@ mod items;
 mod layers;
 mod nodes;
 pub(crate) mod parts;
+mod stream;

@@ -53,8 +53,8 @@ fn command(alloc: Global, version: u32, value: &Value) -> Result<Command, Troubl
     fields_of(alloc, op, value)
 }
 
-// The command at a place of a main frame.
-fn placed_command(
+/// The command at a place of a main frame.
+pub(super) fn placed_command(
     alloc: Global,
     version: u32,
     list: u32,

@@ -105,8 +105,8 @@ fn input(frames: u32, draws: u32, value: &Value) -> Result<Input, FieldFault>
     fields_of(frames, draws, op, value)
 }
 
-// How many draws there are after this input.
-fn draws_after(draws: u32, input: Input) -> u32
+/// How many draws there are after this input.
+pub(super) fn draws_after(draws: u32, input: Input) -> u32
     requires { draws < 2 ^ 32 - 1 }
     ensures value { result ≡ draws_after draws input }
     ensures bound { result ≤ draws + 1 }
@@ -117,8 +117,13 @@ fn draws_after(draws: u32, input: Input) -> u32
     }
 }
 
-// The input at a place of the list.
-fn placed_input(frames: u32, draws: u32, index: u32, value: &Value) -> Result<Input, ShapeFault>
+/// The input at a place of the list.
+pub(super) fn placed_input(
+    frames: u32,
+    draws: u32,
+    index: u32,
+    value: &Value,
+) -> Result<Input, ShapeFault>
     ensures { result ≡ placed 1 index (input_at frames draws (view value.now)) }
 {
     match input(frames, draws, value) {

@@ -10,8 +10,10 @@ ghost use Rattle.script_json.specs.Faults.{GivesPart, placed};
 ghost use Rattle.script_json.specs.Reading.{priority_named, priority_at, head_at, lists_at, parts_at};
 ghost use Rattle.script_json.specs.Causes.{PartsCause};
 
+use super::stream::streamed_parts;
 use super::{commands, inputs};
 use crate::fault::{PartsFault, ShapeFault, Stop};
+use crate::halt::Halt;
 use crate::head::Head;
 use model_history::ScriptParts;
 use script_fields::{FieldFault, fields};
@@ -52,9 +54,9 @@ fn priority(value: &Value, field: u32) -> Result<TreePriority, FieldFault>
     find_priority(value).ok_or(FieldFault { field })
 }
 
-// The first nine fields of the top object.
+/// The first nine fields of the top object.
 #[tactic(auto, unfolding(crate::specs::Reading::head_at))]
-fn head_of(value: &Value) -> Result<Head, FieldFault>
+pub(super) fn head_of(value: &Value) -> Result<Head, FieldFault>
     ensures { result ≡ head_at (view value.now) }
 {
     fields::object(value)?;
@@ -154,13 +156,8 @@ fn parts(alloc: Global, value: &Value) -> Result<ScriptParts, Stop>
     })
 }
 
-/// The parts of the script that these bytes are.
-///
-/// `Json` comes exactly where the bytes are no JSON text. `Shape` comes exactly where they are the
-/// text of a value with this first fault: in the top object, else in a main frame, else in an input.
-/// `Memory` may come at any text; it also represents a main frame of 2^32 commands or more, whose
-/// places no number of 32 bits tells (a text of fewer than 2^32 bytes has none).
-pub fn read_parts(alloc: Global, bytes: &[u8]) -> Result<ScriptParts, PartsFault>
+// The parts of the script that these bytes are, read as one value.
+fn whole_parts(alloc: Global, bytes: &[u8]) -> Result<ScriptParts, PartsFault>
     ensures cause { PartsCause bytes.now result }
     ensures ranges { IfOk result (λ p. is_in_ranges (script_of p) ≡ true) }
     ensures short { IfOk result (λ p. are_short (script_of p).main ≡ true) }
@@ -173,5 +170,23 @@ pub fn read_parts(alloc: Global, bytes: &[u8]) -> Result<ScriptParts, PartsFault
         },
         Err(error) if error.is_memory() => Err(PartsFault::Memory(AllocError)),
         Err(_) => Err(PartsFault::Json),
+    }
+}
+
+/// The parts of the script that these bytes are.
+///
+/// `Json` comes exactly where the bytes are no JSON text. `Shape` comes exactly where they are the
+/// text of a value with this first fault: in the top object, else in a main frame, else in an input.
+/// `Memory` may come at any text; it also represents a main frame of 2^32 commands or more, whose
+/// places no number of 32 bits tells (a text of fewer than 2^32 bytes has none).
+pub fn read_parts(alloc: Global, bytes: &[u8]) -> Result<ScriptParts, PartsFault>
+    ensures cause { PartsCause bytes.now result }
+    ensures ranges { IfOk result (λ p. is_in_ranges (script_of p) ≡ true) }
+    ensures short { IfOk result (λ p. are_short (script_of p).main ≡ true) }
+{
+    match streamed_parts(alloc, bytes) {
+        Ok(parts) => Ok(parts),
+        Err(Halt::Memory(refused)) => Err(PartsFault::Memory(refused)),
+        Err(Halt::Fault) => whole_parts(alloc, bytes),
     }
 }
