@@ -10,7 +10,6 @@ functions of include/cc.h alone. Where both in FOLDER were built of the present 
 Of the libraries below, those that the gate built of this text are taken (tools/gate_libraries.py).
 """
 import argparse
-import os
 import pathlib
 import re
 import shutil
@@ -19,6 +18,7 @@ import sys
 import tempfile
 
 sys.dont_write_bytecode = True
+import machine
 from built import file_sum, is_of, text_sum, write_note
 from gate_libraries import kit, stamped
 
@@ -26,8 +26,8 @@ ROOT = pathlib.Path(__file__).resolve().parent.parent
 CRATE = ROOT / "crates" / "cc_c"
 HEADER = ROOT / "include" / "cc.h"
 COMPILERS = ("gcc", "clang", "cc")
-# What a job of the proof takes.
-MEMORY = 3 << 30
+# What a job of the proof takes, and how many there are at most.
+MEMORY, MOST_JOBS = 3 << 30, 4
 
 
 def stop(text):
@@ -40,15 +40,9 @@ def run(*words, **more):
         stop("%s ended with %d" % (words[0], done.returncode))
 
 
-def jobs():
-    """How many jobs the proof may have: one a processor, four at most, and as many as memory is for."""
-    free = int(re.search(r"MemAvailable:\s+(\d+)", pathlib.Path("/proc/meminfo").read_text())[1]) * 1024
-    return max(1, min(4, len(os.sched_getaffinity(0)), free // MEMORY))
-
-
 def prove(crate):
     """Proves a crate and builds its library; of what rt says, the end is shown where it refuses."""
-    words = ["rt", "lib", "--jobs", str(jobs())]
+    words = ["rt", "lib", "--jobs", str(min(machine.jobs(MEMORY), MOST_JOBS))]
     done = subprocess.run(words, cwd=crate, stdout=subprocess.PIPE, stderr=subprocess.STDOUT, text=True, errors="replace")
     if done.returncode:
         stop("rt lib ended with %d\n%s" % (done.returncode, done.stdout[-3000:]))

@@ -15,8 +15,6 @@ is kept, and nothing that it says is proved: `make check` is the gate.
 import argparse
 import collections
 import concurrent.futures
-import os
-import pathlib
 import re
 import subprocess
 import sys
@@ -24,6 +22,7 @@ import threading
 import time
 
 sys.dont_write_bytecode = True
+import machine
 from crate_list import CRATES, ROOT, CrateList
 
 # The programs that take words and try the cases whose titles have one of them.
@@ -151,12 +150,6 @@ def told(title, runs, wrong, word):
     return not wrong
 
 
-def lanes():
-    """How many run side by side."""
-    free = int(re.search(r"MemAvailable:\s+(\d+)", pathlib.Path("/proc/meminfo").read_text())[1]) * 1024
-    return max(1, min(len(os.sched_getaffinity(0)), free // MEMORY))
-
-
 def run_all(word, named, jobs):
     """Runs everything: how many are right, and how many are not."""
     found, done, right, counted = tasks(word, named), collections.defaultdict(list), 0, 0
@@ -188,7 +181,7 @@ def main():
     if words.word:
         print(f"only {', '.join(TITLED)}: the other programs and tests have no titles")
     try:
-        passed, failed = run_all(words.word, words.crate, words.jobs or lanes())
+        passed, failed = run_all(words.word, words.crate, words.jobs or machine.jobs(MEMORY))
     finally:
         for process in list(RUNNING):
             process.terminate()
