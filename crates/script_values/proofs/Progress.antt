@@ -1,5 +1,5 @@
 -- A value or a member further, and the end of an array or an object.
-use Rattle.std.proofs.Common.{◌≡◌, ℕ, ◌-◌, ◌<◌, ◌≤◌, List, [], ◌∷◌, length, Option, Some, None, option_and_then, refl, sym, ap, ◌∙◌, arith}
+use Rattle.std.proofs.Common.{◌≡◌, ℕ, ◌-◌, ◌<◌, ◌≤◌, List, [], ◌∷◌, length, Option, Some, None, option_map, option_and_then, refl, sym, ap, ◌∙◌, arith}
 use Rattle.json.specs.Token.{Token}
 use Rattle.json.specs.Lex.{tokens}
 use Rattle.json.specs.Json as json
@@ -9,7 +9,7 @@ use Rattle.serde_json.specs.Data.{Data, array, object, Items, no_items, item, Me
 use Rattle.serde_json.specs.Read.{of_json, of_items, of_members, converted, max_depth, read}
 use Rattle.script_values.specs.Tokens.{first_value, first_items, first_members}
 use Rattle.script_values.specs.Progress.{ItemsUpTo, MembersUpTo}
-use Rattle.script_values.proofs.Turns.{converted_some, converted-array, converted-object, item_read, items_over, member_read, members_over}
+use Rattle.script_values.proofs.Turns.{converted_some, converted-array, converted-object, item_read, item_refused, items_over, member_read, member_refused, key_refused, members_over}
 
 -- ---- an array
 
@@ -46,6 +46,11 @@ items_end depth start join ts r so e =
     let less = after_end_array-shorter ts r e in
     (so.reads ∙ ap (parse_map join) (items_over (value depth) so.turns ts r so.enough e), omega arith)
 
+-- no value stands next, and no closing bracket
+pub items_refused : (depth : ℕ) (start : List Token) (join : Items → Items) (ts : List Token) → ItemsUpTo depth start join ts → after_end_array ts ≡ None → first_value depth ts ≡ None
+    → first_items depth start ≡ None
+items_refused depth start join ts so going none = so.reads ∙ ap (parse_map join) (item_refused (value depth) so.turns ts going none)
+
 -- ---- an object
 
 pub members_begin : (depth : ℕ) (ts : List Token) → MembersUpTo depth ts no_members ts
@@ -73,6 +78,15 @@ members_end depth start found ts r so e =
     let less = read_key-shorter ts None r e in
     (so.reads ∙ members_over (value depth) found so.turns ts r so.enough e, omega arith)
 
+-- no value stands after a name
+pub members_refused : (depth : ℕ) (start : List Token) (found : Members) (ts s : List Token) (k : List ℕ) → MembersUpTo depth start found ts → read_key ts ≡ Some (Some k, s) → first_value depth s ≡ None
+    → first_members depth start ≡ None
+members_refused depth start found ts s k so key none = so.reads ∙ member_refused (value depth) found so.turns k ts s key none
+
+-- no name stands next, and no closing brace
+pub names_refused : (depth : ℕ) (start : List Token) (found : Members) (ts : List Token) → MembersUpTo depth start found ts → read_key ts ≡ None → first_members depth start ≡ None
+names_refused depth start found ts so none = so.reads ∙ key_refused (value depth) found so.turns ts none
+
 -- ---- a value by its brackets
 
 pub array_read : (depth : ℕ) (ts r : List Token) (ds : Items) → 0 < depth → first_items (depth - 1) ts ≡ Some (ds, r)
@@ -85,6 +99,14 @@ pub object_read : (depth : ℕ) (ts r : List Token) (ms : Members) → 0 < depth
 object_read depth ts r ms deep e =
     ap (converted of_json) (value-begin_object depth ts deep) ∙ converted-object (members (value (depth - 1)) (length ts) ts) ∙ ap (parse_map object) e
 
+pub array_refused : (depth : ℕ) (ts : List Token) → 0 < depth → first_items (depth - 1) ts ≡ None → first_value depth (Token.begin_array ∷ ts) ≡ None
+array_refused depth ts deep e =
+    ap (converted of_json) (value-begin_array depth ts deep) ∙ converted-array (items (value (depth - 1)) (length ts) ts) ∙ ap (parse_map array) e
+
+pub object_refused : (depth : ℕ) (ts : List Token) → 0 < depth → first_members (depth - 1) ts ≡ None → first_value depth (Token.begin_object ∷ ts) ≡ None
+object_refused depth ts deep e =
+    ap (converted of_json) (value-begin_object depth ts deep) ∙ converted-object (members (value (depth - 1)) (length ts) ts) ∙ ap (parse_map object) e
+
 -- ---- a whole text
 
 abbrev whole : Option (json.Json × List Token) → Option Data
@@ -93,3 +115,20 @@ whole o = option_and_then of_json (option_and_then (λ p. if_last p.0 p.1) o)
 -- a value after which no token stands is what the text reads as
 pub text_read : (text : List ℕ) (d : Data) → first_value max_depth (tokens text) ≡ Some (d, []) → read text ≡ Some d
 text_read text d e = let j = converted_some of_json (value max_depth (tokens text)) d [] e in ap whole j.1 ∙ j.2
+
+unread : {B : Type 0} (r : List Token) (x : Option B) → option_map {U = B × List Token} (λ y. (y, r)) x ≡ None → x ≡ None
+unread r None e = refl
+unread r (Some y) e = absurd (cc)
+
+whole_unread : (o : Option (json.Json × List Token)) → converted of_json o ≡ None → whole o ≡ None
+whole_unread None e = refl
+whole_unread (Some (j, [])) e = unread [] (of_json j) e
+whole_unread (Some (j, t ∷ r)) e = refl
+
+-- tokens that do not begin with a value are no text
+pub text_refused : (text : List ℕ) → first_value max_depth (tokens text) ≡ None → read text ≡ None
+text_refused text e = whole_unread (value max_depth (tokens text)) e
+
+-- nor are those of a value and more
+pub text_and_more : (text : List ℕ) (d : Data) (t : Token) (r : List Token) → first_value max_depth (tokens text) ≡ Some (d, t ∷ r) → read text ≡ None
+text_and_more text d t r e = ap whole (converted_some of_json (value max_depth (tokens text)) d (t ∷ r) e).1
