@@ -186,6 +186,7 @@ pub fn read_parts(alloc: Global, bytes: &[u8]) -> Result<ScriptParts, PartsFault
 {
     match streamed_parts(alloc, bytes) {
         Ok(parts) => Ok(parts),
+        Err(Halt::Json) => Err(PartsFault::Json),
         Err(Halt::Memory(refused)) => Err(PartsFault::Memory(refused)),
         Err(Halt::Fault) => whole_parts(alloc, bytes),
     }

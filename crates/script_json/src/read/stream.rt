@@ -2,7 +2,7 @@
 //!
 //! The members of the top object come in any order, so a list may come before what its reading depends
 //! on. Commands are read as those of version 2, and awaits as if there were as many main frames as can be
-//! said; both are tested once all is read. Whatever is not read this way is read as one value.
+//! said; both are tested once all is read. What is JSON and is not read this way is read as one value.
 
 mod fits;
 mod frames;

@@ -1,6 +1,6 @@
 //! Main frames, one command at a time.
 
-ghost use Rattle.std.specs.Prelude.{◌≡◌, ◌∷◌, ◌<◌, ◌≤◌, length, map, true, nat_lt, Some, Ok, IfOk, OnOk};
+ghost use Rattle.std.specs.Prelude.{◌≡◌, ◌≢◌, ◌∷◌, ◌<◌, ◌≤◌, length, map, true, nat_lt, Some, None, Ok, Err, IfOk, OnOk};
 ghost use Rattle.json.specs.Token.{begin_array};
 ghost use Rattle.serde_json.specs.Data.{Data, Items, array};
 ghost use Rattle.model_history.specs.Ranges.{are_short};
@@ -20,7 +20,8 @@ const MOST_FRAMES: u32 = 4096;
 
 /// Takes the opening bracket of an array.
 pub(super) fn open_array(reader: &mut Reader<'_>) -> Result<(), Halt>
-    ensures { OnOk result (reader.old ≡ begin_array ∷ reader.new) }
+    ensures opened { OnOk result (reader.old ≡ begin_array ∷ reader.new) }
+    ensures fault { result ≢ Err Halt.Json }
 {
     match reader.next() {
         Some(Token::BeginArray) => Ok(()),
@@ -37,6 +38,7 @@ fn next_command(
 ) -> Result<Command, Halt>
     ensures read { IfOk result (λ c. (d : Data) × (first_value 124 reader.old ≡ Some (d, reader.new)) × (placed list index (command_at 2 d) ≡ Ok c)) }
     ensures shorter { OnOk result (length reader.new < length reader.old) }
+    ensures refused { result ≡ Err Halt.Json → first_value 124 reader.old ≡ None }
 {
     let value = read_value(alloc, reader, 124)?;
     match placed_command(alloc, 2, list, index, &value) {
@@ -49,6 +51,7 @@ fn next_command(
 fn next_frame(alloc: Global, list: u32, reader: &mut Reader<'_>) -> Result<Vec<Command>, Halt>
     ensures read { IfOk result (λ v. (d : Data) × (first_value 125 reader.old ≡ Some (d, reader.new)) × (frame_at 2 list d ≡ Ok v.items)) }
     ensures shorter { OnOk result (length reader.new < length reader.old) }
+    ensures refused { result ≡ Err Halt.Json → first_value 125 reader.old ≡ None }
     ensures short { IfOk result (λ v. nat_lt (length v.items) 4294967296 ≡ true) }
 {
     open_array(reader)?;
@@ -70,6 +73,7 @@ fn next_frame(alloc: Global, list: u32, reader: &mut Reader<'_>) -> Result<Vec<C
 pub(super) fn next_frames(alloc: Global, reader: &mut Reader<'_>) -> Result<Vec<Vec<Command>>, Halt>
     ensures read { IfOk result (λ v. (ds : Items) × (first_value 126 reader.old ≡ Some (array ds, reader.new)) × (frames_at 2 2 ds ≡ Ok (map (λ frame. frame.items) v.items))) }
     ensures shorter { OnOk result (length reader.new < length reader.old) }
+    ensures refused { result ≡ Err Halt.Json → first_value 126 reader.old ≡ None }
     ensures few { IfOk result (λ v. length v.items ≤ 4096) }
     ensures short { IfOk result (λ v. are_short (map (λ frame. frame.items) v.items) ≡ true) }
 {

@@ -1,6 +1,6 @@
 //! Inputs, one at a time.
 
-ghost use Rattle.std.specs.Prelude.{◌≡◌, ◌<◌, ◌≤◌, ◌^◌, ◌-◌, length, Some, Ok, IfOk, OnOk};
+ghost use Rattle.std.specs.Prelude.{◌≡◌, ◌<◌, ◌≤◌, length, Some, None, Ok, Err, IfOk, OnOk};
 ghost use Rattle.serde_json.specs.Data.{Data, Items, array};
 ghost use Rattle.script_values.specs.Tokens.{first_value};
 ghost use Rattle.script_json.specs.Faults.{placed};
@@ -21,6 +21,7 @@ const MOST_INPUTS: u32 = 65536;
 fn next_input(alloc: Global, draws: u32, index: u32, reader: &mut Reader<'_>) -> Result<Input, Halt>
     ensures read { IfOk result (λ x. (d : Data) × (first_value 125 reader.old ≡ Some (d, reader.new)) × (placed 1 index (input_at 4294967295 draws d) ≡ Ok x)) }
     ensures shorter { OnOk result (length reader.new < length reader.old) }
+    ensures refused { result ≡ Err Halt.Json → first_value 125 reader.old ≡ None }
 {
     let value = read_value(alloc, reader, 125)?;
     match placed_input(u32::MAX, draws, index, &value) {
@@ -33,6 +34,7 @@ fn next_input(alloc: Global, draws: u32, index: u32, reader: &mut Reader<'_>) ->
 pub(super) fn next_inputs(alloc: Global, reader: &mut Reader<'_>) -> Result<Vec<Input>, Halt>
     ensures read { IfOk result (λ v. (ds : Items) × (first_value 126 reader.old ≡ Some (array ds, reader.new)) × (inputs_at 4294967295 0 0 ds ≡ Ok v.items)) }
     ensures shorter { OnOk result (length reader.new < length reader.old) }
+    ensures refused { result ≡ Err Halt.Json → first_value 126 reader.old ≡ None }
     ensures few { IfOk result (λ v. length v.items ≤ 65536) }
 {
     open_array(reader)?;

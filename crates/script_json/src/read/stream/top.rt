@@ -1,8 +1,7 @@
 //! The top object, one member at a time.
 
-ghost use Rattle.std.specs.Prelude.{◌≡◌, ◌∷◌, ◌<◌, length, codes, true, false, Some, Ok, IfOk, IfSome, OnOk};
-ghost use Rattle.std.specs.Str.{bytes_eq};
-ghost use Rattle.json.specs.Token.{begin_object};
+ghost use Rattle.std.specs.Prelude.{◌≡◌, ◌<◌, length, codes, true, false, Some, None, Ok, Err, IfOk, IfSome, OnOk};
+ghost use Rattle.std.specs.Str.{bytes_eq, IsUtf8};
 ghost use Rattle.serde_json.specs.Data.{Data, Members, object, put};
 ghost use Rattle.serde_json.specs.Read.{read as read_text};
 ghost use Rattle.serde_json.specs.View.{members_view};
@@ -41,6 +40,7 @@ pub(crate) struct Found {
 fn take_main(found: &mut Found, alloc: Global, reader: &mut Reader<'_>) -> Result<(), Halt>
     ensures taken { OnOk result (Takes (codes "main") found.old reader.old found.new reader.new) }
     ensures shorter { OnOk result (length reader.new < length reader.old) }
+    ensures refused { result ≡ Err Halt.Json → first_value 126 reader.old ≡ None }
 {
     let frames = next_frames(alloc, reader)?;
     serde_json::put(&mut found.members, alloc, "main", Value::Null)?;
@@ -52,6 +52,7 @@ fn take_main(found: &mut Found, alloc: Global, reader: &mut Reader<'_>) -> Resul
 fn take_inputs(found: &mut Found, alloc: Global, reader: &mut Reader<'_>) -> Result<(), Halt>
     ensures taken { OnOk result (Takes (codes "inputs") found.old reader.old found.new reader.new) }
     ensures shorter { OnOk result (length reader.new < length reader.old) }
+    ensures refused { result ≡ Err Halt.Json → first_value 126 reader.old ≡ None }
 {
     let inputs = next_inputs(alloc, reader)?;
     serde_json::put(&mut found.members, alloc, "inputs", Value::Null)?;
@@ -69,6 +70,7 @@ fn take_other(
     requires { (bytes_eq name.now (codes "main") ≡ false) × (bytes_eq name.now (codes "inputs") ≡ false) }
     ensures taken { OnOk result (Takes name.now found.old reader.old found.new reader.new) }
     ensures shorter { OnOk result (length reader.new < length reader.old) }
+    ensures refused { result ≡ Err Halt.Json → first_value 126 reader.old ≡ None }
 {
     let value = read_value(alloc, reader, 126)?;
     serde_json::put(&mut found.members, alloc, name, value)?;
@@ -84,6 +86,7 @@ fn take_member(
 ) -> Result<(), Halt>
     ensures taken { OnOk result (Takes name.now found.old reader.old found.new reader.new) }
     ensures shorter { OnOk result (length reader.new < length reader.old) }
+    ensures refused { result ≡ Err Halt.Json → first_value 126 reader.old ≡ None }
 {
     if name == "main" {
         take_main(found, alloc, reader)
@@ -96,7 +99,8 @@ fn take_member(
 
 // The top object.
 fn next_top(alloc: Global, reader: &mut Reader<'_>) -> Result<Found, Halt>
-    ensures { IfOk result (λ f. (ms : Members) × (first_value 127 reader.old ≡ Some (object ms, reader.new)) × Holds f ms) }
+    ensures read { IfOk result (λ f. (ms : Members) × (first_value 127 reader.old ≡ Some (object ms, reader.new)) × Holds f ms) }
+    ensures refused { result ≡ Err Halt.Json → first_value 127 reader.old ≡ None }
 {
     match reader.next() {
         Some(Token::BeginObject) => take_members(alloc, reader),
@@ -106,7 +110,8 @@ fn next_top(alloc: Global, reader: &mut Reader<'_>) -> Result<Found, Halt>
 
 // The members of the top object, whose opening brace was taken.
 fn take_members(alloc: Global, reader: &mut Reader<'_>) -> Result<Found, Halt>
-    ensures { IfOk result (λ f. (ms : Members) × (first_members 126 reader.old ≡ Some (ms, reader.new)) × Holds f ms) }
+    ensures read { IfOk result (λ f. (ms : Members) × (first_members 126 reader.old ≡ Some (ms, reader.new)) × Holds f ms) }
+    ensures refused { result ≡ Err Halt.Json → first_members 126 reader.old ≡ None }
 {
     let mut found = Found {
         members: Map::new(alloc),
@@ -171,13 +176,14 @@ fn parts_of(found: Found) -> Option<ScriptParts>
 
 // The parts of the script that a text is.
 fn parts_in(alloc: Global, text: &str) -> Result<ScriptParts, Halt>
-    ensures { IfOk result (λ p. (d : Data) × (read_text text.now ≡ Some d) × (parts_at d ≡ Ok (script_of p)) × (are_short (script_of p).main ≡ true)) }
+    ensures refused { result ≡ Err Halt.Json → read_text text.now ≡ None }
+    ensures read { IfOk result (λ p. (d : Data) × (read_text text.now ≡ Some d) × (parts_at d ≡ Ok (script_of p)) × (are_short (script_of p).main ≡ true)) }
 {
     let mut scratch = Scratch::new(alloc);
     let mut reader = Reader::new(text, &mut scratch)?;
     let found = next_top(alloc, &mut reader)?;
     if reader.next().is_some() {
-        return Err(Halt::Fault);
+        return Err(Halt::Json);
     }
     match parts_of(found) {
         Some(parts) => Ok(parts),
@@ -188,10 +194,11 @@ fn parts_in(alloc: Global, text: &str) -> Result<ScriptParts, Halt>
 /// The parts of the script that these bytes are, where they are one and its lists count as they stand.
 pub(crate) fn streamed_parts(alloc: Global, bytes: &[u8]) -> Result<ScriptParts, Halt>
     ensures text { IfOk result (λ p. IsScriptText bytes.now (script_of p)) }
+    ensures refused { result ≡ Err Halt.Json → IsUtf8 bytes.now → read_text bytes.now ≡ None }
     ensures short { IfOk result (λ p. are_short (script_of p).main ≡ true) }
 {
     match str::from_utf8(bytes) {
         Ok(text) => parts_in(alloc, text),
-        Err(_) => Err(Halt::Fault),
+        Err(_) => Err(Halt::Json),
     }
 }

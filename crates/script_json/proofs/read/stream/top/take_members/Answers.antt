@@ -1,8 +1,8 @@
-use Rattle.std.proofs.Common.{◌≡◌, Some, None, refl, sym, ap, ◌∙◌, arith, rules}
+use Rattle.std.proofs.Common.{◌≡◌, Some, None, ap, arith}
 use Rattle.json.specs.Json.{read_key}
-use Rattle.serde_json.specs.Data.{Members, no_members, put}
+use Rattle.serde_json.specs.Data.{no_members, put}
 use Rattle.serde_json.specs.View.{members_view}
-use Rattle.script_values.proofs.Progress.{members_begin, members_more, members_end}
+use Rattle.script_values.proofs.Progress.{members_begin, members_more, members_end, members_refused, names_refused}
 use Rattle.script_json.proofs.read.stream.top.take_members.Goals as goal
 
 pub members-init : goal.members-init
@@ -20,8 +20,21 @@ members-preserved c =
       one.2 l.invariant.0 l.invariant.2,
     )
 
-pub returns : goal.returns
-returns c =
+pub returns-clause-read : goal.returns-clause-read
+returns-clause-read c =
     let l = c.members in
     let over : read_key l.reader ≡ Some (None, c.next_key.new.self) = grind arith in
     (l.invariant.0, (members_end 126 c.args.reader.now l.invariant.0 l.reader c.next_key.new.self l.invariant.1 over).0, l.invariant.2)
+
+pub returns-in_err-name-clause-refused : goal.returns-in_err-name-clause-refused
+returns-in_err-name-clause-refused c json =
+    let l = c.members in
+    names_refused 126 c.args.reader.now l.invariant.0 l.reader l.invariant.1 c.in_err-name.ensures.value
+
+pub returns-in_err-take_member-clause-refused : goal.returns-in_err-take_member-clause-refused
+returns-in_err-take_member-clause-refused c json =
+    let l = c.members in
+    let k = c.in-Some.name.now in
+    let s = c.next_key.new.self in
+    let named : read_key l.reader ≡ Some (Some k, s) = grind arith in
+    members_refused 126 c.args.reader.now l.invariant.0 l.reader s k l.invariant.1 named (c.take_member.ensures.refused (grind arith))
