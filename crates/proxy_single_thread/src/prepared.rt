@@ -125,7 +125,8 @@ impl Prepared {
     }
 
     /// Makes the images of the tiles that come next, in at most as many parts as there are workers, where that of the
-    /// next one was not made. An error means out of memory, and the images are as they were.
+    /// next one was not made. A single worker makes each image when its end is asked for: nothing is made ahead. An
+    /// error means out of memory, and the images are as they were.
     pub(crate) fn prepare<R: Threads + Sync>(
         &mut self,
         rt: &R,
@@ -137,6 +138,9 @@ impl Prepared {
         ensures stands { ArePrepared core.old.script self.new.images.items }
         ensures same { core.new ≡ core.old }
     {
+        if core.workers() == 1 {
+            return Ok(());
+        }
         let Some(key) = core.next_start()? else {
             return Ok(());
         };
