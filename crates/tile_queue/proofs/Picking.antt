@@ -200,10 +200,3 @@ nothing_in (x ∷ xs) f = absurd (f (omega arith))
 pub head_is : {X : Type 0} (xs : List X) (x : X) → 0 < length xs → x ≡ get_or xs 0 x → xs ≡ x ∷ drop 1 xs
 head_is [] x h e = absurd (omega arith)
 head_is (y ∷ ys) x h e = ap (λ z. z ∷ ys) (sym e)
-
-pub first_key : (c : Choice) (q : Rank) (rest : List Rank) (b : Bool) → c.wanted ≡ q ∷ rest → IsInOrder rank_cmp c.wanted → b ≡ may_start c q → cond b (Some q.key) None ≡ option_map (λ (r : Rank). r.key) (first c)
-first_key c q rest b e o m = by_test b m
-  where
-    by_test : (t : Bool) → t ≡ may_start c q → cond t (Some q.key) None ≡ option_map (λ (r : Rank). r.key) (first c)
-    by_test true k = let f : first c ≡ Some q = first_some c q rest e o ∙ ap (λ z. cond z (Some q) None) (sym k) in rw f refl
-    by_test false k = let f : first c ≡ None = first_some c q rest e o ∙ ap (λ z. cond z (Some q) None) (sym k) in rw f refl

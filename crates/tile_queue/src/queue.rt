@@ -88,18 +88,28 @@ impl RasterQueue {
         Ok(())
     }
 
-    /// The key that starts first; None exactly where no wanted key may start.
-    pub fn first(&self) -> Option<TileKey>
-        ensures key { result ≡ option_map (λ r. r.key) (first_rank self.now) }
-        ensures none { IsNone result ↔ NoneStarts self.now }
+    /// The rank of the key that starts first; None exactly where no wanted key may start.
+    pub fn first_rank(&self) -> Option<Rank>
+        ensures { result ≡ first_rank self.now }
     {
         let Some(rank) = self.wanted.first() else {
             return None;
         };
         if self.may_start(rank.bin) {
-            Some(rank.key)
+            Some(rank)
         } else {
             None
+        }
+    }
+
+    /// The key that starts first; None exactly where no wanted key may start.
+    pub fn first(&self) -> Option<TileKey>
+        ensures key { result ≡ option_map (λ r. r.key) (first_rank self.now) }
+        ensures none { IsNone result ↔ NoneStarts self.now }
+    {
+        match self.first_rank() {
+            Some(rank) => Some(rank.key),
+            None => None,
         }
     }
 
@@ -157,8 +167,8 @@ impl RasterQueue {
         (used + 1).saturating_sub(self.budget as usize)
     }
 
-    // Whether a wanted tile of this bin may start.
-    fn may_start(&self, bin: Bin) -> bool
+    /// Whether a tile of this bin may start where it is wanted.
+    pub fn may_start(&self, bin: Bin) -> bool
         ensures { (q : Ranking) → q.bin ≡ bin → result ≡ choosing.may_start self.now q }
     {
         match bin {
