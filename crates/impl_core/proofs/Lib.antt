@@ -4,7 +4,6 @@ pub mod Prepared
 pub mod SeenSteps
 pub mod InputEvents
 pub mod WantedKeys
-pub mod EmptyTrees
 pub mod LastEntry
 pub mod AllJobs
 pub mod Pictures

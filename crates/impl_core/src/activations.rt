@@ -12,13 +12,12 @@ ghost use Rattle.impl_log.specs.Runs.{past, now, Entered, Plays};
 
 use crate::core_state::Core;
 use crate::drawn::Drawn;
-use crate::outlooks::visible_of;
 use geom::Keys;
 use impl_scroll::Standing;
 use model_history::{Event, Moves};
 use model_scheduler::Kind;
 use std::alloc::AllocError;
-use tile_prepare::{Activation, activation_of};
+use tile_prepare::{Activation, activation_of, visible_of};
 
 impl Core {
     // The visible keys of the pending tree. An error means out of memory.

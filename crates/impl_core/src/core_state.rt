@@ -17,7 +17,7 @@ ghost use Rattle.impl_core.specs.Replies as replies;
 ghost use Rattle.impl_core.specs.Replies.{next_key, told_frame, is_played};
 
 use crate::drawn::Drawn;
-use crate::outlooks::look;
+use crate::outlooks::{look, look_for_next};
 use geom::{Keys, TileKey};
 use impl_host::ImplHost;
 use impl_log::{Log, Progress};
@@ -225,13 +225,22 @@ impl Core {
         ensures same { self.new ≡ self.old }
     {
         self.log.is_legal();
-        look(self.alloc, self.log.script(), &self.host, &mut self.tiles)?;
+        look_for_next(self.alloc, self.log.script(), &self.host, &mut self.tiles)?;
         Ok(self.tiles.next_start())
     }
 
-    /// Makes the raster queue, so that the next questions for a key cost less. An error means out of memory; the
-    /// run stays in any case.
+    /// Makes the raster queue where the ranks of all tiles are known, so that the next questions for a key cost less.
+    /// An error means out of memory; the run stays in any case.
     pub(crate) fn refresh(&mut self) -> Result<(), AllocError>
+        ensures { self.new ≡ self.old }
+    {
+        self.log.is_legal();
+        look_for_next(self.alloc, self.log.script(), &self.host, &mut self.tiles)?;
+        self.tiles.refresh()
+    }
+
+    /// Makes the raster queue of all tiles. An error means out of memory; the run stays in any case.
+    pub(crate) fn refresh_all(&mut self) -> Result<(), AllocError>
         ensures { self.new ≡ self.old }
     {
         self.log.is_legal();

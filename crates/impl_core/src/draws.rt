@@ -10,11 +10,11 @@ ghost use Rattle.impl_core.specs.Replies.{Draws, DrawsScene, IsPicture};
 
 use crate::core_state::Core;
 use crate::drawn::Drawn;
-use crate::outlooks::visible_of;
 use impl_drawing::{Drawing, draw};
 use model_history::Event;
 use model_scheduler::Kind;
 use std::alloc::AllocError;
+use tile_prepare::visible_of;
 use viz_scene::Scene;
 
 impl Core {

@@ -7,7 +7,7 @@ ghost use Rattle.impl_core.specs.Replies.{next_key, StartsKey, Starts};
 
 use crate::core_state::Core;
 use crate::drawn::Drawn;
-use crate::outlooks::look;
+use crate::outlooks::look_for_next;
 use geom::TileKey;
 use model_history::Event;
 use std::alloc::AllocError;
@@ -23,7 +23,7 @@ impl Core {
         ensures err { OnErr result (self.new ≡ self.old) }
     {
         self.log.is_legal();
-        look(self.alloc, self.log.script(), &self.host, &mut self.tiles)?;
+        look_for_next(self.alloc, self.log.script(), &self.host, &mut self.tiles)?;
         let evicted = self.tiles.evicted(key)?;
         let evicted_keys = evicted.copy()?;
         self.tiles.reserve()?;

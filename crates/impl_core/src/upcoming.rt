@@ -64,7 +64,7 @@ impl Core {
         ensures upcoming { IfOk result (λ jobs. AreUpcoming self.old most jobs.items) }
         ensures same { self.new ≡ self.old }
     {
-        self.refresh()?;
+        self.refresh_all()?;
         let ranks = self.wanted(most)?;
         self.jobs_of(most, ranks.as_slice())
     }

@@ -7,9 +7,12 @@ use Rattle.geom.specs.KeyLists.{has_key, AreDistinctKeys}
 use Rattle.tile_priority.specs.declared.rank.Rank.{Rank}
 use Rattle.tile_priority.specs.Tiles.{Tile}
 use Rattle.tile_priority.specs.Ordered.{In}
+use Rattle.tile_priority.specs.Choice.{Choice, first, evicted}
 use Rattle.tile_priority.specs.Alike.{Alike}
 use Rattle.tile_priority.proofs.InOrder.{in_filter, filter_in}
 use Rattle.tile_priority.proofs.Members.{in_filter_map, filter_map_in}
+use Rattle.tile_priority.proofs.Choosing.{order_is_free}
+use Rattle.tile_priority.proofs.StayAlike.{alike_stay}
 use Rattle.tile_queue.specs.Queues.{rank_key, tile_key, EachKeyOnce}
 use Rattle.tile_store.specs.Stores.{Store, is_ready, is_in_flight}
 use Rattle.tile_store.proofs.StoreWords.{len_by_names}
@@ -29,9 +32,10 @@ use Rattle.model_steps.proofs.SameKeys.{rebuilt_alike}
 use Rattle.tile_manager.specs.declared.outlook.Outlook.{Outlook}
 use Rattle.tile_manager.specs.declared.outlook.Outlook.TheVariants as outlook
 use Rattle.tile_manager.specs.Choices.{Ranked, store_lacks, tile_among, choice_among}
-use Rattle.tile_manager.specs.Managers.{Managed, Manages, AreRanksAt, live_ranks, Foresees, foreseen, is_seen}
+use Rattle.tile_manager.specs.Managers.{Managed, Manages, AreRanksAt, live_ranks, Foresees, foreseen, is_seen, TellsNext}
 use Rattle.tile_manager.proofs.RankedKeys.{rank_is}
 use Rattle.tile_manager.proofs.ReadyKeys.{keys_once, keys_ready}
+use Rattle.tile_manager.proofs.VisibleParts.{shows_first, shows_evicted}
 
 -- the ranks of the missing keys
 
@@ -116,5 +120,32 @@ module _ (s : ScriptModel) (n : ℕ) (h : List Entry) (legal : Legal s n h) (m :
     where
       by_outlook : (o : Outlook) → is_seen o ≡ true → Foresees o (choice s h) (live_ranks s h) → Alike (foreseen m.store m.pinned o) (choice s h)
       by_outlook (outlook.Queue queue) seen f = f
+      by_outlook (outlook.Visible queue) seen f = absurd cc
       by_outlook (outlook.Ranks r) seen f = among_alike r f
       by_outlook outlook.Unseen seen f = absurd cc
+
+  -- what starts first, and what is evicted for it, where that is told
+
+  alike_first : (c : Choice) → Alike c (choice s h) → first c ≡ first (choice s h)
+  alike_first c a = order_is_free.first c (choice s h) (alike_stay.same_choice c (choice s h) a)
+
+  alike_evicted : (c : Choice) (r : Rank) → Alike c (choice s h) → evicted c r ≡ evicted (choice s h) r
+  alike_evicted c r a = order_is_free.evicted c (choice s h) r (alike_stay.same_choice c (choice s h) a)
+
+  pub foreseen_first : TellsNext m.outlook → first (foreseen m.store m.pinned m.outlook) ≡ first (choice s h)
+  foreseen_first tells = by_outlook m.outlook tells holds.outlook
+    where
+      by_outlook : (o : Outlook) → TellsNext o → Foresees o (choice s h) (live_ranks s h) → first (foreseen m.store m.pinned o) ≡ first (choice s h)
+      by_outlook (outlook.Queue queue) tells f = alike_first queue f
+      by_outlook (outlook.Visible queue) tells f = shows_first queue (choice s h) f tells
+      by_outlook (outlook.Ranks r) tells f = alike_first (choice_among m.store m.pinned r) (among_alike r f)
+      by_outlook outlook.Unseen tells f = absurd tells
+
+  pub foreseen_evicted : (r : Rank) → TellsNext m.outlook → evicted (foreseen m.store m.pinned m.outlook) r ≡ evicted (choice s h) r
+  foreseen_evicted r tells = by_outlook m.outlook tells holds.outlook
+    where
+      by_outlook : (o : Outlook) → TellsNext o → Foresees o (choice s h) (live_ranks s h) → evicted (foreseen m.store m.pinned o) r ≡ evicted (choice s h) r
+      by_outlook (outlook.Queue queue) tells f = alike_evicted queue r f
+      by_outlook (outlook.Visible queue) tells f = shows_evicted queue (choice s h) r f
+      by_outlook (outlook.Ranks k) tells f = alike_evicted (choice_among m.store m.pinned k) r (among_alike k f)
+      by_outlook outlook.Unseen tells f = absurd tells

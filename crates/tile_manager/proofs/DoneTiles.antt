@@ -1,5 +1,5 @@
 -- A manager is handed a tile that was made.
-use Rattle.std.proofs.Common.{◌≡◌, ℕ, ◌≤◌, Bool, true, false, cond, not, ◌&&◌, ◌||◌, Option, Some, None, is_some, List, [], ◌∷◌, length, map, refl, sym, ◌∙◌, ap, subst, arith}
+use Rattle.std.proofs.Common.{◌≡◌, ℕ, ◌≤◌, ◌+◌, Bool, true, false, cond, not, ◌&&◌, ◌||◌, Option, Some, None, is_some, List, [], ◌∷◌, length, map, refl, sym, ◌∙◌, ap, subst, arith}
 use Rattle.std.specs.Prelude.{IfSome}
 use Rattle.std.specs.List.{filter}
 use Rattle.std.specs.Ordering.{eq_by_cmp}
@@ -7,7 +7,9 @@ use Rattle.geom.specs.declared.tile.TileKey.{TileKey}
 use Rattle.geom.specs.KeyOrder.{key_cmp}
 use Rattle.geom.specs.KeyLists.{same_key, has_key}
 use Rattle.geom.proofs.KeyLists.{one_key, same_ties}
+use Rattle.tile_priority.specs.declared.rank.Rank.{Rank}
 use Rattle.tile_priority.specs.Tiles.{Tile}
+use Rattle.tile_priority.specs.Ordered.{In}
 use Rattle.tile_priority.specs.Choice.{Choice}
 use Rattle.tile_priority.specs.Alike.{Alike}
 use Rattle.tile_priority.specs.Alike as alike
@@ -23,7 +25,7 @@ use Rattle.model_history.specs.declared.history.Entry.{Entry}
 use Rattle.model_history.specs.Scripts.{ScriptModel}
 use Rattle.model_history.specs.Legal.{Legal}
 use Rattle.model_history.specs.Tiles.{live_keys, made_so_far, in_flight, ready}
-use Rattle.model_history.specs.Ranking.{choice, rank, is_unmade, ready_tile}
+use Rattle.model_history.specs.Ranking.{choice, rank, is_unmade, wanted, ready_tile}
 use Rattle.model_history.proofs.BoolFacts.{not_both, is_false, and_right, not_true}
 use Rattle.model_history.proofs.KeyFacts.{has_in, in_has, has_without}
 use Rattle.model_history.proofs.Pins.{ready_made}
@@ -34,9 +36,11 @@ use Rattle.model_steps.specs.ShownKeys.{KeyShows}
 use Rattle.model_steps.proofs.Dones.{flies, ready_done, done_live, done_dead}
 use Rattle.tile_manager.specs.declared.outlook.Outlook.{Outlook}
 use Rattle.tile_manager.specs.declared.outlook.Outlook.TheVariants as outlook
+use Rattle.tile_manager.specs.Visible.{is_visible, is_hidden, without_shown, Shows, finished_hidden}
 use Rattle.tile_manager.specs.Managers.{Managed, Manages, Foresees, live_ranks, tile_made}
 use Rattle.tile_manager.specs.inner.Outlooks.{MayFinish, HasFinished}
 use Rattle.tile_manager.proofs.Bools.{some_put, taken_away, is_some_if, some_key}
+use Rattle.tile_manager.proofs.VisibleParts.{shows_finished, shows_alike, alike_part}
 
 module _ (s : ScriptModel) (n : ℕ) (h : List Entry) (a w : ℕ) (i : Image) (legal : Legal s n (done a w i.key ∷ h)) (m : Managed) (holds : Manages s h m) where
   abbrev key : TileKey
@@ -48,16 +52,16 @@ module _ (s : ScriptModel) (n : ℕ) (h : List Entry) (a w : ℕ) (i : Image) (l
   pub is_flying : is_in_flight m.store key ≡ true
   is_flying = holds.in_flight key ∙ flying
 
-  module _ (queue : Choice) (same_now : Alike queue (choice s h)) where
-    pub some_flies : 1 ≤ queue.in_flight
-    some_flies = let e : queue.in_flight ≡ length (in_flight h) = same_now.in_flight in let l = some_key (in_flight h) key flying in omega (arith, e, l)
+  some_flying : 1 ≤ length (in_flight h)
+  some_flying = some_key (in_flight h) key flying
 
-    -- the key is neither wanted nor ready
+  -- the key is neither wanted nor ready in a choice of what is wanted and ready
 
+  module _ (queue : Choice) (wants : (r : Rank) → In r queue.wanted → In r (wanted s h)) (tiles : (t : Tile) → In t queue.ready → In t (map (ready_tile s h) (ready s h))) where
     not_wanted : has_key (map rank_key queue.wanted) key ≡ false
     not_wanted = is_false (has_key (map rank_key queue.wanted) key) (λ t.
         let (r, j, e) = in_map rank_key key queue.wanted (in_has (map rank_key queue.wanted) key t) in
-        let (k, l, o) = in_filter_map (rank s h) r (filter (is_unmade s h) (live_keys s h)) (same_now.wanted.there r j) in
+        let (k, l, o) = in_filter_map (rank s h) r (filter (is_unmade s h) (live_keys s h)) (wants r j) in
         let (x, u) = in_filter (is_unmade s h) k (live_keys s h) l in
         let is : k ≡ key = sym (key_of_rank k (rank s h k) r (key_ranked s h k) o) ∙ e in
         not_both (has_key (in_flight h) k) (ap (has_key (in_flight h)) is ∙ flying) (not_true (has_key (in_flight h) k) (and_right (not (has_key (ready s h) k)) (not (has_key (in_flight h) k)) u)))
@@ -65,21 +69,25 @@ module _ (s : ScriptModel) (n : ℕ) (h : List Entry) (a w : ℕ) (i : Image) (l
     not_ready : has_key (map tile_key queue.ready) key ≡ false
     not_ready = is_false (has_key (map tile_key queue.ready) key) (λ t.
         let (u, j, e) = in_map tile_key key queue.ready (in_has (map tile_key queue.ready) key t) in
-        let (k, l, v) = in_map (ready_tile s h) u (ready s h) (same_now.ready.there u j) in
+        let (k, l, v) = in_map (ready_tile s h) u (ready s h) (tiles u j) in
         let is : k ≡ key = ap (λ (z : Tile). z.key) v ∙ e in
         not_both (has_key (made_so_far h) key) (ready_made s h key (ap (has_key (ready s h)) (sym is) ∙ has_in (ready s h) k l)) ((tile_course s n h legal.0).apart key flying))
 
     pub is_new : IsNew queue key
     is_new = record { not_wanted = not_wanted; not_ready = not_ready }
 
-    pub new_tile : (tile : Option Tile) → tile ≡ tile_made s h key → IfSome tile (λ t. IsNew queue t.key)
+    new_tile : (tile : Option Tile) → tile ≡ tile_made s h key → IfSome tile (λ t. IsNew queue t.key)
     new_tile tile e = subst (λ o. IfSome o (λ t. IsNew queue t.key)) (sym e) (by_live (has_key (live_keys s h) key))
       where
         by_live : (b : Bool) → IfSome (cond b (Some (ready_tile s h key)) None) (λ t. IsNew queue t.key)
         by_live true = is_new
         by_live false = tt
 
-    pub finished_then : (live : Bool) → has_key (live_keys s h) key ≡ live → (next : Choice) → Alike next (alike.finished queue (cond live (Some (ready_tile s h key)) None)) → Alike next (choice s (done a w key ∷ h))
+  module _ (queue : Choice) (same_now : Alike queue (choice s h)) where
+    some_flies : 1 ≤ queue.in_flight
+    some_flies = let e : queue.in_flight ≡ length (in_flight h) = same_now.in_flight in let l = some_flying in omega (arith, e, l)
+
+    finished_then : (live : Bool) → has_key (live_keys s h) key ≡ live → (next : Choice) → Alike next (alike.finished queue (cond live (Some (ready_tile s h key)) None)) → Alike next (choice s (done a w key ∷ h))
     finished_then true e next same =
         alike_stay.through next (alike.finished queue (Some (ready_tile s h key))) (choice s (done a w key ∷ h)) same
         (alike_stay.through (alike.finished queue (Some (ready_tile s h key))) (alike.finished (choice s h) (Some (ready_tile s h key))) (choice s (done a w key ∷ h))
@@ -89,11 +97,29 @@ module _ (s : ScriptModel) (n : ℕ) (h : List Entry) (a w : ℕ) (i : Image) (l
         (alike_stay.through (alike.finished queue None) (alike.finished (choice s h) None) (choice s (done a w key ∷ h))
         (alike_stay.finished queue (choice s h) None same_now) (done_dead s n h a w key legal e))
 
+  module _ (part : Choice) (shows : Shows part (choice s h)) where
+    some_take_room : 1 ≤ part.in_flight
+    some_take_room = let e : part.in_flight ≡ length (in_flight h) + length (filter (λ t. is_visible t.rank) (choice s h).ready) = shows.in_flight in let l = some_flying in omega (arith, e, l)
+
+    some_tiles : (t : Tile) → In t part.ready → In t (choice s h).ready
+    some_tiles t i = (in_filter is_hidden t (choice s h).ready (shows.ready.there t i)).0
+
+    shown_finished : (live : Bool) → has_key (live_keys s h) key ≡ live → (next : Choice) → Alike next (finished_hidden part (cond live (Some (ready_tile s h key)) None)) → Shows next (choice s (done a w key ∷ h))
+    shown_finished true e next same =
+        shows_alike next (alike.finished (choice s h) (Some (ready_tile s h key))) (choice s (done a w key ∷ h))
+        (alike_part next (finished_hidden part (Some (ready_tile s h key))) (without_shown (alike.finished (choice s h) (Some (ready_tile s h key)))) same (shows_finished (choice s h) some_flying part (Some (ready_tile s h key)) shows))
+        (done_live s n h a w key legal e)
+    shown_finished false e next same =
+        shows_alike next (alike.finished (choice s h) None) (choice s (done a w key ∷ h))
+        (alike_part next (finished_hidden part None) (without_shown (alike.finished (choice s h) None)) same (shows_finished (choice s h) some_flying part None shows))
+        (done_dead s n h a w key legal e)
+
   pub may_finish : (tile : Option Tile) → tile ≡ tile_made s h key → MayFinish m.outlook tile
   may_finish tile e = by_outlook m.outlook holds.outlook
     where
       by_outlook : (o : Outlook) → Foresees o (choice s h) (live_ranks s h) → MayFinish o tile
-      by_outlook (outlook.Queue queue) f = (some_flies queue f, new_tile queue f tile e)
+      by_outlook (outlook.Queue queue) f = (some_flies queue f, new_tile queue f.wanted.there f.ready.there tile e)
+      by_outlook (outlook.Visible queue) f = (some_take_room queue f, new_tile queue f.among (some_tiles queue f) tile e)
       by_outlook (outlook.Ranks r) f = tt
       by_outlook outlook.Unseen f = tt
 
@@ -102,8 +128,13 @@ module _ (s : ScriptModel) (n : ℕ) (h : List Entry) (a w : ℕ) (i : Image) (l
     where
       by_outlook : (o : Outlook) → Foresees o (choice s h) (live_ranks s h) → (next : Outlook) → HasFinished o (tile_made s h key) next → Foresees next (choice s (done a w key ∷ h)) (live_ranks s (done a w key ∷ h))
       by_outlook (outlook.Queue queue) f (outlook.Queue d) same = finished_then queue f (has_key (live_keys s h) key) refl d same
+      by_outlook (outlook.Queue queue) f (outlook.Visible d) same = absurd same
       by_outlook (outlook.Queue queue) f (outlook.Ranks r) same = absurd same
       by_outlook (outlook.Queue queue) f outlook.Unseen same = absurd same
+      by_outlook (outlook.Visible queue) f (outlook.Visible d) same = shown_finished queue f (has_key (live_keys s h) key) refl d same
+      by_outlook (outlook.Visible queue) f (outlook.Queue d) same = absurd same
+      by_outlook (outlook.Visible queue) f (outlook.Ranks r) same = absurd same
+      by_outlook (outlook.Visible queue) f outlook.Unseen same = absurd same
       by_outlook (outlook.Ranks r) f next same = subst (λ o. Foresees o (choice s (done a w key ∷ h)) (live_ranks s (done a w key ∷ h))) (sym same) (record { members = f.members; budget_is = f.budget_is })
       by_outlook outlook.Unseen f next same = subst (λ o. Foresees o (choice s (done a w key ∷ h)) (live_ranks s (done a w key ∷ h))) (sym same) tt
 

@@ -12,3 +12,5 @@ pub mod Counts
 pub mod AlikeChoices
 pub mod SeenOutlooks
 pub mod ReadyRanks
+pub mod VisibleParts
+pub mod ShownTiles

@@ -1,3 +1,4 @@
 pub mod Choices
+pub mod Visible
 pub mod Managers
 pub mod inner

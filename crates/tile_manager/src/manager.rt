@@ -1,6 +1,6 @@
 //! The tile manager.
 
-ghost use Rattle.std.specs.Prelude.{◌≡◌, ℕ, ◌≤◌, not, true, false, List, [], ◌∷◌, Some, take, option_map, IfOk, OnOk, OnErr};
+ghost use Rattle.std.specs.Prelude.{◌≡◌, ℕ, ◌≤◌, not, true, false, List, [], ◌∷◌, Some, take, filter, option_map, IfOk, OnOk, OnErr};
 ghost use Rattle.std.specs.List.{list_all};
 ghost use Rattle.geom.specs.declared.tile.TileKey.{TileKey as Key};
 ghost use Rattle.geom.specs.KeyLists.{has_key, AreDistinctKeys};
@@ -9,7 +9,7 @@ ghost use Rattle.tile_priority.specs.declared.rank.Rank.{Rank as Ranking};
 ghost use Rattle.tile_priority.specs.Ranks.{rank_cmp};
 ghost use Rattle.tile_priority.specs.Ordered.{IsInOrder, in_order};
 ghost use Rattle.page_layers.specs.declared.moves.Move.{Move};
-ghost use Rattle.tile_queue.specs.Queues.{rank_key};
+ghost use Rattle.tile_queue.specs.Queues.{rank_key, EachKeyOnce};
 ghost use Rattle.tile_store.specs.Stores.{image_of, is_ready};
 ghost use Rattle.model_history.specs.declared.history.Entry.{Entry};
 ghost use Rattle.model_history.specs.Scripts.{ScriptModel};
@@ -19,11 +19,14 @@ ghost use Rattle.model_history.specs.Tiles.{pending_tree, keys_of, tiles_used, r
 ghost use Rattle.model_history.specs.Ranking.{rank_to_start, evicted_for, wanted};
 ghost use Rattle.model_steps.specs.Events.{start, done, activate};
 ghost use Rattle.model_steps.specs.ShownKeys.{KeyShows};
-ghost use Rattle.tile_manager.specs.Managers.{Manages, StartsNow, DoneNow, HaveSameTiles, AreRanksAt, is_seen, tile_made};
+ghost use Rattle.tile_manager.specs.Choices.{store_lacks};
+ghost use Rattle.tile_manager.specs.Managers.{Manages, StartsNow, DoneNow, HaveSameTiles, AreRanksAt, AreVisibleAt, is_seen, is_unseen, TellsNext, tile_made};
 
+use crate::missing::missing_keys;
 use crate::outlook::Outlook;
 use crate::pins::Pins;
 use crate::ranks::Ranks;
+use crate::visible::visible_queue;
 use geom::{Keys, TileKey};
 use std::alloc::{AllocError, Global};
 use std::marker::Model;
@@ -34,7 +37,8 @@ use tile_raster::TileImage;
 use tile_store::TileStore;
 
 /// The tiles of a run: the ready keys with their images, the keys in flight, the pinned keys, and what tells the
-/// next tile and what is evicted for it: the raster queue, or the ranks of which it is to be made.
+/// next tile and what is evicted for it: the raster queue, of all tiles or of the visible ones, or the ranks of which
+/// it is to be made.
 ///
 /// Contracts say for which runs it stands, by the script and the past: `Manages`.
 #[derive(Drop)]
@@ -110,16 +114,31 @@ impl TileManager {
         })
     }
 
-    /// Whether it was looked where the trees stand now: what is to be made first is known.
+    /// Whether it was looked at all tiles where the trees stand now: all ranks are known.
     pub fn is_seen(&self) -> bool
         ensures { result ≡ is_seen self.now.outlook }
     {
         self.outlook.is_seen()
     }
 
+    /// Whether it was looked at no tile where the trees stand now.
+    pub fn is_unseen(&self) -> bool
+        ensures { result ≡ is_unseen self.now.outlook }
+    {
+        self.outlook.is_unseen()
+    }
+
+    /// Whether what was looked at tells which key starts next. It does where all ranks are known, and where those of
+    /// the visible tiles are known and a visible tile is missing, or no other may start.
+    pub fn tells_next(&self) -> bool
+        ensures { result ≡ true → TellsNext self.now.outlook }
+    {
+        self.outlook.tells_next()
+    }
+
     /// The key that starts next; None exactly where none may start.
     pub fn next_start(&self) -> Option<TileKey>
-        requires { is_seen self.now.outlook ≡ true }
+        requires { TellsNext self.now.outlook }
         ensures { (s : ScriptModel) (workers : ℕ) (h : List Entry) → Legal s workers h → Manages s h self.now → result ≡ option_map rank_key (rank_to_start s h) }
     {
         self.outlook.first(&self.store, &self.pins)
@@ -127,7 +146,7 @@ impl TileManager {
 
     /// The keys that are evicted for the next one, the worst first. An error means out of memory.
     pub fn evicted(&self, key: TileKey) -> Result<Keys, AllocError>
-        requires { is_seen self.now.outlook ≡ true }
+        requires { TellsNext self.now.outlook }
         ensures { (s : ScriptModel) (workers : ℕ) (h : List Entry) (r : Ranking) → Legal s workers h → Manages s h self.now → rank_to_start s h ≡ Some r → r.key ≡ key → IfOk result (λ keys. keys ≡ evicted_for s h r) }
     {
         self.outlook.evicted(&self.store, &self.pins, key)
@@ -164,6 +183,14 @@ impl TileManager {
         all_ready(&self.store, keys, self.outlook.at_hand())
     }
 
+    /// Those of the keys that have no image and whose image is not being made, in their order. An error means out of
+    /// memory.
+    pub fn missing(&self, alloc: Global, keys: &Keys) -> Result<Keys, AllocError>
+        ensures { IfOk result (λ missing. missing ≡ filter (store_lacks self.now.store) keys.now) }
+    {
+        missing_keys(alloc, &self.store, keys.as_slice())
+    }
+
     /// The keys that have an image, each once, in key order. An error means out of memory.
     pub fn ready_keys(&self) -> Result<Keys, AllocError>
         ensures order { IfOk result (λ keys. IsInOrder key_cmp keys) }
@@ -184,7 +211,7 @@ impl TileManager {
     pub fn reserve(&mut self) -> Result<(), AllocError>
         ensures room { OnOk result (1 ≤ self.new.store.spare) }
         ensures same { (s : ScriptModel) (h : List Entry) → Manages s h self.old → Manages s h self.new }
-        ensures seen { is_seen self.new.outlook ≡ is_seen self.old.outlook }
+        ensures outlook { self.new.outlook ≡ self.old.outlook }
         ensures refused { OnErr result (self.new ≡ self.old) }
     {
         self.store.reserve()
@@ -195,6 +222,7 @@ impl TileManager {
     #[tactic(auto, using(crate::proofs::SeenOutlooks::started_seen))]
     pub fn start(&mut self, key: TileKey, evicted: &Keys)
         requires room { 1 ≤ self.old.store.spare }
+        requires told { TellsNext self.old.outlook }
         requires next { StartsNow self.old key evicted.now }
         ensures tiles { (s : ScriptModel) (workers : ℕ) (h : List Entry) (actor w : ℕ) → Manages s h self.old → Legal s workers (start actor w key evicted.now ∷ h) → Manages s (start actor w key evicted.now ∷ h) self.new }
         ensures seen { is_seen self.new.outlook ≡ is_seen self.old.outlook }
@@ -222,6 +250,24 @@ impl TileManager {
         ensures seen { is_seen self.new.outlook ≡ true }
     {
         self.outlook = Outlook::Ranks(ranks);
+    }
+
+    /// Takes the ranks of the visible tiles that are missing, and the ready tiles that are not visible, where the ranks
+    /// of all tiles are not known. An error means out of memory, and the manager is as it was.
+    pub fn foresee(
+        &mut self,
+        alloc: Global,
+        wanted: &[Rank],
+        hidden: &[ReadyTile],
+        budget: u32,
+    ) -> Result<(), AllocError>
+        requires { EachKeyOnce wanted.now hidden.now }
+        ensures same { (s : ScriptModel) (workers : ℕ) (h : List Entry) → Legal s workers h → s.budget ≡ budget → Manages s h self.old → AreVisibleAt s h wanted.now hidden.now → Manages s h self.new }
+        ensures refused { OnErr result (self.new ≡ self.old) }
+    {
+        let queue = visible_queue(alloc, &self.store, wanted, hidden, budget)?;
+        self.outlook = Outlook::Visible(queue);
+        Ok(())
     }
 
     /// Forgets the ranks, for a past after which the same keys are ready, in flight and pinned: they are to be

@@ -1,15 +1,16 @@
-//! What tells the next tile: a queue, or the ranks of which one is to be made.
+//! What tells the next tile: a queue, of all tiles or of the visible ones, or the ranks of which one is to be made.
 
 ghost use Rattle.std.specs.Prelude.{◌≡◌, true, map, take, option_map, IfOk};
 ghost use Rattle.tile_priority.specs.Ranks.{rank_cmp};
 ghost use Rattle.tile_priority.specs.Ordered.{in_order};
 ghost use Rattle.tile_priority.specs.Choice as choosing;
 ghost use Rattle.tile_queue.specs.Queues.{rank_key, AreEvictedFor};
-ghost use Rattle.tile_manager.specs.Managers.{foreseen, is_seen};
+ghost use Rattle.tile_manager.specs.Managers.{foreseen, is_seen, is_unseen, TellsNext};
 ghost use Rattle.tile_manager.specs.inner.Outlooks.{MayStartNext, HasStarted, MayFinish, HasFinished};
 
 use crate::pins::Pins;
 use crate::ranks::Ranks;
+use crate::visible::{finish_hidden, tells_first};
 use geom::{Keys, TileKey};
 use std::alloc::AllocError;
 use tile_priority::{Rank, ReadyTile};
@@ -18,8 +19,10 @@ use tile_store::TileStore;
 
 /// What tells the next tile, and what is evicted for it.
 pub(crate) enum Outlook {
-    /// a queue
+    /// a queue of all tiles
     Queue(RasterQueue),
+    /// a queue of the visible tiles alone
+    Visible(RasterQueue),
     /// the ranks of which a queue is to be made
     Ranks(Ranks),
     /// nothing: it was not looked yet where the trees stand now
@@ -31,6 +34,7 @@ impl Drop for Outlook {
     fn drop(self) {
         match self {
             Outlook::Queue(_) => {}
+            Outlook::Visible(_) => {}
             Outlook::Ranks(_) => {}
             Outlook::Unseen => {}
         }
@@ -38,23 +42,45 @@ impl Drop for Outlook {
 }
 
 impl Outlook {
-    /// Whether it was looked where the trees stand now.
+    /// Whether it was looked at all tiles where the trees stand now.
     pub(crate) fn is_seen(&self) -> bool
         ensures { result ≡ is_seen self.now }
     {
         match self {
             Outlook::Queue(_) | Outlook::Ranks(_) => true,
+            Outlook::Visible(_) | Outlook::Unseen => false,
+        }
+    }
+
+    /// Whether it was looked at none of them.
+    pub(crate) fn is_unseen(&self) -> bool
+        ensures { result ≡ is_unseen self.now }
+    {
+        match self {
+            Outlook::Queue(_) | Outlook::Visible(_) | Outlook::Ranks(_) => false,
+            Outlook::Unseen => true,
+        }
+    }
+
+    /// Whether what was looked at tells which tile starts first.
+    pub(crate) fn tells_next(&self) -> bool
+        ensures { result ≡ true → TellsNext self.now }
+    {
+        match self {
+            Outlook::Queue(_) | Outlook::Ranks(_) => true,
+            Outlook::Visible(queue) => tells_first(queue),
             Outlook::Unseen => false,
         }
     }
 
     /// The key that starts next; None exactly where none may start. Takes no memory.
     pub(crate) fn first(&self, store: &TileStore, pins: &Pins) -> Option<TileKey>
-        requires { is_seen self.now ≡ true }
+        requires { TellsNext self.now }
         ensures { result ≡ option_map rank_key (choosing.first (foreseen store.now pins.now self.now)) }
     {
         match self {
             Outlook::Queue(queue) => queue.first(),
+            Outlook::Visible(queue) => queue.first(),
             Outlook::Ranks(ranks) => ranks.first(store, pins),
             Outlook::Unseen => unreachable!(),
         }
@@ -64,6 +90,7 @@ impl Outlook {
     pub(crate) fn at_hand(&self) -> Option<TileKey> {
         match self {
             Outlook::Queue(queue) => queue.first(),
+            Outlook::Visible(queue) => queue.first(),
             Outlook::Ranks(_) | Outlook::Unseen => None,
         }
     }
@@ -75,11 +102,12 @@ impl Outlook {
         pins: &Pins,
         key: TileKey,
     ) -> Result<Keys, AllocError>
-        requires { is_seen self.now ≡ true }
+        requires { TellsNext self.now }
         ensures { IfOk result (AreEvictedFor (foreseen store.now pins.now self.now) key) }
     {
         match self {
             Outlook::Queue(queue) => queue.evicted(key),
+            Outlook::Visible(queue) => queue.evicted(key),
             Outlook::Ranks(ranks) => ranks.evicted(store, pins, key),
             Outlook::Unseen => unreachable!(),
         }
@@ -98,7 +126,7 @@ impl Outlook {
         match self {
             Outlook::Queue(queue) => queue.wanted(most),
             Outlook::Ranks(ranks) => ranks.wanted(store, pins, most),
-            Outlook::Unseen => unreachable!(),
+            Outlook::Visible(_) | Outlook::Unseen => unreachable!(),
         }
     }
 
@@ -109,6 +137,7 @@ impl Outlook {
     {
         match self {
             Outlook::Queue(queue) => queue.started(key, evicted),
+            Outlook::Visible(queue) => queue.started(key, evicted),
             Outlook::Ranks(_) | Outlook::Unseen => {}
         }
     }
@@ -120,6 +149,7 @@ impl Outlook {
     {
         match self {
             Outlook::Queue(queue) => queue.finished(tile),
+            Outlook::Visible(queue) => finish_hidden(queue, tile),
             Outlook::Ranks(_) | Outlook::Unseen => {}
         }
     }

@@ -6,10 +6,12 @@ use Rattle.tile_priority.specs.Alike.{Alike, choice_after_start, finished}
 use Rattle.tile_queue.specs.Queues.{IsNew, MayStartWith}
 use Rattle.tile_manager.specs.declared.outlook.Outlook.{Outlook}
 use Rattle.tile_manager.specs.declared.outlook.Outlook.TheVariants as outlook
+use Rattle.tile_manager.specs.Visible.{finished_hidden}
 
 -- the key may start, where these keys are evicted for it
 abbrev pub MayStartNext : Outlook → TileKey → List TileKey → Type 0
 MayStartNext (outlook.Queue c) q ks = MayStartWith c q ks
+MayStartNext (outlook.Visible c) q ks = MayStartWith c q ks
 MayStartNext (outlook.Ranks r) q ks = Unit {0}
 MayStartNext outlook.Unseen q ks = Unit {0}
 
@@ -17,12 +19,15 @@ MayStartNext outlook.Unseen q ks = Unit {0}
 abbrev pub HasStarted : Outlook → TileKey → List TileKey → Outlook → Type 0
 HasStarted (outlook.Queue c) q ks (outlook.Queue d) = Alike d (choice_after_start c q ks)
 HasStarted (outlook.Queue c) q ks _ = ⊥
+HasStarted (outlook.Visible c) q ks (outlook.Visible d) = Alike d (choice_after_start c q ks)
+HasStarted (outlook.Visible c) q ks _ = ⊥
 HasStarted (outlook.Ranks r) q ks new = new ≡ outlook.Ranks r
 HasStarted outlook.Unseen q ks new = new ≡ outlook.Unseen
 
 -- a tile in flight may be made: where it is given, its key was neither wanted nor ready
 abbrev pub MayFinish : Outlook → Option Tile → Type 0
 MayFinish (outlook.Queue c) tile = (1 ≤ c.in_flight) × IfSome tile (λ t. IsNew c t.key)
+MayFinish (outlook.Visible c) tile = (1 ≤ c.in_flight) × IfSome tile (λ t. IsNew c t.key)
 MayFinish (outlook.Ranks r) tile = Unit {0}
 MayFinish outlook.Unseen tile = Unit {0}
 
@@ -30,5 +35,7 @@ MayFinish outlook.Unseen tile = Unit {0}
 abbrev pub HasFinished : Outlook → Option Tile → Outlook → Type 0
 HasFinished (outlook.Queue c) tile (outlook.Queue d) = Alike d (finished c tile)
 HasFinished (outlook.Queue c) tile _ = ⊥
+HasFinished (outlook.Visible c) tile (outlook.Visible d) = Alike d (finished_hidden c tile)
+HasFinished (outlook.Visible c) tile _ = ⊥
 HasFinished (outlook.Ranks r) tile new = new ≡ outlook.Ranks r
 HasFinished outlook.Unseen tile new = new ≡ outlook.Unseen

@@ -1,7 +1,7 @@
 -- The store and the outlook start the key.
 use Rattle.std.proofs.Common.{◌≤◌, ◌∷◌, sym, subst}
 use Rattle.model_steps.specs.Events.{start}
-use Rattle.tile_manager.specs.Managers.{Managed, Manages}
+use Rattle.tile_manager.specs.Managers.{Managed, Manages, TellsNext}
 use Rattle.tile_manager.proofs.StartTiles.{may_start, may_start_next, start_holds}
 use Rattle.tile_manager.proofs.manager.TileManager.start.Goals as goal
 
@@ -17,6 +17,7 @@ start-requires-2 c =
     let r = c.requires.next in
     let m : Managed = record { store = c.self.inside.store; pinned = c.self.inside.pins; outlook = c.self.inside.outlook } in
     may_start_next r.script r.workers r.past r.actor r.worker c.args.key c.args.evicted.now r.legal m (subst (Manages r.script r.past) (sym c.self.view_is) r.manages)
+    (subst (λ (z : Managed). TellsNext z.outlook) (sym c.self.view_is) c.requires.told)
 
 pub returns-clause-tiles : goal.returns-clause-tiles
 returns-clause-tiles c = λ s n h a w holds legal.

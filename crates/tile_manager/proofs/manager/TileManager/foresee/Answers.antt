@@ -1,0 +1,15 @@
+-- The queue is that of the visible tiles.
+use Rattle.std.proofs.Common.{refl, sym, subst}
+use Rattle.tile_manager.specs.declared.outlook.Outlook.TheVariants as outlook
+use Rattle.tile_manager.specs.Managers.{Managed, Manages}
+use Rattle.tile_manager.proofs.OtherTiles.{reseen}
+use Rattle.tile_manager.proofs.ShownTiles.{queue_shows}
+use Rattle.tile_manager.proofs.manager.TileManager.foresee.Goals as goal
+
+pub returns-clause-same : goal.returns-clause-same
+returns-clause-same c = λ s n h legal budget holds are.
+    let m : Managed = record { store = c.self.inside.store; pinned = c.self.inside.pins; outlook = c.self.inside.outlook } in
+    let held : Manages s h m = subst (Manages s h) (sym c.self.view_is) holds in
+    let next = c.in_ok-queue.queue in
+    reseen s h h m (outlook.Visible next) held (record { ready = λ q. refl; in_flight = λ q. refl; pinned = λ q. refl })
+    (queue_shows s n h legal m held c.args.wanted.now c.args.hidden.now c.args.budget next budget are c.in_ok-queue.ensures)
