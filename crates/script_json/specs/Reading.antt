@@ -6,6 +6,8 @@ use Rattle.serde_json.specs.Find.{get, as_str}
 use Rattle.geom.specs.Limits.{min_tile, max_tile, max_budget, max_frames, max_inputs, max_distance}
 use Rattle.tile_priority.specs.declared.tree_priority.TreePriority.{TreePriority}
 use Rattle.tile_priority.specs.declared.tree_priority.TreePriority.TheVariants.{Same, Smooth, New}
+use Rattle.page_layers.specs.declared.command.Command.{Command}
+use Rattle.model_history.specs.declared.input.Input.{Input}
 use Rattle.model_history.specs.Ranges.{longest_side}
 use Rattle.model_history.specs.Scripts.{ScriptModel}
 use Rattle.script_fields.specs.declared.fault.FieldFault.{FieldFault}
@@ -55,6 +57,23 @@ lists_at d = do
   inputs ← list_at (codes "inputs") max_inputs 11 d
   if_no_more 11 d (record { main = main; inputs = inputs })
 
+-- the script of a head, main frames and inputs
+abbrev pub with_lists : Head → List (List Command) → List Input → ScriptModel
+with_lists head main inputs = record {
+  version = head.version;
+  viewport_w = head.viewport.w;
+  viewport_h = head.viewport.h;
+  tile = head.tile;
+  background = head.background;
+  budget = head.budget;
+  raster_per_frame = head.raster_per_frame;
+  soon = head.soon;
+  eventually = head.eventually;
+  priority = head.priority;
+  main = main;
+  inputs = inputs;
+}
+
 -- a script; its first fault is in the top object, else in a main frame, else in an input
 unfoldable pub parts_at : Data → Result ScriptModel ShapeFault
 parts_at d = do
@@ -62,17 +81,4 @@ parts_at d = do
   lists ← placed 0 0 (lists_at d)
   main ← frames_at head.version 2 lists.main
   inputs ← inputs_at (length main) 0 0 lists.inputs
-  Ok (record {
-    version = head.version;
-    viewport_w = head.viewport.w;
-    viewport_h = head.viewport.h;
-    tile = head.tile;
-    background = head.background;
-    budget = head.budget;
-    raster_per_frame = head.raster_per_frame;
-    soon = head.soon;
-    eventually = head.eventually;
-    priority = head.priority;
-    main = main;
-    inputs = inputs;
-  })
+  Ok (with_lists head main inputs)

@@ -5,6 +5,7 @@ mod fault;
 mod halt;
 mod head;
 pub mod laws;
+mod limits;
 mod op;
 mod print;
 mod read;

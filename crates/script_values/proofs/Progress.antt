@@ -107,6 +107,18 @@ pub object_refused : (depth : ℕ) (ts : List Token) → 0 < depth → first_mem
 object_refused depth ts deep e =
     ap (converted of_json) (value-begin_object depth ts deep) ∙ converted-object (members (value (depth - 1)) (length ts) ts) ∙ ap (parse_map object) e
 
+-- the array that a closing bracket ends
+pub array_over : (depth : ℕ) (before start : List Token) (join : Items → Items) (ts r : List Token) → 0 < depth → before ≡ Token.begin_array ∷ start → ItemsUpTo (depth - 1) start join ts
+    → after_end_array ts ≡ Some r → first_value depth before ≡ Some (array (join no_items), r)
+array_over depth before start join ts r deep opened so closed =
+    ap (first_value depth) opened ∙ array_read depth start r (join no_items) deep (items_end (depth - 1) start join ts r so closed).0
+
+-- no value stands next in an array, and no closing bracket
+pub array_broken : (depth : ℕ) (before start : List Token) (join : Items → Items) (ts : List Token) → 0 < depth → before ≡ Token.begin_array ∷ start → ItemsUpTo (depth - 1) start join ts
+    → after_end_array ts ≡ None → first_value (depth - 1) ts ≡ None → first_value depth before ≡ None
+array_broken depth before start join ts deep opened so going none =
+    ap (first_value depth) opened ∙ array_refused depth start deep (items_refused (depth - 1) start join ts so going none)
+
 -- ---- a whole text
 
 abbrev whole : Option (json.Json × List Token) → Option Data

@@ -18,6 +18,7 @@ use Rattle.script_json.specs.declared.head.Head.{Head}
 use Rattle.script_json.specs.declared.read.stream.top.Found.{Found}
 use Rattle.script_json.specs.CommandReading.{frames_at}
 use Rattle.script_json.specs.InputReading.{inputs_at}
+use Rattle.script_json.specs.Reading.{with_lists}
 
 -- a command of version 2 alone
 abbrev pub is_view : Command → Bool
@@ -70,17 +71,4 @@ fit version main inputs =
 -- a script of this head and these lists, which fit each other
 pub record AreParts (head : Head) (main : List (Vec Command Global)) (inputs : List Input) (s : ScriptModel) : Type 0 where
   pub fits : fit head.version main inputs ≡ true
-  pub says : s ≡ record {
-    version = head.version;
-    viewport_w = head.viewport.w;
-    viewport_h = head.viewport.h;
-    tile = head.tile;
-    background = head.background;
-    budget = head.budget;
-    raster_per_frame = head.raster_per_frame;
-    soon = head.soon;
-    eventually = head.eventually;
-    priority = head.priority;
-    main = map (λ frame. frame.items) main;
-    inputs = inputs;
-  }
+  pub says : s ≡ with_lists head (map (λ frame. frame.items) main) inputs

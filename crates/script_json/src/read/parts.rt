@@ -15,6 +15,7 @@ use super::{commands, inputs};
 use crate::fault::{PartsFault, ShapeFault, Stop};
 use crate::halt::Halt;
 use crate::head::Head;
+use crate::limits::{MOST_FRAMES, MOST_INPUTS};
 use model_history::ScriptParts;
 use script_fields::{FieldFault, fields};
 use serde_json::Value;
@@ -95,8 +96,8 @@ fn lists_of(value: &Value) -> Result<Lists<'_>, FieldFault>
     ensures value { viewed_or_fault (λ l. record { main = items_view l.main.now; inputs = items_view l.inputs.now }) result ≡ lists_at (view value.now) }
     ensures few { IfOk result (λ l. (length l.main.now ≤ 4096) × (length l.inputs.now ≤ 65536)) }
 {
-    let main = fields::list(value, "main", 4096, 10)?;
-    let inputs = fields::list(value, "inputs", 65536, 11)?;
+    let main = fields::list(value, "main", MOST_FRAMES as usize, 10)?;
+    let inputs = fields::list(value, "inputs", MOST_INPUTS as usize, 11)?;
     fields::no_more(value, 11)?;
     Ok(Lists { main, inputs })
 }
@@ -140,20 +141,7 @@ fn parts(alloc: Global, value: &Value) -> Result<ScriptParts, Stop>
     let lists = placed_lists(value)?;
     let main = commands::frames(alloc, head.version, lists.main)?;
     let inputs = inputs::inputs(alloc, main.len() as u32, lists.inputs)?;
-    Ok(ScriptParts {
-        version: head.version,
-        viewport_w: head.viewport.w,
-        viewport_h: head.viewport.h,
-        tile: head.tile,
-        background: head.background,
-        budget: head.budget,
-        raster_per_frame: head.raster_per_frame,
-        soon: head.soon,
-        eventually: head.eventually,
-        priority: head.priority,
-        main,
-        inputs,
-    })
+    Ok(head.with_lists(main, inputs))
 }
 
 // The parts of the script that these bytes are, read as one value.

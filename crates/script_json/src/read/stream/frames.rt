@@ -9,14 +9,12 @@ ghost use Rattle.script_json.specs.Faults.{placed};
 ghost use Rattle.script_json.specs.CommandReading.{command_at, frame_at, frames_at};
 
 use crate::halt::Halt;
+use crate::limits::MOST_FRAMES;
 use crate::read::commands::placed_command;
 use json::{Reader, Token};
 use page_layers::Command;
 use script_values::read_value;
 use std::alloc::Global;
-
-/// How many main frames a script has at most.
-const MOST_FRAMES: u32 = 4096;
 
 /// Takes the opening bracket of an array.
 pub(super) fn open_array(reader: &mut Reader<'_>) -> Result<(), Halt>

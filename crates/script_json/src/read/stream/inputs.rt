@@ -8,14 +8,12 @@ ghost use Rattle.script_json.specs.InputReading.{input_at, inputs_at};
 
 use super::frames::open_array;
 use crate::halt::Halt;
+use crate::limits::MOST_INPUTS;
 use crate::read::inputs::{draws_after, placed_input};
 use json::Reader;
 use model_history::Input;
 use script_values::read_value;
 use std::alloc::Global;
-
-/// How many inputs a script has at most.
-const MOST_INPUTS: u32 = 65536;
 
 // The input that stands next, at a place of the list, after the given number of draws.
 fn next_input(alloc: Global, draws: u32, index: u32, reader: &mut Reader<'_>) -> Result<Input, Halt>

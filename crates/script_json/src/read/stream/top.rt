@@ -140,20 +140,7 @@ fn parts_with(head: Head, main: Vec<Vec<Command>>, inputs: Vec<Input>) -> Option
     ensures { IfSome result (λ p. AreParts head main.items inputs.items (script_of p)) }
 {
     if fit(head.version, main.as_slice(), inputs.as_slice()) {
-        Some(ScriptParts {
-            version: head.version,
-            viewport_w: head.viewport.w,
-            viewport_h: head.viewport.h,
-            tile: head.tile,
-            background: head.background,
-            budget: head.budget,
-            raster_per_frame: head.raster_per_frame,
-            soon: head.soon,
-            eventually: head.eventually,
-            priority: head.priority,
-            main,
-            inputs,
-        })
+        Some(head.with_lists(main, inputs))
     } else {
         None
     }

@@ -1,4 +1,4 @@
-use Rattle.std.proofs.Common.{◌≡◌, ℕ, Bool, nat_lt, ◌∷◌, [], ◌+◌, List, length, map, Some, None, Vec, Global, refl, ap, ◌∙◌, arith}
+use Rattle.std.proofs.Common.{◌≡◌, ℕ, Bool, nat_lt, ◌∷◌, [], ◌+◌, List, length, map, None, Vec, Global, refl, ap, ◌∙◌, arith}
 use Rattle.std.proofs.lemmas.List.{map-append, length-map}
 use Rattle.std.proofs.lemmas.List.Folds.{list_all-append}
 use Rattle.model_history.specs.Ranges.{are_short}
@@ -7,7 +7,7 @@ use Rattle.json.specs.Token.{begin_array}
 use Rattle.page_layers.specs.declared.command.Command.{Command}
 use Rattle.serde_json.specs.Data.{Items, no_items, item}
 use Rattle.script_values.specs.Tokens.{first_value}
-use Rattle.script_values.proofs.Progress.{items_begin, items_more, items_end, items_refused, array_read, array_refused}
+use Rattle.script_values.proofs.Progress.{items_begin, items_more, array_over, array_broken}
 use Rattle.script_json.proofs.Streams.{longer, frames_begin, frames_more, behind_all}
 use Rattle.script_json.proofs.read.stream.frames.next_frames.Goals as goal
 
@@ -44,13 +44,10 @@ pub returns-clause-read : goal.returns-clause-read
 returns-clause-read c =
     let l = c.frames in
     let start = c.open_array.new.reader in
-    let r = c.take_end_array.new.self in
     let join = l.invariant.0 in
-    let closed : after_end_array l.reader ≡ Some r = grind arith in
-    let over = items_end 125 start join l.reader r l.invariant.1 closed in
     let opened : c.args.reader.now ≡ begin_array ∷ start = grind arith in (
       join no_items,
-      ap (first_value 126) opened ∙ array_read 126 start r (join no_items) (omega arith) over.0,
+      array_over 126 c.args.reader.now start join l.reader c.take_end_array.new.self (omega arith) opened l.invariant.1 (grind arith),
       behind_all (commands_of l.frames.items) _ _ refl (l.invariant.2 no_items),
     )
 
@@ -61,4 +58,4 @@ returns-in_err-frame-clause-refused c json =
     let going : (after_end_array l.reader ≡ None) × (c.take_end_array.new.self ≡ l.reader) = grind arith in
     let opened : c.args.reader.now ≡ begin_array ∷ start = grind arith in
     let none : first_value 125 c.take_end_array.new.self ≡ None = c.next_frame.ensures.refused (grind arith) in
-    ap (first_value 126) opened ∙ array_refused 126 start (omega arith) (items_refused 125 start l.invariant.0 l.reader l.invariant.1 going.0 (rw (← going.1) none))
+    array_broken 126 c.args.reader.now start l.invariant.0 l.reader (omega arith) opened l.invariant.1 going.0 (rw (← going.1) none)

@@ -1,9 +1,9 @@
-use Rattle.std.proofs.Common.{◌≡◌, ◌∷◌, length, Some, None, ap, ◌∙◌, arith}
+use Rattle.std.proofs.Common.{◌≡◌, ◌∷◌, length, None, ap, arith}
 use Rattle.json.specs.Json.{after_end_array}
 use Rattle.json.specs.Token.{begin_array}
 use Rattle.serde_json.specs.Data.{Items, no_items, item}
 use Rattle.script_values.specs.Tokens.{first_value}
-use Rattle.script_values.proofs.Progress.{items_begin, items_more, items_end, items_refused, array_read, array_refused}
+use Rattle.script_values.proofs.Progress.{items_begin, items_more, array_over, array_broken}
 use Rattle.script_json.proofs.Streams.{longer, inputs_begin, inputs_more, behind_all}
 use Rattle.script_json.proofs.read.stream.inputs.next_inputs.Goals as goal
 
@@ -31,13 +31,10 @@ pub returns-clause-read : goal.returns-clause-read
 returns-clause-read c =
     let l = c.inputs in
     let start = c.open_array.new.reader in
-    let r = c.take_end_array.new.self in
     let join = l.invariant.0 in
-    let closed : after_end_array l.reader ≡ Some r = grind arith in
-    let over = items_end 125 start join l.reader r l.invariant.1 closed in
     let opened : c.args.reader.now ≡ begin_array ∷ start = grind arith in (
       join no_items,
-      ap (first_value 126) opened ∙ array_read 126 start r (join no_items) (omega arith) over.0,
+      array_over 126 c.args.reader.now start join l.reader c.take_end_array.new.self (omega arith) opened l.invariant.1 (grind arith),
       behind_all l.inputs.items _ _ c.shrink_to_fit.ensures.items (l.invariant.2 no_items),
     )
 
@@ -48,4 +45,4 @@ returns-in_err-input-clause-refused c json =
     let going : (after_end_array l.reader ≡ None) × (c.take_end_array.new.self ≡ l.reader) = grind arith in
     let opened : c.args.reader.now ≡ begin_array ∷ start = grind arith in
     let none : first_value 125 c.take_end_array.new.self ≡ None = c.next_input.ensures.refused (grind arith) in
-    ap (first_value 126) opened ∙ array_refused 126 start (omega arith) (items_refused 125 start l.invariant.0 l.reader l.invariant.1 going.0 (rw (← going.1) none))
+    array_broken 126 c.args.reader.now start l.invariant.0 l.reader (omega arith) opened l.invariant.1 going.0 (rw (← going.1) none)
