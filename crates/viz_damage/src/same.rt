@@ -10,7 +10,7 @@ use tile_raster::TileImage;
 use viz_scene::{Quad, RenderPass, Scene};
 
 /// Whether two scenes are one: they have the same sides, background and passes, and the tiles of their quads
-/// the same keys and display lists. The lists are compared only where all places and keys are equal, so that
+/// the same keys and display lists. The lists are compared only where all places and stamps are equal, so that
 /// a page that moved, or of which a tile was made anew, is told apart soon.
 #[tactic(auto, using(crate::proofs::SceneSteps::one_scene))]
 pub fn are_one(a: &Scene, b: &Scene) -> bool
@@ -32,7 +32,7 @@ fn have_one_screen(a: &Scene, b: &Scene) -> bool
     sides && is_same_colour(a.background(), b.background())
 }
 
-// whether two lists of passes are one as far as the rects of their quads and the keys of tiles tell
+// whether two lists of passes are one as far as the rects of their quads and the stamps of tiles tell
 fn look_alike(a: &[RenderPass], b: &[RenderPass]) -> bool {
     if a.len() != b.len() {
         return false;
@@ -45,7 +45,7 @@ fn look_alike(a: &[RenderPass], b: &[RenderPass]) -> bool {
     true
 }
 
-// whether two lists of quads are one as far as their rects and the keys of tiles tell
+// whether two lists of quads are one as far as their rects and the stamps of tiles tell
 fn quads_look_alike(a: &[Quad], b: &[Quad]) -> bool {
     if a.len() != b.len() {
         return false;
@@ -58,7 +58,7 @@ fn quads_look_alike(a: &[Quad], b: &[Quad]) -> bool {
     true
 }
 
-// whether two quads are one as far as their rects and the keys of tiles tell
+// whether two quads are one as far as their rects and the stamps of tiles tell
 fn looks_alike(a: &Quad, b: &Quad) -> bool {
     match (a, b) {
         (
@@ -68,7 +68,7 @@ fn looks_alike(a: &Quad, b: &Quad) -> bool {
                 at: place,
                 ..
             },
-        ) => *at == *place && image.key() == other.key(),
+        ) => *at == *place && image.key().stamp == other.key().stamp,
         (Quad::Solid { at, .. }, Quad::Solid { at: place, .. }) => *at == *place,
         (Quad::Group { .. }, Quad::Group { .. }) => true,
         _ => false,
