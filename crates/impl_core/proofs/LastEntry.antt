@@ -1,5 +1,5 @@
 -- The last entry of a run.
-use Rattle.std.proofs.Common.{◌≡◌, ℕ, suc, ◌-◌, false, List, [], ◌∷◌, length, Some, None, slice_get, refl, sym, ◌∙◌, ap, arith}
+use Rattle.std.proofs.Common.{◌≡◌, ℕ, suc, ◌-◌, List, [], ◌∷◌, length, Some, slice_get, sym, ◌∙◌, ap, arith}
 use Rattle.model_history.specs.declared.history.Entry.{Entry}
 use Rattle.impl_core.specs.Replies.{is_end, is_played}
 
@@ -11,9 +11,3 @@ pub last_at : (es : List Entry) (e : Entry) → slice_get es (length es - 1) ≡
 last_at [] e i = absurd cc
 last_at (x ∷ []) e i = let same : x ≡ e = cc in ap (λ (z : Entry). is_end z.event) same
 last_at (x ∷ y ∷ ys) e i = last_at (y ∷ ys) e (sym (ap (slice_get (x ∷ y ∷ ys)) (one_further (length ys))) ∙ i)
-
--- where there is none, nothing was entered
-pub none_last : (es : List Entry) → slice_get es (length es - 1) ≡ None → is_played es ≡ false
-none_last [] i = refl
-none_last (x ∷ []) i = absurd cc
-none_last (x ∷ y ∷ ys) i = none_last (y ∷ ys) (sym (ap (slice_get (x ∷ y ∷ ys)) (one_further (length ys))) ∙ i)

@@ -1,6 +1,6 @@
 //! What a core keeps, and what it is asked.
 
-ghost use Rattle.std.specs.Prelude.{◌≡◌, ◌≤◌, IfOk, not, ◌&&◌, option_map};
+ghost use Rattle.std.specs.Prelude.{◌≡◌, ◌-◌, ◌≤◌, length, IfOk, not, ◌&&◌, option_map};
 ghost use Rattle.model_scheduler.specs.Kinds.{is_main_idle};
 ghost use Rattle.page_layers.specs.Axes.{across, down};
 ghost use Rattle.model_history.specs.Accepted.{IsAccepted};
@@ -9,6 +9,7 @@ ghost use Rattle.model_history.specs.Legal as legal;
 ghost use Rattle.model_history.specs.Ranking.{rank_to_start};
 ghost use Rattle.model_history.specs.Scans as scans;
 ghost use Rattle.model_history.specs.Values as values;
+ghost use Rattle.impl_log.specs.Kept.{forgettable};
 ghost use Rattle.impl_log.specs.Progress as progress;
 ghost use Rattle.impl_log.specs.Runs.{new_run, past};
 ghost use Rattle.tile_queue.specs.Queues.{rank_key};
@@ -20,8 +21,8 @@ use crate::drawn::Drawn;
 use crate::outlooks::{look, look_for_next};
 use geom::{Keys, TileKey};
 use impl_host::ImplHost;
-use impl_log::{Log, Progress};
-use model_history::{Commit, Event, History, Moves, Script};
+use impl_log::{KeptHistory, Log, Progress};
+use model_history::{Commit, Event, Moves, Script};
 use model_scheduler::MainState;
 use model_scroll_values::Synced;
 use std::alloc::{AllocError, Global};
@@ -31,7 +32,7 @@ use tile_manager::TileManager;
 
 /// The state of the compositor side of a run of a script. By its type its history is legal.
 ///
-/// Contracts see the run: the script, the number of workers and the entries.
+/// Contracts see the run: the script, the number of workers and the entries, forgotten ones too.
 pub struct Core {
     pub(crate) log: Log,
     pub(crate) host: ImplHost,
@@ -120,11 +121,22 @@ impl Core {
         self.log.script()
     }
 
-    /// The entries, the oldest first.
-    pub fn history(&self) -> &History
-        ensures { result.now.entries ≡ self.now.entries }
+    /// The entries, the oldest first. Those since the input before the newest one are kept, and so is the newest
+    /// entry.
+    pub fn history(&self) -> &KeptHistory
+        ensures entries { result.now.entries ≡ self.now.entries }
+        ensures inputs { result.now.first ≤ forgettable (past self.now) }
+        ensures newest { result.now.first ≤ length self.now.entries - 1 }
     {
         self.log.history()
+    }
+
+    /// Forgets the entries that came before the input before the newest one, once these are many. The run stays as it
+    /// is.
+    pub fn forget(&mut self)
+        ensures { self.new ≡ self.old }
+    {
+        self.log.forget();
     }
 
     /// The history is legal and the script is accepted. A law that does nothing when it runs.
@@ -181,10 +193,8 @@ impl Core {
         if count == 0 {
             return false;
         }
-        match entries.entry(count - 1) {
-            Some(entry) => is_end(&entry.event),
-            None => false,
-        }
+        let newest = entries.entry(count - 1);
+        is_end(&newest.event)
     }
 
     /// How many tiles there are, ready or in flight; at 0 no key is ready.

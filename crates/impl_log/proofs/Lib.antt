@@ -1,4 +1,5 @@
 pub mod Inputs
 pub mod ShortRuns
 pub mod ProgressSteps
+pub mod Forgetting
 pub mod LogSteps

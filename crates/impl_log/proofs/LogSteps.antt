@@ -1,5 +1,5 @@
 -- What a log keeps, once the event that may come is entered.
-use Rattle.std.proofs.Common.{◌≡◌, ℕ, suc, ◌+◌, ◌<◌, ◌≤◌, Bool, true, false, cond, not, ◌&&◌, ◌||◌, List, [], ◌∷◌, ◌++◌, length, reverse, Option, Some, None, refl, sym, ◌∙◌, ap, subst, arith}
+use Rattle.std.proofs.Common.{◌≡◌, ℕ, suc, ◌+◌, ◌<◌, ◌≤◌, Bool, true, false, cond, not, List, [], ◌∷◌, ◌++◌, length, reverse, Some, None, refl, sym, ◌∙◌, ap, subst, arith}
 use Rattle.std.proofs.lemmas.List.{reverse-append}
 use Rattle.model_scheduler.specs.declared.kind.Kind.{Kind}
 use Rattle.model_scheduler.specs.declared.kind.Kind.TheVariants as kind
@@ -8,24 +8,26 @@ use Rattle.model_history.specs.declared.event.Event.{Event}
 use Rattle.model_history.specs.declared.event.Event.TheVariants as event
 use Rattle.model_history.specs.declared.history.Entry.{Entry}
 use Rattle.model_history.specs.Scripts.{ScriptModel}
-use Rattle.model_history.specs.EventFields.{kind_of, actor_of}
+use Rattle.model_history.specs.EventFields.{kind_of, actor_of, uses}
 use Rattle.model_history.specs.Scans.{has_ended}
 use Rattle.model_history.specs.Tiles.{in_flight}
 use Rattle.model_history.specs.Accepted.{IsAccepted}
 use Rattle.model_history.specs.Due.{due}
-use Rattle.model_history.specs.Legal.{sched, is_open, can, Next, Legal}
-use Rattle.model_history.proofs.BoolFacts.{not_both, and_left, and_right, not_true}
+use Rattle.model_history.specs.Legal.{sched, is_open, can, Next}
+use Rattle.model_history.proofs.BoolFacts.{and_left, and_right, not_true}
 use Rattle.model_history.proofs.DueFacts.{entry}
 use Rattle.model_history.proofs.DueRows.{MayAsk, due_row}
 use Rattle.model_history.proofs.RangeBounds.{few_frames, sent_few}
 use Rattle.impl_log.specs.declared.progress.Progress.{Progress}
+use Rattle.impl_log.specs.declared.input_places.InputPlaces.{InputPlaces}
 use Rattle.impl_log.specs.Runs.{is_kept, is_plain_kind}
-use Rattle.impl_log.specs.Progress.{progress}
-use Rattle.impl_log.specs.inner.Steps.{stepped}
+use Rattle.impl_log.specs.Kept.{KeptEntries, before_input, forgettable}
+use Rattle.impl_log.specs.inner.Steps.{placed, stepped}
 use Rattle.impl_log.specs.inner.Logs.{IsLogOf, MayStep}
 use Rattle.impl_log.proofs.ShortRuns.{uses_few, in_flight_few}
 use Rattle.impl_log.proofs.ProgressSteps.{progress_step, one_fewer}
 use Rattle.impl_log.proofs.Inputs.{few_inputs}
+use Rattle.impl_log.proofs.Forgetting.{newest_placed, older_placed, still_forgettable}
 
 -- the past with an entry more
 pub past_more : (entries new : List Entry) (e : Entry) → new ≡ entries ++ e ∷ [] → reverse new ≡ e ∷ reverse entries
@@ -51,7 +53,21 @@ now_is s h k a e d = by_open (is_open h k) refl d
 pub next_is : (s : ScriptModel) (n : ℕ) (h : List Entry) (a : ℕ) (e : Event) → can s h (kind_of e) a ≡ Some e → a ≡ actor_of e → a < 2 + n → Next s n h (entry a e)
 next_is s n h a e d actor within = let x = now_is s h (kind_of e) a e d in record { going = x.going; state = x.state; is_due = x.is_due; actor = actor; within = within }
 
-module _ (s : ScriptModel) (n : ℕ) (h : List Entry) (p : Progress) (spare : ℕ) (acc : IsAccepted s) (log : IsLogOf s n h p spare) (a : ℕ) (e : Event) (x : Next s n h (entry a e)) where
+-- a log of which more is forgotten, or that has more room
+pub still_log : (s : ScriptModel) (n : ℕ) (p : Progress) (places : InputPlaces) (old new : KeptEntries) → IsLogOf s n (reverse old.entries) p old.spare places old.first
+    → new.entries ≡ old.entries → new.first ≤ forgettable (reverse old.entries) → old.spare ≤ new.spare → IsLogOf s n (reverse new.entries) p new.spare places new.first
+still_log s n p places old new log same few more =
+    subst (λ (es : List Entry). IsLogOf s n (reverse es) p new.spare places new.first) (sym same) (record {
+      legal = log.legal;
+      few = log.few;
+      progress = log.progress;
+      room = λ going. let room = log.room going in omega (arith, room, more);
+      newest = log.newest;
+      older = log.older;
+      first = few;
+    })
+
+module _ (s : ScriptModel) (n : ℕ) (h : List Entry) (p : Progress) (spare : ℕ) (places : InputPlaces) (first : ℕ) (acc : IsAccepted s) (log : IsLogOf s n h p spare places first) (a : ℕ) (e : Event) (x : Next s n h (entry a e)) where
   done_held : kind_of e ≡ kind.Done → 1 ≤ length (in_flight h)
   done_held = by_event e x
     where
@@ -75,14 +91,22 @@ module _ (s : ScriptModel) (n : ℕ) (h : List Entry) (p : Progress) (spare : �
         held = λ k. let i = ap (λ (z : Progress). z.in_flight) log.progress in let l = done_held k in omega arith;
       }
 
-  -- with room for all workers' tiles
-  pub entered : (new : Progress) (left : ℕ) → new ≡ stepped e p → n + 1 ≤ left → IsLogOf s n (entry a e ∷ h) new left
-  entered new left is room = record {
-    legal = (log.legal, x);
-    few = log.few;
-    progress = is ∙ ap (stepped e) log.progress ∙ sym (progress_step s n h a e log.legal x);
-    room = λ going. let f = in_flight_few s n (entry a e ∷ h) (log.legal, x) in omega arith;
-  }
+  module _ (new : Progress) (left : ℕ) (next : InputPlaces) (front : ℕ) (is : new ≡ stepped e p) (there : next ≡ placed (uses e) (length h) places) (same : front ≡ first) where
+    -- where there is room after it
+    stands : (has_ended (entry a e ∷ h) ≡ false → suc (length (in_flight (entry a e ∷ h))) ≤ left) → IsLogOf s n (entry a e ∷ h) new left next front
+    stands room = record {
+      legal = (log.legal, x);
+      few = log.few;
+      progress = is ∙ ap (stepped e) log.progress ∙ sym (progress_step s n h a e log.legal x);
+      room = room;
+      newest = ap (λ (q : InputPlaces). q.newest) there ∙ newest_placed (uses e) h (before_input h) (length h) places refl log.newest;
+      older = ap (λ (q : InputPlaces). q.older) there ∙ older_placed (uses e) h (length h) places log.newest log.older;
+      first = subst (λ (m : ℕ). m ≤ forgettable (entry a e ∷ h)) (sym same) (still_forgettable h (entry a e) first log.first);
+    }
+
+    -- with room for all workers' tiles
+    pub entered : n + 1 ≤ left → IsLogOf s n (entry a e ∷ h) new left next front
+    entered room = stands (λ going. let f = in_flight_few s n (entry a e ∷ h) (log.legal, x) in omega arith)
 
   -- with the room that was kept
   kept_room : is_kept e ≡ true → suc (length (in_flight h)) ≤ spare → (left : ℕ) → left + 1 ≡ spare → has_ended (entry a e ∷ h) ≡ false → suc (length (in_flight (entry a e ∷ h))) ≤ left
@@ -93,13 +117,9 @@ module _ (s : ScriptModel) (n : ℕ) (h : List Entry) (p : Progress) (spare : �
       by_event (event.Stop b) x k room left is going = cc
       by_event _ x k room left is going = cc
 
-  pub kept : is_kept e ≡ true → (new : Progress) (left : ℕ) → new ≡ stepped e p → left + 1 ≡ spare → IsLogOf s n (entry a e ∷ h) new left
-  kept k new left is one = record {
-    legal = (log.legal, x);
-    few = log.few;
-    progress = is ∙ ap (stepped e) log.progress ∙ sym (progress_step s n h a e log.legal x);
-    room = kept_room k (log.room x.going) left one;
-  }
+  pub kept : is_kept e ≡ true → (new : Progress) (left : ℕ) (next : InputPlaces) (front : ℕ) → new ≡ stepped e p → next ≡ placed (uses e) (length h) places → front ≡ first → left + 1 ≡ spare
+      → IsLogOf s n (entry a e ∷ h) new left next front
+  kept k new left next front is there same one = stands new left next front is there same (kept_room k (log.room x.going) left one)
 
 -- a plain kind is asked for by the compositor
 may_ask : (k : Kind) → is_plain_kind k ≡ true → MayAsk k 0

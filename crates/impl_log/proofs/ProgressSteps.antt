@@ -1,7 +1,6 @@
 -- The progress after one event more.
-use Rattle.std.proofs.Common.{◌≡◌, ◌⊎◌, inl, inr, ℕ, suc, ◌-◌, ◌<◌, ◌≤◌, nat_lt, Bool, true, false, cond, List, [], ◌∷◌, length, Option, Some, None, refl, sym, ◌∙◌, ap, arith}
+use Rattle.std.proofs.Common.{◌≡◌, ◌⊎◌, inl, inr, ℕ, suc, ◌-◌, ◌<◌, nat_lt, Bool, true, false, cond, List, ◌∷◌, length, Option, Some, None, refl, sym, ◌∙◌, ap, arith}
 use Rattle.geom.specs.declared.tile.TileKey.{TileKey}
-use Rattle.geom.specs.KeyLists.{has_key}
 use Rattle.model_scheduler.specs.Kinds.{is_main_idle}
 use Rattle.model_history.specs.declared.event.Event.{Event}
 use Rattle.model_history.specs.declared.event.Event.TheVariants as event
@@ -18,7 +17,6 @@ use Rattle.model_history.proofs.DueFacts.{entry, at_commit, at_activate, at_done
 use Rattle.model_history.proofs.Course.{Course, course, flying, ready_not_idle, pending_last}
 use Rattle.model_history.proofs.TileCourse.{tile_course}
 use Rattle.model_steps.proofs.Picks.{shorter}
-use Rattle.impl_log.specs.declared.progress.Progress.{Progress}
 use Rattle.impl_log.specs.Progress.{progress, ended_of}
 use Rattle.impl_log.specs.inner.Steps.{stepped}
 

@@ -1,6 +1,5 @@
 -- How many inputs are used, how many main frames are sent, and how many tiles are in flight.
-use Rattle.std.proofs.Common.{◌≡◌, ℕ, zero, suc, ◌-◌, ◌<◌, ◌≤◌, Bool, true, false, cond, not, ◌&&◌, ◌||◌, List, [], ◌∷◌, length, filter, Option, Some, None, refl, sym, ◌∙◌, ap, arith}
-use Rattle.std.specs.Prelude.{slice_get}
+use Rattle.std.proofs.Common.{◌≡◌, ℕ, zero, suc, ◌<◌, ◌≤◌, true, false, not, ◌&&◌, ◌||◌, List, [], ◌∷◌, length, filter, Option, Some, None, refl, sym, ◌∙◌, ap, arith}
 use Rattle.std.proofs.lemmas.Option.{slice_get_within}
 use Rattle.geom.specs.declared.tile.TileKey.{TileKey}
 use Rattle.geom.specs.KeyLists.{same_key, has_key, AreDistinctKeys}
@@ -15,9 +14,9 @@ use Rattle.model_history.specs.Scans.{counted, one_more, held}
 use Rattle.model_history.specs.Tiles.{in_flight}
 use Rattle.model_history.specs.Due.{asks_draw, input_now, next_input, due_await, due_settle}
 use Rattle.model_history.specs.Legal.{Next, Legal}
-use Rattle.model_history.proofs.BoolFacts.{not_both, is_false, by_test, and_left, and_right, or_neither, not_true}
+use Rattle.model_history.proofs.BoolFacts.{not_both, by_test, and_left, and_right, not_true}
 use Rattle.model_history.proofs.DueFacts.{entry, at_begin, at_scroll, at_wheel}
-use Rattle.model_history.proofs.KeyFacts.{key_itself, one_key, has_filter, distinct_filter}
+use Rattle.model_history.proofs.KeyFacts.{key_itself, has_filter, distinct_filter}
 use Rattle.model_history.proofs.TileCourse.{holder, tile_course}
 use Rattle.model_steps.proofs.Picks.{shorter}
 

@@ -1,3 +1,4 @@
 pub mod Runs
 pub mod Progress
+pub mod Kept
 pub mod inner

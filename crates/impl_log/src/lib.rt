@@ -6,14 +6,18 @@
 //! steps at once. What a worker holds, which tiles are ready and where the scrollers stand is kept
 //! elsewhere: an event that needs these comes with the fact that it may come.
 //!
-//! A log always has room for the end of each tile in flight and for a stop, so that these take no memory.
+//! A log always has room for the end of each tile in flight and for a stop, so that these take no memory. It may
+//! forget its oldest entries ([`KeptHistory`]): clauses still see them.
 #![tactic(auto)]
 
+mod input_places;
+mod kept_history;
 mod kinds;
 mod laws;
 mod log;
 mod progress;
 
+pub use kept_history::KeptHistory;
 pub use kinds::kind_of;
 pub use laws::runs_are_short;
 pub use log::Log;

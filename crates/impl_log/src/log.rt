@@ -1,36 +1,43 @@
 //! A history that only takes what may come.
 
-ghost use Rattle.std.specs.Prelude.{◌≡◌, ◌<◌, ◌≤◌, ◌+◌, ◌++◌, ◌∷◌, [], true, not, ◌&&◌, Some, OnOk, OnErr, IfOk};
+ghost use Rattle.std.specs.Prelude.{◌≡◌, ◌<◌, ◌≤◌, ◌+◌, ◌-◌, ◌++◌, ◌∷◌, [], length, true, not, ◌&&◌, Some, OnOk, OnErr, IfOk};
 ghost use Rattle.model_scheduler.specs.Kinds.{may, is_main_idle};
-ghost use Rattle.model_history.specs.EventFields.{kind_of, actor_of, begins};
+ghost use Rattle.model_history.specs.EventFields.{kind_of, actor_of, begins, uses};
 ghost use Rattle.model_history.specs.declared.event.Event.TheVariants as event;
 ghost use Rattle.model_history.specs.Accepted.{IsAccepted};
 ghost use Rattle.model_history.specs.Due as dues;
 ghost use Rattle.model_history.specs.Frames as frames;
 ghost use Rattle.model_history.specs.Legal as legal;
 ghost use Rattle.model_history.specs.Scans as scans;
+ghost use Rattle.impl_log.specs.Kept.{forgettable};
 ghost use Rattle.impl_log.specs.Progress as progress;
 ghost use Rattle.impl_log.specs.Runs.{new_run, past, now, with_entry, is_plain_kind, is_kept, Plays};
 ghost use Rattle.impl_log.specs.inner.Logs.{MayStep};
-ghost use Rattle.impl_log.specs.inner.Steps.{stepped};
+ghost use Rattle.impl_log.specs.inner.Steps.{placed, stepped};
 
+use crate::input_places::InputPlaces;
+use crate::kept_history::KeptHistory;
 use crate::progress::Progress;
-use model_history::{Entry, Event, History, Input, Script};
+use model_history::{Entry, Event, Input, Script};
 use model_scheduler::{Kind, MainState};
 use std::alloc::{AllocError, Global};
 use std::marker::Model;
 use std::sync::Arc;
 
+// How many entries are forgotten at a time, at least.
+const MANY: usize = 4096;
+
 /// The history of a run of a script, with how far the run has come. By its type it is legal: each entry
 /// is the one of its kind and actor that might come after those before it.
 ///
-/// Contracts see the run: the script, the number of workers and the entries.
+/// Contracts see the run: the script, the number of workers and the entries, forgotten ones too.
 #[derive(Drop)]
 pub struct Log {
     script: Arc<Script>,
     workers: u32,
-    history: History,
+    history: KeptHistory,
     progress: Progress,
+    places: InputPlaces,
 }
 
 impl Model for Log {
@@ -42,7 +49,7 @@ impl Model for Log {
 
     ghost view = { λ l. record { script = l.script.value; workers = l.workers; entries = l.history.entries } };
 
-    ghost invariant = { λ l. IsLogOf l.script.value l.workers (reverse l.history.entries) l.progress l.history.spare };
+    ghost invariant = { λ l. IsLogOf l.script.value l.workers (reverse l.history.entries) l.progress l.history.spare l.places l.history.first };
 }
 
 // An event where a condition holds.
@@ -52,15 +59,18 @@ fn on_if(holds: bool, event: Event) -> Option<Event>
     if holds { Some(event) } else { None }
 }
 
-// Adds an entry in a place that was reserved, and steps the progress by it.
-fn add(history: &mut History, progress: &mut Progress, entry: Entry)
+// Adds an entry in a place that was reserved, and steps what is kept of the run by it.
+fn add(history: &mut KeptHistory, progress: &mut Progress, places: &mut InputPlaces, entry: Entry)
     requires room { 1 ≤ history.old.spare }
     requires step { MayStep progress.old entry.event }
     ensures entries { history.new.entries ≡ history.old.entries ++ entry ∷ [] }
+    ensures first { history.new.first ≡ history.old.first }
     ensures spare { history.new.spare + 1 ≡ history.old.spare }
     ensures progress { progress.new ≡ stepped entry.event progress.old }
+    ensures places { places.new ≡ placed (uses entry.event) (length history.old.entries) places.old }
 {
     *progress = progress.after(&entry.event);
+    *places = places.after(&entry.event, history.len());
     history.push_reserved(entry);
 }
 
@@ -70,13 +80,14 @@ impl Log {
         requires { workers ≤ 16 }
         ensures { IfOk result (λ log. log ≡ new_run script.value workers) }
     {
-        let mut history = History::new(alloc);
+        let mut history = KeptHistory::new(alloc);
         history.reserve(1)?;
         Ok(Log {
             script,
             workers,
             history,
             progress: Progress::START,
+            places: InputPlaces::START,
         })
     }
 
@@ -95,6 +106,7 @@ impl Log {
         add(
             &mut self.history,
             &mut self.progress,
+            &mut self.places,
             Entry { actor, event },
         );
         Ok(())
@@ -112,6 +124,7 @@ impl Log {
         add(
             &mut self.history,
             &mut self.progress,
+            &mut self.places,
             Entry { actor, event },
         );
     }
@@ -130,9 +143,23 @@ impl Log {
         self.workers
     }
 
-    /// The entries, the oldest first.
-    pub fn history(&self) -> &History
-        ensures { result.now.entries ≡ self.now.entries }
+    /// Forgets the entries that came before the input before the newest one, once these are many. The run stays as it
+    /// is.
+    pub fn forget(&mut self)
+        ensures { self.new ≡ self.old }
+    {
+        let place = self.places.older;
+        if place.saturating_sub(self.history.first()) >= MANY {
+            self.history.forget(place);
+        }
+    }
+
+    /// The entries, the oldest first. Those since the input before the newest one are kept, and so is the newest
+    /// entry.
+    pub fn history(&self) -> &KeptHistory
+        ensures entries { result.now.entries ≡ self.now.entries }
+        ensures inputs { result.now.first ≤ forgettable (past self.now) }
+        ensures newest { result.now.first ≤ length self.now.entries - 1 }
     {
         &self.history
     }

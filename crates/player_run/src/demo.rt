@@ -29,12 +29,15 @@ struct Summary {
     sum: u64,
 }
 
-// Counts a run, of which the sink was given the recording; None where a count does not fit: never so in a run,
-// whose events and missing tiles all stand in memory.
+// Counts a run, of which the sink was given the recording; None where a count does not fit, or entries were forgotten:
+// never so in a run that keeps all, whose events and missing tiles stand in memory.
 fn summary_of(run: &Recorded, sink: &SumSink) -> Option<Summary>
     ensures { IfSome result (IsSummary run.now sink.now.held) }
 {
     let history = run.history();
+    if history.first() > 0 {
+        return None;
+    }
     let tally = tally_of(history)?;
     Some(Summary {
         events: history.len() as u64,

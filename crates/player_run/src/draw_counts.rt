@@ -3,7 +3,8 @@
 ghost use Rattle.std.specs.Prelude.{◌≡◌, ◌≤◌, ◌+◌, ◌^◌, ◌⊎◌, MatchOption};
 ghost use Rattle.player_run.specs.Demos as demos;
 
-use model_history::{Event, History};
+use impl_log::KeptHistory;
+use model_history::Event;
 
 /// How many images the draws of a history have, and how many tiles they lack.
 #[derive(Clone, Copy, Debug, Drop)]
@@ -45,8 +46,9 @@ fn with_event(before: DrawCounts, event: &Event) -> Option<DrawCounts>
     Some(DrawCounts { images, missing })
 }
 
-/// The counts of a history; None only where one of them is 2^64 or more.
-pub fn tally_of(history: &History) -> Option<DrawCounts>
+/// The counts of a history of which nothing was forgotten; None only where one of them is 2^64 or more.
+pub fn tally_of(history: &KeptHistory) -> Option<DrawCounts>
+    requires { history.now.first ≡ 0 }
     ensures { MatchOption result
         (2 ^ 64 ≤ demos.image_count history.now.entries ⊎ 2 ^ 64 ≤ demos.missing_count history.now.entries)
         (λ t. (t.images ≡ demos.image_count history.now.entries) × (t.missing ≡ demos.missing_count history.now.entries)) }
@@ -56,9 +58,7 @@ pub fn tally_of(history: &History) -> Option<DrawCounts>
         missing: 0,
     };
     for at in 0..history.len() {
-        let Some(entry) = history.entry(at) else {
-            unreachable!()
-        };
+        let entry = history.entry(at);
         tally = with_event(tally, &entry.event)?;
     }
     Some(tally)

@@ -1,6 +1,7 @@
 //! What a compositor on one thread keeps.
 
 ghost use Rattle.std.specs.Prelude.{◌≡◌, ◌≤◌, ◌-◌, length, IfOk};
+ghost use Rattle.impl_log.specs.Kept.{forgettable};
 ghost use Rattle.impl_log.specs.Runs.{new_run, past};
 ghost use Rattle.impl_core.specs.Replies.{AreUpcoming};
 ghost use Rattle.proxy_single_thread.specs.Singles.{AreScenes};
@@ -9,7 +10,8 @@ use crate::main_side::MainSide;
 use crate::unwritten_scenes::UnwrittenScenes;
 use crate::workers::Workers;
 use impl_core::Core;
-use model_history::{History, Script};
+use impl_log::KeptHistory;
+use model_history::Script;
 use std::alloc::{AllocError, Global};
 use std::marker::Model;
 use std::mem;
@@ -85,9 +87,12 @@ impl SingleThread {
         self.core.workers()
     }
 
-    /// The entries, the oldest first.
-    pub fn history(&self) -> &History
-        ensures { result.now.entries ≡ self.now.run.entries }
+    /// The entries, the oldest first. Those since the input before the newest one are kept, and so is the newest
+    /// entry.
+    pub fn history(&self) -> &KeptHistory
+        ensures entries { result.now.entries ≡ self.now.run.entries }
+        ensures inputs { result.now.first ≤ forgettable (past self.now.run) }
+        ensures newest { result.now.first ≤ length self.now.run.entries - 1 }
     {
         self.core.history()
     }

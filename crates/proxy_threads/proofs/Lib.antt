@@ -1,5 +1,6 @@
 pub mod Holds
 pub mod Others
+pub mod KeptLines
 pub mod Parts
 pub mod Gained
 pub mod OwnEvents

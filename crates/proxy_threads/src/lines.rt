@@ -1,10 +1,10 @@
 //! The lines of what others and the compositor entered.
 
-ghost use Rattle.std.specs.Prelude.{◌≡◌, ◌++◌, drop, OnOk};
+ghost use Rattle.std.specs.Prelude.{◌≡◌, ◌≤◌, ◌++◌, drop, OnOk};
 ghost use Rattle.proxy_threads.specs.inner.Steps.{GathersAll, lines_of};
 
 use crate::wakes::Wakes;
-use model_history::History;
+use impl_log::KeptHistory;
 use recording_text::push_event;
 use std::alloc::{AllocError, Global};
 
@@ -32,17 +32,17 @@ impl Lines {
         }
     }
 
-    /// Takes the lines of the entries that have had none yet. An error means out of memory.
-    pub(crate) fn gather(&mut self, history: &History) -> Result<(), AllocError>
+    /// Takes the lines of the entries that have had none yet, of which none is forgotten. An error means out of
+    /// memory.
+    pub(crate) fn gather(&mut self, history: &KeptHistory) -> Result<(), AllocError>
+        requires { history.now.first ≤ self.old.written }
         ensures lines { OnOk result (GathersAll self.old.written history.now.entries self.new) }
         ensures over { self.new.over ≡ self.old.over }
     {
         let from = self.written;
         self.text.clear();
         for at in from..history.len() {
-            let Some(entry) = history.entry(at) else {
-                unreachable!()
-            };
+            let entry = history.entry(at);
             push_event(&mut self.text, &entry.event)?;
         }
         self.written = history.len();

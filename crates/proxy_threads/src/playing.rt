@@ -1,9 +1,11 @@
 //! What the compositor does while it holds the turn.
 
-ghost use Rattle.std.specs.Prelude.{◌≡◌, false, true};
+ghost use Rattle.std.specs.Prelude.{◌≡◌, ◌≤◌, false, true, length};
 ghost use Rattle.model_history.specs.Scans.{has_ended};
+ghost use Rattle.impl_log.specs.Kept.{before_input};
 ghost use Rattle.impl_log.specs.Runs.{past};
 ghost use Rattle.impl_core.specs.Replies.{is_played};
+ghost use Rattle.proxy_threads.specs.Writing.{HasWritten};
 ghost use Rattle.proxy_threads.specs.inner.Holdings.{Holding};
 ghost use Rattle.proxy_threads.specs.inner.Steps.{AreOwn, Composes, Gathers, Plays, PlaysOf};
 
@@ -79,8 +81,10 @@ fn play(core: &mut Core) -> Played
     }
 }
 
-// Plays, and gathers the lines of what was not written.
+// Plays, and gathers the lines of what was not written. Of that only what is played may use an input, so none of it is
+// forgotten.
 fn compose(core: &mut Core, lines: &mut Lines) -> Played
+    requires { length (before_input (past core.old)) ≤ lines.old.written }
     ensures plays { Plays core.old core.new result }
     ensures gathers { Gathers result lines.old.written core.new.entries lines.new }
     ensures over { lines.new.over ≡ is_played core.new.entries }
@@ -103,6 +107,7 @@ pub(crate) fn hold<R: Wait>(
 ) -> (Pass<Core>, Played)
     requires lock { pass.lock ≡ lock.now.id }
     requires actor { pass.actor ≡ 0 }
+    requires written { HasWritten pass lines.old.written }
     ensures { Holding pass result.0 (Composes lines.old.written lines.new result.1) }
 {
     let (mut core, empty) = take_turn(rt, lock, pass);

@@ -7,5 +7,6 @@ pub mod PlayedWays
 pub mod QuietEvents
 pub mod RecordedRuns
 pub mod ShownImages
+pub mod UsedInputs
 mod FilmedRuns
 mod ShotRuns

@@ -1,10 +1,12 @@
 //! Pieces of a recording that wait to be painted.
 
-ghost use Rattle.std.specs.Prelude.{◌≡◌, ◌++◌, List, [], drop, length, reverse, take, OnOk};
+ghost use Rattle.std.specs.Prelude.{◌≡◌, ◌≤◌, ◌++◌, List, [], drop, length, reverse, take, OnOk};
 ghost use Rattle.std.specs.Vec.Iter.{into_iter_items, into_iter_len};
 ghost use Rattle.model_history.specs.Recordings.{image_behind, piece, pieces};
 ghost use Rattle.model_history.specs.Scripts.{ScriptModel};
 ghost use Rattle.model_history.specs.declared.history.Entry.{Entry};
+ghost use Rattle.impl_log.specs.Kept.{forgettable};
+ghost use Rattle.impl_log.specs.Runs.{past};
 ghost use Rattle.recording_pieces.specs.Scenes.{image_if};
 ghost use Rattle.recording_pieces.specs.Shots.{all_shown};
 ghost use Rattle.recording_writer.specs.inner.Batches.{held_of};
@@ -137,22 +139,22 @@ impl Batch {
         self.push_scene(scene)
     }
 
-    /// Adds the entries of a run from a place on. The scenes are those of the draws among them, the oldest first.
+    /// Adds the entries of a run from a place on, of which none is forgotten. The scenes are those of the draws among
+    /// them, the oldest first.
     pub(crate) fn push_entries(
         &mut self,
         core: &Core,
         from: usize,
         scenes: Vec<Scene>,
     ) -> Result<(), AllocError>
-        requires { AllCome core.now.script (reverse (take from core.now.entries)) (drop from core.now.entries) scenes.items }
+        requires kept { forgettable (past core.now) ≤ from }
+        requires come { AllCome core.now.script (reverse (take from core.now.entries)) (drop from core.now.entries) scenes.items }
         ensures { OnOk result (held_of self.new ≡ held_of self.old ++ pieces core.now.script (reverse (take from core.now.entries)) (drop from core.now.entries)) }
     {
         let history = core.history();
         let mut queue = scenes.into_iter();
         for at in from..history.len() {
-            let Some(entry) = history.entry(at) else {
-                return Ok(());
-            };
+            let entry = history.entry(at);
             self.push_entry(entry, &mut queue)?;
         }
         Ok(())

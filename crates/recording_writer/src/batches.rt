@@ -8,6 +8,8 @@ ghost use Rattle.model_history.specs.declared.history.Entry.{Entry};
 ghost use Rattle.model_history.specs.Lockstep.{IsLockstep};
 ghost use Rattle.model_history.specs.Recordings.{header, pieces};
 ghost use Rattle.model_lockstep.specs.Walks.{CanFollow, input_played, run_end};
+ghost use Rattle.impl_log.specs.Kept.{forgettable};
+ghost use Rattle.impl_log.specs.Runs.{past};
 ghost use Rattle.proxy_single_thread.specs.Singles.{walk_of};
 ghost use Rattle.recording_pieces.specs.Shots.{all_shown};
 ghost use Rattle.recording_pieces.specs.Writing.{PutsAll, WriteCause};
@@ -31,6 +33,7 @@ use std::thread::{Threads, join_mut};
 
 // Adds what was entered since the last time.
 fn gather_news(single: &mut SingleThread, batch: &mut Batch) -> Result<(), AllocError>
+    requires { forgettable (past single.old.run) ≤ single.old.written }
     ensures run { single.new.run ≡ single.old.run }
     ensures all { single.new.written ≡ length single.old.run.entries }
     ensures bytes { OnOk result ((done news : List Entry) → single.old.run.entries ≡ done ++ news → single.old.written ≡ length done → held_of batch.new ≡ held_of batch.old ++ pieces single.old.run.script (reverse done) news) }

@@ -7,7 +7,8 @@ ghost use Rattle.model_history.specs.declared.history.Entry.{Entry};
 ghost use Rattle.recording_pieces.specs.Scenes.{scene_image};
 ghost use Rattle.recording_writer.specs.inner.Repeats.{HaveSameMissing, Keeps, Shows, StaysShown, image_of, is_quiet as is_quiet_of};
 
-use model_history::{Entry, Event, History};
+use impl_log::KeptHistory;
+use model_history::{Entry, Event};
 use std::alloc::{AllocError, Global};
 use std::marker::Sync;
 use std::thread::Threads;
@@ -57,14 +58,14 @@ impl LastDraw {
         })
     }
 
-    // Whether a draw shows the picture that is there.
-    fn is_again(&self, history: &History, event: &Event) -> bool
+    // Whether a draw shows the picture that is there. Where the last draw was forgotten, nobody knows.
+    fn is_again(&self, history: &KeptHistory, event: &Event) -> bool
         ensures { IsTrue result → (s : ScriptModel) (h : List Entry) → Keeps s h history.now.entries self.now → image_of self.now.painter.canvas ≡ image_behind s h event.now }
     {
         let Some(place) = self.place else {
             return false;
         };
-        match history.entry(place) {
+        match history.get(place) {
             Some(drawn) => have_same_missing(&drawn.event, event),
             None => false,
         }
@@ -76,7 +77,7 @@ impl LastDraw {
     pub(crate) fn show<R: Threads + Sync>(
         &mut self,
         rt: &R,
-        history: &History,
+        history: &KeptHistory,
         at: usize,
         entry: &Entry,
         scene: Scene,

@@ -7,6 +7,8 @@ ghost use Rattle.model_history.specs.Lockstep.{IsLockstep};
 ghost use Rattle.model_history.specs.Recordings.{header, pieces};
 ghost use Rattle.script_json.specs.ScriptValue.{parts_data};
 ghost use Rattle.model_lockstep.specs.Walks.{CanFollow, input_played, inputs_from, run_end};
+ghost use Rattle.impl_log.specs.Kept.{forgettable};
+ghost use Rattle.impl_log.specs.Runs.{past};
 ghost use Rattle.proxy_single_thread.specs.Singles.{walk_of};
 ghost use Rattle.recording_writer.specs.Recordings.{Records};
 ghost use Rattle.recording_pieces.specs.Writing.{WriteCause};
@@ -16,7 +18,8 @@ ghost use Rattle.recording_writer.specs.inner.Ways.{IsFresh, IsWritten, WritesWa
 
 use crate::batches::record_batches;
 use crate::recorder::Recorder;
-use model_history::{History, Input, Script};
+use impl_log::KeptHistory;
+use model_history::{Input, Script};
 use model_lockstep::{end_run, play_input};
 use player_io::Sink;
 use proxy_single_thread::SingleThread;
@@ -27,7 +30,7 @@ use std::marker::Model;
 use std::sync::Arc;
 use std::thread::Threads;
 
-/// A run whose recording was written to its end. Contracts see its entries, the oldest first.
+/// A run whose recording was written to its end. Contracts see its entries, forgotten ones too, the oldest first.
 #[derive(Drop)]
 pub struct Recorded {
     single: SingleThread,
@@ -44,7 +47,7 @@ impl Model for Recorded {
 
 impl Recorded {
     /// The entries, the oldest first.
-    pub fn history(&self) -> &History
+    pub fn history(&self) -> &KeptHistory
         ensures { result.now.entries ≡ self.now }
     {
         self.single.history()
@@ -58,6 +61,7 @@ fn write_news<R: Threads + Sync, K: Sink>(
     single: &mut SingleThread,
     out: &mut K,
 ) -> Result<(), WriteStop>
+    requires kept { forgettable (past single.old.run) ≤ single.old.written }
     requires keeps { Keeps single.old.run.script (reverse (take single.old.written single.old.run.entries)) single.old.run.entries recorder.old.last }
     ensures run { single.new.run ≡ single.old.run }
     ensures written { OnOk result (IsWritten single.new recorder.new) }

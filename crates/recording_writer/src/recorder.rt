@@ -5,6 +5,7 @@ ghost use Rattle.std.specs.Vec.Iter.{into_iter_items, into_iter_len};
 ghost use Rattle.model_history.specs.Recordings.{header, image_behind, piece, pieces};
 ghost use Rattle.model_history.specs.Scripts.{ScriptModel};
 ghost use Rattle.model_history.specs.declared.history.Entry.{Entry};
+ghost use Rattle.impl_log.specs.Kept.{forgettable};
 ghost use Rattle.impl_log.specs.Runs.{past};
 ghost use Rattle.recording_pieces.specs.Writing.{PutsAll, WriteCause};
 ghost use Rattle.recording_writer.specs.inner.Parts.{WritesPart};
@@ -16,7 +17,8 @@ ghost use Rattle.recording_writer.specs.inner.Steps.{DrawsOn, WritesOn};
 use crate::last_draw::LastDraw;
 use crate::writing::{flush, flush_many, put_behind};
 use impl_core::Core;
-use model_history::{Entry, Event, History};
+use impl_log::KeptHistory;
+use model_history::{Entry, Event};
 use player_io::Sink;
 use recording_pieces::WriteStop;
 use recording_text::{push_event, push_image_head};
@@ -118,7 +120,7 @@ impl Recorder {
     fn draw<R: Threads + Sync>(
         &mut self,
         rt: &R,
-        history: &History,
+        history: &KeptHistory,
         at: usize,
         entry: &Entry,
         scene: Scene,
@@ -137,7 +139,7 @@ impl Recorder {
         &mut self,
         rt: &R,
         out: &mut K,
-        history: &History,
+        history: &KeptHistory,
         at: usize,
         entry: &Entry,
         scene: Scene,
@@ -158,7 +160,7 @@ impl Recorder {
         &mut self,
         rt: &R,
         out: &mut K,
-        history: &History,
+        history: &KeptHistory,
         at: usize,
         entry: &Entry,
         scene: Option<Scene>,
@@ -179,7 +181,7 @@ impl Recorder {
         &mut self,
         rt: &R,
         out: &mut K,
-        history: &History,
+        history: &KeptHistory,
         at: usize,
         entry: &Entry,
         scenes: &mut IntoIter<Scene, Global>,
@@ -201,7 +203,8 @@ impl Recorder {
         }
     }
 
-    /// Writes the entries of a run from a place on. The scenes are those of the draws among them, the oldest first.
+    /// Writes the entries of a run from a place on, of which none is forgotten. The scenes are those of the draws among
+    /// them, the oldest first.
     pub(crate) fn write_entries<R: Threads + Sync, K: Sink>(
         &mut self,
         rt: &R,
@@ -210,6 +213,7 @@ impl Recorder {
         from: usize,
         scenes: Vec<Scene>,
     ) -> Result<(), WriteStop>
+        requires kept { forgettable (past core.now) ≤ from }
         requires keeps { Keeps core.now.script (reverse (take from core.now.entries)) core.now.entries self.old.last }
         requires come { AllCome core.now.script (reverse (take from core.now.entries)) (drop from core.now.entries) scenes.items }
         ensures written { WritesOn core.now.script (past core.now) core.now.entries (K.held out.old) (K.held out.new) (self.old.lines.items ++ pieces core.now.script (reverse (take from core.now.entries)) (drop from core.now.entries)) self.new result }
@@ -219,9 +223,7 @@ impl Recorder {
         let history = core.history();
         let mut queue = scenes.into_iter();
         for at in from..history.len() {
-            let Some(entry) = history.entry(at) else {
-                return Ok(());
-            };
+            let entry = history.entry(at);
             if let Err(stop) = self.write_entry(rt, out, history, at, entry, &mut queue) {
                 return Err(stop);
             }

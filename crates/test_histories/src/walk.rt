@@ -1,6 +1,6 @@
 //! One walk through a history.
 
-ghost use Rattle.std.specs.Prelude.{◌≡◌, ◌≤◌, ◌∷◌, ◌++◌, [], List, IfOk};
+ghost use Rattle.std.specs.Prelude.{◌≡◌, ◌-◌, ◌≤◌, ◌∷◌, ◌++◌, [], length, List, IfOk};
 ghost use Rattle.std.specs.Bool.{Decides};
 ghost use Rattle.model_history.specs.declared.history.Entry.{Entry};
 ghost use Rattle.model_history.specs.Legal.{Legal};
@@ -10,8 +10,8 @@ ghost use Rattle.test_histories.specs.Walks.{EndsAt, WalkTakes};
 
 use crate::asked::answer;
 use crate::fault::HistoryLineFault;
-use impl_log::kind_of;
-use model_history::{Entry, Event, History, Script};
+use impl_log::{KeptHistory, kind_of};
+use model_history::{Entry, Event, Script};
 use model_lockstep::EnterFault;
 use model_scheduler::Kind;
 use proxy_single_thread::SingleThread;
@@ -32,18 +32,17 @@ fn has_kind(kind: Kind, actor: u32, workers: u32) -> bool
     }
 }
 
-// Whether the newest entry of a history is of this event.
-fn is_newest(history: &History, event: &Event) -> bool
+// Whether the newest entry of a history, which is kept, is of this event.
+fn is_newest(history: &KeptHistory, event: &Event) -> bool
+    requires { history.now.first ≤ length history.now.entries - 1 }
     ensures { (before : List Entry) (newest : Entry) → history.now.entries ≡ before ++ newest ∷ [] → Decides result (newest.event ≡ event.now) }
 {
     let count = history.len();
     if count == 0 {
         return false;
     }
-    match history.entry(count - 1) {
-        None => false,
-        Some(entry) => same_event(&entry.event, event),
-    }
+    let newest = history.entry(count - 1);
+    same_event(&newest.event, event)
 }
 
 // Asks for the event of an entry's kind and actor, and answers whether that is the entry's.

@@ -120,7 +120,7 @@ fn ends_with_stop(core: &Core, before: usize, actor: u32) -> bool {
     let history = core.history();
     history.len() == before.saturating_add(1)
         && history
-            .entry(before)
+            .get(before)
             .is_some_and(|last| last.actor == actor && is_stop(&last.event, actor))
 }
 

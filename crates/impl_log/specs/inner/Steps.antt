@@ -2,6 +2,7 @@
 use Rattle.std.specs.Prelude.{ℕ, suc, ◌-◌, Bool, true, false, ◌||◌, Option, Some, None}
 use Rattle.model_scheduler.specs.Kinds.{sched_after}
 use Rattle.impl_log.specs.declared.progress.Progress.{Progress}
+use Rattle.impl_log.specs.declared.input_places.InputPlaces.{InputPlaces}
 use Rattle.model_history.specs.declared.event.Event.{Event}
 use Rattle.model_history.specs.declared.event.Event.TheVariants as event
 use Rattle.model_history.specs.EventFields.{kind_of, uses, is_last}
@@ -29,3 +30,8 @@ with_named _ p = p
 -- the progress after one event more
 abbrev pub stepped : Event → Progress → Progress
 stepped e p = with_named e (with_kind e p)
+
+-- the places of the last two inputs after an event at a place, which may use one
+abbrev pub placed : Option ℕ → ℕ → InputPlaces → InputPlaces
+placed None at p = p
+placed (Some i) at p = record { newest = at; older = p.newest }

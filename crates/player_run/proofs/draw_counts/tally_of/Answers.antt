@@ -10,10 +10,10 @@ pub loop-at-preserved : goal.loop-at-preserved
 loop-at-preserved c =
     let xs : List Entry = c.args.history.now.entries in
     let i = c.loop-at.invariant in
-    let is : slice_get xs c.loop-at.at ≡ Some c.in-Some.entry.now = search rules in
+    let is : slice_get xs c.loop-at.at ≡ Some c.entry-entry.result.now = c.entry-entry.ensures in
     let counts = c.in_ok-tally.ensures in (
-      images_more xs c.loop-at.at c.in-Some.entry.now c.loop-at.tally.images c.in_ok-tally.tally.images (image_count xs) is counts.0 i.0,
-      missing_more xs c.loop-at.at c.in-Some.entry.now c.loop-at.tally.missing c.in_ok-tally.tally.missing (missing_count xs) is counts.1 i.1,
+      images_more xs c.loop-at.at c.entry-entry.result.now c.loop-at.tally.images c.in_ok-tally.tally.images (image_count xs) is counts.0 i.0,
+      missing_more xs c.loop-at.at c.entry-entry.result.now c.loop-at.tally.missing c.in_ok-tally.tally.missing (missing_count xs) is counts.1 i.1,
       omega (arith, c.loop-at-test.true, c.len-at-end.ensures),
     )
 
@@ -28,6 +28,6 @@ pub returns-in_err-tally : goal.returns-in_err-tally
 returns-in_err-tally c =
     let xs : List Entry = c.args.history.now.entries in
     let i = c.loop-at.invariant in
-    let is : slice_get xs c.loop-at.at ≡ Some c.in-Some.entry.now = search rules in
-    let over = over_whole xs c.loop-at.at c.in-Some.entry.now 18446744073709551616 c.loop-at.tally.images c.loop-at.tally.missing is i.0 i.1 in
+    let is : slice_get xs c.loop-at.at ≡ Some c.entry-entry.result.now = c.entry-entry.ensures in
+    let over = over_whole xs c.loop-at.at c.entry-entry.result.now 18446744073709551616 c.loop-at.tally.images c.loop-at.tally.missing is i.0 i.1 in
     search (rules, over, c.in_err-tally.ensures, c.from_residual.ensures)

@@ -4,7 +4,11 @@ use Rattle.proxy_threads.specs.inner.Holdings.{Steps}
 use Rattle.proxy_threads.specs.inner.Steps.{Composes}
 use Rattle.proxy_threads.proofs.Holds.{can_put, holds}
 use Rattle.proxy_threads.proofs.CompTurns.{plays_steps}
+use Rattle.proxy_threads.proofs.KeptLines.{found_old}
 use Rattle.proxy_threads.proofs.playing.hold.Goals as goal
+
+pub compose-played-requires : goal.compose-played-requires
+compose-played-requires g c = found_old c.args.pass c.args.lines.now.written c.requires.written c.take_turn-core.result.0 c.requires.actor c.take_turn-core.ensures.sees
 
 pub put_back-pass-requires-clause-put : goal.put_back-pass-requires-clause-put
 put_back-pass-requires-clause-put g c =

@@ -3,7 +3,12 @@ use Rattle.model_lockstep.specs.Walks.{input_played}
 use Rattle.model_lockstep.proofs.Following.{then_on_ok}
 use Rattle.model_lockstep.proofs.Parts.{input_grows}
 use Rattle.recording_writer.proofs.BatchedRuns.{way_gathered}
+use Rattle.recording_writer.proofs.UsedInputs.{input_uses, kept_after}
 use Rattle.recording_writer.proofs.batches.gather_input.Goals as goal
+
+pub gather_news-requires : goal.gather_news-requires
+gather_news-requires g c κs within =
+    kept_after (input_played c.args.input.now) c.args.single.now c.play_input.new.core (input_grows c.args.input.now) (input_uses c.args.input.now) c.requires.all c.in_ok-play_input.ensures.ok
 
 pub returns : goal.returns
 returns g c =

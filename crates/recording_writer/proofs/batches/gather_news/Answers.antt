@@ -7,6 +7,7 @@ use Rattle.model_history.specs.declared.history.Entry.{Entry}
 use Rattle.model_history.specs.Legal.{Legal}
 use Rattle.model_history.specs.Recordings.{pieces}
 use Rattle.model_lockstep.proofs.Following.{then_on_ok}
+use Rattle.impl_log.specs.Kept.{forgettable}
 use Rattle.impl_log.specs.Runs.{Run, past}
 use Rattle.proxy_single_thread.specs.Singles.{SingleModel}
 use Rattle.recording_writer.specs.inner.Batches.{held_of}
@@ -14,8 +15,14 @@ use Rattle.recording_writer.specs.inner.Scenes.{AllCome}
 use Rattle.recording_writer.proofs.DrawnScenes.{news_come}
 use Rattle.recording_writer.proofs.batches.gather_news.Goals as goal
 
-pub push_entries-requires : goal.push_entries-requires
-push_entries-requires c =
+pub push_entries-requires-clause-kept : goal.push_entries-requires-clause-kept
+push_entries-requires-clause-kept c =
+    let run : Run = c.args.single.now.run in
+    let same : c.core-2.result.now ≡ run = c.core-2.ensures ∙ ap (λ (m : SingleModel). m.run) c.take_scenes-scenes.ensures.taken in
+    subst (λ (r : Run). forgettable (past r) ≤ c.written-from.result) (sym same) (subst (λ (k : ℕ). forgettable (past run) ≤ k) (sym c.written-from.ensures.written) c.requires)
+
+pub push_entries-requires-clause-come : goal.push_entries-requires-clause-come
+push_entries-requires-clause-come c =
     let single : SingleModel = c.args.single.now in
     let run : Run = single.run in
     let scenes : List SceneView = c.take_scenes-scenes.result.items in

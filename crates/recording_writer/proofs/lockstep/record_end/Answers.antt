@@ -2,7 +2,11 @@
 use Rattle.model_lockstep.specs.Walks.{run_end}
 use Rattle.model_lockstep.proofs.Parts.{end_grows}
 use Rattle.recording_writer.proofs.PlayedWays.{kept_since, way_written, way_refused}
+use Rattle.recording_writer.proofs.UsedInputs.{end_uses, kept_after}
 use Rattle.recording_writer.proofs.lockstep.record_end.Goals as goal
+
+pub write_news-requires-clause-kept : goal.write_news-requires-clause-kept
+write_news-requires-clause-kept g c κs within = kept_after run_end c.args.single.now c.end_run.new.core end_grows end_uses c.requires.written.all c.in-Ok.ensures.ok
 
 pub write_news-requires-clause-keeps : goal.write_news-requires-clause-keeps
 write_news-requires-clause-keeps g c κs within = kept_since run_end c.args.single.now c.end_run.new.core c.args.recorder.now end_grows c.requires.written c.in-Ok.ensures.ok

@@ -2,7 +2,12 @@
 use Rattle.model_lockstep.specs.Walks.{input_played}
 use Rattle.model_lockstep.proofs.Parts.{input_grows}
 use Rattle.recording_writer.proofs.PlayedWays.{kept_since, way_written, way_refused}
+use Rattle.recording_writer.proofs.UsedInputs.{input_uses, kept_after}
 use Rattle.recording_writer.proofs.lockstep.record_input.Goals as goal
+
+pub write_news-requires-clause-kept : goal.write_news-requires-clause-kept
+write_news-requires-clause-kept g c κs within =
+    kept_after (input_played c.args.input.now) c.args.single.now c.play_input.new.core (input_grows c.args.input.now) (input_uses c.args.input.now) c.requires.written.all c.in-Ok.ensures.ok
 
 pub write_news-requires-clause-keeps : goal.write_news-requires-clause-keeps
 write_news-requires-clause-keeps g c κs within = kept_since (input_played c.args.input.now) c.args.single.now c.play_input.new.core c.args.recorder.now (input_grows c.args.input.now) c.requires.written c.in-Ok.ensures.ok

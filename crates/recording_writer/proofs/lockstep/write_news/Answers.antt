@@ -7,6 +7,7 @@ use Rattle.model_history.specs.declared.history.Entry.{Entry}
 use Rattle.model_history.specs.Legal.{Legal}
 use Rattle.model_history.specs.Recordings.{pieces}
 use Rattle.model_lockstep.proofs.Following.{then_on_ok}
+use Rattle.impl_log.specs.Kept.{forgettable}
 use Rattle.impl_log.specs.Runs.{Run, past}
 use Rattle.proxy_single_thread.specs.Singles.{SingleModel}
 use Rattle.recording_writer.specs.inner.Parts.{WritesPart}
@@ -15,6 +16,12 @@ use Rattle.recording_writer.specs.inner.Scenes.{AllCome}
 use Rattle.recording_writer.specs.inner.Ways.{IsWritten}
 use Rattle.recording_writer.proofs.DrawnScenes.{news_come}
 use Rattle.recording_writer.proofs.lockstep.write_news.Goals as goal
+
+pub write_entries-requires-clause-kept : goal.write_entries-requires-clause-kept
+write_entries-requires-clause-kept g c κs within =
+    let run : Run = c.args.single.now.run in
+    let same : c.core-2.result.now ≡ run = c.core-2.ensures ∙ ap (λ (m : SingleModel). m.run) c.take_scenes-scenes.ensures.taken in
+    subst (λ (r : Run). forgettable (past r) ≤ c.written-from.result) (sym same) (subst (λ (k : ℕ). forgettable (past run) ≤ k) (sym c.written-from.ensures.written) c.requires.kept)
 
 pub write_entries-requires-clause-keeps : goal.write_entries-requires-clause-keeps
 write_entries-requires-clause-keeps g c κs within =

@@ -14,7 +14,7 @@ invariant_of-self c = record {
   main = c.self.invariant.main;
   workers = c.self.invariant.workers;
   shown =
-      all_written c.self.inside.core (record { scenes = c.replace.new.dest; written = c.len-self-inside.result }) (c.len-self-inside.ensures ∙ ap (λ (es : List Entry). length es) c.history.ensures)
+      all_written c.self.inside.core (record { scenes = c.replace.new.dest; written = c.len-self-inside.result }) (c.len-self-inside.ensures ∙ ap (λ (es : List Entry). length es) c.history.ensures.entries)
       (ap (λ (v : Vec Scene Global). v.items) c.replace.ensures.after ∙ c.new-none.ensures.items);
 }
 

@@ -8,6 +8,11 @@ use Rattle.proxy_threads.proofs.CompTurns.{comp_turn, knows_end}
 use Rattle.proxy_threads.proofs.Gained.{cause_from, wrote_from}
 use Rattle.proxy_threads.proofs.compositor.CompActor.turn.Goals as goal
 
+pub hold-pass-requires-clause-written : goal.hold-pass-requires-clause-written
+hold-pass-requires-clause-written g c =
+    let may : MayTurn c.args.lock.now.id c.args.self.now.lines.written c.in-Some.pass = subst (λ (o : Option Seat). Of o (MayTurn c.args.lock.now.id c.args.self.now.lines.written)) (sym c.in-Some.ensures.value) c.requires in
+    may.written
+
 pub returns-clause-turn : goal.returns-clause-turn
 returns-clause-turn g c =
     let may : MayTurn c.args.lock.now.id c.args.self.now.lines.written c.in-Some.pass = subst (λ (o : Option Seat). Of o (MayTurn c.args.lock.now.id c.args.self.now.lines.written)) (sym c.in-Some.ensures.value) c.requires in

@@ -21,6 +21,6 @@ one_line text es k e all is so =
 pub loop-at-preserved : goal.loop-at-preserved
 loop-at-preserved c = (
   ap (λ (w : List ℕ). w ++ lines_of (drop (c.loop-at.at + 1) c.args.history.now.entries)) c.in_ok-push_event.ensures.text
-      ∙ one_line c.loop-at.self.text.items c.args.history.now.entries c.loop-at.at c.in-Some.entry.now _ (sym c.in-Some.ensures) c.loop-at.invariant.0,
+      ∙ one_line c.loop-at.self.text.items c.args.history.now.entries c.loop-at.at c.entry-entry.result.now _ c.entry-entry.ensures c.loop-at.invariant.0,
   c.loop-at.invariant.1,
 )

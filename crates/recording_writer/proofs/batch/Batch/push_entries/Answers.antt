@@ -19,10 +19,16 @@ loop-at-init c =
     let es : List Entry = c.args.core.now.entries in
     record {
       text = refl;
-      come = subst (λ (xs : List Entry). AllCome s (reverse (take from xs)) (drop from xs) (into_iter_items c.into_iter-queue.result)) (sym c.history-history.ensures)
-          (subst (λ (scenes : List SceneView). AllCome s (reverse (take from es)) (drop from es) scenes) (sym c.into_iter-queue.ensures.rest) c.requires);
+      come = subst (λ (xs : List Entry). AllCome s (reverse (take from xs)) (drop from xs) (into_iter_items c.into_iter-queue.result)) (sym c.history-history.ensures.entries)
+          (subst (λ (scenes : List SceneView). AllCome s (reverse (take from es)) (drop from es) scenes) (sym c.into_iter-queue.ensures.rest) c.requires.come);
       count = search rules;
     }
+
+pub entry-entry-requires-clause-kept : goal.entry-entry-requires-clause-kept
+entry-entry-requires-clause-kept c =
+    let few = c.history-history.ensures.inputs in
+    let kept = c.requires.kept in
+    omega (arith, few, kept, c.loop-at.auto.at)
 
 pub loop-at-preserved : goal.loop-at-preserved
 loop-at-preserved c =
@@ -30,9 +36,9 @@ loop-at-preserved c =
     let s : ScriptModel = c.args.core.now.script in
     let at : ℕ = c.loop-at.at in
     let es : List Entry = c.history-history.result.now.entries in
-    let e : Entry = c.in-Some.entry.now in
+    let e : Entry = c.entry-entry.result.now in
     let h : List Entry = reverse (take at es) in
-    let there : slice_get es at ≡ Some e = sym c.in-Some.ensures in
+    let there : slice_get es at ≡ Some e = c.entry-entry.ensures in
     let comes = next_comes s es at e there (into_iter_items c.loop-at.queue) i.come in
     let later : List ℕ = pieces s (reverse (take (at + 1) es)) (drop (at + 1) es) in
     let held : List ℕ = held_of c.loop-at.self in
@@ -56,5 +62,5 @@ returns c =
     let held : List ℕ = held_of c.loop-at.self in
     let over : length es ≤ at = omega (arith, c.len-at-end.ensures) in
     let none : pieces s (reverse (take at es)) (drop at es) ≡ [] = ap (λ (xs : List Entry). pieces s (reverse (take at es)) xs) (drop_all at es over) in
-    subst (λ (xs : List Entry). held ≡ held_of c.args.self.now ++ pieces s (reverse (take from xs)) (drop from xs)) c.history-history.ensures
+    subst (λ (xs : List Entry). held ≡ held_of c.args.self.now ++ pieces s (reverse (take from xs)) (drop from xs)) c.history-history.ensures.entries
     (sym (append-nil held) ∙ ap (λ (w : List ℕ). held ++ w) (sym none) ∙ i.text)

@@ -25,12 +25,18 @@ loop-at-init g c =
     let es : List Entry = c.args.core.now.entries in
     record {
       part = ([], refl {a = c.args.self.now.lines.items ++ pieces s (reverse (take from c.history-history.result.now.entries)) (drop from c.history-history.result.now.entries)}, appends_nothing (g.K.Sink.held c.args.out.now));
-      keeps = subst (λ (xs : List Entry). Keeps s (reverse (take from xs)) xs c.args.self.now.last) (sym c.history-history.ensures) c.requires.keeps;
-      come = subst (λ (xs : List Entry). AllCome s (reverse (take from xs)) (drop from xs) (into_iter_items c.into_iter-queue.result)) (sym c.history-history.ensures)
+      keeps = subst (λ (xs : List Entry). Keeps s (reverse (take from xs)) xs c.args.self.now.last) (sym c.history-history.ensures.entries) c.requires.keeps;
+      come = subst (λ (xs : List Entry). AllCome s (reverse (take from xs)) (drop from xs) (into_iter_items c.into_iter-queue.result)) (sym c.history-history.ensures.entries)
           (subst (λ (scenes : List SceneView). AllCome s (reverse (take from es)) (drop from es) scenes) (sym c.into_iter-queue.ensures.rest) c.requires.come);
       count = search rules;
       grows = omega arith;
     }
+
+pub entry-entry-requires-clause-kept : goal.entry-entry-requires-clause-kept
+entry-entry-requires-clause-kept g c =
+    let few = c.history-history.ensures.inputs in
+    let kept = c.requires.kept in
+    omega (arith, few, kept, c.loop-at.auto.at)
 
 pub returns-in-Err-clause-written : goal.returns-in-Err-clause-written
 returns-in-Err-clause-written g c =
@@ -39,9 +45,9 @@ returns-in-Err-clause-written g c =
     let from : ℕ = c.args.from in
     let at : ℕ = c.loop-at.at in
     let es : List Entry = c.history-history.result.now.entries in
-    let e : Entry = c.in-Some.entry.now in
+    let e : Entry = c.entry-entry.result.now in
     let h : List Entry = reverse (take at es) in
-    let there : slice_get es at ≡ Some e = sym c.in-Some.ensures in
+    let there : slice_get es at ≡ Some e = c.entry-entry.ensures in
     let comes = next_comes s es at e there (into_iter_items c.loop-at.queue) i.come in
     let w = c.in-Err.ensures.written s h i.keeps comes.0 in
     let later : List ℕ = pieces s (reverse (take (at + 1) es)) (drop (at + 1) es) in
@@ -49,7 +55,7 @@ returns-in-Err-clause-written g c =
     record {
       bytes =
           subst (λ (xs : List Entry). GainsPrefix (g.K.Sink.held c.args.out.now) (g.K.Sink.held c.write_entry.new.out) (c.args.self.now.lines.items ++ pieces s (reverse (take from xs)) (drop from xs)))
-          c.history-history.ensures
+          c.history-history.ensures.entries
           (gains_front _ _ _ i.part.0 (lines ++ piece s h e.event) later _ i.part.2 w.bytes (piece_stops i.part.0 lines (piece s h e.event) later _ _ (next_pieces s es at e there) i.part.1));
       keeps = tt;
     }
@@ -60,11 +66,11 @@ loop-at-preserved g c =
     let s : ScriptModel = c.args.core.now.script in
     let at : ℕ = c.loop-at.at in
     let es : List Entry = c.history-history.result.now.entries in
-    let e : Entry = c.in-Some.entry.now in
+    let e : Entry = c.entry-entry.result.now in
     let h : List Entry = reverse (take at es) in
-    let there : slice_get es at ≡ Some e = sym c.in-Some.ensures in
+    let there : slice_get es at ≡ Some e = c.entry-entry.ensures in
     let comes = next_comes s es at e there (into_iter_items c.loop-at.queue) i.come in
-    let w = c.in_default-write_entry.ensures.written s h i.keeps comes.0 in
+    let w = c.in_default.ensures.written s h i.keeps comes.0 in
     let later : List ℕ = pieces s (reverse (take (at + 1) es)) (drop (at + 1) es) in
     let lines : List ℕ = c.loop-at.self.lines.items in
     record {
@@ -74,9 +80,9 @@ loop-at-preserved g c =
         gains_both _ _ _ i.part.0 w.bytes.0 i.part.2 w.bytes.2,
       );
       keeps = subst (λ (past : List Entry). Keeps s past es c.follow.new.self) (sym (newest_before es at e there)) (c.follow.ensures s h es e refl comes.0.stays w.keeps);
-      come = subst (λ (scenes : List SceneView). AllCome s (reverse (take (at + 1) es)) (drop (at + 1) es) scenes) (sym c.in_default-write_entry.ensures.left) comes.1;
-      count = c.in_default-write_entry.ensures.count;
-      grows = omega (arith, c.in_default-write_entry.ensures.grows, i.grows);
+      come = subst (λ (scenes : List SceneView). AllCome s (reverse (take (at + 1) es)) (drop (at + 1) es) scenes) (sym c.in_default.ensures.left) comes.1;
+      count = c.in_default.ensures.count;
+      grows = omega (arith, c.in_default.ensures.grows, i.grows);
     }
 
 pub returns-clause-written : goal.returns-clause-written
@@ -92,7 +98,7 @@ returns-clause-written g c =
     subst
     (λ (xs : List Entry).
     WritesOn {X = ⊤} {E = WriteStop} s (reverse xs) xs (g.K.Sink.held c.args.out.now) (g.K.Sink.held c.loop-at.out) (c.args.self.now.lines.items ++ pieces s (reverse (take from xs)) (drop from xs)) c.loop-at.self (Ok tt))
-    c.history-history.ensures
+    c.history-history.ensures.entries
     (record {
       bytes = (i.part.0, ap (λ (w : List ℕ). i.part.0 ++ w) (sym (append-nil lines) ∙ ap (λ (w : List ℕ). lines ++ w) (sym none)) ∙ i.part.1, i.part.2);
       keeps = subst (λ (past : List Entry). Keeps s (reverse past) es c.loop-at.self.last) (take_all at es over) i.keeps;

@@ -1,0 +1,12 @@
+-- The core keeps them.
+use Rattle.std.proofs.Common.{◌-◌, ◌≤◌, length, subst}
+use Rattle.impl_log.specs.Kept.{forgettable}
+use Rattle.impl_log.specs.Runs.{past}
+use Rattle.proxy_single_thread.specs.Singles.{SingleModel}
+use Rattle.proxy_single_thread.proofs.single.SingleThread.history.Goals as goal
+
+pub returns-clause-inputs : goal.returns-clause-inputs
+returns-clause-inputs c = subst (λ (m : SingleModel). c.history.result.now.first ≤ forgettable (past m.run)) c.self.view_is c.history.ensures.inputs
+
+pub returns-clause-newest : goal.returns-clause-newest
+returns-clause-newest c = subst (λ (m : SingleModel). c.history.result.now.first ≤ length m.run.entries - 1) c.self.view_is c.history.ensures.newest
