@@ -13,7 +13,7 @@ use crate::outcome::Outcome;
 use model_history::Script;
 use player_io::{PutFault, Sink};
 use recording_sums::SumSink;
-use recording_writer::{Recorded, record_lockstep};
+use recording_writer::{Recorded, Retention, record_lockstep};
 use script_generator::script_of_number;
 use std::alloc::Global;
 use std::sync::Arc;
@@ -53,7 +53,7 @@ fn play_summed<R: Threads + Sync>(rt: &R, alloc: Global, script: Arc<Script>) ->
     ensures { IfSome result (IsDemoSummary script.value) }
 {
     let mut sink = SumSink::new(alloc).ok()?;
-    match record_lockstep(rt, alloc, script, 1, &mut sink) {
+    match record_lockstep(rt, alloc, script, 1, Retention::All, &mut sink) {
         Ok(run) => summary_of(&run, &sink),
         Err(_) => None,
     }

@@ -10,7 +10,7 @@ use model_history::Script;
 use player_io::{Sink, Source};
 use player_words::Use;
 use recording_pieces::WriteStop;
-use recording_writer::{Recorded, record_lockstep};
+use recording_writer::{Recorded, Retention, record_lockstep};
 use std::alloc::Global;
 use std::sync::Arc;
 use std::thread::Threads;
@@ -36,7 +36,7 @@ pub(crate) fn play_lockstep<R: Threads + Sync, K: Sink>(
     ensures cause { Causes 0 0 (K.faults out.old) (K.faults out.new) result }
 {
     script.is_accepted();
-    match record_lockstep(rt, alloc, script, workers, out) {
+    match record_lockstep(rt, alloc, script, workers, Retention::Newest, out) {
         Ok(run) => done_with(run),
         Err(WriteStop::Fault) => Outcome::WriteFault,
         Err(WriteStop::Memory) => Outcome::Memory,

@@ -14,4 +14,4 @@ mod single;
 mod unwritten_scenes;
 mod workers;
 
-pub use single::SingleThread;
+pub use single::{Retention, SingleThread};

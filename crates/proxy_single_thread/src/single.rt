@@ -20,6 +20,24 @@ use std::thread::Threads;
 use tile_raster::Job;
 use viz_scene::Scene;
 
+/// Which entries of its history a compositor keeps.
+#[derive(Clone, Copy, PartialEq, Eq, Debug)]
+pub enum Retention {
+    /// all of them
+    All,
+    /// the newest: of those that were taken for written, old ones are forgotten
+    Newest,
+}
+
+// Lets a core forget old entries, where it is not to keep all.
+fn forget_old(core: &mut Core, retention: Retention)
+    ensures { core.new ≡ core.old }
+{
+    if retention == Retention::Newest {
+        core.forget();
+    }
+}
+
 /// A core with its main side and the jobs of its workers, all on one thread.
 ///
 /// Contracts see its run (the script, the number of workers and the entries), and how many of the entries
@@ -29,6 +47,7 @@ pub struct SingleThread {
     pub(crate) main: MainSide,
     pub(crate) workers: Workers,
     pub(crate) shown: UnwrittenScenes,
+    retention: Retention,
 }
 
 impl Model for SingleThread {
@@ -50,14 +69,20 @@ impl Drop for SingleThread {
             main: _,
             workers: _,
             shown: _,
+            retention: _,
         } = self;
     }
 }
 
 impl SingleThread {
-    /// The compositor of a script with 1 to 16 workers, before anything was entered. An error means out of
-    /// memory.
-    pub fn new(alloc: Global, script: Arc<Script>, workers: u32) -> Result<SingleThread, AllocError>
+    /// The compositor of a script with 1 to 16 workers, before anything was entered, which keeps these entries. An
+    /// error means out of memory.
+    pub fn new(
+        alloc: Global,
+        script: Arc<Script>,
+        workers: u32,
+        retention: Retention,
+    ) -> Result<SingleThread, AllocError>
         requires { (1 ≤ workers) × (workers ≤ 16) }
         ensures { IfOk result (λ single. single ≡ record { run = new_run script.value workers; written = 0 }) }
     {
@@ -70,6 +95,7 @@ impl SingleThread {
             main,
             workers: jobs,
             shown,
+            retention,
         })
     }
 
@@ -130,11 +156,12 @@ impl SingleThread {
     }
 
     /// Takes all entries for written, and hands out the scenes of the draws among those that were not, the oldest
-    /// first. Takes no memory.
+    /// first. Old entries may be forgotten. Takes no memory.
     pub fn take_scenes(&mut self) -> Vec<Scene>
         ensures scenes { AreScenes self.old.run.script (length self.old.run.entries - self.old.written) (past self.old.run) result.items }
         ensures taken { self.new ≡ record { run = self.old.run; written = length self.old.run.entries } }
     {
+        forget_old(&mut self.core, self.retention);
         self.shown.written = self.core.history().len();
         let none = Vec::new(self.workers.alloc);
         mem::replace(&mut self.shown.scenes, none)

@@ -16,7 +16,7 @@ use crate::image_painter::ImagePainter;
 use model_history::{Input, Script};
 use model_lockstep::{end_run, play_input};
 use player_io::Sink;
-use proxy_single_thread::SingleThread;
+use proxy_single_thread::{Retention, SingleThread};
 use recording_pieces::{WriteStop, put_all};
 use std::alloc::{AllocError, Global};
 use std::sync::Arc;
@@ -183,7 +183,7 @@ fn prepare(
         painter: ImagePainter::new(alloc)?,
         parts: workers as usize,
     };
-    let single = SingleThread::new(alloc, Arc::try_clone(script)?, workers)?;
+    let single = SingleThread::new(alloc, Arc::try_clone(script)?, workers, Retention::Newest)?;
     Ok((single, film))
 }
 

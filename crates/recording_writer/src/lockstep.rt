@@ -22,7 +22,7 @@ use impl_log::KeptHistory;
 use model_history::{Input, Script};
 use model_lockstep::{end_run, play_input};
 use player_io::Sink;
-use proxy_single_thread::SingleThread;
+use proxy_single_thread::{Retention, SingleThread};
 use recording_pieces::WriteStop;
 use script_json::print_script;
 use std::alloc::{AllocError, Global};
@@ -158,12 +158,13 @@ fn record_run<R: Threads + Sync, K: Sink>(
     record_end(rt, recorder, single, out)
 }
 
-// The compositor of a script with the given number of workers, before anything was entered, a recorder that
-// holds the name of the format, and the text of the script.
+// The compositor of a script with the given number of workers, before anything was entered, which keeps these
+// entries, a recorder that holds the name of the format, and the text of the script.
 fn prepare(
     alloc: Global,
     script: &Arc<Script>,
     workers: u32,
+    retention: Retention,
 ) -> Result<(SingleThread, Recorder, Vec<u8>), AllocError>
     requires { (1 ≤ workers) × (workers ≤ 16) }
     ensures fresh { IfOk result (λ p. IsFresh script.now.value p.0) }
@@ -173,7 +174,7 @@ fn prepare(
 {
     let text = print_script(alloc, script)?;
     let recorder = Recorder::new(alloc, workers as usize)?;
-    let single = SingleThread::new(alloc, Arc::try_clone(script)?, workers)?;
+    let single = SingleThread::new(alloc, Arc::try_clone(script)?, workers, retention)?;
     Ok((single, recorder, text))
 }
 
@@ -285,12 +286,13 @@ fn record_with<R: Threads + Sync, K: Sink>(
 /// made: the two header lines, the line of each event, and the image of what it shows after that of a draw.
 /// Where it stops early, the sink gained a prefix of it. Tiles that come next are made ahead and images are
 /// drawn in as many threads as there are workers, beside the compositor; the recording is the same for every number
-/// of them.
+/// of them. The run that is handed out keeps these entries.
 pub fn record_lockstep<R: Threads + Sync, K: Sink>(
     rt: &R,
     alloc: Global,
     script: Arc<Script>,
     workers: u32,
+    retention: Retention,
     out: &mut K,
 ) -> Result<Recorded, WriteStop>
     requires { (1 ≤ workers) × (workers ≤ 16) }
@@ -300,7 +302,7 @@ pub fn record_lockstep<R: Threads + Sync, K: Sink>(
     ensures cause { WriteCause (K.faults out.old) (K.faults out.new) result }
 {
     script.is_accepted();
-    match prepare(alloc, &script, workers) {
+    match prepare(alloc, &script, workers, retention) {
         Ok(prepared) => record_with(rt, prepared, &script, out),
         Err(_) => Err(WriteStop::Memory),
     }

@@ -14,7 +14,7 @@ ghost use Rattle.recording_writer.specs.inner.Ways.{IsFresh};
 
 use model_history::{Input, Script};
 use model_lockstep::{end_run, play_input};
-use proxy_single_thread::SingleThread;
+use proxy_single_thread::{Retention, SingleThread};
 use recording_png::png;
 use std::alloc::{AllocError, Global};
 use std::sync::Arc;
@@ -161,7 +161,7 @@ fn fresh(alloc: Global, script: &Arc<Script>, workers: u32) -> Result<SingleThre
     ensures { IfOk result (λ single. IsFresh script.now.value single) }
 {
     let shared = Arc::try_clone(script)?;
-    let single = SingleThread::new(alloc, shared, workers)?;
+    let single = SingleThread::new(alloc, shared, workers, Retention::Newest)?;
     Ok(single)
 }
 

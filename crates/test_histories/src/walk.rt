@@ -14,7 +14,7 @@ use impl_log::{KeptHistory, kind_of};
 use model_history::{Entry, Event, Script};
 use model_lockstep::EnterFault;
 use model_scheduler::Kind;
-use proxy_single_thread::SingleThread;
+use proxy_single_thread::{Retention, SingleThread};
 use recording_judge::same_event;
 use std::alloc::{AllocError, Global};
 use std::sync::Arc;
@@ -107,7 +107,7 @@ fn begin(alloc: Global, script: Arc<Script>, workers: u32) -> Result<SingleThrea
     if workers < 1 || workers > 16 {
         return Err(HistoryLineFault::NoWorkers);
     }
-    SingleThread::new(alloc, script, workers).map_err(HistoryLineFault::Memory)
+    SingleThread::new(alloc, script, workers, Retention::All).map_err(HistoryLineFault::Memory)
 }
 
 /// The place of the first entry of a history that may not come after those before it, in a run with 1 to 16

@@ -7,7 +7,7 @@ use Rattle.recording_writer.proofs.UsedInputs.{end_uses, kept_after}
 use Rattle.recording_writer.proofs.batches.gather_end.Goals as goal
 
 pub gather_news-requires : goal.gather_news-requires
-gather_news-requires g c κs within = kept_after run_end c.args.single.now c.end_run.new.core end_grows end_uses c.requires.all c.in_ok-end_run.ensures.ok
+gather_news-requires g c = kept_after run_end c.args.single.now c.end_run.new.core end_grows end_uses c.requires.all c.in_ok-end_run.ensures.ok
 
 pub returns : goal.returns
 returns g c =

@@ -7,7 +7,7 @@ use Rattle.recording_writer.proofs.UsedInputs.{input_uses, kept_after}
 use Rattle.recording_writer.proofs.batches.gather_input.Goals as goal
 
 pub gather_news-requires : goal.gather_news-requires
-gather_news-requires g c κs within =
+gather_news-requires g c =
     kept_after (input_played c.args.input.now) c.args.single.now c.play_input.new.core (input_grows c.args.input.now) (input_uses c.args.input.now) c.requires.all c.in_ok-play_input.ensures.ok
 
 pub returns : goal.returns
