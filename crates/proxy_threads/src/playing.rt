@@ -82,7 +82,7 @@ fn play(core: &mut Core) -> Played
 }
 
 // Plays, and gathers the lines of what was not written. Of that only what is played may use an input, so none of it is
-// forgotten.
+// forgotten; what was written long ago is.
 fn compose(core: &mut Core, lines: &mut Lines) -> Played
     requires { length (before_input (past core.old)) ≤ lines.old.written }
     ensures plays { Plays core.old core.new result }
@@ -92,6 +92,7 @@ fn compose(core: &mut Core, lines: &mut Lines) -> Played
     let played = play(core);
     lines.over = core.is_over();
     lines.wakes.renew(&played, core);
+    core.forget();
     match lines.gather(core.history()) {
         Ok(()) => played,
         Err(_) => Played::Memory,

@@ -10,8 +10,8 @@ pub gather-requires : goal.gather-requires
 gather-requires c =
     let old : Run = c.args.core.now in
     let left : Run = c.play-played.new.core in
-    let same : c.renew.new.core ≡ left = c.renew.ensures in
+    let same : c.forget.new.self ≡ left = c.forget.ensures ∙ c.renew.ensures in
     let few : forgettable (past left) ≤ c.args.lines.now.written = kept_since 0 old left c.args.lines.now.written c.requires (plays_steps old left c.play-played.result c.play-played.ensures) in
-    let kept : forgettable (past c.renew.new.core) ≤ c.args.lines.now.written = subst (λ (r : Run). forgettable (past r) ≤ c.args.lines.now.written) (sym same) few in
+    let kept : forgettable (past c.forget.new.self) ≤ c.args.lines.now.written = subst (λ (r : Run). forgettable (past r) ≤ c.args.lines.now.written) (sym same) few in
     let first = c.history.ensures.inputs in
     omega (arith, kept, first)
