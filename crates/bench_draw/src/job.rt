@@ -86,11 +86,9 @@ impl BenchJob {
                 first.as_str(),
                 second.as_str(),
             ),
-            [name, first, second, third] if name.as_str() == "raster" => Some(BenchJob::Raster {
-                kind: kind_of(first.as_str())?,
-                items: number(second.as_str(), MOST_ITEMS)?,
-                times: times(third.as_str())?,
-            }),
+            [name, first, second, third] if name.as_str() == "raster" => {
+                BenchJob::of_tile(first.as_str(), second.as_str(), third.as_str())
+            }
             [name, first, second, third] if name.as_str() == "scene" => Some(BenchJob::Scene {
                 in_groups: false,
                 items: number(first.as_str(), MOST_ITEMS)?,
@@ -105,6 +103,17 @@ impl BenchJob {
             }),
             _ => None,
         }
+    }
+
+    /// The job on a tile under items of this kind.
+    pub(crate) fn of_tile(kind: &str, items: &str, count: &str) -> Option<BenchJob>
+        ensures { IfSome result IsSmallJob }
+    {
+        Some(BenchJob::Raster {
+            kind: kind_of(kind)?,
+            items: number(items, MOST_ITEMS)?,
+            times: times(count)?,
+        })
     }
 
     /// The job on a row of this name.

@@ -13,6 +13,7 @@ use region::Region;
 use std::alloc::{AllocError, Global};
 use std::io;
 use std::sync::Arc;
+use test_table::Answer;
 use tile_raster::TileImage;
 use viz_canvas::{Canvas, Rgba};
 use viz_damage::damage_of;
@@ -248,11 +249,18 @@ fn figures_of(
     Ok(figures)
 }
 
-/// Tries the given number of pairs of scenes and tells how many are wrong.
-pub(crate) fn tell_wrong(rt: &HostRuntime, count: u32, seed: u32) -> io::Result<()> {
-    let figures = figures_of(rt.alloc(), PairKind::Changed, count, seed)?;
-    let (pairs, wrong, otherwise) = (figures.pairs, figures.wrong, figures.shown_otherwise);
-    println!(rt; "{pairs} pairs of scenes: {wrong} wrong, {otherwise} shown otherwise")?;
+/// Tries the given number of pairs of scenes, and adds to an answer how many are wrong.
+pub(crate) fn say_wrong(
+    alloc: Global,
+    count: u32,
+    seed: u32,
+    answer: &mut Answer,
+) -> Result<(), AllocError> {
+    let figures = figures_of(alloc, PairKind::Changed, count, seed)?;
+    answer.say("pairs", &[i64::try_from(figures.pairs).unwrap_or(i64::MAX)]);
+    answer.say("wrong", &[i64::try_from(figures.wrong).unwrap_or(i64::MAX)]);
+    let otherwise = i64::try_from(figures.shown_otherwise).unwrap_or(i64::MAX);
+    answer.say("shown otherwise", &[otherwise]);
     Ok(())
 }
 

@@ -30,4 +30,4 @@ mod moves;
 mod pages;
 mod texts;
 
-pub(crate) use answers::Calls;
+pub use answers::Calls;

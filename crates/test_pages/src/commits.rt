@@ -22,4 +22,4 @@ mod next_tree;
 mod pushing;
 mod table;
 
-pub(crate) use table::Pushes;
+pub use table::Pushes;

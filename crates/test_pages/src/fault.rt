@@ -13,9 +13,6 @@ pub enum PageLineFault {
     /// The line, or a number in it, has no form that a table knows.
     #[error(transparent)]
     Line(#[from] LineFault),
-    /// No table has this name.
-    #[error("no table has this name")]
-    NoTable,
     /// The script or the page is none.
     #[error("the script or the page is none")]
     NoScript,

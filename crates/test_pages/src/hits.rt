@@ -10,4 +10,4 @@
 mod asks;
 mod table;
 
-pub(crate) use table::HitQuestions;
+pub use table::HitQuestions;

@@ -11,7 +11,7 @@ mod words;
 
 pub(crate) use agreement::agrees;
 pub(crate) use checked_queue::CheckedQueue;
-pub(crate) use fault::StepFault;
+pub use fault::StepFault;
 pub(crate) use times::{LOOKS, Order, queue_times};
 pub(crate) use trial::try_steps;
 pub(crate) use words::{answer, key_of, queue_of, ready_of};

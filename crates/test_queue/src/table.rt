@@ -18,7 +18,7 @@ const NO_KEY: TileKey = TileKey {
 
 /// What was read of the table so far.
 #[derive(Drop)]
-pub(crate) struct QueueTable {
+pub struct QueueTable {
     queue: CheckedQueue,
     /// How many answers and steps there were.
     count: usize,
@@ -27,7 +27,7 @@ pub(crate) struct QueueTable {
 
 impl QueueTable {
     /// Nothing was read.
-    pub(crate) fn new(alloc: Global) -> QueueTable {
+    pub fn new(alloc: Global) -> QueueTable {
         QueueTable {
             queue: CheckedQueue::new(alloc),
             count: 0,

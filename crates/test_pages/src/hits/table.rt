@@ -11,7 +11,7 @@ use test_table::{LineFault, Table, Tally};
 
 /// What was read of the table so far.
 #[derive(Drop)]
-pub(crate) struct HitQuestions {
+pub struct HitQuestions {
     alloc: Global,
     /// The page of the script above.
     page: Option<LayerTree>,
@@ -75,7 +75,7 @@ fn question(text: &str) -> Result<Question, PageLineFault> {
 
 impl HitQuestions {
     /// Nothing was read.
-    pub(crate) fn new(alloc: Global) -> HitQuestions {
+    pub fn new(alloc: Global) -> HitQuestions {
         HitQuestions {
             alloc,
             page: None,

@@ -5,7 +5,7 @@ use thiserror::Error;
 
 /// Why a step of a queue can't be taken, or a line of the table can't be read.
 #[derive(Clone, Copy, Debug, Error)]
-pub(crate) enum StepFault {
+pub enum StepFault {
     /// There was no memory.
     #[error("memory ran out")]
     Memory(AllocError),

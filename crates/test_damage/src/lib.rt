@@ -1,7 +1,4 @@
-//! Asks of pairs of scenes what is hidden, where they differ and what is drawn, and compares the answers with a
-//! table.
-//!
-//! The table is read from standard input; a line that begins with `#` and an empty one say nothing.
+//! Asks of pairs of scenes what is hidden, where they differ and what is drawn, and compares the answers with a table.
 //!
 //! | Line | What it says |
 //! |---|---|
@@ -24,9 +21,7 @@
 //! | `culled` | | the parts of the new scene without its hidden quads |
 //! | `colour` | the number of an image | its colour, where it has only one |
 //!
-//! The colours of a picture are told row by row, each with how many pixels in a row have it. Standard output
-//! tells how many answers there were, so that none gets lost, and each that differs, with its line. One of
-//! these, or a line that can't be read, ends in status 1 and one line on standard error.
+//! The colours of a picture are told row by row, each with how many pixels in a row have it.
 #![tactic(auto)]
 
 mod answers;
@@ -37,10 +32,5 @@ mod parts;
 mod pictures;
 mod words;
 
-use crate::answers::Scenes;
-use std::process::ExitCode;
-use test_table::check_questions;
-
-fn main(rt: HostRuntime) -> ExitCode {
-    check_questions(&rt, Scenes::new(rt.alloc()))
-}
+pub use answers::Scenes;
+pub use fault::DamageLineFault;

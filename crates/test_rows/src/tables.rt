@@ -1,0 +1,112 @@
+//! The tables, one after another.
+
+use crate::fault::RowFault;
+use bench_draw::Drawings;
+use std::alloc::Global;
+use std::io;
+use test_damage::Scenes;
+use test_pages::{Calls, HitQuestions, Pushes};
+use test_queue::QueueTable;
+use test_table::{Questions, Table, Tally};
+
+/// A table.
+#[derive(Clone, Copy)]
+enum Part {
+    Hits,
+    Calls,
+    Commits,
+    Queue,
+    Damage,
+    Drawn,
+}
+
+/// The table of a name.
+fn part_of(name: &str) -> Result<Part, RowFault> {
+    match name {
+        "hits" => Ok(Part::Hits),
+        "calls" => Ok(Part::Calls),
+        "commits" => Ok(Part::Commits),
+        "queue" => Ok(Part::Queue),
+        "damage" => Ok(Part::Damage),
+        "drawn" => Ok(Part::Drawn),
+        _ => Err(RowFault::NoTable),
+    }
+}
+
+/// What was read of each table so far.
+#[derive(Drop)]
+pub(crate) struct Tables {
+    /// The one whose lines are read.
+    part: Part,
+    hits: HitQuestions,
+    calls: Questions<Calls>,
+    commits: Pushes,
+    queue: QueueTable,
+    damage: Questions<Scenes>,
+    drawn: Questions<Drawings>,
+}
+
+impl Tables {
+    /// Nothing was read.
+    pub(crate) fn new(alloc: Global) -> Tables {
+        Tables {
+            part: Part::Hits,
+            hits: HitQuestions::new(alloc),
+            calls: Questions::new(alloc, Calls::new(alloc)),
+            commits: Pushes::new(alloc),
+            queue: QueueTable::new(alloc),
+            damage: Questions::new(alloc, Scenes::new(alloc)),
+            drawn: Questions::new(alloc, Drawings::new(alloc)),
+        }
+    }
+
+    /// Takes a line of the table whose lines are read.
+    fn take_line(&mut self, rt: &HostRuntime, line: usize, text: &str) -> Result<(), RowFault> {
+        match self.part {
+            Part::Hits => self.hits.take(rt, line, text)?,
+            Part::Calls => self.calls.take(rt, line, text)?,
+            Part::Commits => self.commits.take(rt, line, text)?,
+            Part::Queue => self.queue.take(rt, line, text)?,
+            Part::Damage => self.damage.take(rt, line, text)?,
+            Part::Drawn => self.drawn.take(rt, line, text)?,
+        }
+        Ok(())
+    }
+}
+
+/// What a table counted.
+fn tally_of<T: Table<HostRuntime>>(table: &T) -> Tally {
+    table.tally()
+}
+
+impl Table<HostRuntime> for Tables {
+    type Fault = RowFault;
+
+    fn take(&mut self, rt: &HostRuntime, line: usize, text: &str) -> Result<(), RowFault> {
+        match text.strip_prefix("table: ") {
+            Some(name) => {
+                self.part = part_of(name)?;
+                Ok(())
+            }
+            None => self.take_line(rt, line, text),
+        }
+    }
+
+    fn tally(&self) -> Tally {
+        tally_of(&self.hits)
+            .and(tally_of(&self.calls))
+            .and(tally_of(&self.commits))
+            .and(tally_of(&self.queue))
+            .and(tally_of(&self.damage))
+            .and(tally_of(&self.drawn))
+    }
+
+    fn tell(&self, rt: &HostRuntime) -> io::Result<()> {
+        self.hits.tell(rt)?;
+        self.calls.tell(rt)?;
+        self.commits.tell(rt)?;
+        self.queue.tell(rt)?;
+        self.damage.tell(rt)?;
+        self.drawn.tell(rt)
+    }
+}
