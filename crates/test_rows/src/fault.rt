@@ -4,6 +4,7 @@ use bench_draw::DrawLineFault;
 use test_damage::DamageLineFault;
 use test_pages::PageLineFault;
 use test_queue::StepFault;
+use test_units::UnitFault;
 use thiserror::Error;
 
 /// Why a line of the tables can't be read.
@@ -21,6 +22,9 @@ pub(crate) enum RowFault {
     /// A line about two scenes.
     #[error(transparent)]
     Damage(#[from] DamageLineFault),
+    /// A line about the calls of the lowest crates.
+    #[error(transparent)]
+    Unit(#[from] UnitFault),
     /// A line about what the benches draw.
     #[error(transparent)]
     Drawn(#[from] DrawLineFault),

@@ -8,6 +8,7 @@
 //! | `hits` | `hits.rt` of `test_pages`: what the hit test says of a page |
 //! | `calls` | `calls.rt` of `test_pages`: what pages, main frames and scripts answer |
 //! | `commits` | `commits.rt` of `test_pages`: the keys of the trees of commits |
+//! | `units` | `units.rt` of `test_units`: cases worked by hand for the calls of the lowest crates, which stand in code |
 //! | `queue` | `lib.rt` of `test_queue`: what the raster queue answers |
 //! | `damage` | `lib.rt` of `test_damage`: what is hidden, where two scenes differ, and what is drawn |
 //! | `drawn` | `asked.rt` of `bench_draw`: what the benches draw, and pairs of random scenes |

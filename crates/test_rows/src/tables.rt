@@ -8,6 +8,7 @@ use test_damage::Scenes;
 use test_pages::{Calls, HitQuestions, Pushes};
 use test_queue::QueueTable;
 use test_table::{Questions, Table, Tally};
+use test_units::Units;
 
 /// A table.
 #[derive(Clone, Copy)]
@@ -15,6 +16,7 @@ enum Part {
     Hits,
     Calls,
     Commits,
+    Units,
     Queue,
     Damage,
     Drawn,
@@ -26,6 +28,7 @@ fn part_of(name: &str) -> Result<Part, RowFault> {
         "hits" => Ok(Part::Hits),
         "calls" => Ok(Part::Calls),
         "commits" => Ok(Part::Commits),
+        "units" => Ok(Part::Units),
         "queue" => Ok(Part::Queue),
         "damage" => Ok(Part::Damage),
         "drawn" => Ok(Part::Drawn),
@@ -41,6 +44,7 @@ pub(crate) struct Tables {
     hits: HitQuestions,
     calls: Questions<Calls>,
     commits: Pushes,
+    units: Questions<Units>,
     queue: QueueTable,
     damage: Questions<Scenes>,
     drawn: Questions<Drawings>,
@@ -54,6 +58,7 @@ impl Tables {
             hits: HitQuestions::new(alloc),
             calls: Questions::new(alloc, Calls::new(alloc)),
             commits: Pushes::new(alloc),
+            units: Questions::new(alloc, Units::new(alloc)),
             queue: QueueTable::new(alloc),
             damage: Questions::new(alloc, Scenes::new(alloc)),
             drawn: Questions::new(alloc, Drawings::new(alloc)),
@@ -66,6 +71,7 @@ impl Tables {
             Part::Hits => self.hits.take(rt, line, text)?,
             Part::Calls => self.calls.take(rt, line, text)?,
             Part::Commits => self.commits.take(rt, line, text)?,
+            Part::Units => self.units.take(rt, line, text)?,
             Part::Queue => self.queue.take(rt, line, text)?,
             Part::Damage => self.damage.take(rt, line, text)?,
             Part::Drawn => self.drawn.take(rt, line, text)?,
@@ -96,6 +102,7 @@ impl Table<HostRuntime> for Tables {
         tally_of(&self.hits)
             .and(tally_of(&self.calls))
             .and(tally_of(&self.commits))
+            .and(tally_of(&self.units))
             .and(tally_of(&self.queue))
             .and(tally_of(&self.damage))
             .and(tally_of(&self.drawn))
@@ -105,6 +112,7 @@ impl Table<HostRuntime> for Tables {
         self.hits.tell(rt)?;
         self.calls.tell(rt)?;
         self.commits.tell(rt)?;
+        self.units.tell(rt)?;
         self.queue.tell(rt)?;
         self.damage.tell(rt)?;
         self.drawn.tell(rt)

@@ -3,6 +3,7 @@
 #![tactic(auto)]
 
 mod answer;
+mod checks;
 mod fault;
 mod lines;
 mod questions;
@@ -11,6 +12,7 @@ mod titles;
 mod values;
 
 pub use answer::Answer;
+pub use checks::Checks;
 pub use fault::LineFault;
 pub use lines::{Table, check_table, end_counted, end_unread, says_something};
 pub use questions::{Questions, Subject, check_questions};

@@ -1,3 +1,5 @@
+//! Images of tiles worked by hand.
+
 ghost use Rattle.std.specs.Prelude.{◌≡◌, pos, IfOk};
 ghost use Rattle.geom.specs.Covers.{IsSound};
 
@@ -6,25 +8,29 @@ use page_display_list::{DisplayList, Item};
 use pixel::Colour;
 use std::alloc::{AllocError, Global};
 use std::sync::Arc;
+use test_table::Checks;
 use tile_raster::{Job, TileImage};
 
-#[test]
-fn a_rect_over_half_of_a_tile(rt: HostRuntime) -> Result<(), AllocError> {
-    let image = image_of(rt.alloc(), 1)?;
-    assert_eq!(rt; image.solid(), None);
-    assert_eq!(rt; image.key(), KEY);
-    assert_eq!(rt; image.row(0), [255, 0, 0, 255, 0, 0, 0, 0].as_slice());
+/// A rect over half of a tile.
+pub fn rect_over_half_of_a_tile(alloc: Global, checks: &mut Checks) -> Result<(), AllocError> {
+    let image = image_of(alloc, 1)?;
+    checks.same("no colour of its own", &image.solid(), &None);
+    checks.same("its key", &image.key(), &KEY);
+    let row = [255, 0, 0, 255, 0, 0, 0, 0];
+    checks.same("its row", &image.row(0), &row.as_slice());
     Ok(())
 }
 
-#[test]
-fn a_tile_of_one_colour(rt: HostRuntime) -> Result<(), AllocError> {
-    let image = image_of(rt.alloc(), 2)?;
-    assert_eq!(rt; image.solid().map(|c| c.r()), Some(255));
-    assert_eq!(rt; image.row(0), [255, 0, 0, 255, 255, 0, 0, 255].as_slice());
+/// A tile of one colour.
+pub fn tile_of_one_colour(alloc: Global, checks: &mut Checks) -> Result<(), AllocError> {
+    let image = image_of(alloc, 2)?;
+    checks.same("its red", &image.solid().map(|c| c.r()), &Some(255));
+    let row = [255, 0, 0, 255, 255, 0, 0, 255];
+    checks.same("its row", &image.row(0), &row.as_slice());
     Ok(())
 }
 
+/// The key of the tile.
 const KEY: TileKey = TileKey {
     layer: 1,
     x: 0,
@@ -32,7 +38,7 @@ const KEY: TileKey = TileKey {
     stamp: 0,
 };
 
-// a tile of 2 by 1 under a red rect of this width
+/// A tile of 2 by 1 under a red rect of this width.
 fn image_of(alloc: Global, wide: u8) -> Result<Arc<TileImage>, AllocError>
     ensures { IfOk result (λ image. image.value.rect.h ≡ pos 1) }
 {
@@ -58,7 +64,7 @@ fn image_of(alloc: Global, wide: u8) -> Result<Arc<TileImage>, AllocError>
     }
 }
 
-// the rect of this width and one row, at the origin
+/// The rect of this width and one row, at the origin.
 fn strip(wide: u8) -> Rect
     ensures sound { IsSound result }
     ensures one_row { result.h ≡ pos 1 }

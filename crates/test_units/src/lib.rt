@@ -1,26 +1,21 @@
 //! Cases worked by hand for the calls of the lowest crates, one file a crate.
 //!
-//! They stand here and not in those crates because a crate with tests is proved a second time for them. Nobody calls
-//! this crate.
+//! They are called by the lines of a table, whose form `units.rt` tells. They stand in code where their numbers
+//! alone would say little.
 #![tactic(auto)]
 
-#[cfg(test)]
+mod fault;
 mod images;
-#[cfg(test)]
 mod lists;
-#[cfg(test)]
 mod pixels;
-#[cfg(test)]
 mod ranks;
-#[cfg(test)]
 mod rects;
-#[cfg(test)]
 mod regions;
-#[cfg(test)]
 mod scroll_values;
-#[cfg(test)]
 mod states;
-#[cfg(test)]
 mod stores;
-#[cfg(test)]
 mod tilings;
+mod units;
+
+pub use fault::UnitFault;
+pub use units::Units;

@@ -1,11 +1,12 @@
 //! Lists and bitmaps worked by hand.
 
+use crate::fault::UnitFault;
 use geom::Rect;
 use page_display_list::{BitmapCause, DisplayList, Item};
 use pixel::Colour;
 use std::alloc::{AllocError, Global};
 use std::sync::Arc;
-use std::test::Fail;
+use test_table::Checks;
 
 /// These bytes, to be shared.
 fn shared(alloc: Global, bytes: &[u8]) -> Result<Arc<Vec<u8>>, AllocError> {
@@ -14,7 +15,7 @@ fn shared(alloc: Global, bytes: &[u8]) -> Result<Arc<Vec<u8>>, AllocError> {
 }
 
 /// What `Item::bitmap` finds wrong with these bytes; `None` where they are a bitmap.
-fn cause_of(alloc: Global, w: i32, bytes: &[u8]) -> Result<Option<BitmapCause>, Fail> {
+fn cause_of(alloc: Global, w: i32, bytes: &[u8]) -> Result<Option<BitmapCause>, UnitFault> {
     let rect = Rect {
         x: 0,
         y: 0,
@@ -25,47 +26,43 @@ fn cause_of(alloc: Global, w: i32, bytes: &[u8]) -> Result<Option<BitmapCause>, 
         Ok(_) => Ok(None),
         Err(bad) => {
             if bad.pixels.as_slice() != bytes {
-                return Err(Fail::from("other bytes came back"));
+                return Err(UnitFault::Refused);
             }
             Ok(Some(bad.cause))
         }
     }
 }
 
-#[test]
-fn bad_bitmaps(rt: HostRuntime) -> Result<(), Fail> {
+/// Bytes that are no bitmap, which come back, and some that are one.
+pub fn bad_bitmaps(alloc: Global, checks: &mut Checks) -> Result<(), UnitFault> {
     let bytes = [0xff, 0, 0, 0xff, 2, 0, 0, 1];
-    assert_eq!(rt;
-        cause_of(rt.alloc(), 2, bytes.as_slice())?,
-        Some(BitmapCause::Pixel { place: 1 })
-    );
-    assert_eq!(rt;
-        cause_of(rt.alloc(), 2, &bytes[..7])?,
-        Some(BitmapCause::Length {
-            given: 7,
-            wanted: 8
-        })
-    );
-    assert_eq!(rt;
-        cause_of(rt.alloc(), 257, bytes.as_slice())?,
-        Some(BitmapCause::Side)
-    );
-    assert_eq!(rt; cause_of(rt.alloc(), 1, &bytes[..4])?, None);
+    let cause = cause_of(alloc, 2, bytes.as_slice())?;
+    let pixel = BitmapCause::Pixel { place: 1 };
+    checks.same("no colour", &cause, &Some(pixel));
+    let cause = cause_of(alloc, 2, &bytes[..7])?;
+    let length = BitmapCause::Length {
+        given: 7,
+        wanted: 8,
+    };
+    checks.same("too short", &cause, &Some(length));
+    let cause = cause_of(alloc, 257, bytes.as_slice())?;
+    checks.same("too wide", &cause, &Some(BitmapCause::Side));
+    checks.same("a bitmap", &cause_of(alloc, 1, &bytes[..4])?, &None);
     Ok(())
 }
 
-#[test]
-fn one_red_pixel(rt: HostRuntime) -> Result<(), Fail> {
-    let red = Colour::new(0xff, 0, 0, 0xff).ok_or("red")?;
+/// A list of one red pixel.
+pub fn one_red_pixel(alloc: Global, checks: &mut Checks) -> Result<(), UnitFault> {
+    let red = Colour::new(0xff, 0, 0, 0xff).ok_or(UnitFault::Refused)?;
     let rect = Rect {
         x: 0,
         y: 0,
         w: 1,
         h: 1,
     };
-    let mut list = DisplayList::new(rt.alloc());
-    if let Err((want, _item)) = list.insert(0, Item::Rect { rect, colour: red }) {
-        return Err(Fail::from(want));
+    let mut list = DisplayList::new(alloc);
+    if let Err((full, _item)) = list.insert(0, Item::Rect { rect, colour: red }) {
+        return Err(UnitFault::Memory(full));
     }
     let area = Rect {
         x: 0,
@@ -74,34 +71,33 @@ fn one_red_pixel(rt: HostRuntime) -> Result<(), Fail> {
         h: 1,
     };
     let bytes = list.raster(area)?;
-    assert_eq!(rt; bytes.as_slice(), [0xff, 0, 0, 0xff, 0, 0, 0, 0].as_slice());
+    let row = [0xff, 0, 0, 0xff, 0, 0, 0, 0];
+    checks.same("its row", &bytes.as_slice(), &row.as_slice());
     let copy = list.copy()?;
-    assert_eq!(rt; copy.len(), 1);
-    assert_eq!(rt; copy.pixel_at(0, 0), red);
+    checks.same("of one item", &copy.len(), &1);
+    checks.same("the copy's pixel", &copy.pixel_at(0, 0), &red);
     Ok(())
 }
 
 /// A bitmap of two half-transparent pixels over a white rect, of which the area shows the lower right corner.
-#[test]
-fn bitmap_over_a_rect(rt: HostRuntime) -> Result<(), Fail> {
-    let white = Colour::new(0xff, 0xff, 0xff, 0xff).ok_or("white")?;
-    let mut list = DisplayList::new(rt.alloc());
+pub fn bitmap_over_a_rect(alloc: Global, checks: &mut Checks) -> Result<(), UnitFault> {
+    let white = Colour::new(0xff, 0xff, 0xff, 0xff).ok_or(UnitFault::Refused)?;
+    let blue = Colour::new(0, 0, 0x80, 0x80).ok_or(UnitFault::Refused)?;
+    let mut list = DisplayList::new(alloc);
     let rect = Rect {
         x: 0,
         y: 0,
         w: 3,
         h: 2,
     };
-    if let Err((want, _item)) = list.insert(
-        0,
-        Item::Rect {
-            rect,
-            colour: white,
-        },
-    ) {
-        return Err(Fail::from(want));
+    let item = Item::Rect {
+        rect,
+        colour: white,
+    };
+    if let Err((full, _item)) = list.insert(0, item) {
+        return Err(UnitFault::Memory(full));
     }
-    let pixels = shared(rt.alloc(), [0, 0, 0x80, 0x80, 0x80, 0, 0, 0x80].as_slice())?;
+    let pixels = shared(alloc, [0, 0, 0x80, 0x80, 0x80, 0, 0, 0x80].as_slice())?;
     let at = Rect {
         x: 1,
         y: 1,
@@ -109,10 +105,10 @@ fn bitmap_over_a_rect(rt: HostRuntime) -> Result<(), Fail> {
         h: 1,
     };
     let Ok(item) = Item::bitmap(at, pixels) else {
-        return Err(Fail::from("no bitmap"));
+        return Err(UnitFault::Refused);
     };
-    if let Err((want, _item)) = list.insert(1, item) {
-        return Err(Fail::from(want));
+    if let Err((full, _item)) = list.insert(1, item) {
+        return Err(UnitFault::Memory(full));
     }
     let area = Rect {
         x: 2,
@@ -125,15 +121,12 @@ fn bitmap_over_a_rect(rt: HostRuntime) -> Result<(), Fail> {
         0xff, 0xff, 0xff, 0xff, 0, 0, 0, 0, 0xff, 0x7f, 0x7f, 0xff, 0, 0, 0, 0, 0, 0, 0, 0, 0, 0,
         0, 0,
     ];
-    assert_eq!(rt; bytes.as_slice(), rows.as_slice());
+    checks.same("the corner", &bytes.as_slice(), &rows.as_slice());
     let first = list.remove(0);
-    assert_eq!(rt; first.rect(), rect);
-    assert_eq!(rt;
-        list.pixel_at(1, 1),
-        Colour::new(0, 0, 0x80, 0x80).ok_or("blue")?
-    );
+    checks.same("the lower one is gone", &first.rect(), &rect);
+    checks.same("the upper one is left", &list.pixel_at(1, 1), &blue);
     let second = list.replace(0, first);
-    assert_eq!(rt; second.rect(), at);
-    assert_eq!(rt; list.pixel_at(1, 1), white);
+    checks.same("it is replaced", &second.rect(), &at);
+    checks.same("by the lower one", &list.pixel_at(1, 1), &white);
     Ok(())
 }

@@ -2,31 +2,29 @@
 
 ghost use Rattle.std.specs.Prelude.{◌*◌, ◌≤◌, length};
 
+use crate::fault::UnitFault;
 use pixel::{Colour, fill_row, first_wrong, over_row, over_row_plain, scale_row, scale_row_plain};
 use std::alloc::{AllocError, Global};
-use std::test::Fail;
+use test_table::Checks;
 
 /// Half-transparent red over white, at lengths on both sides of the kernels' sixteen bytes.
-#[test]
-fn half_red_over_white(rt: HostRuntime) -> Result<(), Fail> {
-    let red = Colour::new(0x80, 0, 0, 0x80).ok_or("red")?;
-    let white = Colour::new(0xff, 0xff, 0xff, 0xff).ok_or("white")?;
+pub fn half_red_over_white(alloc: Global, checks: &mut Checks) -> Result<(), UnitFault> {
+    let red = Colour::new(0x80, 0, 0, 0x80).ok_or(UnitFault::Refused)?;
+    let white = Colour::new(0xff, 0xff, 0xff, 0xff).ok_or(UnitFault::Refused)?;
     for count in [1usize, 4, 7, 33] {
-        let mut src = vec![in rt.alloc(); 0u8; 4 * count]?;
-        let mut dst = vec![in rt.alloc(); 0u8; 4 * count]?;
+        let mut src = vec![in alloc; 0u8; 4 * count]?;
+        let mut dst = vec![in alloc; 0u8; 4 * count]?;
         fill_row(src.as_mut_slice(), red);
         fill_row(dst.as_mut_slice(), white);
         over_row(dst.as_mut_slice(), src.as_slice());
         for (i, byte) in dst.iter().enumerate() {
             let want = if i % 4 == 1 || i % 4 == 2 { 0x7f } else { 0xff };
-            assert_eq!(rt; *byte, want, "byte {i} of {count} pixels");
+            checks.same("a byte of the row", byte, &want);
         }
     }
-    assert_eq!(rt;
-        white.over(red),
-        Colour::new(0xff, 0x7f, 0x7f, 0xff).ok_or("pink")?
-    );
-    assert_eq!(rt; Colour::new(1, 0, 2, 1), None);
+    let pink = Colour::new(0xff, 0x7f, 0x7f, 0xff);
+    checks.same("one pixel", &Some(white.over(red)), &pink);
+    checks.same("no colour", &Colour::new(1, 0, 2, 1), &None);
     Ok(())
 }
 
@@ -67,14 +65,13 @@ fn is_same(alloc: Global, src: &mut [u8], count: usize, alpha: u8) -> Result<boo
 }
 
 /// The kernels and the plain loops write the same bytes, at all lengths up to 70 pixels and all alphas.
-#[test]
-fn kernels_as_plain_loops(rt: HostRuntime) -> Result<(), Fail> {
-    let mut bytes = vec![in rt.alloc(); 0u8; 280]?;
+pub fn kernels_as_plain_loops(alloc: Global, checks: &mut Checks) -> Result<(), UnitFault> {
+    let mut bytes = vec![in alloc; 0u8; 280]?;
     let src = bytes.as_mut_slice();
     for count in 0usize..71 {
         for alpha in 0u8..=255 {
-            let same = is_same(rt.alloc(), src, count, alpha)?;
-            assert!(rt; same, "{count} pixels of alphas from {alpha} on");
+            let same = is_same(alloc, src, count, alpha)?;
+            checks.holds("both write the same bytes", same);
         }
     }
     Ok(())

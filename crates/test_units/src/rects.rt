@@ -1,8 +1,12 @@
-use geom::{Grid, Keys, Place, Point, Rect, TileKey};
-use std::test::Fail;
+//! Rects, places of a grid and keys worked by hand.
 
-#[test]
-fn rects_by_hand(rt: HostRuntime) {
+use crate::fault::UnitFault;
+use geom::{Grid, Keys, Place, Point, Rect, TileKey};
+use std::alloc::Global;
+use test_table::Checks;
+
+/// Rects that meet, that stand beside each other, and that are far from each other.
+pub fn rects(checks: &mut Checks) {
     let rect = Rect {
         x: -3,
         y: -2,
@@ -15,44 +19,40 @@ fn rects_by_hand(rt: HostRuntime) {
         w: 9,
         h: 4,
     };
-    assert_eq!(rt;
-        rect.intersect(right),
-        Rect {
-            x: 1,
-            y: -2,
-            w: 1,
-            h: 1
-        }
-    );
+    let corner = Rect {
+        x: 1,
+        y: -2,
+        w: 1,
+        h: 1,
+    };
+    checks.same("they meet", &rect.intersect(right), &corner);
     let beside = Rect {
         x: 2,
         y: 0,
         w: 1,
         h: 1,
     };
-    assert_eq!(rt;
-        rect.intersect(beside),
-        Rect {
-            x: 0,
-            y: 0,
-            w: 0,
-            h: 0
-        }
-    );
-    assert_eq!(rt; rect.distance(beside), 0);
+    let none = Rect {
+        x: 0,
+        y: 0,
+        w: 0,
+        h: 0,
+    };
+    checks.same("one beside", &rect.intersect(beside), &none);
+    checks.same("no distance", &rect.distance(beside), &0);
     let far = Rect {
         x: 10,
         y: 3,
         w: 2,
         h: 2,
     };
-    assert_eq!(rt; rect.distance(far), 8);
-    assert_eq!(rt; far.distance(rect), 8);
+    checks.same("far", &rect.distance(far), &8);
+    checks.same("as far back", &far.distance(rect), &8);
 }
 
-#[test]
+/// Places that an area touches, and the place of a point in a grid that is cut off.
 #[tactic(auto, unfolding(geom::specs::Covers::within))]
-fn places_by_hand(rt: HostRuntime) -> Result<(), Fail> {
+pub fn places(alloc: Global, checks: &mut Checks) -> Result<(), UnitFault> {
     let grid = Grid {
         w: 48,
         h: 32,
@@ -64,10 +64,11 @@ fn places_by_hand(rt: HostRuntime) -> Result<(), Fail> {
         w: 2,
         h: 1,
     };
-    let places = grid.places_touching(rt.alloc(), area)?;
-    assert_eq!(rt;
-        places.as_slice(),
-        [Place { x: 0, y: 0 }, Place { x: 1, y: 0 }].as_slice()
+    let places = grid.places_touching(alloc, area)?;
+    checks.same(
+        "touched",
+        &places.as_slice(),
+        &[Place { x: 0, y: 0 }, Place { x: 1, y: 0 }].as_slice(),
     );
     let cut = Grid {
         w: 40,
@@ -75,22 +76,22 @@ fn places_by_hand(rt: HostRuntime) -> Result<(), Fail> {
         tile: 16,
     };
     let last = cut.place_of(Point { x: 39, y: 32 });
-    assert_eq!(rt; last, Place { x: 2, y: 2 });
-    assert!(rt; cut.has(last));
-    assert_eq!(rt;
-        cut.rect_of(last),
-        Rect {
-            x: 32,
-            y: 32,
-            w: 8,
-            h: 1
-        }
-    );
+    checks.same("the last place", &last, &Place { x: 2, y: 2 });
+    if !cut.has(last) {
+        return Err(UnitFault::Refused);
+    }
+    let rest = Rect {
+        x: 32,
+        y: 32,
+        w: 8,
+        h: 1,
+    };
+    checks.same("its rect", &cut.rect_of(last), &rest);
     Ok(())
 }
 
-#[test]
-fn keys_by_hand(rt: HostRuntime) -> Result<(), Fail> {
+/// Keys in their order, and a copy of a list of them.
+pub fn keys(alloc: Global, checks: &mut Checks) -> Result<(), UnitFault> {
     let first = TileKey {
         layer: 1,
         x: 9,
@@ -103,12 +104,12 @@ fn keys_by_hand(rt: HostRuntime) -> Result<(), Fail> {
         y: 1,
         stamp: 0,
     };
-    assert!(rt; first < second);
-    let mut keys = Keys::new(rt.alloc());
-    assert!(rt; keys.push(first).is_ok());
+    checks.holds("rows come first", first < second);
+    let mut keys = Keys::new(alloc);
+    checks.holds("one is added", keys.push(first).is_ok());
     let copy = keys.copy()?;
-    assert_eq!(rt; keys.len(), 1);
-    assert!(rt; copy.at(0) == Some(&first));
-    assert!(rt; copy.at(1).is_none());
+    checks.same("one", &keys.len(), &1);
+    checks.same("the copy's first", &copy.at(0), &Some(&first));
+    checks.holds("no second", copy.at(1).is_none());
     Ok(())
 }

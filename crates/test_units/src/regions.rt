@@ -1,43 +1,47 @@
+//! Regions and changes worked by hand.
+
 ghost use Rattle.std.specs.Prelude.{pos, ◌≤ℤ◌};
 ghost use Rattle.geom.specs.Covers.{IsSound};
 
 use geom::{Point, Rect};
 use region::{Changes, LayerChange, Region};
-use std::alloc::AllocError;
+use std::alloc::{AllocError, Global};
+use test_table::Checks;
 
-#[test]
-fn a_union_covers_both_parts_and_no_more(rt: HostRuntime) -> Result<(), AllocError> {
-    let mut region = Region::new(rt.alloc());
+/// A union covers both parts and no more.
+pub fn union_covers_both(alloc: Global, checks: &mut Checks) -> Result<(), AllocError> {
+    let mut region = Region::new(alloc);
     region.add(pixel(0))?;
-    let mut other = Region::new(rt.alloc());
+    let mut other = Region::new(alloc);
     other.add(pixel(2))?;
     region.union(&other)?;
-    assert!(rt; region.covers(Point { x: 0, y: 0 }));
-    assert!(rt; !region.covers(Point { x: 1, y: 0 }));
-    assert!(rt; region.covers(Point { x: 2, y: 0 }));
-    assert!(rt; region.touches(pixel(2)));
+    checks.holds("the first part", region.covers(Point { x: 0, y: 0 }));
+    checks.holds("nothing between", !region.covers(Point { x: 1, y: 0 }));
+    checks.holds("the second part", region.covers(Point { x: 2, y: 0 }));
+    checks.holds("it touches that", region.touches(pixel(2)));
     region.clip(pixel(0));
-    assert!(rt; !region.covers(Point { x: 2, y: 0 }));
+    checks.holds("no second part", !region.covers(Point { x: 2, y: 0 }));
     Ok(())
 }
 
-#[test]
-fn joined_changes_list_the_layers_of_both(rt: HostRuntime) -> Result<(), AllocError> {
-    let changes = changes_of(rt.alloc(), 1)?;
+/// Joined changes list the layers of both.
+pub fn joined_changes(alloc: Global, checks: &mut Checks) -> Result<(), AllocError> {
+    let changes = changes_of(alloc, 1)?;
     let mut joined = changes.copy()?;
-    let later = changes_of(rt.alloc(), 2)?;
+    let later = changes_of(alloc, 2)?;
     joined.join(&later)?;
-    assert_eq!(rt; layers(&joined), (Some(1), Some(2), None));
+    checks.same("of both", &layers(&joined), &[Some(1), Some(2), None]);
     joined.forget(1);
-    assert_eq!(rt; layers(&joined), (Some(2), None, None));
-    assert_eq!(rt; layers(&changes), (Some(1), None, None));
-    assert!(rt; !joined.retiled());
+    checks.same("of one", &layers(&joined), &[Some(2), None, None]);
+    checks.same("as it was", &layers(&changes), &[Some(1), None, None]);
+    checks.holds("no new tiles", !joined.retiled());
     joined.mark_retiled();
-    assert!(rt; joined.retiled());
+    checks.holds("new tiles", joined.retiled());
     Ok(())
 }
 
-fn changes_of(alloc: std::alloc::Global, layer: u32) -> Result<Changes, AllocError> {
+/// What changed on one layer.
+fn changes_of(alloc: Global, layer: u32) -> Result<Changes, AllocError> {
     let mut changes = Changes::new(alloc);
     let change = LayerChange {
         layer,
@@ -50,18 +54,21 @@ fn changes_of(alloc: std::alloc::Global, layer: u32) -> Result<Changes, AllocErr
     }
 }
 
-fn layers(changes: &Changes) -> (Option<u32>, Option<u32>, Option<u32>) {
-    (
+/// The layers of the first three changes.
+fn layers(changes: &Changes) -> [Option<u32>; 3] {
+    [
         layer_at(changes, 0),
         layer_at(changes, 1),
         layer_at(changes, 2),
-    )
+    ]
 }
 
+/// The layer of a change.
 fn layer_at(changes: &Changes, i: usize) -> Option<u32> {
     changes.at(i).map(|change| change.layer)
 }
 
+/// One pixel of the first row.
 fn pixel(x: i32) -> Rect
     requires low { pos 0 ≤ℤ x }
     requires high { x ≤ℤ pos 100 }

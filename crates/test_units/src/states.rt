@@ -1,11 +1,15 @@
-use model_scheduler::{Kind, Sched};
+//! States of the scheduler worked by hand.
 
-#[test]
-fn one_send_in_an_impl_frame(rt: HostRuntime) {
+use model_scheduler::{Kind, Sched};
+use test_table::Checks;
+
+/// A frame is sent at most once in an impl frame.
+pub fn one_send_in_an_impl_frame(checks: &mut Checks) {
     let start = Sched::START;
-    assert!(rt; start.may(Kind::BeginDraw));
-    assert!(rt; !start.may(Kind::Finish));
+    checks.holds("a draw may begin at first", start.may(Kind::BeginDraw));
+    checks.holds("nothing is to be finished", !start.may(Kind::Finish));
     let begun = start.after(Kind::BeginDraw);
-    assert!(rt; begun.may(Kind::Send));
-    assert!(rt; !begun.after(Kind::Send).may(Kind::Send));
+    checks.holds("a frame may be sent", begun.may(Kind::Send));
+    let sent = begun.after(Kind::Send);
+    checks.holds("no second one", !sent.may(Kind::Send));
 }

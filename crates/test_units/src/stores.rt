@@ -1,80 +1,86 @@
+//! Steps of a store beside a plain list of keys.
+
 ghost use Rattle.std.specs.Prelude.{◌≡◌, true, false, IfOk};
 ghost use Rattle.geom.specs.declared.tile.TileKey.{TileKey};
 
+use crate::fault::UnitFault;
 use geom::{Keys, Rect, TileKey};
 use page_display_list::DisplayList;
 use std::alloc::{AllocError, Global};
-use std::process::Abort;
 use std::sync::Arc;
+use test_table::Checks;
 use tile_raster::{Job, TileImage};
 use tile_store::TileStore;
 
-#[test]
-fn one_tile_is_started_and_done(rt: HostRuntime) -> Result<(), AllocError> {
-    let mut store = TileStore::new(rt.alloc());
-    start(&rt, rt.alloc(), &mut store, key(1))?;
-    assert!(rt; store.in_flight(key(1)));
-    assert!(rt; store.ready(key(1)).is_none());
-    done(&rt, rt.alloc(), &mut store, key(1), true)?;
-    assert_eq!(rt; store.ready_keys()?.as_slice(), [key(1)].as_slice());
-    assert_eq!(rt; store.ready(key(1)).map(|image| image.key()), Some(key(1)));
-    assert_eq!(rt; store.used(), 1);
-    assert!(rt; !store.in_flight(key(1)));
+/// One tile is started, and done.
+pub fn one_tile_is_started_and_done(alloc: Global, checks: &mut Checks) -> Result<(), UnitFault> {
+    let mut store = TileStore::new(alloc);
+    start(alloc, &mut store, key(1))?;
+    checks.holds("it is in flight", store.in_flight(key(1)));
+    checks.holds("it is not ready", store.ready(key(1)).is_none());
+    done(alloc, &mut store, key(1), true)?;
+    let ready = store.ready_keys()?;
+    checks.same("ready", &ready.as_slice(), &[key(1)].as_slice());
+    let image = store.ready(key(1)).map(|image| image.key());
+    checks.same("its image", &image, &Some(key(1)));
+    checks.same("one is used", &store.used(), &1);
+    checks.holds("none is in flight", !store.in_flight(key(1)));
     Ok(())
 }
 
-#[test]
-fn each_step_agrees_with_a_plain_list(rt: HostRuntime) -> Result<(), AllocError> {
-    let mut store = TileStore::new(rt.alloc());
-    let mut plain: Vec<(TileKey, bool)> = Vec::new(rt.alloc());
-    for step in 0..600u32 {
-        let one = key(step * 7 % 23);
-        match state(&plain, one) {
-            Some(true) => {
-                if step % 5 == 0 {
-                    give_up_thirds(rt.alloc(), &mut store, &mut plain)?;
-                }
-            }
-            Some(false) => {
-                done(&rt, rt.alloc(), &mut store, one, step % 3 != 0)?;
-                forget(&mut plain, one);
-                if step % 3 != 0 {
-                    plain.push((one, true))?;
-                }
-            }
-            None => {
-                start_next(&rt, rt.alloc(), &mut store, &mut plain, one, step % 2 == 0)?;
+/// Takes a step with a key: it starts, is done, or, where it is ready, thirds of the keys are given up at times.
+fn take_step(
+    alloc: Global,
+    store: &mut TileStore,
+    plain: &mut Vec<(TileKey, bool)>,
+    step: u32,
+) -> Result<(), UnitFault> {
+    let one = key(step.wrapping_mul(7) % 23);
+    match state(plain, one) {
+        Some(true) if step % 5 == 0 => give_up_thirds(alloc, store, plain)?,
+        Some(true) => {}
+        Some(false) => {
+            done(alloc, store, one, step % 3 != 0)?;
+            forget(plain, one);
+            if step % 3 != 0 {
+                push(plain, (one, true))?;
             }
         }
-        compare(&rt, &store, &plain)?;
+        None => start_next(alloc, store, plain, one, step % 2 == 0)?,
     }
     Ok(())
 }
 
-// the store and the list hold the same keys, ready and in flight
-fn compare(
-    rt: &impl Abort,
-    store: &TileStore,
-    plain: &[(TileKey, bool)],
-) -> Result<(), AllocError> {
-    assert_eq!(rt; store.used() as usize, plain.len());
+/// Each of 600 steps agrees with a plain list.
+pub fn steps_agree_with_a_plain_list(alloc: Global, checks: &mut Checks) -> Result<(), UnitFault> {
+    let mut store = TileStore::new(alloc);
+    let mut plain: Vec<(TileKey, bool)> = Vec::new(alloc);
+    for step in 0..600u32 {
+        take_step(alloc, &mut store, &mut plain, step)?;
+        checks.holds("a step", agree(&store, &plain)?);
+    }
+    Ok(())
+}
+
+/// Whether the store and the list hold the same keys, ready and in flight.
+fn agree(store: &TileStore, plain: &[(TileKey, bool)]) -> Result<bool, AllocError> {
     let ready = store.ready_keys()?;
     let mut count = 0usize;
+    let mut agrees = store.used() as usize == plain.len();
     for n in 0..23u32 {
         let one = key(n);
         let held = state(plain, one);
-        assert_eq!(rt; store.ready(one).is_some(), held == Some(true));
-        assert_eq!(rt; store.in_flight(one), held == Some(false));
+        agrees &= store.ready(one).is_some() == (held == Some(true));
+        agrees &= store.in_flight(one) == (held == Some(false));
         if held == Some(true) {
-            assert!(rt; ready.at(count) == Some(&one));
+            agrees &= ready.at(count) == Some(&one);
             count = count.saturating_add(1);
         }
     }
-    assert_eq!(rt; ready.len(), count);
-    Ok(())
+    Ok(agrees && ready.len() == count)
 }
 
-// gives up the ready keys whose number is a multiple of 3
+/// Gives up the ready keys whose number is a multiple of 3.
 fn give_up_thirds(
     alloc: Global,
     store: &mut TileStore,
@@ -98,26 +104,31 @@ fn give_up_thirds(
     Ok(())
 }
 
-// starts a key, over the first ready one where asked
+/// Starts a key, over the first ready one where asked.
 fn start_next(
-    rt: &impl Abort,
     alloc: Global,
     store: &mut TileStore,
     plain: &mut Vec<(TileKey, bool)>,
     key: TileKey,
     over: bool,
-) -> Result<(), AllocError> {
+) -> Result<(), UnitFault> {
     match first_ready(plain) {
         Some(old) if over => {
-            start_over(rt, alloc, store, key, old)?;
+            start_over(alloc, store, key, old)?;
             forget(plain, old);
         }
-        _ => start(rt, alloc, store, key)?,
+        _ => start(alloc, store, key)?,
     }
-    plain.push((key, false))?;
+    push(plain, (key, false))
+}
+
+/// Adds a key, ready or in flight, to a list.
+fn push(plain: &mut Vec<(TileKey, bool)>, one: (TileKey, bool)) -> Result<(), UnitFault> {
+    plain.push(one).map_err(AllocError::from)?;
     Ok(())
 }
 
+/// The first ready key of a list.
 fn first_ready(plain: &[(TileKey, bool)]) -> Option<TileKey> {
     for one in plain {
         if one.1 {
@@ -127,7 +138,7 @@ fn first_ready(plain: &[(TileKey, bool)]) -> Option<TileKey> {
     None
 }
 
-// whether the list has the key ready, or in flight
+/// Whether a list has the key ready, or in flight; None where it has neither.
 fn state(plain: &[(TileKey, bool)], key: TileKey) -> Option<bool> {
     for one in plain {
         if one.0 == key {
@@ -137,56 +148,51 @@ fn state(plain: &[(TileKey, bool)], key: TileKey) -> Option<bool> {
     None
 }
 
+/// Takes a key out of a list.
 fn forget(plain: &mut Vec<(TileKey, bool)>, key: TileKey) {
     plain.retain(|one| one.0 != key);
 }
 
-fn start(
-    rt: &impl Abort,
-    alloc: Global,
-    store: &mut TileStore,
-    key: TileKey,
-) -> Result<(), AllocError> {
+/// Starts a key that the store lacks.
+fn start(alloc: Global, store: &mut TileStore, key: TileKey) -> Result<(), UnitFault> {
     store.reserve()?;
-    assert!(rt; store.ready(key).is_none());
-    assert!(rt; !store.in_flight(key));
+    if store.ready(key).is_some() || store.in_flight(key) {
+        return Err(UnitFault::Refused);
+    }
     store.start(key, &Keys::new(alloc));
     Ok(())
 }
 
+/// Starts a key that the store lacks, over a ready one.
 fn start_over(
-    rt: &impl Abort,
     alloc: Global,
     store: &mut TileStore,
     key: TileKey,
     old: TileKey,
-) -> Result<(), AllocError> {
+) -> Result<(), UnitFault> {
     store.reserve()?;
     let mut evicted = Keys::new(alloc);
     if let Err((full, _)) = evicted.push(old) {
-        return Err(full);
+        return Err(UnitFault::Memory(full));
     }
-    assert!(rt; store.ready(key).is_none());
-    assert!(rt; !store.in_flight(key));
-    assert!(rt; store.ready(old).is_some());
+    if store.ready(key).is_some() || store.in_flight(key) || store.ready(old).is_none() {
+        return Err(UnitFault::Refused);
+    }
     store.start(key, &evicted);
     Ok(())
 }
 
-fn done(
-    rt: &impl Abort,
-    alloc: Global,
-    store: &mut TileStore,
-    key: TileKey,
-    live: bool,
-) -> Result<(), AllocError> {
+/// Makes a tile in flight, which is still wanted or not.
+fn done(alloc: Global, store: &mut TileStore, key: TileKey, live: bool) -> Result<(), UnitFault> {
     let image = image_of(alloc, key)?;
-    assert!(rt; store.in_flight(key));
+    if !store.in_flight(key) {
+        return Err(UnitFault::Refused);
+    }
     store.done(image, live);
     Ok(())
 }
 
-// a picture of one pixel
+/// A picture of one pixel.
 fn image_of(alloc: Global, key: TileKey) -> Result<Arc<TileImage>, AllocError>
     ensures { IfOk result (λ image. image.value.key ≡ key) }
 {
@@ -206,6 +212,7 @@ fn image_of(alloc: Global, key: TileKey) -> Result<Arc<TileImage>, AllocError>
     }
 }
 
+/// These keys as a list.
 fn keys(alloc: Global, list: &[TileKey]) -> Result<Keys, AllocError> {
     let mut keys = Keys::new(alloc);
     for key in list {
@@ -216,7 +223,7 @@ fn keys(alloc: Global, list: &[TileKey]) -> Result<Keys, AllocError> {
     Ok(keys)
 }
 
-// key number n of a row of a layer
+/// Key number n of a row of a layer.
 fn key(n: u32) -> TileKey {
     TileKey {
         layer: 1,
