@@ -26,7 +26,7 @@ import machine
 from crate_list import CRATES, ROOT, CrateList
 
 # The programs that take words and try the cases whose titles have one of them.
-TITLED = ("test_program", "test_histories")
+TITLED = ("test_program",)
 # The program that runs in parts, and in how many.
 SPLIT, PARTS = "test_program", 2
 TOOLS = ("map.py", "check_examples.py", "check_words.py", "believed.py", "audit.py --look", "try_recordings.py",
@@ -64,13 +64,16 @@ def has_tests(crate):
 
 
 def parts_of(table, count):
-    """A table of cases in parts, each with the texts and files that all cases name. A line that is left out is empty, so
-    that each line keeps its number."""
-    kept, number, is_case = [[] for _ in range(count)], -1, False
+    """Tables of cases and of histories in parts, each with the texts, files and scripts that all name. A line that is
+    left out is empty, so that each line keeps its number."""
+    kept, number, is_case, begins = [[] for _ in range(count)], -1, False, ("case:", "    ")
     for line in table.decode().split("\n"):
-        if line.startswith(("case:", "    ")):
+        if line.startswith("table: "):
+            # The indented lines of a history belong to it.
+            is_case, begins = False, ("history ",)
+        elif line.startswith(begins):
             number, is_case = number + 1, True
-        elif line.startswith(("text ", "file ", "changes of:")):
+        elif line.startswith(("text ", "file ", "changes of:", "script: ", "workers: ")):
             is_case = False
         for part in range(count):
             kept[part].append(line if not is_case or number % count == part else "")
@@ -143,7 +146,7 @@ def told(title, runs, wrong, word):
     counts = added([run.out for run in runs]) if len(runs) > 1 and not wrong else runs[0].out
     if title == SPLIT and not word and not wrong and counts != file_of(title, "stdout"):
         wrong = f"its parts have {counts.decode().strip()}, and not {file_of(title, 'stdout').decode().strip()}"
-    about = f": {counts.decode(errors='replace').strip()}" if word and not wrong else ""
+    about = f": {', '.join(counts.decode(errors='replace').splitlines())}" if word and not wrong else ""
     print(f"{'FAILED' if wrong else 'ok    '} {title}{about} ({seconds:.0f} s)", flush=True)
     if wrong:
         print("\n".join(f"       {line[:300]}" for line in wrong.splitlines()), flush=True)
@@ -162,7 +165,7 @@ def run_all(word, named, jobs):
             if len(done[title]) == [name for name, _ in found].count(title):
                 runs = [run for run, _ in done[title]]
                 right += told(title, runs, "\n".join(why for _, why in done[title] if why), word)
-                counted += int((re.findall(rb"\d+", runs[0].out) or [b"0"])[0])
+                counted += sum(map(int, re.findall(rb"\d+", runs[0].out)))
     if word and right == total and not counted:
         print(f"FAILED no title has {word}")
         right -= 1

@@ -1,10 +1,12 @@
-//! Plays a table of cases through the program and compares what comes out with what the table says.
+//! Plays a table of cases through the program, walks through a table of histories, and compares what comes out with
+//! what the tables say.
 //!
-//! The table is read from standard input. It has lines `key: value`; a line that begins with `#` and an
-//! empty one say nothing. Standard output tells how many cases and runs there were, so that none gets
-//! lost, and each wrong case with its line. A wrong case, or a line that can't be read, ends in status 1
-//! and one line on standard error. With words after its name the program plays only the cases whose titles
-//! have one of them.
+//! The tables are read from standard input; a line that begins with `#` and an empty one say nothing. The first has
+//! lines `key: value`; a line `table: histories` begins the other one, whose lines the head of `lib.rt` of
+//! `test_histories` tells. Standard output tells how many cases and runs, and how many histories there were, so that
+//! none gets lost, and each wrong case with its line. A wrong case, or a line that can't be read, ends in status 1
+//! and one line on standard error. With words after its name the program tries only the cases and histories whose
+//! titles have one of them.
 //!
 //! | Key | What it says |
 //! |---|---|
@@ -33,27 +35,29 @@
 //! says what its output is; another that says nothing of it wants none.
 #![tactic(auto)]
 
+mod fault;
 mod play;
 mod table;
+mod tables;
 
-use crate::table::play_table;
+use crate::tables::Tables;
 use std::io;
 use std::process::ExitCode;
 use test_table::{Titles, end_counted, end_unread};
 
+/// The tables, of which nothing was read.
+fn tables_of(rt: &HostRuntime) -> io::Result<Tables> {
+    Ok(Tables::new(rt.alloc(), Titles::of_words(rt)?, Titles::of_words(rt)?))
+}
+
 fn main(rt: HostRuntime) -> ExitCode {
-    let (Ok(titles), Ok(text)) = (
-        Titles::of_words(&rt),
-        io::read_to_string(rt.alloc(), rt.reader()),
-    ) else {
+    let (Ok(mut tables), Ok(text)) = (tables_of(&rt), io::read_to_string(rt.alloc(), rt.reader()))
+    else {
         let _ = rt.eprintln("the words or the table could not be read");
         return ExitCode::from(1);
     };
-    match play_table(&rt, rt.alloc(), titles, text.as_str()) {
-        Ok(played) => {
-            let told = println!(rt; "{} cases, {} runs", played.cases, played.runs);
-            end_counted(&rt, told, played.tally)
-        }
+    match tables.take_all(&rt, text.as_str()) {
+        Ok(()) => end_counted(&rt, tables.tell(&rt), tables.tally(&rt)),
         Err((line, fault)) => end_unread(&rt, line, fault),
     }
 }

@@ -1,11 +1,11 @@
-//! The lines of the table, one after another.
+//! The lines of the program's own table, one after another.
 
 use crate::play::play;
 use std::alloc::Global;
 use std::sync::Wait;
 use std::thread::Threads;
 use test_cases::{Call, Case, Names, ProgramRowFault};
-use test_table::{Tally, Titles, key_and_value, says_something};
+use test_table::{Tally, Titles, key_and_value};
 
 /// What was played.
 #[derive(Clone, Copy)]
@@ -17,7 +17,7 @@ pub struct Played {
 
 /// What was read of the table so far.
 #[derive(Drop)]
-struct ProgramTable {
+pub struct ProgramTable {
     alloc: Global,
     /// Which cases are played.
     titles: Titles,
@@ -60,7 +60,7 @@ fn play_case<R: Threads + Wait + Sync + Print>(
 
 impl ProgramTable {
     /// Nothing was read; the cases of these titles are to be played.
-    fn new(alloc: Global, titles: Titles) -> ProgramTable {
+    pub fn new(alloc: Global, titles: Titles) -> ProgramTable {
         ProgramTable {
             alloc,
             titles,
@@ -75,8 +75,16 @@ impl ProgramTable {
         }
     }
 
+    /// What was played so far.
+    pub fn played(&self) -> Played {
+        self.played
+    }
+
     /// Plays the case whose lines were read.
-    fn close<R: Threads + Wait + Sync + Print>(&mut self, rt: &R) -> Result<(), ProgramRowFault> {
+    pub fn close<R: Threads + Wait + Sync + Print>(
+        &mut self,
+        rt: &R,
+    ) -> Result<(), ProgramRowFault> {
         let Some(case) = self.case.take() else {
             return Ok(());
         };
@@ -146,7 +154,7 @@ impl ProgramTable {
     }
 
     /// Takes a line that says something.
-    fn take<R: Threads + Wait + Sync + Print>(
+    pub fn take<R: Threads + Wait + Sync + Print>(
         &mut self,
         rt: &R,
         line: usize,
@@ -157,29 +165,5 @@ impl ProgramTable {
         }
         let (key, value) = key_and_value(text).ok_or(ProgramRowFault::NoKey)?;
         self.take_key(rt, line, key, value)
-    }
-}
-
-/// Plays the cases of a table that have these titles. An error tells the line that can't be read.
-pub fn play_table<R: Threads + Wait + Sync + Print>(
-    rt: &R,
-    alloc: Global,
-    titles: Titles,
-    text: &str,
-) -> Result<Played, (usize, ProgramRowFault)> {
-    let mut table = ProgramTable::new(alloc, titles);
-    let mut last = 0usize;
-    for (index, line) in text.lines().enumerate() {
-        last = index.saturating_add(1);
-        if !says_something(line) {
-            continue;
-        }
-        if let Err(fault) = table.take(rt, last, line) {
-            return Err((last, fault));
-        }
-    }
-    match table.close(rt) {
-        Ok(()) => Ok(table.played),
-        Err(fault) => Err((last, fault)),
     }
 }

@@ -5,9 +5,6 @@
 //! asked for by its kind and its actor. Where the event that was entered is another one, or none is possible,
 //! the walk stops. The judge stops at the first entry that it does not enter.
 //!
-//! The table is read from standard input; a line that begins with `#` and an empty one say nothing. With words
-//! after its name the program tries only the histories whose titles have one of them.
-//!
 //! | Line | What it says |
 //! |---|---|
 //! | `script: JSON` | the script of the histories below it, for one worker |
@@ -17,10 +14,6 @@
 //! | `    after N values ID: X Y` | after the first N entries, these are the scroll values of scroller ID along both axes, each as `A,D,B,M,P`: active base and delta, pending base, and what of the delta the main frame in flight and the pending base contain |
 //! | `    after N used: COUNT` | after the first N entries, the given number of tiles are ready or in flight |
 //! | `    LINE; .. => LINE; .. \| N WHAT` | lines of the history above, which stand in it once, become others, and both stop at entry N, counted from 0; WHAT says what is wrong with it |
-//!
-//! Standard output tells how many histories of both kinds, entries and questions there were, so that none gets
-//! lost, and each question that is answered otherwise, and each walk or judgement that ends elsewhere, with its
-//! line. One of these, or a line that can't be read, ends in status 1 and one line on standard error.
 #![tactic(auto)]
 
 mod asked;
@@ -30,13 +23,5 @@ mod lines;
 mod walk;
 mod walks;
 
-use crate::walks::Walks;
-use std::process::ExitCode;
-use test_table::{Titles, check_table};
-
-fn main(rt: HostRuntime) -> ExitCode {
-    match Titles::of_words(&rt) {
-        Ok(titles) => check_table(&rt, &mut Walks::new(rt.alloc(), titles)),
-        Err(_) => ExitCode::from(1),
-    }
-}
+pub use fault::HistoryLineFault;
+pub use walks::Walks;
