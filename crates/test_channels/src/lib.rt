@@ -11,4 +11,6 @@ mod locks;
 #[cfg(test)]
 mod rings;
 #[cfg(test)]
+mod same;
+#[cfg(test)]
 mod streams;

@@ -1,6 +1,7 @@
 ghost use Rattle.std.specs.Prelude.{◌≡◌, ◌<◌, [], All, vec_len};
 ghost use Rattle.thread_lock.specs.PassModels.{IsOf};
 
+use crate::same::same;
 use std::alloc::{AllocError, Global};
 use std::process::Abort;
 use std::sync::Wait;
@@ -159,7 +160,7 @@ fn two_threads_write(rt: HostRuntime) -> Result<(), Fail> {
     let Ok(journal) = written else {
         panic!(rt; "no memory")
     };
-    assert_eq!(rt; journal.notes().len(), 2000);
+    same(&rt, "by two threads", &journal.notes().len(), &2000);
     for actor in 0..2 {
         assert!(rt; wrote_in_order(journal.notes(), actor, 1000));
     }
@@ -206,7 +207,7 @@ fn sixteen_threads_write(rt: HostRuntime) -> Result<(), Fail> {
     let Ok(journal) = lock.close(passes) else {
         panic!(rt; "all passes are there")
     };
-    assert_eq!(rt; journal.notes().len(), 16000);
+    same(&rt, "by sixteen threads", &journal.notes().len(), &16000);
     for actor in 0..16 {
         assert!(rt; wrote_in_order(journal.notes(), actor, 1000));
     }

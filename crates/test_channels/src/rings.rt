@@ -1,6 +1,7 @@
 //! Rings from end to end, over sinks in memory.
 ghost use Rattle.std.specs.Prelude.{◌<◌};
 
+use crate::same::same;
 use player_io::{MemSink, PutFault, Sink};
 use recording_pieces::{Painters, ScenePainter, SceneSink};
 use std::alloc::{AllocError, Global};
@@ -55,11 +56,11 @@ fn five_through<R: Threads + Wait + Abort + Sync>(
     let (sink, presenter) = ring(alloc)?;
     let mut sink = sink;
     let mut presenter = presenter;
-    assert_eq!(rt; sink.put(&[1]), Ok(()));
-    assert_eq!(rt; sink.put(&[2]), Ok(()));
-    assert_eq!(rt; sink.put(&[3]), Ok(()));
-    assert_eq!(rt; sink.put(&[4]), Ok(()));
-    assert_eq!(rt; sink.put(&[5]), Ok(()));
+    same(rt, "1", &sink.put(&[1]), &Ok(()));
+    same(rt, "2", &sink.put(&[2]), &Ok(()));
+    same(rt, "3", &sink.put(&[3]), &Ok(()));
+    same(rt, "4", &sink.put(&[4]), &Ok(()));
+    same(rt, "5", &sink.put(&[5]), &Ok(()));
     let mut painters: Painters<Refuser> = Painters::new(alloc, 2);
     let (served, ()) = join_mut(
         rt,
@@ -93,17 +94,14 @@ fn joined(alloc: Global, pieces: &[Vec<u8>], count: usize) -> Result<Vec<u8>, Al
 #[test]
 fn five_pieces_go_through_in_order(rt: HostRuntime) -> Result<(), Fail> {
     let mut endless = MemSink::endless(rt.alloc());
-    assert_eq!(rt;
-        five_through(&rt, rt.alloc(), &mut endless)?,
-        Presented::Written
-    );
-    assert_eq!(rt; endless.bytes(), [1, 2, 3, 4, 5].as_slice());
+    let presented = five_through(&rt, rt.alloc(), &mut endless)?;
+    same(&rt, "to an endless sink", &presented, &Presented::Written);
+    let bytes = endless.bytes();
+    same(&rt, "all in order", &bytes, &[1, 2, 3, 4, 5].as_slice());
     let mut limited = MemSink::new(rt.alloc(), 2, Vec::new(rt.alloc()));
-    assert_eq!(rt;
-        five_through(&rt, rt.alloc(), &mut limited)?,
-        Presented::Fault
-    );
-    assert_eq!(rt; limited.bytes(), [1, 2].as_slice());
+    let presented = five_through(&rt, rt.alloc(), &mut limited)?;
+    same(&rt, "to a limited sink", &presented, &Presented::Fault);
+    same(&rt, "two in order", &limited.bytes(), &[1, 2].as_slice());
     Ok(())
 }
 
@@ -112,40 +110,36 @@ fn what_is_in_the_ring_is_served_before_the_end(rt: HostRuntime) -> Result<(), F
     let (mut sink, mut presenter) = ring(rt.alloc())?;
     let mut painters: Painters<Refuser> = Painters::new(rt.alloc(), 1);
     for byte in 1..=70 {
-        assert_eq!(rt; sink.put(&[byte]), Ok(()));
+        same(&rt, "a piece", &sink.put(&[byte]), &Ok(()));
         sink.pass_on();
     }
     sink.end();
     let mut out = MemSink::endless(rt.alloc());
-    assert_eq!(rt;
-        presenter.serve(&rt, &mut painters, &mut out),
-        Presented::Written
-    );
-    assert_eq!(rt; out.bytes().len(), 64);
+    let served = presenter.serve(&rt, &mut painters, &mut out);
+    same(&rt, "what was passed on", &served, &Presented::Written);
+    same(&rt, "64 pieces", &out.bytes().len(), &64);
     sink.pass_on();
-    assert_eq!(rt;
-        presenter.serve(&rt, &mut painters, &mut out),
-        Presented::Written
-    );
-    assert_eq!(rt; out.bytes().len(), 70);
+    let served = presenter.serve(&rt, &mut painters, &mut out);
+    same(&rt, "the rest", &served, &Presented::Written);
+    same(&rt, "all pieces", &out.bytes().len(), &70);
     Ok(())
 }
 
 #[test]
 fn owned_pieces_go_in_their_turn(rt: HostRuntime) -> Result<(), Fail> {
     let (mut sink, mut presenter) = ring(rt.alloc())?;
-    assert_eq!(rt; sink.put(&[1]), Ok(()));
-    assert_eq!(rt; sink.put_owned(vec![in rt.alloc(); 2, 3]?), Ok(()));
-    assert_eq!(rt; sink.put_owned(Vec::new(rt.alloc())), Ok(()));
-    assert_eq!(rt; sink.put(&[4]), Ok(()));
+    same(&rt, "1", &sink.put(&[1]), &Ok(()));
+    let put = sink.put_owned(vec![in rt.alloc(); 2, 3]?);
+    same(&rt, "two of its own", &put, &Ok(()));
+    let put = sink.put_owned(Vec::new(rt.alloc()));
+    same(&rt, "none of its own", &put, &Ok(()));
+    same(&rt, "4", &sink.put(&[4]), &Ok(()));
     sink.end();
     let mut out = MemSink::endless(rt.alloc());
     let mut painters: Painters<Refuser> = Painters::new(rt.alloc(), 1);
-    assert_eq!(rt;
-        presenter.serve(&rt, &mut painters, &mut out),
-        Presented::Written
-    );
-    assert_eq!(rt; out.bytes(), [1, 2, 3, 4].as_slice());
+    let served = presenter.serve(&rt, &mut painters, &mut out);
+    same(&rt, "all", &served, &Presented::Written);
+    same(&rt, "in their turn", &out.bytes(), &[1, 2, 3, 4].as_slice());
     Ok(())
 }
 
@@ -154,10 +148,8 @@ fn a_thousand_pieces_go_through(rt: HostRuntime) -> Result<(), Fail> {
     let pieces = pieces_of(rt.alloc(), 1000, 2741, 5000)?;
     let mut out = MemSink::endless(rt.alloc());
     let mut painters: Painters<Refuser> = Painters::new(rt.alloc(), 2);
-    assert_eq!(rt;
-        present_from(&rt, rt.alloc(), &pieces, &mut painters, &mut out),
-        Presented::Written
-    );
+    let presented = present_from(&rt, rt.alloc(), &pieces, &mut painters, &mut out);
+    same(&rt, "all", &presented, &Presented::Written);
     let wanted = joined(rt.alloc(), &pieces, 1000)?;
     assert!(rt; wanted.len() > 2_000_000);
     assert!(rt; out.bytes() == wanted.as_slice());
@@ -177,10 +169,10 @@ fn put_until<R: Threads + Sync + Abort>(
 ) -> Result<(Presented, MemSink), AllocError> {
     let (sink, presenter) = ring(alloc)?;
     let mut sink = sink;
-    assert_eq!(rt; sink.put(&large(alloc, 0)?), Ok(()));
-    assert_eq!(rt; sink.put(&large(alloc, 1)?), Ok(()));
-    assert_eq!(rt; sink.put(&large(alloc, 2)?), Ok(()));
-    assert_eq!(rt; sink.put(&large(alloc, 3)?), Ok(()));
+    same(rt, "piece 0", &sink.put(&large(alloc, 0)?), &Ok(()));
+    same(rt, "piece 1", &sink.put(&large(alloc, 1)?), &Ok(()));
+    same(rt, "piece 2", &sink.put(&large(alloc, 2)?), &Ok(()));
+    same(rt, "piece 3", &sink.put(&large(alloc, 3)?), &Ok(()));
     let mut painters: Painters<Refuser> = Painters::new(alloc, 2);
     let mut out = MemSink::new(alloc, 1_000_000, vec![in alloc; failing]?);
     let served = Presented::Written;
@@ -305,7 +297,7 @@ fn a_slow_sink_holds_up_who_puts(rt: HostRuntime) -> Result<(), Fail> {
     };
     let (answer, most) = flow_through(&rt, rt.alloc(), &piece, &flow, &mut out)?;
     assert!(rt; most <= 1_000_000);
-    assert_eq!(rt; answer, Presented::Written);
-    assert_eq!(rt; out.out.bytes().len(), 7_000_000);
+    same(&rt, "all", &answer, &Presented::Written);
+    same(&rt, "each byte", &out.out.bytes().len(), &7_000_000);
     Ok(())
 }

@@ -1,6 +1,7 @@
 //! The answers of the sources and sinks, call by call, each through its trait.
 ghost use Rattle.std.specs.Prelude.{◌≤◌, IfOk};
 
+use crate::same::same;
 use player_io::{
     Failed, Gate, MemSink, MemSource, OpenGate, PutFault, Sink, Source, StdSink, StdSource,
 };
@@ -74,14 +75,18 @@ fn memory_gives_in_steps_and_fails_as_told(rt: HostRuntime) -> Result<(), Fail> 
     let fails = vec![in rt.alloc(); 1]?;
     let mut source = MemSource::new(bytes, 2, fails);
     let mut buf = [0; 3];
-    assert_eq!(rt; read_once(&mut source, &mut buf), Ok(2));
-    assert_eq!(rt; buf, [1, 2, 0]);
-    assert_eq!(rt; read_once(&mut source, &mut buf), Err(Failed));
-    assert_eq!(rt; read_once(&mut source, &mut buf[..1]), Ok(1));
-    assert_eq!(rt; buf, [3, 2, 0]);
-    assert_eq!(rt; read_once(&mut source, &mut buf), Ok(2));
-    assert_eq!(rt; buf, [4, 5, 0]);
-    assert_eq!(rt; read_once(&mut source, &mut buf), Ok(0));
+    let read = read_once(&mut source, &mut buf);
+    same(&rt, "two bytes a call", &read, &Ok(2));
+    same(&rt, "the first two", &buf, &[1, 2, 0]);
+    let read = read_once(&mut source, &mut buf);
+    same(&rt, "the second call fails", &read, &Err(Failed));
+    let read = read_once(&mut source, &mut buf[..1]);
+    same(&rt, "as many as asked", &read, &Ok(1));
+    same(&rt, "the third", &buf, &[3, 2, 0]);
+    let read = read_once(&mut source, &mut buf);
+    same(&rt, "the last two", &read, &Ok(2));
+    same(&rt, "the fourth and the fifth", &buf, &[4, 5, 0]);
+    same(&rt, "no more", &read_once(&mut source, &mut buf), &Ok(0));
     Ok(())
 }
 
@@ -90,20 +95,21 @@ fn memory_takes_up_to_its_limit_and_fails_as_told(rt: HostRuntime) -> Result<(),
     let fails = vec![in rt.alloc(); 1]?;
     let mut sink = MemSink::new(rt.alloc(), 495, fails);
     let piece = [7; 248];
-    assert_eq!(rt; put_once(&mut sink, &piece), Ok(()));
-    assert_eq!(rt; put_once(&mut sink, &piece), Err(PutFault::Failed));
-    assert_eq!(rt; sink.bytes().len(), 248);
-    assert_eq!(rt; put_once(&mut sink, &piece), Err(PutFault::Failed));
-    assert_eq!(rt; sink.bytes().len(), 495);
-    assert_eq!(rt; put_once(&mut sink, &[]), Ok(()));
+    same(&rt, "there is room", &put_once(&mut sink, &piece), &Ok(()));
+    let put = put_once(&mut sink, &piece);
+    same(&rt, "the second put fails", &put, &Err(PutFault::Failed));
+    same(&rt, "as before", &sink.bytes().len(), &248);
+    let put = put_once(&mut sink, &piece);
+    same(&rt, "a prefix fits", &put, &Err(PutFault::Failed));
+    same(&rt, "up to the limit", &sink.bytes().len(), &495);
+    same(&rt, "nothing fits", &put_once(&mut sink, &[]), &Ok(()));
     let mut endless = MemSink::endless(rt.alloc());
-    assert_eq!(rt; put_once(&mut endless, &[1, 2]), Ok(()));
-    assert_eq!(rt; put_once(&mut endless, &[3]), Ok(()));
-    assert_eq!(rt;
-        put_owned_once(&mut endless, vec![in rt.alloc(); 4, 5]?),
-        Ok(())
-    );
-    assert_eq!(rt; endless.bytes(), [1, 2, 3, 4, 5].as_slice());
+    same(&rt, "endless", &put_once(&mut endless, &[1, 2]), &Ok(()));
+    same(&rt, "one more", &put_once(&mut endless, &[3]), &Ok(()));
+    let put = put_owned_once(&mut endless, vec![in rt.alloc(); 4, 5]?);
+    same(&rt, "a piece of its own", &put, &Ok(()));
+    let bytes = endless.bytes();
+    same(&rt, "all in order", &bytes, &[1, 2, 3, 4, 5].as_slice());
     Ok(())
 }
 
@@ -117,10 +123,12 @@ fn adapters_go_on_after_interrupts_and_short_writes(rt: HostRuntime) -> Result<(
     ]?;
     let mut source = StdSource::new(Scripted { steps, next: 0 });
     let mut buf = [0; 3];
-    assert_eq!(rt; read_once(&mut source, &mut buf), Ok(2));
-    assert_eq!(rt; read_once(&mut source, &mut buf), Err(Failed));
-    assert_eq!(rt; read_once(&mut source, &mut buf), Ok(1));
-    assert_eq!(rt; read_once(&mut source, &mut buf), Ok(0));
+    let read = read_once(&mut source, &mut buf);
+    same(&rt, "after an interrupt", &read, &Ok(2));
+    let read = read_once(&mut source, &mut buf);
+    same(&rt, "a failure", &read, &Err(Failed));
+    same(&rt, "after it", &read_once(&mut source, &mut buf), &Ok(1));
+    same(&rt, "no more", &read_once(&mut source, &mut buf), &Ok(0));
     let steps = vec![in rt.alloc();
         Step::Moves(2),
         Step::Fails(ErrorKind::Interrupted),
@@ -129,10 +137,13 @@ fn adapters_go_on_after_interrupts_and_short_writes(rt: HostRuntime) -> Result<(
         Step::Fails(ErrorKind::BrokenPipe),
     ]?;
     let mut sink = StdSink::new(Scripted { steps, next: 0 });
-    assert_eq!(rt; put_once(&mut sink, &[1, 2, 3]), Ok(()));
-    assert_eq!(rt; put_once(&mut sink, &[4, 5]), Err(PutFault::Failed));
-    assert_eq!(rt; put_once(&mut sink, &[6]), Err(PutFault::Failed));
-    assert_eq!(rt; put_once(&mut sink, &[]), Ok(()));
+    let put = put_once(&mut sink, &[1, 2, 3]);
+    same(&rt, "after a short write", &put, &Ok(()));
+    let put = put_once(&mut sink, &[4, 5]);
+    same(&rt, "no room for all", &put, &Err(PutFault::Failed));
+    let put = put_once(&mut sink, &[6]);
+    same(&rt, "failed before", &put, &Err(PutFault::Failed));
+    same(&rt, "nothing to write", &put_once(&mut sink, &[]), &Ok(()));
     Ok(())
 }
 
