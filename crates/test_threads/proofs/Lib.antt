@@ -1,4 +1,2 @@
 -- One act more.
 pub mod Acts
--- What is proved of passes.
-pub mod Stopped

@@ -1,12 +1,9 @@
+use crate::scripts::FIRST;
 use crate::talk::Talk;
 use player_run::Outcome;
 use std::alloc::{AllocError, Global};
 use std::test::*;
 use std::thread::Threads;
-
-// A page of two pixels, drawn once.
-const SCRIPT: &[u8] =
-    br#"{"background":"000000","budget":8,"eventually":0,"inputs":[{"frame":0,"op":"await"},{"op":"draw"}],"main":[[{"at":0,"clip":0,"colour":"00000000","effect":0,"h":1,"id":1,"op":"add_layer","transform":0,"w":2},{"at":0,"colour":"ff0000ff","layer":1,"op":"insert_item","rect":[0,0,1,1]}]],"priority":"same","raster_per_frame":4,"soon":0,"tile":16,"version":1,"viewport":[2,1]}"#;
 
 // How a session over these lines ended, and its client.
 fn session_of<R: Threads + Sync>(
@@ -26,7 +23,7 @@ fn session_of<R: Threads + Sync>(
 
 #[test]
 fn each_line_is_answered(rt: HostRuntime) -> Result<(), Fail> {
-    let (outcome, client) = session_of(&rt, rt.alloc(), &[b"[", SCRIPT, b""], 100_000)?;
+    let (outcome, client) = session_of(&rt, rt.alloc(), &[b"[", FIRST, b""], 100_000)?;
     assert_eq!(rt; outcome, Outcome::Done);
     let answers = client.answers();
     assert!(rt; answers.starts_with(b"no 0 3: cc: not JSON\ndata "));
@@ -36,7 +33,7 @@ fn each_line_is_answered(rt: HostRuntime) -> Result<(), Fail> {
 
 #[test]
 fn a_client_that_takes_no_more_holds_a_prefix(rt: HostRuntime) -> Result<(), Fail> {
-    let (outcome, client) = session_of(&rt, rt.alloc(), &[b"[", SCRIPT], 30)?;
+    let (outcome, client) = session_of(&rt, rt.alloc(), &[b"[", FIRST], 30)?;
     assert_eq!(rt; outcome, Outcome::WriteFault);
     assert_eq!(rt; client.answers().len(), 30);
     Ok(())

@@ -2,8 +2,8 @@
 use Rattle.std.proofs.Common.{◌≡◌, ℕ, [], inr, sym, ◌∙◌, ap}
 use Rattle.model_history.specs.declared.event.Event.TheVariants as event
 use Rattle.proxy_threads.specs.Seats.{Seat, pairs}
-use Rattle.test_threads.proofs.Stopped.{seen_stopped, free_stopped}
-use Rattle.test_threads.proofs.stops.stop.Goals as goal
+use Rattle.test_channels.proofs.Stopped.{seen_stopped, free_stopped}
+use Rattle.test_channels.proofs.stops.stop.Goals as goal
 
 pub put-requires-clause-history : goal.put-requires-clause-history
 put-requires-clause-history g c =

@@ -2,9 +2,8 @@
 
 ghost use Rattle.std.specs.Prelude.{◌≡◌, ◌≤◌, Some};
 ghost use Rattle.impl_core.specs.Origins.{Origin};
-ghost use Rattle.test_threads.specs.Passes.{IsFresh, IsStill};
+ghost use Rattle.test_channels.specs.Passes.{IsFresh, IsStill};
 
-use crate::scripts::FIRST;
 use impl_core::Core;
 use model_history::Script;
 use script_json::read_script;
@@ -13,7 +12,11 @@ use std::process::Abort;
 use std::sync::{Arc, Wait};
 use thread_lock::{Pass, TurnLock};
 
-/// A lock around a new core of the first script, and the passes of its three actors.
+/// A script of one layer of two pixels, drawn once.
+const SCRIPT: &[u8] =
+    br#"{"background":"000000","budget":8,"eventually":0,"inputs":[{"frame":0,"op":"await"},{"op":"draw"}],"main":[[{"at":0,"clip":0,"colour":"00000000","effect":0,"h":1,"id":1,"op":"add_layer","transform":0,"w":2},{"at":0,"colour":"ff0000ff","layer":1,"op":"insert_item","rect":[0,0,1,1]}]],"priority":"same","raster_per_frame":4,"soon":0,"tile":16,"version":1,"viewport":[2,1]}"#;
+
+/// A lock around a new core of the script, and the passes of its three actors.
 #[derive(Drop)]
 pub struct Trio {
     pub lock: TurnLock<Core>,
@@ -23,9 +26,9 @@ pub struct Trio {
     pub script: Arc<Script>,
 }
 
-// The first script.
+// The script.
 fn script_of<R: Abort>(rt: &R, alloc: Global) -> Script {
-    match read_script(alloc, FIRST) {
+    match read_script(alloc, SCRIPT) {
         Ok(script) => script,
         Err(_) => panic!(rt; "it is a script"),
     }
@@ -63,7 +66,7 @@ fn split<R: Abort + Wait>(
     made
 }
 
-/// The actors of a new run of the first script with one worker.
+/// The actors of a new run of the script with one worker.
 pub fn trio_of<R: Abort + Wait>(rt: &R, alloc: Global) -> Trio
     ensures comp { IsFresh result.lock 0 result.comp }
     ensures main { IsFresh result.lock 1 result.main }

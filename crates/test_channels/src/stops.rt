@@ -5,9 +5,9 @@ ghost use Rattle.model_history.specs.Scans.{held};
 ghost use Rattle.impl_core.specs.Origins.{Origin};
 ghost use Rattle.proxy_threads.specs.Seats.{past_of};
 ghost use Rattle.thread_lock.specs.PassModels.{IsOf};
-ghost use Rattle.test_threads.specs.Passes.{IsFresh, IsStill};
+ghost use Rattle.test_channels.specs.Passes.{IsFresh, IsStill};
 
-use crate::sink::LinesSink;
+use crate::lines_sink::LinesSink;
 use crate::trio::{Trio, trio_of};
 use impl_core::Core;
 use main_host::MainHost;

@@ -1,0 +1,2 @@
+-- What is proved of passes.
+pub mod Stopped

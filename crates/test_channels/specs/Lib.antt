@@ -1,0 +1,2 @@
+-- What the tests say of passes.
+pub mod Passes
