@@ -1,5 +1,5 @@
 -- What is read in one version, or for one number of main frames, is read in each other one that has it.
-use Rattle.std.proofs.Common.{◌≡◌, ℕ, ◌+◌, List, [], ◌∷◌, length, map, Bool, true, false, ◌&&◌, ◌==◌, not, nat_lt, Option, Some, None, Result, Ok, Err, option_and_then, if◌then◌else◌, codes, true≢false, refl, sym, ap, ◌∙◌}
+use Rattle.std.proofs.Common.{◌≡◌, ℕ, ◌+◌, List, ◌∷◌, Bool, true, false, ◌==◌, not, nat_lt, Option, Some, None, Result, Ok, Err, option_and_then, if◌then◌else◌, codes, true≢false, refl, sym, ap, ◌∙◌}
 use Rattle.std.specs.Prelude.{⊤}
 use Rattle.std.specs.List.{list_all}
 use Rattle.serde_json.specs.Data.{Data, Items, no_items, item}

@@ -1,11 +1,11 @@
 -- The members of an object with `null` in place of two lists.
-use Rattle.std.proofs.Common.{◌≡◌, ℕ, suc, ◌≤◌, List, length, map, Bool, true, false, ◌||◌, ◌==◌, nat_le, Option, Some, None, Result, Ok, Ordering, Less, Equal, Greater, nat_cmp, is_eq, option_and_then, codes, if◌then◌else◌, bytes_eq, le-leb, refl, sym, ap, ◌∙◌}
+use Rattle.std.proofs.Common.{◌≡◌, ℕ, suc, List, Bool, false, Some, Ordering, Less, Equal, Greater, nat_cmp, is_eq, codes, if◌then◌else◌, refl, sym, ap, ◌∙◌}
 use Rattle.std.specs.Cmp.Lexicographic.{slice_cmp}
 use Rattle.std.specs.Ordering.{match_ordering}
 use Rattle.std.proofs.lemmas.Map.Text.{is_eq-slice_cmp}
 use Rattle.std.proofs.lemmas.Slice.Eq.{bytes_eq-Decides}
-use Rattle.serde_json.specs.Data.{Data, null, array, object, Items, Members, no_members, member, put}
-use Rattle.serde_json.specs.Events.{items_len, members_len}
+use Rattle.serde_json.specs.Data.{Data, null, object, Members, no_members, member, put}
+use Rattle.serde_json.specs.Events.{members_len}
 use Rattle.serde_json.specs.Find.{get_member}
 use Rattle.script_fields.specs.Fields.{object_at, number_at, sides_at, opaque_at, no_more_members}
 use Rattle.script_json.specs.Reading.{priority_at, head_at}

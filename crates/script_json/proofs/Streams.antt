@@ -1,5 +1,5 @@
 -- A script that was read one value of its lists at a time is the script of the whole value.
-use Rattle.std.proofs.Common.{◌≡◌, ℕ, ◌≤◌, List, [], ◌∷◌, ◌++◌, length, map, Bool, true, false, ◌&&◌, ◌||◌, ◌==◌, not, nat_le, Option, Some, None, Result, Ok, Err, option_and_then, codes, if◌then◌else◌, bytes_eq, Vec, Global, IfOk, IfSome, rules, ◌+◌, true≢false, le-leb, append-nil, append_assoc, length-append, refl, sym, ap, ◌∙◌, subst, arith}
+use Rattle.std.proofs.Common.{◌≡◌, ℕ, ◌≤◌, List, [], ◌∷◌, ◌++◌, length, map, Bool, true, false, ◌||◌, ◌==◌, not, Option, Some, None, Result, Ok, Err, codes, if◌then◌else◌, bytes_eq, Vec, Global, IfOk, IfSome, rules, ◌+◌, true≢false, le-leb, append-nil, append_assoc, length-append, refl, sym, ap, ◌∙◌, subst, arith}
 use Rattle.std.specs.List.{list_all}
 use Rattle.std.proofs.lemmas.List.{length-map}
 use Rattle.std.proofs.lemmas.List.Folds.{list_all-map}
@@ -24,8 +24,8 @@ use Rattle.script_json.specs.declared.head.Head.{Head}
 use Rattle.script_json.specs.Faults.{placed, before_rest}
 use Rattle.script_json.specs.CommandReading.{command_at, commands_at, frame_at, frames_at}
 use Rattle.script_json.specs.InputReading.{input_at, draws_after, inputs_at}
-use Rattle.script_json.specs.Reading.{head_at, ScriptLists, lists_at, parts_at}
-use Rattle.script_json.specs.inner.Streamed.{is_view, awaits_within, is_list, kept, HasMain, HasInputs, Holds, fit, AreParts}
+use Rattle.script_json.specs.Reading.{head_at, lists_at, parts_at}
+use Rattle.script_json.specs.inner.Streamed.{is_view, is_list, kept, HasMain, HasInputs, Holds, AreParts}
 use Rattle.script_json.proofs.Behind.{behind}
 use Rattle.script_json.proofs.CommandLaws.{frames_fits}
 use Rattle.script_json.proofs.InputLaws.{AllFit, inputs_fits}

@@ -1,4 +1,4 @@
-use Rattle.std.proofs.Common.{◌≡◌, List, Option, Vec, Global, codes, subst}
+use Rattle.std.proofs.Common.{Option, Vec, Global, codes, subst}
 use Rattle.serde_json.specs.Find.{get_member}
 use Rattle.page_layers.specs.declared.command.Command.{Command}
 use Rattle.model_history.specs.declared.input.Input.{Input}

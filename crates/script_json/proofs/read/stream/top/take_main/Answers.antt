@@ -1,4 +1,4 @@
-use Rattle.std.proofs.Common.{◌≡◌, Some, codes, refl, ap, ◌∙◌}
+use Rattle.std.proofs.Common.{Some, codes, refl, ap, ◌∙◌}
 use Rattle.serde_json.specs.Data.{Data, array, put}
 use Rattle.serde_json.specs.View.{members_view}
 use Rattle.script_json.specs.declared.read.stream.top.Found.{Found}
