@@ -1,13 +1,13 @@
 #!/usr/bin/env python3
 """Runs all programs of rows, all tests and the tools' own checks, with no proof.
 
-usage: tools/test.py [--jobs N] [--crate CRATE].. [WORD]
+usage: tools/test.py [--jobs N] [--crate CRATE].. [--heavy] [WORD]
 
 Each program with a file stdout beside src/, and each crate with #[test] functions, is built and run by `rt try`; a
-program must write what its file stdout has and end with the status of its file status (none: 0). test_program, whose
-table is by far the longest, runs in parts, and their counts must add up to its stdout. With a WORD only those cases
-run that have it in their titles, and with --crate only those crates. It prints a line for each, and a last line
-`N passed, N failed`; the status is 1 where one failed.
+program must write what its file stdout has and end with the status of its file status (none: 0). Cases of test_program
+below a line `# Heavy.` take minutes in such a build, so they are left to the gate, and its counts must lack as many;
+--heavy plays them too. With a WORD only those cases run that have it in their titles, and with --crate only those
+crates. It prints a line for each, and a last line `N passed, N failed`; the status is 1 where one failed.
 
 As many run side by side as there are processors and memory for; --jobs says another number. Nothing that it builds
 is kept, and nothing that it says is proved: `make check` is the gate.
@@ -27,8 +27,8 @@ from crate_list import CRATES, ROOT, CrateList
 
 # The programs that take words and try the cases whose titles have one of them.
 TITLED = ("test_program",)
-# The program that runs in parts, and in how many.
-SPLIT, PARTS = "test_program", 2
+# The line above a case that is left out, and how the lines of a case go on.
+HEAVY, KEYS = "# Heavy.", ("case:", "changes of:", "text ", "file ", "    ", "table: ", "#")
 TOOLS = ("map.py", "check_examples.py", "check_words.py", "believed.py", "audit.py --look", "try_recordings.py",
          "try_explain.py --alone")
 # What one `rt try` takes, with the check of names that runs beside it.
@@ -63,21 +63,21 @@ def has_tests(crate):
     return any("#[test]" in path.read_text() for path in (CRATES / crate / "src").rglob("*.rt"))
 
 
-def parts_of(table, count):
-    """Tables of cases and of histories in parts, each with the texts, files and scripts that all name. A line that is
-    left out is empty, so that each line keeps its number."""
-    kept, number, is_case, begins = [[] for _ in range(count)], -1, False, ("case:", "    ")
+def without_heavy(table):
+    """A table without its heavy cases, and how many these are. A line that is left out is empty, so that each line keeps
+    its number."""
+    kept, count, is_left_out, is_next = [], 0, False, False
     for line in table.decode().split("\n"):
-        if line.startswith("table: "):
-            # The indented lines of a history belong to it.
-            is_case, begins = False, ("history ",)
-        elif line.startswith(begins):
-            number, is_case = number + 1, True
-        elif line.startswith(("text ", "file ", "changes of:", "script: ", "workers: ")):
-            is_case = False
-        for part in range(count):
-            kept[part].append(line if not is_case or number % count == part else "")
-    return ["\n".join(lines).encode() for lines in kept]
+        if line.startswith(KEYS):
+            is_left_out, is_next = is_next, line == HEAVY
+            count += is_left_out
+        kept.append("" if is_left_out else line)
+    return "\n".join(kept).encode(), count
+
+
+def without_counts(wanted, count):
+    """What a program tells of a table that lacks the given number of cases of one run each: its first two numbers."""
+    return re.sub(rb"\d+", lambda number: b"%d" % (int(number[0]) - count), wanted, count=2) if count else wanted
 
 
 def complaint(run, wanted, status):
@@ -114,25 +114,17 @@ def try_tool(words):
     return run, complaint(run, None, 0)
 
 
-def added(outs):
-    """The numbers of several outputs of one form, added up."""
-    numbers = [[int(it) for it in re.findall(rb"\d+", out)] for out in outs]
-    sums = iter(map(sum, zip(*numbers)))
-    return re.sub(rb"\d+", lambda _: b"%d" % next(sums), outs[0])
-
-
-def tasks(word, named):
+def tasks(word, named, heavy):
     """What is run, the longest first: a title and a call for each."""
     found, order = [], [it for it in reversed(CrateList().uses) if not named or it in named]
     for crate in order:
         if not (CRATES / crate / "src" / "main.rt").is_file() or word and crate not in TITLED:
             continue
         given, wanted = file_of(crate, "stdin"), None if word else file_of(crate, "stdout")
-        if crate == SPLIT and not word:
-            for number, part in enumerate(parts_of(given, PARTS)):
-                found.insert(number, (crate, lambda crate=crate, part=part: try_program(crate, part, None, None)))
-        else:
-            found.append((crate, lambda crate=crate, given=given, wanted=wanted: try_program(crate, given, word, wanted)))
+        if not word and not heavy:
+            given, count = without_heavy(given)
+            wanted = without_counts(wanted, count)
+        found.append((crate, lambda crate=crate, given=given, wanted=wanted: try_program(crate, given, word, wanted)))
     if not word:
         found += [(f"{crate} (tests)", lambda crate=crate: try_tests(crate)) for crate in order if has_tests(crate)]
     if not word and not named:
@@ -140,42 +132,35 @@ def tasks(word, named):
     return found
 
 
-def told(title, runs, wrong, word):
+def told(title, run, wrong, word):
     """Prints a line of what was run, with what is wrong, and answers whether nothing is."""
-    seconds = sum(run.seconds for run in runs)
-    counts = added([run.out for run in runs]) if len(runs) > 1 and not wrong else runs[0].out
-    if title == SPLIT and not word and not wrong and counts != file_of(title, "stdout"):
-        wrong = f"its parts have {counts.decode().strip()}, and not {file_of(title, 'stdout').decode().strip()}"
-    about = f": {', '.join(counts.decode(errors='replace').splitlines())}" if word and not wrong else ""
-    print(f"{'FAILED' if wrong else 'ok    '} {title}{about} ({seconds:.0f} s)", flush=True)
+    about = f": {', '.join(run.out.decode(errors='replace').splitlines())}" if word and not wrong else ""
+    print(f"{'FAILED' if wrong else 'ok    '} {title}{about} ({run.seconds:.0f} s)", flush=True)
     if wrong:
         print("\n".join(f"       {line[:300]}" for line in wrong.splitlines()), flush=True)
     return not wrong
 
 
-def run_all(word, named, jobs):
+def run_all(word, named, heavy, jobs):
     """Runs everything: how many are right, and how many are not."""
-    found, done, right, counted = tasks(word, named), collections.defaultdict(list), 0, 0
-    total = len({title for title, _ in found})
+    found, right, counted = tasks(word, named, heavy), 0, 0
     with concurrent.futures.ThreadPoolExecutor(jobs) as pool:
         running = {pool.submit(task): title for title, task in found}
         for it in concurrent.futures.as_completed(running):
-            title = running[it]
-            done[title].append(it.result())
-            if len(done[title]) == [name for name, _ in found].count(title):
-                runs = [run for run, _ in done[title]]
-                right += told(title, runs, "\n".join(why for _, why in done[title] if why), word)
-                counted += sum(map(int, re.findall(rb"\d+", runs[0].out)))
-    if word and right == total and not counted:
+            run, wrong = it.result()
+            right += told(running[it], run, wrong, word)
+            counted += sum(map(int, re.findall(rb"\d+", run.out))) if word else 0
+    if word and right == len(found) and not counted:
         print(f"FAILED no title has {word}")
         right -= 1
-    return right, total - right
+    return right, len(found) - right
 
 
 def main():
     words = argparse.ArgumentParser(description=__doc__, formatter_class=argparse.RawDescriptionHelpFormatter)
     words.add_argument("--jobs", type=int, help="how many run side by side")
     words.add_argument("--crate", action="append", default=[], help="runs only this crate; may be given again")
+    words.add_argument("--heavy", action="store_true", help="plays the heavy cases too")
     words.add_argument("word", nargs="?", metavar="WORD", help="runs only the cases that have it in their titles")
     words = words.parse_args()
     unknown = [it for it in words.crate if it not in CrateList().uses]
@@ -184,7 +169,7 @@ def main():
     if words.word:
         print(f"only {', '.join(TITLED)}: the other programs and tests have no titles")
     try:
-        passed, failed = run_all(words.word, words.crate, words.jobs or machine.jobs(MEMORY))
+        passed, failed = run_all(words.word, words.crate, words.heavy, words.jobs or machine.jobs(MEMORY))
     finally:
         for process in list(RUNNING):
             process.terminate()
