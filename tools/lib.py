@@ -90,7 +90,7 @@ def main():
     number = version()
     archive, shared, numbered = into / "libcc.a", into / "libcc.so", into / ("libcc.so." + number)
     made_of = library_sum()
-    if all(is_of(library, made_of) for library in (archive, numbered)) and shared.exists():
+    if all(is_of(library, made_of) for library in (archive, numbered)) and shared.exists() and not shared.is_symlink():
         print("%s and %s are of this text" % (archive, shared))
         return
     with stamped("cc_c"):
@@ -98,8 +98,9 @@ def main():
     into.mkdir(parents=True, exist_ok=True)
     merged(archive, [CRATE / "out" / "libcc_c.a", shim])
     link(compiler, archive, numbered)
+    # A copy and no link: the gate takes no links in the tree.
     shared.unlink(missing_ok=True)
-    shared.symlink_to(numbered.name)
+    shutil.copyfile(numbered, shared)
     (into / "cc.pc").write_text(
         "libdir=%s\nincludedir=%s\n\nName: cc\nDescription: a page compositor whose frames are proved\nVersion: %s\n"
         "Libs: -L${libdir} -lcc\nCflags: -I${includedir}\n" % (into, HEADER.parent, number))
