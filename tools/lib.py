@@ -5,7 +5,7 @@ usage: tools/lib.py [--into FOLDER]
 
 `rt lib` proves crates/cc_c, and what it stands on, and builds the static library. The kit's heap shim, which calls the
 program's malloc, realloc and free, is put into the same archive. A shared library is linked from it that exports the
-functions of include/cc.h alone. Where both in FOLDER were built of the present text and header, nothing is done.
+functions of include/cc.h alone. Where those in FOLDER were built of the present text and header, nothing is done.
 
 Of the libraries below, those that the gate built of this text are taken (tools/gate_libraries.py).
 """
@@ -89,8 +89,8 @@ def main():
     shim = kit() / "c" / "liblibc_c.a"
     number = version()
     archive, shared, numbered = into / "libcc.a", into / "libcc.so", into / ("libcc.so." + number)
-    made_of = library_sum()
-    if all(is_of(library, made_of) for library in (archive, numbered)) and shared.exists() and not shared.is_symlink():
+    libraries, made_of = (archive, numbered, shared), library_sum()
+    if all(is_of(library, made_of) for library in libraries):
         print("%s and %s are of this text" % (archive, shared))
         return
     with stamped("cc_c"):
@@ -105,8 +105,8 @@ def main():
         "libdir=%s\nincludedir=%s\n\nName: cc\nDescription: a page compositor whose frames are proved\nVersion: %s\n"
         "Libs: -L${libdir} -lcc\nCflags: -I${includedir}\n" % (into, HEADER.parent, number))
     if library_sum() == made_of:
-        write_note(archive, made_of)
-        write_note(numbered, made_of)
+        for library in libraries:
+            write_note(library, made_of)
     print("%s, %s and %s" % (archive, shared, into / "cc.pc"))
 
 

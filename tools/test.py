@@ -27,7 +27,7 @@ from crate_list import CRATES, ROOT, CrateList
 
 # The programs that take words and try the cases whose titles have one of them.
 TITLED = ("test_program",)
-# The line above a case that is left out, and how the lines of a case go on.
+# The line above a case that is left out, and what the next line begins with that is none of that case.
 HEAVY, KEYS = "# Heavy.", ("case:", "changes of:", "text ", "file ", "    ", "table: ", "#")
 TOOLS = ("map.py", "check_examples.py", "check_words.py", "believed.py", "audit.py --look", "try_recordings.py",
          "try_explain.py --alone")
