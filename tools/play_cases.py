@@ -1,18 +1,19 @@
 #!/usr/bin/env python3
-"""Plays the cases of tests/crates/test_program by the proved program itself.
+"""Plays the cases of crates/test_program by the proved program itself.
 
 usage: tools/play_cases.py [--program PROGRAM] [--table TABLE] [WORD]
 
-`make test` plays these cases, all but the heavy ones, in a build whose steps are checked. Here each case that needs no
-source or sink of its own is a call of PROGRAM (crates/cc_player/out/cc_player) with the case's words and input: its
-status, the line on standard error and what it writes have to be as the case says. What the table's keys say stands at
-the head of src/main.rt of test_program. With a WORD only the cases with it in their titles are played. It prints how
-many cases and runs there were, and each wrong case with its line, and ends with 1 where one is wrong.
+test_program plays them over sources and sinks in memory. Here each case that needs no source or sink of its own is a
+call of PROGRAM (crates/cc_player/out/cc_player, which the gate builds) with the case's words and input: its status, the
+line on standard error and what it writes have to be as the case says. So main is tried too, and so is any other program
+of the same words. The head of src/main.rt of test_program tells the keys of the table. With a WORD only the cases with it
+in their titles are played. It prints how many cases and runs there were, and each wrong case with its line, and ends
+with 1 where one is wrong.
 """
 import argparse
 import concurrent.futures
 import dataclasses
-import os
+import functools
 import pathlib
 import re
 import subprocess
@@ -20,7 +21,7 @@ import sys
 
 ROOT = pathlib.Path(__file__).resolve().parent.parent
 PROGRAM = ROOT / "crates" / "cc_player" / "out" / "cc_player"
-TABLE = ROOT / "tests" / "crates" / "test_program" / "stdin"
+TABLE = ROOT / "crates" / "test_program" / "stdin"
 # What no process of its own can be given: calls that fail, sinks that are full, and the half of `run` that starts none.
 INSIDE = ("alone", "room", "reads fail", "puts fail", "notes room")
 RANGE = re.compile(r"(\d+)(?:\.\.(\d+))?")
@@ -256,8 +257,9 @@ def main():
     words.add_argument("word", nargs="?", default="")
     words = words.parse_args()
     cases = [it for it in read_table(words.table) if not it.is_inside and words.word in it.title]
-    with concurrent.futures.ThreadPoolExecutor(os.cpu_count()) as pool:
-        played = list(pool.map(lambda case: play(words.program, case), cases))
+    # Processes, since the sums of large outputs are made here.
+    with concurrent.futures.ProcessPoolExecutor() as pool:
+        played = list(pool.map(functools.partial(play, words.program), cases, chunksize=8))
     complaints = [complaint for _, complaint in played if complaint]
     print("\n".join(["cases: %d played in %d runs, %d wrong"
                      % (len(cases), sum(runs for runs, _ in played), len(complaints)), *complaints]))
