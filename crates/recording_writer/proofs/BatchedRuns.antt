@@ -23,10 +23,10 @@ use Rattle.recording_pieces.proofs.Gains.{gains_both, gains_front, gains_longer}
 use Rattle.recording_writer.specs.Recordings.{IsLockstepRecording}
 use Rattle.recording_writer.specs.inner.Batches.{HasGathered, KeepsUp, OnCourse, StaysOn, StopsEarly, joint_answer, run_text}
 use Rattle.recording_writer.specs.inner.Filming.{standing, standing_at}
-use Rattle.recording_writer.specs.inner.Parts.{Half}
+use Rattle.recording_entries.specs.Parts.{Half}
 use Rattle.recording_writer.specs.inner.Ways.{IsFresh, whole_played}
 use Rattle.recording_writer.proofs.FilmedRuns.{fresh_script, fresh_past, fresh_all}
-use Rattle.recording_writer.proofs.Gains.{written_after}
+use Rattle.recording_entries.proofs.Gains.{written_after}
 use Rattle.recording_writer.proofs.PlayedWays.{pieces_both, entries_grown}
 use Rattle.recording_writer.proofs.RecordedRuns.{fresh_can, whole_of}
 

@@ -1,6 +1,6 @@
 -- The scenes of the draws among the newest entries give the images of those draws.
-use Rattle.std.proofs.Common.{◌≡◌, ℕ, pos, ◌+◌, ◌-◌, ◌<◌, ◌≤◌, true, List, [], ◌∷◌, ◌++◌, length, take, drop, Some, refl, ap, sym, ◌∙◌, append_assoc, append-nil, subst, arith, length-drop}
-use Rattle.std.specs.Prelude.{reverse, slice_get}
+use Rattle.std.proofs.Common.{◌≡◌, ℕ, ◌-◌, ◌≤◌, List, [], ◌∷◌, ◌++◌, length, take, drop, refl, ap, sym, ◌∙◌, append_assoc, append-nil, subst, length-drop}
+use Rattle.std.specs.Prelude.{reverse}
 use Rattle.std.proofs.lemmas.List.{reverse-append, reverse-reverse, length-reverse, take-append-drop}
 use mathlib.Core.List.{reverse_aux}
 use Rattle.geom.specs.declared.tile.TileKey.{TileKey}
@@ -10,15 +10,13 @@ use Rattle.model_history.specs.declared.event.Event.TheVariants as event
 use Rattle.model_history.specs.declared.history.Entry.{Entry}
 use Rattle.model_history.specs.Scripts.{ScriptModel}
 use Rattle.model_history.specs.Legal.{Legal, Next}
-use Rattle.model_history.specs.Recordings.{shown_image, image_behind, piece, pieces}
-use Rattle.model_history.specs.Texts.{event_line}
+use Rattle.model_history.specs.Recordings.{shown_image, image_behind}
 use Rattle.impl_core.specs.Replies.{IsPicture}
 use Rattle.impl_core.proofs.DrawnImages.{drawn_image}
 use Rattle.proxy_single_thread.specs.Singles.{AddsScene, AreScenes}
 use Rattle.recording_pieces.specs.Scenes.{scene_image, image_if}
-use Rattle.recording_writer.specs.inner.Scenes.{scene_of, left_behind, Comes, AllCome}
-use Rattle.recording_writer.proofs.Places.{first_behind, newest_before}
-use Rattle.recording_writer.proofs.QuietEvents.{quiet_stays}
+use Rattle.recording_entries.specs.Scenes.{scene_of, left_behind, Comes, AllCome}
+use Rattle.recording_entries.proofs.QuietEvents.{quiet_stays}
 
 -- a draw that may come has the image of its picture after its line
 pub draw_image : (s : ScriptModel) (n : ℕ) (h : List Entry) (a i : ℕ) (lacks : List TileKey) (scene : SceneView) → Next s n h (record { actor = a; event = event.Draw i lacks }) → IsPicture s h scene
@@ -74,23 +72,3 @@ news_come s n entries written scenes few legal are =
     let some : length entries - written ≡ length news = sym (length-drop written entries) in
     scenes_come s n (reverse done) news scenes (subst (λ (h : List Entry). Legal s n h) past legal)
     (subst (λ (k : ℕ). AreScenes s k (reverse news ++ reverse done) scenes) some (subst (λ (h : List Entry). AreScenes s (length entries - written) h scenes) past are))
-
--- ---- one entry after another
-
--- the line of an event and what stands after it are its piece
-pub piece_parts : (s : ScriptModel) (h : List Entry) (lines held : List ℕ) (e : Event) → held ≡ lines ++ event_line e → held ++ image_behind s h e ≡ lines ++ piece s h e
-unfolding piece
-piece_parts s h lines held e is = ap (λ (w : List ℕ). w ++ image_behind s h e) is ∙ append_assoc lines (event_line e) (image_behind s h e)
-
-module _ (s : ScriptModel) (entries : List Entry) (at : ℕ) (e : Entry) (there : slice_get entries at ≡ Some e) where
-  -- what the entries from a place on add is what the first of them does, and what the others do
-  pub next_pieces : pieces s (reverse (take at entries)) (drop at entries) ≡ piece s (reverse (take at entries)) e.event ++ pieces s (reverse (take (at + 1) entries)) (drop (at + 1) entries)
-  next_pieces =
-      ap (λ (es : List Entry). pieces s (reverse (take at entries)) es) (first_behind entries at e there)
-      ∙ ap (λ (h : List Entry). piece s (reverse (take at entries)) e.event ++ pieces s h (drop (at + 1) entries)) (sym (newest_before entries at e there))
-
-  pub next_comes : (scenes : List SceneView) → AllCome s (reverse (take at entries)) (drop at entries) scenes
-      → Comes s (reverse (take at entries)) e scenes × AllCome s (reverse (take (at + 1) entries)) (drop (at + 1) entries) (left_behind e.event scenes)
-  next_comes scenes come =
-      let both : AllCome s (reverse (take at entries)) (e ∷ drop (at + 1) entries) scenes = subst (λ (es : List Entry). AllCome s (reverse (take at entries)) es scenes) (first_behind entries at e there) come in
-      (both.0, subst (λ (h : List Entry). AllCome s h (drop (at + 1) entries) (left_behind e.event scenes)) (sym (newest_before entries at e there)) both.1)

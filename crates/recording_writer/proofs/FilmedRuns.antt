@@ -24,12 +24,13 @@ use Rattle.impl_log.specs.Runs.{Run, past}
 use Rattle.proxy_single_thread.specs.Singles.{SingleModel, AddsScene, AreScenes, walk_of}
 use Rattle.recording_writer.specs.Films.{images_before, film, IsLockstepFilm}
 use Rattle.recording_pieces.specs.Writing.{PutsAll}
-use Rattle.recording_writer.specs.inner.Filming.{scene_images, newer_images, standing, standing_at, HasFilmed, FilmedSome, FilmsWay}
+use Rattle.recording_entries.specs.Images.{scene_images}
+use Rattle.recording_writer.specs.inner.Filming.{newer_images, standing, standing_at, HasFilmed, FilmedSome, FilmsWay}
 use Rattle.recording_pieces.specs.Scenes.{scene_image}
 use Rattle.recording_writer.specs.inner.Ways.{IsFresh, whole_played}
 use Rattle.recording_writer.proofs.DrawnScenes.{draw_image}
 use Rattle.recording_pieces.proofs.Gains.{appends_nothing, gains_nothing, gains_longer}
-use Rattle.recording_writer.proofs.Gains.{written_after}
+use Rattle.recording_entries.proofs.Gains.{written_after}
 
 -- ---- scenes
 
@@ -64,11 +65,6 @@ images_grow s [] h = sym (append-nil (images_before s h))
 images_grow s (e ∷ newer) h =
     ap (λ (z : List ℕ). z ++ image_behind s (newer ++ h) e.event) (images_grow s newer h)
     ∙ append_assoc (images_before s h) (newer_images s newer h) (image_behind s (newer ++ h) e.event)
-
--- a scene more was put
-pub scene_put : (scenes left : List SceneView) (scene : SceneView) (gained whole : List ℕ) → scenes ≡ scene ∷ left → gained ++ scene_images scenes ≡ whole → (gained ++ scene_image scene) ++ scene_images left ≡ whole
-scene_put scenes left scene gained whole is same =
-    append_assoc gained (scene_image scene) (scene_images left) ∙ ap (λ (zs : List SceneView). gained ++ scene_images zs) (sym is) ∙ same
 
 -- the scenes of what was entered since the last time show its images
 pub news_shown : (r : Run) (written : ℕ) (newer h : List Entry) (scenes : List SceneView) → Legal r.script r.workers (past r) → AreScenes r.script (length r.entries - written) (past r) scenes

@@ -13,13 +13,13 @@ use Rattle.model_lockstep.proofs.Fronts.{Grows}
 use Rattle.model_lockstep.proofs.Following.{then'}
 use Rattle.impl_log.specs.Runs.{Run, past}
 use Rattle.proxy_single_thread.specs.Singles.{SingleModel, walk_of}
-use Rattle.recording_writer.specs.declared.recorder.Recorder.{Recorder}
-use Rattle.recording_writer.specs.inner.Parts.{WritesPart}
-use Rattle.recording_writer.specs.inner.Repeats.{Keeps}
+use Rattle.recording_entries.specs.declared.recorder.Recorder.{Recorder}
+use Rattle.recording_entries.specs.Parts.{WritesPart}
+use Rattle.recording_entries.specs.Repeats.{Keeps}
 use Rattle.recording_writer.specs.inner.Ways.{IsWritten, HasPlayed, PlaysAll, WritesWay}
 use Rattle.recording_pieces.proofs.Gains.{appends_nothing, gains_nothing, gains_longer}
-use Rattle.recording_writer.proofs.Gains.{parts_join}
-use Rattle.recording_writer.proofs.KeptPictures.{keeps_longer}
+use Rattle.recording_entries.proofs.Gains.{parts_join}
+use Rattle.recording_entries.proofs.KeptPictures.{keeps_longer}
 
 -- ---- entries, one list after another
 

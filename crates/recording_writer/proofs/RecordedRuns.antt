@@ -19,12 +19,12 @@ use Rattle.recording_writer.specs.Recordings.{IsLockstepRecording, Records}
 use Rattle.recording_pieces.specs.declared.writing.WriteStop.{WriteStop}
 use Rattle.recording_pieces.specs.declared.writing.WriteStop.TheVariants.{Fault, Memory}
 use Rattle.recording_pieces.specs.Writing.{PutsAll, WriteCause}
-use Rattle.recording_writer.specs.declared.recorder.Recorder.{Recorder}
-use Rattle.recording_writer.specs.inner.Parts.{Half, WritesPart}
-use Rattle.recording_writer.specs.inner.Repeats.{KeepsFrom}
+use Rattle.recording_entries.specs.declared.recorder.Recorder.{Recorder}
+use Rattle.recording_entries.specs.Parts.{Half, WritesPart}
+use Rattle.recording_entries.specs.Repeats.{KeepsFrom}
 use Rattle.recording_writer.specs.inner.Ways.{IsFresh, IsWritten, PlaysAll, WritesWay, recorded_run, whole_played}
 use Rattle.recording_pieces.proofs.Gains.{gains_longer, gains_nothing}
-use Rattle.recording_writer.proofs.Gains.{parts_join, written_after}
+use Rattle.recording_entries.proofs.Gains.{parts_join, written_after}
 
 -- a compositor before anything was entered
 abbrev fresh : ScriptModel → ℕ → SingleModel

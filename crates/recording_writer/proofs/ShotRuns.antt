@@ -1,16 +1,13 @@
 -- Runs of which the picture of the last draw is made a file.
-use Rattle.std.proofs.Common.{◌≡◌, ℕ, ◌+◌, ◌-◌, ◌*◌, ◌≤◌, ◌^◌, List, [], ◌∷◌, ◌++◌, length, refl, ap, sym, ◌∙◌, subst, arith, length-append}
+use Rattle.std.proofs.Common.{◌≡◌, ℕ, ◌+◌, ◌-◌, List, [], ◌∷◌, ◌++◌, length, refl, ap, sym, ◌∙◌, subst, arith, length-append}
 use Rattle.std.specs.Prelude.{reverse, Option, Some, None}
 use Rattle.std.proofs.lemmas.List.{length-reverse, reverse-reverse}
 use Rattle.viz_scene.specs.Views.{SceneView}
-use Rattle.viz_scene.specs.Sound.{IsSceneSide}
-use Rattle.viz_canvas.specs.Canvases.{CanvasView}
 use Rattle.model_history.specs.declared.event.Event.{Event}
 use Rattle.model_history.specs.declared.event.Event.TheVariants as event
 use Rattle.model_history.specs.declared.history.Entry.{Entry}
 use Rattle.model_history.specs.declared.input.Input.{Input}
 use Rattle.model_history.specs.Legal.{Legal, Next}
-use Rattle.model_history.specs.Recordings.{image_head}
 use Rattle.model_history.specs.Scripts.{ScriptModel}
 use Rattle.model_lockstep.specs.Walks.{Way, Follows, inputs_from, run_end}
 use Rattle.model_lockstep.proofs.Fronts.{Grows}
@@ -18,11 +15,10 @@ use Rattle.model_lockstep.proofs.Following.{joined}
 use Rattle.model_lockstep.proofs.Parts as parts
 use Rattle.impl_log.specs.Runs.{Run, past}
 use Rattle.proxy_single_thread.specs.Singles.{SingleModel, AddsScene, AreScenes, walk_of}
-use Rattle.recording_png.specs.Pictures.{read_png}
 use Rattle.recording_writer.specs.Films.{image_or, last_image, IsLastImage}
-use Rattle.recording_writer.specs.Shots.{IsFileOf, IsShot}
+use Rattle.recording_entries.specs.Files.{IsFileOf}
+use Rattle.recording_writer.specs.Shots.{IsShot}
 use Rattle.recording_writer.specs.inner.Filming.{standing_at}
-use Rattle.recording_writer.specs.inner.Repeats.{image_of}
 use Rattle.recording_pieces.specs.Scenes.{scene_image}
 use Rattle.recording_writer.specs.inner.Shooting.{HasWatched, newest_image, shown}
 use Rattle.recording_writer.specs.inner.Ways.{IsFresh}
@@ -104,29 +100,3 @@ shot_some s scene file last is = (Some (scene_image scene), last, is)
 
 pub shot_none : (s : ScriptModel) → IsLastImage s None → IsShot s None
 shot_none s last = (None, last, tt)
-
--- ---- files
-
-pub some_sides : (w h : ℕ) → IsSceneSide w → IsSceneSide h → (1 ≤ w) × (1 ≤ h)
-some_sides w h wide tall = (wide.low, tall.low)
-
-pub few_pixels : (w h : ℕ) → IsSceneSide w → IsSceneSide h → w * h ≤ 2 ^ 26
-few_pixels w h wide tall =
-    let most : w * h ≤ 2048 * 2048 = grind (arith, wide.high, tall.high) in
-    omega (arith, most)
-
--- there are as many bytes as the rows have
-pub rows_of_pixels : (w h : ℕ) (c : CanvasView) (bytes : List ℕ) → w ≡ c.w → h ≡ c.h → length bytes ≡ 3 * (c.w * c.h) → length bytes ≡ h * (3 * w)
-rows_of_pixels w h c bytes wide tall size =
-    size ∙ ap (λ (n : ℕ). 3 * (n * c.h)) (sym wide) ∙ ap (λ (n : ℕ). 3 * (w * n)) (sym tall) ∙ turned w h
-  where
-    turned : (w h : ℕ) → 3 * (w * h) ≡ h * (3 * w)
-    turned w h = grind arith
-
--- a file of a canvas's bytes is of its image
-pub canvas_file : (w h : ℕ) (c : CanvasView) (bytes file : List ℕ) → w ≡ c.w → h ≡ c.h → bytes ≡ c.bytes → read_png file ≡ Some (record { width = w; height = h; pixels = bytes }) → IsFileOf (image_of c) file
-canvas_file w h c bytes file wide tall same reads = (
-  record { width = w; height = h; pixels = bytes },
-  reads,
-  ap (λ (n : ℕ). image_head n h ++ bytes) wide ∙ ap (λ (n : ℕ). image_head c.w n ++ bytes) tall ∙ ap (λ (xs : List ℕ). image_head c.w c.h ++ xs) same,
-)

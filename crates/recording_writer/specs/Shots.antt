@@ -1,13 +1,8 @@
 -- The picture of a script's last draw, as a PNG file.
-use Rattle.std.specs.Prelude.{◌≡◌, ℕ, List, ◌++◌, ⊤, Option, Some, None}
-use Rattle.model_history.specs.Recordings.{image_head}
+use Rattle.std.specs.Prelude.{ℕ, List, ⊤, Option, Some, None}
 use Rattle.model_history.specs.Scripts.{ScriptModel}
-use Rattle.recording_png.specs.Pictures.{Picture, read_png}
+use Rattle.recording_entries.specs.Files.{IsFileOf}
 use Rattle.recording_writer.specs.Films.{IsLastImage}
-
--- read as a PNG file it has the size and the pixels of this image
-abbrev pub IsFileOf : List ℕ → List ℕ → Type 0
-IsFileOf image file = (p : Picture) × (read_png file ≡ Some p) × (image_head p.width p.height ++ p.pixels ≡ image)
 
 -- there is a file exactly where there is an image, and it is of that one
 abbrev pub FilesImage : Option (List ℕ) → Option (List ℕ) → Type 0

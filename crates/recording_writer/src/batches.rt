@@ -15,20 +15,19 @@ ghost use Rattle.recording_pieces.specs.Shots.{all_shown};
 ghost use Rattle.recording_pieces.specs.Writing.{PutsAll, WriteCause};
 ghost use Rattle.script_json.specs.ScriptValue.{parts_data};
 ghost use Rattle.recording_writer.specs.Recordings.{Records};
-ghost use Rattle.recording_writer.specs.inner.Batches.{HasGathered, KeepsUp, OnCourse, StaysOn, StopsEarly, held_of, joint_answer, run_text};
-ghost use Rattle.recording_writer.specs.inner.Parts.{Half};
+ghost use Rattle.recording_entries.specs.Batches.{held_of};
+ghost use Rattle.recording_writer.specs.inner.Batches.{HasGathered, KeepsUp, OnCourse, StaysOn, StopsEarly, joint_answer, run_text};
+ghost use Rattle.recording_entries.specs.Parts.{Half};
 ghost use Rattle.recording_writer.specs.inner.Ways.{IsFresh};
 
-use crate::batch::Batch;
-use crate::image_painter::ImagePainter;
 use model_history::{Input, Script};
 use model_lockstep::{end_run, play_input};
 use player_io::Sink;
 use proxy_single_thread::SingleThread;
-use recording_pieces::{Painters, Shot, WriteStop, put_all};
+use recording_entries::{Batch, ImagePainter, put_shots};
+use recording_pieces::{Painters, Shot, WriteStop};
 use std::alloc::{AllocError, Global};
 use std::marker::Sync;
-use std::mem;
 use std::thread::{Threads, join_mut};
 
 // Adds what was entered since the last time.
@@ -82,22 +81,6 @@ fn gather_inputs<'i, R: Threads + Sync>(
         }
     }
     Ok(rest)
-}
-
-// Paints and puts pieces.
-fn put_shots<R: Threads + Sync, K: Sink>(
-    rt: &R,
-    alloc: Global,
-    painters: &mut Painters<ImagePainter>,
-    shots: &mut Vec<Shot>,
-    out: &mut K,
-) -> Result<(), WriteStop>
-    ensures bytes { PutsAll (K.held out.old) (K.held out.new) (all_shown shots.old.items) result }
-    ensures grows { K.faults out.old ≤ K.faults out.new }
-    ensures cause { WriteCause (K.faults out.old) (K.faults out.new) result }
-{
-    let none = Vec::new(alloc);
-    painters.put(rt, mem::replace(shots, none), out)
 }
 
 // What playing and putting answered together.
@@ -196,24 +179,6 @@ fn record_inputs<R: Threads + Sync, K: Sink>(
     Ok(())
 }
 
-// Puts all that a batch has.
-fn put_batch<R: Threads + Sync, K: Sink>(
-    rt: &R,
-    painters: &mut Painters<ImagePainter>,
-    batch: &mut Batch,
-    out: &mut K,
-) -> Result<(), WriteStop>
-    ensures bytes { PutsAll (K.held out.old) (K.held out.new) (held_of batch.old) result }
-    ensures grows { K.faults out.old ≤ K.faults out.new }
-    ensures cause { WriteCause (K.faults out.old) (K.faults out.new) result }
-{
-    let shots = batch.take_shots();
-    if let Err(stop) = painters.put(rt, shots, out) {
-        return Err(stop);
-    }
-    put_all(out, batch.lines.as_slice())
-}
-
 // Plays what is left after all inputs, and adds it.
 fn gather_end<R: Threads + Sync>(
     rt: &R,
@@ -243,7 +208,7 @@ fn record_end<R: Threads + Sync, K: Sink>(
     ensures cause { WriteCause (K.faults out.old) (K.faults out.new) result }
 {
     match gather_end(rt, single, batch) {
-        Ok(()) => put_batch(rt, painters, batch, out),
+        Ok(()) => batch.put(rt, painters, out),
         Err(_) => Err(WriteStop::Memory),
     }
 }

@@ -12,17 +12,17 @@ ghost use Rattle.impl_log.specs.Runs.{past};
 ghost use Rattle.proxy_single_thread.specs.Singles.{walk_of};
 ghost use Rattle.recording_writer.specs.Recordings.{Records};
 ghost use Rattle.recording_pieces.specs.Writing.{WriteCause};
-ghost use Rattle.recording_writer.specs.inner.Parts.{Half, WritesPart};
-ghost use Rattle.recording_writer.specs.inner.Repeats.{Keeps};
+ghost use Rattle.recording_entries.specs.Parts.{Half, WritesPart};
+ghost use Rattle.recording_entries.specs.Repeats.{Keeps};
 ghost use Rattle.recording_writer.specs.inner.Ways.{IsFresh, IsWritten, WritesWay, recorded_run, whole_played};
 
 use crate::batches::record_batches;
-use crate::recorder::Recorder;
 use impl_log::KeptHistory;
 use model_history::{Input, Script};
 use model_lockstep::{end_run, play_input};
 use player_io::Sink;
 use proxy_single_thread::{Retention, SingleThread};
+use recording_entries::Recorder;
 use recording_pieces::WriteStop;
 use script_json::print_script;
 use std::alloc::{AllocError, Global};
@@ -221,7 +221,7 @@ fn record_history<R: Threads + Sync, K: Sink>(
         return record_events(rt, recorder, single, script, out);
     }
     let lines = recorder.take_lines();
-    record_batches(rt, recorder.alloc, parts, lines, single, script, out)
+    record_batches(rt, recorder.alloc(), parts, lines, single, script, out)
 }
 
 // Writes the whole recording of a script with this text.

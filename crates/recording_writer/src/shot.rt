@@ -1,26 +1,22 @@
 //! Scripts, played in lockstep, of which the picture of the last draw is made a file.
 
-ghost use Rattle.std.specs.Prelude.{◌≡◌, ℕ, ◌≤◌, ◌++◌, List, length, option_map, IfOk, OnOk};
+ghost use Rattle.std.specs.Prelude.{◌≡◌, ◌≤◌, ◌++◌, List, length, option_map, IfOk, OnOk};
 ghost use Rattle.model_history.specs.declared.history.Entry.{Entry};
 ghost use Rattle.model_lockstep.specs.Walks.{CanFollow, input_played, inputs_from, run_end};
 ghost use Rattle.proxy_single_thread.specs.Singles.{walk_of};
 ghost use Rattle.impl_log.specs.Runs.{past};
 ghost use Rattle.recording_writer.specs.Films.{IsLastImage, last_image};
-ghost use Rattle.recording_writer.specs.Shots.{IsFileOf, IsShot};
-ghost use Rattle.recording_writer.specs.inner.Repeats.{image_of};
-ghost use Rattle.recording_pieces.specs.Scenes.{scene_image};
+ghost use Rattle.recording_writer.specs.Shots.{IsShot};
 ghost use Rattle.recording_writer.specs.inner.Shooting.{HasWatched, newest_image, shown};
 ghost use Rattle.recording_writer.specs.inner.Ways.{IsFresh};
 
 use model_history::{Input, Script};
 use model_lockstep::{end_run, play_input};
 use proxy_single_thread::{Retention, SingleThread};
-use recording_png::png;
+use recording_entries::png_of;
 use std::alloc::{AllocError, Global};
 use std::sync::Arc;
 use std::thread::Threads;
-use viz_canvas::{Canvas, Rgb};
-use viz_painter::Painter;
 use viz_scene::Scene;
 
 // The newest of some scenes; where there is none, the one before them.
@@ -115,28 +111,6 @@ fn last_scene<R: Threads + Sync>(
     Ok(last)
 }
 
-// The file of the picture of a canvas.
-#[tactic(auto, using(crate::proofs::ShotRuns::some_sides, crate::proofs::ShotRuns::few_pixels, crate::proofs::ShotRuns::rows_of_pixels, crate::proofs::ShotRuns::canvas_file))]
-fn file_of_canvas(alloc: Global, canvas: &Canvas<Rgb>) -> Result<Vec<u8>, AllocError>
-    ensures { IfOk result (λ file. IsFileOf (image_of canvas.now) file.items) }
-{
-    png(alloc, canvas.w(), canvas.h(), canvas.bytes())
-}
-
-// The file of the picture of a scene, which is painted in at most the given number of parts.
-fn file_of<R: Threads + Sync>(
-    rt: &R,
-    alloc: Global,
-    scene: Scene,
-    parts: usize,
-) -> Result<Vec<u8>, AllocError>
-    ensures { IfOk result (λ file. IsFileOf (scene_image scene) file.items) }
-{
-    let mut painter: Painter<Rgb> = Painter::new(alloc, 1, 1)?;
-    painter.paint_in_parts(rt, scene, parts)?;
-    file_of_canvas(alloc, painter.canvas())
-}
-
 // The file of the last picture of a script's run, which is painted in at most the given number of parts.
 #[tactic(auto, using(crate::proofs::ShotRuns::shot_none))]
 fn shot_of<R: Threads + Sync>(
@@ -150,7 +124,7 @@ fn shot_of<R: Threads + Sync>(
     ensures { IfOk result (λ file. IsShot script.now (option_map (λ bytes. bytes.items) file)) }
 {
     match last_scene(rt, single, script)? {
-        Some(scene) => Ok(Some(file_of(rt, alloc, scene, parts)?)),
+        Some(scene) => Ok(Some(png_of(rt, alloc, scene, parts)?)),
         None => Ok(None),
     }
 }

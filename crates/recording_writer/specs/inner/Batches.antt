@@ -9,17 +9,11 @@ use Rattle.model_lockstep.specs.Walks.{Way, Follows}
 use Rattle.impl_log.specs.Runs.{Run, past}
 use Rattle.script_json.specs.Recordings.{recording}
 use Rattle.proxy_single_thread.specs.Singles.{SingleModel}
-use Rattle.recording_pieces.specs.Shots.{all_shown}
 use Rattle.recording_pieces.specs.declared.writing.WriteStop.{WriteStop}
 use Rattle.recording_pieces.specs.declared.writing.WriteStop.TheVariants.{Memory}
-use Rattle.recording_writer.specs.declared.batch.Batch.{Batch}
 use Rattle.recording_writer.specs.Recordings.{IsLockstepRecording}
 use Rattle.recording_writer.specs.inner.Filming.{standing_at}
 use Rattle.recording_writer.specs.inner.Ways.{whole_played}
-
--- the bytes of a batch: its pieces, and the lines after them
-abbrev pub held_of : Batch → List ℕ
-held_of b = all_shown b.shots.items ++ b.lines.items
 
 -- the recording of what was entered of a run
 abbrev pub run_text : Run → List ℕ

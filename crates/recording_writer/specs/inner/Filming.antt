@@ -1,8 +1,7 @@
 -- A run that is filmed, way by way.
-use Rattle.std.specs.Prelude.{◌≡◌, ℕ, List, [], ◌∷◌, ◌++◌, length, flat_map, Option, Result, Ok, Err}
+use Rattle.std.specs.Prelude.{◌≡◌, ℕ, List, [], ◌∷◌, ◌++◌, length, Option, Result, Ok, Err}
 use Rattle.std.specs.Io.KnownBytes.{Appends}
 use Rattle.player_io.specs.Pieces.{GainsPrefix}
-use Rattle.viz_scene.specs.Views.{SceneView}
 use Rattle.model_history.specs.declared.history.Entry.{Entry}
 use Rattle.model_history.specs.Recordings.{image_behind}
 use Rattle.model_history.specs.Scripts.{ScriptModel}
@@ -10,11 +9,6 @@ use Rattle.model_lockstep.specs.Walks.{WalkState, Way, Follows, IsOnWay}
 use Rattle.impl_log.specs.Runs.{Run, past}
 use Rattle.proxy_single_thread.specs.Singles.{SingleModel}
 use Rattle.recording_writer.specs.Films.{images_before}
-use Rattle.recording_pieces.specs.Scenes.{scene_image}
-
--- the images of some scenes, one after another
-abbrev pub scene_images : List SceneView → List ℕ
-scene_images scenes = flat_map scene_image scenes
 
 -- the images of newer entries, the newest of which stands first, after a past
 abbrev pub newer_images : ScriptModel → List Entry → List Entry → List ℕ

@@ -8,9 +8,9 @@ use Rattle.model_lockstep.specs.Walks.{Way, inputs_from, run_end}
 use Rattle.model_history.specs.Scripts.{ScriptModel}
 use Rattle.impl_log.specs.Runs.{Run, new_run, past}
 use Rattle.proxy_single_thread.specs.Singles.{SingleModel}
-use Rattle.recording_writer.specs.declared.recorder.Recorder.{Recorder}
-use Rattle.recording_writer.specs.inner.Parts.{WritesPart}
-use Rattle.recording_writer.specs.inner.Repeats.{Keeps}
+use Rattle.recording_entries.specs.declared.recorder.Recorder.{Recorder}
+use Rattle.recording_entries.specs.Parts.{WritesPart}
+use Rattle.recording_entries.specs.Repeats.{Keeps}
 
 -- what these inputs bring, and the end of the run
 abbrev pub whole_played : List Input → Way

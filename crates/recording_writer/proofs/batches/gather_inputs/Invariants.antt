@@ -1,6 +1,7 @@
 -- The inputs that are left lead on, and what the others brought was added.
 use Rattle.std.proofs.Common.{◌≤◌, length}
-use Rattle.recording_writer.specs.inner.Batches.{KeepsUp, StaysOn, held_of}
+use Rattle.recording_entries.specs.Batches.{held_of}
+use Rattle.recording_writer.specs.inner.Batches.{KeepsUp, StaysOn}
 use Rattle.recording_writer.proofs.batches.gather_inputs.Given as goal
 
 abbrev pub invariant-loop-input : goal.invariant-loop-input

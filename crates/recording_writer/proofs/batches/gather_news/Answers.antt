@@ -10,8 +10,8 @@ use Rattle.model_lockstep.proofs.Following.{then_on_ok}
 use Rattle.impl_log.specs.Kept.{forgettable}
 use Rattle.impl_log.specs.Runs.{Run, past}
 use Rattle.proxy_single_thread.specs.Singles.{SingleModel}
-use Rattle.recording_writer.specs.inner.Batches.{held_of}
-use Rattle.recording_writer.specs.inner.Scenes.{AllCome}
+use Rattle.recording_entries.specs.Batches.{held_of}
+use Rattle.recording_entries.specs.Scenes.{AllCome}
 use Rattle.recording_writer.proofs.DrawnScenes.{news_come}
 use Rattle.recording_writer.proofs.batches.gather_news.Goals as goal
 

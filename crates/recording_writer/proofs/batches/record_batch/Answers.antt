@@ -3,8 +3,9 @@ use Rattle.std.proofs.Common.{◌<◌, length, subst, sym}
 use Rattle.std.specs.Prelude.{IfOk, OnErr, OnOk}
 use Rattle.player_io.specs.Pieces.{GainsPrefix}
 use Rattle.recording_pieces.specs.Writing.{WriteCause}
-use Rattle.recording_writer.specs.inner.Batches.{StaysOn, held_of, run_text}
-use Rattle.recording_writer.specs.inner.Parts.{Half}
+use Rattle.recording_entries.specs.Batches.{held_of}
+use Rattle.recording_writer.specs.inner.Batches.{StaysOn, run_text}
+use Rattle.recording_entries.specs.Parts.{Half}
 use Rattle.recording_writer.proofs.BatchedRuns.{joint_cause, joint_err, joint_if, joint_ok, put_front}
 use Rattle.recording_writer.proofs.batches.record_batch.Goals as goal
 

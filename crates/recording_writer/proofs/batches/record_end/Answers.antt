@@ -9,10 +9,10 @@ gather_end-requires-clause-can g c κs within = end_can c.args.single.now c.requ
 
 pub returns-in-Ok-clause-bytes : goal.returns-in-Ok-clause-bytes
 returns-in-Ok-clause-bytes g c = λ start half.
-    end_put c.put_batch.result c.args.single.now c.gather_end.new.single start _ _ _ _ c.requires.course c.in-Ok.ensures half c.put_batch.ensures.bytes
+    end_put c.put.result c.args.single.now c.gather_end.new.single start _ _ _ _ c.requires.course c.in-Ok.ensures half c.put.ensures.bytes
 
 pub returns-in-Ok-clause-history : goal.returns-in-Ok-clause-history
-returns-in-Ok-clause-history g c = where_ok _ c.put_batch.result (let gathered = c.in-Ok.ensures in end_played c.args.single.now c.gather_end.new.single c.requires.course gathered.follows)
+returns-in-Ok-clause-history g c = where_ok _ c.put.result (let gathered = c.in-Ok.ensures in end_played c.args.single.now c.gather_end.new.single c.requires.course gathered.follows)
 
 pub returns-in-Err-clause-bytes : goal.returns-in-Err-clause-bytes
 returns-in-Err-clause-bytes g c = λ start half. stops_early [] c.args.single.now start _ c.requires.course (half_front start _ _ _ half)

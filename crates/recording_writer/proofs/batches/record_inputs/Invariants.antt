@@ -1,8 +1,9 @@
 -- The inputs that are left lead on, and the sink gained what was entered but for what waits.
 use Rattle.std.proofs.Common.{ℕ, ◌≤◌, List, length}
 use Rattle.std.specs.Prelude.{Option}
-use Rattle.recording_writer.specs.inner.Batches.{StaysOn, held_of, run_text}
-use Rattle.recording_writer.specs.inner.Parts.{Half}
+use Rattle.recording_entries.specs.Batches.{held_of}
+use Rattle.recording_writer.specs.inner.Batches.{StaysOn, run_text}
+use Rattle.recording_entries.specs.Parts.{Half}
 use Rattle.recording_writer.proofs.batches.record_inputs.Given as goal
 
 abbrev pub invariant-loop-rest : goal.invariant-loop-rest

@@ -4,7 +4,7 @@ use Rattle.std.specs.Prelude.{Option, Result, ⊤}
 use Rattle.model_lockstep.specs.Walks.{CanFollow, inputs_from}
 use Rattle.recording_pieces.specs.declared.writing.WriteStop.{WriteStop}
 use Rattle.proxy_single_thread.specs.Singles.{SingleModel, walk_of}
-use Rattle.recording_writer.specs.declared.recorder.Recorder.{Recorder}
+use Rattle.recording_entries.specs.declared.recorder.Recorder.{Recorder}
 use Rattle.recording_writer.specs.inner.Ways.{IsWritten, WritesWay}
 use Rattle.recording_writer.proofs.lockstep.record_inputs.Given as goal
 

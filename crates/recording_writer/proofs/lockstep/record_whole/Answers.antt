@@ -2,8 +2,8 @@
 use Rattle.std.proofs.Common.{ℕ, List, ap, ◌∙◌, subst}
 use Rattle.player_io.specs.Pieces.{GainsPrefix}
 use Rattle.model_history.specs.Recordings.{header}
-use Rattle.recording_writer.specs.declared.last_draw.LastDraw.{LastDraw}
-use Rattle.recording_writer.specs.inner.Parts.{Half}
+use Rattle.recording_entries.specs.declared.last_draw.LastDraw.{LastDraw}
+use Rattle.recording_entries.specs.Parts.{Half}
 use Rattle.recording_writer.proofs.RecordedRuns.{records_front}
 use Rattle.recording_writer.proofs.lockstep.record_whole.Goals as goal
 

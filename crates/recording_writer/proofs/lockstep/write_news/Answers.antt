@@ -10,9 +10,9 @@ use Rattle.model_lockstep.proofs.Following.{then_on_ok}
 use Rattle.impl_log.specs.Kept.{forgettable}
 use Rattle.impl_log.specs.Runs.{Run, past}
 use Rattle.proxy_single_thread.specs.Singles.{SingleModel}
-use Rattle.recording_writer.specs.inner.Parts.{WritesPart}
-use Rattle.recording_writer.specs.inner.Repeats.{Keeps}
-use Rattle.recording_writer.specs.inner.Scenes.{AllCome}
+use Rattle.recording_entries.specs.Parts.{WritesPart}
+use Rattle.recording_entries.specs.Repeats.{Keeps}
+use Rattle.recording_entries.specs.Scenes.{AllCome}
 use Rattle.recording_writer.specs.inner.Ways.{IsWritten}
 use Rattle.recording_writer.proofs.DrawnScenes.{news_come}
 use Rattle.recording_writer.proofs.lockstep.write_news.Goals as goal

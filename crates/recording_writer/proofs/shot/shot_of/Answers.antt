@@ -7,7 +7,7 @@ use Rattle.recording_writer.specs.inner.Shooting.{shown}
 use Rattle.recording_writer.proofs.ShotRuns.{shot_some}
 use Rattle.recording_writer.proofs.shot.shot_of.Goals as goal
 
-pub returns-in_ok-file_of-in-Some : goal.returns-in_ok-file_of-in-Some
-returns-in_ok-file_of-in-Some g c =
-    shot_some c.args.script.now c.in-Some.scene c.in_ok-file_of-in-Some.field-0.items
-    (subst (λ (z : Option SceneView). IsLastImage c.args.script.now (shown z)) c.in-Some.is c.in_ok-scene.ensures) c.in_ok-file_of-in-Some.ensures
+pub returns-in_ok-png_of-in-Some : goal.returns-in_ok-png_of-in-Some
+returns-in_ok-png_of-in-Some g c =
+    shot_some c.args.script.now c.in-Some.scene c.in_ok-png_of-in-Some.field-0.items
+    (subst (λ (z : Option SceneView). IsLastImage c.args.script.now (shown z)) c.in-Some.is c.in_ok-scene.ensures) c.in_ok-png_of-in-Some.ensures
