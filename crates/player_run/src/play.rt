@@ -15,7 +15,7 @@ use crate::threads::run_crew;
 use model_history::Script;
 use player_io::{Gate, Sink, Source};
 use player_words::Use;
-use recording_writer::header_of;
+use recording_entries::header_of;
 use script_json::print_script;
 use std::alloc::{AllocError, Global};
 use std::marker::Send;
