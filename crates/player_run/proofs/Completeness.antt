@@ -1,106 +1,45 @@
 -- What a use takes is not refused.
-use Rattle.std.proofs.Common.{◌≡◌, ◌⊎◌, inl, inr, ℕ, List, None, Some, Ok, Err, refl, ap, sym, ◌∙◌, arith, subst}
+use Rattle.std.proofs.Common.{◌≡◌, ◌⊎◌, inl, inr, ℕ, List, None, Some, Ok, Err, refl, subst}
 use Rattle.std.specs.Prelude.{Option, Result, IfOk}
 use Rattle.player_io.specs.Counts.{Rose}
-use Rattle.serde_json.specs.Data.{Data}
-use Rattle.serde_json.specs.Read.{read}
 use Rattle.model_history.specs.Scripts.{ScriptModel}
-use Rattle.model_history.specs.Frames.{blank}
-use Rattle.model_history.specs.Accepted.{TakesFrames}
-use Rattle.model_history.proofs.Exclusion.{frames_taken}
-use Rattle.script_json.specs.Causes.{IsTextOf}
-use Rattle.script_json.specs.Reading.{parts_at}
 use Rattle.script_json.proofs.ScriptLaws.{one_script}
-use Rattle.recording_check.proofs.LegalRecordings.{legal_not_wrong, legal_not_bad}
-use Rattle.recording_check.proofs.OneReading.{not_bad}
-use Rattle.player_run.specs.declared.outcome.Outcome.{Outcome}
-use Rattle.player_run.specs.declared.outcome.Outcome.TheVariants.{Done, Usage, Json, Shape, Script, ReadFault, WriteFault, TooLong, BadRecording, No, Memory, NoPicture}
+use Rattle.player_outcomes.specs.declared.outcome.Outcome.{Outcome}
+use Rattle.player_outcomes.specs.declared.outcome.Outcome.TheVariants.{Done, Usage, Json, Shape, Script, ReadFault, WriteFault, TooLong, BadRecording, No, Memory, NoPicture}
 use Rattle.player_words.specs.declared.words.Use.{Use}
 use Rattle.player_words.specs.declared.words.Use.TheVariants.{Step, Play, Gen, Demo, Film, Shot, Frames, Check, Serve}
 use Rattle.recording_writer.specs.Films.{IsLastImage}
-use Rattle.player_run.specs.Shots.{with_shot}
+use Rattle.player_outcomes.specs.Shots.{with_shot}
+use Rattle.player_outcomes.specs.Answers.{TellsMisfit, IsUnread}
+use Rattle.player_outcomes.specs.Faults.{Causes}
+use Rattle.player_run.specs.Runs.{Takes, RefusedShot, Refused, CauseOf, CauseFrom, IsComplete}
+use Rattle.player_outcomes.proofs.NotRefused.{script_taken, recording_taken, history_taken}
 use Rattle.player_run.proofs.ShotsTaken.{one_last_image}
-use Rattle.player_run.specs.Runs.{TellsMisfit, IsAcceptedText, Takes, RefusedScript, RefusedShot, RefusedRecording, RefusedHistory, Refused, CauseOf, CauseFrom, IsUnread, Causes, IsComplete}
-
--- a text of a script has no first fault
-not_at_fault : (bytes : List ℕ) → IsAcceptedText bytes → (d : Data) → IsTextOf bytes d → (place : _) → parts_at d ≡ Err place → ⊥
-not_at_fault bytes good d text place fault =
-    let same : d ≡ good.1.0 = cc (text.1, good.1.1.1) in
-    let reading : parts_at d ≡ Ok good.0 = ap parts_at same ∙ good.1.2 in
-    cc (reading, fault)
-
--- a script that is accepted is not refused
-script_taken : (workers : ℕ) (bytes : List ℕ) (result : Outcome) → Takes (Step workers) bytes → RefusedScript bytes result → ⊥
-script_taken workers bytes Json (few, good) (short, none) = let nothing : read bytes ≡ None = none good.1.1.0 in absurd (cc (nothing, good.1.1.1))
-script_taken workers bytes (Shape place) (few, good) (short, d, text, fault) = not_at_fault bytes good d text place fault
-script_taken workers bytes (Script frame command fault) (few, good) (short, s, text, refused) =
-    let same : s ≡ good.0 = one_script bytes s good.0 text good.1 in
-    let taken : TakesFrames (blank s) s.main = subst (λ (t : ScriptModel). TakesFrames (blank t) t.main) (sym same) good.2 in
-    frames_taken (blank s) s.main frame command fault taken refused
-script_taken workers bytes (TooLong limit) (few, good) (is, long) = omega (arith, few, long)
-script_taken workers bytes Done takes refused = refused
-script_taken workers bytes (Usage word) takes refused = refused
-script_taken workers bytes ReadFault takes refused = refused
-script_taken workers bytes WriteFault takes refused = refused
-script_taken workers bytes (BadRecording place) takes refused = refused
-script_taken workers bytes (No event) takes refused = refused
-script_taken workers bytes Memory takes refused = refused
-script_taken workers bytes NoPicture takes refused = refused
 
 -- a script whose shot has a picture is not refused for having none
 shot_taken : (workers : ℕ) (bytes : List ℕ) (result : Outcome) → Takes (Shot workers) bytes → RefusedShot bytes result → ⊥
 shot_taken workers bytes NoPicture (few, (s, text, accepted, has)) (short, t, other, taken, none) =
     let same : t ≡ s = one_script bytes t s other text in
     one_last_image (with_shot s) has.0 has.1 (subst (λ (z : ScriptModel). IsLastImage (with_shot z) None) same none)
-shot_taken workers bytes Json (few, (s, text, accepted, has)) refused = script_taken workers bytes Json (few, (s, text, accepted)) refused
-shot_taken workers bytes (Shape place) (few, (s, text, accepted, has)) refused = script_taken workers bytes (Shape place) (few, (s, text, accepted)) refused
-shot_taken workers bytes (Script frame command fault) (few, (s, text, accepted, has)) refused = script_taken workers bytes (Script frame command fault) (few, (s, text, accepted)) refused
-shot_taken workers bytes (TooLong limit) (few, (s, text, accepted, has)) refused = script_taken workers bytes (TooLong limit) (few, (s, text, accepted)) refused
-shot_taken workers bytes Done (few, (s, text, accepted, has)) refused = script_taken workers bytes Done (few, (s, text, accepted)) refused
-shot_taken workers bytes (Usage word) (few, (s, text, accepted, has)) refused = script_taken workers bytes (Usage word) (few, (s, text, accepted)) refused
-shot_taken workers bytes ReadFault (few, (s, text, accepted, has)) refused = script_taken workers bytes ReadFault (few, (s, text, accepted)) refused
-shot_taken workers bytes WriteFault (few, (s, text, accepted, has)) refused = script_taken workers bytes WriteFault (few, (s, text, accepted)) refused
-shot_taken workers bytes (BadRecording place) (few, (s, text, accepted, has)) refused = script_taken workers bytes (BadRecording place) (few, (s, text, accepted)) refused
-shot_taken workers bytes (No event) (few, (s, text, accepted, has)) refused = script_taken workers bytes (No event) (few, (s, text, accepted)) refused
-shot_taken workers bytes Memory (few, (s, text, accepted, has)) refused = script_taken workers bytes Memory (few, (s, text, accepted)) refused
-
--- nor is a recording
-recording_taken : (bytes : List ℕ) (result : Outcome) → Takes Frames bytes → RefusedRecording bytes result → ⊥
-recording_taken bytes (BadRecording place) (few, (s, ps, is)) (short, bad) = not_bad bytes s ps place is bad
-recording_taken bytes (TooLong limit) (few, good) (is, long) = omega (arith, few, long)
-recording_taken bytes Done takes refused = refused
-recording_taken bytes (Usage word) takes refused = refused
-recording_taken bytes Json takes refused = refused
-recording_taken bytes (Shape place) takes refused = refused
-recording_taken bytes (Script frame command why) takes refused = refused
-recording_taken bytes ReadFault takes refused = refused
-recording_taken bytes WriteFault takes refused = refused
-recording_taken bytes (No event) takes refused = refused
-recording_taken bytes Memory takes refused = refused
-recording_taken bytes NoPicture takes refused = refused
-
--- nor is that of a legal history
-history_taken : (bytes : List ℕ) (result : Outcome) → Takes Check bytes → RefusedHistory bytes result → ⊥
-history_taken bytes (No event) (few, good) (short, wrong) = legal_not_wrong 16 bytes event good wrong
-history_taken bytes (BadRecording place) (few, good) (short, bad) = legal_not_bad 16 bytes place good bad
-history_taken bytes (TooLong limit) (few, good) (is, long) = omega (arith, few, long)
-history_taken bytes Done takes refused = refused
-history_taken bytes (Usage word) takes refused = refused
-history_taken bytes Json takes refused = refused
-history_taken bytes (Shape place) takes refused = refused
-history_taken bytes (Script frame command why) takes refused = refused
-history_taken bytes ReadFault takes refused = refused
-history_taken bytes WriteFault takes refused = refused
-history_taken bytes Memory takes refused = refused
-history_taken bytes NoPicture takes refused = refused
+shot_taken workers bytes Json (few, (s, text, accepted, has)) refused = script_taken bytes Json (few, (s, text, accepted)) refused
+shot_taken workers bytes (Shape place) (few, (s, text, accepted, has)) refused = script_taken bytes (Shape place) (few, (s, text, accepted)) refused
+shot_taken workers bytes (Script frame command fault) (few, (s, text, accepted, has)) refused = script_taken bytes (Script frame command fault) (few, (s, text, accepted)) refused
+shot_taken workers bytes (TooLong limit) (few, (s, text, accepted, has)) refused = script_taken bytes (TooLong limit) (few, (s, text, accepted)) refused
+shot_taken workers bytes Done (few, (s, text, accepted, has)) refused = script_taken bytes Done (few, (s, text, accepted)) refused
+shot_taken workers bytes (Usage word) (few, (s, text, accepted, has)) refused = script_taken bytes (Usage word) (few, (s, text, accepted)) refused
+shot_taken workers bytes ReadFault (few, (s, text, accepted, has)) refused = script_taken bytes ReadFault (few, (s, text, accepted)) refused
+shot_taken workers bytes WriteFault (few, (s, text, accepted, has)) refused = script_taken bytes WriteFault (few, (s, text, accepted)) refused
+shot_taken workers bytes (BadRecording place) (few, (s, text, accepted, has)) refused = script_taken bytes (BadRecording place) (few, (s, text, accepted)) refused
+shot_taken workers bytes (No event) (few, (s, text, accepted, has)) refused = script_taken bytes (No event) (few, (s, text, accepted)) refused
+shot_taken workers bytes Memory (few, (s, text, accepted, has)) refused = script_taken bytes Memory (few, (s, text, accepted)) refused
 
 -- nor is what a use takes
 not_refused : (wanted : Use) (bytes : List ℕ) (result : Outcome) → Takes wanted bytes → Refused wanted bytes result → ⊥
-not_refused (Step workers) bytes result takes refused = script_taken workers bytes result takes refused
-not_refused (Play workers) bytes result takes refused = script_taken workers bytes result takes refused
+not_refused (Step workers) bytes result takes refused = script_taken bytes result takes refused
+not_refused (Play workers) bytes result takes refused = script_taken bytes result takes refused
 not_refused (Gen number) bytes result takes refused = refused
 not_refused (Demo number) bytes result takes refused = refused
-not_refused (Film workers) bytes result takes refused = script_taken workers bytes result takes refused
+not_refused (Film workers) bytes result takes refused = script_taken bytes result takes refused
 not_refused (Shot workers) bytes result takes refused = shot_taken workers bytes result takes refused
 not_refused Frames bytes result takes refused = recording_taken bytes result takes refused
 not_refused Check bytes result takes refused = history_taken bytes result takes refused

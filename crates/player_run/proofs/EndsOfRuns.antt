@@ -19,7 +19,7 @@ use Rattle.proxy_threads.specs.Writing.{part, FaultCause, IsLast, KnowsEnd, Wrot
 use Rattle.proxy_threads.proofs.Holds.{entries_pairs}
 use Rattle.player_run.specs.declared.beside.Ending.{Ending}
 use Rattle.player_run.specs.declared.beside.Ran.{Ran}
-use Rattle.player_run.specs.Runs.{Causes}
+use Rattle.player_outcomes.specs.Faults.{Causes}
 use Rattle.player_run.specs.inner.Actors.{HasRun, IsRunAt, PlayEnds, joint_outcome}
 
 -- a count that did not rise

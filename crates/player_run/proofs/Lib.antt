@@ -1,16 +1,9 @@
-pub mod Gains
-pub mod Told
 pub mod Promised
-pub mod Tallies
 pub mod Summed
 pub mod Outputs
-pub mod Answered
 pub mod ScriptsPlayed
-pub mod AskedScripts
 pub mod ShotsTaken
-pub mod ImagesWritten
 pub mod Completeness
-pub mod JudgedInputs
 pub mod BeginsOfRuns
 pub mod EndsOfRuns
 pub mod PlayedRuns

@@ -1,42 +1,14 @@
 -- What was written is what the use writes.
-use Rattle.std.proofs.Common.{ℕ, List, inl, inr, Ok}
+use Rattle.std.proofs.Common.{ℕ, List, [], None, Some, inl, inr, refl, sym, append-nil}
 use Rattle.std.specs.Prelude.{Option}
-use Rattle.player_run.specs.declared.outcome.Outcome.{Outcome}
-use Rattle.player_run.specs.declared.outcome.Outcome.TheVariants.{Done, Usage, Json, Shape, Script, ReadFault, WriteFault, TooLong, BadRecording, No, Memory, NoPicture}
+use Rattle.std.specs.Io.KnownBytes.{Appends}
+use Rattle.player_outcomes.specs.declared.outcome.Outcome.{Outcome}
+use Rattle.player_outcomes.specs.declared.outcome.Outcome.TheVariants.{Done, Usage, Json, Shape, Script, ReadFault, WriteFault, TooLong, BadRecording, No, Memory, NoPicture}
 use Rattle.player_words.specs.declared.words.Use.{Use}
 use Rattle.player_words.specs.declared.words.Use.TheVariants.{Step, Play, Gen, Demo, Film, Shot, Frames, Check, Serve}
-use Rattle.player_run.specs.inner.Outputs.{WritesSome}
-use Rattle.player_run.specs.Runs.{TellsMisfit, IsUnread, IsOutput, IsBegun, Writes}
-
--- the words are no matter of it
-pub some_words : (P : List ℕ → Type 0) (wanted : Use) (old new : Option (List ℕ)) (o : Outcome) → WritesSome P old new o → TellsMisfit (Ok wanted) o
-some_words P wanted old new Done wrote = tt
-some_words P wanted old new WriteFault wrote = tt
-some_words P wanted old new Memory wrote = tt
-some_words P wanted old new (Usage word) wrote = absurd wrote
-some_words P wanted old new Json wrote = tt
-some_words P wanted old new (Shape fault) wrote = tt
-some_words P wanted old new (Script frame command why) wrote = tt
-some_words P wanted old new ReadFault wrote = tt
-some_words P wanted old new (TooLong limit) wrote = tt
-some_words P wanted old new (BadRecording place) wrote = tt
-some_words P wanted old new (No event) wrote = tt
-some_words P wanted old new NoPicture wrote = tt
-
--- nor is what the source has
-pub some_unread : (P : List ℕ → Type 0) (old new : Option (List ℕ)) (o : Outcome) → WritesSome P old new o → IsUnread o
-some_unread P old new Done wrote = tt
-some_unread P old new WriteFault wrote = tt
-some_unread P old new Memory wrote = tt
-some_unread P old new (Usage word) wrote = absurd wrote
-some_unread P old new Json wrote = absurd wrote
-some_unread P old new (Shape fault) wrote = absurd wrote
-some_unread P old new (Script frame command why) wrote = absurd wrote
-some_unread P old new ReadFault wrote = absurd wrote
-some_unread P old new (TooLong limit) wrote = absurd wrote
-some_unread P old new (BadRecording place) wrote = absurd wrote
-some_unread P old new (No event) wrote = absurd wrote
-some_unread P old new NoPicture wrote = absurd wrote
+use Rattle.player_outcomes.specs.Faults.{IsSilent}
+use Rattle.player_outcomes.specs.Outputs.{WritesSome}
+use Rattle.player_run.specs.Runs.{IsOutput, IsBegun, Writes}
 
 -- what a use writes in all, it was writing
 begun_is : (wanted : Use) (source : Option (List ℕ)) (whole : List ℕ) → IsOutput wanted source whole → IsBegun wanted source whole
@@ -65,3 +37,14 @@ some_output P wanted source old new (TooLong limit) is wrote = absurd wrote
 some_output P wanted source old new (BadRecording place) is wrote = absurd wrote
 some_output P wanted source old new (No event) is wrote = absurd wrote
 some_output P wanted source old new NoPicture is wrote = absurd wrote
+
+-- nothing was written
+nothing_more : (held : Option (List ℕ)) → Appends held held []
+nothing_more None = tt
+nothing_more (Some xs) = sym (append-nil xs)
+
+pub nothing_written : (source held : Option (List ℕ)) (o : Outcome) → IsSilent o → Writes Check source held held o
+nothing_written source held Done silent = ([], refl, nothing_more held)
+nothing_written source held WriteFault silent = absurd silent
+nothing_written source held Memory silent = inl refl
+nothing_written source held _ silent = refl

@@ -6,12 +6,13 @@ use Rattle.model_history.specs.Scripts.{ScriptModel}
 use Rattle.script_json.specs.Causes.{IsScriptText}
 use Rattle.script_json.proofs.CanonicalTexts.{said}
 use Rattle.recording_writer.specs.Films.{IsLockstepFilm}
-use Rattle.player_run.specs.declared.outcome.Outcome.{Outcome}
-use Rattle.player_run.specs.declared.outcome.Outcome.TheVariants.{Done, Usage, Json, Shape, Script, ReadFault, WriteFault, TooLong, BadRecording, No, Memory, NoPicture}
+use Rattle.player_outcomes.specs.declared.outcome.Outcome.{Outcome}
+use Rattle.player_outcomes.specs.declared.outcome.Outcome.TheVariants.{Done, Usage, Json, Shape, Script, ReadFault, WriteFault, TooLong, BadRecording, No, Memory, NoPicture}
 use Rattle.player_words.specs.declared.words.Use.{Use}
 use Rattle.player_words.specs.declared.words.Use.TheVariants.{Step, Film}
-use Rattle.player_run.specs.inner.Outputs.{WritesSome}
-use Rattle.player_run.specs.Runs.{script_limit, IsRunOf, Takes, CauseOf, CauseFrom, Writes}
+use Rattle.player_outcomes.specs.Outputs.{WritesSome}
+use Rattle.player_outcomes.specs.Refusals.{script_limit}
+use Rattle.player_run.specs.Runs.{IsRunOf, Takes, CauseOf, CauseFrom, Writes}
 use Rattle.player_run.proofs.Outputs.{some_output}
 
 pub text_of : (source : Option (List ℕ)) (s : ScriptModel) → IfSome source (λ bytes. (length bytes ≤ script_limit) × IsScriptText bytes s) → IfSome source (λ bytes. IsScriptText bytes s)

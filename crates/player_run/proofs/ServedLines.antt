@@ -1,42 +1,28 @@
 -- What a session said of a line is an answer to it.
-use Rattle.std.specs.Prelude.{◌≡◌, ℕ, ◌≤◌, ◌<◌, Bool, true, false, ◌⊎◌, List, [], ◌∷◌, ◌++◌, length, flat_map, Option, Some, None, Result, Ok, Err}
+use Rattle.std.specs.Prelude.{◌≡◌, ℕ, ◌≤◌, ◌<◌, Bool, true, false, List, [], ◌++◌, length, flat_map, Option, Some, None, Result, Ok, Err}
 use Rattle.std.proofs.lemmas.Bool.{false≢true}
-use Rattle.player_io.specs.Counts.{Rose}
 use Rattle.std.proofs.Common.{refl, sym, ap, subst, ◌∙◌, append-nil, append_assoc, inl, inr}
 use Rattle.std.specs.Io.KnownBytes.{Appends}
-use Rattle.player_io.specs.Pieces.{GainsPrefix}
 use Rattle.player_lines.specs.Sessions.{Act, frame, Has}
-use Rattle.player_lines.specs.inner.Pasts.{Went, IsQuiet, Spoke, Said, SaidAll, Answered, AnsweredBy, quote, told}
-use Rattle.player_lines.proofs.Telling.{gained, quiet_told, went_then, said_then}
+use Rattle.player_lines.specs.inner.Pasts.{Went, IsQuiet, Spoke, Said, Answered, AnsweredBy, quote, told}
+use Rattle.player_lines.proofs.Telling.{gained, quiet_told, went_then}
 use Rattle.model_history.specs.Accepted.{IsAccepted}
 use Rattle.model_history.specs.Scripts.{ScriptModel}
 use Rattle.script_json.specs.Causes.{IsScriptText}
 use Rattle.script_json.proofs.CanonicalTexts.{said}
-use Rattle.player_run.specs.declared.outcome.Outcome.{Outcome}
-use Rattle.player_run.specs.declared.outcome.Outcome.TheVariants.{Done, Usage, Json, Shape, Script, ReadFault, WriteFault, TooLong, BadRecording, No, Memory, NoPicture}
+use Rattle.player_outcomes.specs.declared.outcome.Outcome.{Outcome}
+use Rattle.player_outcomes.specs.declared.outcome.Outcome.TheVariants.{Done, Usage, Json, Shape, Script, ReadFault, WriteFault, TooLong, BadRecording, No, Memory, NoPicture}
 use Rattle.player_words.specs.declared.words.Use.TheVariants.{Step}
-use Rattle.player_run.specs.inner.Outputs.{WritesSome}
-use Rattle.player_run.specs.inner.Scripts.{IsNone}
-use Rattle.player_run.specs.Runs.{script_limit, IsRunOf, IsOutput, CauseOf, Causes, Writes}
-use Rattle.player_run.specs.inner.Faults.{is_write_fault}
-use Rattle.player_run.specs.Served.{EndsLine, IsLineAnswer, verdict}
+use Rattle.player_outcomes.specs.Outputs.{WritesSome}
+use Rattle.player_outcomes.specs.Scripts.{IsNone}
+use Rattle.player_outcomes.specs.Refusals.{script_limit}
+use Rattle.player_outcomes.specs.Outcomes.{is_write_fault}
+use Rattle.player_outcomes.specs.Verdicts.{verdict}
+use Rattle.player_run.specs.Runs.{IsRunOf, IsOutput, CauseOf, Writes}
+use Rattle.player_run.specs.Served.{EndsLine, IsLineAnswer}
 
 abbrev joined : List (List ℕ) → List ℕ
 joined pieces = flat_map (λ (piece : List ℕ). piece) pieces
-
--- ---- text of the last line
-
--- text that was taken went, and no piece of data after it
-pub said_all : {X : Type 0} (E : Type 0) (old new : Option (List Act)) (text : List ℕ) (u : X) → Said {X = X} {E = E} old new text (Ok u) → SaidAll old new text
-said_all E None new text u said = tt
-said_all E (Some h) new text u said = said
-
-pub all_then : {X : Type 0} (E : Type 0) (old mid new : Option (List Act)) (a b : List ℕ) (u : X) → SaidAll old mid a → Said {X = X} {E = E} mid new b (Ok u) → SaidAll old new (a ++ b)
-all_then E old mid new a b u first second = said_all E old new (a ++ b) u (said_then old mid new a b (Ok u) first second)
-
--- the same text, told otherwise
-pub said_as : {X E : Type 0} (old new : Option (List Act)) (a b : List ℕ) (r : Result X E) → a ≡ b → Said old new a r → Said old new b r
-said_as old new a b r same said = subst (λ (t : List ℕ). Said old new t r) same said
 
 -- ---- a line that is refused
 
@@ -202,20 +188,6 @@ too_long workers limit line is long = (tt, (is, long), refl)
 
 pub no_memory : (workers : ℕ) (line : List ℕ) → IsTold workers line Memory
 no_memory workers line = (tt, tt, inl refl)
-
-pub fault_rose : (a b : ℕ) (o : Outcome) → is_write_fault o ≡ true → Causes 0 0 a b o → Rose a b
-fault_rose a b WriteFault is cause = cause
-fault_rose a b Done is cause = absurd (false≢true is)
-fault_rose a b (Usage word) is cause = absurd (false≢true is)
-fault_rose a b Json is cause = absurd (false≢true is)
-fault_rose a b (Shape fault) is cause = absurd (false≢true is)
-fault_rose a b (Script frame command why) is cause = absurd (false≢true is)
-fault_rose a b ReadFault is cause = absurd (false≢true is)
-fault_rose a b (TooLong limit) is cause = absurd (false≢true is)
-fault_rose a b (BadRecording place) is cause = absurd (false≢true is)
-fault_rose a b (No event) is cause = absurd (false≢true is)
-fault_rose a b NoPicture is cause = absurd (false≢true is)
-fault_rose a b Memory is cause = absurd (false≢true is)
 
 -- ---- a session
 

@@ -1,6 +1,6 @@
 -- What was written of a script that was asked for its picture is what its source asked for.
-use Rattle.std.proofs.Common.{◌≡◌, ℕ, ◌≤◌, Bool, List, length, None, Some, Ok, Err, inl, inr, refl, sym, subst}
-use Rattle.std.specs.Prelude.{Option, Result, IfSome}
+use Rattle.std.proofs.Common.{◌≡◌, ℕ, ◌≤◌, Bool, List, length, None, Some, Ok, inl, inr, refl, sym, subst}
+use Rattle.std.specs.Prelude.{Option, IfSome}
 use Rattle.model_history.specs.Accepted.{IsAccepted}
 use Rattle.model_history.specs.Scripts.{ScriptModel}
 use Rattle.model_history.proofs.LockstepWords.{lockstep_one}
@@ -8,18 +8,20 @@ use Rattle.script_json.specs.Causes.{IsScriptText}
 use Rattle.script_json.proofs.CanonicalTexts as canonical
 use Rattle.recording_writer.specs.Films.{IsLastImage}
 use Rattle.recording_writer.specs.Shots.{IsShot}
-use Rattle.player_run.specs.declared.outcome.Outcome.{Outcome}
-use Rattle.player_run.specs.declared.outcome.Outcome.TheVariants.{Done, Usage, Json, Shape, Script, ReadFault, WriteFault, TooLong, BadRecording, No, Memory, NoPicture}
+use Rattle.player_outcomes.specs.declared.outcome.Outcome.{Outcome}
+use Rattle.player_outcomes.specs.declared.outcome.Outcome.TheVariants.{Done, Usage, Json, Shape, Script, ReadFault, WriteFault, TooLong, BadRecording, No, Memory, NoPicture}
 use Rattle.player_words.specs.declared.words.Use.TheVariants.{Shot}
-use Rattle.player_run.specs.inner.Inputs.{ReadWhole}
-use Rattle.player_run.specs.inner.Outputs.{WritesSome}
-use Rattle.player_run.specs.inner.Scripts.{IsNone, IsNoneOf, IsStopped}
-use Rattle.player_run.specs.inner.Shots.{JudgedShot, ShotIn, IsAskedFrom, ShotFrom, Shoots}
-use Rattle.player_run.specs.Runs.{script_limit, TellsMisfit, AnswersScript, AnswersShot, CauseOf, CauseFrom, IsJudgedWhole, Writes, StopsAtFault}
-use Rattle.player_run.specs.Shots.{with_shot, HasPicture}
+use Rattle.player_outcomes.specs.Outputs.{WritesSome}
+use Rattle.player_outcomes.specs.Shots.{IsAskedFrom, with_shot}
+use Rattle.player_outcomes.specs.Refusals.{script_limit}
+use Rattle.player_outcomes.specs.Answers.{TellsMisfit, AnswersScript, AnswersShot}
+use Rattle.player_outcomes.specs.Reading.{IsJudgedWhole}
+use Rattle.player_outcomes.specs.Faults.{StopsAtFault}
+use Rattle.player_run.specs.inner.Shots.{Shoots}
+use Rattle.player_run.specs.Runs.{CauseOf, CauseFrom, Writes}
+use Rattle.player_run.specs.Shots.{HasPicture}
 use Rattle.player_run.proofs.Outputs.{some_output}
 use Rattle.player_run.proofs.ScriptsPlayed.{text_of}
-use Rattle.player_run.proofs.Told.{told_of}
 
 -- what the file shows is the script's last image
 has_picture : (s : ScriptModel) (file : List ℕ) → IsShot s (Some file) → HasPicture s
@@ -31,50 +33,6 @@ pub one_last_image : (s : ScriptModel) (image : List ℕ) → IsLastImage s (Som
 one_last_image s image (h, lockstep, is) (g, other, none) =
     let same : h ≡ g = lockstep_one s h g lockstep other in
     cc (is, none, same)
-
--- ---- the script
-
--- a script whose parts the bytes say, or why it is refused
-pub shot_in : (bytes : List ℕ) (said : ScriptModel) (result : Result ScriptModel Outcome) → length bytes ≤ script_limit → IsScriptText bytes said → JudgedShot said result → ShotIn bytes result
-shot_in bytes said (Ok s) few text judged = record { said = said; text = text; accepted = judged.1; asked = judged.0 }
-shot_in bytes said (Err (Script frame command fault)) few text judged = (few, said, text, judged)
-shot_in bytes said (Err Memory) few text judged = tt
-shot_in bytes said (Err Done) few text judged = absurd judged
-shot_in bytes said (Err (Usage word)) few text judged = absurd judged
-shot_in bytes said (Err Json) few text judged = absurd judged
-shot_in bytes said (Err (Shape fault)) few text judged = absurd judged
-shot_in bytes said (Err ReadFault) few text judged = absurd judged
-shot_in bytes said (Err WriteFault) few text judged = absurd judged
-shot_in bytes said (Err (TooLong limit)) few text judged = absurd judged
-shot_in bytes said (Err (BadRecording place)) few text judged = absurd judged
-shot_in bytes said (Err (No event)) few text judged = absurd judged
-shot_in bytes said (Err NoPicture) few text judged = absurd judged
-
--- what the bytes of a source say that was read to its end
-module _ (old new : Option (List ℕ)) (bytes : List ℕ) (read : ReadWhole script_limit old new bytes) where
-  none_of : (o : Outcome) → IsNone bytes o → IfSome old (λ bytes. IsNoneOf bytes o) × IsJudgedWhole new o × IsStopped o
-  none_of Json none = (told_of (λ xs. IsNoneOf xs Json) old new bytes read.0 none, read.0.1, tt)
-  none_of (Shape fault) none = (told_of (λ xs. IsNoneOf xs (Shape fault)) old new bytes read.0 none, read.0.1, tt)
-  none_of (Script frame command fault) none = (told_of (λ xs. IsNoneOf xs (Script frame command fault)) old new bytes read.0 none, read.0.1, tt)
-  none_of (TooLong limit) none = (told_of (λ xs. IsNoneOf xs (TooLong limit)) old new bytes read.0 none, tt, tt)
-  none_of Memory none = (told_of (λ xs. IsNoneOf xs Memory) old new bytes read.0 tt, tt, tt)
-  none_of Done none = absurd none
-  none_of (Usage word) none = absurd none
-  none_of ReadFault none = absurd none
-  none_of WriteFault none = absurd none
-  none_of (BadRecording place) none = absurd none
-  none_of (No event) none = absurd none
-  none_of NoPicture none = absurd none
-
-  pub shot_from : (result : Result ScriptModel Outcome) → ShotIn bytes result → ShotFrom old new result
-  shot_from (Ok s) asked = record {
-    said = asked.said;
-    text = told_of (λ xs. (length xs ≤ script_limit) × IsScriptText xs asked.said) old new bytes read.0 (read.1, asked.text);
-    accepted = asked.accepted;
-    asked = asked.asked;
-    whole = read.0.1;
-  }
-  shot_from (Err o) none = none_of o none
 
 -- ---- the file
 

@@ -7,10 +7,14 @@ use Rattle.model_history.specs.Scripts.{ScriptModel}
 use Rattle.model_history.proofs.LockstepWords.{lockstep_one}
 use Rattle.script_json.specs.Recordings.{recording}
 use Rattle.recording_writer.specs.Recordings.{IsLockstepRecording}
-use Rattle.player_run.specs.declared.demo.Summary.{Summary}
-use Rattle.player_run.specs.Demos.{demo_line}
+use Rattle.player_outcomes.specs.declared.outcome.Outcome.{Outcome}
+use Rattle.player_outcomes.specs.declared.summary.Summary.{Summary}
+use Rattle.player_outcomes.specs.Demos.{demo_line}
+use Rattle.player_outcomes.specs.Outputs.{WritesSome}
+use Rattle.player_outcomes.specs.Summaries.{IsSummary, summary_line}
+use Rattle.player_outcomes.proofs.Outputs.{some_as}
 use Rattle.player_run.specs.Runs.{IsDemoOf}
-use Rattle.player_run.specs.inner.Summaries.{IsSummary, IsDemoSummary, summary_line}
+use Rattle.player_run.specs.inner.Summaries.{IsDemoSummary}
 
 -- what a sink was given that had nothing is the recording of the run
 given : (s : ScriptModel) (h : List Entry) (old new : List ℕ) → old ≡ [] → IsLockstep s h → (whole : List ℕ) × IsLockstepRecording s whole × (new ≡ old ++ whole) → new ≡ recording s h
@@ -26,5 +30,5 @@ summed s h old new (Some summary) empty lockstep gained is =
 line_is : (s : ScriptModel) (h : List Entry) (summary : Summary) → IsSummary h (recording s h) summary → summary_line summary ≡ demo_line s h
 line_is s h summary is = rw is.events (rw is.images (rw is.missing (rw is.bytes (rw is.sum refl))))
 
-pub demo_written : (P : List ℕ → Type 0) (s : ScriptModel) (summary : Summary) (whole : List ℕ) → IsDemoSummary s summary → whole ≡ summary_line summary → P whole → (whole : List ℕ) × IsDemoOf s whole × P whole
-demo_written P s summary whole is line gained = (whole, (is.0, is.1, line ∙ line_is s is.0 summary is.2), gained)
+pub demo_written : (s : ScriptModel) (summary : Summary) (old new : Option (List ℕ)) (o : Outcome) → IsDemoSummary s summary → WritesSome (λ whole. whole ≡ summary_line summary) old new o → WritesSome (IsDemoOf s) old new o
+demo_written s summary old new o is wrote = some_as (λ whole. whole ≡ summary_line summary) (IsDemoOf s) old new o (λ whole line. (is.0, is.1, line ∙ line_is s is.0 summary is.2)) wrote

@@ -1,11 +1,11 @@
 -- What `serve N` answers a line, and what a session with a client was.
-use Rattle.std.specs.Prelude.{◌≡◌, ℕ, Bool, List, [], ◌∷◌, ◌++◌, codes, decimal, flat_map, ⊤, Option, Some}
+use Rattle.std.specs.Prelude.{◌≡◌, ℕ, Bool, List, [], ◌++◌, flat_map, ⊤, Option, Some}
 use Rattle.player_lines.specs.Sessions.{Act, AtOnce, IsAnswered, IsBegun, IsEnded, frame, Has, HasFailed, IsNew}
-use Rattle.player_run.specs.declared.outcome.Outcome.{Outcome}
-use Rattle.player_run.specs.declared.outcome.Outcome.TheVariants.{Done, Usage, Json, Shape, Script, ReadFault, WriteFault, TooLong, BadRecording, No, Memory}
-use Rattle.player_words.specs.declared.words.Use.TheVariants.{Step}
-use Rattle.player_run.specs.Outcomes.{joined_texts, line_of, status_of}
+use Rattle.player_outcomes.specs.declared.outcome.Outcome.{Outcome}
+use Rattle.player_outcomes.specs.declared.outcome.Outcome.TheVariants.{Done, Json, Shape, Script, ReadFault, WriteFault, TooLong, Memory}
+use Rattle.player_outcomes.specs.Verdicts.{verdict}
 use Rattle.player_run.specs.Runs.{CauseOf, Writes}
+use Rattle.player_words.specs.declared.words.Use.TheVariants.{Step}
 
 -- how a line may end: it is played, refused, or there was no memory
 abbrev pub EndsLine : Outcome → Type 0
@@ -16,14 +16,6 @@ EndsLine (Script frame command why) = ⊤
 EndsLine (TooLong limit) = ⊤
 EndsLine Memory = ⊤
 EndsLine _ = ⊥
-
--- the last line of an answer: `ok K`; or `no K S: ` with the status, and what the notes would say
-abbrev pub verdict_head : ℕ → Outcome → List (List ℕ)
-verdict_head number Done = codes "ok " ∷ decimal number ∷ codes "\n" ∷ []
-verdict_head number result = codes "no " ∷ decimal number ∷ codes " " ∷ decimal (status_of result) ∷ codes ": " ∷ []
-
-abbrev pub verdict : ℕ → Outcome → List ℕ
-verdict number result = joined_texts (verdict_head number result) ++ line_of result
 
 -- an answer to the line of a number: what `step N` writes where its source has this line, in frames, and its outcome
 abbrev pub IsLineAnswer : ℕ → ℕ → List ℕ → List ℕ → Type 0

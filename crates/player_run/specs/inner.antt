@@ -1,10 +1,3 @@
-pub mod Fragments
-pub mod Inputs
-pub mod Judged
-pub mod Outputs
-pub mod Recordings
-pub mod Scripts
 pub mod Shots
 pub mod Summaries
 pub mod Actors
-pub mod Faults

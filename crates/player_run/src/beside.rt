@@ -7,12 +7,12 @@ ghost use Rattle.thread_ring.specs.Answers.{FaultRose};
 ghost use Rattle.impl_core.specs.Origins.{Origin};
 ghost use Rattle.proxy_threads.specs.Seats.{Of, OfBoth, Seat};
 ghost use Rattle.proxy_threads.specs.Writing.{FaultCause};
-ghost use Rattle.player_run.specs.Runs.{Causes};
+ghost use Rattle.player_outcomes.specs.Faults.{Causes};
 ghost use Rattle.player_run.specs.inner.Actors.{Drove, HasRun, IsFirst, PlayEnds, ended_as, joint_outcome};
 
-use crate::outcome::Outcome;
 use impl_core::Core;
 use player_io::Sink;
+use player_outcomes::Outcome;
 use proxy_threads::{CompActor, Turned, drive_compositor};
 use recording_entries::ImagePainter;
 use recording_pieces::{Painters, SceneSink};

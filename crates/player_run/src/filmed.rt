@@ -1,14 +1,16 @@
 //! A script of the source, played in lockstep, of which the images alone are written.
 
-ghost use Rattle.std.specs.Prelude.{◌≡◌, ◌≤◌, Ok};
+ghost use Rattle.std.specs.Prelude.{◌≤◌, Ok};
 ghost use Rattle.recording_writer.specs.Films.{IsLockstepFilm};
-ghost use Rattle.player_run.specs.Runs.{TellsMisfit, CauseFrom, MayAnswer, Reads, ReadToEnd, Writes, Causes, StopsAtFault};
-ghost use Rattle.player_run.specs.inner.Outputs.{WritesSome};
+ghost use Rattle.player_outcomes.specs.Answers.{TellsMisfit, MayAnswer};
+ghost use Rattle.player_outcomes.specs.Reading.{Reads, ReadToEnd};
+ghost use Rattle.player_outcomes.specs.Faults.{Causes, StopsAtFault};
+ghost use Rattle.player_outcomes.specs.Outputs.{WritesSome};
+ghost use Rattle.player_run.specs.Runs.{CauseFrom, Writes};
 
-use crate::outcome::Outcome;
-use crate::script_input::read_script_from;
 use model_history::Script;
 use player_io::{Sink, Source};
+use player_outcomes::{Outcome, read_script_from};
 use player_words::Use;
 use recording_pieces::WriteStop;
 use recording_writer::film_lockstep;
@@ -40,7 +42,7 @@ fn film<R: Threads + Sync, K: Sink>(
 }
 
 /// Plays the script of the source in lockstep with the given number of raster workers, and writes its images.
-#[tactic(auto, using(crate::proofs::ScriptsPlayed::film_output, crate::proofs::ScriptsPlayed::film_cause, crate::proofs::Outputs::some_words, crate::proofs::Answered::some_script, crate::proofs::Answered::some_stops))]
+#[tactic(auto, using(crate::proofs::ScriptsPlayed::film_output, crate::proofs::ScriptsPlayed::film_cause, player_outcomes::proofs::Outputs::some_words, player_outcomes::proofs::Answered::some_script, player_outcomes::proofs::Answered::some_stops))]
 pub fn run_film<R: Threads + Sync, S: Source, K: Sink>(
     rt: &R,
     alloc: Global,

@@ -4,16 +4,18 @@ ghost use Rattle.std.specs.Prelude.{◌≡◌, ◌≤◌, [], Ok, IfOk, IfSome, 
 ghost use Rattle.thread_ring.specs.Ring.{OneRing, bytes_taken, whole};
 ghost use Rattle.model_history.specs.Recordings.{header};
 ghost use Rattle.script_json.specs.Recordings.{script_text};
-ghost use Rattle.player_run.specs.Runs.{TellsMisfit, CauseFrom, MayAnswer, IsPlayOf, IsPlayUpTo, Reads, ReadToEnd, Writes, Causes, StopsAtFault};
-ghost use Rattle.player_run.specs.inner.Outputs.{WritesOrBegins};
+ghost use Rattle.player_outcomes.specs.Answers.{TellsMisfit, MayAnswer};
+ghost use Rattle.player_outcomes.specs.Reading.{Reads, ReadToEnd};
+ghost use Rattle.player_outcomes.specs.Faults.{Causes, StopsAtFault};
+ghost use Rattle.player_outcomes.specs.Outputs.{WritesOrBegins};
+ghost use Rattle.player_run.specs.Runs.{CauseFrom, IsPlayOf, IsPlayUpTo, Writes};
 
 use crate::crew::crew_of;
-use crate::outcome::Outcome;
-use crate::script_input::read_script_from;
 use crate::step::play_lockstep;
 use crate::threads::run_crew;
 use model_history::Script;
 use player_io::{Gate, Sink, Source};
+use player_outcomes::{Outcome, read_script_from};
 use player_words::Use;
 use recording_entries::header_of;
 use script_json::print_script;
@@ -87,7 +89,7 @@ fn play<R: Threads + Wait + Sync, K: Sink + Send, G: Gate + Sync>(
 
 /// Plays the script of the source by actors on threads, the given number of raster workers among them, and
 /// writes its recording.
-#[tactic(auto, using(crate::proofs::ScriptsActed::acted_output, crate::proofs::ScriptsActed::acted_cause, crate::proofs::ScriptsActed::acted_words, crate::proofs::Answered::begun_script, crate::proofs::Answered::begun_stops))]
+#[tactic(auto, using(crate::proofs::ScriptsActed::acted_output, crate::proofs::ScriptsActed::acted_cause, crate::proofs::ScriptsActed::acted_words, player_outcomes::proofs::Answered::begun_script, player_outcomes::proofs::Answered::begun_stops))]
 pub fn run_play<R: Threads + Wait + Sync, S: Source, K: Sink + Send, G: Gate + Sync>(
     rt: &R,
     alloc: Global,

@@ -2,24 +2,23 @@
 
 ghost use Rattle.std.specs.Prelude.{◌≡◌, Ok, true, false, is_none, IfNone, IfOk, IfSome, OnErr, map, string_bytes};
 ghost use Rattle.player_words.specs.Words.{asks_more, asks_play, asks_serve, needs_more, use_of as use_in};
-ghost use Rattle.player_run.specs.Outcomes.{line_of, Told};
-ghost use Rattle.player_run.specs.Runs.{TellsMisfit, CauseFrom, MayAnswer, Reads, ReadToEnd, Writes, Causes, StopsAtFault, IsComplete, OnServe, UnlessServe};
+ghost use Rattle.player_outcomes.specs.Outcomes.{line_of, Told};
+ghost use Rattle.player_outcomes.specs.Answers.{TellsMisfit, MayAnswer};
+ghost use Rattle.player_outcomes.specs.Reading.{Reads, ReadToEnd};
+ghost use Rattle.player_outcomes.specs.Faults.{Causes, StopsAtFault};
+ghost use Rattle.player_run.specs.Runs.{CauseFrom, Writes, IsComplete, OnServe, UnlessServe};
 ghost use Rattle.player_run.specs.Served.{Serves, ServeCause};
 ghost use Rattle.player_words.specs.Words.{IsFew};
 
 use crate::demo::run_demo;
 use crate::filmed::run_film;
-use crate::generated::run_gen;
-use crate::images::run_frames;
-use crate::judged::run_check;
-use crate::notes::tell;
-use crate::outcome::Outcome;
 use crate::play::run_play;
 use crate::serving::serve;
 use crate::shot::run_shot;
 use crate::step::run_step;
 use player_io::{Gate, Sink, Source};
 use player_lines::{Client, Session};
+use player_outcomes::{Outcome, run_check, run_frames, run_gen, tell};
 use player_words::{Use, players, servers, use_of};
 use std::alloc::Global;
 use std::marker::Send;
@@ -28,7 +27,7 @@ use std::thread::Threads;
 
 // Does what a use asks for, but for the line to the notes. None where it is `play N` or `serve N`; then nothing
 // was read and nothing written.
-#[tactic(auto, using(crate::proofs::Outputs::some_words, crate::proofs::Outputs::some_unread, crate::proofs::Outputs::some_output, crate::proofs::Answered::some_stops))]
+#[tactic(auto, using(player_outcomes::proofs::Outputs::some_words, player_outcomes::proofs::Outputs::some_unread, crate::proofs::Outputs::some_output, player_outcomes::proofs::Answered::some_stops))]
 fn run_use<R: Threads + Sync, S: Source, K: Sink>(
     rt: &R,
     alloc: Global,

@@ -5,31 +5,21 @@ ghost use Rattle.model_history.specs.Accepted.{IsAccepted};
 ghost use Rattle.script_json.specs.Causes.{IsScriptText};
 ghost use Rattle.player_lines.specs.Sessions.{HasFailed};
 ghost use Rattle.player_lines.specs.inner.Pasts.{Answered};
-ghost use Rattle.player_lines.specs.inner.Reading.{IsUnkept};
-ghost use Rattle.player_run.specs.Runs.{script_limit, AnswersSession};
-ghost use Rattle.player_run.specs.inner.Faults.{is_write_fault};
+ghost use Rattle.player_outcomes.specs.Refusals.{script_limit};
+ghost use Rattle.player_outcomes.specs.Answers.{AnswersSession};
 ghost use Rattle.player_run.specs.Served.{IsLineAnswer, Serves, ServeCause};
 
 use crate::line_player::LinePlayer;
-use crate::outcome::Outcome;
-use crate::script_input::{SCRIPT_LIMIT, script_in};
 use crate::step::play;
-use crate::verdicts::put_verdict;
 use model_history::Script;
 use player_lines::{Answerer, Client, Failed, Session, Stop, Unkept};
+use player_outcomes::{Outcome, SCRIPT_LIMIT, put_verdict, script_in};
 use std::alloc::Global;
 use std::thread::Threads;
 
-// Whether writing ended by a fault.
-fn is_fault(outcome: Outcome) -> bool
-    ensures { result ≡ is_write_fault outcome }
-{
-    matches!(outcome, Outcome::WriteFault)
-}
-
 impl LinePlayer {
     // Plays the script of the line of a number, and answers with its recording.
-    #[tactic(auto, using(crate::proofs::ServedLines::fault_rose))]
+    #[tactic(auto, using(player_outcomes::proofs::Answered::fault_rose))]
     fn play_line<R: Threads + Sync, C: Client>(
         &self,
         rt: &R,
@@ -47,7 +37,7 @@ impl LinePlayer {
         if session.is_torn() {
             return Err(Failed);
         }
-        if is_fault(outcome) {
+        if outcome.is_write_fault() {
             return Err(Failed);
         }
         put_verdict(session, number, outcome)

@@ -1,33 +1,20 @@
 //! A script of the source, played in lockstep, of which the last picture is written as a PNG file.
 
-ghost use Rattle.std.specs.Prelude.{◌≡◌, ◌≤◌, Ok};
-ghost use Rattle.player_run.specs.Runs.{TellsMisfit, CauseFrom, MayAnswer, Reads, ReadToEnd, Writes, Causes, StopsAtFault};
-ghost use Rattle.player_run.specs.inner.Outputs.{WritesSome};
+ghost use Rattle.std.specs.Prelude.{◌≤◌, Ok};
+ghost use Rattle.player_outcomes.specs.Answers.{TellsMisfit, MayAnswer};
+ghost use Rattle.player_outcomes.specs.Reading.{Reads, ReadToEnd};
+ghost use Rattle.player_outcomes.specs.Faults.{Causes, StopsAtFault};
+ghost use Rattle.player_run.specs.Runs.{CauseFrom, Writes};
 ghost use Rattle.player_run.specs.inner.Shots.{Shoots};
 
-use crate::outcome::Outcome;
-use crate::shot_input::read_shot_from;
 use model_history::Script;
 use player_io::{Sink, Source};
+use player_outcomes::{Outcome, put_file, read_shot_from};
 use player_words::Use;
-use recording_pieces::{WriteStop, put_all};
 use recording_writer::shoot;
 use std::alloc::Global;
 use std::sync::Arc;
 use std::thread::Threads;
-
-// Writes a file.
-fn put_file<K: Sink>(file: &[u8], out: &mut K) -> Outcome
-    ensures file { WritesSome (λ whole. whole ≡ file.now) (K.held out.old) (K.held out.new) result }
-    ensures grows { K.faults out.old ≤ K.faults out.new }
-    ensures cause { Causes 0 0 (K.faults out.old) (K.faults out.new) result }
-{
-    match put_all(out, file) {
-        Ok(()) => Outcome::Done,
-        Err(WriteStop::Fault) => Outcome::WriteFault,
-        Err(WriteStop::Memory) => Outcome::Memory,
-    }
-}
 
 // Plays a script in lockstep with the given number of raster workers, and writes the file of its last picture.
 #[tactic(auto, using(crate::proofs::ShotsTaken::file_shot, crate::proofs::ShotsTaken::no_shot))]

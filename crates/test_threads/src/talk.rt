@@ -3,7 +3,7 @@
 ghost use Rattle.std.specs.Prelude.{◌≡◌, ◌≤◌, ◌-◌, [], drop, vec_len, Some};
 ghost use Rattle.player_lines.specs.Sessions.{AreAnswers, lines_of};
 ghost use Rattle.player_run.specs.Served.{IsLineAnswer};
-ghost use Rattle.player_run.specs.declared.outcome.Outcome.TheVariants.{Done};
+ghost use Rattle.player_outcomes.specs.declared.outcome.Outcome.TheVariants.{Done};
 ghost use Rattle.test_threads.specs.Talks.{IsTold, acts};
 
 use ghost_list::GhostList;

@@ -1,33 +1,12 @@
--- The counts of a run and of its recording.
-use Rattle.std.specs.Prelude.{◌≡◌, ℕ, ◌%◌, ◌^◌, List, [], ◌∷◌, length, codes, decimal}
+-- The counts of a run in lockstep.
 use Rattle.model_history.specs.declared.history.Entry.{Entry}
+use Rattle.std.specs.Prelude.{List}
 use Rattle.model_history.specs.Lockstep.{IsLockstep}
 use Rattle.model_history.specs.Scripts.{ScriptModel}
 use Rattle.script_json.specs.Recordings.{recording}
-use Rattle.recording_sums.specs.Sums.{byte_sum}
-use Rattle.player_run.specs.Demos.{image_count, missing_count}
-use Rattle.player_run.specs.Outcomes.{joined_texts}
-use Rattle.player_run.specs.declared.demo.Summary.{Summary}
-
--- they are those of this history and these bytes
-pub record IsSummary (history : List Entry) (whole : List ℕ) (summary : Summary) : Type 0 where
-  pub events : summary.events ≡ length history
-  pub images : summary.images ≡ image_count history
-  pub missing : summary.missing ≡ missing_count history
-  pub bytes : summary.bytes ≡ length whole
-  pub sum : summary.sum ≡ byte_sum whole % 2 ^ 64
+use Rattle.player_outcomes.specs.Summaries.{IsSummary}
+use Rattle.player_outcomes.specs.declared.summary.Summary.{Summary}
 
 -- they are those of a script in lockstep, and of its recording
 abbrev pub IsDemoSummary : ScriptModel → Summary → Type 0
 IsDemoSummary s summary = (history : List Entry) × IsLockstep s history × IsSummary history (recording s history) summary
-
--- the line of the counts
-abbrev pub summary_line : Summary → List ℕ
-summary_line summary =
-    joined_texts
-    (codes "events " ∷ decimal summary.events
-    ∷ codes " images " ∷ decimal summary.images
-    ∷ codes " missing " ∷ decimal summary.missing
-    ∷ codes " bytes " ∷ decimal summary.bytes
-    ∷ codes " sum " ∷ decimal summary.sum
-    ∷ codes "\n" ∷ [])

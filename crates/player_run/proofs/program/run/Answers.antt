@@ -1,7 +1,5 @@
 -- Where the words are `serve N`, source and sink stay as they were; else nothing passes with the client.
-use Rattle.std.proofs.Common.{map, refl, sym}
-use Rattle.std.specs.Prelude.{string_bytes}
-use Rattle.player_words.specs.Words.{use_of}
+use Rattle.std.proofs.Common.{refl, sym}
 use Rattle.player_run.specs.Served.{Serves, ServeCause}
 use Rattle.player_run.proofs.ServedWords.{served_words, served_input, served_reads, served_end, served_output, served_answers, served_complete, served_unless, served_on, others_unless, others_on}
 use Rattle.player_run.proofs.program.run.Goals as goal

@@ -1,0 +1,11 @@
+pub mod Gains
+pub mod Told
+pub mod Tallies
+pub mod Outputs
+pub mod Answered
+pub mod AskedScripts
+pub mod AskedShots
+pub mod ImagesWritten
+pub mod JudgedInputs
+pub mod NotRefused
+pub mod SaidTexts

@@ -1,0 +1,12 @@
+pub mod Outcomes
+pub mod Verdicts
+pub mod Demos
+pub mod Summaries
+pub mod Refusals
+pub mod Answers
+pub mod Reading
+pub mod Faults
+pub mod Outputs
+pub mod Scripts
+pub mod Shots
+pub mod inner

@@ -1,0 +1,5 @@
+pub mod Fragments
+pub mod Inputs
+pub mod Judged
+pub mod Recordings
+pub mod Shots
