@@ -22,8 +22,9 @@ import sys
 ROOT = pathlib.Path(__file__).resolve().parent.parent
 PROGRAM = ROOT / "crates" / "cc_player" / "out" / "cc_player"
 TABLE = ROOT / "crates" / "test_program" / "stdin"
-# What no process of its own can be given: calls that fail, sinks that are full, and the half of `run` that starts none.
-INSIDE = ("alone", "room", "reads fail", "puts fail", "notes room")
+# What no process of its own can be given: calls that fail, sinks that are full or wait, gates, and the half of `run` that
+# starts none.
+INSIDE = ("alone", "room", "reads fail", "puts fail", "notes room", "gate", "sink waits", "until")
 RANGE = re.compile(r"(\d+)(?:\.\.(\d+))?")
 
 
@@ -43,9 +44,10 @@ class Case:
     note: str = None
     is_recording: bool = False
     is_inside: bool = False
-    # The whole output, or its end; or its length and sum; where nothing is said, there is none.
+    # The whole output, or its end or beginning; or its length and sum; where nothing is said, there is none.
     out: bytes = b""
     is_end: bool = False
+    is_start: bool = False
     sum: tuple = None
 
 
@@ -143,8 +145,8 @@ class Table:
 
     def take_output(self, case, key, value):
         """A line of a case about what it writes. Answers whether it is one."""
-        if key == "out" and value == "..." and not case.out:
-            case.is_end = True
+        if key == "out" and value == "...":
+            case.is_end, case.is_start = not case.out, bool(case.out)
         elif key == "out":
             case.out += self.built(value).encode() + b"\n"
         elif key == "image":
@@ -219,6 +221,8 @@ def fits(case, out):
     """Whether the output is as the case says."""
     if case.sum:
         return len(out) == case.sum[0] and fnv(out) == case.sum[1]
+    if case.is_start:
+        return out.startswith(case.out)
     return out.endswith(case.out) if case.is_end else out == case.out
 
 

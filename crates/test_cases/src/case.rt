@@ -6,6 +6,7 @@ use crate::names::Names;
 use crate::numbers::{Numbers, number, number_32, status};
 use crate::output::Output;
 use std::alloc::{AllocError, Global};
+use test_doubles::{Gathering, SinkWait};
 
 /// What goes wrong around the runs of a case. There is one run for each number.
 #[derive(Clone, Copy)]
@@ -53,6 +54,10 @@ pub struct Case {
     pub trouble: InjectedFault,
     /// The numbers of its runs.
     pub numbers: Numbers,
+    /// Which workers come to the gate of its runs.
+    pub gathering: Gathering,
+    /// What the sink of its runs waits for.
+    pub sink_wait: Option<SinkWait>,
     /// The most bytes of the notes, where there is a limit.
     pub notes_room: Option<u64>,
     /// The status that its runs end with.
@@ -75,6 +80,13 @@ fn words_of(alloc: Global, text: &str) -> Result<Vec<String>, AllocError> {
     Ok(words)
 }
 
+/// A text and a newline.
+fn line_of(alloc: Global, text: &str) -> Result<String, AllocError> {
+    let mut line = text.to_string(alloc)?;
+    line.push('\n')?;
+    Ok(line)
+}
+
 impl Case {
     /// A case that says nothing yet.
     pub fn new(alloc: Global, line: usize, title: &str) -> Result<Case, AllocError> {
@@ -88,6 +100,8 @@ impl Case {
             step: 4096,
             trouble: InjectedFault::Nothing,
             numbers: Numbers::ZERO,
+            gathering: Gathering::Nobody,
+            sink_wait: None,
             notes_room: None,
             status: 0,
             note: None,
@@ -145,6 +159,43 @@ impl Case {
         Ok(())
     }
 
+    /// Sets which workers come to the gate: the first `pair`, or those of the tile `LAYER COLUMN ROW`.
+    fn set_gathering(&mut self, value: &str) -> Result<(), ProgramRowFault> {
+        if value == "pair" {
+            self.gathering = Gathering::Pair;
+            return Ok(());
+        }
+        let (layer, place) = value.split_once(' ').ok_or(ProgramRowFault::NoNumber)?;
+        let (column, row) = place.split_once(' ').ok_or(ProgramRowFault::NoNumber)?;
+        self.gathering = Gathering::Tile {
+            layer: number_32(layer)?,
+            column: number_32(column)?,
+            row: number_32(row)?,
+        };
+        Ok(())
+    }
+
+    /// Sets what the sink waits for: `COUNT LINE`.
+    fn set_sink_wait(&mut self, value: &str) -> Result<(), ProgramRowFault> {
+        let (workers, line) = value.split_once(' ').ok_or(ProgramRowFault::NoNumber)?;
+        self.sink_wait = Some(SinkWait {
+            mark: line_of(self.alloc, line)?,
+            workers: number(workers)?,
+            texts: Vec::new(self.alloc),
+        });
+        Ok(())
+    }
+
+    /// Adds the end of a line which the sink has to hold before the workers go on that wait for it.
+    fn add_awaited(&mut self, value: &str) -> Result<(), ProgramRowFault> {
+        let text = line_of(self.alloc, value)?;
+        match &mut self.sink_wait {
+            Some(wait) => wait.texts.push(text).map_err(AllocError::from)?,
+            None => return Err(ProgramRowFault::NoWait),
+        }
+        Ok(())
+    }
+
     /// Sets how the run ends: `0 LENGTH SUM` of its output, or `STATUS NOTE` with the line in the notes.
     pub fn set_end(&mut self, text: &str) -> Result<(), ProgramRowFault> {
         let (number, rest) = text.split_once(' ').ok_or(ProgramRowFault::NoChange)?;
@@ -179,6 +230,9 @@ impl Case {
             "room" => self.set_trouble(InjectedFault::Room, value)?,
             "reads fail" => self.set_trouble(InjectedFault::ReadFails, value)?,
             "puts fail" => self.set_trouble(InjectedFault::PutFails, value)?,
+            "gate" => self.set_gathering(value)?,
+            "sink waits" => self.set_sink_wait(value)?,
+            "until" => self.add_awaited(value)?,
             "notes room" => self.notes_room = Some(number(value)?),
             "legal recording" => self.recording = true,
             _ => return Err(ProgramRowFault::UnknownKey),

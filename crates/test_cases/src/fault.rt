@@ -27,6 +27,9 @@ pub enum ProgramRowFault {
     /// What is said of `run_alone` is none of its answers.
     #[error("`run_alone` either `ends` or answers `none`")]
     NoCall,
+    /// What the sink has to hold stands above what it waits for, or without that.
+    #[error("`until` belongs to a sink that waits")]
+    NoWait,
     /// A number is none, or too large.
     #[error("this is no number, or it is too large")]
     NoNumber,

@@ -12,6 +12,8 @@ enum Extent {
     Unsaid,
     /// All of it.
     Whole,
+    /// Its beginning.
+    Start,
     /// Its end.
     End,
     /// Nothing but its length and its sum are told.
@@ -62,10 +64,13 @@ impl Output {
         self.bytes.extend_from_slice(bytes)
     }
 
-    /// This line comes next; before the first, `...` represents anything.
+    /// This line comes next; before the first and after the last, `...` represents anything.
     pub fn add_line(&mut self, line: &str) -> Result<(), ProgramRowFault> {
-        if line == "..." && self.extent == Extent::Unsaid {
-            self.extent = Extent::End;
+        if line == "..." {
+            self.extent = match self.extent {
+                Extent::Unsaid => Extent::End,
+                _ => Extent::Start,
+            };
             return Ok(());
         }
         self.add(line.as_bytes())?;
@@ -107,6 +112,15 @@ impl Output {
         }
     }
 
+    /// Whether the sink holds the beginning, and is full where it has no more room.
+    fn begins(&self, held: &[u8], short: Short) -> bool {
+        let is_cut = match short {
+            Short::Room(room) => held.len() as u64 == room,
+            _ => true,
+        };
+        is_cut && held.starts_with(self.bytes.as_slice())
+    }
+
     /// Whether something is said.
     pub fn is_said(&self) -> bool {
         self.extent != Extent::Unsaid
@@ -117,6 +131,7 @@ impl Output {
         match self.extent {
             Extent::Unsaid => held.is_empty(),
             Extent::Whole => self.is_cut_to(held, short),
+            Extent::Start => self.begins(held, short),
             Extent::End => held.ends_with(self.bytes.as_slice()),
             Extent::Sum { length, sum } => held.len() as u64 == length && fnv(held) == sum,
         }

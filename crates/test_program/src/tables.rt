@@ -1,11 +1,12 @@
 //! The tables, one after another.
 
 use crate::fault::TableFault;
-use crate::table::ProgramTable;
+use crate::play::play_all;
 use std::alloc::Global;
 use std::io;
 use std::sync::Wait;
 use std::thread::Threads;
+use test_cases::{Case, CaseTable};
 use test_histories::Walks;
 use test_table::{Table, Tally, Titles, says_something};
 
@@ -16,13 +17,17 @@ enum Part {
     Histories,
 }
 
-/// What was read of each table so far.
+/// What was read of each table so far, and what was played.
 #[derive(Drop)]
 pub struct Tables {
+    alloc: Global,
     /// The one whose lines are read.
     part: Part,
-    program: ProgramTable,
+    program: CaseTable,
     histories: Walks,
+    cases: usize,
+    runs: u64,
+    tally: Tally,
 }
 
 /// The table of a name.
@@ -38,10 +43,29 @@ impl Tables {
     /// Nothing was read. The cases and histories of these titles are to be tried.
     pub fn new(alloc: Global, cases: Titles, histories: Titles) -> Tables {
         Tables {
+            alloc,
             part: Part::Program,
-            program: ProgramTable::new(alloc, cases),
+            program: CaseTable::new(alloc, cases),
             histories: Walks::new(alloc, histories),
+            cases: 0,
+            runs: 0,
+            tally: Tally::NONE,
         }
+    }
+
+    /// Plays a case, where there is one.
+    fn play<R: Threads + Wait + Sync + Print>(
+        &mut self,
+        rt: &R,
+        case: Option<Case>,
+    ) -> Result<(), TableFault> {
+        if let Some(case) = case {
+            self.cases = self.cases.saturating_add(1);
+            if !play_all(rt, self.alloc, &case, &mut self.runs)? {
+                self.tally.count_wrong(case.line);
+            }
+        }
+        Ok(())
     }
 
     /// Takes a line that says something.
@@ -52,15 +76,17 @@ impl Tables {
         text: &str,
     ) -> Result<(), TableFault> {
         if let Some(name) = text.strip_prefix("table: ") {
-            self.program.close(rt)?;
             self.part = part_of(name)?;
-            return Ok(());
+            let ended = self.program.end();
+            return self.play(rt, ended);
         }
         match self.part {
-            Part::Program => self.program.take(rt, line, text)?,
-            Part::Histories => self.histories.take(rt, line, text)?,
+            Part::Program => {
+                let ended = self.program.take(line, text)?;
+                self.play(rt, ended)
+            }
+            Part::Histories => Ok(self.histories.take(rt, line, text)?),
         }
-        Ok(())
     }
 
     /// Takes all lines of the tables. An error tells the line that can't be read.
@@ -79,22 +105,21 @@ impl Tables {
                 return Err((last, fault));
             }
         }
-        match self.program.close(rt) {
+        let ended = self.program.end();
+        match self.play(rt, ended) {
             Ok(()) => Ok(()),
-            Err(fault) => Err((last, TableFault::Program(fault))),
+            Err(fault) => Err((last, fault)),
         }
     }
 
     /// How many cases of all tables are wrong.
     pub fn tally<R: Print>(&self, _rt: &R) -> Tally {
-        let histories = Table::<R>::tally(&self.histories);
-        self.program.played().tally.and(histories)
+        self.tally.and(Table::<R>::tally(&self.histories))
     }
 
     /// Tells how many cases there were.
     pub fn tell<R: Print>(&self, rt: &R) -> io::Result<()> {
-        let played = self.program.played();
-        println!(rt; "{} cases, {} runs", played.cases, played.runs)?;
+        println!(rt; "{} cases, {} runs", self.cases, self.runs)?;
         self.histories.tell(rt)
     }
 }

@@ -2,8 +2,8 @@
 use Rattle.std.specs.Prelude.{⊤}
 use Rattle.std.proofs.Common.{rules, ap, List, ℕ}
 use Rattle.player_lines.specs.Sessions.{Text, TornText}
-use Rattle.test_threads.proofs.Acts.{one_more, text_told, torn_put, torn_text_told}
-use Rattle.test_threads.proofs.talk.TalkClient.put_text.Goals as goal
+use Rattle.test_doubles.proofs.Acts.{one_more, text_told, torn_put, torn_text_told}
+use Rattle.test_doubles.proofs.talk.TalkClient.put_text.Goals as goal
 
 pub invariant_of-self : goal.invariant_of-self
 invariant_of-self c = record {

@@ -1,15 +1,12 @@
 //! A client in memory that tells what passed.
 
-ghost use Rattle.std.specs.Prelude.{◌≡◌, ◌≤◌, ◌-◌, [], drop, vec_len, Some};
+ghost use Rattle.std.specs.Prelude.{◌≡◌, ◌≤◌, ◌-◌, [], drop, vec_len, Some, OnOk};
 ghost use Rattle.player_lines.specs.Sessions.{AreAnswers, lines_of};
-ghost use Rattle.player_run.specs.Served.{IsLineAnswer};
-ghost use Rattle.player_outcomes.specs.declared.outcome.Outcome.TheVariants.{Done};
-ghost use Rattle.test_threads.specs.Talks.{IsTold, acts};
+ghost use Rattle.test_doubles.specs.Talks.{IsTold, acts};
 
 use ghost_list::GhostList;
 use player_io::{MemSink, MemSource, Sink, Source};
-use player_lines::{Client, Failed, Session, put_frame};
-use player_run::{Outcome, serve};
+use player_lines::{Answerer, Client, Failed, Session, Stop, put_frame, serve};
 use std::alloc::Global;
 use std::marker::Sync;
 use std::thread::Threads;
@@ -83,15 +80,19 @@ impl Talk {
     }
 
     /// Serves this client, with which nothing has passed. Where that ends well, its answers are those to all lines of
-    /// its input, each by what `step N` writes for that line alone.
-    pub fn serve<R: Threads + Sync>(self, rt: &R, alloc: Global, workers: u32) -> (Outcome, Talk)
-        requires workers { (1 ≤ workers) × (workers ≤ 16) }
+    /// its input, each by what the answerer says of that line alone.
+    pub fn serve<R: Threads + Sync, A: Answerer>(
+        self,
+        rt: &R,
+        alloc: Global,
+        answerer: &A,
+    ) -> (Result<(), Stop>, Talk)
         requires new { self.passed.items ≡ [] }
-        ensures { result.0 ≡ Done → AreAnswers (IsLineAnswer workers) (lines_of result.1.source.bytes.items) result.1.out.bytes.items }
+        ensures { OnOk result.0 (AreAnswers (A.answers answerer.now) (lines_of result.1.source.bytes.items) result.1.out.bytes.items) }
     {
         let mut session = Session::new(self);
-        let outcome = serve(rt, alloc, workers, &mut session);
-        (outcome, session.into_client())
+        let ended = serve(rt, alloc, answerer, &mut session);
+        (ended, session.into_client())
     }
 }
 

@@ -5,8 +5,8 @@ use Rattle.player_lines.specs.Sessions.{Act, Got, Data, Text, TornData, TornText
 use Rattle.player_io.specs.Pieces.{PutAppends}
 use Rattle.player_io.specs.declared.writing.PutFault.{PutFault}
 use Rattle.player_io.specs.declared.writing.PutFault.TheVariants.{Failed, Memory}
-use Rattle.test_threads.specs.declared.talk.Passed.{Passed}
-use Rattle.test_threads.specs.Talks.{IsTold, act_of, acts_after, acts}
+use Rattle.test_doubles.specs.declared.talk.Passed.{Passed}
+use Rattle.test_doubles.specs.Talks.{IsTold, act_of, acts_after, acts}
 
 after_more : (h : List Act) (ps : List Passed) (p : Passed) → acts_after h (ps ++ p ∷ []) ≡ act_of p ∷ acts_after h ps
 after_more h [] p = refl

@@ -1,8 +1,8 @@
 -- A piece of data went, or the first bytes of its frame.
 use Rattle.std.proofs.Common.{rules, ap, List, ℕ}
 use Rattle.player_lines.specs.Sessions.{Data, TornData}
-use Rattle.test_threads.proofs.Acts.{one_more, data_told, torn_data_told}
-use Rattle.test_threads.proofs.talk.TalkClient.put_data.Goals as goal
+use Rattle.test_doubles.proofs.Acts.{one_more, data_told, torn_data_told}
+use Rattle.test_doubles.proofs.talk.TalkClient.put_data.Goals as goal
 
 pub invariant_of-self : goal.invariant_of-self
 invariant_of-self c = record {

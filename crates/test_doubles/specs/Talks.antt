@@ -1,8 +1,8 @@
 -- What a client in memory tells of a session.
 use Rattle.std.specs.Prelude.{◌≡◌, ℕ, List, [], ◌∷◌, ◌++◌}
 use Rattle.player_lines.specs.Sessions.{Act, Got, Data, Text, TornData, TornText, HasNoMore, came, went}
-use Rattle.test_threads.specs.declared.talk.Passed.{Passed}
-use Rattle.test_threads.specs.declared.talk.Passed.TheVariants as passed
+use Rattle.test_doubles.specs.declared.talk.Passed.{Passed}
+use Rattle.test_doubles.specs.declared.talk.Passed.TheVariants as passed
 
 abbrev pub act_of : Passed → Act
 act_of (passed.Got bytes) = Got bytes.items

@@ -1,8 +1,8 @@
 -- Bytes came.
 use Rattle.std.proofs.Common.{rules, ap, List, ℕ}
 use Rattle.player_lines.specs.Sessions.{Got}
-use Rattle.test_threads.proofs.Acts.{one_more, got_told}
-use Rattle.test_threads.proofs.talk.TalkClient.read.Goals as goal
+use Rattle.test_doubles.proofs.Acts.{one_more, got_told}
+use Rattle.test_doubles.proofs.talk.TalkClient.read.Goals as goal
 
 pub invariant_of-self : goal.invariant_of-self
 invariant_of-self c = record {

@@ -1,0 +1,112 @@
+//! The lines of the table, one after another.
+
+use crate::case::Case;
+use crate::fault::ProgramRowFault;
+use crate::names::Names;
+use std::alloc::Global;
+use test_table::{Titles, key_and_value};
+
+/// What was read of the table so far.
+#[derive(Drop)]
+pub struct CaseTable {
+    alloc: Global,
+    /// Which cases are played.
+    titles: Titles,
+    names: Names,
+    /// The input of a table of changes.
+    base: Option<String>,
+    /// The case whose lines are being read.
+    case: Option<Case>,
+}
+
+impl CaseTable {
+    /// Nothing was read; the cases of these titles are to be played.
+    pub fn new(alloc: Global, titles: Titles) -> CaseTable {
+        CaseTable {
+            alloc,
+            titles,
+            names: Names::new(alloc),
+            base: None,
+            case: None,
+        }
+    }
+
+    /// Ends the case whose lines were read. Answers it, where it is to be played.
+    pub fn end(&mut self) -> Option<Case> {
+        let case = self.case.take()?;
+        if self.titles.has(case.title.as_str()) {
+            Some(case)
+        } else {
+            None
+        }
+    }
+
+    /// Takes a line of a table of changes: `OLD => NEW | END`.
+    fn take_change(&mut self, line: usize, row: &str) -> Result<Option<Case>, ProgramRowFault> {
+        let ended = self.end();
+        let (change, end) = row.rsplit_once(" | ").ok_or(ProgramRowFault::NoChange)?;
+        let change = change.trim_end();
+        let Some(base) = &self.base else {
+            return Err(ProgramRowFault::NoCase);
+        };
+        let mut case = Case::new(self.alloc, line, change)?;
+        case.set_input(base.as_str())?;
+        case.change(&self.names, change)?;
+        case.set_end(end)?;
+        self.case = Some(case);
+        Ok(ended)
+    }
+
+    /// Takes a line that says something of a file or of a case that was begun.
+    fn take_more(&mut self, key: &str, value: &str) -> Result<(), ProgramRowFault> {
+        match key {
+            "line" => self.names.add_line(value),
+            "picture" => self.names.add_image(value),
+            _ => match &mut self.case {
+                Some(case) => case.take(&self.names, key, value),
+                None => Err(ProgramRowFault::NoCase),
+            },
+        }
+    }
+
+    /// Takes a line with a key.
+    fn take_key(
+        &mut self,
+        line: usize,
+        key: &str,
+        value: &str,
+    ) -> Result<Option<Case>, ProgramRowFault> {
+        if let Some(name) = key.strip_prefix("text ") {
+            self.names.add_text(name, value)?;
+            return Ok(None);
+        }
+        if let Some(name) = key.strip_prefix("file ") {
+            self.names.begin_file(name)?;
+            return Ok(self.end());
+        }
+        match key {
+            "case" => {
+                let ended = self.end();
+                self.case = Some(Case::new(self.alloc, line, value)?);
+                Ok(ended)
+            }
+            "changes of" => {
+                self.base = Some(self.names.built(value)?);
+                Ok(self.end())
+            }
+            _ => {
+                self.take_more(key, value)?;
+                Ok(None)
+            }
+        }
+    }
+
+    /// Takes a line that says something. Answers the case that it ends, where that is to be played.
+    pub fn take(&mut self, line: usize, text: &str) -> Result<Option<Case>, ProgramRowFault> {
+        if let Some(row) = text.strip_prefix("    ") {
+            return self.take_change(line, row);
+        }
+        let (key, value) = key_and_value(text).ok_or(ProgramRowFault::NoKey)?;
+        self.take_key(line, key, value)
+    }
+}
