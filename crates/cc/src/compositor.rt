@@ -30,7 +30,6 @@ use viz_canvas::{Canvas, PixelFormat};
 use viz_painter::Painter;
 
 /// A page that commands change, the page that is shown, and its frame, whose pixels have the bytes of a format.
-#[derive(Drop)]
 pub struct Compositor<F: PixelFormat> {
     alloc: Global,
     main: LayerTree,
@@ -62,6 +61,25 @@ impl<F: PixelFormat> Model for Compositor<F> {
     ghost view = { λ c. record { main = c.main; active = c.active; background = c.background; frame = c.painter.canvas; damage = damage_in c.lost c.is_painted c.painter.damage } };
 
     ghost invariant = { λ c. AreKeptFor c.active c.cache × AreCurrent c.main c.cache × TellsCommitted c.is_committed c.active c.main × TellsEdited c.edited c.active c.main × TellsShown F.DEPTH F.bytes_of c.unshown c.active c.background c.painter.canvas };
+}
+
+// Written out, so that whoever drops a compositor does not name in its proof all that it holds.
+impl<F: PixelFormat> Drop for Compositor<F> {
+    fn drop(self) {
+        let Compositor {
+            alloc: _,
+            main: _,
+            active: _,
+            background: _,
+            painter: _,
+            cache: _,
+            lost: _,
+            is_painted: _,
+            is_committed: _,
+            edited: _,
+            unshown: _,
+        } = self;
+    }
 }
 
 impl<F: PixelFormat> Compositor<F> {

@@ -17,7 +17,6 @@ use std::marker::Model;
 /// The compositor side of a run: the active and the pending tree, and where their scrollers stand.
 ///
 /// Contracts say for which runs it stands, by the script and the past: `Hosts`.
-#[derive(Drop)]
 pub struct ImplHost {
     pub(crate) trees: Trees,
     pub(crate) standing: Standing,
@@ -31,6 +30,17 @@ impl Model for ImplHost {
     ghost Value = { ImplHostModel };
 
     ghost view = { λ h. record { trees = h.trees; standing = h.standing; outright = h.outright.items } };
+}
+
+// Written out, so that whoever drops an impl host does not name in its proof all that it holds.
+impl Drop for ImplHost {
+    fn drop(self) {
+        let ImplHost {
+            trees: _,
+            standing: _,
+            outright: _,
+        } = self;
+    }
 }
 
 /// The page of a tree that may be missing.

@@ -26,7 +26,6 @@ use std::alloc::{AllocError, Global};
 use std::marker::Model;
 
 /// The scroll values of all scrollers. Those that no row names are 0.
-#[derive(Drop)]
 pub struct ScrollValues {
     // by rising scroller, each once
     rows: Vec<Row>,
@@ -42,6 +41,13 @@ impl Model for ScrollValues {
     ghost view = { λ r. r.rows.items };
 
     ghost invariant = { λ r. AreRising r.rows.items };
+}
+
+// Written out, so that whoever drops a scroll values does not name in its proof all that it holds.
+impl Drop for ScrollValues {
+    fn drop(self) {
+        let ScrollValues { rows: _ } = self;
+    }
 }
 
 impl ScrollValues {

@@ -16,7 +16,6 @@ use std::marker::Model;
 use std::sync::Arc;
 
 /// The main side of a script: its page, and the pulls of the main frames that it has ended.
-#[derive(Drop)]
 pub struct MainHost {
     alloc: Global,
     script: Arc<Script>,
@@ -32,6 +31,18 @@ impl Model for MainHost {
     ghost view = { λ h. record { script = h.script.value; sends = h.sends } };
 
     ghost invariant = { λ h. IsHost h.script.value h.sends h.tree };
+}
+
+// Written out, so that whoever drops a main host does not name in its proof all that it holds.
+impl Drop for MainHost {
+    fn drop(self) {
+        let MainHost {
+            alloc: _,
+            script: _,
+            tree: _,
+            sends: _,
+        } = self;
+    }
 }
 
 // The lists with one more.

@@ -10,7 +10,6 @@ use std::mem;
 use std::sync::Arc;
 
 /// A list of moves.
-#[derive(Drop)]
 pub struct Moves {
     items: Vec<Move>,
 }
@@ -22,6 +21,13 @@ impl Model for Moves {
     ghost Value = { List Move };
 
     ghost view = { λ m. m.items.items };
+}
+
+// Written out, so that whoever drops a moves does not name in its proof all that it holds.
+impl Drop for Moves {
+    fn drop(self) {
+        let Moves { items: _ } = self;
+    }
 }
 
 impl Moves {
@@ -84,7 +90,6 @@ const SHARED: usize = 64;
 /// A list of lists of moves: what each main frame was told.
 ///
 /// A copy shares all lists but the last few, so that a copy for each frame costs little.
-#[derive(Drop)]
 pub struct Sends {
     // the first lists, some at a time, which copies share
     shared: Vec<Arc<Vec<Moves>>>,
@@ -104,6 +109,17 @@ impl Model for Sends {
     ghost view = { λ s. flat_map (λ lists. lists.value.items) s.shared.items ++ s.rest.items };
 
     ghost invariant = { λ s. s.count ≡ length (flat_map (λ lists. lists.value.items) s.shared.items ++ s.rest.items) };
+}
+
+// Written out, so that whoever drops a sends does not name in its proof all that it holds.
+impl Drop for Sends {
+    fn drop(self) {
+        let Sends {
+            shared: _,
+            rest: _,
+            count: _,
+        } = self;
+    }
 }
 
 // Copies of these lists. An error means out of memory.

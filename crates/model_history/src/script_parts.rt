@@ -6,7 +6,6 @@ use pixel::Colour;
 use tile_priority::TreePriority;
 
 /// All that a script says, as it stands in its text.
-#[derive(Drop)]
 pub struct ScriptParts {
     /// The format's version, 1 or 2. Version 2 has `set_view` among its commands and larger viewports.
     pub version: u32,
@@ -32,4 +31,24 @@ pub struct ScriptParts {
     pub main: Vec<Vec<Command>>,
     /// What the compositor side is to do, in order; at most 65536 inputs, of them 4096 draws.
     pub inputs: Vec<Input>,
+}
+
+// Written out, so that whoever drops a script parts does not name in its proof all that it holds.
+impl Drop for ScriptParts {
+    fn drop(self) {
+        let ScriptParts {
+            version: _,
+            viewport_w: _,
+            viewport_h: _,
+            tile: _,
+            background: _,
+            budget: _,
+            raster_per_frame: _,
+            soon: _,
+            eventually: _,
+            priority: _,
+            main: _,
+            inputs: _,
+        } = self;
+    }
 }

@@ -13,7 +13,6 @@ use std::sync::Arc;
 
 /// A rect with its pixels: sides of 1 to 256 pixels, four bytes a pixel, each pixel premultiplied. Copies of a bitmap
 /// share the pixels.
-#[derive(Drop)]
 pub struct Bitmap {
     rect: Rect,
     pixels: Arc<Vec<u8>>,
@@ -27,6 +26,13 @@ impl Model for Bitmap {
     ghost view = { λ b. record { rect = b.rect; pixels = b.pixels.value.items } };
 
     ghost invariant = { λ b. IsBitmap (record { rect = b.rect; pixels = b.pixels.value.items }) };
+}
+
+// Written out, so that whoever drops a bitmap does not name in its proof all that it holds.
+impl Drop for Bitmap {
+    fn drop(self) {
+        let Bitmap { rect: _, pixels: _ } = self;
+    }
 }
 
 /// What is wrong with the bytes of a bitmap: the first cause that applies, in this order.

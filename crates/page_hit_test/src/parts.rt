@@ -18,7 +18,6 @@ pub struct WheelPart {
 }
 
 /// A list of parts, which contracts see as the list of its elements.
-#[derive(Drop)]
 pub struct WheelParts {
     items: Vec<WheelPart>,
 }
@@ -30,6 +29,13 @@ impl Model for WheelParts {
     ghost Value = { List WheelPart };
 
     ghost view = { λ p. p.items.items };
+}
+
+// Written out, so that whoever drops a wheel parts does not name in its proof all that it holds.
+impl Drop for WheelParts {
+    fn drop(self) {
+        let WheelParts { items: _ } = self;
+    }
 }
 
 impl WheelParts {

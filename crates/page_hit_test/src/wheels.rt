@@ -16,7 +16,6 @@ use page_properties::{Offsets, ScrollNode};
 use std::alloc::{AllocError, Global};
 
 /// What a wheel at a point of the screen does.
-#[derive(Drop)]
 pub struct Wheel {
     /// The layer that it hits; 0 where there is none.
     pub target: u32,
@@ -24,6 +23,17 @@ pub struct Wheel {
     pub parts: WheelParts,
     /// What none of them takes.
     pub rest: Point,
+}
+
+// Written out, so that whoever drops a wheel does not name in its proof all that it holds.
+impl Drop for Wheel {
+    fn drop(self) {
+        let Wheel {
+            target: _,
+            parts: _,
+            rest: _,
+        } = self;
+    }
 }
 
 // A number clamped to a range from 0 to its end.

@@ -22,7 +22,6 @@ mod scrolls;
 mod sound;
 
 /// A page as a tree of layers.
-#[derive(Drop)]
 pub struct LayerTree {
     view: View,
     props: PropertyTrees,
@@ -44,6 +43,19 @@ impl Model for LayerTree {
     ghost view = { λ t. record { view = t.view; props = t.props; layers = map parts_of t.layers.items; used = t.used.items; values = t.values.items } };
 
     ghost invariant = { λ t. IsPage (record { view = t.view; props = t.props; layers = map parts_of t.layers.items; used = t.used.items; values = t.values.items }) };
+}
+
+// Written out, so that whoever drops a layer tree does not name in its proof all that it holds.
+impl Drop for LayerTree {
+    fn drop(self) {
+        let LayerTree {
+            view: _,
+            props: _,
+            layers: _,
+            used: _,
+            values: _,
+        } = self;
+    }
 }
 
 // The same layer, which shares the display list.

@@ -27,7 +27,6 @@ use std::alloc::{AllocError, Global};
 use std::marker::Model;
 
 /// A tree made ready to be painted, at fixed offsets of its scrollers and with fixed missing tiles.
-#[derive(Drop)]
 pub struct Painting {
     tile: u32,
     layers: Vec<PlacedLayer>,
@@ -44,6 +43,17 @@ impl Model for Painting {
     ghost view = { λ p. record { tile = p.tile; layers = p.layers.items; groups = map (λ s. s.groups.items) p.samples.items } };
 
     ghost invariant = { λ p. (1 ≤ p.tile) × (length p.layers.items ≡ length p.samples.items) × All (λ gs. length gs ≤ 256) (map (λ s. s.groups.items) p.samples.items) };
+}
+
+// Written out, so that whoever drops a painting does not name in its proof all that it holds.
+impl Drop for Painting {
+    fn drop(self) {
+        let Painting {
+            tile: _,
+            layers: _,
+            samples: _,
+        } = self;
+    }
 }
 
 // Layers in their places.

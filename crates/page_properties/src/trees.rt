@@ -21,7 +21,6 @@ use std::marker::Model;
 /// The four property trees of a page. Each node has an id of its own in its family, from 1 to 65535,
 /// and names its parent by id, which was there before it; 0 is the root. A family has at most 256
 /// nodes. Contracts see each family as a list, the newest node first.
-#[derive(Drop)]
 pub struct PropertyTrees {
     transforms: Family<TransformNode>,
     clips: Family<ClipNode>,
@@ -37,6 +36,18 @@ impl Model for PropertyTrees {
     ghost view = { λ t. record { transforms = t.transforms; clips = t.clips; effects = t.effects; scrollers = t.scrollers } };
 
     ghost invariant = { λ t. IsTrees (record { transforms = t.transforms; clips = t.clips; effects = t.effects; scrollers = t.scrollers }) };
+}
+
+// Written out, so that whoever drops a property trees does not name in its proof all that it holds.
+impl Drop for PropertyTrees {
+    fn drop(self) {
+        let PropertyTrees {
+            transforms: _,
+            clips: _,
+            effects: _,
+            scrollers: _,
+        } = self;
+    }
 }
 
 impl PropertyTrees {

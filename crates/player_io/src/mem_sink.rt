@@ -5,7 +5,6 @@ use crate::writing::{PutFault, Sink};
 use std::alloc::{AllocError, Global};
 
 /// A sink that keeps the bytes, up to a limit, and fails at the calls that it was told.
-#[derive(Drop)]
 pub struct MemSink {
     bytes: Vec<u8>,
     /// How many bytes it takes at most; no limit if `None`.
@@ -16,6 +15,20 @@ pub struct MemSink {
     puts: u64,
     faults: u64,
     refusals: u64,
+}
+
+// Written out, so that whoever drops a mem sink does not name in its proof all that it holds.
+impl Drop for MemSink {
+    fn drop(self) {
+        let MemSink {
+            bytes: _,
+            limit: _,
+            fails: _,
+            puts: _,
+            faults: _,
+            refusals: _,
+        } = self;
+    }
 }
 
 impl MemSink {

@@ -7,7 +7,6 @@ ghost use Rattle.player_io.specs.Counts.{Rose, raised, raised_if, is_numbered};
 use crate::reading::{Failed, Source};
 
 /// A source that gives the bytes of a list in steps, and fails at the calls that it was told.
-#[derive(Drop)]
 pub struct MemSource {
     bytes: Vec<u8>,
     /// How many of the bytes were given.
@@ -23,6 +22,21 @@ pub struct MemSource {
     failed: bool,
     ghost within: { given ≤ vec_len bytes },
     ghost moves: { 1 ≤ step },
+}
+
+// Written out, so that whoever drops a mem source does not name in its proof all that it holds.
+impl Drop for MemSource {
+    fn drop(self) {
+        let MemSource {
+            bytes: _,
+            given: _,
+            step: _,
+            fails: _,
+            calls: _,
+            faults: _,
+            failed: _,
+        } = self;
+    }
 }
 
 /// Copies the first `count` bytes into the start of `buf`.

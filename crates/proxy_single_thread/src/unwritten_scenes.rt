@@ -14,10 +14,19 @@ use std::alloc::Global;
 use viz_scene::Scene;
 
 /// The scenes of the draws that were not written yet, and how many entries were written.
-#[derive(Drop)]
 pub(crate) struct UnwrittenScenes {
     pub(crate) scenes: Vec<Scene>,
     pub(crate) written: usize,
+}
+
+// Written out, so that whoever drops a unwritten scenes does not name in its proof all that it holds.
+impl Drop for UnwrittenScenes {
+    fn drop(self) {
+        let UnwrittenScenes {
+            scenes: _,
+            written: _,
+        } = self;
+    }
 }
 
 impl UnwrittenScenes {

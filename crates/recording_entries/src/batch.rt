@@ -37,7 +37,6 @@ const MOST_BYTES: u64 = 48 * 1024 * 1024;
 const RUN: u64 = 4;
 
 /// Pieces that wait to be painted, and the lines after them.
-#[derive(Drop)]
 pub struct Batch {
     alloc: Global,
     shots: Vec<Shot>,
@@ -46,6 +45,19 @@ pub struct Batch {
     bytes: u64,
     /// how many the last of them has
     last: u64,
+}
+
+// Written out, so that whoever drops a batch does not name in its proof all that it holds.
+impl Drop for Batch {
+    fn drop(self) {
+        let Batch {
+            alloc: _,
+            shots: _,
+            lines: _,
+            bytes: _,
+            last: _,
+        } = self;
+    }
 }
 
 // How many bytes the pixels of a scene's image have: red, green and blue each.

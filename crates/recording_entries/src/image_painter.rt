@@ -13,10 +13,19 @@ use viz_painter::Painter;
 use viz_scene::Scene;
 
 /// A painter that gives the image of each scene away.
-#[derive(Drop)]
 pub struct ImagePainter {
     painter: Painter<Rgb>,
     alloc: Global,
+}
+
+// Written out, so that whoever drops an image painter does not name in its proof all that it holds.
+impl Drop for ImagePainter {
+    fn drop(self) {
+        let ImagePainter {
+            painter: _,
+            alloc: _,
+        } = self;
+    }
 }
 
 impl ImagePainter {

@@ -31,7 +31,6 @@ use std::vec::IntoIter;
 use viz_scene::Scene;
 
 /// What writes entries one after another: the lines that it holds back, and the picture of the last draw.
-#[derive(Drop)]
 pub struct Recorder {
     alloc: Global,
     /// the lines that were not put yet
@@ -40,6 +39,18 @@ pub struct Recorder {
     last: LastDraw,
     /// in how many parts a picture is made at most
     parts: usize,
+}
+
+// Written out, so that whoever drops a recorder does not name in its proof all that it holds.
+impl Drop for Recorder {
+    fn drop(self) {
+        let Recorder {
+            alloc: _,
+            lines: _,
+            last: _,
+            parts: _,
+        } = self;
+    }
 }
 
 impl Recorder {

@@ -14,7 +14,6 @@ use std::marker::Sync;
 use std::thread::Threads;
 
 /// Painters that work side by side, each on a run of consecutive pieces.
-#[derive(Drop)]
 pub struct Painters<P> {
     alloc: Global,
     /// the hands that have nothing to do
@@ -24,6 +23,18 @@ pub struct Painters<P> {
     /// how many work side by side at most
     most: usize,
     ghost some: { 1 ≤ most },
+}
+
+// Written out, so that whoever drops a painters does not name in its proof all that it holds.
+impl<P: Drop> Drop for Painters<P> {
+    fn drop(self) {
+        let Painters {
+            alloc: _,
+            idle: _,
+            hands: _,
+            most: _,
+        } = self;
+    }
 }
 
 impl<P: ScenePainter> Painters<P> {

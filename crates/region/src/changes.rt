@@ -11,7 +11,6 @@ use std::marker::Model;
 
 /// What changed, one element for a layer at most, by rising layer. Contracts see the list of the elements
 /// and whether the tree was retiled.
-#[derive(Drop)]
 pub struct Changes {
     list: Vec<LayerChange>,
     retiled: bool,
@@ -25,6 +24,16 @@ impl Model for Changes {
     ghost view = { λ c. record { list = c.list.items; retiled = c.retiled } };
 
     ghost invariant = { λ c. IsRising c.list.items };
+}
+
+// Written out, so that whoever drops a changes does not name in its proof all that it holds.
+impl Drop for Changes {
+    fn drop(self) {
+        let Changes {
+            list: _,
+            retiled: _,
+        } = self;
+    }
 }
 
 impl Changes {

@@ -10,7 +10,6 @@ use std::marker::Model;
 use std::sync::Arc;
 
 /// The main frames of a script.
-#[derive(Drop)]
 pub struct Frames {
     alloc: Global,
     host: MainHost,
@@ -27,6 +26,17 @@ impl Model for Frames {
     ghost view = { λ f. f.host };
 
     ghost invariant = { λ f. f.count ≡ length f.host.script.main };
+}
+
+// Written out, so that whoever drops a frames does not name in its proof all that it holds.
+impl Drop for Frames {
+    fn drop(self) {
+        let Frames {
+            alloc: _,
+            host: _,
+            count: _,
+        } = self;
+    }
 }
 
 impl Frames {

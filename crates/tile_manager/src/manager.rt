@@ -41,7 +41,6 @@ use tile_store::TileStore;
 /// it is to be made.
 ///
 /// Contracts say for which runs it stands, by the script and the past: `Manages`.
-#[derive(Drop)]
 pub struct TileManager {
     store: TileStore,
     pins: Pins,
@@ -59,6 +58,17 @@ impl Model for TileManager {
     ghost coded = { managed_code the_store.the_row.coded the_pins.the_row.coded the_outlook.the_row.coded };
 
     ghost view = { λ m. record { store = m.store; pinned = m.pins; outlook = m.outlook } };
+}
+
+// Written out, so that whoever drops a tile manager does not name in its proof all that it holds.
+impl Drop for TileManager {
+    fn drop(self) {
+        let TileManager {
+            store: _,
+            pins: _,
+            outlook: _,
+        } = self;
+    }
 }
 
 // Whether each of these keys has an image, which is asked of one after another.

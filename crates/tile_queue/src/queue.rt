@@ -21,7 +21,6 @@ use std::marker::Model;
 use tile_priority::{Bin, Rank, ReadyTile};
 
 /// Which tile is made next, and which ready tiles are evicted for it.
-#[derive(Drop)]
 pub struct RasterQueue {
     // The best first.
     wanted: Wanted,
@@ -44,6 +43,20 @@ impl Model for RasterQueue {
     ghost view = { λ q. choice_of q.wanted.items q.staying.items q.evictables.items q.in_flight q.budget };
 
     ghost invariant = { λ q. IsQueue q.wanted.items q.staying.items q.evictables.items q.in_flight q.wanted.room (vec_capacity q.staying) q.evictables.room };
+}
+
+// Written out, so that whoever drops a raster queue does not name in its proof all that it holds.
+impl Drop for RasterQueue {
+    fn drop(self) {
+        let RasterQueue {
+            wanted: _,
+            staying: _,
+            evictables: _,
+            in_flight: _,
+            budget: _,
+            alloc: _,
+        } = self;
+    }
 }
 
 impl RasterQueue {

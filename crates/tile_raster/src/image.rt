@@ -17,7 +17,6 @@ use std::marker::Model;
 use std::sync::Arc;
 
 /// The picture of a tile: what its display list shows on its rect.
-#[derive(Drop)]
 pub struct TileImage {
     key: TileKey,
     rect: Rect,
@@ -41,6 +40,20 @@ impl Model for TileImage {
     ghost view = { λ i. record { key = i.key; rect = i.rect; list = i.list.value } };
 
     ghost invariant = { λ i. IsSound i.rect × AreKept i.list.value i.rect i.rows.places.items i.rows.bytes.items × AreEnds (near i.rect.h) i.rows.places.items i.rows.ends.items × IsSolid i.list.value i.rect i.solid × TellsOpaque i.list.value i.rect i.is_opaque };
+}
+
+// Written out, so that whoever drops a tile image does not name in its proof all that it holds.
+impl Drop for TileImage {
+    fn drop(self) {
+        let TileImage {
+            key: _,
+            rect: _,
+            list: _,
+            solid: _,
+            is_opaque: _,
+            rows: _,
+        } = self;
+    }
 }
 
 impl TileImage {

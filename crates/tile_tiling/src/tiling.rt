@@ -13,7 +13,6 @@ use std::alloc::{AllocError, Global};
 use std::marker::Model;
 
 /// The places of a layer, each with its stamp.
-#[derive(Drop)]
 pub struct Tiling {
     grid: Grid,
     // the stamp of every place, while `stamps` is empty
@@ -33,6 +32,17 @@ impl Model for Tiling {
     ghost view = { λ t. record { grid = t.grid; stamps = stamps_of t.grid t.base t.stamps.items } };
 
     ghost invariant = { λ t. IsKept t.grid t.stamps.items (vec_capacity t.stamps) };
+}
+
+// Written out, so that whoever drops a tiling does not name in its proof all that it holds.
+impl Drop for Tiling {
+    fn drop(self) {
+        let Tiling {
+            grid: _,
+            base: _,
+            stamps: _,
+        } = self;
+    }
 }
 
 impl Tiling {

@@ -21,7 +21,6 @@ use viz_render::Surfaces;
 use viz_scene::Scene;
 
 /// The picture of a screen of 1 to 2048 by 1 to 2048 pixels, in a pixel format.
-#[derive(Drop)]
 pub struct Canvas<F: PixelFormat> {
     w: u32,
     h: u32,
@@ -39,6 +38,19 @@ impl<F: PixelFormat> Model for Canvas<F> {
     ghost view = { λ c. record { w = c.w; h = c.h; bytes = c.bytes.items } };
 
     ghost invariant = { λ c. IsCanvas F.DEPTH (record { w = c.w; h = c.h; bytes = c.bytes.items }) };
+}
+
+// Written out, so that whoever drops a canvas does not name in its proof all that it holds.
+impl<F: PixelFormat> Drop for Canvas<F> {
+    fn drop(self) {
+        let Canvas {
+            w: _,
+            h: _,
+            bytes: _,
+            surfaces: _,
+            format: _,
+        } = self;
+    }
 }
 
 impl<F: PixelFormat> Canvas<F> {

@@ -13,7 +13,6 @@ use viz_scene::Scene;
 
 /// A scene, and the same without its hidden quads. The whole is kept so that it can be compared with the next
 /// one before hidden quads are looked for in that.
-#[derive(Drop)]
 pub(crate) struct HeldScene {
     scene: Scene,
     culled: Scene,
@@ -28,6 +27,16 @@ impl Model for HeldScene {
     ghost view = { λ h. record { scene = h.scene; culled = h.culled } };
 
     ghost invariant = { λ h. IsCulled h.scene h.culled };
+}
+
+// Written out, so that whoever drops a held scene does not name in its proof all that it holds.
+impl Drop for HeldScene {
+    fn drop(self) {
+        let HeldScene {
+            scene: _,
+            culled: _,
+        } = self;
+    }
 }
 
 impl HeldScene {

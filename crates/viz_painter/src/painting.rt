@@ -17,7 +17,6 @@ use viz_canvas::{Canvas, PixelFormat};
 use viz_scene::Scene;
 
 /// A canvas that shows one scene after another, and the last of them.
-#[derive(Drop)]
 pub struct Painter<F: PixelFormat> {
     alloc: Global,
     canvas: Canvas<F>,
@@ -36,6 +35,18 @@ impl<F: PixelFormat> Model for Painter<F> {
     ghost view = { λ p. record { canvas = p.canvas; held = culled_of p.held; damage = p.damage } };
 
     ghost invariant = { λ p. IsPainter F.DEPTH F.bytes_of (record { canvas = p.canvas; held = culled_of p.held; damage = p.damage }) };
+}
+
+// Written out, so that whoever drops a painter does not name in its proof all that it holds.
+impl<F: PixelFormat> Drop for Painter<F> {
+    fn drop(self) {
+        let Painter {
+            alloc: _,
+            canvas: _,
+            held: _,
+            damage: _,
+        } = self;
+    }
 }
 
 impl<F: PixelFormat> Painter<F> {

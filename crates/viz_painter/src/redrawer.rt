@@ -22,7 +22,6 @@ use viz_scene::Scene;
 /// the picture, and after them a gap, which may be empty and keeps its bytes. A redrawer holds the scene that it drew
 /// last, and takes it that the buffer still shows it: [`forget`](Redrawer::forget) tells it otherwise, as where the
 /// buffer is another one.
-#[derive(Drop)]
 pub struct Redrawer<F: PixelFormat> {
     alloc: Global,
     renderer: Renderer,
@@ -40,6 +39,19 @@ impl<F: PixelFormat> Model for Redrawer<F> {
     ghost Value = { RedrawerView };
 
     ghost view = { λ r. record { held = culled_of r.held; damage = r.damage } };
+}
+
+// Written out, so that whoever drops a redrawer does not name in its proof all that it holds.
+impl<F: PixelFormat> Drop for Redrawer<F> {
+    fn drop(self) {
+        let Redrawer {
+            alloc: _,
+            renderer: _,
+            held: _,
+            damage: _,
+            format: _,
+        } = self;
+    }
 }
 
 impl<F: PixelFormat> Redrawer<F> {

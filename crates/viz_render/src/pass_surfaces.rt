@@ -18,7 +18,6 @@ use std::alloc::{AllocError, Global};
 use viz_scene::{RenderPass, Scene};
 
 /// A surface for each pass of a scene.
-#[derive(Drop)]
 pub(crate) struct PassSurfaces {
     // those of the passes before the root
     pub(crate) passes: Vec<Surface>,
@@ -27,6 +26,18 @@ pub(crate) struct PassSurfaces {
     pub(crate) mask: Mask,
     // what they hide of the root
     pub(crate) root_mask: Mask,
+}
+
+// Written out, so that whoever drops a pass surfaces does not name in its proof all that it holds.
+impl Drop for PassSurfaces {
+    fn drop(self) {
+        let PassSurfaces {
+            passes: _,
+            root: _,
+            mask: _,
+            root_mask: _,
+        } = self;
+    }
 }
 
 impl PassSurfaces {

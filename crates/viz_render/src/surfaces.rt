@@ -22,7 +22,6 @@ const CACHED: usize = 786432;
 
 /// Room for one strip of a scene: a surface for each of its passes. It serves for all scenes of that width and number
 /// of passes, one after another.
-#[derive(Drop)]
 pub struct Surfaces {
     passes: PassSurfaces,
     // how many pixels the rows of a strip have at most
@@ -41,6 +40,17 @@ impl Model for Surfaces {
     ghost view = { λ s. record { width = s.width; passes = length s.passes.passes.items + 1; rows = s.rows; drawn = s.passes.root.bytes } };
 
     ghost invariant = { λ s. AreSurfaces s.width s.rows s.passes };
+}
+
+// Written out, so that whoever drops a surfaces does not name in its proof all that it holds.
+impl Drop for Surfaces {
+    fn drop(self) {
+        let Surfaces {
+            passes: _,
+            width: _,
+            rows: _,
+        } = self;
+    }
 }
 
 impl Surfaces {

@@ -13,7 +13,6 @@ use std::marker::Model;
 ///
 /// Its sides are 1 to 2048 pixels long, it has at least one pass, a group is of an earlier pass than the one
 /// that it stands in, each quad lies on the screen, and the part of an image that it shows in the image.
-#[derive(Drop)]
 pub struct Scene {
     w: u32,
     h: u32,
@@ -30,6 +29,18 @@ impl Model for Scene {
     ghost view = { λ s. record { w = s.w; h = s.h; background = s.background; passes = passes_view s.passes.items } };
 
     ghost invariant = { λ s. IsScene (record { w = s.w; h = s.h; background = s.background; passes = passes_view s.passes.items }) };
+}
+
+// Written out, so that whoever drops a scene does not name in its proof all that it holds.
+impl Drop for Scene {
+    fn drop(self) {
+        let Scene {
+            w: _,
+            h: _,
+            background: _,
+            passes: _,
+        } = self;
+    }
 }
 
 impl Scene {

@@ -12,12 +12,22 @@ use model_history::Script;
 use std::alloc::{AllocError, Global};
 
 /// A script's main frames, and the trees that its commits make.
-#[derive(Drop)]
 pub struct Pushing {
     frames: Frames,
     trees: Trees,
     /// What was taken back last and not pushed again.
     taken: Option<NextTree>,
+}
+
+// Written out, so that whoever drops a pushing does not name in its proof all that it holds.
+impl Drop for Pushing {
+    fn drop(self) {
+        let Pushing {
+            frames: _,
+            trees: _,
+            taken: _,
+        } = self;
+    }
 }
 
 // Makes a tree the pending one, which it may be.

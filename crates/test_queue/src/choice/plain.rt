@@ -14,7 +14,6 @@ use std::marker::Model;
 use tile_priority::{Bin, Rank, ReadyTile, least};
 
 /// What the choice is made from, as lists.
-#[derive(Drop)]
 pub struct PlainChoice {
     // the ranks of the keys that have one and are neither ready nor in flight
     wanted: Vec<Rank>,
@@ -32,6 +31,18 @@ impl Model for PlainChoice {
     ghost Value = { Choice };
 
     ghost view = { λ c. record { wanted = c.wanted.items; ready = c.ready.items; in_flight = c.in_flight; budget = c.budget } };
+}
+
+// Written out, so that whoever drops a plain choice does not name in its proof all that it holds.
+impl Drop for PlainChoice {
+    fn drop(self) {
+        let PlainChoice {
+            wanted: _,
+            ready: _,
+            in_flight: _,
+            budget: _,
+        } = self;
+    }
 }
 
 impl PlainChoice {
