@@ -13,16 +13,12 @@ abbrev pub AreImagesFrom : Option (List ℕ) → List ℕ → Type 0
 AreImagesFrom source whole =
     (bytes : List ℕ) × IfSome source (λ had. had ≡ bytes) × (s : ScriptModel) × (ps : List Piece) × IsRecording bytes s ps × (whole ≡ images_text ps)
 
--- what the sink gained: bytes of which the first holds; a prefix of bytes of which the second holds; or nothing
-abbrev pub Delivers : (List ℕ → Type 0) → (List ℕ → Type 0) → Option (List ℕ) → Option (List ℕ) → Outcome → Type 0
-Delivers IsWhole IsBegun old new Done = (whole : List ℕ) × IsWhole whole × Appends old new whole
-Delivers IsWhole IsBegun old new WriteFault = (whole : List ℕ) × IsBegun whole × GainsPrefix old new whole
-Delivers IsWhole IsBegun old new Memory = (new ≡ old) ⊎ ((whole : List ℕ) × IsBegun whole × GainsPrefix old new whole)
-Delivers IsWhole IsBegun old new _ = new ≡ old
-
--- what `frames` writes of the recording that the source has
+-- what the sink gained by `frames`: the images of the recording that the source has; a prefix of them; or nothing
 abbrev pub DeliversImages : Option (List ℕ) → Option (List ℕ) → Option (List ℕ) → Outcome → Type 0
-DeliversImages source old new result = Delivers (λ whole. AreImagesFrom source whole) (λ whole. AreImagesFrom source whole) old new result
+DeliversImages source old new Done = (whole : List ℕ) × AreImagesFrom source whole × Appends old new whole
+DeliversImages source old new WriteFault = (whole : List ℕ) × AreImagesFrom source whole × GainsPrefix old new whole
+DeliversImages source old new Memory = (new ≡ old) ⊎ ((whole : List ℕ) × AreImagesFrom source whole × GainsPrefix old new whole)
+DeliversImages source old new _ = new ≡ old
 
 -- ---- of a use that has read what it takes, so that no other answer comes
 

@@ -60,19 +60,20 @@ abbrev pub RefusedHistory : List ℕ → Outcome → Type 0
 RefusedHistory bytes (No event) = (length bytes ≤ recording_limit) × IsFirstWrongEvent 16 bytes event
 RefusedHistory bytes result = RefusedRecording bytes result
 
--- what an answer says of bytes: after all was done and after a fault of the sink they were taken, after a refusal they were refused for that cause
-abbrev pub Explains : Type 0 → (Outcome → Type 0) → Outcome → Type 0
-Explains IsTaken IsRefused Done = IsTaken
-Explains IsTaken IsRefused WriteFault = IsTaken
-Explains IsTaken IsRefused (Usage word) = ⊤
-Explains IsTaken IsRefused ReadFault = ⊤
-Explains IsTaken IsRefused Memory = ⊤
-Explains IsTaken IsRefused result = IsRefused result
-
 -- why this is the answer of `frames` where the source has these bytes
 abbrev pub ExplainsImages : List ℕ → Outcome → Type 0
-ExplainsImages bytes result = Explains (TakesRecording bytes) (λ o. RefusedRecording bytes o) result
+ExplainsImages bytes Done = TakesRecording bytes
+ExplainsImages bytes WriteFault = TakesRecording bytes
+ExplainsImages bytes (Usage word) = ⊤
+ExplainsImages bytes ReadFault = ⊤
+ExplainsImages bytes Memory = ⊤
+ExplainsImages bytes result = RefusedRecording bytes result
 
--- the same of `check`
+-- why this is the answer of `check` where the source has these bytes
 abbrev pub ExplainsJudgement : List ℕ → Outcome → Type 0
-ExplainsJudgement bytes result = Explains (TakesHistory bytes) (λ o. RefusedHistory bytes o) result
+ExplainsJudgement bytes Done = TakesHistory bytes
+ExplainsJudgement bytes WriteFault = TakesHistory bytes
+ExplainsJudgement bytes (Usage word) = ⊤
+ExplainsJudgement bytes ReadFault = ⊤
+ExplainsJudgement bytes Memory = ⊤
+ExplainsJudgement bytes result = RefusedHistory bytes result

@@ -1,6 +1,7 @@
 pub mod Promised
 pub mod Summed
 pub mod Outputs
+pub mod ReadUses
 pub mod ScriptsPlayed
 pub mod ShotsTaken
 pub mod Completeness

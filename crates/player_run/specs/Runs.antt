@@ -1,6 +1,8 @@
 -- What a run of the program does with its words, its input and its output.
 use Rattle.std.specs.Prelude.{◌≡◌, ℕ, ◌≤◌, ◌⊎◌, List, [], ◌++◌, length, codes, ⊤, Option, Some, None, IfSome, Result, Ok}
+use Rattle.std.specs.Io.KnownBytes.{Appends}
 use Rattle.player_io.specs.Counts.{Rose}
+use Rattle.player_io.specs.Pieces.{GainsPrefix}
 use Rattle.model_history.specs.Scripts.{ScriptModel}
 use Rattle.model_history.specs.Frames.{blank}
 use Rattle.model_history.specs.Accepted.{TakesFrames}
@@ -12,11 +14,11 @@ use Rattle.recording_writer.specs.Films.{IsLockstepFilm, IsLastImage}
 use Rattle.recording_writer.specs.Shots.{IsShot}
 use Rattle.script_generator.specs.Generated.{script_of_number}
 use Rattle.player_outcomes.specs.declared.outcome.Outcome.{Outcome}
-use Rattle.player_outcomes.specs.declared.outcome.Outcome.TheVariants.{Done, Memory, NoPicture}
+use Rattle.player_outcomes.specs.declared.outcome.Outcome.TheVariants.{Done, Usage, ReadFault, WriteFault, Memory, NoPicture}
 use Rattle.player_outcomes.specs.Answers.{IsUnread, AnswersSession}
 use Rattle.player_outcomes.specs.Demos.{demo_line}
-use Rattle.player_outcomes.specs.Outputs.{AreImagesFrom, Delivers}
-use Rattle.player_outcomes.specs.Refusals.{script_limit, IsAcceptedText, TakesRecording, TakesHistory, RefusedScript, RefusedRecording, RefusedHistory, Explains}
+use Rattle.player_outcomes.specs.Outputs.{AreImagesFrom}
+use Rattle.player_outcomes.specs.Refusals.{script_limit, IsAcceptedText, TakesRecording, TakesHistory, RefusedScript, RefusedRecording, RefusedHistory}
 use Rattle.player_outcomes.specs.Shots.{with_shot}
 use Rattle.player_run.specs.Promises.{IsSoundHistory, IsPlayed, IsPromised}
 use Rattle.player_run.specs.Shots.{HasPicture}
@@ -59,7 +61,12 @@ Refused (Serve workers) bytes result = ⊥
 
 -- why this is the answer of a use where the source has these bytes
 abbrev pub CauseOf : Use → List ℕ → Outcome → Type 0
-CauseOf wanted bytes result = Explains (Takes wanted bytes) (λ o. Refused wanted bytes o) result
+CauseOf wanted bytes Done = Takes wanted bytes
+CauseOf wanted bytes WriteFault = Takes wanted bytes
+CauseOf wanted bytes (Usage word) = ⊤
+CauseOf wanted bytes ReadFault = ⊤
+CauseOf wanted bytes Memory = ⊤
+CauseOf wanted bytes result = Refused wanted bytes result
 
 -- why this is the answer of a use: for a use that reads, where the source tells its bytes
 abbrev pub CauseFrom : Use → Option (List ℕ) → Outcome → Type 0
@@ -107,7 +114,10 @@ IsBegun wanted source whole = IsOutput wanted source whole
 
 -- what the sink gained: all that the use writes; a prefix of what it was writing; or nothing
 abbrev pub Writes : Use → Option (List ℕ) → Option (List ℕ) → Option (List ℕ) → Outcome → Type 0
-Writes wanted source old new result = Delivers (λ whole. IsOutput wanted source whole) (λ whole. IsBegun wanted source whole) old new result
+Writes wanted source old new Done = (whole : List ℕ) × IsOutput wanted source whole × Appends old new whole
+Writes wanted source old new WriteFault = (whole : List ℕ) × IsBegun wanted source whole × GainsPrefix old new whole
+Writes wanted source old new Memory = (new ≡ old) ⊎ ((whole : List ℕ) × IsBegun wanted source whole × GainsPrefix old new whole)
+Writes wanted source old new _ = new ≡ old
 
 -- where neither count of faults rose, all is done or there was no memory
 abbrev pub IsDoneIfCalm : ℕ → ℕ → ℕ → ℕ → Outcome → Type 0
