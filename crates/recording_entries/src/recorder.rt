@@ -87,7 +87,7 @@ impl Recorder {
     }
 
     /// Writes the two lines before the events, the second of which is this text of a script. The text may be long,
-    /// so it is put as it is. Memory may be out then, and the sink may fail: it gained a prefix of the lines.
+    /// so it is put as it is. Where writing stops, the sink gained a prefix of the lines.
     pub fn begin<K: Sink>(&mut self, out: &mut K, script: &[u8]) -> Result<(), WriteStop>
         requires { self.old.lines.items ≡ codes "cc1\n" }
         ensures bytes { WritesPart (K.held out.old) (K.held out.new) (header script.now) self.new.lines.items result }
