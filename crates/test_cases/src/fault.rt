@@ -27,7 +27,7 @@ pub enum ProgramRowFault {
     /// What is said of `run_alone` is none of its answers.
     #[error("`run_alone` either `ends` or answers `none`")]
     NoCall,
-    /// What the sink has to hold stands above what it waits for, or without that.
+    /// The line tells what a sink has to hold, and no line above it what that sink waits for.
     #[error("`until` belongs to a sink that waits")]
     NoWait,
     /// A number is none, or too large.

@@ -22,9 +22,9 @@
 //! | `step` | how many bytes one read gives at most; 4096 where it is left out |
 //! | `room`, `reads fail`, `puts fail` | how many bytes the sink takes; which read or put fails. `0..515` is one run for each number below 515 |
 //! | `notes room` | how many bytes the notes take |
-//! | `gate` | which workers come to the gate between a tile's start and its end: `pair` where the first two wait there for each other, and then for the sink; or `LAYER COLUMN ROW`, those that make this tile, which go on at once |
-//! | `sink waits` | `COUNT LINE`: the sink waits once, as soon as it holds the line, until as many workers have come to the gate. A wait is given up after a while, and then the case is wrong |
-//! | `until` | the end of a line: the workers that wait for the sink go on where it holds it, and all others that are so told |
+//! | `gate` | which workers come to the gate, between a tile's start and its end: `pair` where the first two wait there for each other and then for the sink, or `LAYER COLUMN ROW`, those of this tile, which go on at once |
+//! | `sink waits` | `COUNT LINE`: once it holds the line, the sink waits until the given number of workers have come to the gate; a case whose wait is given up is wrong |
+//! | `until` | the end of a line that the sink has to hold before the workers go on that wait for it; there may be several |
 //! | `status`, `note` | how the run ends, and the line in the notes; 0 and none where they are left out |
 //! | `out` | a line of the output; `...` as the first says that anything may stand before the next, and as the last that anything may follow, until the sink is full where it has a room |
 //! | `image` | a picture in the output, as `picture` |
