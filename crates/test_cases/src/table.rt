@@ -34,11 +34,10 @@ impl CaseTable {
     /// Ends the case whose lines were read. Answers it, where it is to be played.
     pub fn end(&mut self) -> Option<Case> {
         let case = self.case.take()?;
-        if self.titles.has(case.title.as_str()) {
-            Some(case)
-        } else {
-            None
+        if !self.titles.has(case.title.as_str()) {
+            return None;
         }
+        Some(case)
     }
 
     /// Takes a line of a table of changes: `OLD => NEW | END`.

@@ -1,6 +1,6 @@
 //! A client in memory that tells what passed.
 
-ghost use Rattle.std.specs.Prelude.{◌≡◌, ◌≤◌, ◌-◌, [], drop, vec_len, Some, OnOk};
+ghost use Rattle.std.specs.Prelude.{◌≡◌, ◌≤◌, ◌-◌, [], drop, vec_len, Some, IfOk};
 ghost use Rattle.player_lines.specs.Sessions.{AreAnswers, lines_of};
 ghost use Rattle.test_doubles.specs.Talks.{IsTold, acts};
 
@@ -79,20 +79,22 @@ impl Talk {
         self.out.bytes()
     }
 
-    /// Serves this client, with which nothing has passed. Where that ends well, its answers are those to all lines of
-    /// its input, each by what the answerer says of that line alone.
+    /// Serves this client, with which nothing has passed. Where that ends well, the client's answers are those to all
+    /// lines of its input, each by what the answerer says of that line alone.
     pub fn serve<R: Threads + Sync, A: Answerer>(
         self,
         rt: &R,
         alloc: Global,
         answerer: &A,
-    ) -> (Result<(), Stop>, Talk)
+    ) -> Result<Talk, Stop>
         requires new { self.passed.items ≡ [] }
-        ensures { OnOk result.0 (AreAnswers (A.answers answerer.now) (lines_of result.1.source.bytes.items) result.1.out.bytes.items) }
+        ensures { IfOk result (λ talk. AreAnswers (A.answers answerer.now) (lines_of talk.source.bytes.items) talk.out.bytes.items) }
     {
         let mut session = Session::new(self);
-        let ended = serve(rt, alloc, answerer, &mut session);
-        (ended, session.into_client())
+        match serve(rt, alloc, answerer, &mut session) {
+            Ok(()) => Ok(session.into_client()),
+            Err(stop) => Err(stop),
+        }
     }
 }
 

@@ -24,40 +24,12 @@ fn no_source(alloc: Global) -> MemSource {
     MemSource::new(Vec::new(alloc), 1, Vec::new(alloc))
 }
 
+/// A session with a client that says nothing.
+fn silent(alloc: Global) -> Session<Ends<MemSource, MemSink>> {
+    Session::new(Ends::new(no_source(alloc), MemSink::endless(alloc)))
+}
+
 impl<'a> Streams<'a> {
-    /// These, with ample room for notes, a gate that holds nobody up, and a session with a client that says nothing.
-    fn new(
-        alloc: Global,
-        meeting: &'a Meeting,
-        source: MemSource,
-        out: WaitingSink<'a>,
-    ) -> Streams<'a> {
-        Streams {
-            source,
-            out,
-            notes: MemSink::endless(alloc),
-            gate: MeetingGate {
-                meeting,
-                gathering: Gathering::Nobody,
-            },
-            session: Session::new(Ends::new(no_source(alloc), MemSink::endless(alloc))),
-        }
-    }
-
-    /// A session with a client that gives what the source gives, and takes what the sink takes. The source and the
-    /// sink of the run are empty, and have to stay so.
-    fn of_session(
-        alloc: Global,
-        meeting: &'a Meeting,
-        source: MemSource,
-        out: MemSink,
-    ) -> Streams<'a> {
-        let no_out = WaitingSink::new(MemSink::new(alloc, 0, Vec::new(alloc)), meeting, None);
-        let mut streams = Streams::new(alloc, meeting, no_source(alloc), no_out);
-        streams.session = Session::new(Ends::new(source, out));
-        streams
-    }
-
     /// Makes a run by this call. Answers the status that it ended with; None where `run_alone` answers so. No other
     /// function calls the program: each that does is proved with its whole contract.
     fn run<R: Threads + Wait + Sync>(
@@ -118,9 +90,16 @@ fn run_over<R: Threads + Wait + Sync>(
     let mut words = Vec::new(alloc);
     words.push(word.to_string(alloc)?)?;
     let meeting = Meeting::new();
-    let source = MemSource::new(Vec::from_slice(alloc, recording)?, 4096, Vec::new(alloc));
-    let out = WaitingSink::new(MemSink::endless(alloc), &meeting, None);
-    let mut streams = Streams::new(alloc, &meeting, source, out);
+    let mut streams = Streams {
+        source: MemSource::new(Vec::from_slice(alloc, recording)?, 4096, Vec::new(alloc)),
+        out: WaitingSink::new(MemSink::endless(alloc), &meeting, None),
+        notes: MemSink::endless(alloc),
+        gate: MeetingGate {
+            meeting: &meeting,
+            gathering: Gathering::Nobody,
+        },
+        session: silent(alloc),
+    };
     let status = streams.run(rt, alloc, Call::Run, words.as_slice());
     let (out, _) = streams.into_outs(false);
     Ok((status, out))
@@ -140,7 +119,8 @@ fn pictures_of<R: Threads + Wait + Sync>(
     Ok(Some(pictures))
 }
 
-/// What the run of this number is given.
+/// What the run of this number is given. A session has a client that gives what the source gives, and takes what the sink
+/// takes; then the source and the sink of the run are empty, and have to stay so.
 fn streams_of<'a>(
     alloc: Global,
     case: &'a Case,
@@ -149,15 +129,27 @@ fn streams_of<'a>(
 ) -> Result<Streams<'a>, ProgramRowFault> {
     let source = case.source(alloc, number)?;
     let out = case.sink(alloc, number)?;
-    let mut streams = if case.is_served() {
-        Streams::of_session(alloc, meeting, source, out)
-    } else {
-        let out = WaitingSink::new(out, meeting, case.sink_wait.as_ref());
-        Streams::new(alloc, meeting, source, out)
+    let notes = case.notes(alloc);
+    let gate = MeetingGate {
+        meeting,
+        gathering: case.gathering,
     };
-    streams.notes = case.notes(alloc);
-    streams.gate.gathering = case.gathering;
-    Ok(streams)
+    if case.is_served() {
+        return Ok(Streams {
+            source: no_source(alloc),
+            out: WaitingSink::new(MemSink::new(alloc, 0, Vec::new(alloc)), meeting, None),
+            notes,
+            gate,
+            session: Session::new(Ends::new(source, out)),
+        });
+    }
+    Ok(Streams {
+        source,
+        out: WaitingSink::new(out, meeting, case.sink_wait.as_ref()),
+        notes,
+        gate,
+        session: silent(alloc),
+    })
 }
 
 /// The run of this number.
