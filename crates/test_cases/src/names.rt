@@ -20,11 +20,21 @@ struct NamedFile {
 }
 
 /// What the table has named so far.
-#[derive(Drop)]
 pub struct Names {
     alloc: Global,
     texts: Vec<NamedText>,
     files: Vec<NamedFile>,
+}
+
+// Written out, so that whoever drops a names does not name in its proof all that it holds.
+impl Drop for Names {
+    fn drop(self) {
+        let Names {
+            alloc: _,
+            texts: _,
+            files: _,
+        } = self;
+    }
 }
 
 /// The numbers of the copies and the text to be repeated, where a value is `N of TEXT` or `A..B of TEXT`.

@@ -32,10 +32,19 @@ pub enum Short {
 }
 
 /// What a case says of the output.
-#[derive(Drop)]
 pub struct Output {
     extent: Extent,
     bytes: Vec<u8>,
+}
+
+// Written out, so that whoever drops an output does not name in its proof all that it holds.
+impl Drop for Output {
+    fn drop(self) {
+        let Output {
+            extent: _,
+            bytes: _,
+        } = self;
+    }
 }
 
 /// The 64-bit FNV-1a sum of bytes.

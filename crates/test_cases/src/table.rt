@@ -7,7 +7,6 @@ use std::alloc::Global;
 use test_table::{Titles, key_and_value};
 
 /// What was read of the table so far.
-#[derive(Drop)]
 pub struct CaseTable {
     alloc: Global,
     /// Which cases are played.
@@ -17,6 +16,19 @@ pub struct CaseTable {
     base: Option<String>,
     /// The case whose lines are being read.
     case: Option<Case>,
+}
+
+// Written out, so that whoever drops a case table does not name in its proof all that it holds.
+impl Drop for CaseTable {
+    fn drop(self) {
+        let CaseTable {
+            alloc: _,
+            titles: _,
+            names: _,
+            base: _,
+            case: _,
+        } = self;
+    }
 }
 
 impl CaseTable {

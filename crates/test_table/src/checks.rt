@@ -5,12 +5,23 @@ use std::alloc::{AllocError, Global};
 use std::fmt;
 
 /// Cases that stand in code: how many are right, and what came out of the others.
-#[derive(Drop)]
 pub struct Checks {
     alloc: Global,
     right: usize,
     wrong: String,
     lacks_memory: bool,
+}
+
+// Written out, so that whoever drops a checks does not name in its proof all that it holds.
+impl Drop for Checks {
+    fn drop(self) {
+        let Checks {
+            alloc: _,
+            right: _,
+            wrong: _,
+            lacks_memory: _,
+        } = self;
+    }
 }
 
 impl Checks {

@@ -3,9 +3,15 @@
 use std::{env, io};
 
 /// The cases that are tried: those whose titles have one of some words, or all where there are no words.
-#[derive(Drop)]
 pub struct Titles {
     words: Vec<String>,
+}
+
+// Written out, so that whoever drops a titles does not name in its proof all that it holds.
+impl Drop for Titles {
+    fn drop(self) {
+        let Titles { words: _ } = self;
+    }
 }
 
 impl Titles {
