@@ -20,6 +20,7 @@ import zlib
 sys.dont_write_bytecode = True
 import png
 import recording
+from built import PROVED
 from png_chunks import chunks_of
 
 ROOT = pathlib.Path(__file__).resolve().parent.parent
@@ -120,7 +121,7 @@ def wrong_pictures(text, steps, is_stored):
 
 def main():
     words = argparse.ArgumentParser(description=__doc__, formatter_class=argparse.RawDescriptionHelpFormatter)
-    words.add_argument("program", nargs="?", default=str(ROOT / "crates" / "cc_player" / "out" / "cc_player"))
+    words.add_argument("program", nargs="?", default=str(PROVED))
     words.add_argument("--store", action="store_true")
     words = words.parse_args()
     text, scripts = TEXT.read_text(), {it.stem: it for it in sorted(FOLDER.glob("*.json"))}

@@ -22,9 +22,8 @@ import sys
 sys.dont_write_bytecode = True
 import painting
 import recording
+from built import PLAYER, PROVED
 
-ROOT = pathlib.Path(__file__).resolve().parent.parent
-PROGRAMS = [ROOT / "build" / "cc_player", ROOT / "crates" / "cc_player" / "out" / "cc_player"]
 LINE = re.compile(r"cc: event (\d+) is wrong")
 MOST_WORKERS = 16
 # What is left where an event breaks none of the rules that are looked at here.
@@ -319,7 +318,7 @@ def topmost_told(scene, x, y):
 
 def program_of(words):
     """The program that is asked, or None."""
-    given = [words.program] if words.program else PROGRAMS
+    given = [words.program] if words.program else [PLAYER, PROVED]
     return next((str(it) for it in given if pathlib.Path(it).is_file()), None)
 
 

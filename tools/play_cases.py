@@ -19,9 +19,11 @@ import re
 import subprocess
 import sys
 
-ROOT = pathlib.Path(__file__).resolve().parent.parent
-PROGRAM = ROOT / "crates" / "cc_player" / "out" / "cc_player"
-TABLE = ROOT / "crates" / "test_program" / "stdin"
+sys.dont_write_bytecode = True
+from built import PROVED
+from crate_list import CRATES
+
+TABLE = CRATES / "test_program" / "stdin"
 # What no process of its own can be given: calls that fail, sinks that are full or wait, gates, and the half of `run` that
 # starts none.
 INSIDE = ("alone", "room", "reads fail", "puts fail", "notes room", "gate", "sink waits", "until")
@@ -256,7 +258,7 @@ def play(program, case):
 
 def main():
     words = argparse.ArgumentParser(description=__doc__.splitlines()[0])
-    words.add_argument("--program", type=pathlib.Path, default=PROGRAM)
+    words.add_argument("--program", type=pathlib.Path, default=PROVED)
     words.add_argument("--table", type=pathlib.Path, default=TABLE)
     words.add_argument("word", nargs="?", default="")
     words = words.parse_args()

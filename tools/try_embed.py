@@ -25,6 +25,7 @@ import sys
 import tempfile
 
 sys.dont_write_bytecode = True
+from built import PROVED
 from lib import COMPILERS
 from png_chunks import picture_of
 
@@ -322,7 +323,7 @@ def tries(build, program, pages, seed):
 def main():
     words = argparse.ArgumentParser(description=__doc__.splitlines()[0])
     words.add_argument("--build", type=pathlib.Path, default=ROOT / "build")
-    words.add_argument("--program", type=pathlib.Path, default=ROOT / "crates" / "cc_player" / "out" / "cc_player")
+    words.add_argument("--program", type=pathlib.Path, default=PROVED)
     words.add_argument("--pages", type=int)
     words.add_argument("--seed", type=int, default=1)
     words.add_argument("--gate", action="store_true", help="build the library, and try what takes seconds")

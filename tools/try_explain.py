@@ -23,9 +23,10 @@ import explain
 import judge
 import page
 import recording
+from built import PROVED
 
 ROOT = pathlib.Path(__file__).resolve().parent.parent
-PROGRAM, MESSAGES = ROOT / "crates" / "cc_player" / "out" / "cc_player", ROOT / "docs" / "MESSAGES.md"
+MESSAGES = ROOT / "docs" / "MESSAGES.md"
 BEGINS, ENDS = "<!-- wrong inputs begin -->\n", "<!-- wrong inputs end -->\n"
 
 # The script that is changed: two layers with an item each, one of them in an effect.
@@ -249,7 +250,7 @@ def try_scripts(program, folder):
 
 def main():
     words = argparse.ArgumentParser(description=__doc__, formatter_class=argparse.RawDescriptionHelpFormatter)
-    words.add_argument("program", nargs="?", default=str(PROGRAM))
+    words.add_argument("program", nargs="?", default=str(PROVED))
     words.add_argument("--alone", action="store_true")
     words.add_argument("--scripts")
     words.add_argument("--store", action="store_true")

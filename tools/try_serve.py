@@ -14,13 +14,15 @@ import sys
 import tempfile
 import threading
 
-HERE = pathlib.Path(__file__).resolve().parent.parent
 sys.dont_write_bytecode = True
+from built import PROVED  # noqa: E402
+
+HERE = pathlib.Path(__file__).resolve().parent.parent
 sys.path.insert(0, str(HERE / "clients/python"))
 import cc_serve  # noqa: E402
 
 PATIENCE = 120
-PROGRAM = str(pathlib.Path(sys.argv[1] if len(sys.argv) > 1 else HERE / "crates/cc_player/out/cc_player").resolve())
+PROGRAM = str(pathlib.Path(sys.argv[1] if len(sys.argv) > 1 else PROVED).resolve())
 faults = []
 
 

@@ -13,10 +13,10 @@ import subprocess
 import sys
 
 sys.dont_write_bytecode = True
+from built import PROVED
 from png_chunks import chunks_of, picture_of
 
 ROOT = pathlib.Path(__file__).resolve().parent.parent
-PLAYER = ROOT / "crates" / "cc_player" / "out" / "cc_player"
 NO_PICTURE = (12, b"", b"cc: no picture\n")
 
 
@@ -55,7 +55,7 @@ def is_right(program, script, played):
 
 
 def main():
-    program = sys.argv[1] if len(sys.argv) > 1 else PLAYER
+    program = sys.argv[1] if len(sys.argv) > 1 else PROVED
     scripts = {path.name: path.read_bytes() for path in sorted([*ROOT.glob("examples/*.json"), *ROOT.glob("docs/tutorial/*.json")])}
     scripts |= {f"gen {number}": run(program, f"gen {number}")[1] for number in range(10)}
     wrong = []
