@@ -1,57 +1,61 @@
+//! Bells worked by hand.
+
 use std::sync::Wait;
-use std::test::*;
-use std::thread::join;
+use std::thread::{Threads, join};
 use std::time::Duration;
+use test_table::Checks;
 use thread_bell::{Bell, Post};
 
-#[test]
-fn a_ring_since_the_count_was_read_is_not_slept_over(rt: HostRuntime) {
+/// A ring since the count was read is not slept over.
+pub fn ring_before_a_sleep<R: Wait>(rt: &R, checks: &mut Checks) {
     let bell = Bell::new();
     let rung = bell.rung();
     bell.ring();
-    bell.wait(&rt, rung);
-    assert!(rt; bell.rung() != rung);
-    assert!(rt; !bell.is_closed());
+    bell.wait(rt, rung);
+    checks.holds("the ring is counted", bell.rung() != rung);
+    checks.holds("it is not closed", !bell.is_closed());
 }
 
-#[test]
-fn a_short_sleep_ends_though_nobody_rings(rt: HostRuntime) {
+/// A short sleep ends though nobody rings.
+pub fn short_sleep_ends<R: Wait>(rt: &R, checks: &mut Checks) {
     let bell = Bell::new();
     let rung = bell.rung();
-    bell.wait_at_most(&rt, rung, Duration::from_millis(1));
-    assert!(rt; bell.rung() == rung);
+    bell.wait_at_most(rt, rung, Duration::from_millis(1));
+    checks.holds("nobody rang", bell.rung() == rung);
 }
 
-#[test]
-fn each_post_has_a_count_of_its_own(rt: HostRuntime) {
+/// Each post has a count of its own.
+pub fn each_post_has_its_count<R: Wait>(rt: &R, checks: &mut Checks) {
     let bell = Bell::new();
     let first = bell.rung();
     let second = bell.rung_at(Post::Second);
     let third = bell.rung_at(Post::Third);
     bell.ring_at(Post::Third);
-    bell.wait_at(&rt, Post::Third, third);
-    assert!(rt; bell.rung_at(Post::Third) != third);
-    assert!(rt; bell.rung() == first && bell.rung_at(Post::Second) == second);
+    bell.wait_at(rt, Post::Third, third);
+    checks.holds("the third", bell.rung_at(Post::Third) != third);
+    checks.holds("not the first", bell.rung() == first);
+    checks.holds("not the second", bell.rung_at(Post::Second) == second);
     bell.close();
-    assert!(rt; bell.rung() != first && bell.rung_at(Post::Second) != second);
+    checks.holds("closing rings the first", bell.rung() != first);
+    checks.holds("and the second", bell.rung_at(Post::Second) != second);
 }
 
-#[test]
-fn a_sleeper_hears_that_the_bell_is_closed(rt: HostRuntime) {
+/// A sleeper hears that the bell is closed.
+pub fn sleeper_hears_the_close<R: Threads + Wait + Sync>(rt: &R, checks: &mut Checks) {
     let bell = Bell::new();
     let (heard, _) = join(
-        &rt,
+        rt,
         || {
             for _ in rt.forever() {
                 let rung = bell.rung();
                 if bell.is_closed() {
                     return true;
                 }
-                bell.wait(&rt, rung);
+                bell.wait(rt, rung);
             }
             false
         },
         || bell.close(),
     );
-    assert!(rt; heard);
+    checks.holds("it was heard", heard);
 }

@@ -1,12 +1,13 @@
-ghost use Rattle.std.specs.Prelude.{◌≡◌, ◌<◌, [], All, vec_len};
+//! Passes and turns of a lock worked by hand.
+
+ghost use Rattle.std.specs.Prelude.{◌≡◌, ◌<◌, [], All, vec_len, IfOk};
 ghost use Rattle.thread_lock.specs.PassModels.{IsOf};
 
-use crate::same::same;
+use crate::fault::ChannelFault;
 use std::alloc::{AllocError, Global};
-use std::process::Abort;
 use std::sync::Wait;
-use std::test::*;
 use std::thread::{Threads, join};
+use test_table::Checks;
 use thread_lock::{
     HeldTurn, Journal, Pass, SplitFault, TurnLock, write_all, write_both, write_note,
 };
@@ -15,57 +16,60 @@ type Lock = TurnLock<Journal>;
 
 type Slip = Pass<Journal>;
 
-// A lock around an empty journal, and its first pass.
-fn locked<R: Abort>(rt: &R, alloc: Global, most: u32) -> (Lock, Slip)
+/// A lock around an empty journal, and its first pass.
+fn locked(alloc: Global, most: u32) -> Result<(Lock, Slip), ChannelFault>
     requires { 0 < most }
-    ensures { (result.0.most ≡ most) × IsOf result.0 result.1 × (result.1.mine ≡ []) }
+    ensures { IfOk result (λ made. (made.0.most ≡ most) × IsOf made.0 made.1 × (made.1.mine ≡ [])) }
 {
     match TurnLock::new(alloc, Journal::new(alloc, 5), most) {
-        Ok(made) => made,
-        Err(_) => panic!(rt; "no memory"),
+        Ok(made) => Ok(made),
+        Err((refused, _journal)) => Err(ChannelFault::Memory(refused)),
     }
 }
 
-fn split<R: Abort + Wait>(rt: &R, lock: &Lock, pass: &mut Slip) -> Slip
+/// The next pass of a lock that has a number left.
+fn split<R: Wait>(rt: &R, lock: &Lock, pass: &mut Slip) -> Result<Slip, ChannelFault>
     requires { IsOf lock.now pass.old }
-    ensures { IsOf lock.now pass.new × IsOf lock.now result × (result.mine ≡ []) × (pass.new.mine ≡ pass.old.mine) }
+    ensures given { IsOf lock.now pass.new × (pass.new.mine ≡ pass.old.mine) }
+    ensures made { IfOk result (λ made. IsOf lock.now made × (made.mine ≡ [])) }
 {
     match lock.split(rt, pass) {
-        Ok(made) => made,
-        Err(SplitFault::Full) => panic!(rt; "no number is left"),
+        Ok(made) => Ok(made),
+        Err(SplitFault::Full) => Err(ChannelFault::Refused),
     }
 }
 
-// The first pass and as many made of it as the count says.
-fn split_all<R: Abort + Wait>(
+/// The first pass and as many made of it as the count says.
+fn split_all<R: Wait>(
     rt: &R,
     alloc: Global,
     lock: &Lock,
     first: Slip,
     count: u32,
-) -> Vec<Slip>
+) -> Result<Vec<Slip>, ChannelFault>
     requires { IsOf lock.now first }
-    ensures { All (IsOf lock.now) result.items × (0 < vec_len result) }
+    ensures { IfOk result (λ passes. All (IsOf lock.now) passes.items × (0 < vec_len passes)) }
 {
     let mut first = first;
     let mut passes = Vec::new(alloc);
     for _ in 0..count {
-        let pass = split(rt, lock, &mut first);
-        passes.push(pass).ok().expect(rt, "memory");
+        let pass = split(rt, lock, &mut first)?;
+        passes.push(pass).map_err(AllocError::from)?;
     }
-    passes.push(first).ok().expect(rt, "memory");
-    passes
+    passes.push(first).map_err(AllocError::from)?;
+    Ok(passes)
 }
 
-// The value goes back as it was.
+/// The value goes back as it was.
 fn leave(lock: &Lock, held: HeldTurn<Journal>) -> Slip
     requires { held.pass.lock ≡ lock.now.id }
+    ensures { result.lock ≡ lock.now.id }
 {
     let (journal, empty) = held.take();
     empty.put(lock, journal)
 }
 
-// Whether the actor wrote the numbers below the count, in order, and no others.
+/// Whether the actor wrote the numbers below the count, in order, and no others.
 fn wrote_in_order(notes: &[(u32, u32)], actor: u32, count: u64) -> bool {
     let mut next: u64 = 0;
     for (by, number) in notes {
@@ -79,7 +83,8 @@ fn wrote_in_order(notes: &[(u32, u32)], actor: u32, count: u64) -> bool {
     next == count
 }
 
-fn numbers_below(alloc: Global, count: u32) -> Result<Vec<u32>, Fail> {
+/// The numbers below the count, in order.
+fn numbers_below(alloc: Global, count: u32) -> Result<Vec<u32>, AllocError> {
     let mut numbers = Vec::new(alloc);
     for number in 0..count {
         numbers.push(number)?;
@@ -87,70 +92,88 @@ fn numbers_below(alloc: Global, count: u32) -> Result<Vec<u32>, Fail> {
     Ok(numbers)
 }
 
-#[test]
-fn the_fourth_pass_of_three_is_refused(rt: HostRuntime) -> Result<(), Fail> {
-    let (lock, mut first) = locked(&rt, rt.alloc(), 3);
-    let second = split(&rt, &lock, &mut first);
-    let third = split(&rt, &lock, &mut first);
-    assert!(rt; first.actor() == 0 && second.actor() == 1 && third.actor() == 2);
-    assert!(rt; matches!(lock.split(&rt, &mut first), Err(SplitFault::Full)));
-    let mut passes = Vec::new(rt.alloc());
-    passes.push(first)?;
-    passes.push(second)?;
+/// The fourth pass of three is refused, and two of three close no lock.
+pub fn fourth_pass_of_three<R: Wait>(
+    rt: &R,
+    alloc: Global,
+    checks: &mut Checks,
+) -> Result<(), ChannelFault> {
+    let (lock, mut first) = locked(alloc, 3)?;
+    let second = split(rt, &lock, &mut first)?;
+    let third = split(rt, &lock, &mut first)?;
+    let numbers = [first.actor(), second.actor(), third.actor()];
+    checks.same("three numbers", &numbers, &[0, 1, 2]);
+    let is_full = matches!(lock.split(rt, &mut first), Err(SplitFault::Full));
+    checks.holds("no fourth", is_full);
+    let mut passes = Vec::new(alloc);
+    passes.push(first).map_err(AllocError::from)?;
+    passes.push(second).map_err(AllocError::from)?;
     let Err(out) = lock.close(passes) else {
-        panic!(rt; "the third pass is out")
+        return Err(ChannelFault::Refused);
     };
-    assert!(rt; out.given == 2 && out.most == 3);
+    checks.same("two of three", &(out.given, out.most), &(2, 3));
     let mut passes = out.passes;
-    passes.push(third)?;
+    passes.push(third).map_err(AllocError::from)?;
     let Ok(journal) = out.lock.close(passes) else {
-        panic!(rt; "all passes are there")
+        return Err(ChannelFault::Refused);
     };
-    assert!(rt; journal.title() == 5 && journal.notes().is_empty());
+    checks.same("its title", &journal.title(), &5);
+    checks.holds("no note", journal.notes().is_empty());
     Ok(())
 }
 
-#[test]
-fn an_entry_shows_to_the_next_that_enters(rt: HostRuntime) -> Result<(), Fail> {
-    let (lock, mut first) = locked(&rt, rt.alloc(), 2);
-    let second = split(&rt, &lock, &mut first);
-    let (_first, wrote) = write_note(&rt, &lock, first, 7);
+/// An entry shows to the next that enters.
+pub fn entry_shows_to_the_next<R: Wait>(
+    rt: &R,
+    alloc: Global,
+    checks: &mut Checks,
+) -> Result<(), ChannelFault> {
+    let (lock, mut first) = locked(alloc, 2)?;
+    let second = split(rt, &lock, &mut first)?;
+    let (_first, wrote) = write_note(rt, &lock, first, 7);
     wrote?;
-    let held = lock.enter(&rt, second);
-    assert!(rt; held.value().notes() == [(0, 7)].as_slice());
-    assert!(rt; leave(&lock, held).actor() == 1);
+    let held = lock.enter(rt, second);
+    let notes = held.value().notes();
+    checks.same("the entry", &notes, &[(0, 7)].as_slice());
+    checks.same("the second", &leave(&lock, held).actor(), &1);
     Ok(())
 }
 
-#[test]
-fn a_taken_turn_is_busy(rt: HostRuntime) -> Result<(), Fail> {
-    let (lock, mut first) = locked(&rt, rt.alloc(), 2);
-    let second = split(&rt, &lock, &mut first);
-    let (journal, empty) = lock.enter(&rt, first).take();
-    let second = match lock.try_enter(second) {
-        Ok(held) => {
-            leave(&lock, held);
-            panic!(rt; "the turn is taken")
-        }
-        Err(busy) => busy.pass,
+/// A turn that is taken is busy, and free again once the value is back.
+pub fn taken_turn_is_busy<R: Wait>(
+    rt: &R,
+    alloc: Global,
+    checks: &mut Checks,
+) -> Result<(), ChannelFault> {
+    let (lock, mut first) = locked(alloc, 2)?;
+    let second = split(rt, &lock, &mut first)?;
+    let (journal, empty) = lock.enter(rt, first).take();
+    let (is_busy, second) = match lock.try_enter(second) {
+        Ok(held) => (false, leave(&lock, held)),
+        Err(busy) => (true, busy.pass),
     };
-    assert!(rt; second.actor() == 1);
+    checks.holds("the turn is taken", is_busy);
+    checks.same("the second", &second.actor(), &1);
     let _first = empty.put(&lock, journal);
     let Ok(held) = lock.try_enter(second) else {
-        panic!(rt; "the turn is free")
+        return Err(ChannelFault::Refused);
     };
     leave(&lock, held);
     Ok(())
 }
 
-#[test]
-fn two_threads_write(rt: HostRuntime) -> Result<(), Fail> {
-    let (lock, mut first) = locked(&rt, rt.alloc(), 2);
-    let second = split(&rt, &lock, &mut first);
-    let numbers = numbers_below(rt.alloc(), 1000)?;
+/// Two threads write: all that each wrote is there, in its order.
+pub fn two_threads_write<R: Threads + Wait + Sync>(
+    rt: &R,
+    alloc: Global,
+    checks: &mut Checks,
+) -> Result<(), ChannelFault> {
+    let (lock, mut first) = locked(alloc, 2)?;
+    let second = split(rt, &lock, &mut first)?;
+    let numbers = numbers_below(alloc, 1000)?;
     let written = write_both(
-        &rt,
-        rt.alloc(),
+        rt,
+        alloc,
         lock,
         first,
         second,
@@ -158,28 +181,28 @@ fn two_threads_write(rt: HostRuntime) -> Result<(), Fail> {
         numbers.as_slice(),
     );
     let Ok(journal) = written else {
-        panic!(rt; "no memory")
+        return Err(ChannelFault::Refused);
     };
-    same(&rt, "by two threads", &journal.notes().len(), &2000);
+    checks.same("by two threads", &journal.notes().len(), &2000);
     for actor in 0..2 {
-        assert!(rt; wrote_in_order(journal.notes(), actor, 1000));
+        checks.holds("in order", wrote_in_order(journal.notes(), actor, 1000));
     }
     Ok(())
 }
 
-// Each pass writes the numbers in a thread of its own.
-fn write_each<R: Threads + Wait + Abort + Sync>(
+/// Each pass writes the numbers in a thread of its own.
+fn write_each<R: Threads + Wait + Sync>(
     rt: &R,
     lock: &Lock,
     passes: Vec<Slip>,
     numbers: &[u32],
-) -> Vec<Slip>
+) -> Result<Vec<Slip>, AllocError>
     requires { All (IsOf lock.now) passes.items }
-    ensures { All (IsOf lock.now) result.items × (vec_len result ≡ vec_len passes) }
+    ensures { IfOk result (λ written. All (IsOf lock.now) written.items × (vec_len written ≡ vec_len passes)) }
 {
     let mut passes = passes;
     let Some(pass) = passes.pop() else {
-        return passes;
+        return Ok(passes);
     };
     let ((pass, wrote), others) = join(
         rt,
@@ -187,29 +210,33 @@ fn write_each<R: Threads + Wait + Abort + Sync>(
             requires { IsOf lock.now pass }
             ensures { IsOf lock.entry.now result.0 }
         { write_all(rt, lock, pass, numbers) },
-        || -> Vec<Slip>
+        || -> Result<Vec<Slip>, AllocError>
             requires { All (IsOf lock.now) passes.items }
-            ensures { All (IsOf lock.entry.now) result.items × (vec_len result ≡ vec_len passes) }
+            ensures { IfOk result (λ written. All (IsOf lock.entry.now) written.items × (vec_len written ≡ vec_len passes)) }
         { write_each(rt, lock, passes, numbers) },
     );
-    wrote.expect(rt, "memory");
-    let mut written = others;
-    written.push(pass).ok().expect(rt, "memory");
-    written
+    wrote?;
+    let mut written = others?;
+    written.push(pass).map_err(AllocError::from)?;
+    Ok(written)
 }
 
-#[test]
-fn sixteen_threads_write(rt: HostRuntime) -> Result<(), Fail> {
-    let (lock, first) = locked(&rt, rt.alloc(), 16);
-    let passes = split_all(&rt, rt.alloc(), &lock, first, 15);
-    let numbers = numbers_below(rt.alloc(), 1000)?;
-    let passes = write_each(&rt, &lock, passes, numbers.as_slice());
+/// Sixteen threads write: all that each wrote is there, in its order.
+pub fn sixteen_threads_write<R: Threads + Wait + Sync>(
+    rt: &R,
+    alloc: Global,
+    checks: &mut Checks,
+) -> Result<(), ChannelFault> {
+    let (lock, first) = locked(alloc, 16)?;
+    let passes = split_all(rt, alloc, &lock, first, 15)?;
+    let numbers = numbers_below(alloc, 1000)?;
+    let passes = write_each(rt, &lock, passes, numbers.as_slice())?;
     let Ok(journal) = lock.close(passes) else {
-        panic!(rt; "all passes are there")
+        return Err(ChannelFault::Refused);
     };
-    same(&rt, "by sixteen threads", &journal.notes().len(), &16000);
+    checks.same("by sixteen threads", &journal.notes().len(), &16000);
     for actor in 0..16 {
-        assert!(rt; wrote_in_order(journal.notes(), actor, 1000));
+        checks.holds("in order", wrote_in_order(journal.notes(), actor, 1000));
     }
     Ok(())
 }

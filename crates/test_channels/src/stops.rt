@@ -1,12 +1,13 @@
 //! Actors that find the run stopped.
 
-ghost use Rattle.std.specs.Prelude.{◌≡◌, ◌<◌, Some, None, All, vec_len};
+ghost use Rattle.std.specs.Prelude.{◌≡◌, ◌<◌, Some, None, All, vec_len, IfOk};
 ghost use Rattle.model_history.specs.Scans.{held};
 ghost use Rattle.impl_core.specs.Origins.{Origin};
 ghost use Rattle.proxy_threads.specs.Seats.{past_of};
 ghost use Rattle.thread_lock.specs.PassModels.{IsOf};
 ghost use Rattle.test_channels.specs.Passes.{IsFresh, IsStill};
 
+use crate::fault::ChannelFault;
 use crate::lines_sink::LinesSink;
 use crate::trio::{Trio, trio_of};
 use impl_core::Core;
@@ -15,26 +16,41 @@ use model_history::{Event, Script};
 use player_io::{MemSink, OpenGate};
 use proxy_threads::{CompActor, MainActor, RasterActor, Turned};
 use recording_pieces::SceneSink;
-use std::alloc::Global;
-use std::process::Abort;
+use std::alloc::{AllocError, Global};
 use std::sync::{Arc, Wait};
-use std::test::*;
-use thread_lock::{Pass, TurnLock};
+use test_table::Checks;
+use thread_lock::{HeldTurn, Pass, TurnLock};
 
-// Enters the stop of worker 0 under the turn.
-fn stop<R: Abort + Wait>(rt: &R, lock: &TurnLock<Core>, pass: Pass<Core>) -> Pass<Core>
-    requires { IsFresh lock.now 2 pass }
-    ensures same { IsStill pass result }
-    ensures free { held 0 (past_of result.mine) ≡ None }
+/// The core goes back as it was.
+fn leave(lock: &TurnLock<Core>, held: HeldTurn<Core>)
+    requires { held.pass.lock ≡ lock.now.id }
 {
-    let (mut core, empty) = lock.enter(rt, pass).take();
-    assert!(rt; !core.ended());
-    assert!(rt; core.workers() == 1);
-    core.stop(2);
-    empty.put(lock, core)
+    let (core, empty) = held.take();
+    empty.put(lock, core);
 }
 
-// One turn of the compositor.
+/// Enters the stop of worker 0 under the turn.
+fn stop<R: Wait>(
+    rt: &R,
+    lock: &TurnLock<Core>,
+    pass: Pass<Core>,
+) -> Result<Pass<Core>, ChannelFault>
+    requires { IsFresh lock.now 2 pass }
+    ensures same { IfOk result (λ stopped. IsStill pass stopped) }
+    ensures free { IfOk result (λ stopped. held 0 (past_of stopped.mine) ≡ None) }
+{
+    let held = lock.enter(rt, pass);
+    let found = held.value();
+    if found.ended() || found.workers() != 1 {
+        leave(lock, held);
+        return Err(ChannelFault::Refused);
+    }
+    let (mut core, empty) = held.take();
+    core.stop(2);
+    Ok(empty.put(lock, core))
+}
+
+/// One turn of the compositor.
 fn comp_turn<R: Wait, K: SceneSink>(
     rt: &R,
     alloc: Global,
@@ -51,7 +67,7 @@ fn comp_turn<R: Wait, K: SceneSink>(
     (pass, answer)
 }
 
-// One turn of the main side.
+/// One turn of the main side.
 fn main_turn<R: Wait>(
     rt: &R,
     alloc: Global,
@@ -68,7 +84,7 @@ fn main_turn<R: Wait>(
     (main.pass(), answer)
 }
 
-// One turn of worker 0.
+/// One turn of worker 0.
 fn work_turn<R: Wait>(
     rt: &R,
     alloc: Global,
@@ -86,28 +102,27 @@ fn work_turn<R: Wait>(
     (worker.pass(), answer)
 }
 
-// The core, once all passes have come back.
-fn close<R: Abort>(
-    rt: &R,
+/// The core, once all passes have come back.
+fn close(
     alloc: Global,
     lock: TurnLock<Core>,
     comp: Pass<Core>,
     main: Pass<Core>,
     worker: Pass<Core>,
-) -> Core
+) -> Result<Core, ChannelFault>
     requires { IsOf lock comp × IsOf lock main × IsOf lock worker }
 {
     let mut passes = Vec::new(alloc);
-    passes.push(comp).ok().expect(rt, "memory");
-    passes.push(main).ok().expect(rt, "memory");
-    passes.push(worker).ok().expect(rt, "memory");
+    passes.push(comp).map_err(AllocError::from)?;
+    passes.push(main).map_err(AllocError::from)?;
+    passes.push(worker).map_err(AllocError::from)?;
     match lock.close(passes) {
-        Ok(core) => core,
-        Err(_) => panic!(rt; "all passes are there"),
+        Ok(core) => Ok(core),
+        Err(_) => Err(ChannelFault::Refused),
     }
 }
 
-// Whether an event is the stop of this actor.
+/// Whether an event is the stop of this actor.
 fn is_stop(event: &Event, actor: u32) -> bool {
     match event {
         Event::Stop { actor: by } => *by == actor,
@@ -115,7 +130,7 @@ fn is_stop(event: &Event, actor: u32) -> bool {
     }
 }
 
-// Whether the history is nothing but the events before the stop of this actor, and that.
+/// Whether the history is nothing but the events before the stop of this actor, and that.
 fn ends_with_stop(core: &Core, before: usize, actor: u32) -> bool {
     let history = core.history();
     history.len() == before.saturating_add(1)
@@ -124,48 +139,63 @@ fn ends_with_stop(core: &Core, before: usize, actor: u32) -> bool {
             .is_some_and(|last| last.actor == actor && is_stop(&last.event, actor))
 }
 
-#[test]
-fn a_stop_ends_the_turns_of_all(rt: HostRuntime) {
+/// A stop ends the turns of all.
+pub fn stop_ends_all_turns<R: Wait>(
+    rt: &R,
+    alloc: Global,
+    checks: &mut Checks,
+) -> Result<(), ChannelFault> {
     let Trio {
         lock,
         comp,
         main,
         worker,
         script,
-    } = trio_of(&rt, rt.alloc());
-    let worker = stop(&rt, &lock, worker);
+    } = trio_of(rt, alloc)?;
+    let worker = stop(rt, &lock, worker)?;
     let mut out = LinesSink {
-        out: MemSink::endless(rt.alloc()),
+        out: MemSink::endless(alloc),
     };
-    let (comp, composed) = comp_turn(&rt, rt.alloc(), &lock, comp, &mut out);
-    let (main, hosted) = main_turn(&rt, rt.alloc(), &lock, main, script);
-    let (worker, worked) = work_turn(&rt, rt.alloc(), &lock, worker);
-    assert_eq!(rt; composed, Turned::Ended);
-    assert_eq!(rt; hosted, Turned::Ended);
-    assert_eq!(rt; worked, Turned::Ended);
-    assert_eq!(rt; out.out.bytes(), b"stop 2\n".as_slice());
-    let core = close(&rt, rt.alloc(), lock, comp, main, worker);
-    assert!(rt; ends_with_stop(&core, 0, 2));
+    let (comp, composed) = comp_turn(rt, alloc, &lock, comp, &mut out);
+    let (main, hosted) = main_turn(rt, alloc, &lock, main, script);
+    let (worker, worked) = work_turn(rt, alloc, &lock, worker);
+    checks.same("the compositor", &composed, &Turned::Ended);
+    checks.same("the main side", &hosted, &Turned::Ended);
+    checks.same("the worker", &worked, &Turned::Ended);
+    checks.same("its line", &out.out.bytes(), &b"stop 2\n".as_slice());
+    let core = close(alloc, lock, comp, main, worker)?;
+    checks.holds("ends with it", ends_with_stop(&core, 0, 2));
+    Ok(())
 }
 
-#[test]
-fn a_compositor_whose_sink_fails_stops_the_run(rt: HostRuntime) -> Result<(), Fail> {
+/// A sink that fails at its first put.
+fn failing_sink(alloc: Global) -> Result<MemSink, AllocError> {
+    let fails = vec![in alloc; 0]?;
+    Ok(MemSink::new(alloc, 1000, fails))
+}
+
+/// A compositor whose sink fails stops the run.
+pub fn failed_put_stops_the_run<R: Wait>(
+    rt: &R,
+    alloc: Global,
+    checks: &mut Checks,
+) -> Result<(), ChannelFault> {
     let Trio {
         lock,
         comp,
         main,
         worker,
         script,
-    } = trio_of(&rt, rt.alloc());
+    } = trio_of(rt, alloc)?;
     let mut out = LinesSink {
-        out: MemSink::new(rt.alloc(), 1000, vec![in rt.alloc(); 0]?),
+        out: failing_sink(alloc)?,
     };
-    let (comp, composed) = comp_turn(&rt, rt.alloc(), &lock, comp, &mut out);
-    let (main, hosted) = main_turn(&rt, rt.alloc(), &lock, main, script);
-    assert_eq!(rt; composed, Turned::WriteFault);
-    assert_eq!(rt; hosted, Turned::Ended);
-    assert!(rt; out.out.bytes().is_empty());
-    let core = close(&rt, rt.alloc(), lock, comp, main, worker);
-    assert!(rt; ends_with_stop(&core, 1, 0));
+    let (comp, composed) = comp_turn(rt, alloc, &lock, comp, &mut out);
+    let (main, hosted) = main_turn(rt, alloc, &lock, main, script);
+    checks.same("the compositor", &composed, &Turned::WriteFault);
+    checks.same("the main side", &hosted, &Turned::Ended);
+    checks.holds("no byte", out.out.bytes().is_empty());
+    let core = close(alloc, lock, comp, main, worker)?;
+    checks.holds("ends with a stop", ends_with_stop(&core, 1, 0));
     Ok(())
 }

@@ -1,12 +1,12 @@
 //! The answers of the sources and sinks, call by call, each through its trait.
 ghost use Rattle.std.specs.Prelude.{◌≤◌, IfOk};
 
-use crate::same::same;
 use player_io::{
     Failed, Gate, MemSink, MemSource, OpenGate, PutFault, Sink, Source, StdSink, StdSource,
 };
+use std::alloc::{AllocError, Global};
 use std::io::{Error, ErrorKind, Read, Write};
-use std::test::Fail;
+use test_table::Checks;
 
 /// What one call of a fake reader or writer does.
 #[derive(Clone, Copy)]
@@ -69,53 +69,53 @@ fn put_owned_once<K: Sink>(sink: &mut K, piece: Vec<u8>) -> Result<(), PutFault>
     sink.put_owned(piece)
 }
 
-#[test]
-fn memory_gives_in_steps_and_fails_as_told(rt: HostRuntime) -> Result<(), Fail> {
-    let bytes = vec![in rt.alloc(); 1, 2, 3, 4, 5]?;
-    let fails = vec![in rt.alloc(); 1]?;
+/// A source in memory gives in steps, and fails as told.
+pub fn memory_gives_in_steps(alloc: Global, checks: &mut Checks) -> Result<(), AllocError> {
+    let bytes = vec![in alloc; 1, 2, 3, 4, 5]?;
+    let fails = vec![in alloc; 1]?;
     let mut source = MemSource::new(bytes, 2, fails);
     let mut buf = [0; 3];
     let read = read_once(&mut source, &mut buf);
-    same(&rt, "two bytes a call", &read, &Ok(2));
-    same(&rt, "the first two", &buf, &[1, 2, 0]);
+    checks.same("two bytes a call", &read, &Ok(2));
+    checks.same("the first two", &buf, &[1, 2, 0]);
     let read = read_once(&mut source, &mut buf);
-    same(&rt, "the second call fails", &read, &Err(Failed));
+    checks.same("the second call fails", &read, &Err(Failed));
     let read = read_once(&mut source, &mut buf[..1]);
-    same(&rt, "as many as asked", &read, &Ok(1));
-    same(&rt, "the third", &buf, &[3, 2, 0]);
+    checks.same("as many as asked", &read, &Ok(1));
+    checks.same("the third", &buf, &[3, 2, 0]);
     let read = read_once(&mut source, &mut buf);
-    same(&rt, "the last two", &read, &Ok(2));
-    same(&rt, "the fourth and the fifth", &buf, &[4, 5, 0]);
-    same(&rt, "no more", &read_once(&mut source, &mut buf), &Ok(0));
+    checks.same("the last two", &read, &Ok(2));
+    checks.same("the fourth and the fifth", &buf, &[4, 5, 0]);
+    checks.same("no more", &read_once(&mut source, &mut buf), &Ok(0));
     Ok(())
 }
 
-#[test]
-fn memory_takes_up_to_its_limit_and_fails_as_told(rt: HostRuntime) -> Result<(), Fail> {
-    let fails = vec![in rt.alloc(); 1]?;
-    let mut sink = MemSink::new(rt.alloc(), 495, fails);
+/// A sink in memory takes up to its limit, and fails as told.
+pub fn memory_takes_up_to_its_limit(alloc: Global, checks: &mut Checks) -> Result<(), AllocError> {
+    let fails = vec![in alloc; 1]?;
+    let mut sink = MemSink::new(alloc, 495, fails);
     let piece = [7; 248];
-    same(&rt, "there is room", &put_once(&mut sink, &piece), &Ok(()));
+    checks.same("there is room", &put_once(&mut sink, &piece), &Ok(()));
     let put = put_once(&mut sink, &piece);
-    same(&rt, "the second put fails", &put, &Err(PutFault::Failed));
-    same(&rt, "as before", &sink.bytes().len(), &248);
+    checks.same("the second put fails", &put, &Err(PutFault::Failed));
+    checks.same("as before", &sink.bytes().len(), &248);
     let put = put_once(&mut sink, &piece);
-    same(&rt, "a prefix fits", &put, &Err(PutFault::Failed));
-    same(&rt, "up to the limit", &sink.bytes().len(), &495);
-    same(&rt, "nothing fits", &put_once(&mut sink, &[]), &Ok(()));
-    let mut endless = MemSink::endless(rt.alloc());
-    same(&rt, "endless", &put_once(&mut endless, &[1, 2]), &Ok(()));
-    same(&rt, "one more", &put_once(&mut endless, &[3]), &Ok(()));
-    let put = put_owned_once(&mut endless, vec![in rt.alloc(); 4, 5]?);
-    same(&rt, "a piece of its own", &put, &Ok(()));
+    checks.same("a prefix fits", &put, &Err(PutFault::Failed));
+    checks.same("up to the limit", &sink.bytes().len(), &495);
+    checks.same("nothing fits", &put_once(&mut sink, &[]), &Ok(()));
+    let mut endless = MemSink::endless(alloc);
+    checks.same("endless", &put_once(&mut endless, &[1, 2]), &Ok(()));
+    checks.same("one more", &put_once(&mut endless, &[3]), &Ok(()));
+    let put = put_owned_once(&mut endless, vec![in alloc; 4, 5]?);
+    checks.same("a piece of its own", &put, &Ok(()));
     let bytes = endless.bytes();
-    same(&rt, "all in order", &bytes, &[1, 2, 3, 4, 5].as_slice());
+    checks.same("all in order", &bytes, &[1, 2, 3, 4, 5].as_slice());
     Ok(())
 }
 
-#[test]
-fn adapters_go_on_after_interrupts_and_short_writes(rt: HostRuntime) -> Result<(), Fail> {
-    let steps = vec![in rt.alloc();
+/// Adapters go on after interrupts and short writes.
+pub fn adapters_go_on(alloc: Global, checks: &mut Checks) -> Result<(), AllocError> {
+    let steps = vec![in alloc;
         Step::Fails(ErrorKind::Interrupted),
         Step::Moves(2),
         Step::Fails(ErrorKind::BrokenPipe),
@@ -124,12 +124,12 @@ fn adapters_go_on_after_interrupts_and_short_writes(rt: HostRuntime) -> Result<(
     let mut source = StdSource::new(Scripted { steps, next: 0 });
     let mut buf = [0; 3];
     let read = read_once(&mut source, &mut buf);
-    same(&rt, "after an interrupt", &read, &Ok(2));
+    checks.same("after an interrupt", &read, &Ok(2));
     let read = read_once(&mut source, &mut buf);
-    same(&rt, "a failure", &read, &Err(Failed));
-    same(&rt, "after it", &read_once(&mut source, &mut buf), &Ok(1));
-    same(&rt, "no more", &read_once(&mut source, &mut buf), &Ok(0));
-    let steps = vec![in rt.alloc();
+    checks.same("a failure", &read, &Err(Failed));
+    checks.same("after it", &read_once(&mut source, &mut buf), &Ok(1));
+    checks.same("no more", &read_once(&mut source, &mut buf), &Ok(0));
+    let steps = vec![in alloc;
         Step::Moves(2),
         Step::Fails(ErrorKind::Interrupted),
         Step::Moves(1),
@@ -138,16 +138,16 @@ fn adapters_go_on_after_interrupts_and_short_writes(rt: HostRuntime) -> Result<(
     ]?;
     let mut sink = StdSink::new(Scripted { steps, next: 0 });
     let put = put_once(&mut sink, &[1, 2, 3]);
-    same(&rt, "after a short write", &put, &Ok(()));
+    checks.same("after a short write", &put, &Ok(()));
     let put = put_once(&mut sink, &[4, 5]);
-    same(&rt, "no room for all", &put, &Err(PutFault::Failed));
+    checks.same("no room for all", &put, &Err(PutFault::Failed));
     let put = put_once(&mut sink, &[6]);
-    same(&rt, "failed before", &put, &Err(PutFault::Failed));
-    same(&rt, "nothing to write", &put_once(&mut sink, &[]), &Ok(()));
+    checks.same("failed before", &put, &Err(PutFault::Failed));
+    checks.same("nothing to write", &put_once(&mut sink, &[]), &Ok(()));
     Ok(())
 }
 
-#[test]
-fn an_open_gate_lets_everybody_through(_rt: HostRuntime) {
-    OpenGate.between(1, 2, 3, 4);
+/// An open gate lets everybody through.
+pub fn open_gate(checks: &mut Checks) {
+    checks.same("through", &OpenGate.between(1, 2, 3, 4), &());
 }

@@ -1,14 +1,14 @@
 //! The actors of a run with one worker, before their first turns.
 
-ghost use Rattle.std.specs.Prelude.{◌≡◌, ◌≤◌, Some};
+ghost use Rattle.std.specs.Prelude.{◌≡◌, ◌≤◌, Some, IfOk};
 ghost use Rattle.impl_core.specs.Origins.{Origin};
 ghost use Rattle.test_channels.specs.Passes.{IsFresh, IsStill};
 
+use crate::fault::ChannelFault;
 use impl_core::Core;
 use model_history::Script;
 use script_json::read_script;
-use std::alloc::Global;
-use std::process::Abort;
+use std::alloc::{AllocError, Global};
 use std::sync::{Arc, Wait};
 use thread_lock::{Pass, TurnLock};
 
@@ -26,66 +26,61 @@ pub struct Trio {
     pub script: Arc<Script>,
 }
 
-// The script.
-fn script_of<R: Abort>(rt: &R, alloc: Global) -> Script {
-    match read_script(alloc, SCRIPT) {
-        Ok(script) => script,
-        Err(_) => panic!(rt; "it is a script"),
-    }
-}
-
-// A lock around a new core of a script with one worker, and its first pass.
-fn lock_of<R: Abort>(rt: &R, alloc: Global, script: Arc<Script>) -> (TurnLock<Core>, Pass<Core>)
-    ensures pass { IsFresh result.0 0 result.1 }
-    ensures stem { result.1.stem ≡ Some (record { script = script.value; workers = 1 }) }
+/// A lock around a new core of a script with one worker, and its first pass.
+fn lock_of(alloc: Global, script: Arc<Script>) -> Result<(TurnLock<Core>, Pass<Core>), AllocError>
+    ensures pass { IfOk result (λ made. IsFresh made.0 0 made.1) }
+    ensures stem { IfOk result (λ made. made.1.stem ≡ Some (record { script = script.value; workers = 1 })) }
 {
-    let core = Core::new(alloc, script, 1).ok().expect(rt, "memory");
+    let core = Core::new(alloc, script, 1)?;
     match TurnLock::new(alloc, core, 3) {
-        Ok(made) => made,
-        Err(_) => panic!(rt; "no memory"),
+        Ok(made) => Ok(made),
+        Err((refused, _core)) => Err(refused),
     }
 }
 
-// The next pass, which is this actor's.
-fn split<R: Abort + Wait>(
+/// The next pass, which is this actor's.
+fn split<R: Wait>(
     rt: &R,
     lock: &TurnLock<Core>,
     pass: &mut Pass<Core>,
     actor: u32,
-) -> Pass<Core>
+) -> Result<Pass<Core>, ChannelFault>
     requires { IsFresh lock.now 0 pass.old }
     ensures given { IsFresh lock.now 0 pass.new }
     ensures same { IsStill pass.old pass.new }
-    ensures made { IsFresh lock.now actor result }
-    ensures stem { result.stem ≡ pass.old.stem }
+    ensures made { IfOk result (λ made. IsFresh lock.now actor made) }
+    ensures stem { IfOk result (λ made. made.stem ≡ pass.old.stem) }
 {
     let Ok(made) = lock.split(rt, pass) else {
-        panic!(rt; "no number is left")
+        return Err(ChannelFault::Refused);
     };
-    assert!(rt; made.actor() == actor);
-    made
+    if made.actor() != actor {
+        return Err(ChannelFault::Refused);
+    }
+    Ok(made)
 }
 
 /// The actors of a new run of the script with one worker.
-pub fn trio_of<R: Abort + Wait>(rt: &R, alloc: Global) -> Trio
-    ensures comp { IsFresh result.lock 0 result.comp }
-    ensures main { IsFresh result.lock 1 result.main }
-    ensures worker { IsFresh result.lock 2 result.worker }
-    ensures main_stem { result.main.stem ≡ Some (record { script = result.script.value; workers = 1 }) }
-    ensures worker_stem { result.worker.stem ≡ Some (record { script = result.script.value; workers = 1 }) }
+pub fn trio_of<R: Wait>(rt: &R, alloc: Global) -> Result<Trio, ChannelFault>
+    ensures comp { IfOk result (λ trio. IsFresh trio.lock 0 trio.comp) }
+    ensures main { IfOk result (λ trio. IsFresh trio.lock 1 trio.main) }
+    ensures worker { IfOk result (λ trio. IsFresh trio.lock 2 trio.worker) }
+    ensures main_stem { IfOk result (λ trio. trio.main.stem ≡ Some (record { script = trio.script.value; workers = 1 })) }
+    ensures worker_stem { IfOk result (λ trio. trio.worker.stem ≡ Some (record { script = trio.script.value; workers = 1 })) }
 {
-    let script = Arc::new(alloc, script_of(rt, alloc))
-        .ok()
-        .expect(rt, "memory");
-    let shared = Arc::try_clone(&script).ok().expect(rt, "memory");
-    let (lock, mut comp) = lock_of(rt, alloc, shared);
-    let main = split(rt, &lock, &mut comp, 1);
-    let worker = split(rt, &lock, &mut comp, 2);
-    Trio {
+    let Ok(read) = read_script(alloc, SCRIPT) else {
+        return Err(ChannelFault::Refused);
+    };
+    let script = Arc::new(alloc, read).map_err(AllocError::from)?;
+    let shared = Arc::try_clone(&script).map_err(|_| AllocError)?;
+    let (lock, mut comp) = lock_of(alloc, shared)?;
+    let main = split(rt, &lock, &mut comp, 1)?;
+    let worker = split(rt, &lock, &mut comp, 2)?;
+    Ok(Trio {
         lock,
         comp,
         main,
         worker,
         script,
-    }
+    })
 }

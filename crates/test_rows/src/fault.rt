@@ -1,6 +1,7 @@
 //! Why a line of the tables can't be read.
 
 use bench_draw::DrawLineFault;
+use test_channels::ChannelFault;
 use test_damage::DamageLineFault;
 use test_pages::PageLineFault;
 use test_queue::StepFault;
@@ -25,6 +26,9 @@ pub(crate) enum RowFault {
     /// A line about the calls of the lowest crates.
     #[error(transparent)]
     Unit(#[from] UnitFault),
+    /// A line about what threads share.
+    #[error(transparent)]
+    Channel(#[from] ChannelFault),
     /// A line about what the benches draw.
     #[error(transparent)]
     Drawn(#[from] DrawLineFault),

@@ -9,6 +9,7 @@
 //! | `calls` | `calls.rt` of `test_pages`: what pages, main frames and scripts answer |
 //! | `commits` | `commits.rt` of `test_pages`: the keys of the trees of commits |
 //! | `units` | `units.rt` of `test_units`: cases worked by hand for the calls of the lowest crates, which stand in code |
+//! | `channels` | `channels.rt` of `test_channels`: cases worked by hand for what threads share, and for stops |
 //! | `queue` | `lib.rt` of `test_queue`: what the raster queue answers |
 //! | `damage` | `lib.rt` of `test_damage`: what is hidden, where two scenes differ, and what is drawn |
 //! | `drawn` | `asked.rt` of `bench_draw`: what the benches draw, and pairs of random scenes |
@@ -28,20 +29,21 @@ use std::process::ExitCode;
 use std::{env, io};
 use test_table::check_table;
 
-/// Goes through the tables, or does the job that the words name.
-fn run(rt: &HostRuntime) -> io::Result<ExitCode> {
+/// Does the job that the words name, and answers whether there is one; None where there are no words.
+fn job(rt: &HostRuntime) -> io::Result<Option<bool>> {
     let words: Vec<String> = env::args(rt)?.skip(1).collect(rt.alloc())?;
     if words.is_empty() {
-        return Ok(check_table(rt, &mut Tables::new(rt.alloc())));
+        return Ok(None);
     }
     let words = words.as_slice();
     let is_done = bench_draw::run_job(rt, words)? || test_queue::run_job(rt, words)?;
-    Ok(ExitCode::from(if is_done { 0 } else { 1 }))
+    Ok(Some(is_done))
 }
 
 fn main(rt: HostRuntime) -> ExitCode {
-    match run(&rt) {
-        Ok(code) => code,
-        Err(_) => ExitCode::from(1),
+    match job(&rt) {
+        Ok(None) => check_table(&rt, &mut Tables::new(&rt, rt.alloc())),
+        Ok(Some(true)) => ExitCode::from(0),
+        Ok(Some(false)) | Err(_) => ExitCode::from(1),
     }
 }

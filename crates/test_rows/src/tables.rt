@@ -4,6 +4,9 @@ use crate::fault::RowFault;
 use bench_draw::Drawings;
 use std::alloc::Global;
 use std::io;
+use std::sync::Wait;
+use std::thread::Threads;
+use test_channels::Channels;
 use test_damage::Scenes;
 use test_pages::{Calls, HitQuestions, Pushes};
 use test_queue::QueueTable;
@@ -17,6 +20,7 @@ enum Part {
     Calls,
     Commits,
     Units,
+    Channels,
     Queue,
     Damage,
     Drawn,
@@ -29,6 +33,7 @@ fn part_of(name: &str) -> Result<Part, RowFault> {
         "calls" => Ok(Part::Calls),
         "commits" => Ok(Part::Commits),
         "units" => Ok(Part::Units),
+        "channels" => Ok(Part::Channels),
         "queue" => Ok(Part::Queue),
         "damage" => Ok(Part::Damage),
         "drawn" => Ok(Part::Drawn),
@@ -36,29 +41,31 @@ fn part_of(name: &str) -> Result<Part, RowFault> {
     }
 }
 
-/// What was read of each table so far.
+/// What was read of each table so far. Those cases that need threads start them by the handle that `channels` holds.
 #[derive(Drop)]
-pub(crate) struct Tables {
+pub(crate) struct Tables<'a, R: Threads + Wait + Sync> {
     /// The one whose lines are read.
     part: Part,
     hits: HitQuestions,
     calls: Questions<Calls>,
     commits: Pushes,
     units: Questions<Units>,
+    channels: Questions<Channels<'a, R>>,
     queue: QueueTable,
     damage: Questions<Scenes>,
     drawn: Questions<Drawings>,
 }
 
-impl Tables {
+impl<'a, R: Threads + Wait + Sync> Tables<'a, R> {
     /// Nothing was read.
-    pub(crate) fn new(alloc: Global) -> Tables {
+    pub(crate) fn new(threads: &'a R, alloc: Global) -> Tables<'a, R> {
         Tables {
             part: Part::Hits,
             hits: HitQuestions::new(alloc),
             calls: Questions::new(alloc, Calls::new(alloc)),
             commits: Pushes::new(alloc),
             units: Questions::new(alloc, Units::new(alloc)),
+            channels: Questions::new(alloc, Channels::new(threads, alloc)),
             queue: QueueTable::new(alloc),
             damage: Questions::new(alloc, Scenes::new(alloc)),
             drawn: Questions::new(alloc, Drawings::new(alloc)),
@@ -72,6 +79,7 @@ impl Tables {
             Part::Calls => self.calls.take(rt, line, text)?,
             Part::Commits => self.commits.take(rt, line, text)?,
             Part::Units => self.units.take(rt, line, text)?,
+            Part::Channels => self.channels.take(rt, line, text)?,
             Part::Queue => self.queue.take(rt, line, text)?,
             Part::Damage => self.damage.take(rt, line, text)?,
             Part::Drawn => self.drawn.take(rt, line, text)?,
@@ -85,7 +93,7 @@ fn tally_of<T: Table<HostRuntime>>(table: &T) -> Tally {
     table.tally()
 }
 
-impl Table<HostRuntime> for Tables {
+impl<'a, R: Threads + Wait + Sync> Table<HostRuntime> for Tables<'a, R> {
     type Fault = RowFault;
 
     fn take(&mut self, rt: &HostRuntime, line: usize, text: &str) -> Result<(), RowFault> {
@@ -103,6 +111,7 @@ impl Table<HostRuntime> for Tables {
             .and(tally_of(&self.calls))
             .and(tally_of(&self.commits))
             .and(tally_of(&self.units))
+            .and(tally_of(&self.channels))
             .and(tally_of(&self.queue))
             .and(tally_of(&self.damage))
             .and(tally_of(&self.drawn))
@@ -113,6 +122,7 @@ impl Table<HostRuntime> for Tables {
         self.calls.tell(rt)?;
         self.commits.tell(rt)?;
         self.units.tell(rt)?;
+        self.channels.tell(rt)?;
         self.queue.tell(rt)?;
         self.damage.tell(rt)?;
         self.drawn.tell(rt)
