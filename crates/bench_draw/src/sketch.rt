@@ -50,7 +50,7 @@ pub(crate) struct Sketch {
     parts: Vec<SketchPart>,
 }
 
-// Written out, so that whoever drops a sketch does not name in its proof all that it holds.
+// Written out, since a derived drop is proved anew, field by field, in each function that lets one go.
 impl Drop for Sketch {
     fn drop(self) {
         let Sketch {

@@ -63,7 +63,7 @@ impl<F: PixelFormat> Model for Compositor<F> {
     ghost invariant = { λ c. AreKeptFor c.active c.cache × AreCurrent c.main c.cache × TellsCommitted c.is_committed c.active c.main × TellsEdited c.edited c.active c.main × TellsShown F.DEPTH F.bytes_of c.unshown c.active c.background c.painter.canvas };
 }
 
-// Written out, so that whoever drops a compositor does not name in its proof all that it holds.
+// Written out, since a derived drop is proved anew, field by field, in each function that lets one go.
 impl<F: PixelFormat> Drop for Compositor<F> {
     fn drop(self) {
         let Compositor {

@@ -41,7 +41,7 @@ impl Model for TileCache {
     ghost view = { λ c. c.tiles.items };
 }
 
-// Written out, so that whoever drops a tile cache does not name in its proof all that it holds.
+// Written out, since a derived drop is proved anew, field by field, in each function that lets one go.
 impl Drop for TileCache {
     fn drop(self) {
         let TileCache {

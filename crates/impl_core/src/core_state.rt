@@ -59,7 +59,7 @@ impl Model for Core {
     ghost invariant = { λ c. IsCore c.log.script (past c.log) (record { host = c.host; tiles = c.tiles; told = c.told; prepared = c.prepared; required = c.required; drawn = c.drawn }) };
 }
 
-// Written out, so that whoever drops a core does not name in its proof all that it holds.
+// Written out, since a derived drop is proved anew, field by field, in each function that lets one go.
 impl Drop for Core {
     fn drop(self) {
         let Core {

@@ -13,7 +13,7 @@ pub(crate) enum Drawn {
     Kept(Drawing),
 }
 
-// Written out, so that whoever drops it does not name in its proof all that it may hold.
+// Written out, since a derived drop is proved anew, field by field, in each function that lets one go.
 impl Drop for Drawn {
     fn drop(self) {
         match self {

@@ -32,7 +32,7 @@ impl Model for ImplHost {
     ghost view = { λ h. record { trees = h.trees; standing = h.standing; outright = h.outright.items } };
 }
 
-// Written out, so that whoever drops an impl host does not name in its proof all that it holds.
+// Written out, since a derived drop is proved anew, field by field, in each function that lets one go.
 impl Drop for ImplHost {
     fn drop(self) {
         let ImplHost {

@@ -34,7 +34,7 @@ impl Model for KeptHistory {
     ghost invariant = { λ h. (length h.gone.items ≡ h.first) × (h.first + deque_len h.kept ≤ 18446744073709551615) };
 }
 
-// Written out, so that whoever drops a kept history does not name in its proof all that it holds.
+// Written out, since a derived drop is proved anew, field by field, in each function that lets one go.
 impl Drop for KeptHistory {
     fn drop(self) {
         let KeptHistory {

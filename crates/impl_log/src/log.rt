@@ -51,7 +51,7 @@ impl Model for Log {
     ghost invariant = { λ l. IsLogOf l.script.value l.workers (reverse l.history.entries) l.progress l.history.spare l.places l.history.first };
 }
 
-// Written out, so that whoever drops a log does not name in its proof all that it holds.
+// Written out, since a derived drop is proved anew, field by field, in each function that lets one go.
 impl Drop for Log {
     fn drop(self) {
         let Log {

@@ -43,7 +43,7 @@ impl Model for ScrollValues {
     ghost invariant = { λ r. AreRising r.rows.items };
 }
 
-// Written out, so that whoever drops a scroll values does not name in its proof all that it holds.
+// Written out, since a derived drop is proved anew, field by field, in each function that lets one go.
 impl Drop for ScrollValues {
     fn drop(self) {
         let ScrollValues { rows: _ } = self;

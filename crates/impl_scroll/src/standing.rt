@@ -38,7 +38,7 @@ impl Model for Standing {
     ghost invariant = { λ s. AreOffsets (offset_at s.active) × AreOffsets (offset_at s.pending) };
 }
 
-// Written out, so that whoever drops a standing does not name in its proof all that it holds.
+// Written out, since a derived drop is proved anew, field by field, in each function that lets one go.
 impl Drop for Standing {
     fn drop(self) {
         let Standing {

@@ -32,7 +32,7 @@ impl Model for TreeState {
     ghost invariant = { λ t. AreCut t.tree t.tilings.items };
 }
 
-// Written out, so that who drops a tree does not name in its proof all that a page holds.
+// Written out, since a derived drop is proved anew, field by field, in each function that lets one go.
 impl Drop for TreeState {
     fn drop(self) {
         let TreeState {

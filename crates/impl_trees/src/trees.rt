@@ -35,7 +35,7 @@ impl Model for Trees {
     ghost invariant = { λ t. IsNext t.active t.pending × IsRecycled t.active t.recycled };
 }
 
-// Written out, so that who drops trees names no tree in its proof.
+// Written out, since a derived drop is proved anew, field by field, in each function that lets one go.
 impl Drop for Trees {
     fn drop(self) {
         let Trees {

@@ -33,7 +33,7 @@ impl Model for MainHost {
     ghost invariant = { λ h. IsHost h.script.value h.sends h.tree };
 }
 
-// Written out, so that whoever drops a main host does not name in its proof all that it holds.
+// Written out, since a derived drop is proved anew, field by field, in each function that lets one go.
 impl Drop for MainHost {
     fn drop(self) {
         let MainHost {

@@ -34,7 +34,7 @@ impl Model for History {
     ghost view = { λ h. record { entries = h.entries.items; spare = vec_capacity h.entries - vec_len h.entries } };
 }
 
-// Written out, so that whoever drops a history does not name in its proof all that it holds.
+// Written out, since a derived drop is proved anew, field by field, in each function that lets one go.
 impl Drop for History {
     fn drop(self) {
         let History { entries: _ } = self;

@@ -23,7 +23,7 @@ impl Model for Moves {
     ghost view = { λ m. m.items.items };
 }
 
-// Written out, so that whoever drops a moves does not name in its proof all that it holds.
+// Written out, since a derived drop is proved anew, field by field, in each function that lets one go.
 impl Drop for Moves {
     fn drop(self) {
         let Moves { items: _ } = self;
@@ -111,7 +111,7 @@ impl Model for Sends {
     ghost invariant = { λ s. s.count ≡ length (flat_map (λ lists. lists.value.items) s.shared.items ++ s.rest.items) };
 }
 
-// Written out, so that whoever drops a sends does not name in its proof all that it holds.
+// Written out, since a derived drop is proved anew, field by field, in each function that lets one go.
 impl Drop for Sends {
     fn drop(self) {
         let Sends {

@@ -36,7 +36,7 @@ impl Model for Script {
     ghost invariant = { λ s. IsAccepted (script_of s.parts) × (are_short (script_of s.parts).main ≡ true) };
 }
 
-// Written out, so that whoever drops a script does not name in its proof all that it holds.
+// Written out, since a derived drop is proved anew, field by field, in each function that lets one go.
 impl Drop for Script {
     fn drop(self) {
         let Script { parts: _ } = self;

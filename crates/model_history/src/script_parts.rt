@@ -33,7 +33,7 @@ pub struct ScriptParts {
     pub inputs: Vec<Input>,
 }
 
-// Written out, so that whoever drops a script parts does not name in its proof all that it holds.
+// Written out, since a derived drop is proved anew, field by field, in each function that lets one go.
 impl Drop for ScriptParts {
     fn drop(self) {
         let ScriptParts {

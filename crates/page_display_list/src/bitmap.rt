@@ -28,7 +28,7 @@ impl Model for Bitmap {
     ghost invariant = { λ b. IsBitmap (record { rect = b.rect; pixels = b.pixels.value.items }) };
 }
 
-// Written out, so that whoever drops a bitmap does not name in its proof all that it holds.
+// Written out, since a derived drop is proved anew, field by field, in each function that lets one go.
 impl Drop for Bitmap {
     fn drop(self) {
         let Bitmap { rect: _, pixels: _ } = self;

@@ -30,7 +30,7 @@ impl Model for DisplayList {
     ghost invariant = { λ l. All IsSoundItem l.items.items × (length l.items.items ≤ 256) };
 }
 
-// Written out, so that whoever drops a display list does not name in its proof all that it holds.
+// Written out, since a derived drop is proved anew, field by field, in each function that lets one go.
 impl Drop for DisplayList {
     fn drop(self) {
         let DisplayList { items: _ } = self;

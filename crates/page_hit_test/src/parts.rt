@@ -31,7 +31,7 @@ impl Model for WheelParts {
     ghost view = { λ p. p.items.items };
 }
 
-// Written out, so that whoever drops a wheel parts does not name in its proof all that it holds.
+// Written out, since a derived drop is proved anew, field by field, in each function that lets one go.
 impl Drop for WheelParts {
     fn drop(self) {
         let WheelParts { items: _ } = self;

@@ -25,7 +25,7 @@ pub struct Wheel {
     pub rest: Point,
 }
 
-// Written out, so that whoever drops a wheel does not name in its proof all that it holds.
+// Written out, since a derived drop is proved anew, field by field, in each function that lets one go.
 impl Drop for Wheel {
     fn drop(self) {
         let Wheel {

@@ -45,7 +45,7 @@ impl Model for LayerTree {
     ghost invariant = { λ t. IsPage (record { view = t.view; props = t.props; layers = map parts_of t.layers.items; used = t.used.items; values = t.values.items }) };
 }
 
-// Written out, so that whoever drops a layer tree does not name in its proof all that it holds.
+// Written out, since a derived drop is proved anew, field by field, in each function that lets one go.
 impl Drop for LayerTree {
     fn drop(self) {
         let LayerTree {

@@ -45,7 +45,7 @@ impl Model for Painting {
     ghost invariant = { λ p. (1 ≤ p.tile) × (length p.layers.items ≡ length p.samples.items) × All (λ gs. length gs ≤ 256) (map (λ s. s.groups.items) p.samples.items) };
 }
 
-// Written out, so that whoever drops a painting does not name in its proof all that it holds.
+// Written out, since a derived drop is proved anew, field by field, in each function that lets one go.
 impl Drop for Painting {
     fn drop(self) {
         let Painting {

@@ -22,7 +22,7 @@ impl Model for Offsets {
     ghost view = { λ o. o.points };
 }
 
-// Written out, so that whoever drops an offsets does not name in its proof all that it holds.
+// Written out, since a derived drop is proved anew, field by field, in each function that lets one go.
 impl Drop for Offsets {
     fn drop(self) {
         let Offsets { points: _ } = self;

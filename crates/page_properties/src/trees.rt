@@ -38,7 +38,7 @@ impl Model for PropertyTrees {
     ghost invariant = { λ t. IsTrees (record { transforms = t.transforms; clips = t.clips; effects = t.effects; scrollers = t.scrollers }) };
 }
 
-// Written out, so that whoever drops a property trees does not name in its proof all that it holds.
+// Written out, since a derived drop is proved anew, field by field, in each function that lets one go.
 impl Drop for PropertyTrees {
     fn drop(self) {
         let PropertyTrees {

@@ -24,7 +24,7 @@ pub struct MemSource {
     ghost moves: { 1 ≤ step },
 }
 
-// Written out, so that whoever drops a mem source does not name in its proof all that it holds.
+// Written out, since a derived drop is proved anew, field by field, in each function that lets one go.
 impl Drop for MemSource {
     fn drop(self) {
         let MemSource {

@@ -24,7 +24,7 @@ pub(crate) struct MainSide {
     pub(crate) changed: bool,
 }
 
-// Written out, so that whoever drops a main side does not name in its proof all that it holds.
+// Written out, since a derived drop is proved anew, field by field, in each function that lets one go.
 impl Drop for MainSide {
     fn drop(self) {
         let MainSide {

@@ -61,7 +61,7 @@ impl Model for SingleThread {
     ghost invariant = { λ t. IsSingle t.core t.main t.workers t.shown };
 }
 
-// Written out, so that whoever drops a compositor does not name in its proof all that it holds.
+// Written out, since a derived drop is proved anew, field by field, in each function that lets one go.
 impl Drop for SingleThread {
     fn drop(self) {
         let SingleThread {

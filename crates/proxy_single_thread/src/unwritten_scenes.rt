@@ -19,7 +19,7 @@ pub(crate) struct UnwrittenScenes {
     pub(crate) written: usize,
 }
 
-// Written out, so that whoever drops a unwritten scenes does not name in its proof all that it holds.
+// Written out, since a derived drop is proved anew, field by field, in each function that lets one go.
 impl Drop for UnwrittenScenes {
     fn drop(self) {
         let UnwrittenScenes {

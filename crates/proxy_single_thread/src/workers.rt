@@ -20,7 +20,7 @@ pub(crate) struct Workers {
     pub(crate) prepared: Prepared,
 }
 
-// Written out, so that whoever drops a workers does not name in its proof all that it holds.
+// Written out, since a derived drop is proved anew, field by field, in each function that lets one go.
 impl Drop for Workers {
     fn drop(self) {
         let Workers {

@@ -47,7 +47,7 @@ pub struct Batch {
     last: u64,
 }
 
-// Written out, so that whoever drops a batch does not name in its proof all that it holds.
+// Written out, since a derived drop is proved anew, field by field, in each function that lets one go.
 impl Drop for Batch {
     fn drop(self) {
         let Batch {

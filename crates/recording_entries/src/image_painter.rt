@@ -18,7 +18,7 @@ pub struct ImagePainter {
     alloc: Global,
 }
 
-// Written out, so that whoever drops an image painter does not name in its proof all that it holds.
+// Written out, since a derived drop is proved anew, field by field, in each function that lets one go.
 impl Drop for ImagePainter {
     fn drop(self) {
         let ImagePainter {

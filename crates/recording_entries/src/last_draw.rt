@@ -25,7 +25,7 @@ pub struct LastDraw {
     place: Option<usize>,
 }
 
-// Written out, so that whoever drops a last draw does not name in its proof all that it holds.
+// Written out, since a derived drop is proved anew, field by field, in each function that lets one go.
 impl Drop for LastDraw {
     fn drop(self) {
         let LastDraw {

@@ -41,7 +41,7 @@ pub struct Recorder {
     parts: usize,
 }
 
-// Written out, so that whoever drops a recorder does not name in its proof all that it holds.
+// Written out, since a derived drop is proved anew, field by field, in each function that lets one go.
 impl Drop for Recorder {
     fn drop(self) {
         let Recorder {

@@ -25,7 +25,7 @@ pub struct Painters<P> {
     ghost some: { 1 ≤ most },
 }
 
-// Written out, so that whoever drops a painters does not name in its proof all that it holds.
+// Written out, since a derived drop is proved anew, field by field, in each function that lets one go.
 impl<P: Drop> Drop for Painters<P> {
     fn drop(self) {
         let Painters {

@@ -38,7 +38,7 @@ impl Model for SumSink {
     ghost invariant = { λ s. (s.bytes ≡ length (joined (sent s.producer))) × (s.sum ≡ byte_sum (joined (sent s.producer)) % 2 ^ 64) };
 }
 
-// Written out, so that whoever drops a sum sink does not name in its proof all that it holds.
+// Written out, since a derived drop is proved anew, field by field, in each function that lets one go.
 impl Drop for SumSink {
     fn drop(self) {
         let SumSink {

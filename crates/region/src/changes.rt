@@ -26,7 +26,7 @@ impl Model for Changes {
     ghost invariant = { λ c. IsRising c.list.items };
 }
 
-// Written out, so that whoever drops a changes does not name in its proof all that it holds.
+// Written out, since a derived drop is proved anew, field by field, in each function that lets one go.
 impl Drop for Changes {
     fn drop(self) {
         let Changes {

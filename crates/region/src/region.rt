@@ -27,7 +27,7 @@ impl Model for Region {
     ghost invariant = { λ r. All IsSound r.rects.items };
 }
 
-// Written out, so that whoever drops a region does not name in its proof all that it holds.
+// Written out, since a derived drop is proved anew, field by field, in each function that lets one go.
 impl Drop for Region {
     fn drop(self) {
         let Region { rects: _ } = self;

@@ -69,7 +69,7 @@ pub struct Case {
     pub output: Output,
 }
 
-// Written out, so that whoever drops a case does not name in its proof all that it holds.
+// Written out, since a derived drop is proved anew, field by field, in each function that lets one go.
 impl Drop for Case {
     fn drop(self) {
         let Case {

@@ -26,7 +26,7 @@ pub struct Names {
     files: Vec<NamedFile>,
 }
 
-// Written out, so that whoever drops a names does not name in its proof all that it holds.
+// Written out, since a derived drop is proved anew, field by field, in each function that lets one go.
 impl Drop for Names {
     fn drop(self) {
         let Names {

@@ -37,7 +37,7 @@ pub struct Output {
     bytes: Vec<u8>,
 }
 
-// Written out, so that whoever drops an output does not name in its proof all that it holds.
+// Written out, since a derived drop is proved anew, field by field, in each function that lets one go.
 impl Drop for Output {
     fn drop(self) {
         let Output {

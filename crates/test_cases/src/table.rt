@@ -18,7 +18,7 @@ pub struct CaseTable {
     case: Option<Case>,
 }
 
-// Written out, so that whoever drops a case table does not name in its proof all that it holds.
+// Written out, since a derived drop is proved anew, field by field, in each function that lets one go.
 impl Drop for CaseTable {
     fn drop(self) {
         let CaseTable {

@@ -33,7 +33,7 @@ pub struct Scenes {
     new: Option<SceneLine>,
 }
 
-// Written out, so that whoever drops a scenes does not name in its proof all that it holds.
+// Written out, since a derived drop is proved anew, field by field, in each function that lets one go.
 impl Drop for Scenes {
     fn drop(self) {
         let Scenes {

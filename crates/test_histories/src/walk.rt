@@ -84,7 +84,7 @@ fn stops_in(run: &mut SingleThread, entries: &[Entry]) -> Result<Option<usize>, 
     Ok(None)
 }
 
-// Gives a run up. In a function of its own, since whoever drops a compositor names in its proof all that it holds.
+// Gives a run up. In a function of its own, since the drop of a compositor is proved anew in each function that lets one go.
 fn give_up(run: SingleThread) {
     drop(run);
 }

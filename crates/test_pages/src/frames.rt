@@ -28,7 +28,7 @@ impl Model for Frames {
     ghost invariant = { λ f. f.count ≡ length f.host.script.main };
 }
 
-// Written out, so that whoever drops a frames does not name in its proof all that it holds.
+// Written out, since a derived drop is proved anew, field by field, in each function that lets one go.
 impl Drop for Frames {
     fn drop(self) {
         let Frames {

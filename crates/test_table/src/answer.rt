@@ -11,7 +11,7 @@ pub struct Answer {
     lacks_memory: bool,
 }
 
-// Written out, so that whoever drops an answer does not name in its proof all that it holds.
+// Written out, since a derived drop is proved anew, field by field, in each function that lets one go.
 impl Drop for Answer {
     fn drop(self) {
         let Answer {

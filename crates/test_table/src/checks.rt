@@ -12,7 +12,7 @@ pub struct Checks {
     lacks_memory: bool,
 }
 
-// Written out, so that whoever drops a checks does not name in its proof all that it holds.
+// Written out, since a derived drop is proved anew, field by field, in each function that lets one go.
 impl Drop for Checks {
     fn drop(self) {
         let Checks {

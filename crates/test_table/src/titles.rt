@@ -7,7 +7,7 @@ pub struct Titles {
     words: Vec<String>,
 }
 
-// Written out, so that whoever drops a titles does not name in its proof all that it holds.
+// Written out, since a derived drop is proved anew, field by field, in each function that lets one go.
 impl Drop for Titles {
     fn drop(self) {
         let Titles { words: _ } = self;

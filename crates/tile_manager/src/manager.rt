@@ -60,7 +60,7 @@ impl Model for TileManager {
     ghost view = { λ m. record { store = m.store; pinned = m.pins; outlook = m.outlook } };
 }
 
-// Written out, so that whoever drops a tile manager does not name in its proof all that it holds.
+// Written out, since a derived drop is proved anew, field by field, in each function that lets one go.
 impl Drop for TileManager {
     fn drop(self) {
         let TileManager {

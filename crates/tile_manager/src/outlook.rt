@@ -29,7 +29,7 @@ pub(crate) enum Outlook {
     Unseen,
 }
 
-// Written out, so that whoever drops an outlook does not name in its proof all that it may hold.
+// Written out, since a derived drop is proved anew, field by field, in each function that lets one go.
 impl Drop for Outlook {
     fn drop(self) {
         match self {

@@ -47,7 +47,7 @@ impl Model for Ranks {
     ghost invariant = { λ r. AreDistinctKeys (map rank_key r.ranks.items) };
 }
 
-// Written out, so that whoever drops a ranks does not name in its proof all that it holds.
+// Written out, since a derived drop is proved anew, field by field, in each function that lets one go.
 impl Drop for Ranks {
     fn drop(self) {
         let Ranks {

@@ -45,7 +45,7 @@ impl Model for RasterQueue {
     ghost invariant = { λ q. IsQueue q.wanted.items q.staying.items q.evictables.items q.in_flight q.wanted.room (vec_capacity q.staying) q.evictables.room };
 }
 
-// Written out, so that whoever drops a raster queue does not name in its proof all that it holds.
+// Written out, since a derived drop is proved anew, field by field, in each function that lets one go.
 impl Drop for RasterQueue {
     fn drop(self) {
         let RasterQueue {

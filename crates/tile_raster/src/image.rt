@@ -42,7 +42,7 @@ impl Model for TileImage {
     ghost invariant = { λ i. IsSound i.rect × AreKept i.list.value i.rect i.rows.places.items i.rows.bytes.items × AreEnds (near i.rect.h) i.rows.places.items i.rows.ends.items × IsSolid i.list.value i.rect i.solid × TellsOpaque i.list.value i.rect i.is_opaque };
 }
 
-// Written out, so that whoever drops a tile image does not name in its proof all that it holds.
+// Written out, since a derived drop is proved anew, field by field, in each function that lets one go.
 impl Drop for TileImage {
     fn drop(self) {
         let TileImage {

@@ -38,7 +38,7 @@ impl Model for TileStore {
     } };
 }
 
-// Written out, so that whoever drops a tile store does not name in its proof all that it holds.
+// Written out, since a derived drop is proved anew, field by field, in each function that lets one go.
 impl Drop for TileStore {
     fn drop(self) {
         let TileStore { table: _, alloc: _ } = self;

@@ -53,7 +53,7 @@ impl Model for TileTable {
     ghost invariant = { λ s. IsTileTable s.tiles s.held.items };
 }
 
-// Written out, so that whoever drops a tile table does not name in its proof all that it holds.
+// Written out, since a derived drop is proved anew, field by field, in each function that lets one go.
 impl Drop for TileTable {
     fn drop(self) {
         let TileTable { held: _, tiles: _ } = self;

@@ -34,7 +34,7 @@ impl Model for Tiling {
     ghost invariant = { λ t. IsKept t.grid t.stamps.items (vec_capacity t.stamps) };
 }
 
-// Written out, so that whoever drops a tiling does not name in its proof all that it holds.
+// Written out, since a derived drop is proved anew, field by field, in each function that lets one go.
 impl Drop for Tiling {
     fn drop(self) {
         let Tiling {

@@ -40,7 +40,7 @@ impl<F: PixelFormat> Model for Canvas<F> {
     ghost invariant = { λ c. IsCanvas F.DEPTH (record { w = c.w; h = c.h; bytes = c.bytes.items }) };
 }
 
-// Written out, so that whoever drops a canvas does not name in its proof all that it holds.
+// Written out, since a derived drop is proved anew, field by field, in each function that lets one go.
 impl<F: PixelFormat> Drop for Canvas<F> {
     fn drop(self) {
         let Canvas {

@@ -21,7 +21,7 @@ pub struct Renderer {
     surfaces: Vec<Surfaces>,
 }
 
-// Written out, so that whoever drops a renderer does not name in its proof all that it holds.
+// Written out, since a derived drop is proved anew, field by field, in each function that lets one go.
 impl Drop for Renderer {
     fn drop(self) {
         let Renderer { surfaces: _ } = self;

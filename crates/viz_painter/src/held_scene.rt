@@ -29,7 +29,7 @@ impl Model for HeldScene {
     ghost invariant = { λ h. IsCulled h.scene h.culled };
 }
 
-// Written out, so that whoever drops a held scene does not name in its proof all that it holds.
+// Written out, since a derived drop is proved anew, field by field, in each function that lets one go.
 impl Drop for HeldScene {
     fn drop(self) {
         let HeldScene {

@@ -37,7 +37,7 @@ impl<F: PixelFormat> Model for Painter<F> {
     ghost invariant = { λ p. IsPainter F.DEPTH F.bytes_of (record { canvas = p.canvas; held = culled_of p.held; damage = p.damage }) };
 }
 
-// Written out, so that whoever drops a painter does not name in its proof all that it holds.
+// Written out, since a derived drop is proved anew, field by field, in each function that lets one go.
 impl<F: PixelFormat> Drop for Painter<F> {
     fn drop(self) {
         let Painter {

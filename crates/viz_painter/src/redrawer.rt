@@ -41,7 +41,7 @@ impl<F: PixelFormat> Model for Redrawer<F> {
     ghost view = { λ r. record { held = culled_of r.held; damage = r.damage } };
 }
 
-// Written out, so that whoever drops a redrawer does not name in its proof all that it holds.
+// Written out, since a derived drop is proved anew, field by field, in each function that lets one go.
 impl<F: PixelFormat> Drop for Redrawer<F> {
     fn drop(self) {
         let Redrawer {

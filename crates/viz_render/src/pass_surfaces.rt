@@ -28,7 +28,7 @@ pub(crate) struct PassSurfaces {
     pub(crate) root_mask: Mask,
 }
 
-// Written out, so that whoever drops a pass surfaces does not name in its proof all that it holds.
+// Written out, since a derived drop is proved anew, field by field, in each function that lets one go.
 impl Drop for PassSurfaces {
     fn drop(self) {
         let PassSurfaces {

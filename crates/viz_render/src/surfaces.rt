@@ -42,7 +42,7 @@ impl Model for Surfaces {
     ghost invariant = { λ s. AreSurfaces s.width s.rows s.passes };
 }
 
-// Written out, so that whoever drops a surfaces does not name in its proof all that it holds.
+// Written out, since a derived drop is proved anew, field by field, in each function that lets one go.
 impl Drop for Surfaces {
     fn drop(self) {
         let Surfaces {

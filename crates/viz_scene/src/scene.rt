@@ -31,7 +31,7 @@ impl Model for Scene {
     ghost invariant = { λ s. IsScene (record { w = s.w; h = s.h; background = s.background; passes = passes_view s.passes.items }) };
 }
 
-// Written out, so that whoever drops a scene does not name in its proof all that it holds.
+// Written out, since a derived drop is proved anew, field by field, in each function that lets one go.
 impl Drop for Scene {
     fn drop(self) {
         let Scene {

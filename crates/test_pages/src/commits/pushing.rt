@@ -19,7 +19,7 @@ pub struct Pushing {
     taken: Option<NextTree>,
 }
 
-// Written out, so that whoever drops a pushing does not name in its proof all that it holds.
+// Written out, since a derived drop is proved anew, field by field, in each function that lets one go.
 impl Drop for Pushing {
     fn drop(self) {
         let Pushing {

@@ -33,7 +33,7 @@ impl Model for PlainChoice {
     ghost view = { λ c. record { wanted = c.wanted.items; ready = c.ready.items; in_flight = c.in_flight; budget = c.budget } };
 }
 
-// Written out, so that whoever drops a plain choice does not name in its proof all that it holds.
+// Written out, since a derived drop is proved anew, field by field, in each function that lets one go.
 impl Drop for PlainChoice {
     fn drop(self) {
         let PlainChoice {

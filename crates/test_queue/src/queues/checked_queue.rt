@@ -35,7 +35,7 @@ impl Model for CheckedQueue {
     ghost invariant = { λ q. Alike q.queue q.plain };
 }
 
-// Written out, so that whoever drops a checked queue does not name in its proof all that it holds.
+// Written out, since a derived drop is proved anew, field by field, in each function that lets one go.
 impl Drop for CheckedQueue {
     fn drop(self) {
         let CheckedQueue {

@@ -49,7 +49,7 @@ struct Trial {
     counts: Counts,
 }
 
-// Written out, so that whoever drops a trial does not name in its proof all that it holds.
+// Written out, since a derived drop is proved anew, field by field, in each function that lets one go.
 impl Drop for Trial {
     fn drop(self) {
         let Trial {
