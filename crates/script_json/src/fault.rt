@@ -29,7 +29,7 @@ pub enum PartsFault {
 }
 
 /// Why the reading of a value stopped.
-#[derive(Clone, Copy, PartialEq, Eq, Debug)]
+#[derive(Clone, Copy)]
 pub(crate) enum Stop {
     /// The value is at fault.
     Fault(ShapeFault),

@@ -10,7 +10,7 @@ use script_values::Unread;
 use std::alloc::{AllocError, AllocFailed};
 
 /// Why the reading of a script one value at a time stopped.
-#[derive(Clone, Copy, PartialEq, Eq, Debug)]
+#[derive(Clone, Copy)]
 pub(crate) enum Halt {
     /// The text is no JSON.
     Json,

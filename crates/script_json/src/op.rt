@@ -4,13 +4,14 @@ ghost use Rattle.std.specs.Prelude.{◌≡◌, Some, None, if◌then◌else◌, 
 ghost use Rattle.serde_json.specs.Find.{get, as_str};
 ghost use Rattle.serde_json.specs.View.{view};
 ghost use Rattle.script_json.specs.Ops.{op_named, is_of_version, op_at};
+ghost use Rattle.script_json.specs.inner.Names.{node_op_named, layer_op_named};
 ghost use Rattle.script_json.specs.InputReading.{input_named, input_op_at};
 
 use script_fields::FieldFault;
 use serde_json::Value;
 
 /// A command by its name.
-#[derive(Clone, Copy, PartialEq, Eq, Debug)]
+#[derive(Clone, Copy)]
 pub(crate) enum Op {
     AddTransform,
     SetTransform,
@@ -34,7 +35,7 @@ pub(crate) enum Op {
 }
 
 /// An input by its name.
-#[derive(Clone, Copy, PartialEq, Eq, Debug)]
+#[derive(Clone, Copy)]
 pub(crate) enum InputOp {
     Scroll,
     Wheel,
@@ -43,9 +44,10 @@ pub(crate) enum InputOp {
     Settle,
 }
 
-#[tactic(auto, unfolding(crate::specs::Ops::op_named))]
-fn op_named(name: &str) -> Option<Op>
-    ensures { result ≡ op_named name.now }
+// The command on the nodes of a page that has this name.
+#[tactic(auto, unfolding(crate::specs::inner::Names::node_op_named))]
+fn node_op_named(name: &str) -> Option<Op>
+    ensures { result ≡ node_op_named name.now }
 {
     match name {
         "add_transform" => Some(Op::AddTransform),
@@ -58,6 +60,16 @@ fn op_named(name: &str) -> Option<Op>
         "set_range" => Some(Op::SetRange),
         "scroll_by" => Some(Op::ScrollBy),
         "scroll_to" => Some(Op::ScrollTo),
+        _ => None,
+    }
+}
+
+// The command on the layers of a page, their items or the view that has this name.
+#[tactic(auto, unfolding(crate::specs::inner::Names::layer_op_named))]
+fn layer_op_named(name: &str) -> Option<Op>
+    ensures { result ≡ layer_op_named name.now }
+{
+    match name {
         "add_layer" => Some(Op::AddLayer),
         "remove_layer" => Some(Op::RemoveLayer),
         "resize_layer" => Some(Op::ResizeLayer),
@@ -68,6 +80,16 @@ fn op_named(name: &str) -> Option<Op>
         "move_layer" => Some(Op::MoveLayer),
         "set_view" => Some(Op::SetView),
         _ => None,
+    }
+}
+
+#[tactic(auto, using(crate::proofs::OpNames::node_op, crate::proofs::OpNames::layer_op))]
+fn op_named(name: &str) -> Option<Op>
+    ensures { result ≡ op_named name.now }
+{
+    match node_op_named(name) {
+        Some(op) => Some(op),
+        None => layer_op_named(name),
     }
 }
 
