@@ -1,4 +1,5 @@
 mod Behind
+mod OpNames
 mod Objects
 mod Nesting
 mod CommandLaws
@@ -13,6 +14,7 @@ mod ReadCanonical
 mod AnyVersion
 mod Kept
 pub mod Streams
+mod ListsRead
 mod ValuesReadBack
 pub mod TextsReadBack
 pub mod CanonicalTexts

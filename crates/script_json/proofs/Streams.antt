@@ -50,7 +50,7 @@ behind_none : {X : Type 0} (r : Result (List X) ShapeFault) → behind [] r ≡ 
 behind_none (Ok xs) = refl
 behind_none (Err e) = refl
 
-behind_more : {X : Type 0} (front : List X) (x : X) (r : Result (List X) ShapeFault) → behind front (before_rest (Ok x) r) ≡ behind (front ++ x ∷ []) r
+pub behind_more : {X : Type 0} (front : List X) (x : X) (r : Result (List X) ShapeFault) → behind front (before_rest (Ok x) r) ≡ behind (front ++ x ∷ []) r
 behind_more front x (Ok xs) = ap Ok (sym (append_assoc front (x ∷ []) xs))
 behind_more front x (Err e) = refl
 
