@@ -12,7 +12,7 @@ loop-index-preserved c =
     let pushed : c.push.new.self.items ≡ l.commands.items ++ command ∷ [] = search rules in
     let more = longer l.commands.items c.push.new.self.items command pushed in (
       command_read value.result c.args.values.now l.index value.is c.loop-index-test.true c.args.version c.args.list _ l.commands.items c.push.new.self.items command
-      c.in-Ok.ensures (omega arith) pushed
-      ∙ l.invariant.0,
+          c.in-Ok.ensures (omega arith) pushed
+          ∙ l.invariant.0,
       omega (arith, more, l.invariant.1),
     )

@@ -17,8 +17,8 @@ loop-index-preserved c =
     let more = longer l.frames.items c.push.new.self.items frame pushed in
     let all = ap commands_of pushed ∙ map-append (λ (f : Vec Command Global). f.items) l.frames.items (frame ∷ []) in (
       frame_read value.result c.args.values.now l.index value.is c.loop-index-test.true c.args.version _ l.frames.items c.push.new.self.items frame c.in-Ok.ensures.value
-      (omega arith) pushed
-      ∙ l.invariant.0,
+          (omega arith) pushed
+          ∙ l.invariant.0,
       omega (arith, more, l.invariant.1),
       ap are_short all ∙ list_all-append short_frame (commands_of l.frames.items) (frame.items ∷ []) ∙ rw l.invariant.2 (rw c.in-Ok.ensures.short refl),
     )

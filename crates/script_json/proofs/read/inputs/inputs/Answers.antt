@@ -14,7 +14,7 @@ loop-index-preserved c =
     let vs = c.args.values.now in
     let pushed : c.push.new.self.items ≡ l.inputs.items ++ x ∷ [] = search rules in (
       ap (λ (n : ℕ). behind c.push.new.self.items (inputs_at c.args.frames n (l.index + 1) (items_view (drop (l.index + 1) vs)))) c.draws_after-draws.ensures.value
-      ∙ input_read value.result vs l.index value.is c.loop-index-test.true c.args.frames l.draws _ l.inputs.items c.push.new.self.items x (sym c.in_ok-input.ensures) (omega arith) pushed
-      ∙ l.invariant.0,
+          ∙ input_read value.result vs l.index value.is c.loop-index-test.true c.args.frames l.draws _ l.inputs.items c.push.new.self.items x (sym c.in_ok-input.ensures) (omega arith) pushed
+          ∙ l.invariant.0,
       omega (arith, c.draws_after-draws.ensures.bound, l.invariant.1),
     )
