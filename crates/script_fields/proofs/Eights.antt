@@ -1,5 +1,5 @@
 -- Eight bytes at a time: their digits, and digits that are read, in the lanes of vectors.
-use Rattle.std.proofs.Common.{◌≡◌, ℕ, zero, suc, ◌+◌, ◌-◌, ◌*◌, ◌/◌, ◌%◌, ◌^◌, ◌<◌, ◌≤◌, Bool, true, false, cond, ltb, eqb, ltb-false, eqb-true, List, [], ◌∷◌, ◌++◌, map, length, drop, Option, Some, None, option_map, slice_index, refl, sym, ap, subst, ◌∙◌, arith}
+use Rattle.std.proofs.Common.{◌≡◌, ℕ, zero, suc, ◌+◌, ◌-◌, ◌*◌, ◌/◌, ◌%◌, ◌^◌, ◌<◌, ◌≤◌, Bool, true, false, cond, ltb, eqb, ltb-false, eqb-true, List, [], ◌∷◌, ◌++◌, map, length, take, drop, Option, Some, None, option_map, slice_index, refl, sym, ap, subst, ◌∙◌, arith}
 use Rattle.std.specs.Prelude.{replicate, bit_and}
 use Rattle.std.specs.Simd.Lanes.{zip2, sel_l, top, chunk, pick_l, mask_l}
 use mir.Syntax.{w8}
@@ -276,6 +276,22 @@ front_none (x ∷ xs) = ap (λ (l : List ℕ). x ∷ l) (front_none xs)
 after_one : (front : List ℕ) (p : ℕ) (o : Option (List ℕ)) → after front (option_map (λ bs. p ∷ bs) o) ≡ after (front ++ p ∷ []) o
 after_one front p (Some bs) = ap Some (front_one front p bs)
 after_one front p None = refl
+
+all_taken : (xs : List ℕ) → take (length xs) xs ≡ xs
+all_taken [] = refl
+all_taken (x ∷ xs) = ap (λ (l : List ℕ). x ∷ l) (all_taken xs)
+
+-- the byte of the first two digits in front of those of the rest
+pub one_read : (front text items : List ℕ) (b : ℕ) → 2 ≤ length text → byte_of (slice_index text 0) (slice_index text 1) ≡ Some b
+    → items ≡ front ++ b ∷ [] → after items (bytes_of (take (length text - 2) (drop 2 text))) ≡ after front (bytes_of text)
+one_read front [] items b two known is = absurd (omega arith)
+one_read front (x ∷ []) items b two known is = absurd (omega arith)
+one_read front (x ∷ y ∷ rest) items b two known is =
+    let here : byte_of x y ≡ Some b = known in
+    let count : length (x ∷ y ∷ rest) - 2 ≡ length rest = omega arith in
+    let all : take (length (x ∷ y ∷ rest) - 2) rest ≡ rest = ap (λ (n : ℕ). take n rest) count ∙ all_taken rest in
+    let read : bytes_of (x ∷ y ∷ rest) ≡ option_map (λ bs. b ∷ bs) (bytes_of rest) = rw here refl in
+    (λ i. after (is i) (bytes_of (all i))) ∙ sym (after_one front b (bytes_of rest)) ∙ ap (after front) (sym read)
 
 -- bytes more in front of those of the rest
 more_read : (front text xs : List ℕ) (at end : ℕ) → at + 2 * length xs ≡ end → end ≤ length text
