@@ -87,11 +87,11 @@ fn run_over<R: Threads + Wait + Sync>(
     word: &str,
     recording: &[u8],
 ) -> Result<(Option<u8>, MemSink), AllocError> {
-    let mut words = Vec::new(alloc);
-    words.push(word.to_string(alloc)?)?;
+    let words = [word.to_string(alloc)?];
+    let recording = Vec::from_slice(alloc, recording)?;
     let meeting = Meeting::new();
     let mut streams = Streams {
-        source: MemSource::new(Vec::from_slice(alloc, recording)?, 4096, Vec::new(alloc)),
+        source: MemSource::new(recording, 4096, Vec::new(alloc)),
         out: WaitingSink::new(MemSink::endless(alloc), &meeting, None),
         notes: MemSink::endless(alloc),
         gate: MeetingGate {
@@ -100,7 +100,7 @@ fn run_over<R: Threads + Wait + Sync>(
         },
         session: silent(alloc),
     };
-    let status = streams.run(rt, alloc, Call::Run, words.as_slice());
+    let status = streams.run(rt, alloc, Call::Run, &words);
     let (out, _) = streams.into_outs(false);
     Ok((status, out))
 }

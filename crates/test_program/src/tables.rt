@@ -18,7 +18,6 @@ enum Part {
 }
 
 /// What was read of each table so far, and what was played.
-#[derive(Drop)]
 pub struct Tables {
     alloc: Global,
     /// The one whose lines are read.
@@ -28,6 +27,21 @@ pub struct Tables {
     cases: usize,
     runs: u64,
     tally: Tally,
+}
+
+// Written out, since a derived drop is proved anew, field by field, in each function that lets one go.
+impl Drop for Tables {
+    fn drop(self) {
+        let Tables {
+            alloc: _,
+            part: _,
+            program: _,
+            histories: _,
+            cases: _,
+            runs: _,
+            tally: _,
+        } = self;
+    }
 }
 
 /// The table of a name.
