@@ -8,40 +8,50 @@ use std::alloc::Global;
 pub(crate) fn bytes_of(alloc: Global, text: &str) -> Result<Vec<u8>, ProgramRowFault> {
     let mut bytes = Vec::new(alloc);
     for group in text.split_whitespace() {
-        match hex::decode(alloc, group) {
-            Ok(more) => bytes.extend_from_slice(more.as_slice())?,
-            Err(_) => return Err(ProgramRowFault::NoHex),
-        }
+        let Ok(more) = hex::decode(alloc, group) else {
+            return Err(ProgramRowFault::NoHex);
+        };
+        bytes.extend_from_slice(more.as_slice())?;
     }
     Ok(bytes)
 }
 
-/// The bytes of a picture's pixels: six digits a pixel, `N*COLOUR` for that many of a colour.
-fn pixels_of(alloc: Global, text: &str) -> Result<Vec<u8>, ProgramRowFault> {
-    let mut pixels = Vec::new(alloc);
-    for group in text.split_whitespace() {
-        let (count, colour) = group.split_once('*').unwrap_or(("1", group));
-        let colour = bytes_of(alloc, colour)?;
-        for _ in 0..number_32(count)? {
-            pixels.extend_from_slice(colour.as_slice())?;
-        }
+/// The two texts before a third, with a blank after each.
+pub(crate) fn three_parts(text: &str) -> Option<(&str, &str, &str)> {
+    let Some((first, rest)) = text.split_once(' ') else {
+        return None;
+    };
+    match rest.split_once(' ') {
+        Some((second, third)) => Some((first, second, third)),
+        None => None,
     }
-    Ok(pixels)
+}
+
+/// Adds the bytes of pixels: six digits for one of a colour, `N*COLOUR` for that many of it.
+fn add_pixels(alloc: Global, image: &mut Vec<u8>, group: &str) -> Result<(), ProgramRowFault> {
+    let (count, colour) = group.split_once('*').unwrap_or(("1", group));
+    let colour = bytes_of(alloc, colour)?;
+    for _ in 0..number_32(count)? {
+        image.extend_from_slice(colour.as_slice())?;
+    }
+    Ok(())
 }
 
 /// The image of a picture: its width, its height, and the colours of its pixels.
 pub(crate) fn image_of(alloc: Global, text: &str) -> Result<Vec<u8>, ProgramRowFault> {
-    let (width, rest) = text.split_once(' ').ok_or(ProgramRowFault::NoImage)?;
-    let (height, colours) = rest.split_once(' ').ok_or(ProgramRowFault::NoImage)?;
-    let across = u64::from(number_32(width)?);
-    let down = u64::from(number_32(height)?);
-    let pixels = pixels_of(alloc, colours)?;
-    if pixels.len() as u64 != across.saturating_mul(down).saturating_mul(3) {
+    let Some((width, height, colours)) = three_parts(text) else {
+        return Err(ProgramRowFault::NoImage);
+    };
+    let (across, down) = (number_32(width)?, number_32(height)?);
+    let mut image = format!(in alloc; "P6\n{across} {down}\n255\n")?.into_bytes();
+    let pixels = u64::from(across).saturating_mul(u64::from(down));
+    let size = pixels.saturating_mul(3).saturating_add(image.len() as u64);
+    for group in colours.split_whitespace() {
+        add_pixels(alloc, &mut image, group)?;
+    }
+    if image.len() as u64 != size {
         return Err(ProgramRowFault::NoImage);
     }
-    let head = format!(in alloc; "P6\n{across} {down}\n255\n")?;
-    let mut image = Vec::from_slice(alloc, head.as_bytes())?;
-    image.extend_from_slice(pixels.as_slice())?;
     Ok(image)
 }
 
@@ -52,18 +62,21 @@ pub(crate) fn changed(
     old: &[u8],
     new: &[u8],
 ) -> Result<Vec<u8>, ProgramRowFault> {
-    let at = place_of(bytes, old).ok_or(ProgramRowFault::NotOnce)?;
-    let (before, rest) = bytes.split_at(at.min(bytes.len()));
-    let Some(after) = rest.strip_prefix(old) else {
-        return Err(ProgramRowFault::NotOnce);
-    };
-    if place_of(after, old).is_some() {
-        return Err(ProgramRowFault::NotOnce);
+    match around(bytes, old) {
+        Some((before, after)) => Ok([before, new, after].concat(alloc)?),
+        None => Err(ProgramRowFault::NotOnce),
     }
-    let mut whole = Vec::from_slice(alloc, before)?;
-    whole.extend_from_slice(new)?;
-    whole.extend_from_slice(after)?;
-    Ok(whole)
+}
+
+/// The bytes before and after a part, which stands in them once.
+fn around<'a>(bytes: &'a [u8], part: &[u8]) -> Option<(&'a [u8], &'a [u8])> {
+    let at = place_of(bytes, part)?;
+    let (before, rest) = bytes.split_at(at.min(bytes.len()));
+    let after = rest.strip_prefix(part)?;
+    match place_of(after, part) {
+        Some(_) => None,
+        None => Some((before, after)),
+    }
 }
 
 /// Where a part stands first.

@@ -1,7 +1,8 @@
 //! Cases.
 
-use crate::bytes::{bytes_of, changed};
+use crate::bytes::{bytes_of, changed, three_parts};
 use crate::fault::ProgramRowFault;
+use crate::lists::push;
 use crate::names::Names;
 use crate::numbers::{Numbers, number, number_32, status};
 use crate::output::Output;
@@ -94,30 +95,52 @@ impl Drop for Case {
 }
 
 /// The words of a text, `""` for an empty one.
-fn words_of(alloc: Global, text: &str) -> Result<Vec<String>, AllocError> {
+fn words_of(alloc: Global, text: &str) -> Result<Vec<String>, ProgramRowFault> {
     let mut words = Vec::new(alloc);
     for word in text.split_whitespace() {
         let word = if word == "\"\"" { "" } else { word };
-        words.push(word.to_string(alloc)?)?;
+        push(&mut words, word.to_string(alloc)?)?;
     }
     Ok(words)
 }
 
 /// A text and a newline.
 fn line_of(alloc: Global, text: &str) -> Result<String, AllocError> {
-    let mut line = text.to_string(alloc)?;
-    line.push('\n')?;
-    Ok(line)
+    [text, "\n"].concat(alloc)
+}
+
+/// The old part and the new one of a change `OLD => NEW`.
+fn old_and_new(change: &str) -> Result<(&str, &str), ProgramRowFault> {
+    match change.split_once(" => ") {
+        Some(parts) => Ok(parts),
+        None => Err(ProgramRowFault::NoChange),
+    }
+}
+
+/// Which workers come to the gate: the first `pair`, or those of the tile `LAYER COLUMN ROW`.
+fn gathering_of(value: &str) -> Option<Gathering> {
+    if value == "pair" {
+        return Some(Gathering::Pair);
+    }
+    let Some((layer, column, row)) = three_parts(value) else {
+        return None;
+    };
+    match (layer.parse(), column.parse(), row.parse()) {
+        (Ok(layer), Ok(column), Ok(row)) => Some(Gathering::Tile { layer, column, row }),
+        _ => None,
+    }
 }
 
 impl Case {
     /// A case that says nothing yet.
-    pub fn new(alloc: Global, line: usize, title: &str) -> Result<Case, AllocError> {
+    pub fn new(alloc: Global, line: usize, title: &str) -> Result<Case, ProgramRowFault> {
+        let title = title.to_string(alloc)?;
+        let words = words_of(alloc, "step 1")?;
         Ok(Case {
             alloc,
             line,
-            title: title.to_string(alloc)?,
-            words: words_of(alloc, "step 1")?,
+            title,
+            words,
             call: Call::Run,
             input: None,
             step: 4096,
@@ -140,25 +163,18 @@ impl Case {
         Ok(())
     }
 
-    /// Sets the input to a text.
-    pub fn set_input(&mut self, text: &str) -> Result<(), ProgramRowFault> {
-        self.input = Some(Vec::from_slice(self.alloc, text.as_bytes())?);
-        Ok(())
-    }
-
     /// Changes a part of the input, which stands in it once.
     fn change_bytes(&mut self, old: &[u8], new: &[u8]) -> Result<(), ProgramRowFault> {
         let Some(input) = &self.input else {
             return Err(ProgramRowFault::NoInput);
         };
-        let input = changed(self.alloc, input.as_slice(), old, new)?;
-        self.input = Some(input);
+        self.input = Some(changed(self.alloc, input.as_slice(), old, new)?);
         Ok(())
     }
 
     /// Changes the input as `OLD => NEW` says.
-    pub fn change(&mut self, names: &Names, value: &str) -> Result<(), ProgramRowFault> {
-        let (old, new) = value.split_once(" => ").ok_or(ProgramRowFault::NoChange)?;
+    fn change(&mut self, names: &Names, value: &str) -> Result<(), ProgramRowFault> {
+        let (old, new) = old_and_new(value)?;
         let old = names.built(old)?;
         let new = names.built(new)?;
         self.change_bytes(old.as_bytes(), new.as_bytes())
@@ -166,7 +182,7 @@ impl Case {
 
     /// Changes the input as `OLD => NEW` says, both in hexadecimal digits.
     fn change_hex(&mut self, value: &str) -> Result<(), ProgramRowFault> {
-        let (old, new) = value.split_once(" => ").ok_or(ProgramRowFault::NoChange)?;
+        let (old, new) = old_and_new(value)?;
         let old = bytes_of(self.alloc, old)?;
         let new = bytes_of(self.alloc, new)?;
         self.change_bytes(old.as_slice(), new.as_slice())
@@ -182,28 +198,24 @@ impl Case {
         Ok(())
     }
 
-    /// Sets which workers come to the gate: the first `pair`, or those of the tile `LAYER COLUMN ROW`.
+    /// Sets which workers come to the gate.
     fn set_gathering(&mut self, value: &str) -> Result<(), ProgramRowFault> {
-        if value == "pair" {
-            self.gathering = Gathering::Pair;
-            return Ok(());
+        match gathering_of(value) {
+            Some(gathering) => self.gathering = gathering,
+            None => return Err(ProgramRowFault::NoNumber),
         }
-        let (layer, place) = value.split_once(' ').ok_or(ProgramRowFault::NoNumber)?;
-        let (column, row) = place.split_once(' ').ok_or(ProgramRowFault::NoNumber)?;
-        self.gathering = Gathering::Tile {
-            layer: number_32(layer)?,
-            column: number_32(column)?,
-            row: number_32(row)?,
-        };
         Ok(())
     }
 
     /// Sets what the sink waits for: `COUNT LINE`.
     fn set_sink_wait(&mut self, value: &str) -> Result<(), ProgramRowFault> {
-        let (workers, line) = value.split_once(' ').ok_or(ProgramRowFault::NoNumber)?;
+        let Some((workers, line)) = value.split_once(' ') else {
+            return Err(ProgramRowFault::NoNumber);
+        };
+        let workers = number(workers)?;
         self.sink_wait = Some(SinkWait {
             mark: line_of(self.alloc, line)?,
-            workers: number(workers)?,
+            workers,
             texts: Vec::new(self.alloc),
         });
         Ok(())
@@ -213,20 +225,58 @@ impl Case {
     fn add_awaited(&mut self, value: &str) -> Result<(), ProgramRowFault> {
         let text = line_of(self.alloc, value)?;
         match &mut self.sink_wait {
-            Some(wait) => wait.texts.push(text).map_err(AllocError::from)?,
-            None => return Err(ProgramRowFault::NoWait),
+            Some(wait) => push(&mut wait.texts, text),
+            None => Err(ProgramRowFault::NoWait),
         }
-        Ok(())
     }
 
     /// Sets how the run ends: `0 LENGTH SUM` of its output, or `STATUS NOTE` with the line in the notes.
-    pub fn set_end(&mut self, text: &str) -> Result<(), ProgramRowFault> {
-        let (number, rest) = text.split_once(' ').ok_or(ProgramRowFault::NoChange)?;
+    fn set_end(&mut self, text: &str) -> Result<(), ProgramRowFault> {
+        let Some((number, rest)) = text.split_once(' ') else {
+            return Err(ProgramRowFault::NoChange);
+        };
         self.status = status(number)?;
         if self.status == 0 {
             return self.output.set_sum(rest);
         }
         self.note = Some(rest.to_string(self.alloc)?);
+        Ok(())
+    }
+
+    /// Takes a line of a table of changes: an input, a change of it, and how the run ends.
+    pub fn take_row(
+        &mut self,
+        names: &Names,
+        input: &str,
+        change: &str,
+        end: &str,
+    ) -> Result<(), ProgramRowFault> {
+        self.input = Some(Vec::from_slice(self.alloc, input.as_bytes())?);
+        self.change(names, change)?;
+        self.set_end(end)
+    }
+
+    /// Takes a line of the table that says what the source holds.
+    fn take_input(&mut self, names: &Names, key: &str, value: &str) -> Result<(), ProgramRowFault> {
+        self.input = Some(match key {
+            "input" => names.built(value)?.into_bytes(),
+            "input hex" => bytes_of(self.alloc, value)?,
+            _ => names.file(value)?,
+        });
+        Ok(())
+    }
+
+    /// Takes a line of the table that says one value.
+    fn take_value(&mut self, key: &str, value: &str) -> Result<(), ProgramRowFault> {
+        match key {
+            "words" => self.words = words_of(self.alloc, value)?,
+            "step" => self.step = number_32(value)?,
+            "notes room" => self.notes_room = Some(number(value)?),
+            "status" => self.status = status(value)?,
+            "note" => self.note = Some(value.to_string(self.alloc)?),
+            "legal recording" => self.recording = true,
+            _ => return Err(ProgramRowFault::UnknownKey),
+        }
         Ok(())
     }
 
@@ -238,45 +288,29 @@ impl Case {
         value: &str,
     ) -> Result<(), ProgramRowFault> {
         match key {
-            "words" => self.words = words_of(self.alloc, value)?,
-            "alone" => self.set_alone(value)?,
-            "input" => {
-                let text = names.built(value)?;
-                self.set_input(text.as_str())?;
-            }
-            "input hex" => self.input = Some(bytes_of(self.alloc, value)?),
-            "input file" => self.input = Some(names.file(value)?),
-            "change" => self.change(names, value)?,
-            "change hex" => self.change_hex(value)?,
-            "cut" => self.set_trouble(InjectedFault::Cut, value)?,
-            "step" => self.step = number_32(value)?,
-            "room" => self.set_trouble(InjectedFault::Room, value)?,
-            "reads fail" => self.set_trouble(InjectedFault::ReadFails, value)?,
-            "puts fail" => self.set_trouble(InjectedFault::PutFails, value)?,
-            "gate" => self.set_gathering(value)?,
-            "sink waits" => self.set_sink_wait(value)?,
-            "until" => self.add_awaited(value)?,
-            "notes room" => self.notes_room = Some(number(value)?),
-            "legal recording" => self.recording = true,
-            _ => return Err(ProgramRowFault::UnknownKey),
+            "alone" => self.set_alone(value),
+            "input" | "input hex" | "input file" => self.take_input(names, key, value),
+            "change" => self.change(names, value),
+            "change hex" => self.change_hex(value),
+            "cut" => self.set_trouble(InjectedFault::Cut, value),
+            "room" => self.set_trouble(InjectedFault::Room, value),
+            "reads fail" => self.set_trouble(InjectedFault::ReadFails, value),
+            "puts fail" => self.set_trouble(InjectedFault::PutFails, value),
+            "gate" => self.set_gathering(value),
+            "sink waits" => self.set_sink_wait(value),
+            "until" => self.add_awaited(value),
+            _ => self.take_value(key, value),
         }
-        Ok(())
     }
 
     /// Takes a line of the table.
     pub fn take(&mut self, names: &Names, key: &str, value: &str) -> Result<(), ProgramRowFault> {
         match key {
-            "status" => self.status = status(value)?,
-            "note" => self.note = Some(value.to_string(self.alloc)?),
-            "out" => {
-                let line = names.built(value)?;
-                self.output.add_line(line.as_str())?;
-            }
-            "image" => self.output.add_image(self.alloc, value)?,
-            "out hex" => self.output.add_hex(self.alloc, value)?,
-            "out sum" => self.output.set_sum(value)?,
-            _ => self.take_setting(names, key, value)?,
+            "out" => self.output.add_line(names.built(value)?.as_str()),
+            "image" => self.output.add_image(self.alloc, value),
+            "out hex" => self.output.add_hex(self.alloc, value),
+            "out sum" => self.output.set_sum(value),
+            _ => self.take_setting(names, key, value),
         }
-        Ok(())
     }
 }

@@ -5,6 +5,7 @@
 mod bytes;
 mod case;
 mod fault;
+mod lists;
 mod names;
 mod numbers;
 mod output;

@@ -2,6 +2,7 @@
 
 use crate::bytes::image_of;
 use crate::fault::ProgramRowFault;
+use crate::lists::push;
 use crate::numbers::{Numbers, number};
 use std::alloc::{AllocError, Global};
 
@@ -39,8 +40,12 @@ impl Drop for Names {
 
 /// The numbers of the copies and the text to be repeated, where a value is `N of TEXT` or `A..B of TEXT`.
 fn counted(value: &str) -> Option<(Numbers, &str)> {
-    let (count, text) = value.split_once(" of ")?;
-    let numbers = Numbers::of_text(count).ok()?;
+    let Some((count, text)) = value.split_once(" of ") else {
+        return None;
+    };
+    let Ok(numbers) = Numbers::of_text(count) else {
+        return None;
+    };
     if count.contains("..") {
         return Some((numbers, text));
     }
@@ -51,15 +56,20 @@ fn counted(value: &str) -> Option<(Numbers, &str)> {
     Some((copies, text))
 }
 
+/// A text with this number for `{i}`, and the number before it for `{i-1}`.
+fn copy_of(alloc: Global, i: u64, text: &str) -> Result<String, AllocError> {
+    let before = format!(in alloc; "{}", i.saturating_sub(1))?;
+    let text = text.replace(alloc, "{i-1}", before.as_str())?;
+    let own = format!(in alloc; "{i}")?;
+    text.as_str().replace(alloc, "{i}", own.as_str())
+}
+
 /// A text for each of the numbers, with commas between.
 fn repeated(alloc: Global, numbers: Numbers, text: &str) -> Result<String, AllocError> {
     let mut whole = String::new(alloc);
     let mut between = "";
     for i in numbers.start..numbers.end {
-        let own = format!(in alloc; "{i}")?;
-        let before = format!(in alloc; "{}", i.saturating_sub(1))?;
-        let copy = text.replace(alloc, "{i-1}", before.as_str())?;
-        let copy = copy.as_str().replace(alloc, "{i}", own.as_str())?;
+        let copy = copy_of(alloc, i, text)?;
         whole.push_str(between)?;
         whole.push_str(copy.as_str())?;
         between = ",";
@@ -79,12 +89,9 @@ impl Names {
 
     /// Adds the text that a value says.
     pub fn add_text(&mut self, name: &str, value: &str) -> Result<(), ProgramRowFault> {
-        let text = self.built(value)?;
         let name = name.to_string(self.alloc)?;
-        self.texts
-            .push(NamedText { name, text })
-            .map_err(AllocError::from)?;
-        Ok(())
+        let text = self.built(value)?;
+        push(&mut self.texts, NamedText { name, text })
     }
 
     /// The text of this name that was added last.
@@ -98,18 +105,32 @@ impl Names {
         found
     }
 
+    /// The text that a piece `NAME>REST` names, and the rest.
+    fn named_and_rest<'a>(&'a self, piece: &'a str) -> Option<(&'a str, &'a str)> {
+        let Some((name, rest)) = piece.split_once('>') else {
+            return None;
+        };
+        match self.named(name) {
+            Some(text) => Some((text, rest)),
+            None => None,
+        }
+    }
+
+    /// Adds a piece `NAME>REST` of a value, with the text of this name in its place.
+    fn push_piece(&self, whole: &mut String, piece: &str) -> Result<(), ProgramRowFault> {
+        let Some((text, rest)) = self.named_and_rest(piece) else {
+            return Err(ProgramRowFault::UnknownText);
+        };
+        whole.push_str(text)?;
+        Ok(whole.push_str(rest)?)
+    }
+
     /// The value with the text of each `<NAME>` in its place.
     fn filled(&self, value: &str) -> Result<String, ProgramRowFault> {
-        let mut whole = String::new(self.alloc);
-        for (i, piece) in value.split('<').enumerate() {
-            if i == 0 {
-                whole.push_str(piece)?;
-                continue;
-            }
-            let (name, rest) = piece.split_once('>').ok_or(ProgramRowFault::UnknownText)?;
-            let text = self.named(name).ok_or(ProgramRowFault::UnknownText)?;
-            whole.push_str(text)?;
-            whole.push_str(rest)?;
+        let mut pieces = value.split('<');
+        let mut whole = pieces.next().unwrap_or("").to_string(self.alloc)?;
+        for piece in pieces {
+            self.push_piece(&mut whole, piece)?;
         }
         Ok(whole)
     }
@@ -120,44 +141,39 @@ impl Names {
             let count = number(count)?;
             return Ok(" ".repeat(self.alloc, count as usize)?);
         }
-        match counted(value) {
-            Some((numbers, text)) => {
-                let text = self.filled(text)?;
-                Ok(repeated(self.alloc, numbers, text.as_str())?)
-            }
-            None => self.filled(value),
-        }
+        let Some((numbers, text)) = counted(value) else {
+            return self.filled(value);
+        };
+        let text = self.filled(text)?;
+        Ok(repeated(self.alloc, numbers, text.as_str())?)
     }
 
     /// Begins a file of this name.
     pub fn begin_file(&mut self, name: &str) -> Result<(), ProgramRowFault> {
         let name = name.to_string(self.alloc)?;
         let bytes = Vec::new(self.alloc);
-        self.files
-            .push(NamedFile { name, bytes })
-            .map_err(AllocError::from)?;
-        Ok(())
+        push(&mut self.files, NamedFile { name, bytes })
     }
 
     /// These bytes come next in the file that was begun last.
-    fn add(&mut self, bytes: &[u8]) -> Result<(), ProgramRowFault> {
-        let Some(file) = self.files.last_mut() else {
-            return Err(ProgramRowFault::NoFile);
-        };
-        Ok(file.bytes.extend_from_slice(bytes)?)
+    fn add_bytes(&mut self, bytes: &[u8]) -> Result<(), ProgramRowFault> {
+        match self.files.last_mut() {
+            Some(file) => Ok(file.bytes.extend_from_slice(bytes)?),
+            None => Err(ProgramRowFault::NoFile),
+        }
     }
 
     /// A line comes next in the file that was begun last.
     pub fn add_line(&mut self, value: &str) -> Result<(), ProgramRowFault> {
-        let line = self.built(value)?;
-        self.add(line.as_bytes())?;
-        self.add(b"\n")
+        let mut line = self.built(value)?;
+        line.push('\n')?;
+        self.add_bytes(line.as_bytes())
     }
 
     /// A picture comes next in it.
     pub fn add_image(&mut self, value: &str) -> Result<(), ProgramRowFault> {
         let image = image_of(self.alloc, value)?;
-        self.add(image.as_slice())
+        self.add_bytes(image.as_slice())
     }
 
     /// The bytes of the file of this name that was begun last.
@@ -168,7 +184,9 @@ impl Names {
                 found = Some(one.bytes.as_slice());
             }
         }
-        let bytes = found.ok_or(ProgramRowFault::UnknownFile)?;
-        Ok(Vec::from_slice(self.alloc, bytes)?)
+        match found {
+            Some(bytes) => Ok(Vec::from_slice(self.alloc, bytes)?),
+            None => Err(ProgramRowFault::UnknownFile),
+        }
     }
 }

@@ -17,33 +17,36 @@ impl Numbers {
 
     /// `A..B`, or one number alone.
     pub fn of_text(text: &str) -> Result<Numbers, ProgramRowFault> {
-        match text.split_once("..") {
-            Some((start, end)) => Ok(Numbers {
-                start: number(start)?,
-                end: number(end)?,
-            }),
-            None => {
-                let start = number(text)?;
-                Ok(Numbers {
-                    start,
-                    end: start.saturating_add(1),
-                })
-            }
+        if let Some((start, end)) = text.split_once("..") {
+            let (start, end) = (number(start)?, number(end)?);
+            return Ok(Numbers { start, end });
         }
+        let start = number(text)?;
+        let end = start.saturating_add(1);
+        Ok(Numbers { start, end })
     }
 }
 
 /// A number in digits.
 pub(crate) fn number(text: &str) -> Result<u64, ProgramRowFault> {
-    text.parse::<u64>().map_err(|_| ProgramRowFault::NoNumber)
+    match text.parse::<u64>() {
+        Ok(number) => Ok(number),
+        Err(_) => Err(ProgramRowFault::NoNumber),
+    }
 }
 
 /// A number of 32 bits in digits.
 pub(crate) fn number_32(text: &str) -> Result<u32, ProgramRowFault> {
-    text.parse::<u32>().map_err(|_| ProgramRowFault::NoNumber)
+    match text.parse::<u32>() {
+        Ok(number) => Ok(number),
+        Err(_) => Err(ProgramRowFault::NoNumber),
+    }
 }
 
 /// A status.
 pub(crate) fn status(text: &str) -> Result<u8, ProgramRowFault> {
-    text.parse::<u8>().map_err(|_| ProgramRowFault::NoNumber)
+    match text.parse::<u8>() {
+        Ok(number) => Ok(number),
+        Err(_) => Err(ProgramRowFault::NoNumber),
+    }
 }

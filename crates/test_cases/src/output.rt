@@ -2,7 +2,6 @@
 
 use crate::bytes::{bytes_of, image_of};
 use crate::fault::ProgramRowFault;
-use crate::numbers::number;
 use std::alloc::{AllocError, Global};
 
 /// How much of the output the bytes of a case are.
@@ -56,6 +55,17 @@ fn fnv(bytes: &[u8]) -> u64 {
     sum
 }
 
+/// The length and the sum of a text `N SUM`, the sum in hexadecimal digits.
+fn sum_of(text: &str) -> Option<Extent> {
+    let Some((length, sum)) = text.split_once(' ') else {
+        return None;
+    };
+    match (length.parse(), u64::from_str_radix(sum, 16)) {
+        (Ok(length), Ok(sum)) => Some(Extent::Sum { length, sum }),
+        _ => None,
+    }
+}
+
 impl Output {
     /// Nothing is said.
     pub fn new(alloc: Global) -> Output {
@@ -83,8 +93,7 @@ impl Output {
             return Ok(());
         }
         self.add(line.as_bytes())?;
-        self.add(b"\n")?;
-        Ok(())
+        Ok(self.add(b"\n")?)
     }
 
     /// These bytes come next, in hexadecimal digits.
@@ -101,10 +110,10 @@ impl Output {
 
     /// The output has this length and this sum: `N SUM`, the sum in hexadecimal digits.
     pub fn set_sum(&mut self, text: &str) -> Result<(), ProgramRowFault> {
-        let (length, sum) = text.split_once(' ').ok_or(ProgramRowFault::NoNumber)?;
-        let length = number(length)?;
-        let sum = u64::from_str_radix(sum, 16).map_err(|_| ProgramRowFault::NoNumber)?;
-        self.extent = Extent::Sum { length, sum };
+        match sum_of(text) {
+            Some(extent) => self.extent = extent,
+            None => return Err(ProgramRowFault::NoNumber),
+        }
         Ok(())
     }
 

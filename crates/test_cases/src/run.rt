@@ -8,7 +8,6 @@ use std::alloc::{AllocError, Global};
 use std::fmt;
 
 /// What a run left behind.
-#[derive(Drop)]
 pub struct RunOutput {
     /// The status that it ended with; None where `run_alone` answers so.
     pub status: Option<u8>,
@@ -20,6 +19,19 @@ pub struct RunOutput {
     pub accepted: bool,
     /// How many waits for another thread were given up.
     pub given_up: u64,
+}
+
+// Written out, since a derived drop is proved anew, field by field, in each function that lets one go.
+impl Drop for RunOutput {
+    fn drop(self) {
+        let RunOutput {
+            status: _,
+            out: _,
+            notes: _,
+            accepted: _,
+            given_up: _,
+        } = self;
+    }
 }
 
 /// What of a run is not as its case says.

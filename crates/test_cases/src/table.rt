@@ -52,20 +52,25 @@ impl CaseTable {
         Some(case)
     }
 
-    /// Takes a line of a table of changes: `OLD => NEW | END`.
-    fn take_change(&mut self, line: usize, row: &str) -> Result<Option<Case>, ProgramRowFault> {
+    /// Begins a case. Answers the one whose lines were read, where it is to be played.
+    fn begin(&mut self, case: Case) -> Option<Case> {
         let ended = self.end();
-        let (change, end) = row.rsplit_once(" | ").ok_or(ProgramRowFault::NoChange)?;
+        self.case = Some(case);
+        ended
+    }
+
+    /// The case of a line of a table of changes: `OLD => NEW | END`.
+    fn changed(&self, line: usize, row: &str) -> Result<Case, ProgramRowFault> {
+        let Some((change, end)) = row.rsplit_once(" | ") else {
+            return Err(ProgramRowFault::NoChange);
+        };
         let change = change.trim_end();
         let Some(base) = &self.base else {
             return Err(ProgramRowFault::NoCase);
         };
         let mut case = Case::new(self.alloc, line, change)?;
-        case.set_input(base.as_str())?;
-        case.change(&self.names, change)?;
-        case.set_end(end)?;
-        self.case = Some(case);
-        Ok(ended)
+        case.take_row(&self.names, base.as_str(), change, end)?;
+        Ok(case)
     }
 
     /// Takes a line that says something of a file or of a case that was begun.
@@ -97,9 +102,8 @@ impl CaseTable {
         }
         match key {
             "case" => {
-                let ended = self.end();
-                self.case = Some(Case::new(self.alloc, line, value)?);
-                Ok(ended)
+                let case = Case::new(self.alloc, line, value)?;
+                Ok(self.begin(case))
             }
             "changes of" => {
                 self.base = Some(self.names.built(value)?);
@@ -115,9 +119,12 @@ impl CaseTable {
     /// Takes a line that says something. Answers the case that it ends, where that is to be played.
     pub fn take(&mut self, line: usize, text: &str) -> Result<Option<Case>, ProgramRowFault> {
         if let Some(row) = text.strip_prefix("    ") {
-            return self.take_change(line, row);
+            let case = self.changed(line, row)?;
+            return Ok(self.begin(case));
         }
-        let (key, value) = key_and_value(text).ok_or(ProgramRowFault::NoKey)?;
-        self.take_key(line, key, value)
+        match key_and_value(text) {
+            Some((key, value)) => self.take_key(line, key, value),
+            None => Err(ProgramRowFault::NoKey),
+        }
     }
 }
