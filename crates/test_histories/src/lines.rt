@@ -6,15 +6,44 @@ use recording_reader::entry_of;
 use recording_text::read_event;
 use std::alloc::{AllocError, Global};
 
+/// Adds the entry of a line, by the actor whose event it is.
+fn push_entry(alloc: Global, entries: &mut Vec<Entry>, line: &str) -> Result<(), HistoryLineFault> {
+    let line = [line, "\n"].concat(alloc)?;
+    let Some(event) = read_event(alloc, line.as_bytes())? else {
+        return Err(HistoryLineFault::NoEvent);
+    };
+    match entries.push(entry_of(event)) {
+        Ok(()) => Ok(()),
+        Err(refused) => Err(HistoryLineFault::Memory(AllocError::from(refused))),
+    }
+}
+
 /// The entries of lines, each by the actor whose event it is.
 pub fn entries(alloc: Global, lines: &str) -> Result<Vec<Entry>, HistoryLineFault> {
     let mut entries = Vec::new(alloc);
     for line in lines.split("; ") {
-        let line = format!(in alloc; "{line}\n")?;
-        let event = read_event(alloc, line.as_bytes())?.ok_or(HistoryLineFault::NoEvent)?;
-        entries.push(entry_of(event)).map_err(AllocError::from)?;
+        push_entry(alloc, &mut entries, line)?;
     }
     Ok(entries)
+}
+
+/// What stands before and after a part, which stands in a text once.
+fn around<'a>(text: &'a str, part: &str) -> Option<(&'a str, &'a str)> {
+    let Some((before, after)) = text.split_once(part) else {
+        return None;
+    };
+    if after.contains(part) {
+        return None;
+    }
+    Some((before, after))
+}
+
+/// Lines between those before and after them, which have `; ` at the other end.
+fn joined(alloc: Global, before: &str, lines: &str, after: &str) -> Result<String, AllocError> {
+    let text = [before, "; ", lines, "; ", after].concat(alloc)?;
+    let text = text.as_str();
+    let text = text.strip_prefix("; ").unwrap_or(text);
+    text.strip_suffix("; ").unwrap_or(text).to_string(alloc)
 }
 
 /// The lines with some of them, which stand there once, changed into others.
@@ -24,18 +53,10 @@ pub fn changed(
     old: &str,
     new: &str,
 ) -> Result<String, HistoryLineFault> {
-    let whole = format!(in alloc; "; {lines}; ")?;
-    let old = format!(in alloc; "; {old}; ")?;
-    let (before, after) = whole
-        .as_str()
-        .split_once(old.as_str())
-        .ok_or(HistoryLineFault::NotOnce)?;
-    if after.contains(old.as_str()) {
+    let whole = ["; ", lines, "; "].concat(alloc)?;
+    let old = ["; ", old, "; "].concat(alloc)?;
+    let Some((before, after)) = around(whole.as_str(), old.as_str()) else {
         return Err(HistoryLineFault::NotOnce);
-    }
-    let text = format!(in alloc; "{before}; {new}; {after}")?;
-    let text = text.as_str();
-    let text = text.strip_prefix("; ").unwrap_or(text);
-    let text = text.strip_suffix("; ").unwrap_or(text);
-    Ok(text.to_string(alloc)?)
+    };
+    Ok(joined(alloc, before, new, after)?)
 }

@@ -4,7 +4,7 @@ use crate::fault::HistoryLineFault;
 use crate::judged::judged_at;
 use crate::lines::{changed, entries};
 use crate::walk::{asked_after, stops_at};
-use model_history::Script;
+use model_history::{Entry, Script};
 use script_json::read_script;
 use std::alloc::Global;
 use std::io;
@@ -12,7 +12,6 @@ use std::sync::Arc;
 use test_table::{Table, Tally, Titles};
 
 /// What was read of the table so far.
-#[derive(Drop)]
 pub struct Walks {
     alloc: Global,
     /// Which histories are tried.
@@ -30,6 +29,58 @@ pub struct Walks {
     entries: usize,
     asked: usize,
     tally: Tally,
+}
+
+// Written out, since a derived drop is proved anew, field by field, in each function that lets one go.
+impl Drop for Walks {
+    fn drop(self) {
+        let Walks {
+            alloc: _,
+            titles: _,
+            script: _,
+            workers: _,
+            history: _,
+            is_left_out: _,
+            legal: _,
+            changed: _,
+            entries: _,
+            asked: _,
+            tally: _,
+        } = self;
+    }
+}
+
+/// The number before the first blank of a text, and what stands after that blank.
+fn number_and_rest(text: &str) -> Option<(usize, &str)> {
+    let Some((number, rest)) = text.split_once(' ') else {
+        return None;
+    };
+    match number.parse() {
+        Ok(number) => Some((number, rest)),
+        Err(_) => None,
+    }
+}
+
+/// The lines that are changed, those that they become, and the entry where both stop, of `OLD => NEW | N WHAT`.
+fn change_of(row: &str) -> Option<(&str, &str, usize)> {
+    let Some((change, end)) = row.rsplit_once(" | ") else {
+        return None;
+    };
+    match (change.split_once(" => "), number_and_rest(end)) {
+        (Some((old, new)), Some((place, _))) => Some((old, new, place)),
+        _ => None,
+    }
+}
+
+/// The number of entries, the question after them and the answer that is wanted, of `N QUESTION: ANSWER`.
+fn question_of(row: &str) -> Option<(usize, &str, &str)> {
+    let Some((asked, wanted)) = row.split_once(':') else {
+        return None;
+    };
+    match number_and_rest(asked) {
+        Some((count, question)) => Some((count, question, wanted)),
+        None => None,
+    }
 }
 
 impl Walks {
@@ -65,6 +116,24 @@ impl Walks {
         }
     }
 
+    /// The script of the histories.
+    fn script(&self) -> Result<Arc<Script>, HistoryLineFault> {
+        match &self.script {
+            Some(script) => Ok(Arc::try_clone(script)?),
+            None => Err(HistoryLineFault::NothingAbove),
+        }
+    }
+
+    /// Where the compositor stops in a history.
+    fn stops(&self, entries: &[Entry]) -> Result<Option<usize>, HistoryLineFault> {
+        stops_at(self.alloc, self.script()?, self.workers, entries)
+    }
+
+    /// Where the judge stops in a history.
+    fn judged(&self, entries: &[Entry]) -> Result<Option<usize>, HistoryLineFault> {
+        judged_at(self.alloc, self.script()?, self.workers, entries)
+    }
+
     /// Walks through a history, asks the judge about it, and tells where one of them stops at another entry
     /// than the one that is wanted.
     fn walk<R: Print>(
@@ -74,13 +143,12 @@ impl Walks {
         lines: &str,
         wanted: Option<usize>,
     ) -> Result<(), HistoryLineFault> {
-        let Some(script) = &self.script else {
+        if self.script.is_none() {
             return Err(HistoryLineFault::NothingAbove);
-        };
-        let (walked, judged) = (Arc::try_clone(script)?, Arc::try_clone(script)?);
+        }
         let entries = entries(self.alloc, lines)?;
-        let stops = stops_at(self.alloc, walked, self.workers, entries.as_slice())?;
-        let refused = judged_at(self.alloc, judged, self.workers, entries.as_slice())?;
+        let stops = self.stops(entries.as_slice())?;
+        let refused = self.judged(entries.as_slice())?;
         self.compare(rt, line, "the compositor", stops, wanted);
         self.compare(rt, line, "the judge", refused, wanted);
         self.entries = self.entries.saturating_add(entries.len());
@@ -105,7 +173,9 @@ impl Walks {
 
     /// Takes a line with a number of workers.
     fn take_workers(&mut self, text: &str) -> Result<(), HistoryLineFault> {
-        let workers = text.parse::<u32>().map_err(|_| HistoryLineFault::NoForm)?;
+        let Ok(workers) = text.parse::<u32>() else {
+            return Err(HistoryLineFault::NoForm);
+        };
         if workers < 1 || workers > 16 {
             return Err(HistoryLineFault::NoWorkers);
         }
@@ -138,18 +208,27 @@ impl Walks {
         line: usize,
         row: &str,
     ) -> Result<(), HistoryLineFault> {
-        let (change, end) = row.rsplit_once(" | ").ok_or(HistoryLineFault::NoForm)?;
-        let (old, new) = change.split_once(" => ").ok_or(HistoryLineFault::NoForm)?;
-        let (place, _) = end.split_once(' ').ok_or(HistoryLineFault::NoForm)?;
-        let place = place
-            .parse::<usize>()
-            .map_err(|_| HistoryLineFault::NoForm)?;
+        let Some((old, new, place)) = change_of(row) else {
+            return Err(HistoryLineFault::NoForm);
+        };
         let Some(history) = &self.history else {
             return Err(HistoryLineFault::NothingAbove);
         };
         let lines = changed(self.alloc, history.as_str(), old, new)?;
         self.changed = self.changed.saturating_add(1);
         self.walk(rt, line, lines.as_str(), Some(place))
+    }
+
+    /// The answer to a question that is asked after the given number of entries of the history above.
+    fn told(&self, count: usize, question: &str) -> Result<String, HistoryLineFault> {
+        let Some(history) = &self.history else {
+            return Err(HistoryLineFault::NothingAbove);
+        };
+        let entries = entries(self.alloc, history.as_str())?;
+        let Some(before) = entries.as_slice().get(..count) else {
+            return Err(HistoryLineFault::NoForm);
+        };
+        asked_after(self.alloc, self.script()?, self.workers, before, question)
     }
 
     /// Takes a line with a question that is asked inside of the history above: `N QUESTION: ANSWER`.
@@ -159,21 +238,10 @@ impl Walks {
         line: usize,
         row: &str,
     ) -> Result<(), HistoryLineFault> {
-        let (asked, wanted) = row.split_once(':').ok_or(HistoryLineFault::NoForm)?;
-        let (count, question) = asked.split_once(' ').ok_or(HistoryLineFault::NoForm)?;
-        let count = count
-            .parse::<usize>()
-            .map_err(|_| HistoryLineFault::NoForm)?;
-        let (Some(script), Some(history)) = (&self.script, &self.history) else {
-            return Err(HistoryLineFault::NothingAbove);
+        let Some((count, question, wanted)) = question_of(row) else {
+            return Err(HistoryLineFault::NoForm);
         };
-        let script = Arc::try_clone(script)?;
-        let entries = entries(self.alloc, history.as_str())?;
-        let before = entries
-            .as_slice()
-            .get(..count)
-            .ok_or(HistoryLineFault::NoForm)?;
-        let told = asked_after(self.alloc, script, self.workers, before, question)?;
+        let told = self.told(count, question)?;
         if told.as_str() != wanted {
             let _ = rt.println(format_args!("line {line}:{told} for{wanted}"));
             self.tally.count_wrong(line);
@@ -196,7 +264,9 @@ impl<R: Print> Table<R> for Walks {
         if let Some(row) = text.strip_prefix("    ") {
             return self.take_change(rt, line, row);
         }
-        let (key, value) = text.split_once(": ").ok_or(HistoryLineFault::NoForm)?;
+        let Some((key, value)) = text.split_once(": ") else {
+            return Err(HistoryLineFault::NoForm);
+        };
         if let Some(title) = key.strip_prefix("history ") {
             return self.take_history(rt, line, title, value);
         }
