@@ -5,12 +5,11 @@
 //! | `raster: KIND ITEMS TIMES => sum SUM` | what the job of these words makes |
 //! | `pairs: COUNT SEED => pairs N; wrong N; shown otherwise N` | how many pairs of random scenes were tried, and in how many of them the damage drawn over the first picture does not give the second, or a painter shows other pictures |
 
-use crate::fault::DrawLineFault;
 use crate::job::BenchJob;
 use crate::pairs;
 use crate::run::sum_of;
 use std::alloc::Global;
-use test_table::{Answer, LineFault, Subject, numbers, whole};
+use test_table::{Answer, LineFault, Subject, wholes};
 
 /// What is asked about: nothing that stands above.
 #[derive(Drop)]
@@ -19,20 +18,25 @@ pub struct Drawings {
 }
 
 /// Answers with the sum of the job `raster` of these words.
-fn say_sum(alloc: Global, words: &str, answer: &mut Answer) -> Result<(), DrawLineFault> {
-    let (kind, counts) = words.split_once(' ').ok_or(LineFault::NoForm)?;
-    let (items, times) = counts.split_once(' ').ok_or(LineFault::NoForm)?;
-    let job = BenchJob::of_tile(kind, items, times).ok_or(LineFault::NoForm)?;
+fn say_sum(alloc: Global, words: &str, answer: &mut Answer) -> Result<(), LineFault> {
+    let Some((kind, counts)) = words.split_once(' ') else {
+        return Err(LineFault::NoForm);
+    };
+    let Some((items, times)) = counts.split_once(' ') else {
+        return Err(LineFault::NoForm);
+    };
+    let Some(job) = BenchJob::of_tile(kind, items, times) else {
+        return Err(LineFault::NoForm);
+    };
     let sum = sum_of(alloc, job)?;
     answer.say("sum", &[i64::try_from(sum).unwrap_or(i64::MAX)]);
     Ok(())
 }
 
 /// Answers with what came out of pairs of random scenes.
-fn say_pairs(alloc: Global, words: &str, answer: &mut Answer) -> Result<(), DrawLineFault> {
-    let [count, seed] = numbers::<2>(words)?;
-    pairs::say_wrong(alloc, whole(count)?, whole(seed)?, answer)?;
-    Ok(())
+fn say_pairs(alloc: Global, words: &str, answer: &mut Answer) -> Result<(), LineFault> {
+    let [count, seed] = wholes::<2>(words, ' ')?;
+    Ok(pairs::say_wrong(alloc, count, seed, answer)?)
 }
 
 impl Drawings {
@@ -43,17 +47,11 @@ impl Drawings {
 }
 
 impl Subject for Drawings {
-    type Fault = DrawLineFault;
-
-    fn take(&mut self, _key: &str, _value: &str) -> Result<bool, DrawLineFault> {
-        Ok(false)
-    }
-
-    fn ask(&self, kind: &str, question: &str, answer: &mut Answer) -> Result<(), DrawLineFault> {
+    fn ask(&self, kind: &str, question: &str, answer: &mut Answer) -> Result<(), LineFault> {
         match kind {
             "raster" => say_sum(self.alloc, question, answer),
             "pairs" => say_pairs(self.alloc, question, answer),
-            _ => Err(LineFault::NoForm.into()),
+            _ => Err(LineFault::NoForm),
         }
     }
 }

@@ -14,7 +14,6 @@
 #![tactic(auto)]
 
 mod asked;
-mod fault;
 mod job;
 mod large;
 mod pairs;
@@ -29,5 +28,4 @@ mod sketch;
 mod tiles;
 
 pub use asked::Drawings;
-pub use fault::DrawLineFault;
 pub use run::run_job;

@@ -1,6 +1,5 @@
 //! The lines of the table: `NAME: => right COUNT`, where NAME is a case of this crate.
 
-use crate::fault::ChannelFault;
 use crate::{bells, locks, rings, slow_sink, stops, streams};
 use std::alloc::Global;
 use std::sync::Wait;
@@ -14,64 +13,61 @@ pub struct Channels<'a, R: Threads + Wait + Sync> {
     alloc: Global,
 }
 
-/// Tries the case of a name about locks and bells.
-fn try_shared<R: Threads + Wait + Sync>(
+/// Tries the case of a name about bells, or an open gate.
+fn try_plain<R: Threads + Wait + Sync>(
     rt: &R,
-    alloc: Global,
     name: &str,
     checks: &mut Checks,
-) -> Result<bool, ChannelFault> {
+) -> Result<(), LineFault> {
     match name {
-        "fourth pass of three" => locks::fourth_pass_of_three(rt, alloc, checks)?,
-        "entry shows" => locks::entry_shows_to_the_next(rt, alloc, checks)?,
-        "taken turn" => locks::taken_turn_is_busy(rt, alloc, checks)?,
-        "two threads" => locks::two_threads_write(rt, alloc, checks)?,
-        "sixteen threads" => locks::sixteen_threads_write(rt, alloc, checks)?,
         "ring before a sleep" => bells::ring_before_a_sleep(rt, checks),
         "short sleep" => bells::short_sleep_ends(rt, checks),
         "posts" => bells::each_post_has_its_count(rt, checks),
         "closed bell" => bells::sleeper_hears_the_close(rt, checks),
-        _ => return Ok(false),
+        "open gate" => streams::open_gate(checks),
+        _ => return Err(LineFault::NoForm),
     }
-    Ok(true)
+    Ok(())
 }
 
-/// Tries the case of a name about rings.
-fn try_rings<R: Threads + Wait + Sync>(
-    rt: &R,
-    alloc: Global,
-    name: &str,
-    checks: &mut Checks,
-) -> Result<bool, ChannelFault> {
-    match name {
-        "five pieces" => rings::five_pieces_in_order(rt, alloc, checks)?,
-        "served before the end" => rings::served_before_the_end(rt, alloc, checks)?,
-        "owned pieces" => rings::owned_pieces_in_their_turn(rt, alloc, checks)?,
-        "thousand pieces" => rings::thousand_pieces(rt, alloc, checks)?,
-        "failing sink" => rings::sink_fails_at_any_piece(rt, alloc, checks)?,
-        "slow sink" => slow_sink::slow_sink_holds_up(rt, alloc, checks)?,
-        _ => return Ok(false),
-    }
-    Ok(true)
-}
-
-/// Tries the case of a name about sources and sinks, call by call, and about stops.
+/// Tries the case of a name about sources and sinks, call by call, and about stops, or a plain one.
 fn try_ends<R: Threads + Wait + Sync>(
     rt: &R,
     alloc: Global,
     name: &str,
     checks: &mut Checks,
-) -> Result<bool, ChannelFault> {
+) -> Result<(), LineFault> {
     match name {
-        "memory source" => streams::memory_gives_in_steps(alloc, checks)?,
-        "memory sink" => streams::memory_takes_up_to_its_limit(alloc, checks)?,
-        "adapters" => streams::adapters_go_on(alloc, checks)?,
-        "open gate" => streams::open_gate(checks),
-        "stop" => stops::stop_ends_all_turns(rt, alloc, checks)?,
-        "failed put" => stops::failed_put_stops_the_run(rt, alloc, checks)?,
-        _ => return Ok(false),
+        "memory source" => streams::memory_gives_in_steps(alloc, checks),
+        "memory sink" => streams::memory_takes_up_to_its_limit(alloc, checks),
+        "adapters" => streams::adapters_go_on(alloc, checks),
+        "stop" => stops::stop_ends_all_turns(rt, alloc, checks),
+        "failed put" => stops::failed_put_stops_the_run(rt, alloc, checks),
+        _ => try_plain(rt, name, checks),
     }
-    Ok(true)
+}
+
+/// Tries the case of a name.
+fn try_case<R: Threads + Wait + Sync>(
+    rt: &R,
+    alloc: Global,
+    name: &str,
+    checks: &mut Checks,
+) -> Result<(), LineFault> {
+    match name {
+        "fourth pass of three" => locks::fourth_pass_of_three(rt, alloc, checks),
+        "entry shows" => locks::entry_shows_to_the_next(rt, alloc, checks),
+        "taken turn" => locks::taken_turn_is_busy(rt, alloc, checks),
+        "two threads" => locks::two_threads_write(rt, alloc, checks),
+        "sixteen threads" => locks::sixteen_threads_write(rt, alloc, checks),
+        "five pieces" => rings::five_pieces_in_order(rt, alloc, checks),
+        "served before the end" => rings::served_before_the_end(rt, alloc, checks),
+        "owned pieces" => rings::owned_pieces_in_their_turn(rt, alloc, checks),
+        "thousand pieces" => rings::thousand_pieces(rt, alloc, checks),
+        "failing sink" => rings::sink_fails_at_any_piece(rt, alloc, checks),
+        "slow sink" => slow_sink::slow_sink_holds_up(rt, alloc, checks),
+        _ => try_ends(rt, alloc, name, checks),
+    }
 }
 
 impl<'a, R: Threads + Wait + Sync> Channels<'a, R> {
@@ -82,20 +78,9 @@ impl<'a, R: Threads + Wait + Sync> Channels<'a, R> {
 }
 
 impl<'a, R: Threads + Wait + Sync> Subject for Channels<'a, R> {
-    type Fault = ChannelFault;
-
-    fn take(&mut self, _key: &str, _value: &str) -> Result<bool, ChannelFault> {
-        Ok(false)
-    }
-
-    fn ask(&self, kind: &str, _question: &str, answer: &mut Answer) -> Result<(), ChannelFault> {
+    fn ask(&self, kind: &str, _question: &str, answer: &mut Answer) -> Result<(), LineFault> {
         let mut checks = Checks::new(self.alloc);
-        let is_known = try_shared(self.rt, self.alloc, kind, &mut checks)?
-            || try_rings(self.rt, self.alloc, kind, &mut checks)?
-            || try_ends(self.rt, self.alloc, kind, &mut checks)?;
-        if !is_known {
-            return Err(LineFault::NoForm.into());
-        }
-        Ok(checks.say(answer)?)
+        try_case(self.rt, self.alloc, kind, &mut checks)?;
+        checks.say(answer)
     }
 }

@@ -6,7 +6,6 @@
 
 mod bells;
 mod channels;
-mod fault;
 mod lines_sink;
 mod locks;
 mod rings;
@@ -16,4 +15,3 @@ mod streams;
 mod trio;
 
 pub use channels::Channels;
-pub use fault::ChannelFault;

@@ -3,11 +3,10 @@
 ghost use Rattle.std.specs.Prelude.{◌≡◌, ◌<◌, [], All, vec_len, IfOk};
 ghost use Rattle.thread_lock.specs.PassModels.{IsOf};
 
-use crate::fault::ChannelFault;
 use std::alloc::{AllocError, Global};
 use std::sync::Wait;
 use std::thread::{Threads, join};
-use test_table::Checks;
+use test_table::{Checks, LineFault};
 use thread_lock::{
     HeldTurn, Journal, Pass, SplitFault, TurnLock, write_all, write_both, write_note,
 };
@@ -17,25 +16,25 @@ type Lock = TurnLock<Journal>;
 type Slip = Pass<Journal>;
 
 /// A lock around an empty journal, and its first pass.
-fn locked(alloc: Global, most: u32) -> Result<(Lock, Slip), ChannelFault>
+fn locked(alloc: Global, most: u32) -> Result<(Lock, Slip), LineFault>
     requires { 0 < most }
     ensures { IfOk result (λ made. (made.0.most ≡ most) × IsOf made.0 made.1 × (made.1.mine ≡ [])) }
 {
     match TurnLock::new(alloc, Journal::new(alloc, 5), most) {
         Ok(made) => Ok(made),
-        Err((refused, _journal)) => Err(ChannelFault::Memory(refused)),
+        Err((refused, _journal)) => Err(LineFault::Memory(refused)),
     }
 }
 
 /// The next pass of a lock that has a number left.
-fn split<R: Wait>(rt: &R, lock: &Lock, pass: &mut Slip) -> Result<Slip, ChannelFault>
+fn split<R: Wait>(rt: &R, lock: &Lock, pass: &mut Slip) -> Result<Slip, LineFault>
     requires { IsOf lock.now pass.old }
     ensures given { IsOf lock.now pass.new × (pass.new.mine ≡ pass.old.mine) }
     ensures made { IfOk result (λ made. IsOf lock.now made × (made.mine ≡ [])) }
 {
     match lock.split(rt, pass) {
         Ok(made) => Ok(made),
-        Err(SplitFault::Full) => Err(ChannelFault::Refused),
+        Err(SplitFault::Full) => Err(LineFault::CallRefused),
     }
 }
 
@@ -46,7 +45,7 @@ fn split_all<R: Wait>(
     lock: &Lock,
     first: Slip,
     count: u32,
-) -> Result<Vec<Slip>, ChannelFault>
+) -> Result<Vec<Slip>, LineFault>
     requires { IsOf lock.now first }
     ensures { IfOk result (λ passes. All (IsOf lock.now) passes.items × (0 < vec_len passes)) }
 {
@@ -54,9 +53,9 @@ fn split_all<R: Wait>(
     let mut passes = Vec::new(alloc);
     for _ in 0..count {
         let pass = split(rt, lock, &mut first)?;
-        passes.push(pass).map_err(AllocError::from)?;
+        passes.push(pass)?;
     }
-    passes.push(first).map_err(AllocError::from)?;
+    passes.push(first)?;
     Ok(passes)
 }
 
@@ -97,7 +96,7 @@ pub fn fourth_pass_of_three<R: Wait>(
     rt: &R,
     alloc: Global,
     checks: &mut Checks,
-) -> Result<(), ChannelFault> {
+) -> Result<(), LineFault> {
     let (lock, mut first) = locked(alloc, 3)?;
     let second = split(rt, &lock, &mut first)?;
     let third = split(rt, &lock, &mut first)?;
@@ -106,16 +105,16 @@ pub fn fourth_pass_of_three<R: Wait>(
     let is_full = matches!(lock.split(rt, &mut first), Err(SplitFault::Full));
     checks.holds("no fourth", is_full);
     let mut passes = Vec::new(alloc);
-    passes.push(first).map_err(AllocError::from)?;
-    passes.push(second).map_err(AllocError::from)?;
+    passes.push(first)?;
+    passes.push(second)?;
     let Err(out) = lock.close(passes) else {
-        return Err(ChannelFault::Refused);
+        return Err(LineFault::CallRefused);
     };
     checks.same("two of three", &(out.given, out.most), &(2, 3));
     let mut passes = out.passes;
-    passes.push(third).map_err(AllocError::from)?;
+    passes.push(third)?;
     let Ok(journal) = out.lock.close(passes) else {
-        return Err(ChannelFault::Refused);
+        return Err(LineFault::CallRefused);
     };
     checks.same("its title", &journal.title(), &5);
     checks.holds("no note", journal.notes().is_empty());
@@ -127,7 +126,7 @@ pub fn entry_shows_to_the_next<R: Wait>(
     rt: &R,
     alloc: Global,
     checks: &mut Checks,
-) -> Result<(), ChannelFault> {
+) -> Result<(), LineFault> {
     let (lock, mut first) = locked(alloc, 2)?;
     let second = split(rt, &lock, &mut first)?;
     let (_first, wrote) = write_note(rt, &lock, first, 7);
@@ -144,7 +143,7 @@ pub fn taken_turn_is_busy<R: Wait>(
     rt: &R,
     alloc: Global,
     checks: &mut Checks,
-) -> Result<(), ChannelFault> {
+) -> Result<(), LineFault> {
     let (lock, mut first) = locked(alloc, 2)?;
     let second = split(rt, &lock, &mut first)?;
     let (journal, empty) = lock.enter(rt, first).take();
@@ -156,7 +155,7 @@ pub fn taken_turn_is_busy<R: Wait>(
     checks.same("the second", &second.actor(), &1);
     let _first = empty.put(&lock, journal);
     let Ok(held) = lock.try_enter(second) else {
-        return Err(ChannelFault::Refused);
+        return Err(LineFault::CallRefused);
     };
     leave(&lock, held);
     Ok(())
@@ -167,7 +166,7 @@ pub fn two_threads_write<R: Threads + Wait + Sync>(
     rt: &R,
     alloc: Global,
     checks: &mut Checks,
-) -> Result<(), ChannelFault> {
+) -> Result<(), LineFault> {
     let (lock, mut first) = locked(alloc, 2)?;
     let second = split(rt, &lock, &mut first)?;
     let numbers = numbers_below(alloc, 1000)?;
@@ -181,7 +180,7 @@ pub fn two_threads_write<R: Threads + Wait + Sync>(
         numbers.as_slice(),
     );
     let Ok(journal) = written else {
-        return Err(ChannelFault::Refused);
+        return Err(LineFault::CallRefused);
     };
     checks.same("by two threads", &journal.notes().len(), &2000);
     for actor in 0..2 {
@@ -217,7 +216,7 @@ fn write_each<R: Threads + Wait + Sync>(
     );
     wrote?;
     let mut written = others?;
-    written.push(pass).map_err(AllocError::from)?;
+    written.push(pass)?;
     Ok(written)
 }
 
@@ -226,13 +225,13 @@ pub fn sixteen_threads_write<R: Threads + Wait + Sync>(
     rt: &R,
     alloc: Global,
     checks: &mut Checks,
-) -> Result<(), ChannelFault> {
+) -> Result<(), LineFault> {
     let (lock, first) = locked(alloc, 16)?;
     let passes = split_all(rt, alloc, &lock, first, 15)?;
     let numbers = numbers_below(alloc, 1000)?;
     let passes = write_each(rt, &lock, passes, numbers.as_slice())?;
     let Ok(journal) = lock.close(passes) else {
-        return Err(ChannelFault::Refused);
+        return Err(LineFault::CallRefused);
     };
     checks.same("by sixteen threads", &journal.notes().len(), &16000);
     for actor in 0..16 {

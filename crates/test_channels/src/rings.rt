@@ -6,7 +6,7 @@ use recording_pieces::{Painters, ScenePainter, SceneSink};
 use std::alloc::{AllocError, Global};
 use std::sync::Wait;
 use std::thread::{Threads, join_mut};
-use test_table::Checks;
+use test_table::{Checks, LineFault};
 use thread_ring::{Presented, finish, present_from, ring};
 use viz_scene::Scene;
 
@@ -93,7 +93,7 @@ pub fn five_pieces_in_order<R: Threads + Wait + Sync>(
     rt: &R,
     alloc: Global,
     checks: &mut Checks,
-) -> Result<(), AllocError> {
+) -> Result<(), LineFault> {
     let mut endless = MemSink::endless(alloc);
     let presented = five_through(rt, alloc, checks, &mut endless)?;
     checks.same("to an endless sink", &presented, &Presented::Written);
@@ -111,7 +111,7 @@ pub fn served_before_the_end<R: Threads + Wait + Sync>(
     rt: &R,
     alloc: Global,
     checks: &mut Checks,
-) -> Result<(), AllocError> {
+) -> Result<(), LineFault> {
     let (mut sink, mut presenter) = ring(alloc)?;
     let mut painters: Painters<Refuser> = Painters::new(alloc, 1);
     for byte in 1..=70 {
@@ -135,7 +135,7 @@ pub fn owned_pieces_in_their_turn<R: Threads + Wait + Sync>(
     rt: &R,
     alloc: Global,
     checks: &mut Checks,
-) -> Result<(), AllocError> {
+) -> Result<(), LineFault> {
     let (mut sink, mut presenter) = ring(alloc)?;
     checks.same("1", &sink.put(&[1]), &Ok(()));
     let put = sink.put_owned(vec![in alloc; 2, 3]?);
@@ -157,7 +157,7 @@ pub fn thousand_pieces<R: Threads + Wait + Sync>(
     rt: &R,
     alloc: Global,
     checks: &mut Checks,
-) -> Result<(), AllocError> {
+) -> Result<(), LineFault> {
     let pieces = pieces_of(alloc, 1000, 2741, 5000)?;
     let mut out = MemSink::endless(alloc);
     let mut painters: Painters<Refuser> = Painters::new(alloc, 2);
@@ -199,7 +199,7 @@ pub fn sink_fails_at_any_piece<R: Threads + Wait + Sync>(
     rt: &R,
     alloc: Global,
     checks: &mut Checks,
-) -> Result<(), AllocError> {
+) -> Result<(), LineFault> {
     let mut front = Vec::new(alloc);
     for failing in 0..4_u8 {
         let (answer, out) = put_until(rt, alloc, checks, failing as u64)?;

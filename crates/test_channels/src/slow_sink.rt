@@ -8,7 +8,7 @@ use std::marker::Send;
 use std::sync::Wait;
 use std::sync::atomic::{AtomicU64, Ordering};
 use std::thread::{Threads, join_mut, yield_now};
-use test_table::Checks;
+use test_table::{Checks, LineFault};
 use thread_ring::{Presented, RingSink, ring_within};
 
 /// How often a wait looks before it is given up, and after how many looks it lets another thread run.
@@ -107,7 +107,7 @@ pub fn slow_sink_holds_up<R: Threads + Wait + Sync>(
     rt: &R,
     alloc: Global,
     checks: &mut Checks,
-) -> Result<(), AllocError> {
+) -> Result<(), LineFault> {
     let piece = large(alloc, 7)?;
     let flow = Flow {
         put: AtomicU64::new(0),

@@ -7,7 +7,6 @@ ghost use Rattle.proxy_threads.specs.Seats.{past_of};
 ghost use Rattle.thread_lock.specs.PassModels.{IsOf};
 ghost use Rattle.test_channels.specs.Passes.{IsFresh, IsStill};
 
-use crate::fault::ChannelFault;
 use crate::lines_sink::LinesSink;
 use crate::trio::{Trio, trio_of};
 use impl_core::Core;
@@ -18,7 +17,7 @@ use proxy_threads::{CompActor, MainActor, RasterActor, Turned};
 use recording_pieces::SceneSink;
 use std::alloc::{AllocError, Global};
 use std::sync::{Arc, Wait};
-use test_table::Checks;
+use test_table::{Checks, LineFault};
 use thread_lock::{HeldTurn, Pass, TurnLock};
 
 /// The core goes back as it was.
@@ -30,11 +29,7 @@ fn leave(lock: &TurnLock<Core>, held: HeldTurn<Core>)
 }
 
 /// Enters the stop of worker 0 under the turn.
-fn stop<R: Wait>(
-    rt: &R,
-    lock: &TurnLock<Core>,
-    pass: Pass<Core>,
-) -> Result<Pass<Core>, ChannelFault>
+fn stop<R: Wait>(rt: &R, lock: &TurnLock<Core>, pass: Pass<Core>) -> Result<Pass<Core>, LineFault>
     requires { IsFresh lock.now 2 pass }
     ensures same { IfOk result (λ stopped. IsStill pass stopped) }
     ensures free { IfOk result (λ stopped. held 0 (past_of stopped.mine) ≡ None) }
@@ -43,7 +38,7 @@ fn stop<R: Wait>(
     let found = held.value();
     if found.ended() || found.workers() != 1 {
         leave(lock, held);
-        return Err(ChannelFault::Refused);
+        return Err(LineFault::CallRefused);
     }
     let (mut core, empty) = held.take();
     core.stop(2);
@@ -109,16 +104,16 @@ fn close(
     comp: Pass<Core>,
     main: Pass<Core>,
     worker: Pass<Core>,
-) -> Result<Core, ChannelFault>
+) -> Result<Core, LineFault>
     requires { IsOf lock comp × IsOf lock main × IsOf lock worker }
 {
     let mut passes = Vec::new(alloc);
-    passes.push(comp).map_err(AllocError::from)?;
-    passes.push(main).map_err(AllocError::from)?;
-    passes.push(worker).map_err(AllocError::from)?;
+    passes.push(comp)?;
+    passes.push(main)?;
+    passes.push(worker)?;
     match lock.close(passes) {
         Ok(core) => Ok(core),
-        Err(_) => Err(ChannelFault::Refused),
+        Err(_) => Err(LineFault::CallRefused),
     }
 }
 
@@ -144,7 +139,7 @@ pub fn stop_ends_all_turns<R: Wait>(
     rt: &R,
     alloc: Global,
     checks: &mut Checks,
-) -> Result<(), ChannelFault> {
+) -> Result<(), LineFault> {
     let Trio {
         lock,
         comp,
@@ -179,7 +174,7 @@ pub fn failed_put_stops_the_run<R: Wait>(
     rt: &R,
     alloc: Global,
     checks: &mut Checks,
-) -> Result<(), ChannelFault> {
+) -> Result<(), LineFault> {
     let Trio {
         lock,
         comp,

@@ -6,7 +6,7 @@ use player_io::{
 };
 use std::alloc::{AllocError, Global};
 use std::io::{Error, ErrorKind, Read, Write};
-use test_table::Checks;
+use test_table::{Checks, LineFault};
 
 /// What one call of a fake reader or writer does.
 #[derive(Clone, Copy)]
@@ -70,7 +70,7 @@ fn put_owned_once<K: Sink>(sink: &mut K, piece: Vec<u8>) -> Result<(), PutFault>
 }
 
 /// A source in memory gives in steps, and fails as told.
-pub fn memory_gives_in_steps(alloc: Global, checks: &mut Checks) -> Result<(), AllocError> {
+pub fn memory_gives_in_steps(alloc: Global, checks: &mut Checks) -> Result<(), LineFault> {
     let bytes = vec![in alloc; 1, 2, 3, 4, 5]?;
     let fails = vec![in alloc; 1]?;
     let mut source = MemSource::new(bytes, 2, fails);
@@ -91,7 +91,7 @@ pub fn memory_gives_in_steps(alloc: Global, checks: &mut Checks) -> Result<(), A
 }
 
 /// A sink in memory takes up to its limit, and fails as told.
-pub fn memory_takes_up_to_its_limit(alloc: Global, checks: &mut Checks) -> Result<(), AllocError> {
+pub fn memory_takes_up_to_its_limit(alloc: Global, checks: &mut Checks) -> Result<(), LineFault> {
     let fails = vec![in alloc; 1]?;
     let mut sink = MemSink::new(alloc, 495, fails);
     let piece = [7; 248];
@@ -114,7 +114,7 @@ pub fn memory_takes_up_to_its_limit(alloc: Global, checks: &mut Checks) -> Resul
 }
 
 /// Adapters go on after interrupts and short writes.
-pub fn adapters_go_on(alloc: Global, checks: &mut Checks) -> Result<(), AllocError> {
+pub fn adapters_go_on(alloc: Global, checks: &mut Checks) -> Result<(), LineFault> {
     let steps = vec![in alloc;
         Step::Fails(ErrorKind::Interrupted),
         Step::Moves(2),

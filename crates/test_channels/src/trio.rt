@@ -4,12 +4,12 @@ ghost use Rattle.std.specs.Prelude.{◌≡◌, ◌≤◌, Some, IfOk};
 ghost use Rattle.impl_core.specs.Origins.{Origin};
 ghost use Rattle.test_channels.specs.Passes.{IsFresh, IsStill};
 
-use crate::fault::ChannelFault;
 use impl_core::Core;
 use model_history::Script;
 use script_json::read_script;
 use std::alloc::{AllocError, Global};
 use std::sync::{Arc, Wait};
+use test_table::LineFault;
 use thread_lock::{Pass, TurnLock};
 
 /// A script of one layer of two pixels, drawn once.
@@ -44,7 +44,7 @@ fn split<R: Wait>(
     lock: &TurnLock<Core>,
     pass: &mut Pass<Core>,
     actor: u32,
-) -> Result<Pass<Core>, ChannelFault>
+) -> Result<Pass<Core>, LineFault>
     requires { IsFresh lock.now 0 pass.old }
     ensures given { IsFresh lock.now 0 pass.new }
     ensures same { IsStill pass.old pass.new }
@@ -52,16 +52,16 @@ fn split<R: Wait>(
     ensures stem { IfOk result (λ made. made.stem ≡ pass.old.stem) }
 {
     let Ok(made) = lock.split(rt, pass) else {
-        return Err(ChannelFault::Refused);
+        return Err(LineFault::CallRefused);
     };
     if made.actor() != actor {
-        return Err(ChannelFault::Refused);
+        return Err(LineFault::CallRefused);
     }
     Ok(made)
 }
 
 /// The actors of a new run of the script with one worker.
-pub fn trio_of<R: Wait>(rt: &R, alloc: Global) -> Result<Trio, ChannelFault>
+pub fn trio_of<R: Wait>(rt: &R, alloc: Global) -> Result<Trio, LineFault>
     ensures comp { IfOk result (λ trio. IsFresh trio.lock 0 trio.comp) }
     ensures main { IfOk result (λ trio. IsFresh trio.lock 1 trio.main) }
     ensures worker { IfOk result (λ trio. IsFresh trio.lock 2 trio.worker) }
@@ -69,9 +69,9 @@ pub fn trio_of<R: Wait>(rt: &R, alloc: Global) -> Result<Trio, ChannelFault>
     ensures worker_stem { IfOk result (λ trio. trio.worker.stem ≡ Some (record { script = trio.script.value; workers = 1 })) }
 {
     let Ok(read) = read_script(alloc, SCRIPT) else {
-        return Err(ChannelFault::Refused);
+        return Err(LineFault::CallRefused);
     };
-    let script = Arc::new(alloc, read).map_err(AllocError::from)?;
+    let script = Arc::new(alloc, read)?;
     let shared = Arc::try_clone(&script).map_err(|_| AllocError)?;
     let (lock, mut comp) = lock_of(alloc, shared)?;
     let main = split(rt, &lock, &mut comp, 1)?;

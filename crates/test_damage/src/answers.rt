@@ -1,12 +1,11 @@
 //! The lines of the table, and what they ask.
 
 use crate::asks;
-use crate::fault::DamageLineFault;
 use crate::pages::scene_of_script;
 use crate::parts::{image_of, scene_of_text};
 use std::alloc::{AllocError, Global};
 use std::sync::Arc;
-use test_table::{Answer, LineFault, Subject, numbers, whole};
+use test_table::{Answer, LineFault, Subject, wholes};
 use tile_raster::TileImage;
 use viz_painter::{Painter, Redrawer};
 use viz_scene::Scene;
@@ -59,7 +58,7 @@ impl Scenes {
     }
 
     /// The scene of a line.
-    fn scene_of_line(&self, line: &Option<SceneLine>) -> Result<Scene, DamageLineFault> {
+    fn scene_of_line(&self, line: &Option<SceneLine>) -> Result<Scene, LineFault> {
         match line {
             Some(SceneLine::Parts(text)) => {
                 scene_of_text(self.alloc, self.images.as_slice(), text.as_str())
@@ -67,12 +66,12 @@ impl Scenes {
             Some(SceneLine::Page(missing)) => {
                 scene_of_script(self.alloc, self.script.as_str(), missing.as_str())
             }
-            None => Err(DamageLineFault::NoScene),
+            None => Err(LineFault::NoScene),
         }
     }
 
     /// Shows both scenes and the old one again.
-    fn show_both(&self, answer: &mut Answer) -> Result<(), DamageLineFault> {
+    fn show_both(&self, answer: &mut Answer) -> Result<(), LineFault> {
         let mut painter = Painter::new(self.alloc, 1, 1)?;
         let old = self.scene_of_line(&self.old)?;
         asks::show(&mut painter, old, answer)?;
@@ -85,7 +84,7 @@ impl Scenes {
     }
 
     /// Shows both scenes and the old one again in a buffer, whose rows have a gap of one pixel of sevens.
-    fn show_in_buffer(&self, answer: &mut Answer) -> Result<(), DamageLineFault> {
+    fn show_in_buffer(&self, answer: &mut Answer) -> Result<(), LineFault> {
         let old = self.scene_of_line(&self.old)?;
         let (w, h) = (old.w(), old.h());
         let mut bytes = vec![in self.alloc; 7u8; 4 * ((w as usize + 1) * h as usize)]?;
@@ -101,7 +100,7 @@ impl Scenes {
     }
 
     /// Answers a question about the change from the old scene to the new one.
-    fn ask_change(&self, kind: &str, answer: &mut Answer) -> Result<(), DamageLineFault> {
+    fn ask_change(&self, kind: &str, answer: &mut Answer) -> Result<(), LineFault> {
         let old = self.scene_of_line(&self.old)?;
         let new = self.scene_of_line(&self.new)?;
         match kind {
@@ -112,10 +111,11 @@ impl Scenes {
     }
 
     /// Says the colour of the image of a number.
-    fn ask_colour(&self, question: &str, answer: &mut Answer) -> Result<(), DamageLineFault> {
-        let [number] = numbers::<1>(question)?;
-        let place = whole(number)? as usize;
-        let image = self.images.get(place).ok_or(LineFault::NoNumber)?;
+    fn ask_colour(&self, question: &str, answer: &mut Answer) -> Result<(), LineFault> {
+        let [place] = wholes::<1>(question, ' ')?;
+        let Some(image) = self.images.get(place as usize) else {
+            return Err(LineFault::NoNumber);
+        };
         asks::colour(image, answer);
         Ok(())
     }
@@ -126,17 +126,15 @@ impl Scenes {
     }
 
     /// Takes an image.
-    fn take_image(&mut self, text: &str) -> Result<(), DamageLineFault> {
+    fn take_image(&mut self, text: &str) -> Result<(), LineFault> {
         let image = image_of(self.alloc, text)?;
-        self.images.push(image).map_err(AllocError::from)?;
+        self.images.push(image)?;
         Ok(())
     }
 }
 
 impl Subject for Scenes {
-    type Fault = DamageLineFault;
-
-    fn take(&mut self, key: &str, value: &str) -> Result<bool, DamageLineFault> {
+    fn take(&mut self, key: &str, value: &str) -> Result<bool, LineFault> {
         match key {
             "image" => self.take_image(value)?,
             "scene" => self.take_scene(SceneLine::Parts(value.to_string(self.alloc)?)),
@@ -147,7 +145,7 @@ impl Subject for Scenes {
         Ok(true)
     }
 
-    fn ask(&self, kind: &str, question: &str, answer: &mut Answer) -> Result<(), DamageLineFault> {
+    fn ask(&self, kind: &str, question: &str, answer: &mut Answer) -> Result<(), LineFault> {
         match kind {
             "damage" | "painted" | "redrawn" => self.ask_change(kind, answer),
             "shown" => self.show_both(answer),
@@ -157,7 +155,7 @@ impl Subject for Scenes {
                 let new = self.scene_of_line(&self.new)?;
                 asks::culled(self.alloc, &new, answer)
             }
-            _ => Err(LineFault::NoForm.into()),
+            _ => Err(LineFault::NoForm),
         }
     }
 }

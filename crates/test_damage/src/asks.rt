@@ -3,10 +3,9 @@
 ghost use Rattle.std.specs.Prelude.{◌≡◌, ◌+◌, ◌*◌, ◌≤◌, [], ◌∷◌, length, IsTrue};
 ghost use Rattle.viz_painter.specs.Redrawers.{ShowsHeld};
 
-use crate::fault::DamageLineFault;
 use crate::pictures::{differing, drawn, point_count, say_pixels};
 use std::alloc::Global;
-use test_table::Answer;
+use test_table::{Answer, LineFault};
 use tile_raster::TileImage;
 use viz_canvas::Rgba;
 use viz_damage::damage_of;
@@ -28,9 +27,9 @@ pub fn damage(
     old: &Scene,
     new: &Scene,
     answer: &mut Answer,
-) -> Result<(), DamageLineFault> {
+) -> Result<(), LineFault> {
     if !are_of_one_size(old, new) {
-        return Err(DamageLineFault::OtherSize);
+        return Err(LineFault::OtherSize);
     }
     let region = damage_of(alloc, old, new)?;
     for rect in region.rects() {
@@ -49,7 +48,7 @@ pub fn painted(
     old: &Scene,
     new: &Scene,
     answer: &mut Answer,
-) -> Result<(), DamageLineFault> {
+) -> Result<(), LineFault> {
     let before = cull(alloc, old)?;
     let after = cull(alloc, new)?;
     damage(alloc, &before, &after, answer)
@@ -61,9 +60,9 @@ pub fn redrawn(
     old: &Scene,
     new: &Scene,
     answer: &mut Answer,
-) -> Result<(), DamageLineFault> {
+) -> Result<(), LineFault> {
     if !are_of_one_size(old, new) {
-        return Err(DamageLineFault::OtherSize);
+        return Err(LineFault::OtherSize);
     }
     let mut canvas = drawn(alloc, old)?;
     let region = damage_of(alloc, old, new)?;
@@ -77,7 +76,7 @@ pub fn show(
     painter: &mut Painter<Rgba>,
     scene: Scene,
     answer: &mut Answer,
-) -> Result<(), DamageLineFault> {
+) -> Result<(), LineFault> {
     painter.paint(scene)?;
     say_pixels(answer, painter.canvas().bytes());
     Ok(())
@@ -91,14 +90,14 @@ pub fn redraw(
     h: u32,
     buffer: &mut [u8],
     answer: &mut Answer,
-) -> Result<(), DamageLineFault>
+) -> Result<(), LineFault>
     requires small { w ≤ 2048 }
     requires size { length buffer.old ≡ 4 * ((w + 1) * h) }
     requires held { ShowsHeld 4 (λ c. c.r ∷ c.g ∷ c.b ∷ c.a ∷ []) (w + 1) redrawer.old.held buffer.old }
     ensures { ShowsHeld 4 (λ c. c.r ∷ c.g ∷ c.b ∷ c.a ∷ []) (w + 1) redrawer.new.held buffer.new }
 {
     if scene.w() != w || scene.h() != h {
-        return Err(DamageLineFault::OtherSize);
+        return Err(LineFault::OtherSize);
     }
     redrawer.paint(scene, buffer, w as usize + 1)?;
     say_pixels(answer, buffer);
@@ -120,7 +119,7 @@ fn say_quad(quad: &Quad, answer: &mut Answer) {
 }
 
 /// Says the quads of a scene that are not hidden.
-pub fn culled(alloc: Global, scene: &Scene, answer: &mut Answer) -> Result<(), DamageLineFault> {
+pub fn culled(alloc: Global, scene: &Scene, answer: &mut Answer) -> Result<(), LineFault> {
     let culled = cull(alloc, scene)?;
     for pass in culled.passes() {
         answer.say("pass", &[]);

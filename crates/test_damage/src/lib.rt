@@ -26,11 +26,9 @@
 
 mod answers;
 mod asks;
-mod fault;
 mod pages;
 mod parts;
 mod pictures;
 mod words;
 
 pub use answers::Scenes;
-pub use fault::DamageLineFault;

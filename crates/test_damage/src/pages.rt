@@ -6,13 +6,12 @@ ghost use Rattle.page_properties.specs.OffsetMap.{offset_at, AreOffsets};
 ghost use Rattle.page_layers.specs.Pages.{Page};
 ghost use Rattle.viz_quads.specs.ShownTiles.{tile_of, AreShownTiles};
 
-use crate::fault::DamageLineFault;
 use page_layers::{LayerTree, main_offsets};
 use page_properties::Offsets;
 use pixel::Colour;
 use script_json::read_script;
 use std::alloc::{AllocError, Global};
-use test_table::{numbers, whole};
+use test_table::{LineFault, wholes};
 use viz_quads::{ShownTile, make_all, quads_of};
 use viz_scene::Scene;
 
@@ -25,18 +24,17 @@ fn take_image(tiles: &mut Vec<ShownTile>, place: usize)
 }
 
 // takes the image of the tile of a number away, where a text is one
-fn take_named(tiles: &mut Vec<ShownTile>, text: &str) -> Result<(), DamageLineFault>
+fn take_named(tiles: &mut Vec<ShownTile>, text: &str) -> Result<(), LineFault>
     ensures { OnOk result ((p : Page) (offset : ℕ → Point) → AreShownTiles p offset (map tile_of tiles.old.items) → AreShownTiles p offset (map tile_of tiles.new.items)) }
 {
     if text == "none" {
         return Ok(());
     }
-    let [place] = numbers::<1>(text)?;
-    let place = whole(place)? as usize;
-    if place >= tiles.len() {
-        return Err(DamageLineFault::NoPage);
+    let [place] = wholes::<1>(text, ' ')?;
+    if place as usize >= tiles.len() {
+        return Err(LineFault::NoPage);
     }
-    take_image(tiles, place);
+    take_image(tiles, place as usize);
     Ok(())
 }
 
@@ -46,7 +44,7 @@ fn tiles_of(
     tree: &LayerTree,
     offsets: &Offsets,
     missing: &str,
-) -> Result<Vec<ShownTile>, DamageLineFault>
+) -> Result<Vec<ShownTile>, LineFault>
     requires { AreOffsets (offset_at offsets.now) }
     ensures { IfOk result (λ tiles. AreShownTiles tree.now (offset_at offsets.now) (map tile_of tiles.items)) }
 {
@@ -69,7 +67,7 @@ fn scene_of_page(
     tree: &LayerTree,
     background: Colour,
     missing: &str,
-) -> Result<Scene, DamageLineFault> {
+) -> Result<Scene, LineFault> {
     let view = tree.view();
     let offsets = offsets_of(alloc, tree)?;
     let tiles = tiles_of(alloc, tree, &offsets, missing)?;
@@ -88,13 +86,9 @@ fn scene_of_page(
 
 /// The scene of the page of a script after all its main frames, whose scrollers stand at their main values, and
 /// where the tile of a number is missing; the text is the number or `none`.
-pub fn scene_of_script(
-    alloc: Global,
-    script: &str,
-    missing: &str,
-) -> Result<Scene, DamageLineFault> {
+pub fn scene_of_script(alloc: Global, script: &str, missing: &str) -> Result<Scene, LineFault> {
     let Ok(script) = read_script(alloc, script.as_bytes()) else {
-        return Err(DamageLineFault::NoPage);
+        return Err(LineFault::NoPage);
     };
     let background = script.background();
     let page = script.page(alloc)?;

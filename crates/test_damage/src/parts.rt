@@ -1,20 +1,20 @@
 //! Images and scenes from their texts.
 
 ghost use Rattle.std.specs.Prelude.{IfOk};
+ghost use Rattle.geom.specs.Covers.{IsSound};
 ghost use Rattle.page_display_list.specs.Content.{IsSoundItem};
 
-use crate::fault::DamageLineFault;
 use crate::words::{byte, colour, point, rect};
-use geom::TileKey;
+use geom::{Rect, TileKey};
 use page_display_list::{DisplayList, Item};
 use std::alloc::{AllocError, Global};
 use std::sync::Arc;
-use test_table::{LineFault, numbers, whole};
+use test_table::{LineFault, numbers, whole, wholes};
 use tile_raster::{Job, TileImage};
 use viz_scene::{Quad, RenderPass, Scene, scene_of};
 
 // an item of one colour
-fn item_of(text: &str) -> Result<Item, DamageLineFault>
+fn item_of(text: &str) -> Result<Item, LineFault>
     ensures { IfOk result IsSoundItem }
 {
     let [x, y, w, h, r, g, b, a] = numbers::<8>(text)?;
@@ -23,64 +23,79 @@ fn item_of(text: &str) -> Result<Item, DamageLineFault>
     Ok(Item::Rect { rect, colour })
 }
 
-// adds an item to a list
-fn push_item(list: &mut DisplayList, item: Item) -> Result<(), DamageLineFault>
-    requires { IsSoundItem item }
-{
+// adds the item of a text to a list
+fn push_item(list: &mut DisplayList, text: &str) -> Result<(), LineFault> {
+    let item = item_of(text)?;
     let at = list.len();
     if at >= 256 {
-        return Err(LineFault::NoNumber.into());
+        return Err(LineFault::NoNumber);
     }
     match list.insert(at, item) {
         Ok(()) => Ok(()),
-        Err((full, _item)) => Err(DamageLineFault::Memory(full)),
+        Err((full, _item)) => Err(LineFault::Memory(full)),
     }
 }
 
 // the list of some items
-fn list_of(alloc: Global, items: &str) -> Result<DisplayList, DamageLineFault> {
+fn list_of(alloc: Global, items: &str) -> Result<DisplayList, LineFault> {
     let mut list = DisplayList::new(alloc);
     for item in items.split("; ") {
-        push_item(&mut list, item_of(item)?)?;
+        push_item(&mut list, item)?;
     }
     Ok(list)
 }
 
-/// The image of a text: `LAYER COLUMN ROW STAMP W H; ITEM; ..`.
-pub fn image_of(alloc: Global, text: &str) -> Result<Arc<TileImage>, DamageLineFault> {
-    let (head, items) = text.split_once("; ").ok_or(LineFault::NoForm)?;
-    let [layer, x, y, stamp, w, h] = numbers::<6>(head)?;
-    let key = TileKey {
-        layer: whole(layer)?,
-        x: whole(x)?,
-        y: whole(y)?,
-        stamp: whole(stamp)?,
+// the key and the rect of an image: `LAYER COLUMN ROW STAMP W H`
+fn head_of(text: &str) -> Result<(TileKey, Rect), LineFault>
+    ensures { IfOk result (λ head. IsSound head.1) }
+{
+    let [layer, x, y, stamp, w, h] = wholes::<6>(text, ' ')?;
+    let rect = rect([0, 0, i64::from(w), i64::from(h)])?;
+    Ok((TileKey { layer, x, y, stamp }, rect))
+}
+
+// the image of a tile that shows a list
+fn image_under(
+    alloc: Global,
+    key: TileKey,
+    list: DisplayList,
+    rect: Rect,
+) -> Result<Arc<TileImage>, AllocError>
+    requires { IsSound rect }
+{
+    let Ok(list) = Arc::new(alloc, list) else {
+        return Err(AllocError);
     };
-    let rect = rect([0, 0, w, h])?;
-    let Ok(list) = Arc::new(alloc, list_of(alloc, items)?) else {
-        return Err(DamageLineFault::Memory(AllocError));
-    };
-    let job = Job { key, list, rect };
-    match job.run(alloc) {
+    match (Job { key, list, rect }).run(alloc) {
         Ok(image) => Ok(image),
-        Err((full, _job)) => Err(DamageLineFault::Memory(full)),
+        Err((full, _job)) => Err(full),
     }
 }
 
+/// The image of a text: `LAYER COLUMN ROW STAMP W H; ITEM; ..`.
+pub fn image_of(alloc: Global, text: &str) -> Result<Arc<TileImage>, LineFault> {
+    let Some((head, items)) = text.split_once("; ") else {
+        return Err(LineFault::NoForm);
+    };
+    let (key, rect) = head_of(head)?;
+    let list = list_of(alloc, items)?;
+    Ok(image_under(alloc, key, list, rect)?)
+}
+
 // the quad of a tile
-fn tile_of(images: &[Arc<TileImage>], text: &str) -> Result<Quad, DamageLineFault> {
+fn tile_of(images: &[Arc<TileImage>], text: &str) -> Result<Quad, LineFault> {
     let [image, x, y, w, h, from_x, from_y] = numbers::<7>(text)?;
     let at = rect([x, y, w, h])?;
     let from = point([from_x, from_y])?;
-    let image = images
-        .get(whole(image)? as usize)
-        .ok_or(LineFault::NoNumber)?;
+    let Some(image) = images.get(whole(image)? as usize) else {
+        return Err(LineFault::NoNumber);
+    };
     let image = Arc::try_clone(image)?;
     Ok(Quad::Tile { image, at, from })
 }
 
 // the quad of a rect of one colour
-fn solid_of(text: &str) -> Result<Quad, DamageLineFault> {
+fn solid_of(text: &str) -> Result<Quad, LineFault> {
     let [x, y, w, h, r, g, b, a] = numbers::<8>(text)?;
     let at = rect([x, y, w, h])?;
     let colour = colour([r, g, b, a])?;
@@ -88,44 +103,63 @@ fn solid_of(text: &str) -> Result<Quad, DamageLineFault> {
 }
 
 // the quad of a group
-fn group_of(text: &str) -> Result<Quad, DamageLineFault> {
-    let [pass, opacity] = numbers::<2>(text)?;
-    let pass = whole(pass)?;
-    let opacity = byte(opacity)?;
+fn group_of(text: &str) -> Result<Quad, LineFault> {
+    let [pass, opacity] = wholes::<2>(text, ' ')?;
+    let opacity = byte(i64::from(opacity))?;
     Ok(Quad::Group { pass, opacity })
 }
 
 // the quad of a part
-fn quad_of(images: &[Arc<TileImage>], text: &str) -> Result<Quad, DamageLineFault> {
+fn quad_of(images: &[Arc<TileImage>], text: &str) -> Result<Quad, LineFault> {
     match text.split_once(' ') {
         Some(("tile", rest)) => tile_of(images, rest),
         Some(("solid", rest)) => solid_of(rest),
         Some(("group", rest)) => group_of(rest),
-        _ => Err(LineFault::NoForm.into()),
+        _ => Err(LineFault::NoForm),
     }
 }
 
-// the passes of some parts; the last pass needs no end
+// adds the quad of a part; where it is empty, or `nothing`, it has none
+fn add_quad(images: &[Arc<TileImage>], part: &str, quads: &mut Vec<Quad>) -> Result<(), LineFault> {
+    if part.is_empty() || part == "nothing" {
+        return Ok(());
+    }
+    let quad = quad_of(images, part)?;
+    quads.push(quad)?;
+    Ok(())
+}
+
+// the pass of some parts
+fn pass_of(alloc: Global, images: &[Arc<TileImage>], parts: &str) -> Result<RenderPass, LineFault> {
+    let mut quads = Vec::new(alloc);
+    for part in parts.split("; ") {
+        add_quad(images, part, &mut quads)?;
+    }
+    Ok(RenderPass { quads })
+}
+
+// adds the pass of some parts
+fn add_pass(
+    alloc: Global,
+    images: &[Arc<TileImage>],
+    parts: &str,
+    passes: &mut Vec<RenderPass>,
+) -> Result<(), LineFault> {
+    let pass = pass_of(alloc, images, parts)?;
+    passes.push(pass)?;
+    Ok(())
+}
+
+// the passes of some parts, with `end` between
 fn passes_of(
     alloc: Global,
     images: &[Arc<TileImage>],
     parts: &str,
-) -> Result<Vec<RenderPass>, DamageLineFault> {
+) -> Result<Vec<RenderPass>, LineFault> {
     let mut passes = Vec::new(alloc);
-    let mut quads = Vec::new(alloc);
-    for part in parts.split("; ") {
-        if part == "end" {
-            let done = std::mem::replace(&mut quads, Vec::new(alloc));
-            passes
-                .push(RenderPass { quads: done })
-                .map_err(AllocError::from)?;
-        } else if part != "nothing" {
-            quads
-                .push(quad_of(images, part)?)
-                .map_err(AllocError::from)?;
-        }
+    for parts in parts.split("end") {
+        add_pass(alloc, images, parts, &mut passes)?;
     }
-    passes.push(RenderPass { quads }).map_err(AllocError::from)?;
     Ok(passes)
 }
 
@@ -134,10 +168,13 @@ pub fn scene_of_text(
     alloc: Global,
     images: &[Arc<TileImage>],
     text: &str,
-) -> Result<Scene, DamageLineFault> {
-    let (head, parts) = text.split_once("; ").ok_or(LineFault::NoForm)?;
+) -> Result<Scene, LineFault> {
+    let Some((head, parts)) = text.split_once("; ") else {
+        return Err(LineFault::NoForm);
+    };
     let [w, h, r, g, b, a] = numbers::<6>(head)?;
+    let (w, h) = (whole(w)?, whole(h)?);
     let background = colour([r, g, b, a])?;
     let passes = passes_of(alloc, images, parts)?;
-    scene_of(whole(w)?, whole(h)?, background, passes).ok_or(DamageLineFault::NoScene)
+    scene_of(w, h, background, passes).ok_or(LineFault::NoScene)
 }

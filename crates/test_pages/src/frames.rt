@@ -2,12 +2,12 @@
 
 ghost use Rattle.model_history.specs.Ended.{AreBounded};
 
-use crate::fault::PageLineFault;
 use main_host::{MainEnd, MainHost};
 use model_history::{Moves, Script};
 use std::alloc::{AllocError, Global};
 use std::marker::Model;
 use std::sync::Arc;
+use test_table::LineFault;
 
 /// The main frames of a script.
 pub struct Frames {
@@ -59,17 +59,17 @@ impl Frames {
     }
 
     /// Ends the next main frame with these pulls.
-    pub fn end_next(&mut self, pulls: &Moves) -> Result<MainEnd, PageLineFault>
+    pub fn end_next(&mut self, pulls: &Moves) -> Result<MainEnd, LineFault>
         requires { AreBounded pulls.now }
     {
         if self.host.next_frame() as usize >= self.count {
-            return Err(PageLineFault::NoFrame);
+            return Err(LineFault::NoFrame);
         }
         Ok(self.host.begin(pulls)?)
     }
 
     /// Ends the next main frame without pulls.
-    pub fn end_plain(&mut self) -> Result<MainEnd, PageLineFault> {
+    pub fn end_plain(&mut self) -> Result<MainEnd, LineFault> {
         let none = Moves::new(self.alloc);
         self.end_next(&none)
     }

@@ -10,12 +10,10 @@
 
 mod calls;
 mod commits;
-mod fault;
 mod frames;
 mod hits;
 mod scripts;
 
 pub use calls::Calls;
 pub use commits::Pushes;
-pub use fault::PageLineFault;
 pub use hits::HitQuestions;

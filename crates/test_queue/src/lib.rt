@@ -30,5 +30,4 @@ mod queues;
 mod table;
 
 pub use jobs::run_job;
-pub use queues::StepFault;
 pub use table::QueueTable;

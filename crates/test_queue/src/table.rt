@@ -1,12 +1,10 @@
 //! The table of standard input.
 
-use crate::queues::{
-    CheckedQueue, StepFault, agrees, answer, key_of, queue_of, ready_of, try_steps,
-};
+use crate::queues::{CheckedQueue, agrees, answer, key_of, queue_of, ready_of, try_steps};
 use geom::TileKey;
 use std::alloc::Global;
 use std::io;
-use test_table::{Table, Tally};
+use test_table::{LineFault, Table, Tally};
 
 /// A key that no layer has.
 const NO_KEY: TileKey = TileKey {
@@ -36,17 +34,19 @@ impl QueueTable {
     }
 
     /// Whether the queue answers as the definitions say.
-    fn agrees(&self) -> Result<bool, StepFault> {
+    fn agrees(&self) -> Result<bool, LineFault> {
         let key = self.queue.queue().first().unwrap_or(NO_KEY);
         agrees(&self.queue, 8, key)
     }
 
     /// Takes random steps of another queue, `SEED COUNT`, up to the first after which it answers otherwise than the
     /// definitions.
-    fn random_steps(&mut self, rt: &HostRuntime, line: usize, row: &str) -> Result<(), StepFault> {
-        let (seed, count) = row.split_once(' ').ok_or(StepFault::NoForm)?;
-        let seed = seed.parse::<u64>().map_err(|_| StepFault::NoForm)?;
-        let count = count.parse::<u64>().map_err(|_| StepFault::NoForm)?;
+    fn random_steps(&mut self, rt: &HostRuntime, line: usize, row: &str) -> Result<(), LineFault> {
+        let Some((seed, count)) = row.split_once(' ') else {
+            return Err(LineFault::NoForm);
+        };
+        let seed = seed.parse::<u64>().map_err(|_| LineFault::NoForm)?;
+        let count = count.parse::<u64>().map_err(|_| LineFault::NoForm)?;
         if try_steps(rt, seed, count)?.differs.is_some() {
             self.tally
                 .compare(rt, line, "otherwise", "as the definitions say");
@@ -55,7 +55,7 @@ impl QueueTable {
     }
 
     /// Takes a step: a new queue, a start, or a tile that was made.
-    fn step(&mut self, rt: &HostRuntime, name: &str, row: &str) -> Result<(), StepFault> {
+    fn step(&mut self, rt: &HostRuntime, name: &str, row: &str) -> Result<(), LineFault> {
         match name {
             "queue" => {
                 let choice = queue_of(self.queue.alloc(), row)?;
@@ -72,23 +72,25 @@ impl QueueTable {
                 };
                 self.queue.finish(rt, tile)?;
             }
-            _ => return Err(StepFault::NoForm),
+            _ => return Err(LineFault::NoForm),
         }
         Ok(())
     }
 }
 
 impl Table<HostRuntime> for QueueTable {
-    type Fault = StepFault;
+    type Fault = LineFault;
 
-    fn take(&mut self, rt: &HostRuntime, line: usize, text: &str) -> Result<(), StepFault> {
+    fn take(&mut self, rt: &HostRuntime, line: usize, text: &str) -> Result<(), LineFault> {
         self.count = self.count.saturating_add(1);
         if let Some((question, wanted)) = text.split_once(" => ") {
             let told = answer(self.queue.alloc(), self.queue.queue(), question)?;
             self.tally.compare(rt, line, told.as_str(), wanted);
             return Ok(());
         }
-        let (name, row) = text.split_once(' ').ok_or(StepFault::NoForm)?;
+        let Some((name, row)) = text.split_once(' ') else {
+            return Err(LineFault::NoForm);
+        };
         if name == "steps" {
             return self.random_steps(rt, line, row);
         }

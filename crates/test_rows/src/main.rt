@@ -21,7 +21,6 @@
 //! scripts `bench/rows`, `bench/redraws` and `bench/queue` time it.
 #![tactic(auto)]
 
-mod fault;
 mod tables;
 
 use crate::tables::Tables;

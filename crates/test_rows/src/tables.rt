@@ -1,6 +1,5 @@
 //! The tables, one after another.
 
-use crate::fault::RowFault;
 use bench_draw::Drawings;
 use std::alloc::Global;
 use std::io;
@@ -10,7 +9,7 @@ use test_channels::Channels;
 use test_damage::Scenes;
 use test_pages::{Calls, HitQuestions, Pushes};
 use test_queue::QueueTable;
-use test_table::{Questions, Table, Tally};
+use test_table::{LineFault, Questions, Table, Tally};
 use test_units::Units;
 
 /// A table.
@@ -27,7 +26,7 @@ enum Part {
 }
 
 /// The table of a name.
-fn part_of(name: &str) -> Result<Part, RowFault> {
+fn part_of(name: &str) -> Result<Part, LineFault> {
     match name {
         "hits" => Ok(Part::Hits),
         "calls" => Ok(Part::Calls),
@@ -37,7 +36,7 @@ fn part_of(name: &str) -> Result<Part, RowFault> {
         "queue" => Ok(Part::Queue),
         "damage" => Ok(Part::Damage),
         "drawn" => Ok(Part::Drawn),
-        _ => Err(RowFault::NoTable),
+        _ => Err(LineFault::NoTable),
     }
 }
 
@@ -73,18 +72,17 @@ impl<'a, R: Threads + Wait + Sync> Tables<'a, R> {
     }
 
     /// Takes a line of the table whose lines are read.
-    fn take_line(&mut self, rt: &HostRuntime, line: usize, text: &str) -> Result<(), RowFault> {
+    fn take_line(&mut self, rt: &HostRuntime, line: usize, text: &str) -> Result<(), LineFault> {
         match self.part {
-            Part::Hits => self.hits.take(rt, line, text)?,
-            Part::Calls => self.calls.take(rt, line, text)?,
-            Part::Commits => self.commits.take(rt, line, text)?,
-            Part::Units => self.units.take(rt, line, text)?,
-            Part::Channels => self.channels.take(rt, line, text)?,
-            Part::Queue => self.queue.take(rt, line, text)?,
-            Part::Damage => self.damage.take(rt, line, text)?,
-            Part::Drawn => self.drawn.take(rt, line, text)?,
+            Part::Hits => self.hits.take(rt, line, text),
+            Part::Calls => self.calls.take(rt, line, text),
+            Part::Commits => self.commits.take(rt, line, text),
+            Part::Units => self.units.take(rt, line, text),
+            Part::Channels => self.channels.take(rt, line, text),
+            Part::Queue => self.queue.take(rt, line, text),
+            Part::Damage => self.damage.take(rt, line, text),
+            Part::Drawn => self.drawn.take(rt, line, text),
         }
-        Ok(())
     }
 }
 
@@ -94,9 +92,9 @@ fn tally_of<T: Table<HostRuntime>>(table: &T) -> Tally {
 }
 
 impl<'a, R: Threads + Wait + Sync> Table<HostRuntime> for Tables<'a, R> {
-    type Fault = RowFault;
+    type Fault = LineFault;
 
-    fn take(&mut self, rt: &HostRuntime, line: usize, text: &str) -> Result<(), RowFault> {
+    fn take(&mut self, rt: &HostRuntime, line: usize, text: &str) -> Result<(), LineFault> {
         match text.strip_prefix("table: ") {
             Some(name) => {
                 self.part = part_of(name)?;

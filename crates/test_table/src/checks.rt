@@ -1,6 +1,7 @@
 //! Cases that stand in code.
 
 use crate::answer::Answer;
+use crate::fault::LineFault;
 use std::alloc::{AllocError, Global};
 use std::fmt;
 
@@ -59,9 +60,9 @@ impl Checks {
     }
 
     /// Adds to an answer how many cases are right, and those that are not.
-    pub fn say(&self, answer: &mut Answer) -> Result<(), AllocError> {
+    pub fn say(&self, answer: &mut Answer) -> Result<(), LineFault> {
         if self.lacks_memory {
-            return Err(AllocError);
+            return Err(LineFault::Memory(AllocError));
         }
         answer.say_count("right", self.right);
         if !self.wrong.is_empty() {

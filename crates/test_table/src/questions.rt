@@ -2,26 +2,28 @@
 
 use crate::answer::Answer;
 use crate::fault::LineFault;
-use crate::lines::{Table, check_table};
+use crate::lines::Table;
 use crate::tally::Tally;
 use crate::values::key_and_value;
-use std::alloc::{AllocError, Global};
-use std::process::ExitCode;
-use std::{fmt, io};
+use std::alloc::Global;
+use std::io;
 
 /// What the questions of a table are about.
 pub trait Subject {
-    /// Why a line can't be read.
-    type Fault: fmt::Display + Copy + From<AllocError> + From<LineFault>;
-
-    /// Takes the value of a line that asks nothing. Answers whether its key is that of such a line.
-    fn take(&mut self, key: &str, value: &str) -> Result<bool, Self::Fault>;
+    /// Takes the value of a line that asks nothing. Answers whether its key is that of such a line; none is, unless
+    /// the subject says otherwise.
+    fn take(&mut self, key: &str, value: &str) -> Result<bool, LineFault> {
+        let _ = key;
+        let _ = value;
+        Ok(false)
+    }
 
     /// Answers a question of a kind.
-    fn ask(&self, kind: &str, question: &str, answer: &mut Answer) -> Result<(), Self::Fault>;
+    fn ask(&self, kind: &str, question: &str, answer: &mut Answer) -> Result<(), LineFault>;
 }
 
-/// A table of questions about a subject.
+/// A table of questions about a subject. Its lines are `KEY: VALUE`: those that the subject takes, and questions with
+/// the answers that are wanted, `KIND: QUESTION => ANSWER`. It tells how many answers there were.
 #[derive(Drop)]
 pub struct Questions<S> {
     alloc: Global,
@@ -46,8 +48,10 @@ impl<S: Subject> Questions<S> {
         line: usize,
         kind: &str,
         value: &str,
-    ) -> Result<(), S::Fault> {
-        let (question, wanted) = value.split_once("=> ").ok_or(LineFault::NoForm)?;
+    ) -> Result<(), LineFault> {
+        let Some((question, wanted)) = value.split_once("=> ") else {
+            return Err(LineFault::NoForm);
+        };
         let mut answer = Answer::new(self.alloc);
         self.subject.ask(kind, question.trim_end(), &mut answer)?;
         self.tally.compare(rt, line, answer.text()?, wanted);
@@ -56,10 +60,12 @@ impl<S: Subject> Questions<S> {
 }
 
 impl<R: Print, S: Subject> Table<R> for Questions<S> {
-    type Fault = S::Fault;
+    type Fault = LineFault;
 
-    fn take(&mut self, rt: &R, line: usize, text: &str) -> Result<(), S::Fault> {
-        let (key, value) = key_and_value(text).ok_or(LineFault::NoForm)?;
+    fn take(&mut self, rt: &R, line: usize, text: &str) -> Result<(), LineFault> {
+        let Some((key, value)) = key_and_value(text) else {
+            return Err(LineFault::NoForm);
+        };
         if self.subject.take(key, value)? {
             return Ok(());
         }
@@ -73,10 +79,4 @@ impl<R: Print, S: Subject> Table<R> for Questions<S> {
     fn tell(&self, rt: &R) -> io::Result<()> {
         println!(rt; "{} answers", self.tally.answers())
     }
-}
-
-/// Takes the lines `KEY: VALUE` of the table on standard input, as `check_table` does: those that the subject takes,
-/// and questions with the answers that are wanted, `KIND: QUESTION => ANSWER`. It tells how many answers there were.
-pub fn check_questions<S: Subject + Drop>(rt: &HostRuntime, subject: S) -> ExitCode {
-    check_table(rt, &mut Questions::new(rt.alloc(), subject))
 }

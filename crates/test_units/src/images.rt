@@ -8,11 +8,11 @@ use page_display_list::{DisplayList, Item};
 use pixel::Colour;
 use std::alloc::{AllocError, Global};
 use std::sync::Arc;
-use test_table::Checks;
+use test_table::{Checks, LineFault};
 use tile_raster::{Job, TileImage};
 
 /// A rect over half of a tile.
-pub fn rect_over_half_of_a_tile(alloc: Global, checks: &mut Checks) -> Result<(), AllocError> {
+pub fn rect_over_half_of_a_tile(alloc: Global, checks: &mut Checks) -> Result<(), LineFault> {
     let image = image_of(alloc, 1)?;
     checks.same("no colour of its own", &image.solid(), &None);
     checks.same("its key", &image.key(), &KEY);
@@ -22,7 +22,7 @@ pub fn rect_over_half_of_a_tile(alloc: Global, checks: &mut Checks) -> Result<()
 }
 
 /// A tile of one colour.
-pub fn tile_of_one_colour(alloc: Global, checks: &mut Checks) -> Result<(), AllocError> {
+pub fn tile_of_one_colour(alloc: Global, checks: &mut Checks) -> Result<(), LineFault> {
     let image = image_of(alloc, 2)?;
     checks.same("its red", &image.solid().map(|c| c.r()), &Some(255));
     let row = [255, 0, 0, 255, 255, 0, 0, 255];

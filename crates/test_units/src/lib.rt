@@ -4,7 +4,6 @@
 //! alone would say little.
 #![tactic(auto)]
 
-mod fault;
 mod images;
 mod lists;
 mod pixels;
@@ -17,5 +16,4 @@ mod stores;
 mod tilings;
 mod units;
 
-pub use fault::UnitFault;
 pub use units::Units;

@@ -1,12 +1,11 @@
 //! Lists and bitmaps worked by hand.
 
-use crate::fault::UnitFault;
 use geom::Rect;
 use page_display_list::{BitmapCause, DisplayList, Item};
 use pixel::Colour;
 use std::alloc::{AllocError, Global};
 use std::sync::Arc;
-use test_table::Checks;
+use test_table::{Checks, LineFault};
 
 /// These bytes, to be shared.
 fn shared(alloc: Global, bytes: &[u8]) -> Result<Arc<Vec<u8>>, AllocError> {
@@ -15,7 +14,7 @@ fn shared(alloc: Global, bytes: &[u8]) -> Result<Arc<Vec<u8>>, AllocError> {
 }
 
 /// What `Item::bitmap` finds wrong with these bytes; `None` where they are a bitmap.
-fn cause_of(alloc: Global, w: i32, bytes: &[u8]) -> Result<Option<BitmapCause>, UnitFault> {
+fn cause_of(alloc: Global, w: i32, bytes: &[u8]) -> Result<Option<BitmapCause>, LineFault> {
     let rect = Rect {
         x: 0,
         y: 0,
@@ -26,7 +25,7 @@ fn cause_of(alloc: Global, w: i32, bytes: &[u8]) -> Result<Option<BitmapCause>, 
         Ok(_) => Ok(None),
         Err(bad) => {
             if bad.pixels.as_slice() != bytes {
-                return Err(UnitFault::Refused);
+                return Err(LineFault::CaseRefused);
             }
             Ok(Some(bad.cause))
         }
@@ -34,7 +33,7 @@ fn cause_of(alloc: Global, w: i32, bytes: &[u8]) -> Result<Option<BitmapCause>, 
 }
 
 /// Bytes that are no bitmap, which come back, and some that are one.
-pub fn bad_bitmaps(alloc: Global, checks: &mut Checks) -> Result<(), UnitFault> {
+pub fn bad_bitmaps(alloc: Global, checks: &mut Checks) -> Result<(), LineFault> {
     let bytes = [0xff, 0, 0, 0xff, 2, 0, 0, 1];
     let cause = cause_of(alloc, 2, bytes.as_slice())?;
     let pixel = BitmapCause::Pixel { place: 1 };
@@ -52,8 +51,8 @@ pub fn bad_bitmaps(alloc: Global, checks: &mut Checks) -> Result<(), UnitFault> 
 }
 
 /// A list of one red pixel.
-pub fn one_red_pixel(alloc: Global, checks: &mut Checks) -> Result<(), UnitFault> {
-    let red = Colour::new(0xff, 0, 0, 0xff).ok_or(UnitFault::Refused)?;
+pub fn one_red_pixel(alloc: Global, checks: &mut Checks) -> Result<(), LineFault> {
+    let red = Colour::new(0xff, 0, 0, 0xff).unwrap_or(Colour::CLEAR);
     let rect = Rect {
         x: 0,
         y: 0,
@@ -62,7 +61,7 @@ pub fn one_red_pixel(alloc: Global, checks: &mut Checks) -> Result<(), UnitFault
     };
     let mut list = DisplayList::new(alloc);
     if let Err((full, _item)) = list.insert(0, Item::Rect { rect, colour: red }) {
-        return Err(UnitFault::Memory(full));
+        return Err(LineFault::Memory(full));
     }
     let area = Rect {
         x: 0,
@@ -80,10 +79,19 @@ pub fn one_red_pixel(alloc: Global, checks: &mut Checks) -> Result<(), UnitFault
 }
 
 /// A bitmap of two half-transparent pixels over a white rect, of which the area shows the lower right corner.
-pub fn bitmap_over_a_rect(alloc: Global, checks: &mut Checks) -> Result<(), UnitFault> {
-    let white = Colour::new(0xff, 0xff, 0xff, 0xff).ok_or(UnitFault::Refused)?;
-    let blue = Colour::new(0, 0, 0x80, 0x80).ok_or(UnitFault::Refused)?;
-    let mut list = DisplayList::new(alloc);
+pub fn bitmap_over_a_rect(alloc: Global, checks: &mut Checks) -> Result<(), LineFault> {
+    let white = Colour::new(0xff, 0xff, 0xff, 0xff).unwrap_or(Colour::CLEAR);
+    let blue = Colour::new(0, 0, 0x80, 0x80).unwrap_or(Colour::CLEAR);
+    let pixels = shared(alloc, [0, 0, 0x80, 0x80, 0x80, 0, 0, 0x80].as_slice())?;
+    let at = Rect {
+        x: 1,
+        y: 1,
+        w: 2,
+        h: 1,
+    };
+    let Ok(bitmap) = Item::bitmap(at, pixels) else {
+        return Err(LineFault::CaseRefused);
+    };
     let rect = Rect {
         x: 0,
         y: 0,
@@ -94,21 +102,12 @@ pub fn bitmap_over_a_rect(alloc: Global, checks: &mut Checks) -> Result<(), Unit
         rect,
         colour: white,
     };
+    let mut list = DisplayList::new(alloc);
     if let Err((full, _item)) = list.insert(0, item) {
-        return Err(UnitFault::Memory(full));
+        return Err(LineFault::Memory(full));
     }
-    let pixels = shared(alloc, [0, 0, 0x80, 0x80, 0x80, 0, 0, 0x80].as_slice())?;
-    let at = Rect {
-        x: 1,
-        y: 1,
-        w: 2,
-        h: 1,
-    };
-    let Ok(item) = Item::bitmap(at, pixels) else {
-        return Err(UnitFault::Refused);
-    };
-    if let Err((full, _item)) = list.insert(1, item) {
-        return Err(UnitFault::Memory(full));
+    if let Err((full, _item)) = list.insert(1, bitmap) {
+        return Err(LineFault::Memory(full));
     }
     let area = Rect {
         x: 2,

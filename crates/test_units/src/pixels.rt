@@ -2,15 +2,14 @@
 
 ghost use Rattle.std.specs.Prelude.{◌*◌, ◌≤◌, length};
 
-use crate::fault::UnitFault;
 use pixel::{Colour, fill_row, first_wrong, over_row, over_row_plain, scale_row, scale_row_plain};
 use std::alloc::{AllocError, Global};
-use test_table::Checks;
+use test_table::{Checks, LineFault};
 
 /// Half-transparent red over white, at lengths on both sides of the kernels' sixteen bytes.
-pub fn half_red_over_white(alloc: Global, checks: &mut Checks) -> Result<(), UnitFault> {
-    let red = Colour::new(0x80, 0, 0, 0x80).ok_or(UnitFault::Refused)?;
-    let white = Colour::new(0xff, 0xff, 0xff, 0xff).ok_or(UnitFault::Refused)?;
+pub fn half_red_over_white(alloc: Global, checks: &mut Checks) -> Result<(), LineFault> {
+    let red = Colour::new(0x80, 0, 0, 0x80).unwrap_or(Colour::CLEAR);
+    let white = Colour::new(0xff, 0xff, 0xff, 0xff).unwrap_or(Colour::CLEAR);
     for count in [1usize, 4, 7, 33] {
         let mut src = vec![in alloc; 0u8; 4 * count]?;
         let mut dst = vec![in alloc; 0u8; 4 * count]?;
@@ -65,7 +64,7 @@ fn is_same(alloc: Global, src: &mut [u8], count: usize, alpha: u8) -> Result<boo
 }
 
 /// The kernels and the plain loops write the same bytes, at all lengths up to 70 pixels and all alphas.
-pub fn kernels_as_plain_loops(alloc: Global, checks: &mut Checks) -> Result<(), UnitFault> {
+pub fn kernels_as_plain_loops(alloc: Global, checks: &mut Checks) -> Result<(), LineFault> {
     let mut bytes = vec![in alloc; 0u8; 280]?;
     let src = bytes.as_mut_slice();
     for count in 0usize..71 {

@@ -1,9 +1,8 @@
 //! Rects, places of a grid and keys worked by hand.
 
-use crate::fault::UnitFault;
 use geom::{Grid, Keys, Place, Point, Rect, TileKey};
 use std::alloc::Global;
-use test_table::Checks;
+use test_table::{Checks, LineFault};
 
 /// Rects that meet, that stand beside each other, and that are far from each other.
 pub fn rects(checks: &mut Checks) {
@@ -52,7 +51,7 @@ pub fn rects(checks: &mut Checks) {
 
 /// Places that an area touches, and the place of a point in a grid that is cut off.
 #[tactic(auto, unfolding(geom::specs::Covers::within))]
-pub fn places(alloc: Global, checks: &mut Checks) -> Result<(), UnitFault> {
+pub fn places(alloc: Global, checks: &mut Checks) -> Result<(), LineFault> {
     let grid = Grid {
         w: 48,
         h: 32,
@@ -78,7 +77,7 @@ pub fn places(alloc: Global, checks: &mut Checks) -> Result<(), UnitFault> {
     let last = cut.place_of(Point { x: 39, y: 32 });
     checks.same("the last place", &last, &Place { x: 2, y: 2 });
     if !cut.has(last) {
-        return Err(UnitFault::Refused);
+        return Err(LineFault::CaseRefused);
     }
     let rest = Rect {
         x: 32,
@@ -91,7 +90,7 @@ pub fn places(alloc: Global, checks: &mut Checks) -> Result<(), UnitFault> {
 }
 
 /// Keys in their order, and a copy of a list of them.
-pub fn keys(alloc: Global, checks: &mut Checks) -> Result<(), UnitFault> {
+pub fn keys(alloc: Global, checks: &mut Checks) -> Result<(), LineFault> {
     let first = TileKey {
         layer: 1,
         x: 9,

@@ -6,10 +6,10 @@ ghost use Rattle.geom.specs.Covers.{IsSound};
 use geom::{Point, Rect};
 use region::{Changes, LayerChange, Region};
 use std::alloc::{AllocError, Global};
-use test_table::Checks;
+use test_table::{Checks, LineFault};
 
 /// A union covers both parts and no more.
-pub fn union_covers_both(alloc: Global, checks: &mut Checks) -> Result<(), AllocError> {
+pub fn union_covers_both(alloc: Global, checks: &mut Checks) -> Result<(), LineFault> {
     let mut region = Region::new(alloc);
     region.add(pixel(0))?;
     let mut other = Region::new(alloc);
@@ -25,7 +25,7 @@ pub fn union_covers_both(alloc: Global, checks: &mut Checks) -> Result<(), Alloc
 }
 
 /// Joined changes list the layers of both.
-pub fn joined_changes(alloc: Global, checks: &mut Checks) -> Result<(), AllocError> {
+pub fn joined_changes(alloc: Global, checks: &mut Checks) -> Result<(), LineFault> {
     let changes = changes_of(alloc, 1)?;
     let mut joined = changes.copy()?;
     let later = changes_of(alloc, 2)?;

@@ -3,17 +3,16 @@
 ghost use Rattle.std.specs.Prelude.{◌≡◌, true, false, IfOk};
 ghost use Rattle.geom.specs.declared.tile.TileKey.{TileKey};
 
-use crate::fault::UnitFault;
 use geom::{Keys, Rect, TileKey};
 use page_display_list::DisplayList;
 use std::alloc::{AllocError, Global};
 use std::sync::Arc;
-use test_table::Checks;
+use test_table::{Checks, LineFault};
 use tile_raster::{Job, TileImage};
 use tile_store::TileStore;
 
 /// One tile is started, and done.
-pub fn one_tile_is_started_and_done(alloc: Global, checks: &mut Checks) -> Result<(), UnitFault> {
+pub fn one_tile_is_started_and_done(alloc: Global, checks: &mut Checks) -> Result<(), LineFault> {
     let mut store = TileStore::new(alloc);
     start(alloc, &mut store, key(1))?;
     checks.holds("it is in flight", store.in_flight(key(1)));
@@ -34,7 +33,7 @@ fn take_step(
     store: &mut TileStore,
     plain: &mut Vec<(TileKey, bool)>,
     step: u32,
-) -> Result<(), UnitFault> {
+) -> Result<(), LineFault> {
     let one = key(step.wrapping_mul(7) % 23);
     match state(plain, one) {
         Some(true) if step % 5 == 0 => give_up_thirds(alloc, store, plain)?,
@@ -43,7 +42,7 @@ fn take_step(
             done(alloc, store, one, step % 3 != 0)?;
             forget(plain, one);
             if step % 3 != 0 {
-                push(plain, (one, true))?;
+                plain.push((one, true))?;
             }
         }
         None => start_next(alloc, store, plain, one, step % 2 == 0)?,
@@ -52,7 +51,7 @@ fn take_step(
 }
 
 /// Each of 600 steps agrees with a plain list.
-pub fn steps_agree_with_a_plain_list(alloc: Global, checks: &mut Checks) -> Result<(), UnitFault> {
+pub fn steps_agree_with_a_plain_list(alloc: Global, checks: &mut Checks) -> Result<(), LineFault> {
     let mut store = TileStore::new(alloc);
     let mut plain: Vec<(TileKey, bool)> = Vec::new(alloc);
     for step in 0..600u32 {
@@ -111,7 +110,7 @@ fn start_next(
     plain: &mut Vec<(TileKey, bool)>,
     key: TileKey,
     over: bool,
-) -> Result<(), UnitFault> {
+) -> Result<(), LineFault> {
     match first_ready(plain) {
         Some(old) if over => {
             start_over(alloc, store, key, old)?;
@@ -119,13 +118,7 @@ fn start_next(
         }
         _ => start(alloc, store, key)?,
     }
-    push(plain, (key, false))
-}
-
-/// Adds a key, ready or in flight, to a list.
-fn push(plain: &mut Vec<(TileKey, bool)>, one: (TileKey, bool)) -> Result<(), UnitFault> {
-    plain.push(one).map_err(AllocError::from)?;
-    Ok(())
+    Ok(plain.push((key, false))?)
 }
 
 /// The first ready key of a list.
@@ -154,10 +147,10 @@ fn forget(plain: &mut Vec<(TileKey, bool)>, key: TileKey) {
 }
 
 /// Starts a key that the store lacks.
-fn start(alloc: Global, store: &mut TileStore, key: TileKey) -> Result<(), UnitFault> {
+fn start(alloc: Global, store: &mut TileStore, key: TileKey) -> Result<(), LineFault> {
     store.reserve()?;
     if store.ready(key).is_some() || store.in_flight(key) {
-        return Err(UnitFault::Refused);
+        return Err(LineFault::CaseRefused);
     }
     store.start(key, &Keys::new(alloc));
     Ok(())
@@ -169,24 +162,24 @@ fn start_over(
     store: &mut TileStore,
     key: TileKey,
     old: TileKey,
-) -> Result<(), UnitFault> {
+) -> Result<(), LineFault> {
     store.reserve()?;
     let mut evicted = Keys::new(alloc);
     if let Err((full, _)) = evicted.push(old) {
-        return Err(UnitFault::Memory(full));
+        return Err(LineFault::Memory(full));
     }
     if store.ready(key).is_some() || store.in_flight(key) || store.ready(old).is_none() {
-        return Err(UnitFault::Refused);
+        return Err(LineFault::CaseRefused);
     }
     store.start(key, &evicted);
     Ok(())
 }
 
 /// Makes a tile in flight, which is still wanted or not.
-fn done(alloc: Global, store: &mut TileStore, key: TileKey, live: bool) -> Result<(), UnitFault> {
+fn done(alloc: Global, store: &mut TileStore, key: TileKey, live: bool) -> Result<(), LineFault> {
     let image = image_of(alloc, key)?;
     if !store.in_flight(key) {
-        return Err(UnitFault::Refused);
+        return Err(LineFault::CaseRefused);
     }
     store.done(image, live);
     Ok(())

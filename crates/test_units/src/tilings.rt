@@ -6,11 +6,11 @@ ghost use Rattle.geom.specs.Covers.{IsSound};
 use geom::{Grid, Rect, TileKey};
 use region::{LayerChange, Region};
 use std::alloc::{AllocError, Global};
-use test_table::Checks;
+use test_table::{Checks, LineFault};
 use tile_tiling::Tiling;
 
 /// A change stamps the places that it touches.
-pub fn stamps_after_a_change(alloc: Global, checks: &mut Checks) -> Result<(), AllocError> {
+pub fn stamps_after_a_change(alloc: Global, checks: &mut Checks) -> Result<(), LineFault> {
     let mut tiling = Tiling::new(alloc, grid(32), 0)?;
     tiling.carry(&change(alloc, Some(pixel(16)))?, 3);
     tiling.carry(&change(alloc, None)?, 4);
@@ -22,7 +22,7 @@ pub fn stamps_after_a_change(alloc: Global, checks: &mut Checks) -> Result<(), A
 }
 
 /// A copy keeps its stamps when the tiling is resized.
-pub fn stamps_of_a_copy(alloc: Global, checks: &mut Checks) -> Result<(), AllocError> {
+pub fn stamps_of_a_copy(alloc: Global, checks: &mut Checks) -> Result<(), LineFault> {
     let mut tiling = Tiling::new(alloc, grid(32), 0)?;
     tiling.carry(&change(alloc, Some(pixel(0)))?, 1);
     let copy = tiling.copy()?;

@@ -4,7 +4,6 @@ use crate::calls::frames::frames;
 use crate::calls::missing::missing;
 use crate::calls::texts::script_text;
 use crate::calls::{lists, pages, texts};
-use crate::fault::PageLineFault;
 use crate::scripts::page_of;
 use page_layers::LayerTree;
 use std::alloc::Global;
@@ -24,7 +23,7 @@ fn ask_of(
     kind: &str,
     question: &str,
     answer: &mut Answer,
-) -> Result<(), PageLineFault> {
+) -> Result<(), LineFault> {
     match kind {
         "changes" => pages::changes(alloc, page, question, answer),
         "pulls" => pages::pulls(page, question, answer),
@@ -35,7 +34,7 @@ fn ask_of(
             pages::view(page, answer);
             Ok(())
         }
-        _ => Err(LineFault::NoForm.into()),
+        _ => Err(LineFault::NoForm),
     }
 }
 
@@ -49,21 +48,14 @@ impl Calls {
     }
 
     /// Answers a question about the page of the script above.
-    fn ask_page(
-        &self,
-        kind: &str,
-        question: &str,
-        answer: &mut Answer,
-    ) -> Result<(), PageLineFault> {
+    fn ask_page(&self, kind: &str, question: &str, answer: &mut Answer) -> Result<(), LineFault> {
         let mut page = page_of(self.alloc, self.script.as_str())?;
         ask_of(self.alloc, &mut page, kind, question, answer)
     }
 }
 
 impl Subject for Calls {
-    type Fault = PageLineFault;
-
-    fn take(&mut self, key: &str, value: &str) -> Result<bool, PageLineFault> {
+    fn take(&mut self, key: &str, value: &str) -> Result<bool, LineFault> {
         match key {
             "script" => self.script = value.to_string(self.alloc)?,
             "page" => self.script = script_text(self.alloc, value)?,
@@ -72,7 +64,7 @@ impl Subject for Calls {
         Ok(true)
     }
 
-    fn ask(&self, kind: &str, question: &str, answer: &mut Answer) -> Result<(), PageLineFault> {
+    fn ask(&self, kind: &str, question: &str, answer: &mut Answer) -> Result<(), LineFault> {
         let script = self.script.as_str();
         match kind {
             "frames" => frames(self.alloc, script, question, answer),

@@ -6,14 +6,13 @@ ghost use Rattle.model_history.specs.Ended.{AreBounded};
 
 use crate::calls::changes::{say_changes, say_point};
 use crate::calls::moves::pull_of;
-use crate::fault::PageLineFault;
 use crate::frames::Frames;
 use crate::scripts::script_of;
 use main_host::MainEnd;
 use model_history::{Commit, Moves};
 use page_layers::Move;
 use std::alloc::{AllocError, Global};
-use test_table::Answer;
+use test_table::{Answer, LineFault};
 
 /// The pulls of a frame: one, or none where it is 0 0.
 fn pulls_of(alloc: Global, by: Move) -> Result<Moves, AllocError>
@@ -53,7 +52,7 @@ fn end_next(
     frames: &mut Frames,
     by: &str,
     answer: &mut Answer,
-) -> Result<(), PageLineFault> {
+) -> Result<(), LineFault> {
     let by = pull_of(by)?;
     let pulls = pulls_of(alloc, by)?;
     let end = frames.end_next(&pulls)?;
@@ -67,7 +66,7 @@ pub fn frames(
     text: &str,
     pulls: &str,
     answer: &mut Answer,
-) -> Result<(), PageLineFault> {
+) -> Result<(), LineFault> {
     let mut frames = Frames::new(alloc, script_of(alloc, text)?)?;
     for by in pulls.split("; ") {
         end_next(alloc, &mut frames, by, answer)?;

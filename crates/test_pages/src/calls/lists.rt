@@ -1,27 +1,32 @@
 //! What is asked of lists of moves and of histories.
 
 use crate::calls::moves::move_of;
-use crate::fault::PageLineFault;
 use model_history::{Entry, Event, History, Moves, Sends};
-use std::alloc::{AllocError, Global};
-use test_table::{Answer, numbers, whole};
+use std::alloc::Global;
+use test_table::{Answer, LineFault, wholes};
+
+/// Adds a move.
+fn add_move(moves: &mut Moves, text: &str) -> Result<(), LineFault> {
+    match moves.push(move_of(text)?) {
+        Ok(()) => Ok(()),
+        Err((refused, _)) => Err(LineFault::Memory(refused)),
+    }
+}
 
 /// Adds the moves of a text.
-fn add_moves(moves: &mut Moves, text: &str) -> Result<(), PageLineFault> {
+fn add_moves(moves: &mut Moves, text: &str) -> Result<(), LineFault> {
     for one in text.split("; ") {
-        if moves.push(move_of(one)?).is_err() {
-            return Err(PageLineFault::Memory(AllocError));
-        }
+        add_move(moves, one)?;
     }
     Ok(())
 }
 
 /// Adds a copy of these moves to the sends.
-fn add_copy(sends: &mut Sends, moves: &Moves) -> Result<(), PageLineFault> {
+fn add_copy(sends: &mut Sends, moves: &Moves) -> Result<(), LineFault> {
     let copy = moves.copy()?;
     match sends.push(copy) {
         Ok(()) => Ok(()),
-        Err((refused, _)) => Err(PageLineFault::Memory(refused)),
+        Err((refused, _)) => Err(LineFault::Memory(refused)),
     }
 }
 
@@ -40,7 +45,7 @@ fn say_moves(moves: &Moves, answer: &mut Answer) {
 }
 
 /// Says how many lists a copy of these sends has, and what its first list has.
-fn say_sends(sends: &Sends, answer: &mut Answer) -> Result<(), PageLineFault> {
+fn say_sends(sends: &Sends, answer: &mut Answer) -> Result<(), LineFault> {
     let copy = sends.copy()?;
     answer.say_count("lists", copy.len());
     if let Some(moves) = copy.at(0) {
@@ -51,7 +56,7 @@ fn say_sends(sends: &Sends, answer: &mut Answer) -> Result<(), PageLineFault> {
 
 /// Says how many moves a copy of a copied list has, the first of them, and whether there is one after the
 /// last.
-pub fn moves(alloc: Global, text: &str, answer: &mut Answer) -> Result<(), PageLineFault> {
+pub fn moves(alloc: Global, text: &str, answer: &mut Answer) -> Result<(), LineFault> {
     let mut moves = Moves::new(alloc);
     add_moves(&mut moves, text)?;
     let mut sends = Sends::new(alloc);
@@ -68,24 +73,23 @@ fn entry_of(actor: u32) -> Entry {
 }
 
 /// Adds an entry of actor 0.
-fn add_first(history: &mut History) -> Result<(), PageLineFault> {
+fn add_first(history: &mut History) -> Result<(), LineFault> {
     match history.push(entry_of(0)) {
         Ok(()) => Ok(()),
-        Err((refused, _)) => Err(PageLineFault::Memory(refused)),
+        Err((refused, _)) => Err(LineFault::Memory(refused)),
     }
 }
 
 /// Adds an entry of this actor in a place that is reserved before.
-fn add_reserved(history: &mut History, actor: &str) -> Result<(), PageLineFault> {
-    let [actor] = numbers::<1>(actor)?;
-    let actor = whole(actor)?;
+fn add_reserved(history: &mut History, actor: &str) -> Result<(), LineFault> {
+    let [actor] = wholes::<1>(actor, ' ')?;
     history.reserve(1)?;
     history.push_reserved(entry_of(actor));
     Ok(())
 }
 
 /// Adds an entry of actor 0 and one of each of these actors.
-fn add_entries(history: &mut History, actors: &str) -> Result<(), PageLineFault> {
+fn add_entries(history: &mut History, actors: &str) -> Result<(), LineFault> {
     add_first(history)?;
     for actor in actors.split("; ") {
         add_reserved(history, actor)?;
@@ -105,7 +109,7 @@ fn say_entries(history: &History, answer: &mut Answer) {
 
 /// Says how many entries a history has with one of actor 0 and one of each of these, the actor of the last
 /// one, and whether there is one after it.
-pub fn entries(alloc: Global, actors: &str, answer: &mut Answer) -> Result<(), PageLineFault> {
+pub fn entries(alloc: Global, actors: &str, answer: &mut Answer) -> Result<(), LineFault> {
     let mut history = History::new(alloc);
     add_entries(&mut history, actors)?;
     say_entries(&history, answer);

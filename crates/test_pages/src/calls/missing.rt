@@ -3,27 +3,30 @@
 ghost use Rattle.std.specs.Prelude.{IsTrue, IfOk};
 ghost use Rattle.page_layers.specs.Paintings.{IsScreenPoint};
 
-use crate::fault::PageLineFault;
 use geom::{Keys, Point, TileKey};
 use page_layers::{LayerTree, main_offsets, paint_at};
 use pixel::Colour;
-use std::alloc::{AllocError, Global};
-use test_table::{Answer, LineFault, numbers, signed, whole};
+use std::alloc::Global;
+use test_table::{Answer, LineFault, numbers, signed, wholes};
 
 /// A key, as `1 0 2 0`: the layer, the column, the row and the stamp.
-fn key_of(text: &str) -> Result<TileKey, PageLineFault> {
-    let [layer, x, y, stamp] = numbers::<4>(text)?;
-    let (layer, x) = (whole(layer)?, whole(x)?);
-    let (y, stamp) = (whole(y)?, whole(stamp)?);
+fn key_of(text: &str) -> Result<TileKey, LineFault> {
+    let [layer, x, y, stamp] = wholes::<4>(text, ' ')?;
     Ok(TileKey { layer, x, y, stamp })
 }
 
+/// Adds a key.
+fn add_key(keys: &mut Keys, text: &str) -> Result<(), LineFault> {
+    match keys.push(key_of(text)?) {
+        Ok(()) => Ok(()),
+        Err((refused, _)) => Err(LineFault::Memory(refused)),
+    }
+}
+
 /// Adds the keys of a text.
-fn add_keys(keys: &mut Keys, text: &str) -> Result<(), PageLineFault> {
+fn add_keys(keys: &mut Keys, text: &str) -> Result<(), LineFault> {
     for one in text.split("; ") {
-        if keys.push(key_of(one)?).is_err() {
-            return Err(PageLineFault::Memory(AllocError));
-        }
+        add_key(keys, one)?;
     }
     Ok(())
 }
@@ -42,7 +45,8 @@ fn on_screen(at: [i64; 2]) -> Result<Point, LineFault>
     ensures { IfOk result (λ p. IsScreenPoint p.x p.y) }
 {
     let [x, y] = at;
-    let (x, y) = (signed(x)?, signed(y)?);
+    let x = signed(x)?;
+    let y = signed(y)?;
     if is_on_screen(x, y) {
         return Ok(Point { x, y });
     }
@@ -56,7 +60,7 @@ fn say_pixel(
     missing: &[TileKey],
     at: &str,
     answer: &mut Answer,
-) -> Result<(), PageLineFault> {
+) -> Result<(), LineFault> {
     let at = on_screen(numbers::<2>(at)?)?;
     let offsets = main_offsets(alloc, tree)?;
     let black = Colour::new(0, 0, 0, 255).unwrap_or(Colour::CLEAR);
@@ -72,7 +76,7 @@ fn say_pixels(
     missing: &[TileKey],
     points: &str,
     answer: &mut Answer,
-) -> Result<(), PageLineFault> {
+) -> Result<(), LineFault> {
     for at in points.split("; ") {
         say_pixel(alloc, tree, missing, at, answer)?;
     }
@@ -85,8 +89,10 @@ pub fn missing(
     tree: &LayerTree,
     question: &str,
     answer: &mut Answer,
-) -> Result<(), PageLineFault> {
-    let (keys, points) = question.split_once(" | ").ok_or(LineFault::NoForm)?;
+) -> Result<(), LineFault> {
+    let Some((keys, points)) = question.split_once(" | ") else {
+        return Err(LineFault::NoForm);
+    };
     let mut missing = Keys::new(alloc);
     add_keys(&mut missing, keys)?;
     say_pixels(alloc, tree, missing.as_slice(), points, answer)

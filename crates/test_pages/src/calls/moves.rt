@@ -3,7 +3,6 @@
 ghost use Rattle.std.specs.Prelude.{IsTrue, IfOk};
 ghost use Rattle.model_scroll_values.specs.Bounds.{IsBoundedNumber};
 
-use crate::fault::PageLineFault;
 use page_layers::Move;
 use test_table::{LineFault, numbers, whole};
 
@@ -18,14 +17,14 @@ fn is_bounded(part: i64) -> bool
 }
 
 /// A move, as `1 10 -4`: the scroller, and how far across and down.
-pub fn move_of(text: &str) -> Result<Move, PageLineFault> {
+pub fn move_of(text: &str) -> Result<Move, LineFault> {
     let [scroller, dx, dy] = numbers::<3>(text)?;
     let scroller = whole(scroller)?;
     Ok(Move { scroller, dx, dy })
 }
 
 /// A pull of scroller 1, as `10 -4`.
-pub fn pull_of(text: &str) -> Result<Move, PageLineFault>
+pub fn pull_of(text: &str) -> Result<Move, LineFault>
     ensures { IfOk result (λ m. IsBoundedNumber m.dx × IsBoundedNumber m.dy) }
 {
     let [dx, dy] = numbers::<2>(text)?;
@@ -38,5 +37,5 @@ pub fn pull_of(text: &str) -> Result<Move, PageLineFault>
             dy,
         });
     }
-    Err(LineFault::NoNumber.into())
+    Err(LineFault::NoNumber)
 }

@@ -1,15 +1,12 @@
 //! What is asked of pages.
 
-ghost use Rattle.model_scroll_values.specs.Bounds.{IsBoundedNumber};
-
 use crate::calls::changes::{say_changes, say_point};
 use crate::calls::moves::pull_of;
 use crate::calls::texts::commands_of;
-use crate::fault::PageLineFault;
-use page_layers::{Command, EditError, Layer, LayerTree, Move};
+use page_layers::{Command, EditError, Layer, LayerTree};
 use page_properties::PropertyTrees;
 use std::alloc::{AllocError, Global};
-use test_table::Answer;
+use test_table::{Answer, LineFault};
 
 /// Says how large a page is, and its tiles.
 pub fn view(tree: &LayerTree, answer: &mut Answer) {
@@ -19,18 +16,14 @@ pub fn view(tree: &LayerTree, answer: &mut Answer) {
 }
 
 /// Applies a command, and says what it changes.
-fn apply(
-    tree: &mut LayerTree,
-    command: &Command,
-    answer: &mut Answer,
-) -> Result<(), PageLineFault> {
+fn apply(tree: &mut LayerTree, command: &Command, answer: &mut Answer) -> Result<(), LineFault> {
     match tree.apply(command) {
         Ok(changes) => {
             say_changes(&changes, answer);
             Ok(())
         }
-        Err(EditError::Refused(_)) => Err(PageLineFault::Refused),
-        Err(_) => Err(PageLineFault::Memory(AllocError)),
+        Err(EditError::Refused(_)) => Err(LineFault::PageRefuses),
+        Err(_) => Err(LineFault::Memory(AllocError)),
     }
 }
 
@@ -39,7 +32,7 @@ fn apply_all(
     tree: &mut LayerTree,
     commands: &[Command],
     answer: &mut Answer,
-) -> Result<(), PageLineFault> {
+) -> Result<(), LineFault> {
     for command in commands {
         apply(tree, command, answer)?;
     }
@@ -52,27 +45,25 @@ pub fn changes(
     tree: &mut LayerTree,
     commands: &str,
     answer: &mut Answer,
-) -> Result<(), PageLineFault> {
+) -> Result<(), LineFault> {
     let commands = commands_of(alloc, commands)?;
     apply_all(tree, commands.as_slice(), answer)
 }
 
 /// Pulls scroller 1, where the page has it, and says how far.
-fn pull(tree: &mut LayerTree, by: Move, answer: &mut Answer) -> Result<(), PageLineFault>
-    requires across { IsBoundedNumber by.dx }
-    requires down { IsBoundedNumber by.dy }
-{
+fn pull(tree: &mut LayerTree, by: &str, answer: &mut Answer) -> Result<(), LineFault> {
+    let by = pull_of(by)?;
     if tree.props().scroller(1).is_none() {
-        return Err(PageLineFault::Refused);
+        return Err(LineFault::PageRefuses);
     }
     say_point("moved", tree.pull(1, by.dx, by.dy), answer);
     Ok(())
 }
 
 /// Says how far each pull moves scroller 1 of a page, and where it and scroller 2 stand then.
-pub fn pulls(tree: &mut LayerTree, pulls: &str, answer: &mut Answer) -> Result<(), PageLineFault> {
+pub fn pulls(tree: &mut LayerTree, pulls: &str, answer: &mut Answer) -> Result<(), LineFault> {
     for by in pulls.split("; ") {
-        pull(tree, pull_of(by)?, answer)?;
+        pull(tree, by, answer)?;
     }
     say_point("scroller 1 at", tree.value(1), answer);
     say_point("scroller 2 at", tree.value(2), answer);
@@ -105,7 +96,7 @@ pub fn copy(
     tree: &mut LayerTree,
     later: &str,
     answer: &mut Answer,
-) -> Result<(), PageLineFault> {
+) -> Result<(), LineFault> {
     let copy = tree.copy()?;
     let changed = changes(alloc, tree, later, answer);
     say_layers("copy", &copy, answer);
@@ -134,7 +125,7 @@ fn say_scrollers(props: &PropertyTrees, answer: &mut Answer) {
 }
 
 /// Says what the scrollers of a copy of a page are, by their ids.
-pub fn scrollers(tree: &LayerTree, answer: &mut Answer) -> Result<(), PageLineFault> {
+pub fn scrollers(tree: &LayerTree, answer: &mut Answer) -> Result<(), LineFault> {
     let props = tree.props().copy()?;
     say_scrollers(&props, answer);
     Ok(())

@@ -2,14 +2,12 @@
 
 use crate::commits::keys::{told_keys, told_sum};
 use crate::commits::pushing::Pushing;
-use crate::fault::PageLineFault;
 use crate::scripts::script_of;
 use std::alloc::Global;
 use std::io;
 use test_table::{LineFault, Table, Tally};
 
 /// What was read of the table so far.
-#[derive(Drop)]
 pub struct Pushes {
     alloc: Global,
     /// The trees of the script that stands above.
@@ -19,26 +17,38 @@ pub struct Pushes {
     tally: Tally,
 }
 
+// Written out, since a derived drop is proved anew, field by field, in each function that lets one go.
+impl Drop for Pushes {
+    fn drop(self) {
+        let Pushes {
+            alloc: _,
+            pushing: _,
+            scripts: _,
+            tally: _,
+        } = self;
+    }
+}
+
 // The answer to a question about the trees.
-fn told(alloc: Global, pushing: &Pushing, question: &str) -> Result<String, PageLineFault> {
+fn told(alloc: Global, pushing: &Pushing, question: &str) -> Result<String, LineFault> {
     match question {
-        "pending" => Ok(told_keys(alloc, pushing.pending())?),
-        "active" => Ok(told_keys(alloc, pushing.active())?),
-        "pending sum" => Ok(told_sum(alloc, pushing.pending())?),
-        "active sum" => Ok(told_sum(alloc, pushing.active())?),
-        _ => Err(PageLineFault::Line(LineFault::NoForm)),
+        "pending" => told_keys(alloc, pushing.pending()),
+        "active" => told_keys(alloc, pushing.active()),
+        "pending sum" => told_sum(alloc, pushing.pending()),
+        "active sum" => told_sum(alloc, pushing.active()),
+        _ => Err(LineFault::NoForm),
     }
 }
 
 // Does what a line without an answer says.
-fn step(pushing: &mut Pushing, word: &str) -> Result<(), PageLineFault> {
+fn step(pushing: &mut Pushing, word: &str) -> Result<(), LineFault> {
     match word {
         "abort" => pushing.abort(),
         "push" => pushing.push(),
         "activate" => pushing.activate(),
         "back" => pushing.take_back(),
         "again" => pushing.push_again(),
-        _ => Err(PageLineFault::Line(LineFault::NoForm)),
+        _ => Err(LineFault::NoForm),
     }
 }
 
@@ -54,7 +64,7 @@ impl Pushes {
     }
 
     /// Takes a line with a script.
-    fn take_script(&mut self, text: &str) -> Result<(), PageLineFault> {
+    fn take_script(&mut self, text: &str) -> Result<(), LineFault> {
         let script = script_of(self.alloc, text)?;
         self.pushing = Some(Pushing::new(self.alloc, script)?);
         self.scripts = self.scripts.saturating_add(1);
@@ -68,9 +78,9 @@ impl Pushes {
         line: usize,
         question: &str,
         wanted: &str,
-    ) -> Result<(), PageLineFault> {
+    ) -> Result<(), LineFault> {
         let Some(pushing) = &self.pushing else {
-            return Err(PageLineFault::NoFrame);
+            return Err(LineFault::NoFrame);
         };
         let told = told(self.alloc, pushing, question)?;
         self.tally.compare(rt, line, told.as_str(), wanted);
@@ -78,18 +88,18 @@ impl Pushes {
     }
 
     /// Takes a line that says what is done.
-    fn take_step(&mut self, word: &str) -> Result<(), PageLineFault> {
+    fn take_step(&mut self, word: &str) -> Result<(), LineFault> {
         match &mut self.pushing {
             Some(pushing) => step(pushing, word),
-            None => Err(PageLineFault::NoFrame),
+            None => Err(LineFault::NoFrame),
         }
     }
 }
 
 impl<R: Print> Table<R> for Pushes {
-    type Fault = PageLineFault;
+    type Fault = LineFault;
 
-    fn take(&mut self, rt: &R, line: usize, text: &str) -> Result<(), PageLineFault> {
+    fn take(&mut self, rt: &R, line: usize, text: &str) -> Result<(), LineFault> {
         match text.split_once(": ") {
             Some(("script", script)) => self.take_script(script),
             Some((question, wanted)) => self.take_question(rt, line, question, wanted),

@@ -5,11 +5,11 @@ ghost use Rattle.tile_priority.specs.Alike.{Alike};
 
 use crate::choice::PlainChoice;
 use crate::queues::checks::{has_each_key_once, is_wanted, may_finish};
-use crate::queues::fault::StepFault;
 use geom::TileKey;
 use std::alloc::Global;
 use std::marker::Model;
 use std::time::{Duration, Instant};
+use test_table::LineFault;
 use tile_priority::ReadyTile;
 use tile_queue::RasterQueue;
 
@@ -47,7 +47,7 @@ impl Drop for CheckedQueue {
 }
 
 /// What a start took.
-#[derive(Clone, Copy, Debug)]
+#[derive(Clone, Copy)]
 pub(crate) struct StartCost {
     /// How long the queue took.
     pub(crate) took: Duration,
@@ -56,8 +56,8 @@ pub(crate) struct StartCost {
 }
 
 /// The time.
-fn now(rt: &HostRuntime) -> Result<Instant, StepFault> {
-    Instant::now(rt).map_err(|_| StepFault::Clock)
+fn now(rt: &HostRuntime) -> Result<Instant, LineFault> {
+    Instant::now(rt).map_err(|_| LineFault::NoClock)
 }
 
 /// How long ago that was; nothing where the clock can't be read.
@@ -70,15 +70,15 @@ fn rebuild(
     rt: &HostRuntime,
     queue: &mut RasterQueue,
     plain: &PlainChoice,
-) -> Result<Duration, StepFault>
+) -> Result<Duration, LineFault>
     ensures ok { OnOk result (Alike queue.new plain.now) }
     ensures err { OnErr result (queue.new ≡ queue.old) }
 {
     if !has_each_key_once(rt.alloc(), plain)? {
-        return Err(StepFault::KeyTwice);
+        return Err(LineFault::KeyTwice);
     }
     if plain.in_flight() > MOST_IN_FLIGHT {
-        return Err(StepFault::TooMany);
+        return Err(LineFault::TooMany);
     }
     let in_flight = plain.in_flight() as u32;
     let begin = now(rt)?;
@@ -93,16 +93,16 @@ fn start(
     queue: &mut RasterQueue,
     plain: &PlainChoice,
     key: TileKey,
-) -> Result<(PlainChoice, StartCost), StepFault>
+) -> Result<(PlainChoice, StartCost), LineFault>
     requires { Alike queue.old plain.now }
     ensures ok { IfOk result (λ next. Alike queue.new next.0) }
     ensures err { OnErr result (queue.new ≡ queue.old) }
 {
     if !is_wanted(rt.alloc(), plain, key)? {
-        return Err(StepFault::NotWanted);
+        return Err(LineFault::NotWanted);
     }
     if plain.in_flight() > MOST_IN_FLIGHT {
-        return Err(StepFault::TooMany);
+        return Err(LineFault::TooMany);
     }
     let begin = now(rt)?;
     let evicted = queue.evicted(key)?;
@@ -122,14 +122,14 @@ fn finish(
     queue: &mut RasterQueue,
     plain: &PlainChoice,
     tile: Option<ReadyTile>,
-) -> Result<(PlainChoice, Duration), StepFault>
+) -> Result<(PlainChoice, Duration), LineFault>
     requires { Alike queue.old plain.now }
     ensures ok { IfOk result (λ next. Alike queue.new next.0) }
     ensures err { OnErr result (queue.new ≡ queue.old) }
 {
     let alloc = rt.alloc();
     if !may_finish(alloc, plain, tile)? {
-        return Err(StepFault::NotNew);
+        return Err(LineFault::NotNew);
     }
     let next = plain.finished(alloc, tile)?;
     let begin = now(rt)?;
@@ -167,14 +167,14 @@ impl CheckedQueue {
         &mut self,
         rt: &HostRuntime,
         plain: PlainChoice,
-    ) -> Result<Duration, StepFault> {
+    ) -> Result<Duration, LineFault> {
         let took = rebuild(rt, &mut self.queue, &plain)?;
         self.plain = plain;
         Ok(took)
     }
 
     /// Starts a key that is wanted.
-    pub(crate) fn start(&mut self, rt: &HostRuntime, key: TileKey) -> Result<StartCost, StepFault> {
+    pub(crate) fn start(&mut self, rt: &HostRuntime, key: TileKey) -> Result<StartCost, LineFault> {
         let (next, started) = start(rt, &mut self.queue, &self.plain, key)?;
         self.plain = next;
         Ok(started)
@@ -185,7 +185,7 @@ impl CheckedQueue {
         &mut self,
         rt: &HostRuntime,
         tile: Option<ReadyTile>,
-    ) -> Result<Duration, StepFault> {
+    ) -> Result<Duration, LineFault> {
         let (next, took) = finish(rt, &mut self.queue, &self.plain, tile)?;
         self.plain = next;
         Ok(took)

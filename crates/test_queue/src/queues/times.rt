@@ -2,14 +2,14 @@
 
 use crate::choice::PlainChoice;
 use crate::queues::checked_queue::CheckedQueue;
-use crate::queues::fault::StepFault;
 use geom::TileKey;
 use std::alloc::{AllocError, Global};
 use std::time::{Duration, Instant};
+use test_table::LineFault;
 use tile_priority::{Bin, Rank, ReadyTile};
 
 /// How the tiles of a queue stand to each other, and which of them start.
-#[derive(Clone, Copy, Debug, PartialEq, Eq)]
+#[derive(Clone, Copy)]
 pub(crate) enum Order {
     /// Bins and distances are mixed, and the first key starts.
     Mixed,
@@ -21,7 +21,7 @@ pub(crate) enum Order {
 }
 
 /// How long the calls took.
-#[derive(Clone, Copy, Debug)]
+#[derive(Clone, Copy)]
 pub(crate) struct QueueTimes {
     /// A new choice, the shortest of several.
     pub(crate) rebuild: Duration,
@@ -115,15 +115,15 @@ fn next(queue: &CheckedQueue, order: Order) -> Option<Rank> {
 }
 
 /// Looks many times at the first key.
-fn look(rt: &HostRuntime, queue: &CheckedQueue) -> Result<Duration, StepFault> {
+fn look(rt: &HostRuntime, queue: &CheckedQueue) -> Result<Duration, LineFault> {
     let mut sum = 0u64;
-    let begin = Instant::now(rt).map_err(|_| StepFault::Clock)?;
+    let begin = Instant::now(rt).map_err(|_| LineFault::NoClock)?;
     for _turn in 0..LOOKS {
         if let Some(key) = queue.queue().first() {
             sum = sum.wrapping_add(key.x as u64);
         }
     }
-    let took = begin.elapsed(rt).map_err(|_| StepFault::Clock)?;
+    let took = begin.elapsed(rt).map_err(|_| LineFault::NoClock)?;
     // The sum is of use, so that no compiler leaves the looks out.
     Ok(if sum == 1 { Duration::ZERO } else { took })
 }
@@ -135,7 +135,7 @@ impl QueueTimes {
         rt: &HostRuntime,
         queue: &mut CheckedQueue,
         order: Order,
-    ) -> Result<bool, StepFault> {
+    ) -> Result<bool, LineFault> {
         let Some(rank) = next(queue, order) else {
             return Ok(false);
         };
@@ -155,7 +155,7 @@ pub(crate) fn queue_times(
     order: Order,
     tiles: u32,
     pairs: u32,
-) -> Result<QueueTimes, StepFault> {
+) -> Result<QueueTimes, LineFault> {
     let mut queue = CheckedQueue::new(rt.alloc());
     let mut rebuild = Duration::MAX;
     for _turn in 0..8 {

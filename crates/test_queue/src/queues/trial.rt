@@ -7,16 +7,16 @@ use crate::dice::Dice;
 use crate::queues::agreement::agrees;
 use crate::queues::checked_queue::CheckedQueue;
 use crate::queues::dice::{rank, tile};
-use crate::queues::fault::StepFault;
 use geom::TileKey;
 use std::alloc::{AllocError, Global};
+use test_table::LineFault;
 use tile_priority::{Rank, ReadyTile};
 
 /// How many keys there are.
 const KEYS: u32 = 36;
 
 /// What was counted.
-#[derive(Clone, Copy, Debug)]
+#[derive(Clone, Copy)]
 pub(crate) struct Counts {
     /// How many steps were new choices.
     pub(crate) rebuilds: u64,
@@ -109,7 +109,7 @@ impl Thrown {
 
 impl Trial {
     /// A new choice.
-    fn rebuild(&mut self, rt: &HostRuntime) -> Result<(), StepFault> {
+    fn rebuild(&mut self, rt: &HostRuntime) -> Result<(), LineFault> {
         let thrown = Thrown::all(rt.alloc(), &mut self.dice)?;
         let budget = self.dice.below(24);
         let flying = thrown.in_flight.len();
@@ -132,19 +132,19 @@ impl Trial {
     }
 
     /// Starts a wanted key, if there is one.
-    fn start(&mut self, rt: &HostRuntime) -> Result<(), StepFault> {
+    fn start(&mut self, rt: &HostRuntime) -> Result<(), LineFault> {
         let Some(key) = self.wanted_key() else {
             return Ok(());
         };
         let started = self.queue.start(rt, key)?;
-        self.in_flight.push(key).map_err(AllocError::from)?;
+        self.in_flight.push(key)?;
         self.counts.starts = self.counts.starts.saturating_add(1);
         self.counts.evicted = self.counts.evicted.saturating_add(started.evicted as u64);
         Ok(())
     }
 
     /// Makes a tile in flight, if there is one; one of four is needed no more.
-    fn finish(&mut self, rt: &HostRuntime) -> Result<(), StepFault> {
+    fn finish(&mut self, rt: &HostRuntime) -> Result<(), LineFault> {
         let place = self.dice.throw() as usize % 36;
         if place >= self.in_flight.len() {
             return Ok(());
@@ -161,7 +161,7 @@ impl Trial {
     }
 
     /// One step, and whether the queue answers as the definitions say after it.
-    fn step(&mut self, rt: &HostRuntime) -> Result<bool, StepFault> {
+    fn step(&mut self, rt: &HostRuntime) -> Result<bool, LineFault> {
         match self.dice.below(24) {
             0 => self.rebuild(rt)?,
             1..=10 => self.start(rt)?,
@@ -174,7 +174,7 @@ impl Trial {
 }
 
 /// Takes the given number of random steps, up to the first after which the queue answers otherwise.
-pub(crate) fn try_steps(rt: &HostRuntime, seed: u64, steps: u64) -> Result<Counts, StepFault> {
+pub(crate) fn try_steps(rt: &HostRuntime, seed: u64, steps: u64) -> Result<Counts, LineFault> {
     let mut trial = Trial {
         dice: Dice::of(seed),
         queue: CheckedQueue::new(rt.alloc()),

@@ -4,41 +4,33 @@
 //! or a key without rank, with `!` after it where it is pinned.
 
 use crate::choice::PlainChoice;
-use crate::queues::fault::StepFault;
 use geom::TileKey;
 use std::alloc::{AllocError, Global};
+use test_table::{LineFault, push_word, wholes};
 use tile_priority::{Bin, Rank, ReadyTile};
 use tile_queue::RasterQueue;
 
-/// A whole number.
-fn number(word: Option<&str>) -> Result<u32, StepFault> {
-    let word = word.ok_or(StepFault::NoForm)?;
-    word.parse::<u32>().map_err(|_| StepFault::NoForm)
-}
-
 /// The key of a word.
-pub(crate) fn key_of(word: &str) -> Result<TileKey, StepFault> {
-    let mut parts = word.split('/');
-    let layer = number(parts.next())?;
-    let x = number(parts.next())?;
-    let y = number(parts.next())?;
-    let stamp = number(parts.next())?;
+pub(crate) fn key_of(word: &str) -> Result<TileKey, LineFault> {
+    let [layer, x, y, stamp] = wholes::<4>(word, '/')?;
     Ok(TileKey { layer, x, y, stamp })
 }
 
 /// The bin of a word.
-fn bin_of(word: &str) -> Result<Bin, StepFault> {
+fn bin_of(word: &str) -> Result<Bin, LineFault> {
     match word {
         "now" => Ok(Bin::Now),
         "soon" => Ok(Bin::Soon),
         "eventually" => Ok(Bin::Eventually),
-        _ => Err(StepFault::NoForm),
+        _ => Err(LineFault::NoForm),
     }
 }
 
 /// The rank of a word, in tree 0 at distance 0.
-fn rank_of(word: &str) -> Result<Rank, StepFault> {
-    let (key, bin) = word.split_once(':').ok_or(StepFault::NoForm)?;
+fn rank_of(word: &str) -> Result<Rank, LineFault> {
+    let Some((key, bin)) = word.split_once(':') else {
+        return Err(LineFault::NoForm);
+    };
     Ok(Rank {
         bin: bin_of(bin)?,
         tree: 0,
@@ -48,7 +40,7 @@ fn rank_of(word: &str) -> Result<Rank, StepFault> {
 }
 
 /// The tile of a rank or of a key without one.
-fn tile_of(word: &str, pinned: bool) -> Result<ReadyTile, StepFault> {
+fn tile_of(word: &str, pinned: bool) -> Result<ReadyTile, LineFault> {
     if !word.contains(':') {
         return Ok(ReadyTile {
             key: key_of(word)?,
@@ -65,7 +57,7 @@ fn tile_of(word: &str, pinned: bool) -> Result<ReadyTile, StepFault> {
 }
 
 /// The tile of a word.
-pub(crate) fn ready_of(word: &str) -> Result<ReadyTile, StepFault> {
+pub(crate) fn ready_of(word: &str) -> Result<ReadyTile, LineFault> {
     match word.strip_suffix('!') {
         Some(word) => tile_of(word, true),
         None => tile_of(word, false),
@@ -73,49 +65,68 @@ pub(crate) fn ready_of(word: &str) -> Result<ReadyTile, StepFault> {
 }
 
 /// The ranks of words.
-fn ranks_of(alloc: Global, words: &str) -> Result<Vec<Rank>, StepFault> {
+fn ranks_of(alloc: Global, words: &str) -> Result<Vec<Rank>, LineFault> {
     let mut ranks = Vec::new(alloc);
     for word in words.split_whitespace() {
-        ranks.push(rank_of(word)?).map_err(AllocError::from)?;
+        ranks.push(rank_of(word)?)?;
     }
     Ok(ranks)
 }
 
 /// The tiles of words.
-fn tiles_of(alloc: Global, words: &str) -> Result<Vec<ReadyTile>, StepFault> {
+fn tiles_of(alloc: Global, words: &str) -> Result<Vec<ReadyTile>, LineFault> {
     let mut tiles = Vec::new(alloc);
     for word in words.split_whitespace() {
-        tiles.push(ready_of(word)?).map_err(AllocError::from)?;
+        tiles.push(ready_of(word)?)?;
     }
     Ok(tiles)
 }
 
 /// The choice of `BUDGET IN_FLIGHT wanted RANK .. ready TILE ..`.
-pub(crate) fn queue_of(alloc: Global, row: &str) -> Result<PlainChoice, StepFault> {
-    let (head, lists) = row.split_once(" wanted").ok_or(StepFault::NoForm)?;
-    let (ranks, tiles) = lists.split_once(" ready").ok_or(StepFault::NoForm)?;
-    let mut head = head.split(' ');
-    let budget = number(head.next())?;
-    let in_flight = number(head.next())? as usize;
+pub(crate) fn queue_of(alloc: Global, row: &str) -> Result<PlainChoice, LineFault> {
+    let Some((head, lists)) = row.split_once(" wanted") else {
+        return Err(LineFault::NoForm);
+    };
+    let Some((ranks, tiles)) = lists.split_once(" ready") else {
+        return Err(LineFault::NoForm);
+    };
+    let [budget, in_flight] = wholes::<2>(head, ' ')?;
     let wanted = ranks_of(alloc, ranks)?;
     let ready = tiles_of(alloc, tiles)?;
-    Ok(PlainChoice::new(wanted, ready, in_flight, budget))
+    Ok(PlainChoice::new(wanted, ready, in_flight as usize, budget))
+}
+
+/// Adds a key.
+fn push_key(alloc: Global, key: TileKey, text: &mut String) -> Result<(), AllocError> {
+    let TileKey { layer, x, y, stamp } = key;
+    let word = format!(in alloc; "{layer}/{x}/{y}/{stamp}")?;
+    push_word(text, word.as_str())
 }
 
 /// The text of keys; `-` where there is none.
 fn text_of(alloc: Global, keys: &[TileKey]) -> Result<String, AllocError> {
+    if keys.is_empty() {
+        return "-".to_string(alloc);
+    }
     let mut text = String::new(alloc);
     for key in keys {
-        if !text.is_empty() {
-            text.push(' ')?;
-        }
-        let word = format!(in alloc; "{}/{}/{}/{}", key.layer, key.x, key.y, key.stamp)?;
-        text.push_str(word.as_str())?;
-    }
-    if text.is_empty() {
-        text.push('-')?;
+        push_key(alloc, *key, &mut text)?;
     }
     Ok(text)
+}
+
+/// The key that starts first.
+fn first_text(alloc: Global, queue: &RasterQueue) -> Result<String, AllocError> {
+    match queue.first() {
+        Some(key) => text_of(alloc, &[key]),
+        None => text_of(alloc, &[]),
+    }
+}
+
+/// The keys that are evicted for a key.
+fn evicted_text(alloc: Global, queue: &RasterQueue, key: TileKey) -> Result<String, AllocError> {
+    let keys = queue.evicted(key)?;
+    text_of(alloc, keys.as_slice())
 }
 
 /// The answer to `first`, the key that starts first, or to `evicted KEY`, the keys that are evicted for it.
@@ -123,16 +134,10 @@ pub(crate) fn answer(
     alloc: Global,
     queue: &RasterQueue,
     question: &str,
-) -> Result<String, StepFault> {
+) -> Result<String, LineFault> {
     match question.strip_prefix("evicted ") {
-        Some(word) => {
-            let keys = queue.evicted(key_of(word)?)?;
-            Ok(text_of(alloc, keys.as_slice())?)
-        }
-        None if question == "first" => match queue.first() {
-            Some(key) => Ok(text_of(alloc, &[key])?),
-            None => Ok(text_of(alloc, &[])?),
-        },
-        None => Err(StepFault::NoForm),
+        Some(word) => Ok(evicted_text(alloc, queue, key_of(word)?)?),
+        None if question == "first" => Ok(first_text(alloc, queue)?),
+        None => Err(LineFault::NoForm),
     }
 }
