@@ -10,7 +10,7 @@ pub(crate) const MOST_PIXELS: usize = 65536;
 pub(crate) const MOST_ITEMS: usize = 256;
 
 /// What the items of a list are.
-#[derive(Clone, Copy, PartialEq, Eq)]
+#[derive(Clone, Copy)]
 pub(crate) enum ItemKind {
     /// Opaque rects.
     Opaque,
@@ -81,28 +81,44 @@ impl BenchJob {
         ensures { IfSome result IsSmallJob }
     {
         match words {
-            [name, first, second] => BenchJob::of_row(
+            [name, pixels, count] => {
+                BenchJob::of_row(name.as_str(), pixels.as_str(), count.as_str())
+            }
+            [name, first, second, count] => BenchJob::of_four(
                 name.as_str(),
                 first.as_str(),
                 second.as_str(),
+                count.as_str(),
             ),
-            [name, first, second, third] if name.as_str() == "raster" => {
-                BenchJob::of_tile(first.as_str(), second.as_str(), third.as_str())
-            }
-            [name, first, second, third] if name.as_str() == "scene" => Some(BenchJob::Scene {
-                in_groups: false,
-                items: number(first.as_str(), MOST_ITEMS)?,
-                layers: times(second.as_str())?,
-                times: times(third.as_str())?,
-            }),
-            [name, first, second, third] if name.as_str() == "groups" => Some(BenchJob::Scene {
-                in_groups: true,
-                items: number(first.as_str(), MOST_ITEMS)?,
-                layers: times(second.as_str())?,
-                times: times(third.as_str())?,
-            }),
             _ => None,
         }
+    }
+
+    /// The job of this name, of two words and how often it is done.
+    fn of_four(name: &str, first: &str, second: &str, count: &str) -> Option<BenchJob>
+        ensures { IfSome result IsSmallJob }
+    {
+        match name {
+            "raster" => BenchJob::of_tile(first, second, count),
+            "scene" => BenchJob::of_scene(false, first, second, count),
+            "groups" => BenchJob::of_scene(true, first, second, count),
+            _ => None,
+        }
+    }
+
+    /// The job on a scene of this many layers, each of this many items.
+    fn of_scene(in_groups: bool, items: &str, layers: &str, count: &str) -> Option<BenchJob>
+        ensures { IfSome result IsSmallJob }
+    {
+        let items = number(items, MOST_ITEMS)?;
+        let layers = times(layers)?;
+        let times = times(count)?;
+        Some(BenchJob::Scene {
+            in_groups,
+            items,
+            layers,
+            times,
+        })
     }
 
     /// The job on a tile under items of this kind.

@@ -4,6 +4,8 @@ ghost use Rattle.std.specs.Prelude.{IfOk, IfSome};
 ghost use Rattle.geom.specs.Covers.{IsSound};
 ghost use Rattle.bench_draw.specs.Jobs.{IsLarge};
 
+use crate::images;
+use crate::images::{add_item, shared};
 use crate::pool::colour_of;
 use crate::scenes::Dice;
 use geom::{Point, Rect, TileKey};
@@ -11,7 +13,7 @@ use page_display_list::{DisplayList, Item};
 use pixel::Colour;
 use std::alloc::{AllocError, Global};
 use std::sync::Arc;
-use tile_raster::{Job, TileImage};
+use tile_raster::TileImage;
 use viz_scene::{Quad, RenderPass, Scene, scene_of};
 
 /// The side of the screen.
@@ -24,7 +26,7 @@ const TILE: i32 = 256;
 const BEFORE: i32 = 128;
 
 // the part of a tile's side that lies on the screen: where it begins, and how long it is
-fn shared(place: i32) -> (i32, i32) {
+fn shown(place: i32) -> (i32, i32) {
     let start = place.saturating_mul(TILE).saturating_sub(BEFORE);
     let end = start.saturating_add(TILE).min(SIDE);
     let at = start.max(0);
@@ -33,8 +35,8 @@ fn shared(place: i32) -> (i32, i32) {
 
 // the quad of the tile of a place, which shows an image
 fn tile_at(image: &Arc<TileImage>, column: i32, row: i32) -> Result<Quad, AllocError> {
-    let (x, w) = shared(column);
-    let (y, h) = shared(row);
+    let (x, w) = shown(column);
+    let (y, h) = shown(row);
     let from_x = if column == 0 { BEFORE } else { 0 };
     let from_y = if row == 0 { BEFORE } else { 0 };
     Ok(Quad::Tile {
@@ -63,14 +65,9 @@ fn rect_of(dice: &mut Dice) -> Rect
 fn list_of(alloc: Global, dice: &mut Dice) -> Result<DisplayList, AllocError> {
     let mut list = DisplayList::new(alloc);
     for _item in 0..8 {
-        let at = list.len();
-        if at < 256 {
-            let rect = rect_of(dice);
-            let colour = colour_of(dice);
-            if let Err((full, _item)) = list.insert(at, Item::Rect { rect, colour }) {
-                return Err(full);
-            }
-        }
+        let rect = rect_of(dice);
+        let colour = colour_of(dice);
+        add_item(&mut list, Item::Rect { rect, colour })?;
     }
     Ok(list)
 }
@@ -78,9 +75,7 @@ fn list_of(alloc: Global, dice: &mut Dice) -> Result<DisplayList, AllocError> {
 // the image of a layer's tiles
 fn image_of(alloc: Global, layer: u32) -> Result<Arc<TileImage>, AllocError> {
     let mut dice = Dice::new(layer as u64);
-    let Ok(list) = Arc::new(alloc, list_of(alloc, &mut dice)?) else {
-        return Err(AllocError);
-    };
+    let list = shared(alloc, list_of(alloc, &mut dice)?)?;
     let key = TileKey {
         layer,
         x: 0,
@@ -93,11 +88,7 @@ fn image_of(alloc: Global, layer: u32) -> Result<Arc<TileImage>, AllocError> {
         w: TILE,
         h: TILE,
     };
-    let job = Job { key, list, rect };
-    match job.run(alloc) {
-        Ok(image) => Ok(image),
-        Err((full, _job)) => Err(full),
-    }
+    images::image_of(alloc, key, list, rect)
 }
 
 // adds the tiles of a layer, of which the one in the middle shows an image of its own
@@ -110,8 +101,8 @@ fn add_layer(
     let image = image_of(alloc, layer)?;
     let other = image_of(alloc, middle)?;
     for place in 0..25i32 {
-        let shown = if place == 12 { &other } else { &image };
-        quads.push(tile_at(shown, place % 5, place / 5)?)?;
+        let image = if place == 12 { &other } else { &image };
+        quads.push(tile_at(image, place % 5, place / 5)?)?;
     }
     Ok(())
 }

@@ -14,6 +14,7 @@
 #![tactic(auto)]
 
 mod asked;
+mod images;
 mod job;
 mod large;
 mod pairs;

@@ -4,13 +4,15 @@ ghost use Rattle.std.specs.Prelude.{◌≡◌, pos, ◌≤ℤ◌, IfOk};
 ghost use Rattle.geom.specs.Covers.{IsSound};
 ghost use Rattle.page_display_list.specs.Content.{IsSoundItem};
 
+use crate::images;
+use crate::images::{add_item, shared};
 use crate::scenes::Dice;
 use geom::{Rect, TileKey};
 use page_display_list::{DisplayList, Item};
 use pixel::Colour;
 use std::alloc::{AllocError, Global};
 use std::sync::Arc;
-use tile_raster::{Job, TileImage};
+use tile_raster::TileImage;
 
 /// How many images there are.
 pub(crate) const IMAGES: u32 = 24;
@@ -59,12 +61,7 @@ const IMAGE: Rect = Rect {
 fn list_of(alloc: Global, dice: &mut Dice) -> Result<DisplayList, AllocError> {
     let mut list = DisplayList::new(alloc);
     for _item in 0..dice.throw() % 4 {
-        let at = list.len();
-        if at < 256 {
-            if let Err((full, _item)) = list.insert(at, item_of(dice)) {
-                return Err(full);
-            }
-        }
+        add_item(&mut list, item_of(dice))?;
     }
     Ok(list)
 }
@@ -72,24 +69,14 @@ fn list_of(alloc: Global, dice: &mut Dice) -> Result<DisplayList, AllocError> {
 /// The image of a number. Two that follow one another show the same; two of a key may show different things.
 fn image_of(alloc: Global, number: u32) -> Result<Arc<TileImage>, AllocError> {
     let mut dice = Dice::new(number as u64 / 2);
-    let Ok(list) = Arc::new(alloc, list_of(alloc, &mut dice)?) else {
-        return Err(AllocError);
-    };
+    let list = shared(alloc, list_of(alloc, &mut dice)?)?;
     let key = TileKey {
         layer: number % 5,
         x: 0,
         y: 0,
         stamp: number / 5,
     };
-    let job = Job {
-        key,
-        list,
-        rect: IMAGE,
-    };
-    match job.run(alloc) {
-        Ok(image) => Ok(image),
-        Err((full, _job)) => Err(full),
-    }
+    images::image_of(alloc, key, list, IMAGE)
 }
 
 /// All images.

@@ -7,12 +7,12 @@ ghost use Rattle.viz_scene.specs.Sound.{QuadFits, IsIn};
 ghost use Rattle.geom.specs.Covers.{IsSound};
 ghost use Rattle.bench_draw.specs.Jobs.{IsLarge, CanBeAnywhere};
 
+use crate::images::{add_item, image_of, shared};
 use geom::{Point, Rect, TileKey};
 use page_display_list::{DisplayList, Item};
 use pixel::Colour;
 use std::alloc::{AllocError, Global};
 use std::sync::Arc;
-use tile_raster::Job;
 use viz_canvas::{Canvas, Rgb};
 use viz_scene::{Quad, RenderPass, Scene};
 
@@ -67,17 +67,9 @@ fn rect_of(x: u32, y: u32, w: u32, h: u32) -> Rect
 fn list_of(alloc: Global, dice: &mut Dice, items: usize) -> Result<Arc<DisplayList>, AllocError> {
     let mut list = DisplayList::new(alloc);
     for _turn in 0..items {
-        let at = list.len();
-        if at < 256 {
-            if let Err((full, _item)) = list.insert(at, item_of(dice)) {
-                return Err(full);
-            }
-        }
+        add_item(&mut list, item_of(dice))?;
     }
-    match Arc::new(alloc, list) {
-        Ok(list) => Ok(list),
-        Err(_) => Err(AllocError),
-    }
+    shared(alloc, list)
 }
 
 /// The rect of the tile of a place below 16.
@@ -107,20 +99,12 @@ fn tile_of(alloc: Global, list: &Arc<DisplayList>, place: u32) -> Result<Quad, A
         y: place / 4,
         stamp: 0,
     };
-    let list = Arc::try_clone(list)?;
-    let job = Job {
-        key,
-        list,
-        rect: at,
-    };
-    match job.run(alloc) {
-        Ok(image) => Ok(Quad::Tile {
-            image,
-            at,
-            from: Point { x: 0, y: 0 },
-        }),
-        Err((full, _job)) => Err(full),
-    }
+    let image = image_of(alloc, key, Arc::try_clone(list)?, at)?;
+    Ok(Quad::Tile {
+        image,
+        at,
+        from: Point { x: 0, y: 0 },
+    })
 }
 
 /// Adds the quads of a layer of the given number of items.

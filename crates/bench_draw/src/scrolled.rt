@@ -6,6 +6,8 @@
 ghost use Rattle.std.specs.Prelude.{◌<◌, ◌≤ℤ◌, pos};
 ghost use Rattle.geom.specs.Covers.{IsSound};
 
+use crate::images;
+use crate::images::{add_item, shared};
 use crate::pool::colour_of;
 use crate::scenes::Dice;
 use crate::showing::shows;
@@ -14,7 +16,7 @@ use page_display_list::{DisplayList, Item};
 use pixel::Colour;
 use std::alloc::{AllocError, Global};
 use std::sync::Arc;
-use tile_raster::{Job, TileImage};
+use tile_raster::TileImage;
 use viz_scene::{Quad, RenderPass, Scene, scene_of};
 
 /// How many sections the page has.
@@ -52,17 +54,11 @@ fn word_of(dice: &mut Dice, place: u32) -> Rect
 }
 
 // adds a rect of a random colour
-fn add_item(list: &mut DisplayList, dice: &mut Dice, rect: Rect) -> Result<(), AllocError>
+fn add_rect(list: &mut DisplayList, dice: &mut Dice, rect: Rect) -> Result<(), AllocError>
     requires { IsSound rect }
 {
-    let at = list.len();
     let colour = colour_of(dice);
-    if at < 256 {
-        if let Err((full, _item)) = list.insert(at, Item::Rect { rect, colour }) {
-            return Err(full);
-        }
-    }
-    Ok(())
+    add_item(list, Item::Rect { rect, colour })
 }
 
 // what a section shows
@@ -71,16 +67,13 @@ fn list_of(alloc: Global, section: u32) -> Result<Arc<DisplayList>, AllocError> 
     let mut list = DisplayList::new(alloc);
     for _box in 0..16u32 {
         let rect = box_of(&mut dice);
-        add_item(&mut list, &mut dice, rect)?;
+        add_rect(&mut list, &mut dice, rect)?;
     }
     for place in 0..240u32 {
         let rect = word_of(&mut dice, place);
-        add_item(&mut list, &mut dice, rect)?;
+        add_rect(&mut list, &mut dice, rect)?;
     }
-    match Arc::new(alloc, list) {
-        Ok(list) => Ok(list),
-        Err(_) => Err(AllocError),
-    }
+    shared(alloc, list)
 }
 
 // the height of a tile of a section, whose last row of eight ends with the section
@@ -119,12 +112,7 @@ fn image_of(
         y: place / 8,
         stamp: 0,
     };
-    let list = Arc::try_clone(list)?;
-    let rect = tile_rect(place);
-    match (Job { key, list, rect }).run(alloc) {
-        Ok(image) => Ok(image),
-        Err((full, _job)) => Err(full),
-    }
+    images::image_of(alloc, key, Arc::try_clone(list)?, tile_rect(place))
 }
 
 // the images of all sections

@@ -3,13 +3,13 @@
 ghost use Rattle.std.specs.Prelude.{◌≤◌, IfOk};
 ghost use Rattle.page_display_list.specs.Content.{IsSoundItem};
 
+use crate::images::{add_item, image_of, shared};
 use crate::job::ItemKind;
 use crate::rows::grey;
 use geom::{Rect, TileKey};
 use page_display_list::{DisplayList, Item};
 use std::alloc::{AllocError, Global};
 use std::sync::Arc;
-use tile_raster::Job;
 
 /// The tile, which each item covers.
 const TILE: Rect = Rect {
@@ -61,30 +61,17 @@ fn list_of(alloc: Global, kind: ItemKind, items: usize) -> Result<DisplayList, A
 {
     let mut list = DisplayList::new(alloc);
     for _turn in 0..items {
-        let at = list.len();
-        if at < 256 {
-            let item = item_of(alloc, kind, 64)?;
-            if let Err((want, _item)) = list.insert(at, item) {
-                return Err(want);
-            }
-        }
+        add_item(&mut list, item_of(alloc, kind, 64)?)?;
     }
     Ok(list)
 }
 
 /// Makes the picture of a tile, and gives the red of its one colour.
 fn red_of(alloc: Global, list: &Arc<DisplayList>) -> Result<u64, AllocError> {
-    let job = Job {
-        key: KEY,
-        list: Arc::try_clone(list)?,
-        rect: TILE,
-    };
-    match job.run(alloc) {
-        Ok(image) => match image.solid() {
-            Some(colour) => Ok(u64::from(colour.r())),
-            None => Ok(0),
-        },
-        Err((full, _job)) => Err(full),
+    let image = image_of(alloc, KEY, Arc::try_clone(list)?, TILE)?;
+    match image.solid() {
+        Some(colour) => Ok(u64::from(colour.r())),
+        None => Ok(0),
     }
 }
 
@@ -98,9 +85,7 @@ pub(crate) fn raster(
 ) -> Result<u64, AllocError>
     requires { items ≤ 256 }
 {
-    let Ok(list) = Arc::new(alloc, list_of(alloc, kind, items)?) else {
-        return Err(AllocError);
-    };
+    let list = shared(alloc, list_of(alloc, kind, items)?)?;
     let mut sum = 0u64;
     for _turn in 0..times {
         sum = sum.wrapping_add(red_of(alloc, &list)?);
