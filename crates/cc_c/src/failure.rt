@@ -3,7 +3,7 @@
 use page_layers::EditFault;
 
 /// Why an edit was not made. All is then as it was.
-#[derive(Clone, Copy, Debug, PartialEq, Eq)]
+#[derive(Clone, Copy)]
 pub enum Failure {
     /// The numbers mean no command.
     Bad,

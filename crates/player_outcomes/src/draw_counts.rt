@@ -7,7 +7,7 @@ use impl_log::KeptHistory;
 use model_history::Event;
 
 /// How many images the draws of a history have, and how many tiles they lack.
-#[derive(Clone, Copy, Debug, Drop)]
+#[derive(Clone, Copy, Drop)]
 pub struct DrawCounts {
     /// the images
     pub images: u64,

@@ -9,7 +9,7 @@ use itoa::Buffer;
 use player_io::{PutFault, Sink};
 
 /// A fragment of a line.
-#[derive(Clone, Copy, Debug, Drop)]
+#[derive(Clone, Copy, Drop)]
 pub enum Fragment {
     /// These bytes.
     Text(&'static [u8]),

@@ -14,7 +14,7 @@ pub const RECORDING_LIMIT: usize = 268435456;
 const PIECE: usize = 65536;
 
 /// Why the source was not read to its end.
-#[derive(Clone, Copy, Debug, Drop, PartialEq)]
+#[derive(Clone, Copy, Drop)]
 pub enum ReadStop {
     /// It gave more bytes than the limit.
     TooLong,
