@@ -26,7 +26,8 @@ mod tables;
 use crate::tables::Tables;
 use std::process::ExitCode;
 use std::{env, io};
-use test_table::check_table;
+use test_channels::Channels;
+use test_table::{check_table, end_unread};
 
 /// Does the job that the words name, and answers whether there is one; None where there are no words.
 fn job(rt: &HostRuntime) -> io::Result<Option<bool>> {
@@ -41,7 +42,10 @@ fn job(rt: &HostRuntime) -> io::Result<Option<bool>> {
 
 fn main(rt: HostRuntime) -> ExitCode {
     match job(&rt) {
-        Ok(None) => check_table(&rt, &mut Tables::new(&rt, rt.alloc())),
+        Ok(None) => match Channels::new(&rt, rt.alloc()) {
+            Ok(channels) => check_table(&rt, &mut Tables::new(channels, rt.alloc())),
+            Err(fault) => end_unread(&rt, 0, fault),
+        },
         Ok(Some(true)) => ExitCode::from(0),
         Ok(Some(false)) | Err(_) => ExitCode::from(1),
     }

@@ -3,8 +3,6 @@
 use bench_draw::Drawings;
 use std::alloc::Global;
 use std::io;
-use std::sync::Wait;
-use std::thread::Threads;
 use test_channels::Channels;
 use test_damage::Scenes;
 use test_pages::{Calls, HitQuestions, Pushes};
@@ -40,31 +38,31 @@ fn part_of(name: &str) -> Result<Part, LineFault> {
     }
 }
 
-/// What was read of each table so far. Those cases that need threads start them by the handle that `channels` holds.
+/// What was read of each table so far. The cases of `channels` were tried beforehand, since they start threads.
 #[derive(Drop)]
-pub(crate) struct Tables<'a, R: Threads + Wait + Sync> {
+pub(crate) struct Tables {
     /// The one whose lines are read.
     part: Part,
     hits: HitQuestions,
     calls: Questions<Calls>,
     commits: Pushes,
     units: Questions<Units>,
-    channels: Questions<Channels<'a, R>>,
+    channels: Questions<Channels>,
     queue: QueueTable,
     damage: Questions<Scenes>,
     drawn: Questions<Drawings>,
 }
 
-impl<'a, R: Threads + Wait + Sync> Tables<'a, R> {
+impl Tables {
     /// Nothing was read.
-    pub(crate) fn new(threads: &'a R, alloc: Global) -> Tables<'a, R> {
+    pub(crate) fn new(channels: Channels, alloc: Global) -> Tables {
         Tables {
             part: Part::Hits,
             hits: HitQuestions::new(alloc),
             calls: Questions::new(alloc, Calls::new(alloc)),
             commits: Pushes::new(alloc),
             units: Questions::new(alloc, Units::new(alloc)),
-            channels: Questions::new(alloc, Channels::new(threads, alloc)),
+            channels: Questions::new(alloc, channels),
             queue: QueueTable::new(alloc),
             damage: Questions::new(alloc, Scenes::new(alloc)),
             drawn: Questions::new(alloc, Drawings::new(alloc)),
@@ -91,7 +89,7 @@ fn tally_of<T: Table<HostRuntime>>(table: &T) -> Tally {
     table.tally()
 }
 
-impl<'a, R: Threads + Wait + Sync> Table<HostRuntime> for Tables<'a, R> {
+impl Table<HostRuntime> for Tables {
     type Fault = LineFault;
 
     fn take(&mut self, rt: &HostRuntime, line: usize, text: &str) -> Result<(), LineFault> {
