@@ -20,27 +20,27 @@ fn fields_of(alloc: Global, op: Op, value: &Value) -> Result<Command, Trouble>
     ensures { GivesField (λ x. x) result (fields_at op (view value.now)) }
 {
     let command = match op {
-        Op::AddTransform => nodes::add_transform(value)?,
-        Op::SetTransform => nodes::set_transform(value)?,
-        Op::AddClip => nodes::add_clip(value)?,
-        Op::SetClip => nodes::set_clip(value)?,
-        Op::AddEffect => nodes::add_effect(value)?,
-        Op::SetOpacity => nodes::set_opacity(value)?,
-        Op::AddScroller => nodes::add_scroller(value)?,
-        Op::SetRange => nodes::set_range(value)?,
-        Op::ScrollBy => nodes::scroll_by(value)?,
-        Op::ScrollTo => nodes::scroll_to(value)?,
-        Op::AddLayer => layers::add_layer(value)?,
-        Op::RemoveLayer => layers::remove_layer(value)?,
-        Op::ResizeLayer => layers::resize_layer(value)?,
-        Op::SetColour => layers::set_colour(value)?,
-        Op::InsertItem => items::insert_item(alloc, value)?,
-        Op::RemoveItem => layers::remove_item(value)?,
-        Op::ReplaceItem => items::replace_item(alloc, value)?,
-        Op::MoveLayer => layers::move_layer(value)?,
-        Op::SetView => layers::set_view(value)?,
+        Op::InsertItem => return items::insert_item(alloc, value),
+        Op::ReplaceItem => return items::replace_item(alloc, value),
+        Op::AddTransform => nodes::add_transform(value),
+        Op::SetTransform => nodes::set_transform(value),
+        Op::AddClip => nodes::add_clip(value),
+        Op::SetClip => nodes::set_clip(value),
+        Op::AddEffect => nodes::add_effect(value),
+        Op::SetOpacity => nodes::set_opacity(value),
+        Op::AddScroller => nodes::add_scroller(value),
+        Op::SetRange => nodes::set_range(value),
+        Op::ScrollBy => nodes::scroll_by(value),
+        Op::ScrollTo => nodes::scroll_to(value),
+        Op::AddLayer => layers::add_layer(value),
+        Op::RemoveLayer => layers::remove_layer(value),
+        Op::ResizeLayer => layers::resize_layer(value),
+        Op::SetColour => layers::set_colour(value),
+        Op::RemoveItem => layers::remove_item(value),
+        Op::MoveLayer => layers::move_layer(value),
+        Op::SetView => layers::set_view(value),
     };
-    Ok(command)
+    Ok(command?)
 }
 
 // A command: an object, its name, its fields.
