@@ -1,6 +1,2 @@
 pub mod Answers
-pub mod Commands
-pub mod Copies
-pub mod Damages
 pub mod Edits
-pub mod Faults
