@@ -1,4 +1,4 @@
-//! The rows' calls pixel by pixel.
+//! The rows' calls byte by byte.
 
 ghost use Rattle.std.specs.Prelude.{◌≡◌, ℕ, ◌+◌, ◌*◌, ◌<◌, ◌≤◌, ◌%◌, ◌/◌, length, slice_index};
 ghost use Rattle.pixel.specs.Colours.{above, times_255};
@@ -6,22 +6,19 @@ ghost use Rattle.pixel.specs.Rows.{alpha_place, ArePremultiplied, IsLaid, IsFade
 
 use crate::colour::mul255;
 
-/// Lays the pixel of `src` that begins at a byte over that of `dst`.
-pub(crate) fn over_pixel(dst: &mut [u8], src: &[u8], at: usize)
+/// Lays one byte of `src` over that of `dst`.
+pub(crate) fn over_byte(dst: &mut [u8], src: &[u8], at: usize)
     requires same { length dst.old ≡ length src.now }
-    requires inside { at + 4 ≤ length src.now }
-    requires whole { at % 4 ≡ 0 }
+    requires inside { at < length src.now }
+    requires whole { length src.now % 4 ≡ 0 }
     requires premultiplied { ArePremultiplied src.now }
-    ensures { IsLaid at 4 src.now dst.old dst.new }
+    ensures { IsLaid at 1 src.now dst.old dst.new }
 {
-    let kept = 255 - src[at + 3];
-    dst[at] = src[at] + mul255(dst[at], kept);
-    dst[at + 1] = src[at + 1] + mul255(dst[at + 1], kept);
-    dst[at + 2] = src[at + 2] + mul255(dst[at + 2], kept);
-    dst[at + 3] = src[at + 3] + mul255(dst[at + 3], kept);
+    let alpha = src[at / 4 * 4 + 3];
+    dst[at] = src[at] + mul255(dst[at], 255 - alpha);
 }
 
-/// Lays each pixel of `src` over that of `dst`, as `over_row` does, pixel by pixel.
+/// Lays each pixel of `src` over that of `dst`, as `over_row` does, byte by byte.
 pub fn over_row_plain(dst: &mut [u8], src: &[u8])
     requires same { length dst.old ≡ length src.now }
     requires whole { length src.now % 4 ≡ 0 }
@@ -32,8 +29,8 @@ pub fn over_row_plain(dst: &mut [u8], src: &[u8])
 {
     let mut at = 0;
     while at < dst.len() {
-        over_pixel(dst, src, at);
-        at += 4;
+        over_byte(dst, src, at);
+        at += 1;
     }
 }
 

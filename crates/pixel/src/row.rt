@@ -7,7 +7,7 @@ ghost use Rattle.pixel.specs.Rows.{pixel, ArePremultiplied, IsFirstBadPixel, IsF
 use crate::blocks::{BLOCK, over_block};
 use crate::colour::Colour;
 use crate::lanes::{LANES, fade_lanes, fill_lanes, over_lanes};
-use crate::plain::{fade_byte, over_pixel};
+use crate::plain::{fade_byte, over_byte};
 
 /// Pixel `i` of a row of premultiplied pixels.
 pub fn colour_at(row: &[u8], i: usize) -> Colour
@@ -90,9 +90,9 @@ pub fn over_row(dst: &mut [u8], src: &[u8])
         over_lanes(dst, src, at);
         at += LANES;
     }
-    'fours: while at < dst.len() {
-        over_pixel(dst, src, at);
-        at += 4;
+    'ones: while at < dst.len() {
+        over_byte(dst, src, at);
+        at += 1;
     }
 }
 

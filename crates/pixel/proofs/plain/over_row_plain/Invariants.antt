@@ -1,10 +1,9 @@
-use Rattle.std.specs.Prelude.{◌%◌, ◌≤◌, ◌-◌, ◌≡◌, length}
+use Rattle.std.specs.Prelude.{◌≤◌, ◌-◌, ◌≡◌, length}
 use Rattle.pixel.specs.Rows.{IsLaid}
 use Rattle.pixel.proofs.plain.over_row_plain.Given as given
 
 abbrev pub invariant-loop-at : given.invariant-loop-at
 invariant-loop-at l = record {
-  whole : l.at % 4 ≡ 0;
   within : l.at ≤ length l.dst;
   laid : IsLaid 0 l.at l.src l.initial.dst l.dst;
 }

@@ -22,12 +22,11 @@ invariant-sixteens l = record {
 abbrev pub decreases-sixteens : given.decreases-sixteens
 decreases-sixteens l = length l.initial.dst - l.at
 
-abbrev pub invariant-fours : given.invariant-fours
-invariant-fours l = record {
-  whole : l.at % 4 ≡ 0;
+abbrev pub invariant-ones : given.invariant-ones
+invariant-ones l = record {
   within : l.at ≤ length l.dst;
   laid : IsLaid 0 l.at l.src l.fn.dst l.dst;
 }
 
-abbrev pub decreases-fours : given.decreases-fours
-decreases-fours l = length l.initial.dst - l.at
+abbrev pub decreases-ones : given.decreases-ones
+decreases-ones l = length l.initial.dst - l.at
