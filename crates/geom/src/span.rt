@@ -9,7 +9,7 @@ ghost use Rattle.geom.specs.Gaps.{span_gap};
 use crate::rect::Rect;
 
 /// The numbers from `at` on, `len` of them.
-#[derive(Clone, Copy, Debug)]
+#[derive(Clone, Copy)]
 pub struct Span {
     /// The least of them.
     pub at: i32,

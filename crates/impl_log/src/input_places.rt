@@ -7,7 +7,7 @@ ghost use Rattle.impl_log.specs.inner.Steps.{placed};
 use model_history::Event;
 
 /// The places of the last two entries of a history that use an input; 0 where there is none.
-#[derive(Clone, Copy, PartialEq, Eq, Debug)]
+#[derive(Clone, Copy)]
 pub(crate) struct InputPlaces {
     /// the newest of them
     pub(crate) newest: usize,

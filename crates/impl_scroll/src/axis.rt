@@ -13,7 +13,7 @@ use model_scroll_values::Synced;
 use page_layers::{LayerTree, Move};
 
 /// An axis.
-#[derive(Clone, Copy, PartialEq, Eq, Debug)]
+#[derive(Clone, Copy)]
 pub(crate) enum Axis {
     /// To the right.
     Across,

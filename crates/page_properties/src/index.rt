@@ -4,7 +4,7 @@ ghost use Rattle.std.specs.Prelude.{◌≡◌, ◌≤◌, length};
 ghost use Rattle.page_properties.specs.inner.Index.{front, listed_place, AreRising};
 
 /// The place of the node that has this id.
-#[derive(Clone, Copy, PartialEq, Eq, Debug)]
+#[derive(Clone, Copy)]
 pub struct IndexEntry {
     /// The node's id.
     pub id: u32,

@@ -4,7 +4,7 @@ ghost use Rattle.std.specs.Prelude.{◌≡◌, ℕ, List, Option};
 ghost use Rattle.recording_text.specs.Guesses as guesses;
 
 /// The first word of an event's line.
-#[derive(Clone, Copy, Debug, Drop, PartialEq)]
+#[derive(Clone, Copy, Drop)]
 pub enum Word {
     /// `begin`.
     Begin,

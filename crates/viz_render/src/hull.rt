@@ -20,7 +20,7 @@ use pixel::Area;
 use viz_scene::Quad;
 
 /// Columns and rows of an area, counted from its top left corner; none where an end is not after its start.
-#[derive(Clone, Copy, Debug)]
+#[derive(Clone, Copy)]
 pub(crate) struct Hull {
     pub(crate) left: usize,
     pub(crate) top: usize,
