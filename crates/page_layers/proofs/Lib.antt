@@ -16,3 +16,4 @@ pub mod EffectChains
 pub mod SampleColours
 pub mod Placing
 pub mod MainValues
+pub mod MappedLists
