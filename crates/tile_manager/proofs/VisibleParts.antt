@@ -327,3 +327,12 @@ none_by_bins c soon late f g no_soon no_late q e = by_bin q.bin refl e
     by_bin bin.Now i e = absurd cc
     by_bin bin.Soon i e = sym (f q i) ∙ no_soon
     by_bin bin.Eventually i e = sym (g q i) ∙ no_late
+
+-- some rank of a bin
+abbrev pub rank_in_bin : Bin → Rank
+rank_in_bin b = record { bin = b; tree = 0; distance = 0; key = record { layer = 0; x = 0; y = 0; stamp = 0 } }
+
+-- where one of a bin that is not visible may start, it is not so that none may
+pub one_hidden_starts : (c : Choice) (b : Bin) → is_now b ≡ false → ((q : Rank) → q.bin ≡ b → true ≡ may_start c q)
+    → ((q : Rank) → is_now q.bin ≡ false → may_start c q ≡ false) → ⊥
+one_hidden_starts c b hidden starts none = let f : true ≡ false = starts (rank_in_bin b) refl ∙ none (rank_in_bin b) hidden in cc

@@ -1,6 +1,6 @@
 //! The tile manager.
 
-ghost use Rattle.std.specs.Prelude.{◌≡◌, ℕ, ◌≤◌, not, true, false, List, [], ◌∷◌, Some, take, filter, option_map, IfOk, OnOk, OnErr};
+ghost use Rattle.std.specs.Prelude.{◌≡◌, ℕ, ◌≤◌, ◌↔◌, not, true, false, List, [], ◌∷◌, Some, take, filter, option_map, IsTrue, IfOk, OnOk, OnErr};
 ghost use Rattle.std.specs.List.{list_all};
 ghost use Rattle.geom.specs.declared.tile.TileKey.{TileKey as Key};
 ghost use Rattle.geom.specs.KeyLists.{has_key, AreDistinctKeys};
@@ -141,7 +141,7 @@ impl TileManager {
     /// Whether what was looked at tells which key starts next. It does where all ranks are known, and where those of
     /// the visible tiles are known and a visible tile is missing, or no other may start.
     pub fn tells_next(&self) -> bool
-        ensures { result ≡ true → TellsNext self.now.outlook }
+        ensures { IsTrue result ↔ TellsNext self.now.outlook }
     {
         self.outlook.tells_next()
     }

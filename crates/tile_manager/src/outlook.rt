@@ -1,6 +1,6 @@
 //! What tells the next tile: a queue, of all tiles or of the visible ones, or the ranks of which one is to be made.
 
-ghost use Rattle.std.specs.Prelude.{◌≡◌, true, map, take, option_map, IfOk};
+ghost use Rattle.std.specs.Prelude.{◌≡◌, ◌↔◌, true, map, take, option_map, IsTrue, IfOk};
 ghost use Rattle.tile_priority.specs.Ranks.{rank_cmp};
 ghost use Rattle.tile_priority.specs.Ordered.{in_order};
 ghost use Rattle.tile_priority.specs.Choice as choosing;
@@ -64,7 +64,7 @@ impl Outlook {
 
     /// Whether what was looked at tells which tile starts first.
     pub(crate) fn tells_next(&self) -> bool
-        ensures { result ≡ true → TellsNext self.now }
+        ensures { IsTrue result ↔ TellsNext self.now }
     {
         match self {
             Outlook::Queue(_) | Outlook::Ranks(_) => true,

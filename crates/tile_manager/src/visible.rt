@@ -4,7 +4,7 @@
 //! next, together with the ready tiles that are not visible, which may be evicted. Once all visible tiles are made or
 //! being made, the queue still tells whether any other tile may start at all.
 
-ghost use Rattle.std.specs.Prelude.{◌≡◌, ◌≤◌, ◌-◌, true, false, length, IfOk, IfSome};
+ghost use Rattle.std.specs.Prelude.{◌≡◌, ◌≤◌, ◌-◌, ◌↔◌, false, length, IsTrue, IfOk, IfSome};
 ghost use Rattle.tile_priority.specs.declared.rank.Rank.{Rank as Ranking};
 ghost use Rattle.tile_priority.specs.Choice as choosing;
 ghost use Rattle.tile_priority.specs.Alike.{Alike};
@@ -50,7 +50,7 @@ fn is_shown(tile: &Option<ReadyTile>) -> bool
 
 // Whether no tile may start that is not visible.
 fn none_hidden_starts(queue: &RasterQueue) -> bool
-    ensures { result ≡ true → (q : Ranking) → choosing.is_now q.bin ≡ false → choosing.may_start queue.now q ≡ false }
+    ensures { IsTrue result ↔ ((q : Ranking) → choosing.is_now q.bin ≡ false → choosing.may_start queue.now q ≡ false) }
 {
     if queue.may_start(Bin::Soon) {
         return false;
@@ -60,7 +60,7 @@ fn none_hidden_starts(queue: &RasterQueue) -> bool
 
 /// Whether a queue of the visible tiles alone tells what starts first.
 pub(crate) fn tells_first(queue: &RasterQueue) -> bool
-    ensures { result ≡ true → TellsFirst queue.now }
+    ensures { IsTrue result ↔ TellsFirst queue.now }
 {
     if is_visible(queue.first_rank()) {
         return true;
