@@ -63,6 +63,16 @@ abbrev pub is_unseen : Outlook → Bool
 is_unseen outlook.Unseen = true
 is_unseen _ = false
 
+-- the ranks of all tiles are known, and no queue is made of them yet
+abbrev pub has_ranks_alone : Outlook → Bool
+has_ranks_alone (outlook.Ranks ranks) = true
+has_ranks_alone _ = false
+
+-- it is a queue in which these ranks are wanted and these tiles are ready, of the visible tiles alone
+abbrev pub IsOfVisible : Outlook → List Rank → List Tile → Type 0
+IsOfVisible (outlook.Visible queue) wanted hidden = SameMembers queue.wanted wanted × SameMembers queue.ready hidden
+IsOfVisible _ wanted hidden = ⊥
+
 -- what was looked at tells which tile starts first
 abbrev pub TellsNext : Outlook → Type 0
 TellsNext (outlook.Queue queue) = ⊤

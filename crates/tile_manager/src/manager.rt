@@ -20,7 +20,7 @@ ghost use Rattle.model_history.specs.Ranking.{rank_to_start, evicted_for, wanted
 ghost use Rattle.model_steps.specs.Events.{start, done, activate};
 ghost use Rattle.model_steps.specs.ShownKeys.{KeyShows};
 ghost use Rattle.tile_manager.specs.Choices.{store_lacks};
-ghost use Rattle.tile_manager.specs.Managers.{Manages, StartsNow, DoneNow, HaveSameTiles, AreRanksAt, AreVisibleAt, is_seen, is_unseen, TellsNext, tile_made};
+ghost use Rattle.tile_manager.specs.Managers.{Manages, StartsNow, DoneNow, HaveSameTiles, AreRanksAt, AreVisibleAt, IsOfVisible, is_seen, is_unseen, has_ranks_alone, TellsNext, tile_made};
 
 use crate::missing::missing_keys;
 use crate::outlook::Outlook;
@@ -273,6 +273,7 @@ impl TileManager {
     ) -> Result<(), AllocError>
         requires { EachKeyOnce wanted.now hidden.now }
         ensures same { (s : ScriptModel) (workers : ℕ) (h : List Entry) → Legal s workers h → s.budget ≡ budget → Manages s h self.old → AreVisibleAt s h wanted.now hidden.now → Manages s h self.new }
+        ensures visible { OnOk result (IsOfVisible self.new.outlook wanted.now hidden.now) }
         ensures refused { OnErr result (self.new ≡ self.old) }
     {
         let queue = visible_queue(alloc, &self.store, wanted, hidden, budget)?;
@@ -293,6 +294,7 @@ impl TileManager {
     pub fn refresh(&mut self) -> Result<(), AllocError>
         ensures same { (s : ScriptModel) (workers : ℕ) (h : List Entry) → Legal s workers h → Manages s h self.old → Manages s h self.new }
         ensures seen { is_seen self.new.outlook ≡ is_seen self.old.outlook }
+        ensures made { OnOk result (has_ranks_alone self.new.outlook ≡ false) }
         ensures refused { OnErr result (self.new ≡ self.old) }
     {
         if let Outlook::Ranks(ranks) = &self.outlook {

@@ -13,3 +13,6 @@ returns-clause-same c = λ s n h legal budget holds are.
     let next = c.in_ok-queue.queue in
     reseen s h h m (outlook.Visible next) held (record { ready = λ q. refl; in_flight = λ q. refl; pinned = λ q. refl })
     (queue_shows s n h legal m held c.args.wanted.now c.args.hidden.now c.args.budget next budget are c.in_ok-queue.ensures)
+
+pub returns-clause-visible : goal.returns-clause-visible
+returns-clause-visible c = let alike = c.in_ok-queue.ensures in (alike.wanted, alike.ready)
