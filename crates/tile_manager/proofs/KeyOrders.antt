@@ -1,5 +1,5 @@
 -- Lists in key order, and what a search finds among ranks in key order.
-use Rattle.std.proofs.Common.{◌≡◌, ℕ, zero, suc, ◌+◌, ◌<◌, ◌≤◌, Bool, true, false, List, [], ◌∷◌, length, get_or, Some, None, Result, Ok, Err, refl, ◌∙◌, ap, subst, arith}
+use Rattle.std.proofs.Common.{◌≡◌, ℕ, zero, suc, ◌+◌, ◌<◌, ◌≤◌, ◌==◌, ◌&&◌, Bool, true, false, List, [], ◌∷◌, length, get_or, Some, None, Result, Ok, Err, refl, ◌∙◌, ap, subst, arith}
 use Rattle.std.specs.Prelude.{nat_lt}
 use Rattle.std.specs.Result.{result_ok}
 use Rattle.std.specs.declared.cmp.Ordering.{Ordering}
@@ -35,6 +35,14 @@ pub in_order_sorted : (ks : List TileKey) → IsInOrder key_cmp ks → IsSorted 
 in_order_sorted [] r k d low lt = absurd (omega arith)
 in_order_sorted (q ∷ ks) r zero d low lt = next_after q ks d r.0 (omega arith)
 in_order_sorted (q ∷ ks) r (suc k) d low lt = subst (λ n. is_lt (key_cmp (get_or (q ∷ ks) n d) (get_or ks k d)) ≡ false) {x = suc (k + 1)} (omega arith) (in_order_sorted ks r.1 k d (omega arith) (omega arith))
+
+-- a key has the fields of one that it equals
+
+pub same_fields : (k q : TileKey) → k ≡ q → ((k.layer == q.layer) && ((k.x == q.x) && ((k.y == q.y) && (k.stamp == q.stamp)))) ≡ true
+same_fields k q e = subst (λ p. ((k.layer == p.layer) && ((k.x == p.x) && ((k.y == p.y) && (k.stamp == p.stamp)))) ≡ true) e itself
+  where
+    itself : ((k.layer == k.layer) && ((k.x == k.x) && ((k.y == k.y) && (k.stamp == k.stamp)))) ≡ true
+    itself = grind (arith, nat_tests)
 
 -- where a search among ranks ends
 

@@ -1,5 +1,5 @@
 -- What the neighbours of a place tell of lists in key order.
-use Rattle.std.proofs.Common.{◌≡◌, ◌==◌, inl, inr, ℕ, ◌-◌, ◌<◌, ◌≤◌, true, false, List, length, get_or, Err, refl, sym, ◌∙◌, subst, arith}
+use Rattle.std.proofs.Common.{◌≡◌, ◌==◌, inl, inr, ℕ, ◌+◌, ◌-◌, ◌<◌, ◌≤◌, Bool, true, false, List, length, get_or, Err, refl, sym, ◌∙◌, subst, arith}
 use Rattle.std.proofs.lemmas.Bool.{cases_lt}
 use Rattle.std.specs.declared.cmp.Ordering.{Ordering}
 use Rattle.std.specs.declared.cmp.Ordering.TheVariants.{Less, Equal, Greater}
@@ -10,6 +10,7 @@ use Rattle.geom.specs.declared.tile.TileKey.{TileKey}
 use Rattle.geom.specs.KeyOrder.{key_cmp}
 use Rattle.geom.specs.KeyLists.{has_key}
 use Rattle.geom.proofs.KeyOrders.{key_total}
+use Rattle.tile_manager.specs.Passed.{AreLessBefore}
 use Rattle.tile_manager.proofs.PinFacts.{found}
 
 -- what a test of an order tells
@@ -56,3 +57,38 @@ greater_from key_of xs key at o up there greater i d le lt =
 pub missing : (xs : List TileKey) (key : TileKey) (at : ℕ) → IsSorted key_cmp xs → at ≤ length xs → ((i : ℕ) (d : TileKey) → i < at → key_cmp (get_or xs i d) key ≡ Less)
     → ((i : ℕ) (d : TileKey) → at ≤ i → i < length xs → key_cmp (get_or xs i d) key ≡ Greater) → has_key xs key ≡ false
 missing xs key at up range below above = sym (found xs key (Err at) up range (λ rises. (λ i d low lt. below i d lt, above)))
+
+-- ---- keys that are passed
+
+-- one more is passed that is less
+pub one_passed : (xs : List TileKey) (key : TileKey) (at : ℕ) (o : Ordering) → ((d : TileKey) → at < length xs → key_cmp (get_or xs at d) key ≡ o) → (length xs ≤ at → o ≡ Greater) → o ≡ Less
+    → AreLessBefore xs at key → AreLessBefore xs (at + 1) key
+one_passed xs key at o there end less before = elim (cases_lt at (length xs)) [
+  | inl within ↦ record {
+    bound = omega (arith);
+    less = λ i d lt. elim (cases_lt i at) [
+      | inl l ↦ before.less i d l
+      | inr past ↦ let e : at ≡ i = omega (arith) in subst (λ k. key_cmp (get_or xs k d) key ≡ Less) e (there d within ∙ less)
+    ];
+  }
+  | inr past ↦ let both : Less ≡ Greater = sym less ∙ end past in absurd cc
+]
+
+-- where the next key is not less, and is not the key, the key is missing
+pub next_tells : (xs : List TileKey) (key : TileKey) (at : ℕ) → IsSorted key_cmp xs → AreLessBefore xs at key → ((d : TileKey) → at < length xs → key_cmp (get_or xs at d) key ≡ Less → ⊥)
+    → ((d : TileKey) → at < length xs → key_cmp (get_or xs at d) key ≡ Equal → ⊥) → has_key xs key ≡ false
+next_tells xs key at up before stops other = missing xs key at up before.bound before.less (elim (cases_lt at (length xs)) [
+  | inl within ↦ greater_from (λ (k : TileKey). k) xs key at Greater up (λ d l. by_order (key_cmp (get_or xs at d) key) refl (stops d l) (other d l)) refl
+  | inr past ↦ λ i d le lt. absurd (omega (arith))
+])
+  where
+    by_order : (o : Ordering) {p : Ordering} → p ≡ o → (p ≡ Less → ⊥) → (p ≡ Equal → ⊥) → p ≡ Greater
+    by_order Less e less equal = absurd (less e)
+    by_order Equal e less equal = absurd (equal e)
+    by_order Greater e less equal = e
+
+-- so whether it is the next one is whether it is one of them
+pub next_is : (xs : List TileKey) (key : TileKey) (at : ℕ) (is : Bool) → IsSorted key_cmp xs → AreLessBefore xs at key → ((d : TileKey) → at < length xs → key_cmp (get_or xs at d) key ≡ Less → ⊥)
+    → (is ≡ true → has_key xs key ≡ true) → (is ≡ false → (d : TileKey) → at < length xs → key_cmp (get_or xs at d) key ≡ Equal → ⊥) → is ≡ has_key xs key
+next_is xs key at true up before stops has other = sym (has refl)
+next_is xs key at false up before stops has other = sym (next_tells xs key at up before stops (other refl))

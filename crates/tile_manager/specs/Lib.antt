@@ -1,4 +1,5 @@
 pub mod Choices
+pub mod Passed
 pub mod Visible
 pub mod Managers
 pub mod inner

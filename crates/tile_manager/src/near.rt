@@ -1,11 +1,12 @@
 //! Whether a key is one of a list in key order.
 
 ghost use Rattle.std.specs.Prelude.{◌≡◌, ◌≤◌, ◌<◌, ℕ, true, false, length, get_or};
-ghost use Rattle.std.specs.declared.cmp.Ordering.TheVariants.{Less, Greater};
+ghost use Rattle.std.specs.declared.cmp.Ordering.TheVariants.{Less, Equal, Greater};
 ghost use Rattle.std.specs.List.Sorted.{IsSorted};
 ghost use Rattle.geom.specs.declared.tile.TileKey.{TileKey as Key};
 ghost use Rattle.geom.specs.KeyLists.{has_key};
 ghost use Rattle.geom.specs.KeyOrder.{key_cmp};
+ghost use Rattle.tile_manager.specs.Passed.{AreLessBefore};
 
 use geom::TileKey;
 use std::cmp::Ordering;
@@ -68,7 +69,8 @@ fn is_missing_at(keys: &[TileKey], at: usize, key: TileKey) -> bool
 
 // Whether the key stands at this place.
 fn is_at(keys: &[TileKey], at: usize, key: TileKey) -> bool
-    ensures { result ≡ true → has_key keys.now key ≡ true }
+    ensures there { result ≡ true → has_key keys.now key ≡ true }
+    ensures other { result ≡ false → (d : Key) → at < length keys.now → key_cmp (get_or keys.now at d) key ≡ Equal → ⊥ }
 {
     match keys.get(at) {
         Some(one) => *one == key,
@@ -111,7 +113,10 @@ fn has_behind(keys: &[TileKey], near: &mut usize, key: TileKey) -> bool
 }
 
 // The first place from `near` on whose key is not less; the end where there is none.
-fn not_less_from(keys: &[TileKey], near: usize, key: TileKey) -> usize {
+fn not_less_from(keys: &[TileKey], near: usize, key: TileKey) -> usize
+    ensures passed { AreLessBefore keys.now near key → AreLessBefore keys.now result key }
+    ensures stops { (d : Key) → result < length keys.now → key_cmp (get_or keys.now result d) key ≡ Less → ⊥ }
+{
     for at in near..keys.len() {
         if order_at(keys, at, key) != Ordering::Less {
             return at;
@@ -123,7 +128,9 @@ fn not_less_from(keys: &[TileKey], near: usize, key: TileKey) -> usize {
 /// Whether the first of these keys from `near` on that is not less than a key is that key; `near` is set to its place.
 /// Where both these keys and those that are asked for stand in key order, that is whether it is one of them.
 pub fn is_next(keys: &[TileKey], near: &mut usize, key: TileKey) -> bool
-    ensures { result ≡ true → has_key keys.now key ≡ true }
+    ensures has { result ≡ true → has_key keys.now key ≡ true }
+    ensures exact { IsSorted key_cmp keys.now → AreLessBefore keys.now near.old key → result ≡ has_key keys.now key }
+    ensures passed { AreLessBefore keys.now near.old key → AreLessBefore keys.now near.new key }
 {
     let at = not_less_from(keys, *near, key);
     *near = at;

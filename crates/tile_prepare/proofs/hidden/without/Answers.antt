@@ -6,7 +6,7 @@ use Rattle.tile_prepare.proofs.hidden.without.Goals as goal
 
 pub loop-key-preserved : goal.loop-key-preserved
 loop-key-preserved c = λ f out.
-    left_more f c.args.others.now c.args.keys.now c.loop-key.key-index _ c.loop-key.left c.push_where.new.keys c.is_next.result c.loop-key-test.true out c.is_next.ensures c.in_ok-push_where.ensures (c.loop-key.invariant f out)
+    left_more f c.args.others.now c.args.keys.now c.loop-key.key-index _ c.loop-key.left c.push_where.new.keys c.is_next.result c.loop-key-test.true out c.is_next.ensures.has c.in_ok-push_where.ensures (c.loop-key.invariant f out)
 
 pub returns : goal.returns
 returns c = λ f out.
