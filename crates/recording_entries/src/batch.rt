@@ -1,6 +1,6 @@
 //! Entries that wait to be painted and put.
 
-ghost use Rattle.std.specs.Prelude.{◌≡◌, ◌≤◌, ◌++◌, List, drop, length, reverse, take, OnOk};
+ghost use Rattle.std.specs.Prelude.{◌≡◌, ◌≤◌, ◌++◌, List, [], drop, length, reverse, take, OnOk};
 ghost use Rattle.std.specs.Vec.Iter.{into_iter_items, into_iter_len};
 ghost use Rattle.model_history.specs.Recordings.{piece, pieces};
 ghost use Rattle.model_history.specs.Scripts.{ScriptModel};
@@ -100,6 +100,7 @@ impl Batch {
     pub fn take_shots(&mut self) -> Vec<Shot>
         ensures all { all_shown result.items ++ held_of self.new ≡ held_of self.old }
         ensures lines { held_of self.new ≡ self.new.lines.items }
+        ensures stay { self.new.lines.items ≡ self.old.lines.items }
     {
         self.bytes = 0;
         self.last = 0;
@@ -178,7 +179,7 @@ impl Batch {
     }
 
     /// Paints and puts all that waits: the pieces, and the lines after them. Where putting stops, the sink gained a prefix
-    /// of that.
+    /// of that. The pieces are gone then, whatever comes of it; the lines stay.
     pub fn put<R: Threads + Sync, K: Sink>(
         &mut self,
         rt: &R,
@@ -186,6 +187,7 @@ impl Batch {
         out: &mut K,
     ) -> Result<(), WriteStop>
         ensures bytes { PutsAll (K.held out.old) (K.held out.new) (held_of self.old) result }
+        ensures left { held_of self.new ≡ self.old.lines.items }
         ensures grows { K.faults out.old ≤ K.faults out.new }
         ensures cause { WriteCause (K.faults out.old) (K.faults out.new) result }
     {
@@ -207,6 +209,7 @@ pub fn put_shots<R: Threads + Sync, K: Sink>(
     out: &mut K,
 ) -> Result<(), WriteStop>
     ensures bytes { PutsAll (K.held out.old) (K.held out.new) (all_shown shots.old.items) result }
+    ensures none { shots.new.items ≡ [] }
     ensures grows { K.faults out.old ≤ K.faults out.new }
     ensures cause { WriteCause (K.faults out.old) (K.faults out.new) result }
 {

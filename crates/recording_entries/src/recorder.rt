@@ -1,6 +1,6 @@
 //! Entries of a history, written with the pictures of their draws.
 
-ghost use Rattle.std.specs.Prelude.{◌≡◌, ◌≤◌, ◌++◌, List, None, codes, drop, length, reverse, slice_get, take, IfOk, OnOk};
+ghost use Rattle.std.specs.Prelude.{◌≡◌, ◌≤◌, ◌++◌, List, [], None, codes, drop, length, reverse, slice_get, take, IfOk, OnOk};
 ghost use Rattle.std.specs.Vec.Iter.{into_iter_items, into_iter_len};
 ghost use Rattle.model_history.specs.Recordings.{header, image_behind, piece, pieces};
 ghost use Rattle.model_history.specs.Scripts.{ScriptModel};
@@ -80,7 +80,9 @@ impl Recorder {
 
     /// Takes the lines that were not put yet, and holds none then.
     pub fn take_lines(&mut self) -> Vec<u8>
-        ensures { result.items ≡ self.old.lines.items }
+        ensures lines { result.items ≡ self.old.lines.items }
+        ensures none { self.new.lines.items ≡ [] }
+        ensures last { self.new.last ≡ self.old.last }
     {
         let none = Vec::new(self.alloc);
         mem::replace(&mut self.lines, none)
@@ -220,9 +222,10 @@ impl Recorder {
         Ok(())
     }
 
-    /// Puts the lines that are left.
+    /// Puts the lines that are left, and holds none then. Where writing stops, the sink gained a prefix of them.
     pub fn finish<K: Sink>(&mut self, out: &mut K) -> Result<(), WriteStop>
         ensures bytes { PutsAll (K.held out.old) (K.held out.new) self.old.lines.items result }
+        ensures none { OnOk result (self.new.lines.items ≡ []) }
         ensures grows { K.faults out.old ≤ K.faults out.new }
         ensures cause { WriteCause (K.faults out.old) (K.faults out.new) result }
     {
