@@ -63,6 +63,7 @@ impl Talk {
         requires { 1 ≤ step }
         ensures new { result.passed.items ≡ [] }
         ensures input { result.source.bytes ≡ input }
+        ensures limits { (result.source.step ≡ step) × (result.out.limit ≡ Some room) }
     {
         Talk {
             source: MemSource::new(input, step, Vec::new(alloc)),
