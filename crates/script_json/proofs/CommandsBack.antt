@@ -20,7 +20,7 @@ use Rattle.script_json.specs.declared.fault.ShapeFault.{ShapeFault}
 use Rattle.script_json.specs.declared.op.Op.{Op}
 use Rattle.script_json.specs.declared.op.Op.TheVariants as op
 use Rattle.script_json.specs.Faults.{placed, before_rest}
-use Rattle.script_json.specs.Ops.{op_named, is_of_version, op_at}
+use Rattle.script_json.specs.Ops.{node_op_named, layer_op_named, first_of, op_named, is_of_version, op_at}
 use Rattle.script_json.specs.ItemReading.{if_picture, pixels_form, paint_of, paint_at}
 use Rattle.script_json.specs.ItemValues.{item_data, rect_item_data, bitmap_data}
 use Rattle.script_json.specs.CommandReading.{fields_at, command_at, commands_at, frame_at, frames_at}
@@ -58,9 +58,9 @@ when s name x rest P k h =
     elim (bytes_eq s name) as (λ b. bytes_eq s name ≡ b → IfSome (if b then Some x else rest) P)
     [ true ↦ λ e. k ((bytes_eq-Decides s name).0 e) | false ↦ λ e. h ] refl
 
-op_back : (s : List ℕ) → IfSome (op_named s) (λ o. s ≡ op_name o)
-unfolding op_named
-op_back s =
+node_op_back : (s : List ℕ) → IfSome (node_op_named s) (λ o. s ≡ op_name o)
+unfolding node_op_named
+node_op_back s =
     when s (codes "add_transform") _ _ _ (λ e. e) (
     when s (codes "set_transform") _ _ _ (λ e. e) (
     when s (codes "add_clip") _ _ _ (λ e. e) (
@@ -71,6 +71,11 @@ op_back s =
     when s (codes "set_range") _ _ _ (λ e. e) (
     when s (codes "scroll_by") _ _ _ (λ e. e) (
     when s (codes "scroll_to") _ _ _ (λ e. e) (
+    tt))))))))))
+
+layer_op_back : (s : List ℕ) → IfSome (layer_op_named s) (λ o. s ≡ op_name o)
+unfolding layer_op_named
+layer_op_back s =
     when s (codes "add_layer") _ _ _ (λ e. e) (
     when s (codes "remove_layer") _ _ _ (λ e. e) (
     when s (codes "resize_layer") _ _ _ (λ e. e) (
@@ -80,7 +85,15 @@ op_back s =
     when s (codes "replace_item") _ _ _ (λ e. e) (
     when s (codes "move_layer") _ _ _ (λ e. e) (
     when s (codes "set_view") _ _ _ (λ e. e) (
-    tt)))))))))))))))))))
+    tt)))))))))
+
+first_back : (first later : Option Op) (P : Op → Type 0) → IfSome first P → IfSome later P → IfSome (first_of first later) P
+first_back (Some op) later P is_first is_later = is_first
+first_back None later P is_first is_later = is_later
+
+op_back : (s : List ℕ) → IfSome (op_named s) (λ o. s ≡ op_name o)
+unfolding op_named
+op_back s = first_back (node_op_named s) (layer_op_named s) _ (node_op_back s) (layer_op_back s)
 
 op_under : (x : Option Data) → IfSome (option_and_then op_named (option_and_then as_str x)) (λ o. x ≡ Some (string (op_name o)))
 op_under (Some (string s)) = weaker (op_named s) _ _ (op_back s) (λ o e. ap (λ (l : List ℕ). Some (string l)) e)

@@ -14,7 +14,7 @@ use Rattle.script_fields.specs.Fields.{object_at, no_more_members, number_at, wh
 use Rattle.script_fields.specs.Values.{bytes_data}
 use Rattle.script_fields.proofs.Again.{left, right, both, byte_again, colour_bytes, number_again, rect_again, colour_again}
 use Rattle.script_fields.proofs.Fits.{then_ok, then_any, then_some, map_some, or_fault_ok, whole_fits, rect_fits, colour_form_fits}
-use Rattle.script_json.specs.Ops.{op_at, op_named}
+use Rattle.script_json.specs.Ops.{op_at, op_named, node_op_named, layer_op_named}
 use Rattle.script_json.specs.declared.op.Op.TheVariants as op
 use Rattle.script_json.specs.CommandReading.{command_at, fields_at}
 use Rattle.script_json.specs.ItemReading.{if_picture, pixels_form, paint_of, paint_at}
@@ -58,7 +58,7 @@ insert_rect_fields version layer place rect colour all =
 pub insert_rect_again : (version layer place : ℕ) (rect : Rect) (colour : Parts)
     → (is_u32 layer && is_u32 place && (is_rect rect && is_colour colour)) ≡ true
     → command_at version (rect_item_data (codes "insert_item") layer place rect colour) ≡ Ok (InsertItem layer place (item.Rect rect colour))
-unfolding command_at object_at op_at op_named rect_item_data
+unfolding command_at object_at op_at op_named node_op_named layer_op_named rect_item_data
 insert_rect_again version layer place rect colour all =
     insert_rect_fields version layer place rect colour all
 
@@ -80,7 +80,7 @@ insert_bitmap_fields version layer place picture all =
 pub insert_bitmap_again : (version layer place : ℕ) (picture : BitmapModel)
     → (is_u32 layer && is_u32 place && (is_rect picture.rect && is_picture picture.rect picture.pixels)) ≡ true
     → command_at version (bitmap_data (codes "insert_item") layer place picture) ≡ Ok (InsertItem layer place (item.Bitmap picture))
-unfolding command_at object_at op_at op_named bitmap_data
+unfolding command_at object_at op_at op_named node_op_named layer_op_named bitmap_data
 insert_bitmap_again version layer place picture all =
     insert_bitmap_fields version layer place picture all
 
@@ -102,7 +102,7 @@ replace_rect_fields version layer place rect colour all =
 pub replace_rect_again : (version layer place : ℕ) (rect : Rect) (colour : Parts)
     → (is_u32 layer && is_u32 place && (is_rect rect && is_colour colour)) ≡ true
     → command_at version (rect_item_data (codes "replace_item") layer place rect colour) ≡ Ok (ReplaceItem layer place (item.Rect rect colour))
-unfolding command_at object_at op_at op_named rect_item_data
+unfolding command_at object_at op_at op_named node_op_named layer_op_named rect_item_data
 replace_rect_again version layer place rect colour all =
     replace_rect_fields version layer place rect colour all
 
@@ -124,7 +124,7 @@ replace_bitmap_fields version layer place picture all =
 pub replace_bitmap_again : (version layer place : ℕ) (picture : BitmapModel)
     → (is_u32 layer && is_u32 place && (is_rect picture.rect && is_picture picture.rect picture.pixels)) ≡ true
     → command_at version (bitmap_data (codes "replace_item") layer place picture) ≡ Ok (ReplaceItem layer place (item.Bitmap picture))
-unfolding command_at object_at op_at op_named bitmap_data
+unfolding command_at object_at op_at op_named node_op_named layer_op_named bitmap_data
 replace_bitmap_again version layer place picture all =
     replace_bitmap_fields version layer place picture all
 

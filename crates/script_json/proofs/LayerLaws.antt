@@ -7,7 +7,7 @@ use Rattle.model_history.specs.Ranges.{command_in_range, is_u32}
 use Rattle.script_fields.specs.Fields.{object_at, no_more_members, colour_at, number_at, whole_at}
 use Rattle.script_fields.proofs.Again.{left, right, both, colour_again, number_again}
 use Rattle.script_fields.proofs.Fits.{then_ok, then_any, colour_fits, whole_fits}
-use Rattle.script_json.specs.Ops.{op_at, op_named}
+use Rattle.script_json.specs.Ops.{op_at, op_named, node_op_named, layer_op_named}
 use Rattle.script_json.specs.declared.op.Op.TheVariants as op
 use Rattle.script_json.specs.CommandReading.{command_at, fields_at}
 use Rattle.script_json.specs.LayerValues.{add_layer_data, remove_layer_data, resize_layer_data, set_colour_data, remove_item_data, move_layer_data, set_view_data}
@@ -35,7 +35,7 @@ add_layer_fields version id at transform clip effect w h colour all =
 
 pub add_layer_again : (version : ℕ) (id : ℕ) (at : ℕ) (transform : ℕ) (clip : ℕ) (effect : ℕ) (w : ℕ) (h : ℕ) (colour : Parts) → command_in_range version (AddLayer id at transform clip effect w h colour) ≡ true
     → command_at version (add_layer_data id at transform clip effect w h colour) ≡ Ok (AddLayer id at transform clip effect w h colour)
-unfolding command_at object_at op_at op_named add_layer_data
+unfolding command_at object_at op_at op_named node_op_named layer_op_named add_layer_data
 add_layer_again version id at transform clip effect w h colour all =
     add_layer_fields version id at transform clip effect w h colour all
 
@@ -60,7 +60,7 @@ remove_layer_fields version id all =
 
 pub remove_layer_again : (version : ℕ) (id : ℕ) → command_in_range version (RemoveLayer id) ≡ true
     → command_at version (remove_layer_data id) ≡ Ok (RemoveLayer id)
-unfolding command_at object_at op_at op_named remove_layer_data
+unfolding command_at object_at op_at op_named node_op_named layer_op_named remove_layer_data
 remove_layer_again version id all =
     remove_layer_fields version id all
 
@@ -83,7 +83,7 @@ resize_layer_fields version id w h all =
 
 pub resize_layer_again : (version : ℕ) (id : ℕ) (w : ℕ) (h : ℕ) → command_in_range version (ResizeLayer id w h) ≡ true
     → command_at version (resize_layer_data id w h) ≡ Ok (ResizeLayer id w h)
-unfolding command_at object_at op_at op_named resize_layer_data
+unfolding command_at object_at op_at op_named node_op_named layer_op_named resize_layer_data
 resize_layer_again version id w h all =
     resize_layer_fields version id w h all
 
@@ -106,7 +106,7 @@ set_colour_fields version id colour all =
 
 pub set_colour_again : (version : ℕ) (id : ℕ) (colour : Parts) → command_in_range version (SetColour id colour) ≡ true
     → command_at version (set_colour_data id colour) ≡ Ok (SetColour id colour)
-unfolding command_at object_at op_at op_named set_colour_data
+unfolding command_at object_at op_at op_named node_op_named layer_op_named set_colour_data
 set_colour_again version id colour all =
     set_colour_fields version id colour all
 
@@ -128,7 +128,7 @@ remove_item_fields version layer at all =
 
 pub remove_item_again : (version : ℕ) (layer : ℕ) (at : ℕ) → command_in_range version (RemoveItem layer at) ≡ true
     → command_at version (remove_item_data layer at) ≡ Ok (RemoveItem layer at)
-unfolding command_at object_at op_at op_named remove_item_data
+unfolding command_at object_at op_at op_named node_op_named layer_op_named remove_item_data
 remove_item_again version layer at all =
     remove_item_fields version layer at all
 
@@ -150,7 +150,7 @@ move_layer_fields version id at all =
 
 pub move_layer_again : (version : ℕ) (id : ℕ) (at : ℕ) → command_in_range version (MoveLayer id at) ≡ true
     → command_at version (move_layer_data id at) ≡ Ok (MoveLayer id at)
-unfolding command_at object_at op_at op_named move_layer_data
+unfolding command_at object_at op_at op_named node_op_named layer_op_named move_layer_data
 move_layer_again version id at all =
     move_layer_fields version id at all
 
@@ -174,7 +174,7 @@ set_view_fields version w h tile all =
 
 pub set_view_again : (version : ℕ) (w : ℕ) (h : ℕ) (tile : ℕ) → command_in_range version (SetView w h tile) ≡ true
     → command_at version (set_view_data w h tile) ≡ Ok (SetView w h tile)
-unfolding command_at object_at op_at op_named set_view_data
+unfolding command_at object_at op_at op_named node_op_named layer_op_named set_view_data
 set_view_again version w h tile all =
     let first_two = left _ _ (left _ _ all) in
     let is_two : (version == 2) ≡ true = left (version == 2) (is_u32 w) first_two in

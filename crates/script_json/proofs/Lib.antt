@@ -1,5 +1,4 @@
 mod Behind
-mod OpNames
 mod Objects
 mod Nesting
 mod CommandLaws

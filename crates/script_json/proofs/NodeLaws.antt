@@ -7,7 +7,7 @@ use Rattle.model_history.specs.Ranges.{command_in_range, is_rect, is_signed, is_
 use Rattle.script_fields.specs.Fields.{object_at, no_more_members, int_at, number_at, rect_at, signed_at, whole_at}
 use Rattle.script_fields.proofs.Again.{left, right, both, number_again, rect_again, signed_again}
 use Rattle.script_fields.proofs.Fits.{then_ok, then_any, rect_fits, signed_fits, whole_fits}
-use Rattle.script_json.specs.Ops.{op_at, op_named}
+use Rattle.script_json.specs.Ops.{op_at, op_named, node_op_named}
 use Rattle.script_json.specs.declared.op.Op.TheVariants as op
 use Rattle.script_json.specs.CommandReading.{command_at, fields_at}
 use Rattle.script_json.specs.NodeValues.{add_transform_data, set_transform_data, add_clip_data, set_clip_data, add_effect_data, set_opacity_data, add_scroller_data, set_range_data, scroll_by_data, scroll_to_data}
@@ -29,7 +29,7 @@ add_transform_fields version id parent x y scroller all =
 
 pub add_transform_again : (version : ℕ) (id : ℕ) (parent : ℕ) (x : ℤ) (y : ℤ) (scroller : ℕ) → command_in_range version (AddTransform id parent x y scroller) ≡ true
     → command_at version (add_transform_data id parent x y scroller) ≡ Ok (AddTransform id parent x y scroller)
-unfolding command_at object_at op_at op_named add_transform_data
+unfolding command_at object_at op_at op_named node_op_named add_transform_data
 add_transform_again version id parent x y scroller all =
     add_transform_fields version id parent x y scroller all
 
@@ -56,7 +56,7 @@ set_transform_fields version id x y all =
 
 pub set_transform_again : (version : ℕ) (id : ℕ) (x : ℤ) (y : ℤ) → command_in_range version (SetTransform id x y) ≡ true
     → command_at version (set_transform_data id x y) ≡ Ok (SetTransform id x y)
-unfolding command_at object_at op_at op_named set_transform_data
+unfolding command_at object_at op_at op_named node_op_named set_transform_data
 set_transform_again version id x y all =
     set_transform_fields version id x y all
 
@@ -83,7 +83,7 @@ add_clip_fields version id parent transform rect all =
 
 pub add_clip_again : (version : ℕ) (id : ℕ) (parent : ℕ) (transform : ℕ) (rect : Rect) → command_in_range version (AddClip id parent transform rect) ≡ true
     → command_at version (add_clip_data id parent transform rect) ≡ Ok (AddClip id parent transform rect)
-unfolding command_at object_at op_at op_named add_clip_data
+unfolding command_at object_at op_at op_named node_op_named add_clip_data
 add_clip_again version id parent transform rect all =
     add_clip_fields version id parent transform rect all
 
@@ -107,7 +107,7 @@ set_clip_fields version id rect all =
 
 pub set_clip_again : (version : ℕ) (id : ℕ) (rect : Rect) → command_in_range version (SetClip id rect) ≡ true
     → command_at version (set_clip_data id rect) ≡ Ok (SetClip id rect)
-unfolding command_at object_at op_at op_named set_clip_data
+unfolding command_at object_at op_at op_named node_op_named set_clip_data
 set_clip_again version id rect all =
     set_clip_fields version id rect all
 
@@ -131,7 +131,7 @@ add_effect_fields version id parent opacity all =
 
 pub add_effect_again : (version : ℕ) (id : ℕ) (parent : ℕ) (opacity : ℕ) → command_in_range version (AddEffect id parent opacity) ≡ true
     → command_at version (add_effect_data id parent opacity) ≡ Ok (AddEffect id parent opacity)
-unfolding command_at object_at op_at op_named add_effect_data
+unfolding command_at object_at op_at op_named node_op_named add_effect_data
 add_effect_again version id parent opacity all =
     add_effect_fields version id parent opacity all
 
@@ -154,7 +154,7 @@ set_opacity_fields version id opacity all =
 
 pub set_opacity_again : (version : ℕ) (id : ℕ) (opacity : ℕ) → command_in_range version (SetOpacity id opacity) ≡ true
     → command_at version (set_opacity_data id opacity) ≡ Ok (SetOpacity id opacity)
-unfolding command_at object_at op_at op_named set_opacity_data
+unfolding command_at object_at op_at op_named node_op_named set_opacity_data
 set_opacity_again version id opacity all =
     set_opacity_fields version id opacity all
 
@@ -180,7 +180,7 @@ add_scroller_fields version id parent max_x max_y all =
 
 pub add_scroller_again : (version : ℕ) (id : ℕ) (parent : ℕ) (max_x : ℕ) (max_y : ℕ) → command_in_range version (AddScroller id parent max_x max_y) ≡ true
     → command_at version (add_scroller_data id parent max_x max_y) ≡ Ok (AddScroller id parent max_x max_y)
-unfolding command_at object_at op_at op_named add_scroller_data
+unfolding command_at object_at op_at op_named node_op_named add_scroller_data
 add_scroller_again version id parent max_x max_y all =
     add_scroller_fields version id parent max_x max_y all
 
@@ -206,7 +206,7 @@ set_range_fields version id max_x max_y all =
 
 pub set_range_again : (version : ℕ) (id : ℕ) (max_x : ℕ) (max_y : ℕ) → command_in_range version (SetRange id max_x max_y) ≡ true
     → command_at version (set_range_data id max_x max_y) ≡ Ok (SetRange id max_x max_y)
-unfolding command_at object_at op_at op_named set_range_data
+unfolding command_at object_at op_at op_named node_op_named set_range_data
 set_range_again version id max_x max_y all =
     set_range_fields version id max_x max_y all
 
@@ -231,7 +231,7 @@ scroll_by_fields version id dx dy all =
 
 pub scroll_by_again : (version : ℕ) (id : ℕ) (dx : ℤ) (dy : ℤ) → command_in_range version (ScrollBy id dx dy) ≡ true
     → command_at version (scroll_by_data id dx dy) ≡ Ok (ScrollBy id dx dy)
-unfolding command_at object_at op_at op_named scroll_by_data
+unfolding command_at object_at op_at op_named node_op_named scroll_by_data
 scroll_by_again version id dx dy all =
     scroll_by_fields version id dx dy all
 
@@ -256,7 +256,7 @@ scroll_to_fields version id x y all =
 
 pub scroll_to_again : (version : ℕ) (id : ℕ) (x : ℕ) (y : ℕ) → command_in_range version (ScrollTo id x y) ≡ true
     → command_at version (scroll_to_data id x y) ≡ Ok (ScrollTo id x y)
-unfolding command_at object_at op_at op_named scroll_to_data
+unfolding command_at object_at op_at op_named node_op_named scroll_to_data
 scroll_to_again version id x y all =
     scroll_to_fields version id x y all
 

@@ -3,8 +3,7 @@
 ghost use Rattle.std.specs.Prelude.{◌≡◌, Some, None, if◌then◌else◌, codes, option_and_then};
 ghost use Rattle.serde_json.specs.Find.{get, as_str};
 ghost use Rattle.serde_json.specs.View.{view};
-ghost use Rattle.script_json.specs.Ops.{op_named, is_of_version, op_at};
-ghost use Rattle.script_json.specs.inner.Names.{node_op_named, layer_op_named};
+ghost use Rattle.script_json.specs.Ops.{node_op_named, layer_op_named, op_named, is_of_version, op_at};
 ghost use Rattle.script_json.specs.InputReading.{input_named, input_op_at};
 
 use script_fields::FieldFault;
@@ -45,7 +44,7 @@ pub(crate) enum InputOp {
 }
 
 // The command on the nodes of a page that has this name.
-#[tactic(auto, unfolding(crate::specs::inner::Names::node_op_named))]
+#[tactic(auto, unfolding(crate::specs::Ops::node_op_named))]
 fn node_op_named(name: &str) -> Option<Op>
     ensures { result ≡ node_op_named name.now }
 {
@@ -65,7 +64,7 @@ fn node_op_named(name: &str) -> Option<Op>
 }
 
 // The command on the layers of a page, their items or the view that has this name.
-#[tactic(auto, unfolding(crate::specs::inner::Names::layer_op_named))]
+#[tactic(auto, unfolding(crate::specs::Ops::layer_op_named))]
 fn layer_op_named(name: &str) -> Option<Op>
     ensures { result ≡ layer_op_named name.now }
 {
@@ -83,7 +82,7 @@ fn layer_op_named(name: &str) -> Option<Op>
     }
 }
 
-#[tactic(auto, using(crate::proofs::OpNames::node_op, crate::proofs::OpNames::layer_op))]
+#[tactic(auto, unfolding(crate::specs::Ops::op_named))]
 fn op_named(name: &str) -> Option<Op>
     ensures { result ≡ op_named name.now }
 {
