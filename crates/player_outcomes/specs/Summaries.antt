@@ -1,5 +1,5 @@
 -- The counts of a run and of its recording.
-use Rattle.std.specs.Prelude.{◌≡◌, ℕ, ◌%◌, ◌^◌, List, [], ◌∷◌, length, codes, decimal}
+use Rattle.std.specs.Prelude.{◌≡◌, ◌<◌, ◌≤◌, ◌⊎◌, ℕ, ◌%◌, ◌^◌, List, [], ◌∷◌, length, codes, decimal}
 use Rattle.model_history.specs.declared.history.Entry.{Entry}
 use Rattle.recording_sums.specs.Sums.{byte_sum}
 use Rattle.player_outcomes.specs.Demos.{image_count, missing_count}
@@ -13,6 +13,10 @@ pub record IsSummary (history : List Entry) (whole : List ℕ) (summary : Summar
   pub missing : summary.missing ≡ missing_count history
   pub bytes : summary.bytes ≡ length whole
   pub sum : summary.sum ≡ byte_sum whole % 2 ^ 64
+
+-- a history cannot be counted: its oldest entries were forgotten, or its images or missing tiles are too many to be told
+abbrev pub HasNoSummary : ℕ → List Entry → Type 0
+HasNoSummary forgotten history = (0 < forgotten) ⊎ ((2 ^ 64 ≤ image_count history) ⊎ (2 ^ 64 ≤ missing_count history))
 
 -- the line of the counts
 abbrev pub summary_line : Summary → List ℕ

@@ -1,9 +1,9 @@
 //! The counts of a run and of its recording, and the line that tells them.
 
-ghost use Rattle.std.specs.Prelude.{◌≡◌, ◌≤◌, flat_map, IfSome};
+ghost use Rattle.std.specs.Prelude.{◌≡◌, ◌≤◌, flat_map, None, IfSome};
 ghost use Rattle.player_outcomes.specs.Faults.{Causes};
 ghost use Rattle.player_outcomes.specs.Outputs.{WritesSome};
-ghost use Rattle.player_outcomes.specs.Summaries.{IsSummary, summary_line};
+ghost use Rattle.player_outcomes.specs.Summaries.{HasNoSummary, IsSummary, summary_line};
 ghost use Rattle.player_outcomes.specs.inner.Fragments.{fragment_text};
 
 use crate::draw_counts::tally_of;
@@ -28,10 +28,12 @@ pub struct Summary {
     pub sum: u64,
 }
 
-/// Counts a run, of which the sink was given the recording; None where a count does not fit, or entries were forgotten:
-/// never so in a run that keeps all, whose events and missing tiles stand in memory.
+/// Counts a run, of which the sink was given the recording; None only where entries were forgotten, or the number of
+/// images or of missing tiles is 2^64 or more: never so in a run that keeps all, whose events and missing tiles stand
+/// in memory.
 pub fn summary_of(history: &KeptHistory, sink: &SumSink) -> Option<Summary>
-    ensures { IfSome result (IsSummary history.now.entries sink.now.held) }
+    ensures some { IfSome result (IsSummary history.now.entries sink.now.held) }
+    ensures none { result ≡ None → HasNoSummary history.now.first history.now.entries }
 {
     if history.first() > 0 {
         return None;
