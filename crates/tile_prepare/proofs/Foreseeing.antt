@@ -144,6 +144,14 @@ module _ (s : ScriptModel) (a p : Tree) (da : AreDistinctLayers a.page.layers) (
           let n : is_shown_in s a q ≡ false = shown_in_tree s side.Active a q da ∙ u in
           in_append_right q left right (filter_in (λ q. not (is_shown_in s a q)) q (filter (store_lacks store) (visible_in p)) (lacked (visible_in p) v) (ap not n))
 
+  -- and nothing that is not visible
+  first_shown : (q : TileKey) → In q firsts → is_visible (rank_in_both s a p q) ≡ true
+  first_shown q i = by_or (in_append q left right i)
+    where
+      by_or : In q left ⊎ In q right → is_visible (rank_in_both s a p q) ≡ true
+      by_or (inl j) = shown_active q (left_is q (has_in left q j)).0
+      by_or (inr j) = shown_pending q (right_is q (has_in right q j)).0
+
   first_live : (q : TileKey) → In q firsts → In q (keys_of a ++ keys_of p)
   first_live q i = by_or (in_append q left right i)
     where
@@ -193,6 +201,11 @@ module _ (s : ScriptModel) (acc : IsAccepted s) (h : List Entry) where
 
   pub once_at : (store : Store) (pins ks : List TileKey) (b : AreReadyBeside store (visible_in a) (visible_in p) ks) → EachKeyOnce (filter_map (rank_in_both s a p) (first_keys s a store (visible_in a) (visible_in p))) (filter is_hidden (map (tile_in_both s a p pins) ks))
   once_at store pins ks b = each_once s a p active_distinct pending_distinct store pins ks b
+
+  pub shown_at : (store : Store) (r : Rank) → In r (filter_map (rank_in_both s a p) (first_keys s a store (visible_in a) (visible_in p))) → is_visible (Some r) ≡ true
+  shown_at store r i =
+      let (q, j, e) = in_filter_map (rank_in_both s a p) r (first_keys s a store (visible_in a) (visible_in p)) i in
+      sym (ap is_visible e) ∙ first_shown s a p active_distinct pending_distinct store [] q j
 
   module _ (n : ℕ) (legal : Legal s n h) (m : Managed) (holds : Manages s h m) (ks : List TileKey) (b : AreReadyBeside m.store (visible_in a) (visible_in p) ks) where
     abbrev ranks : List Rank

@@ -1,9 +1,10 @@
 -- The lists are those of the trees.
-use Rattle.std.proofs.Common.{◌≡◌, List, filter_map, sym, ◌∙◌, ap, subst}
+use Rattle.std.proofs.Common.{◌≡◌, true, List, Some, filter_map, sym, ◌∙◌, ap, subst}
 use Rattle.std.specs.Prelude.{option_copied}
 use Rattle.geom.specs.declared.tile.TileKey.{TileKey}
 use Rattle.tile_priority.specs.declared.rank.Rank.{Rank}
 use Rattle.tile_priority.specs.Tiles.{Tile}
+use Rattle.tile_priority.specs.Ordered.{In}
 use Rattle.tile_queue.specs.Queues.{EachKeyOnce}
 use Rattle.model_history.specs.Scripts.{ScriptModel}
 use Rattle.model_history.specs.Legal.{Legal}
@@ -11,8 +12,9 @@ use Rattle.model_history.specs.Tiles.{active_tree, pending_tree, visible_in}
 use Rattle.model_steps.specs.Choices.{rank_in_both}
 use Rattle.tile_ranks.specs.SeenTrees.{IsSeenWhere}
 use Rattle.tile_manager.specs.Managers.{Manages, AreVisibleAt}
+use Rattle.tile_manager.specs.Visible.{is_visible}
 use Rattle.tile_prepare.specs.inner.FirstKeys.{first_keys, AreReadyBeside}
-use Rattle.tile_prepare.proofs.Foreseeing.{once_at, visible_at}
+use Rattle.tile_prepare.proofs.Foreseeing.{once_at, shown_at, visible_at}
 use Rattle.tile_prepare.proofs.foreseen.foreseen_of.Goals as goal
 
 pub returns-clause-once : goal.returns-clause-once
@@ -34,6 +36,19 @@ returns-clause-once c =
     subst (λ (rs : List Rank). EachKeyOnce rs c.in_ok-hidden.hidden.items) (sym wanted)
     (subst (λ (ts : List Tile). EachKeyOnce (filter_map (rank_in_both s a p) (first_keys s a m.store (visible_in a) (visible_in p))) ts) (sym hidden)
     (once_at s c.is_accepted.ensures.accepted n.past m.store m.pinned c.as_slice-2.result.now beside))
+
+pub returns-clause-shown : goal.returns-clause-shown
+returns-clause-shown c =
+    let s = c.args.script.now in
+    let n = c.requires in
+    let a = active_tree s n.past in
+    let p = pending_tree s n.past in
+    let m = c.args.manager.now in
+    let shown = c.in_ok-shown.ensures a n.seen_active in
+    let needed = c.in_ok-needed.ensures p n.seen_pending in
+    let keys : c.as_slice.result.now ≡ first_keys s a m.store (visible_in a) (visible_in p) = c.as_slice.ensures ∙ (c.in_ok-first.ensures a n.seen_active ∙ (λ i. first_keys s a m.store (shown i) (needed i))) in
+    let wanted = c.in_ok-wanted.ensures a p n.seen_active n.seen_pending ∙ ap (filter_map (rank_in_both s a p)) keys in
+    subst (λ (rs : List Rank). (r : Rank) → In r rs → is_visible (Some r) ≡ true) (sym wanted) (shown_at s c.is_accepted.ensures.accepted n.past m.store)
 
 pub returns-clause-visible : goal.returns-clause-visible
 returns-clause-visible c = λ s workers h is legal holds seen_active seen_pending.
