@@ -1,5 +1,5 @@
 -- For which past the ranks are made anew, and what an activation takes.
-use Rattle.std.specs.Prelude.{◌≡◌, Bool, true, false, not, List, Option}
+use Rattle.std.specs.Prelude.{◌≡◌, Bool, true, false, not, ◌&&◌, List, Option}
 use Rattle.geom.specs.declared.tile.TileKey.{TileKey}
 use Rattle.geom.specs.KeyLists.{has_key}
 use Rattle.model_history.specs.declared.event.Event.{Event}
@@ -25,7 +25,7 @@ pub record RanksNow (s : ScriptModel) (active pending : Option SeenTreeModel) : 
   pub seen_active : IsSeenWhere (active_tree s past) active
   pub seen_pending : IsSeenWhere (pending_tree s past) pending
 
--- what a tile manager that represents the past takes for the activation: the pins are the keys that it needs, and of the ready keys those that its tree lacks are dead
+-- what a tile manager that represents the past takes for the activation: the pins are the keys that it needs, and dead are exactly the ready keys that its tree lacks
 pub record AreForActivation (s : ScriptModel) (h : List Entry) (pinned lost : List TileKey) : Type 0 where
   pub pins : (q : TileKey) → has_key pinned q ≡ has_key (required s h) q
-  pub dead : (q : TileKey) → has_key (model.ready s h) q ≡ true → has_key lost q ≡ not (has_key (keys_of (pending_tree s h)) q)
+  pub dead : (q : TileKey) → has_key lost q ≡ (has_key (model.ready s h) q && not (has_key (keys_of (pending_tree s h)) q))
