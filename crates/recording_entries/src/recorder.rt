@@ -226,6 +226,7 @@ impl Recorder {
     pub fn finish<K: Sink>(&mut self, out: &mut K) -> Result<(), WriteStop>
         ensures bytes { PutsAll (K.held out.old) (K.held out.new) self.old.lines.items result }
         ensures none { OnOk result (self.new.lines.items ≡ []) }
+        ensures last { self.new.last ≡ self.old.last }
         ensures grows { K.faults out.old ≤ K.faults out.new }
         ensures cause { WriteCause (K.faults out.old) (K.faults out.new) result }
     {
