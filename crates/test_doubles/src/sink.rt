@@ -1,5 +1,8 @@
 //! A sink that waits for workers.
 
+ghost use Rattle.std.specs.Prelude.{◌≡◌, ◌≤◌, None, Some};
+ghost use Rattle.player_io.specs.Pieces.{PutAppends, PutCause};
+
 use crate::meeting::Meeting;
 use player_io::{MemSink, PutFault, Sink};
 
@@ -25,7 +28,9 @@ pub struct WaitingSink<'a> {
 
 impl<'a> WaitingSink<'a> {
     /// A sink that hands on what it is given, and waits where there is something to wait for.
-    pub fn new(out: MemSink, meeting: &'a Meeting, wait: Option<&'a SinkWait>) -> WaitingSink<'a> {
+    pub fn new(out: MemSink, meeting: &'a Meeting, wait: Option<&'a SinkWait>) -> WaitingSink<'a>
+        ensures { result.out ≡ out }
+    {
         WaitingSink {
             out,
             meeting,
@@ -35,7 +40,9 @@ impl<'a> WaitingSink<'a> {
     }
 
     /// The sink in memory again.
-    pub fn into_out(self) -> MemSink {
+    pub fn into_out(self) -> MemSink
+        ensures { result ≡ self.entry.out }
+    {
         let WaitingSink { out, .. } = self;
         out
     }
@@ -68,7 +75,13 @@ impl<'a> Sink for WaitingSink<'a> {
 
     ghost place = { λ _. tt };
 
-    fn put(&mut self, piece: &[u8]) -> Result<(), PutFault> {
+    fn put(&mut self, piece: &[u8]) -> Result<(), PutFault>
+        ensures bytes { PutAppends None None piece.now result }
+        ensures gains { PutAppends (Some self.old.out.bytes.items) (Some self.new.out.bytes.items) piece.now result }
+        ensures grows { self.old.out.faults ≤ self.new.out.faults }
+        ensures refused { self.old.out.refusals ≤ self.new.out.refusals }
+        ensures cause { PutCause self.old.out.faults self.new.out.faults self.old.out.refusals self.new.out.refusals result }
+    {
         let answer = self.out.put(piece);
         if let Some(wait) = self.wait {
             if !self.has_waited && self.holds(wait.mark.as_bytes()) {
