@@ -1,7 +1,8 @@
 //! A client in memory that tells what passed.
 
-ghost use Rattle.std.specs.Prelude.{◌≡◌, ◌≤◌, ◌-◌, [], drop, vec_len, Some, IfOk};
-ghost use Rattle.player_lines.specs.Sessions.{AreAnswers, lines_of};
+ghost use Rattle.std.specs.Prelude.{◌≡◌, ◌≤◌, ◌-◌, [], false, drop, vec_len, Some, OnOk, IfErr};
+ghost use Rattle.player_lines.specs.Sessions.{AreAnswers, AtOnce, lines_of};
+ghost use Rattle.player_lines.specs.inner.Reading.{ClientCause, StoppedBy};
 ghost use Rattle.test_doubles.specs.Talks.{IsTold, acts};
 
 use ghost_list::GhostList;
@@ -80,20 +81,26 @@ impl Talk {
         self.out.bytes()
     }
 
-    /// Serves this client, with which nothing has passed. Where that ends well, the client's answers are those to all
-    /// lines of its input, each by what the answerer says of that line alone.
+    /// Serves a session with such a client, with which nothing has passed. Whenever bytes were asked for, all lines
+    /// that had come were answered. Where the session ends well, the client's answers are those to all lines of its
+    /// input, each by what the answerer says of that line alone. Where it stops early, the lines that had come whole
+    /// are answered, or what went is a prefix of the answers; a fault comes only where a call of the client failed.
     pub fn serve<R: Threads + Sync, A: Answerer>(
-        self,
         rt: &R,
         alloc: Global,
         answerer: &A,
-    ) -> Result<Talk, Stop>
-        requires new { self.passed.items ≡ [] }
-        ensures { IfOk result (λ talk. AreAnswers (A.answers answerer.now) (lines_of talk.source.bytes.items) talk.out.bytes.items) }
+        session: &mut Session<Talk>,
+    ) -> Result<(), Stop>
+        requires whole { session.old.torn ≡ false }
+        requires new { session.old.client.passed.items ≡ [] }
+        ensures at_once { AtOnce (A.answers answerer.now) (acts session.new.client.passed.items) }
+        ensures ends { OnOk result (AreAnswers (A.answers answerer.now) (lines_of session.new.client.source.bytes.items) session.new.client.out.bytes.items) }
+        ensures stops { IfErr result (λ why. StoppedBy (A.answers answerer.now) why (acts session.new.client.passed.items)) }
+        ensures grows { session.old.client.faults ≤ session.new.client.faults }
+        ensures cause { ClientCause session.old.client.faults session.new.client.faults session.new.torn result }
     {
-        let mut session = Session::new(self);
-        match serve(rt, alloc, answerer, &mut session) {
-            Ok(()) => Ok(session.into_client()),
+        match serve(rt, alloc, answerer, session) {
+            Ok(()) => Ok(()),
             Err(stop) => Err(stop),
         }
     }
