@@ -1,6 +1,6 @@
 //! What there is to choose from, which is looked for once it is asked.
 
-ghost use Rattle.std.specs.Prelude.{◌≡◌, ℕ, true, List, OnOk};
+ghost use Rattle.std.specs.Prelude.{◌≡◌, ℕ, true, List, OnOk, OnErr};
 ghost use Rattle.model_history.specs.declared.history.Entry.{Entry};
 ghost use Rattle.model_history.specs.Scripts.{ScriptModel};
 ghost use Rattle.model_history.specs.Legal.{Legal};
@@ -24,6 +24,7 @@ pub(crate) fn look(
 ) -> Result<(), AllocError>
     requires { LooksNow script.now host.now }
     ensures seen { OnOk result (is_seen tiles.new.outlook ≡ true) }
+    ensures refused { OnErr result (tiles.new ≡ tiles.old) }
     ensures same { (s : ScriptModel) (h : List Entry) → script.now ≡ s → Hosts s h host.now → Manages s h tiles.old → Manages s h tiles.new }
 {
     if tiles.is_seen() {
@@ -43,7 +44,8 @@ fn look_visible(
     tiles: &mut TileManager,
 ) -> Result<(), AllocError>
     requires { LooksNow script.now host.now }
-    ensures { (s : ScriptModel) (workers : ℕ) (h : List Entry) → script.now ≡ s → Legal s workers h → Hosts s h host.now → Manages s h tiles.old → Manages s h tiles.new }
+    ensures same { (s : ScriptModel) (workers : ℕ) (h : List Entry) → script.now ≡ s → Legal s workers h → Hosts s h host.now → Manages s h tiles.old → Manages s h tiles.new }
+    ensures refused { OnErr result (tiles.new ≡ tiles.old) }
 {
     let seen = host.seen(alloc, host.standing())?;
     let all = foreseen_of(

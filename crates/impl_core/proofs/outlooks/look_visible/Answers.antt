@@ -26,8 +26,8 @@ foresee-requires c =
     subst (λ (rs : List Rank). EachKeyOnce rs c.as_slice-2.result.now) (sym c.as_slice.ensures.value)
     (subst (λ (ts : List Tile). EachKeyOnce c.in_ok-all.all.wanted.items ts) (sym c.as_slice-2.ensures.value) c.in_ok-all.ensures.once)
 
-pub returns : goal.returns
-returns c = λ s workers h is_s legal hosts holds.
+pub returns-clause-same : goal.returns-clause-same
+returns-clause-same c = λ s workers h is_s legal hosts holds.
     let seen = c.in_ok-seen.ensures.trees s h (as_it_stands s h c.args.host.now c.standing.result.now c.standing.ensures hosts) in
     let visible : AreVisibleAt s h c.in_ok-all.all.wanted.items c.in_ok-all.all.hidden.items =
     c.in_ok-all.ensures.visible s workers h is_s legal holds (subst (IsSeenWhere (active_tree s h)) (sym c.as_ref.ensures.value) seen.active) (subst (IsSeenWhere (pending_tree s h)) (sym c.as_ref-2.ensures.value) seen.pending) in
