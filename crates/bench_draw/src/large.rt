@@ -7,12 +7,12 @@ ghost use Rattle.bench_draw.specs.Jobs.{IsLarge};
 use crate::images;
 use crate::images::{add_item, shared};
 use crate::pool::colour_of;
-use crate::scenes::Dice;
 use geom::{Point, Rect, TileKey};
 use page_display_list::{DisplayList, Item};
 use pixel::Colour;
 use std::alloc::{AllocError, Global};
 use std::sync::Arc;
+use test_table::Dice;
 use tile_raster::TileImage;
 use viz_scene::{Quad, RenderPass, Scene, scene_of};
 

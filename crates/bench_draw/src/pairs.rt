@@ -6,14 +6,13 @@ ghost use Rattle.viz_scene.specs.Views.{SceneView};
 ghost use Rattle.viz_canvas.specs.Canvases.{IsOfSize};
 
 use crate::pool::pool_of;
-use crate::scenes::Dice;
 use crate::sketch::Sketch;
 use geom::Point;
 use region::Region;
 use std::alloc::{AllocError, Global};
 use std::io;
 use std::sync::Arc;
-use test_table::Answer;
+use test_table::{Answer, Dice};
 use tile_raster::TileImage;
 use viz_canvas::{Canvas, Rgba};
 use viz_damage::damage_of;

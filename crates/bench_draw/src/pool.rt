@@ -6,12 +6,12 @@ ghost use Rattle.page_display_list.specs.Content.{IsSoundItem};
 
 use crate::images;
 use crate::images::{add_item, shared};
-use crate::scenes::Dice;
 use geom::{Rect, TileKey};
 use page_display_list::{DisplayList, Item};
 use pixel::Colour;
 use std::alloc::{AllocError, Global};
 use std::sync::Arc;
+use test_table::Dice;
 use tile_raster::TileImage;
 
 /// How many images there are.

@@ -13,32 +13,9 @@ use page_display_list::{DisplayList, Item};
 use pixel::Colour;
 use std::alloc::{AllocError, Global};
 use std::sync::Arc;
+use test_table::Dice;
 use viz_canvas::{Canvas, Rgb};
 use viz_scene::{Quad, RenderPass, Scene};
-
-/// Numbers that look random.
-#[derive(Drop)]
-pub(crate) struct Dice {
-    last: u64,
-}
-
-impl Dice {
-    /// Dice that throw the numbers of a seed.
-    pub(crate) fn new(seed: u64) -> Dice {
-        Dice { last: seed }
-    }
-
-    /// A number below 2^16.
-    pub(crate) fn throw(&mut self) -> u32
-        ensures { result < 65536 }
-    {
-        self.last = self
-            .last
-            .wrapping_mul(6364136223846793005)
-            .wrapping_add(1442695040888963407);
-        (self.last >> 48) as u32
-    }
-}
 
 /// A translucent item.
 fn item_of(dice: &mut Dice) -> Item
@@ -128,7 +105,7 @@ fn add_layer(
 fn flat(alloc: Global, items: usize, layers: u32) -> Result<Scene, AllocError>
     ensures { IfOk result IsLarge }
 {
-    let mut dice = Dice { last: 7 };
+    let mut dice = Dice::new(7);
     let mut quads = Vec::new(alloc);
     for _layer in 0..layers {
         add_layer(alloc, &mut dice, items, &mut quads)?;
@@ -142,7 +119,7 @@ fn flat(alloc: Global, items: usize, layers: u32) -> Result<Scene, AllocError>
 fn grouped(alloc: Global, items: usize, layers: u32) -> Result<Scene, AllocError>
     ensures { IfOk result IsLarge }
 {
-    let mut dice = Dice { last: 7 };
+    let mut dice = Dice::new(7);
     let mut passes = Vec::new(alloc);
     let mut root = Vec::new(alloc);
     for pass in 0..layers {

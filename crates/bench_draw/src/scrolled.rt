@@ -9,13 +9,13 @@ ghost use Rattle.geom.specs.Covers.{IsSound};
 use crate::images;
 use crate::images::{add_item, shared};
 use crate::pool::colour_of;
-use crate::scenes::Dice;
 use crate::showing::shows;
 use geom::{Point, Rect, TileKey};
 use page_display_list::{DisplayList, Item};
 use pixel::Colour;
 use std::alloc::{AllocError, Global};
 use std::sync::Arc;
+use test_table::Dice;
 use tile_raster::TileImage;
 use viz_scene::{Quad, RenderPass, Scene, scene_of};
 

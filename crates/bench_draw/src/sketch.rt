@@ -3,11 +3,11 @@
 ghost use Rattle.std.specs.Prelude.{◌≡◌, ◌≤◌, IfSome, IfOk};
 
 use crate::pool::{IMAGES, colour_of};
-use crate::scenes::Dice;
 use geom::{Point, Rect};
 use pixel::Colour;
 use std::alloc::{AllocError, Global};
 use std::sync::Arc;
+use test_table::Dice;
 use tile_raster::TileImage;
 use viz_scene::{Quad, RenderPass, Scene, scene_of};
 

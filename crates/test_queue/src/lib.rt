@@ -24,7 +24,6 @@
 #![tactic(auto)]
 
 mod choice;
-mod dice;
 mod jobs;
 mod queues;
 mod table;

@@ -4,6 +4,7 @@
 
 mod answer;
 mod checks;
+mod dice;
 mod fault;
 mod lines;
 mod questions;
@@ -13,6 +14,7 @@ mod values;
 
 pub use answer::Answer;
 pub use checks::Checks;
+pub use dice::Dice;
 pub use fault::LineFault;
 pub use lines::{Table, check_table, end_counted, end_unread, says_something};
 pub use questions::{Questions, Subject};

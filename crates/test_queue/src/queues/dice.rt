@@ -2,8 +2,8 @@
 
 ghost use Rattle.std.specs.Prelude.{◌≡◌};
 
-use crate::dice::Dice;
 use geom::TileKey;
+use test_table::Dice;
 use tile_priority::{Bin, Rank, ReadyTile};
 
 /// A bin.

@@ -3,13 +3,12 @@
 ghost use Rattle.std.specs.Prelude.{◌<◌};
 
 use crate::choice::PlainChoice;
-use crate::dice::Dice;
 use crate::queues::agreement::agrees;
 use crate::queues::checked_queue::CheckedQueue;
 use crate::queues::dice::{rank, tile};
 use geom::TileKey;
 use std::alloc::{AllocError, Global};
-use test_table::LineFault;
+use test_table::{Dice, LineFault};
 use tile_priority::{Rank, ReadyTile};
 
 /// How many keys there are.
@@ -176,7 +175,7 @@ impl Trial {
 /// Takes the given number of random steps, up to the first after which the queue answers otherwise.
 pub(crate) fn try_steps(rt: &HostRuntime, seed: u64, steps: u64) -> Result<Counts, LineFault> {
     let mut trial = Trial {
-        dice: Dice::of(seed),
+        dice: Dice::new(seed),
         queue: CheckedQueue::new(rt.alloc()),
         in_flight: Vec::new(rt.alloc()),
         counts: Counts::NONE,
