@@ -7,7 +7,7 @@ use geom::{Rect, TileKey};
 use impl_trees::TreeState;
 use page_layers::Layer;
 use std::alloc::{AllocError, Global};
-use test_table::{LineFault, push_word};
+use test_table::{LineFault, keys_text};
 use tile_tiling::Tiling;
 use tile_visible::by_id;
 
@@ -61,32 +61,13 @@ fn sum_of(keys: &[TileKey]) -> u64 {
     sum
 }
 
-// Adds a key.
-fn push_key(alloc: Global, key: TileKey, text: &mut String) -> Result<(), AllocError> {
-    let TileKey { layer, x, y, stamp } = key;
-    let word = format!(in alloc; "{layer}/{x}/{y}/{stamp}")?;
-    push_word(text, word.as_str())
-}
-
-// The keys, with blanks between; `-` where there are none.
-fn text_of(alloc: Global, keys: &[TileKey]) -> Result<String, AllocError> {
-    if keys.is_empty() {
-        return "-".to_string(alloc);
-    }
-    let mut text = String::new(alloc);
-    for key in keys {
-        push_key(alloc, *key, &mut text)?;
-    }
-    Ok(text)
-}
-
 /// The keys of a tree, in key order; `none` where there is no tree.
 pub fn told_keys(alloc: Global, state: Option<&TreeState>) -> Result<String, LineFault> {
     let Some(state) = state else {
         return Ok("none".to_string(alloc)?);
     };
     let keys = keys_of(alloc, state)?;
-    Ok(text_of(alloc, keys.as_slice())?)
+    Ok(keys_text(alloc, keys.as_slice())?)
 }
 
 /// How many keys a tree has, and their sum; `none` where there is no tree.

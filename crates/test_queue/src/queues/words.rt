@@ -6,7 +6,7 @@
 use crate::choice::PlainChoice;
 use geom::TileKey;
 use std::alloc::{AllocError, Global};
-use test_table::{LineFault, push_word, wholes};
+use test_table::{LineFault, keys_text, wholes};
 use tile_priority::{Bin, Rank, ReadyTile};
 use tile_queue::RasterQueue;
 
@@ -96,37 +96,18 @@ pub(crate) fn queue_of(alloc: Global, row: &str) -> Result<PlainChoice, LineFaul
     Ok(PlainChoice::new(wanted, ready, in_flight as usize, budget))
 }
 
-/// Adds a key.
-fn push_key(alloc: Global, key: TileKey, text: &mut String) -> Result<(), AllocError> {
-    let TileKey { layer, x, y, stamp } = key;
-    let word = format!(in alloc; "{layer}/{x}/{y}/{stamp}")?;
-    push_word(text, word.as_str())
-}
-
-/// The text of keys; `-` where there is none.
-fn text_of(alloc: Global, keys: &[TileKey]) -> Result<String, AllocError> {
-    if keys.is_empty() {
-        return "-".to_string(alloc);
-    }
-    let mut text = String::new(alloc);
-    for key in keys {
-        push_key(alloc, *key, &mut text)?;
-    }
-    Ok(text)
-}
-
 /// The key that starts first.
 fn first_text(alloc: Global, queue: &RasterQueue) -> Result<String, AllocError> {
     match queue.first() {
-        Some(key) => text_of(alloc, &[key]),
-        None => text_of(alloc, &[]),
+        Some(key) => keys_text(alloc, &[key]),
+        None => keys_text(alloc, &[]),
     }
 }
 
 /// The keys that are evicted for a key.
 fn evicted_text(alloc: Global, queue: &RasterQueue, key: TileKey) -> Result<String, AllocError> {
     let keys = queue.evicted(key)?;
-    text_of(alloc, keys.as_slice())
+    keys_text(alloc, keys.as_slice())
 }
 
 /// The answer to `first`, the key that starts first, or to `evicted KEY`, the keys that are evicted for it.
