@@ -1,6 +1,6 @@
 //! Why a line of the table can't be read.
 
-use std::alloc::AllocError;
+use std::alloc::{AllocError, AllocFailed};
 use std::fmt;
 
 /// Why a line of the table can't be read.
@@ -27,6 +27,12 @@ pub enum HistoryLineFault {
 impl From<AllocError> for HistoryLineFault {
     fn from(error: AllocError) -> HistoryLineFault {
         HistoryLineFault::Memory(error)
+    }
+}
+
+impl<T: Drop> From<AllocFailed<T>> for HistoryLineFault {
+    fn from(_refused: AllocFailed<T>) -> HistoryLineFault {
+        HistoryLineFault::Memory(AllocError)
     }
 }
 

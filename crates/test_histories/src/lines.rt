@@ -12,10 +12,7 @@ fn push_entry(alloc: Global, entries: &mut Vec<Entry>, line: &str) -> Result<(),
     let Some(event) = read_event(alloc, line.as_bytes())? else {
         return Err(HistoryLineFault::NoEvent);
     };
-    match entries.push(entry_of(event)) {
-        Ok(()) => Ok(()),
-        Err(refused) => Err(HistoryLineFault::Memory(AllocError::from(refused))),
-    }
+    Ok(entries.push(entry_of(event))?)
 }
 
 /// The entries of lines, each by the actor whose event it is.
