@@ -2,7 +2,6 @@
 
 use crate::bytes::{bytes_of, changed, three_parts};
 use crate::fault::ProgramRowFault;
-use crate::lists::push;
 use crate::names::Names;
 use crate::numbers::{Numbers, number, number_32, status};
 use crate::output::Output;
@@ -99,7 +98,7 @@ fn words_of(alloc: Global, text: &str) -> Result<Vec<String>, ProgramRowFault> {
     let mut words = Vec::new(alloc);
     for word in text.split_whitespace() {
         let word = if word == "\"\"" { "" } else { word };
-        push(&mut words, word.to_string(alloc)?)?;
+        words.push(word.to_string(alloc)?)?;
     }
     Ok(words)
 }
@@ -225,7 +224,7 @@ impl Case {
     fn add_awaited(&mut self, value: &str) -> Result<(), ProgramRowFault> {
         let text = line_of(self.alloc, value)?;
         match &mut self.sink_wait {
-            Some(wait) => push(&mut wait.texts, text),
+            Some(wait) => Ok(wait.texts.push(text)?),
             None => Err(ProgramRowFault::NoWait),
         }
     }

@@ -1,6 +1,6 @@
 //! Why a line of the table can't be read.
 
-use std::alloc::AllocError;
+use std::alloc::{AllocError, AllocFailed};
 use std::fmt;
 
 /// Why a line of the table can't be read.
@@ -43,6 +43,12 @@ pub enum ProgramRowFault {
 impl From<AllocError> for ProgramRowFault {
     fn from(error: AllocError) -> ProgramRowFault {
         ProgramRowFault::Memory(error)
+    }
+}
+
+impl<T: Drop> From<AllocFailed<T>> for ProgramRowFault {
+    fn from(_refused: AllocFailed<T>) -> ProgramRowFault {
+        ProgramRowFault::Memory(AllocError)
     }
 }
 

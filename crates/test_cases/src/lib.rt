@@ -5,7 +5,6 @@
 mod bytes;
 mod case;
 mod fault;
-mod lists;
 mod names;
 mod numbers;
 mod output;

@@ -2,7 +2,6 @@
 
 use crate::bytes::image_of;
 use crate::fault::ProgramRowFault;
-use crate::lists::push;
 use crate::numbers::{Numbers, number};
 use std::alloc::{AllocError, Global};
 
@@ -91,7 +90,7 @@ impl Names {
     pub fn add_text(&mut self, name: &str, value: &str) -> Result<(), ProgramRowFault> {
         let name = name.to_string(self.alloc)?;
         let text = self.built(value)?;
-        push(&mut self.texts, NamedText { name, text })
+        Ok(self.texts.push(NamedText { name, text })?)
     }
 
     /// The text of this name that was added last.
@@ -152,7 +151,7 @@ impl Names {
     pub fn begin_file(&mut self, name: &str) -> Result<(), ProgramRowFault> {
         let name = name.to_string(self.alloc)?;
         let bytes = Vec::new(self.alloc);
-        push(&mut self.files, NamedFile { name, bytes })
+        Ok(self.files.push(NamedFile { name, bytes })?)
     }
 
     /// These bytes come next in the file that was begun last.
