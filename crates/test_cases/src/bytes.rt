@@ -1,7 +1,7 @@
 //! Bytes and pictures as the table writes them.
 
 use crate::fault::ProgramRowFault;
-use crate::numbers::number_32;
+use crate::numbers::number;
 use std::alloc::Global;
 
 /// The bytes of hexadecimal digits, in groups with blanks between.
@@ -31,7 +31,7 @@ pub(crate) fn three_parts(text: &str) -> Option<(&str, &str, &str)> {
 fn add_pixels(alloc: Global, image: &mut Vec<u8>, group: &str) -> Result<(), ProgramRowFault> {
     let (count, colour) = group.split_once('*').unwrap_or(("1", group));
     let colour = bytes_of(alloc, colour)?;
-    for _ in 0..number_32(count)? {
+    for _ in 0..number::<u32>(count)? {
         image.extend_from_slice(colour.as_slice())?;
     }
     Ok(())
@@ -42,7 +42,7 @@ pub(crate) fn image_of(alloc: Global, text: &str) -> Result<Vec<u8>, ProgramRowF
     let Some((width, height, colours)) = three_parts(text) else {
         return Err(ProgramRowFault::NoImage);
     };
-    let (across, down) = (number_32(width)?, number_32(height)?);
+    let (across, down): (u32, u32) = (number(width)?, number(height)?);
     let mut image = format!(in alloc; "P6\n{across} {down}\n255\n")?.into_bytes();
     let pixels = u64::from(across).saturating_mul(u64::from(down));
     let size = pixels.saturating_mul(3).saturating_add(image.len() as u64);

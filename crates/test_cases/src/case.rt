@@ -3,7 +3,7 @@
 use crate::bytes::{bytes_of, changed, three_parts};
 use crate::fault::ProgramRowFault;
 use crate::names::Names;
-use crate::numbers::{Numbers, number, number_32, status};
+use crate::numbers::{Numbers, number};
 use crate::output::Output;
 use std::alloc::{AllocError, Global};
 use test_doubles::{Gathering, SinkWait};
@@ -231,10 +231,10 @@ impl Case {
 
     /// Sets how the run ends: `0 LENGTH SUM` of its output, or `STATUS NOTE` with the line in the notes.
     fn set_end(&mut self, text: &str) -> Result<(), ProgramRowFault> {
-        let Some((number, rest)) = text.split_once(' ') else {
+        let Some((status, rest)) = text.split_once(' ') else {
             return Err(ProgramRowFault::NoChange);
         };
-        self.status = status(number)?;
+        self.status = number(status)?;
         if self.status == 0 {
             return self.output.set_sum(rest);
         }
@@ -269,9 +269,9 @@ impl Case {
     fn take_value(&mut self, key: &str, value: &str) -> Result<(), ProgramRowFault> {
         match key {
             "words" => self.words = words_of(self.alloc, value)?,
-            "step" => self.step = number_32(value)?,
+            "step" => self.step = number(value)?,
             "notes room" => self.notes_room = Some(number(value)?),
-            "status" => self.status = status(value)?,
+            "status" => self.status = number(value)?,
             "note" => self.note = Some(value.to_string(self.alloc)?),
             "legal recording" => self.recording = true,
             _ => return Err(ProgramRowFault::UnknownKey),

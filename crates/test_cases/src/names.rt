@@ -138,7 +138,7 @@ impl Names {
     pub fn built(&self, value: &str) -> Result<String, ProgramRowFault> {
         if let Some(count) = value.strip_suffix(" blanks") {
             let count = number(count)?;
-            return Ok(" ".repeat(self.alloc, count as usize)?);
+            return Ok(" ".repeat(self.alloc, count)?);
         }
         let Some((numbers, text)) = counted(value) else {
             return self.filled(value);

@@ -1,6 +1,7 @@
 //! Numbers and ranges of numbers as the table writes them.
 
 use crate::fault::ProgramRowFault;
+use std::str::FromStr;
 
 /// The numbers from `start` on and below `end`.
 #[derive(Clone, Copy)]
@@ -21,31 +22,18 @@ impl Numbers {
             let (start, end) = (number(start)?, number(end)?);
             return Ok(Numbers { start, end });
         }
-        let start = number(text)?;
+        let start: u64 = number(text)?;
         let end = start.saturating_add(1);
         Ok(Numbers { start, end })
     }
 }
 
-/// A number in digits.
-pub(crate) fn number(text: &str) -> Result<u64, ProgramRowFault> {
-    match text.parse::<u64>() {
-        Ok(number) => Ok(number),
-        Err(_) => Err(ProgramRowFault::NoNumber),
-    }
-}
-
-/// A number of 32 bits in digits.
-pub(crate) fn number_32(text: &str) -> Result<u32, ProgramRowFault> {
-    match text.parse::<u32>() {
-        Ok(number) => Ok(number),
-        Err(_) => Err(ProgramRowFault::NoNumber),
-    }
-}
-
-/// A status.
-pub(crate) fn status(text: &str) -> Result<u8, ProgramRowFault> {
-    match text.parse::<u8>() {
+/// A number in digits, within the range of its type.
+pub(crate) fn number<T: FromStr>(text: &str) -> Result<T, ProgramRowFault>
+where
+    T::Err: Drop,
+{
+    match text.parse() {
         Ok(number) => Ok(number),
         Err(_) => Err(ProgramRowFault::NoNumber),
     }
