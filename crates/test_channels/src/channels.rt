@@ -1,143 +1,97 @@
 //! The lines of the table: `NAME: => right COUNT`, where NAME is a case of this crate.
 
+use crate::cases::Cases;
 use crate::{bells, locks, rings, slow_sink, stops, streams};
 use std::alloc::Global;
 use std::sync::Wait;
 use std::thread::Threads;
-use test_table::{Answer, Checks, LineFault, Subject};
+use test_table::{Answer, LineFault, Subject};
 
-/// The names of the cases.
-const CASES: [&str; 21] = [
-    "ring before a sleep",
-    "short sleep",
-    "posts",
-    "closed bell",
-    "open gate",
-    "memory source",
-    "memory sink",
-    "adapters",
-    "stop",
-    "failed put",
-    "fourth pass of three",
-    "entry shows",
-    "taken turn",
-    "two threads",
-    "sixteen threads",
-    "five pieces",
-    "served before the end",
-    "owned pieces",
-    "thousand pieces",
-    "failing sink",
-    "slow sink",
-];
-
-/// Tries the case of a name about bells, or an open gate.
-fn try_plain<R: Threads + Wait + Sync>(
-    rt: &R,
-    name: &str,
-    checks: &mut Checks,
-) -> Result<(), LineFault> {
-    match name {
-        "ring before a sleep" => bells::ring_before_a_sleep(rt, checks),
-        "short sleep" => bells::short_sleep_ends(rt, checks),
-        "posts" => bells::each_post_has_its_count(rt, checks),
-        "closed bell" => bells::sleeper_hears_the_close(rt, checks),
-        "open gate" => streams::open_gate(checks),
-        _ => return Err(LineFault::NoForm),
-    }
-    Ok(())
-}
-
-/// Tries the case of a name about sources and sinks, call by call, and about stops, or a plain one.
-fn try_ends<R: Threads + Wait + Sync>(
+/// Tries the cases about locks.
+fn try_locks<R: Threads + Wait + Sync>(
     rt: &R,
     alloc: Global,
-    name: &str,
-    checks: &mut Checks,
+    cases: &mut Cases,
 ) -> Result<(), LineFault> {
-    match name {
-        "memory source" => streams::memory_gives_in_steps(alloc, checks),
-        "memory sink" => streams::memory_takes_up_to_its_limit(alloc, checks),
-        "adapters" => streams::adapters_go_on(alloc, checks),
-        "stop" => stops::stop_ends_all_turns(rt, alloc, checks),
-        "failed put" => stops::failed_put_stops_the_run(rt, alloc, checks),
-        _ => try_plain(rt, name, checks),
-    }
+    locks::fourth_pass_of_three(rt, alloc, cases)?;
+    locks::entry_shows_to_the_next(rt, alloc, cases)?;
+    locks::taken_turn_is_busy(rt, alloc, cases)?;
+    locks::two_threads_write(rt, alloc, cases)?;
+    locks::sixteen_threads_write(rt, alloc, cases)
 }
 
-/// Tries the case of a name.
-fn try_case<R: Threads + Wait + Sync>(
+/// Tries the cases about bells.
+fn try_bells<R: Threads + Wait + Sync>(rt: &R, cases: &mut Cases) {
+    bells::ring_before_a_sleep(rt, cases);
+    bells::short_sleep_ends(rt, cases);
+    bells::each_post_has_its_count(rt, cases);
+    bells::sleeper_hears_the_close(rt, cases);
+}
+
+/// Tries the cases about rings.
+fn try_rings<R: Threads + Wait + Sync>(
     rt: &R,
     alloc: Global,
-    name: &str,
-    checks: &mut Checks,
+    cases: &mut Cases,
 ) -> Result<(), LineFault> {
-    match name {
-        "fourth pass of three" => locks::fourth_pass_of_three(rt, alloc, checks),
-        "entry shows" => locks::entry_shows_to_the_next(rt, alloc, checks),
-        "taken turn" => locks::taken_turn_is_busy(rt, alloc, checks),
-        "two threads" => locks::two_threads_write(rt, alloc, checks),
-        "sixteen threads" => locks::sixteen_threads_write(rt, alloc, checks),
-        "five pieces" => rings::five_pieces_in_order(rt, alloc, checks),
-        "served before the end" => rings::served_before_the_end(rt, alloc, checks),
-        "owned pieces" => rings::owned_pieces_in_their_turn(rt, alloc, checks),
-        "thousand pieces" => rings::thousand_pieces(rt, alloc, checks),
-        "failing sink" => rings::sink_fails_at_any_piece(rt, alloc, checks),
-        "slow sink" => slow_sink::slow_sink_holds_up(rt, alloc, checks),
-        _ => try_ends(rt, alloc, name, checks),
-    }
+    rings::five_pieces_in_order(rt, alloc, cases)?;
+    rings::served_before_the_end(rt, alloc, cases)?;
+    rings::owned_pieces_in_their_turn(rt, alloc, cases)?;
+    rings::thousand_pieces(rt, alloc, cases)?;
+    rings::sink_fails_at_any_piece(rt, alloc, cases)?;
+    slow_sink::slow_sink_holds_up(rt, alloc, cases)
 }
 
-/// A case that was tried, with what it saw.
-struct Tried {
-    name: &'static str,
-    checks: Checks,
+/// Tries the cases about sources and sinks, and an open gate.
+fn try_streams(alloc: Global, cases: &mut Cases) -> Result<(), LineFault> {
+    streams::open_gate(cases);
+    streams::memory_gives_in_steps(alloc, cases)?;
+    streams::memory_takes_up_to_its_limit(alloc, cases)?;
+    streams::adapters_go_on(alloc, cases)
 }
 
-// Written out, since a derived drop is proved anew, field by field, in each function that lets one go.
-impl Drop for Tried {
-    fn drop(self) {
-        let Tried { name: _, checks: _ } = self;
-    }
+/// Tries the cases about stops.
+fn try_stops<R: Threads + Wait + Sync>(
+    rt: &R,
+    alloc: Global,
+    cases: &mut Cases,
+) -> Result<(), LineFault> {
+    stops::stop_ends_all_turns(rt, alloc, cases)?;
+    stops::failed_put_stops_the_run(rt, alloc, cases)
+}
+
+/// Tries all cases.
+fn try_all<R: Threads + Wait + Sync>(
+    rt: &R,
+    alloc: Global,
+    cases: &mut Cases,
+) -> Result<(), LineFault> {
+    try_bells(rt, cases);
+    try_locks(rt, alloc, cases)?;
+    try_rings(rt, alloc, cases)?;
+    try_streams(alloc, cases)?;
+    try_stops(rt, alloc, cases)
 }
 
 /// What is asked about: the cases, all of which were tried beforehand, since they start threads.
 #[derive(Drop)]
 pub struct Channels {
-    tried: Vec<Tried>,
-}
-
-/// Tries a case.
-fn tried_case<R: Threads + Wait + Sync>(
-    rt: &R,
-    alloc: Global,
-    name: &'static str,
-) -> Result<Tried, LineFault> {
-    let mut checks = Checks::new(alloc);
-    match try_case(rt, alloc, name, &mut checks) {
-        Ok(()) => Ok(Tried { name, checks }),
-        Err(fault) => Err(fault),
-    }
+    cases: Cases,
 }
 
 impl Channels {
     /// Tries all cases.
     pub fn new<R: Threads + Wait + Sync>(rt: &R, alloc: Global) -> Result<Channels, LineFault> {
-        let mut tried = Vec::new(alloc);
-        for name in CASES {
-            tried.push(tried_case(rt, alloc, name)?)?;
+        let mut cases = Cases::new(alloc);
+        match try_all(rt, alloc, &mut cases) {
+            Ok(()) => Ok(Channels { cases }),
+            Err(fault) => Err(fault),
         }
-        Ok(Channels { tried })
     }
 }
 
 impl Subject for Channels {
     fn ask(&self, kind: &str, _question: &str, answer: &mut Answer) -> Result<(), LineFault> {
-        for case in self.tried.iter() {
-            if case.name == kind {
-                return case.checks.say(answer);
-            }
-        }
-        Err(LineFault::NoForm)
+        self.cases.say(kind, answer)
     }
 }

@@ -5,6 +5,7 @@
 #![tactic(auto)]
 
 mod bells;
+mod cases;
 mod channels;
 mod lines_sink;
 mod locks;

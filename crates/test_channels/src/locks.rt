@@ -3,10 +3,11 @@
 ghost use Rattle.std.specs.Prelude.{◌≡◌, ◌<◌, [], All, vec_len, IfOk};
 ghost use Rattle.thread_lock.specs.PassModels.{IsOf};
 
+use crate::cases::Cases;
 use std::alloc::{AllocError, Global};
 use std::sync::Wait;
 use std::thread::{Threads, join};
-use test_table::{Checks, LineFault};
+use test_table::LineFault;
 use thread_lock::{
     HeldTurn, Journal, Pass, SplitFault, TurnLock, write_all, write_both, write_note,
 };
@@ -95,29 +96,30 @@ fn numbers_below(alloc: Global, count: u32) -> Result<Vec<u32>, AllocError> {
 pub fn fourth_pass_of_three<R: Wait>(
     rt: &R,
     alloc: Global,
-    checks: &mut Checks,
+    cases: &mut Cases,
 ) -> Result<(), LineFault> {
+    cases.begin("fourth pass of three");
     let (lock, mut first) = locked(alloc, 3)?;
     let second = split(rt, &lock, &mut first)?;
     let third = split(rt, &lock, &mut first)?;
     let numbers = [first.actor(), second.actor(), third.actor()];
-    checks.same("three numbers", &numbers, &[0, 1, 2]);
+    cases.same("three numbers", &numbers, &[0, 1, 2]);
     let is_full = matches!(lock.split(rt, &mut first), Err(SplitFault::Full));
-    checks.holds("no fourth", is_full);
+    cases.holds("no fourth", is_full);
     let mut passes = Vec::new(alloc);
     passes.push(first)?;
     passes.push(second)?;
     let Err(out) = lock.close(passes) else {
         return Err(LineFault::CallRefused);
     };
-    checks.same("two of three", &(out.given, out.most), &(2, 3));
+    cases.same("two of three", &(out.given, out.most), &(2, 3));
     let mut passes = out.passes;
     passes.push(third)?;
     let Ok(journal) = out.lock.close(passes) else {
         return Err(LineFault::CallRefused);
     };
-    checks.same("its title", &journal.title(), &5);
-    checks.holds("no note", journal.notes().is_empty());
+    cases.same("its title", &journal.title(), &5);
+    cases.holds("no note", journal.notes().is_empty());
     Ok(())
 }
 
@@ -125,16 +127,17 @@ pub fn fourth_pass_of_three<R: Wait>(
 pub fn entry_shows_to_the_next<R: Wait>(
     rt: &R,
     alloc: Global,
-    checks: &mut Checks,
+    cases: &mut Cases,
 ) -> Result<(), LineFault> {
+    cases.begin("entry shows");
     let (lock, mut first) = locked(alloc, 2)?;
     let second = split(rt, &lock, &mut first)?;
     let (_first, wrote) = write_note(rt, &lock, first, 7);
     wrote?;
     let held = lock.enter(rt, second);
     let notes = held.value().notes();
-    checks.same("the entry", &notes, &[(0, 7)].as_slice());
-    checks.same("the second", &leave(&lock, held).actor(), &1);
+    cases.same("the entry", &notes, &[(0, 7)].as_slice());
+    cases.same("the second", &leave(&lock, held).actor(), &1);
     Ok(())
 }
 
@@ -142,8 +145,9 @@ pub fn entry_shows_to_the_next<R: Wait>(
 pub fn taken_turn_is_busy<R: Wait>(
     rt: &R,
     alloc: Global,
-    checks: &mut Checks,
+    cases: &mut Cases,
 ) -> Result<(), LineFault> {
+    cases.begin("taken turn");
     let (lock, mut first) = locked(alloc, 2)?;
     let second = split(rt, &lock, &mut first)?;
     let (journal, empty) = lock.enter(rt, first).take();
@@ -151,8 +155,8 @@ pub fn taken_turn_is_busy<R: Wait>(
         Ok(held) => (false, leave(&lock, held)),
         Err(busy) => (true, busy.pass),
     };
-    checks.holds("the turn is taken", is_busy);
-    checks.same("the second", &second.actor(), &1);
+    cases.holds("the turn is taken", is_busy);
+    cases.same("the second", &second.actor(), &1);
     let _first = empty.put(&lock, journal);
     let Ok(held) = lock.try_enter(second) else {
         return Err(LineFault::CallRefused);
@@ -165,8 +169,9 @@ pub fn taken_turn_is_busy<R: Wait>(
 pub fn two_threads_write<R: Threads + Wait + Sync>(
     rt: &R,
     alloc: Global,
-    checks: &mut Checks,
+    cases: &mut Cases,
 ) -> Result<(), LineFault> {
+    cases.begin("two threads");
     let (lock, mut first) = locked(alloc, 2)?;
     let second = split(rt, &lock, &mut first)?;
     let numbers = numbers_below(alloc, 1000)?;
@@ -182,9 +187,9 @@ pub fn two_threads_write<R: Threads + Wait + Sync>(
     let Ok(journal) = written else {
         return Err(LineFault::CallRefused);
     };
-    checks.same("by two threads", &journal.notes().len(), &2000);
+    cases.same("by two threads", &journal.notes().len(), &2000);
     for actor in 0..2 {
-        checks.holds("in order", wrote_in_order(journal.notes(), actor, 1000));
+        cases.holds("in order", wrote_in_order(journal.notes(), actor, 1000));
     }
     Ok(())
 }
@@ -224,8 +229,9 @@ fn write_each<R: Threads + Wait + Sync>(
 pub fn sixteen_threads_write<R: Threads + Wait + Sync>(
     rt: &R,
     alloc: Global,
-    checks: &mut Checks,
+    cases: &mut Cases,
 ) -> Result<(), LineFault> {
+    cases.begin("sixteen threads");
     let (lock, first) = locked(alloc, 16)?;
     let passes = split_all(rt, alloc, &lock, first, 15)?;
     let numbers = numbers_below(alloc, 1000)?;
@@ -233,9 +239,9 @@ pub fn sixteen_threads_write<R: Threads + Wait + Sync>(
     let Ok(journal) = lock.close(passes) else {
         return Err(LineFault::CallRefused);
     };
-    checks.same("by sixteen threads", &journal.notes().len(), &16000);
+    cases.same("by sixteen threads", &journal.notes().len(), &16000);
     for actor in 0..16 {
-        checks.holds("in order", wrote_in_order(journal.notes(), actor, 1000));
+        cases.holds("in order", wrote_in_order(journal.notes(), actor, 1000));
     }
     Ok(())
 }

@@ -1,12 +1,13 @@
 //! Rings from end to end, over sinks in memory.
 ghost use Rattle.std.specs.Prelude.{◌<◌};
 
+use crate::cases::Cases;
 use player_io::{MemSink, Sink};
 use recording_pieces::{Painters, ScenePainter, SceneSink};
 use std::alloc::{AllocError, Global};
 use std::sync::Wait;
 use std::thread::{Threads, join_mut};
-use test_table::{Checks, LineFault};
+use test_table::LineFault;
 use thread_ring::{Presented, finish, present_from, ring};
 use viz_scene::Scene;
 
@@ -47,17 +48,17 @@ impl ScenePainter for Refuser {
 fn five_through<R: Threads + Wait + Sync>(
     rt: &R,
     alloc: Global,
-    checks: &mut Checks,
+    cases: &mut Cases,
     out: &mut MemSink,
 ) -> Result<Presented, AllocError> {
     let (sink, presenter) = ring(alloc)?;
     let mut sink = sink;
     let mut presenter = presenter;
-    checks.same("1", &sink.put(&[1]), &Ok(()));
-    checks.same("2", &sink.put(&[2]), &Ok(()));
-    checks.same("3", &sink.put(&[3]), &Ok(()));
-    checks.same("4", &sink.put(&[4]), &Ok(()));
-    checks.same("5", &sink.put(&[5]), &Ok(()));
+    cases.same("1", &sink.put(&[1]), &Ok(()));
+    cases.same("2", &sink.put(&[2]), &Ok(()));
+    cases.same("3", &sink.put(&[3]), &Ok(()));
+    cases.same("4", &sink.put(&[4]), &Ok(()));
+    cases.same("5", &sink.put(&[5]), &Ok(()));
     let mut painters: Painters<Refuser> = Painters::new(alloc, 2);
     let (served, ()) = join_mut(
         rt,
@@ -92,17 +93,18 @@ fn joined(alloc: Global, pieces: &[Vec<u8>], count: usize) -> Result<Vec<u8>, Al
 pub fn five_pieces_in_order<R: Threads + Wait + Sync>(
     rt: &R,
     alloc: Global,
-    checks: &mut Checks,
+    cases: &mut Cases,
 ) -> Result<(), LineFault> {
+    cases.begin("five pieces");
     let mut endless = MemSink::endless(alloc);
-    let presented = five_through(rt, alloc, checks, &mut endless)?;
-    checks.same("to an endless sink", &presented, &Presented::Written);
+    let presented = five_through(rt, alloc, cases, &mut endless)?;
+    cases.same("to an endless sink", &presented, &Presented::Written);
     let bytes = endless.bytes();
-    checks.same("all in order", &bytes, &[1, 2, 3, 4, 5].as_slice());
+    cases.same("all in order", &bytes, &[1, 2, 3, 4, 5].as_slice());
     let mut limited = MemSink::new(alloc, 2, Vec::new(alloc));
-    let presented = five_through(rt, alloc, checks, &mut limited)?;
-    checks.same("to a limited sink", &presented, &Presented::Fault);
-    checks.same("two in order", &limited.bytes(), &[1, 2].as_slice());
+    let presented = five_through(rt, alloc, cases, &mut limited)?;
+    cases.same("to a limited sink", &presented, &Presented::Fault);
+    cases.same("two in order", &limited.bytes(), &[1, 2].as_slice());
     Ok(())
 }
 
@@ -110,23 +112,24 @@ pub fn five_pieces_in_order<R: Threads + Wait + Sync>(
 pub fn served_before_the_end<R: Threads + Wait + Sync>(
     rt: &R,
     alloc: Global,
-    checks: &mut Checks,
+    cases: &mut Cases,
 ) -> Result<(), LineFault> {
+    cases.begin("served before the end");
     let (mut sink, mut presenter) = ring(alloc)?;
     let mut painters: Painters<Refuser> = Painters::new(alloc, 1);
     for byte in 1..=70 {
-        checks.same("a piece", &sink.put(&[byte]), &Ok(()));
+        cases.same("a piece", &sink.put(&[byte]), &Ok(()));
         sink.pass_on();
     }
     sink.end();
     let mut out = MemSink::endless(alloc);
     let served = presenter.serve(rt, &mut painters, &mut out);
-    checks.same("what was passed on", &served, &Presented::Written);
-    checks.same("64 pieces", &out.bytes().len(), &64);
+    cases.same("what was passed on", &served, &Presented::Written);
+    cases.same("64 pieces", &out.bytes().len(), &64);
     sink.pass_on();
     let served = presenter.serve(rt, &mut painters, &mut out);
-    checks.same("the rest", &served, &Presented::Written);
-    checks.same("all pieces", &out.bytes().len(), &70);
+    cases.same("the rest", &served, &Presented::Written);
+    cases.same("all pieces", &out.bytes().len(), &70);
     Ok(())
 }
 
@@ -134,21 +137,22 @@ pub fn served_before_the_end<R: Threads + Wait + Sync>(
 pub fn owned_pieces_in_their_turn<R: Threads + Wait + Sync>(
     rt: &R,
     alloc: Global,
-    checks: &mut Checks,
+    cases: &mut Cases,
 ) -> Result<(), LineFault> {
+    cases.begin("owned pieces");
     let (mut sink, mut presenter) = ring(alloc)?;
-    checks.same("1", &sink.put(&[1]), &Ok(()));
+    cases.same("1", &sink.put(&[1]), &Ok(()));
     let put = sink.put_owned(vec![in alloc; 2, 3]?);
-    checks.same("two of its own", &put, &Ok(()));
+    cases.same("two of its own", &put, &Ok(()));
     let put = sink.put_owned(Vec::new(alloc));
-    checks.same("none of its own", &put, &Ok(()));
-    checks.same("4", &sink.put(&[4]), &Ok(()));
+    cases.same("none of its own", &put, &Ok(()));
+    cases.same("4", &sink.put(&[4]), &Ok(()));
     sink.end();
     let mut out = MemSink::endless(alloc);
     let mut painters: Painters<Refuser> = Painters::new(alloc, 1);
     let served = presenter.serve(rt, &mut painters, &mut out);
-    checks.same("all", &served, &Presented::Written);
-    checks.same("in their turn", &out.bytes(), &[1, 2, 3, 4].as_slice());
+    cases.same("all", &served, &Presented::Written);
+    cases.same("in their turn", &out.bytes(), &[1, 2, 3, 4].as_slice());
     Ok(())
 }
 
@@ -156,16 +160,17 @@ pub fn owned_pieces_in_their_turn<R: Threads + Wait + Sync>(
 pub fn thousand_pieces<R: Threads + Wait + Sync>(
     rt: &R,
     alloc: Global,
-    checks: &mut Checks,
+    cases: &mut Cases,
 ) -> Result<(), LineFault> {
+    cases.begin("thousand pieces");
     let pieces = pieces_of(alloc, 1000, 2741, 5000)?;
     let mut out = MemSink::endless(alloc);
     let mut painters: Painters<Refuser> = Painters::new(alloc, 2);
     let presented = present_from(rt, alloc, &pieces, &mut painters, &mut out);
-    checks.same("all", &presented, &Presented::Written);
+    cases.same("all", &presented, &Presented::Written);
     let wanted = joined(alloc, &pieces, 1000)?;
-    checks.holds("many bytes", wanted.len() > 2_000_000);
-    checks.holds("each byte", out.bytes() == wanted.as_slice());
+    cases.holds("many bytes", wanted.len() > 2_000_000);
+    cases.holds("each byte", out.bytes() == wanted.as_slice());
     Ok(())
 }
 
@@ -178,15 +183,15 @@ pub(crate) fn large(alloc: Global, byte: u8) -> Result<Vec<u8>, AllocError> {
 fn put_until<R: Threads + Sync>(
     rt: &R,
     alloc: Global,
-    checks: &mut Checks,
+    cases: &mut Cases,
     failing: u64,
 ) -> Result<(Presented, MemSink), AllocError> {
     let (sink, presenter) = ring(alloc)?;
     let mut sink = sink;
-    checks.same("piece 0", &sink.put(&large(alloc, 0)?), &Ok(()));
-    checks.same("piece 1", &sink.put(&large(alloc, 1)?), &Ok(()));
-    checks.same("piece 2", &sink.put(&large(alloc, 2)?), &Ok(()));
-    checks.same("piece 3", &sink.put(&large(alloc, 3)?), &Ok(()));
+    cases.same("piece 0", &sink.put(&large(alloc, 0)?), &Ok(()));
+    cases.same("piece 1", &sink.put(&large(alloc, 1)?), &Ok(()));
+    cases.same("piece 2", &sink.put(&large(alloc, 2)?), &Ok(()));
+    cases.same("piece 3", &sink.put(&large(alloc, 3)?), &Ok(()));
     let mut painters: Painters<Refuser> = Painters::new(alloc, 2);
     let mut out = MemSink::new(alloc, 1_000_000, vec![in alloc; failing]?);
     let served = Presented::Written;
@@ -198,13 +203,14 @@ fn put_until<R: Threads + Sync>(
 pub fn sink_fails_at_any_piece<R: Threads + Wait + Sync>(
     rt: &R,
     alloc: Global,
-    checks: &mut Checks,
+    cases: &mut Cases,
 ) -> Result<(), LineFault> {
+    cases.begin("failing sink");
     let mut front = Vec::new(alloc);
     for failing in 0..4_u8 {
-        let (answer, out) = put_until(rt, alloc, checks, failing as u64)?;
-        checks.same("it fails", &answer, &Presented::Fault);
-        checks.holds("the pieces before it", out.bytes() == front.as_slice());
+        let (answer, out) = put_until(rt, alloc, cases, failing as u64)?;
+        cases.same("it fails", &answer, &Presented::Fault);
+        cases.holds("the pieces before it", out.bytes() == front.as_slice());
         front.extend_from_slice(&large(alloc, failing)?)?;
     }
     Ok(())

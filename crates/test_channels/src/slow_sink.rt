@@ -1,5 +1,6 @@
 //! A ring whose sink is slow.
 
+use crate::cases::Cases;
 use crate::rings::{Refuser, large};
 use player_io::{MemSink, PutFault, Sink};
 use recording_pieces::{Painters, SceneSink};
@@ -8,7 +9,7 @@ use std::marker::Send;
 use std::sync::Wait;
 use std::sync::atomic::{AtomicU64, Ordering};
 use std::thread::{Threads, join_mut, yield_now};
-use test_table::{Checks, LineFault};
+use test_table::LineFault;
 use thread_ring::{Presented, RingSink, ring_within};
 
 /// How often a wait looks before it is given up, and after how many looks it lets another thread run.
@@ -106,8 +107,9 @@ fn flow_through<R: Threads + Wait + Sync, K: Sink + Send>(
 pub fn slow_sink_holds_up<R: Threads + Wait + Sync>(
     rt: &R,
     alloc: Global,
-    checks: &mut Checks,
+    cases: &mut Cases,
 ) -> Result<(), LineFault> {
+    cases.begin("slow sink");
     let piece = large(alloc, 7)?;
     let flow = Flow {
         put: AtomicU64::new(0),
@@ -119,8 +121,8 @@ pub fn slow_sink_holds_up<R: Threads + Wait + Sync>(
         flow: &flow,
     };
     let (answer, most) = flow_through(rt, alloc, &piece, &flow, &mut out)?;
-    checks.holds("a million bytes wait at most", most <= 1_000_000);
-    checks.same("all", &answer, &Presented::Written);
-    checks.same("each byte", &out.out.bytes().len(), &7_000_000);
+    cases.holds("a million bytes wait at most", most <= 1_000_000);
+    cases.same("all", &answer, &Presented::Written);
+    cases.same("each byte", &out.out.bytes().len(), &7_000_000);
     Ok(())
 }

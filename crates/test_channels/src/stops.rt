@@ -7,6 +7,7 @@ ghost use Rattle.proxy_threads.specs.Seats.{past_of};
 ghost use Rattle.thread_lock.specs.PassModels.{IsOf};
 ghost use Rattle.test_channels.specs.Passes.{IsFresh, IsStill};
 
+use crate::cases::Cases;
 use crate::lines_sink::LinesSink;
 use crate::trio::{Trio, trio_of};
 use impl_core::Core;
@@ -17,7 +18,7 @@ use proxy_threads::{CompActor, MainActor, RasterActor, Turned};
 use recording_pieces::SceneSink;
 use std::alloc::{AllocError, Global};
 use std::sync::{Arc, Wait};
-use test_table::{Checks, LineFault};
+use test_table::LineFault;
 use thread_lock::{HeldTurn, Pass, TurnLock};
 
 /// The core goes back as it was.
@@ -138,8 +139,9 @@ fn ends_with_stop(core: &Core, before: usize, actor: u32) -> bool {
 pub fn stop_ends_all_turns<R: Wait>(
     rt: &R,
     alloc: Global,
-    checks: &mut Checks,
+    cases: &mut Cases,
 ) -> Result<(), LineFault> {
+    cases.begin("stop");
     let Trio {
         lock,
         comp,
@@ -154,12 +156,12 @@ pub fn stop_ends_all_turns<R: Wait>(
     let (comp, composed) = comp_turn(rt, alloc, &lock, comp, &mut out);
     let (main, hosted) = main_turn(rt, alloc, &lock, main, script);
     let (worker, worked) = work_turn(rt, alloc, &lock, worker);
-    checks.same("the compositor", &composed, &Turned::Ended);
-    checks.same("the main side", &hosted, &Turned::Ended);
-    checks.same("the worker", &worked, &Turned::Ended);
-    checks.same("its line", &out.out.bytes(), &b"stop 2\n".as_slice());
+    cases.same("the compositor", &composed, &Turned::Ended);
+    cases.same("the main side", &hosted, &Turned::Ended);
+    cases.same("the worker", &worked, &Turned::Ended);
+    cases.same("its line", &out.out.bytes(), &b"stop 2\n".as_slice());
     let core = close(alloc, lock, comp, main, worker)?;
-    checks.holds("ends with it", ends_with_stop(&core, 0, 2));
+    cases.holds("ends with it", ends_with_stop(&core, 0, 2));
     Ok(())
 }
 
@@ -173,8 +175,9 @@ fn failing_sink(alloc: Global) -> Result<MemSink, AllocError> {
 pub fn failed_put_stops_the_run<R: Wait>(
     rt: &R,
     alloc: Global,
-    checks: &mut Checks,
+    cases: &mut Cases,
 ) -> Result<(), LineFault> {
+    cases.begin("failed put");
     let Trio {
         lock,
         comp,
@@ -187,10 +190,10 @@ pub fn failed_put_stops_the_run<R: Wait>(
     };
     let (comp, composed) = comp_turn(rt, alloc, &lock, comp, &mut out);
     let (main, hosted) = main_turn(rt, alloc, &lock, main, script);
-    checks.same("the compositor", &composed, &Turned::WriteFault);
-    checks.same("the main side", &hosted, &Turned::Ended);
-    checks.holds("no byte", out.out.bytes().is_empty());
+    cases.same("the compositor", &composed, &Turned::WriteFault);
+    cases.same("the main side", &hosted, &Turned::Ended);
+    cases.holds("no byte", out.out.bytes().is_empty());
     let core = close(alloc, lock, comp, main, worker)?;
-    checks.holds("ends with a stop", ends_with_stop(&core, 1, 0));
+    cases.holds("ends with a stop", ends_with_stop(&core, 1, 0));
     Ok(())
 }

@@ -1,12 +1,13 @@
 //! The answers of the sources and sinks, call by call, each through its trait.
 ghost use Rattle.std.specs.Prelude.{◌≤◌, IfOk};
 
+use crate::cases::Cases;
 use player_io::{
     Failed, Gate, MemSink, MemSource, OpenGate, PutFault, Sink, Source, StdSink, StdSource,
 };
 use std::alloc::{AllocError, Global};
 use std::io::{Error, ErrorKind, Read, Write};
-use test_table::{Checks, LineFault};
+use test_table::LineFault;
 
 /// What one call of a fake reader or writer does.
 #[derive(Clone, Copy)]
@@ -70,51 +71,54 @@ fn put_owned_once<K: Sink>(sink: &mut K, piece: Vec<u8>) -> Result<(), PutFault>
 }
 
 /// A source in memory gives in steps, and fails as told.
-pub fn memory_gives_in_steps(alloc: Global, checks: &mut Checks) -> Result<(), LineFault> {
+pub fn memory_gives_in_steps(alloc: Global, cases: &mut Cases) -> Result<(), LineFault> {
+    cases.begin("memory source");
     let bytes = vec![in alloc; 1, 2, 3, 4, 5]?;
     let fails = vec![in alloc; 1]?;
     let mut source = MemSource::new(bytes, 2, fails);
     let mut buf = [0; 3];
     let read = read_once(&mut source, &mut buf);
-    checks.same("two bytes a call", &read, &Ok(2));
-    checks.same("the first two", &buf, &[1, 2, 0]);
+    cases.same("two bytes a call", &read, &Ok(2));
+    cases.same("the first two", &buf, &[1, 2, 0]);
     let read = read_once(&mut source, &mut buf);
-    checks.same("the second call fails", &read, &Err(Failed));
+    cases.same("the second call fails", &read, &Err(Failed));
     let read = read_once(&mut source, &mut buf[..1]);
-    checks.same("as many as asked", &read, &Ok(1));
-    checks.same("the third", &buf, &[3, 2, 0]);
+    cases.same("as many as asked", &read, &Ok(1));
+    cases.same("the third", &buf, &[3, 2, 0]);
     let read = read_once(&mut source, &mut buf);
-    checks.same("the last two", &read, &Ok(2));
-    checks.same("the fourth and the fifth", &buf, &[4, 5, 0]);
-    checks.same("no more", &read_once(&mut source, &mut buf), &Ok(0));
+    cases.same("the last two", &read, &Ok(2));
+    cases.same("the fourth and the fifth", &buf, &[4, 5, 0]);
+    cases.same("no more", &read_once(&mut source, &mut buf), &Ok(0));
     Ok(())
 }
 
 /// A sink in memory takes up to its limit, and fails as told.
-pub fn memory_takes_up_to_its_limit(alloc: Global, checks: &mut Checks) -> Result<(), LineFault> {
+pub fn memory_takes_up_to_its_limit(alloc: Global, cases: &mut Cases) -> Result<(), LineFault> {
+    cases.begin("memory sink");
     let fails = vec![in alloc; 1]?;
     let mut sink = MemSink::new(alloc, 495, fails);
     let piece = [7; 248];
-    checks.same("there is room", &put_once(&mut sink, &piece), &Ok(()));
+    cases.same("there is room", &put_once(&mut sink, &piece), &Ok(()));
     let put = put_once(&mut sink, &piece);
-    checks.same("the second put fails", &put, &Err(PutFault::Failed));
-    checks.same("as before", &sink.bytes().len(), &248);
+    cases.same("the second put fails", &put, &Err(PutFault::Failed));
+    cases.same("as before", &sink.bytes().len(), &248);
     let put = put_once(&mut sink, &piece);
-    checks.same("a prefix fits", &put, &Err(PutFault::Failed));
-    checks.same("up to the limit", &sink.bytes().len(), &495);
-    checks.same("nothing fits", &put_once(&mut sink, &[]), &Ok(()));
+    cases.same("a prefix fits", &put, &Err(PutFault::Failed));
+    cases.same("up to the limit", &sink.bytes().len(), &495);
+    cases.same("nothing fits", &put_once(&mut sink, &[]), &Ok(()));
     let mut endless = MemSink::endless(alloc);
-    checks.same("endless", &put_once(&mut endless, &[1, 2]), &Ok(()));
-    checks.same("one more", &put_once(&mut endless, &[3]), &Ok(()));
+    cases.same("endless", &put_once(&mut endless, &[1, 2]), &Ok(()));
+    cases.same("one more", &put_once(&mut endless, &[3]), &Ok(()));
     let put = put_owned_once(&mut endless, vec![in alloc; 4, 5]?);
-    checks.same("a piece of its own", &put, &Ok(()));
+    cases.same("a piece of its own", &put, &Ok(()));
     let bytes = endless.bytes();
-    checks.same("all in order", &bytes, &[1, 2, 3, 4, 5].as_slice());
+    cases.same("all in order", &bytes, &[1, 2, 3, 4, 5].as_slice());
     Ok(())
 }
 
 /// Adapters go on after interrupts and short writes.
-pub fn adapters_go_on(alloc: Global, checks: &mut Checks) -> Result<(), LineFault> {
+pub fn adapters_go_on(alloc: Global, cases: &mut Cases) -> Result<(), LineFault> {
+    cases.begin("adapters");
     let steps = vec![in alloc;
         Step::Fails(ErrorKind::Interrupted),
         Step::Moves(2),
@@ -124,11 +128,11 @@ pub fn adapters_go_on(alloc: Global, checks: &mut Checks) -> Result<(), LineFaul
     let mut source = StdSource::new(Scripted { steps, next: 0 });
     let mut buf = [0; 3];
     let read = read_once(&mut source, &mut buf);
-    checks.same("after an interrupt", &read, &Ok(2));
+    cases.same("after an interrupt", &read, &Ok(2));
     let read = read_once(&mut source, &mut buf);
-    checks.same("a failure", &read, &Err(Failed));
-    checks.same("after it", &read_once(&mut source, &mut buf), &Ok(1));
-    checks.same("no more", &read_once(&mut source, &mut buf), &Ok(0));
+    cases.same("a failure", &read, &Err(Failed));
+    cases.same("after it", &read_once(&mut source, &mut buf), &Ok(1));
+    cases.same("no more", &read_once(&mut source, &mut buf), &Ok(0));
     let steps = vec![in alloc;
         Step::Moves(2),
         Step::Fails(ErrorKind::Interrupted),
@@ -138,16 +142,17 @@ pub fn adapters_go_on(alloc: Global, checks: &mut Checks) -> Result<(), LineFaul
     ]?;
     let mut sink = StdSink::new(Scripted { steps, next: 0 });
     let put = put_once(&mut sink, &[1, 2, 3]);
-    checks.same("after a short write", &put, &Ok(()));
+    cases.same("after a short write", &put, &Ok(()));
     let put = put_once(&mut sink, &[4, 5]);
-    checks.same("no room for all", &put, &Err(PutFault::Failed));
+    cases.same("no room for all", &put, &Err(PutFault::Failed));
     let put = put_once(&mut sink, &[6]);
-    checks.same("failed before", &put, &Err(PutFault::Failed));
-    checks.same("nothing to write", &put_once(&mut sink, &[]), &Ok(()));
+    cases.same("failed before", &put, &Err(PutFault::Failed));
+    cases.same("nothing to write", &put_once(&mut sink, &[]), &Ok(()));
     Ok(())
 }
 
 /// An open gate lets everybody through.
-pub fn open_gate(checks: &mut Checks) {
-    checks.same("through", &OpenGate.between(1, 2, 3, 4), &());
+pub fn open_gate(cases: &mut Cases) {
+    cases.begin("open gate");
+    cases.same("through", &OpenGate.between(1, 2, 3, 4), &());
 }
