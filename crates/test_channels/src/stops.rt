@@ -5,7 +5,7 @@ ghost use Rattle.model_history.specs.Scans.{held};
 ghost use Rattle.impl_core.specs.Origins.{Origin};
 ghost use Rattle.proxy_threads.specs.Seats.{past_of};
 ghost use Rattle.thread_lock.specs.PassModels.{IsOf};
-ghost use Rattle.test_channels.specs.Passes.{IsFresh, IsStill};
+ghost use Rattle.test_channels.specs.Passes.{IsBegun, IsFree, IsFresh, IsStill};
 
 use crate::cases::Cases;
 use crate::lines_sink::LinesSink;
@@ -87,10 +87,7 @@ fn work_turn<R: Wait>(
     lock: &TurnLock<Core>,
     pass: Pass<Core>,
 ) -> (Pass<Core>, Turned)
-    requires of { IsOf lock.now pass }
-    requires actor { pass.actor ≡ 2 }
-    requires stem { (o : Origin) × (pass.stem ≡ Some o) × (0 < o.workers) }
-    requires free { held 0 (past_of pass.mine) ≡ None }
+    requires { IsFree lock.now pass }
     ensures { IsStill pass result.0 }
 {
     let mut worker = RasterActor::new(alloc, pass, 0, &OpenGate);
@@ -98,23 +95,47 @@ fn work_turn<R: Wait>(
     (worker.pass(), answer)
 }
 
-/// The core, once all passes have come back.
-fn close(
-    alloc: Global,
+/// The lock and the passes of the three actors, after turns.
+#[derive(Drop)]
+struct Left {
     lock: TurnLock<Core>,
     comp: Pass<Core>,
     main: Pass<Core>,
     worker: Pass<Core>,
-) -> Result<Core, LineFault>
-    requires { IsOf lock comp × IsOf lock main × IsOf lock worker }
+}
+
+/// One turn of the compositor, which is to answer as given, and then one of the main side, for which the run has
+/// ended.
+fn two_turns<R: Wait>(
+    rt: &R,
+    alloc: Global,
+    trio: Trio,
+    out: &mut LinesSink,
+    wanted: Turned,
+    cases: &mut Cases,
+) -> Left
+    requires begun { IsBegun trio }
+    ensures lock { result.lock ≡ trio.lock }
+    ensures comp { IsOf result.lock result.comp }
+    ensures main { IsOf result.lock result.main }
+    ensures worker { result.worker ≡ trio.worker }
 {
-    let mut passes = Vec::new(alloc);
-    passes.push(comp)?;
-    passes.push(main)?;
-    passes.push(worker)?;
-    match lock.close(passes) {
-        Ok(core) => Ok(core),
-        Err(_) => Err(LineFault::CallRefused),
+    let Trio {
+        lock,
+        comp,
+        main,
+        worker,
+        script,
+    } = trio;
+    let (comp, composed) = comp_turn(rt, alloc, &lock, comp, out);
+    let (main, hosted) = main_turn(rt, alloc, &lock, main, script);
+    cases.same("the compositor", &composed, &wanted);
+    cases.same("the main side", &hosted, &Turned::Ended);
+    Left {
+        lock,
+        comp,
+        main,
+        worker,
     }
 }
 
@@ -127,12 +148,85 @@ fn is_stop(event: &Event, actor: u32) -> bool {
 }
 
 /// Whether the history is nothing but the events before the stop of this actor, and that.
-fn ends_with_stop(core: &Core, before: usize, actor: u32) -> bool {
+fn is_stopped(core: &Core, before: usize, actor: u32) -> bool {
     let history = core.history();
     history.len() == before.saturating_add(1)
         && history
             .get(before)
             .is_some_and(|last| last.actor == actor && is_stop(&last.event, actor))
+}
+
+/// Whether the history, once all passes have come back, is nothing but the events before the stop of this actor, and
+/// that.
+fn ends_with_stop(
+    alloc: Global,
+    left: Left,
+    before: usize,
+    actor: u32,
+) -> Result<bool, LineFault>
+    requires comp { IsOf left.lock left.comp }
+    requires main { IsOf left.lock left.main }
+    requires worker { IsOf left.lock left.worker }
+{
+    let Left {
+        lock,
+        comp,
+        main,
+        worker,
+    } = left;
+    let passes = vec![in alloc; comp, main, worker]?;
+    match lock.close(passes) {
+        Ok(core) => Ok(is_stopped(&core, before, actor)),
+        Err(_) => Err(LineFault::CallRefused),
+    }
+}
+
+/// The actors of a new run in which worker 0 has entered its stop.
+fn stopped_trio<R: Wait>(rt: &R, alloc: Global) -> Result<Trio, LineFault>
+    ensures begun { IfOk result IsBegun }
+    ensures worker { IfOk result (λ trio. IsFree trio.lock trio.worker) }
+{
+    let Trio {
+        lock,
+        comp,
+        main,
+        worker,
+        script,
+    } = trio_of(rt, alloc)?;
+    match stop(rt, &lock, worker) {
+        Ok(worker) => Ok(Trio {
+            lock,
+            comp,
+            main,
+            worker,
+            script,
+        }),
+        Err(fault) => Err(fault),
+    }
+}
+
+/// The worker's turn after a stop, for which the run has ended.
+fn worker_ends<R: Wait>(rt: &R, alloc: Global, left: Left, cases: &mut Cases) -> Left
+    requires worker { IsFree left.lock left.worker }
+    ensures lock { result.lock ≡ left.lock }
+    ensures comp { result.comp ≡ left.comp }
+    ensures main { result.main ≡ left.main }
+    ensures worker { IsOf result.lock result.worker }
+{
+    let Left {
+        lock,
+        comp,
+        main,
+        worker,
+    } = left;
+    let (worker, worked) = work_turn(rt, alloc, &lock, worker);
+    cases.same("the worker", &worked, &Turned::Ended);
+    Left {
+        lock,
+        comp,
+        main,
+        worker,
+    }
 }
 
 /// A stop ends the turns of all.
@@ -142,26 +236,14 @@ pub fn stop_ends_all_turns<R: Wait>(
     cases: &mut Cases,
 ) -> Result<(), LineFault> {
     cases.begin("stop");
-    let Trio {
-        lock,
-        comp,
-        main,
-        worker,
-        script,
-    } = trio_of(rt, alloc)?;
-    let worker = stop(rt, &lock, worker)?;
+    let trio = stopped_trio(rt, alloc)?;
     let mut out = LinesSink {
         out: MemSink::endless(alloc),
     };
-    let (comp, composed) = comp_turn(rt, alloc, &lock, comp, &mut out);
-    let (main, hosted) = main_turn(rt, alloc, &lock, main, script);
-    let (worker, worked) = work_turn(rt, alloc, &lock, worker);
-    cases.same("the compositor", &composed, &Turned::Ended);
-    cases.same("the main side", &hosted, &Turned::Ended);
-    cases.same("the worker", &worked, &Turned::Ended);
+    let left = two_turns(rt, alloc, trio, &mut out, Turned::Ended, cases);
+    let left = worker_ends(rt, alloc, left, cases);
     cases.same("its line", &out.out.bytes(), &b"stop 2\n".as_slice());
-    let core = close(alloc, lock, comp, main, worker)?;
-    cases.holds("ends with it", ends_with_stop(&core, 0, 2));
+    cases.holds("ends with it", ends_with_stop(alloc, left, 0, 2)?);
     Ok(())
 }
 
@@ -178,22 +260,12 @@ pub fn failed_put_stops_the_run<R: Wait>(
     cases: &mut Cases,
 ) -> Result<(), LineFault> {
     cases.begin("failed put");
-    let Trio {
-        lock,
-        comp,
-        main,
-        worker,
-        script,
-    } = trio_of(rt, alloc)?;
     let mut out = LinesSink {
         out: failing_sink(alloc)?,
     };
-    let (comp, composed) = comp_turn(rt, alloc, &lock, comp, &mut out);
-    let (main, hosted) = main_turn(rt, alloc, &lock, main, script);
-    cases.same("the compositor", &composed, &Turned::WriteFault);
-    cases.same("the main side", &hosted, &Turned::Ended);
+    let trio = trio_of(rt, alloc)?;
+    let left = two_turns(rt, alloc, trio, &mut out, Turned::WriteFault, cases);
     cases.holds("no byte", out.out.bytes().is_empty());
-    let core = close(alloc, lock, comp, main, worker)?;
-    cases.holds("ends with a stop", ends_with_stop(&core, 1, 0));
+    cases.holds("ends with a stop", ends_with_stop(alloc, left, 1, 0)?);
     Ok(())
 }

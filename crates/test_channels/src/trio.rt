@@ -2,7 +2,7 @@
 
 ghost use Rattle.std.specs.Prelude.{◌≡◌, ◌≤◌, Some, IfOk};
 ghost use Rattle.impl_core.specs.Origins.{Origin};
-ghost use Rattle.test_channels.specs.Passes.{IsFresh, IsStill};
+ghost use Rattle.test_channels.specs.Passes.{IsBegun, IsFresh, IsStill};
 
 use impl_core::Core;
 use model_history::Script;
@@ -62,10 +62,8 @@ fn split<R: Wait>(
 
 /// The actors of a new run of the script with one worker.
 pub fn trio_of<R: Wait>(rt: &R, alloc: Global) -> Result<Trio, LineFault>
-    ensures comp { IfOk result (λ trio. IsFresh trio.lock 0 trio.comp) }
-    ensures main { IfOk result (λ trio. IsFresh trio.lock 1 trio.main) }
+    ensures begun { IfOk result IsBegun }
     ensures worker { IfOk result (λ trio. IsFresh trio.lock 2 trio.worker) }
-    ensures main_stem { IfOk result (λ trio. trio.main.stem ≡ Some (record { script = trio.script.value; workers = 1 })) }
     ensures worker_stem { IfOk result (λ trio. trio.worker.stem ≡ Some (record { script = trio.script.value; workers = 1 })) }
 {
     let Ok(read) = read_script(alloc, SCRIPT) else {
