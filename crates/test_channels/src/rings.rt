@@ -1,5 +1,6 @@
 //! Rings from end to end, over sinks in memory.
 ghost use Rattle.std.specs.Prelude.{◌<◌};
+ghost use Rattle.thread_ring.specs.Ring.{SameSink};
 
 use crate::cases::Cases;
 use player_io::{MemSink, Sink};
@@ -8,7 +9,7 @@ use std::alloc::{AllocError, Global};
 use std::sync::Wait;
 use std::thread::{Threads, join_mut};
 use test_table::LineFault;
-use thread_ring::{Presented, finish, present_from, ring};
+use thread_ring::{Presented, RingSink, finish, present_from, ring};
 use viz_scene::Scene;
 
 /// A painter that never finds memory.
@@ -44,6 +45,17 @@ impl ScenePainter for Refuser {
     }
 }
 
+/// Puts the bytes 1 to 5, one by one.
+fn put_five(sink: &mut RingSink, cases: &mut Cases)
+    ensures { SameSink sink.old sink.new }
+{
+    cases.same("1", &sink.put(&[1]), &Ok(()));
+    cases.same("2", &sink.put(&[2]), &Ok(()));
+    cases.same("3", &sink.put(&[3]), &Ok(()));
+    cases.same("4", &sink.put(&[4]), &Ok(()));
+    cases.same("5", &sink.put(&[5]), &Ok(()));
+}
+
 /// The bytes 1 to 5, put one by one, through a ring into `out`.
 fn five_through<R: Threads + Wait + Sync>(
     rt: &R,
@@ -54,11 +66,7 @@ fn five_through<R: Threads + Wait + Sync>(
     let (sink, presenter) = ring(alloc)?;
     let mut sink = sink;
     let mut presenter = presenter;
-    cases.same("1", &sink.put(&[1]), &Ok(()));
-    cases.same("2", &sink.put(&[2]), &Ok(()));
-    cases.same("3", &sink.put(&[3]), &Ok(()));
-    cases.same("4", &sink.put(&[4]), &Ok(()));
-    cases.same("5", &sink.put(&[5]), &Ok(()));
+    put_five(&mut sink, cases);
     let mut painters: Painters<Refuser> = Painters::new(alloc, 2);
     let (served, ()) = join_mut(
         rt,
@@ -108,6 +116,15 @@ pub fn five_pieces_in_order<R: Threads + Wait + Sync>(
     Ok(())
 }
 
+/// Puts 70 pieces of one byte, more than the ring has places for, and ends.
+fn put_seventy(sink: &mut RingSink, cases: &mut Cases) {
+    for byte in 1..=70 {
+        cases.same("a piece", &sink.put(&[byte]), &Ok(()));
+        sink.pass_on();
+    }
+    sink.end();
+}
+
 /// What is in the ring is served before the end is seen.
 pub fn served_before_the_end<R: Threads + Wait + Sync>(
     rt: &R,
@@ -117,11 +134,7 @@ pub fn served_before_the_end<R: Threads + Wait + Sync>(
     cases.begin("served before the end");
     let (mut sink, mut presenter) = ring(alloc)?;
     let mut painters: Painters<Refuser> = Painters::new(alloc, 1);
-    for byte in 1..=70 {
-        cases.same("a piece", &sink.put(&[byte]), &Ok(()));
-        sink.pass_on();
-    }
-    sink.end();
+    put_seventy(&mut sink, cases);
     let mut out = MemSink::endless(alloc);
     let served = presenter.serve(rt, &mut painters, &mut out);
     cases.same("what was passed on", &served, &Presented::Written);
@@ -133,6 +146,21 @@ pub fn served_before_the_end<R: Threads + Wait + Sync>(
     Ok(())
 }
 
+/// Puts 1, then 2 and 3 and then nothing as pieces of their own, then 4.
+fn put_owned_pieces(
+    alloc: Global,
+    sink: &mut RingSink,
+    cases: &mut Cases,
+) -> Result<(), LineFault> {
+    let own = vec![in alloc; 2, 3]?;
+    cases.same("1", &sink.put(&[1]), &Ok(()));
+    cases.same("two of its own", &sink.put_owned(own), &Ok(()));
+    let put = sink.put_owned(Vec::new(alloc));
+    cases.same("none of its own", &put, &Ok(()));
+    cases.same("4", &sink.put(&[4]), &Ok(()));
+    Ok(())
+}
+
 /// Owned pieces go in their turn.
 pub fn owned_pieces_in_their_turn<R: Threads + Wait + Sync>(
     rt: &R,
@@ -141,19 +169,14 @@ pub fn owned_pieces_in_their_turn<R: Threads + Wait + Sync>(
 ) -> Result<(), LineFault> {
     cases.begin("owned pieces");
     let (mut sink, mut presenter) = ring(alloc)?;
-    cases.same("1", &sink.put(&[1]), &Ok(()));
-    let put = sink.put_owned(vec![in alloc; 2, 3]?);
-    cases.same("two of its own", &put, &Ok(()));
-    let put = sink.put_owned(Vec::new(alloc));
-    cases.same("none of its own", &put, &Ok(()));
-    cases.same("4", &sink.put(&[4]), &Ok(()));
+    let put = put_owned_pieces(alloc, &mut sink, cases);
     sink.end();
     let mut out = MemSink::endless(alloc);
     let mut painters: Painters<Refuser> = Painters::new(alloc, 1);
     let served = presenter.serve(rt, &mut painters, &mut out);
     cases.same("all", &served, &Presented::Written);
     cases.same("in their turn", &out.bytes(), &[1, 2, 3, 4].as_slice());
-    Ok(())
+    put
 }
 
 /// A thousand pieces go through.
@@ -179,24 +202,64 @@ pub(crate) fn large(alloc: Global, byte: u8) -> Result<Vec<u8>, AllocError> {
     Ok(vec![in alloc; byte; 70_000]?)
 }
 
-/// The answer and the sink where four large pieces are put into a sink that fails at a put.
-fn put_until<R: Threads + Sync>(
+/// Puts a large piece of this byte.
+fn put_large(
+    alloc: Global,
+    sink: &mut RingSink,
+    byte: u8,
+    what: &str,
+    cases: &mut Cases,
+) -> Result<(), AllocError>
+    ensures { SameSink sink.old sink.new }
+{
+    let piece = large(alloc, byte)?;
+    cases.same(what, &sink.put(&piece), &Ok(()));
+    Ok(())
+}
+
+/// Puts four large pieces.
+fn put_four(alloc: Global, sink: &mut RingSink, cases: &mut Cases) -> Result<(), AllocError>
+    ensures { SameSink sink.old sink.new }
+{
+    put_large(alloc, sink, 0, "piece 0", cases)?;
+    put_large(alloc, sink, 1, "piece 1", cases)?;
+    put_large(alloc, sink, 2, "piece 2", cases)?;
+    put_large(alloc, sink, 3, "piece 3", cases)
+}
+
+/// Four large pieces, through a ring into `out`.
+fn four_through<R: Threads + Sync>(
     rt: &R,
     alloc: Global,
     cases: &mut Cases,
-    failing: u64,
-) -> Result<(Presented, MemSink), AllocError> {
+    out: &mut MemSink,
+) -> Result<Presented, AllocError> {
     let (sink, presenter) = ring(alloc)?;
     let mut sink = sink;
-    cases.same("piece 0", &sink.put(&large(alloc, 0)?), &Ok(()));
-    cases.same("piece 1", &sink.put(&large(alloc, 1)?), &Ok(()));
-    cases.same("piece 2", &sink.put(&large(alloc, 2)?), &Ok(()));
-    cases.same("piece 3", &sink.put(&large(alloc, 3)?), &Ok(()));
+    let put = put_four(alloc, &mut sink, cases);
     let mut painters: Painters<Refuser> = Painters::new(alloc, 2);
-    let mut out = MemSink::new(alloc, 1_000_000, vec![in alloc; failing]?);
     let served = Presented::Written;
-    let answer = finish(rt, sink, presenter, served, &mut painters, &mut out);
-    Ok((answer, out))
+    let answer = finish(rt, sink, presenter, served, &mut painters, out);
+    match put {
+        Ok(()) => Ok(answer),
+        Err(refused) => Err(refused),
+    }
+}
+
+/// Tries a sink that fails at a put, which is to have the large pieces before it. They are in `before`, to which the
+/// next one is added.
+fn try_failing<R: Threads + Sync>(
+    rt: &R,
+    alloc: Global,
+    failing: u8,
+    before: &mut Vec<u8>,
+    cases: &mut Cases,
+) -> Result<(), AllocError> {
+    let mut out = MemSink::new(alloc, 1_000_000, vec![in alloc; failing as u64]?);
+    let answer = four_through(rt, alloc, cases, &mut out)?;
+    cases.same("it fails", &answer, &Presented::Fault);
+    cases.holds("the pieces before it", out.bytes() == before.as_slice());
+    before.extend_from_slice(&large(alloc, failing)?)
 }
 
 /// A sink may fail at any piece: it has those before it.
@@ -206,12 +269,9 @@ pub fn sink_fails_at_any_piece<R: Threads + Wait + Sync>(
     cases: &mut Cases,
 ) -> Result<(), LineFault> {
     cases.begin("failing sink");
-    let mut front = Vec::new(alloc);
+    let mut before = Vec::new(alloc);
     for failing in 0..4_u8 {
-        let (answer, out) = put_until(rt, alloc, cases, failing as u64)?;
-        cases.same("it fails", &answer, &Presented::Fault);
-        cases.holds("the pieces before it", out.bytes() == front.as_slice());
-        front.extend_from_slice(&large(alloc, failing)?)?;
+        try_failing(rt, alloc, failing, &mut before, cases)?;
     }
     Ok(())
 }

@@ -158,12 +158,7 @@ fn is_stopped(core: &Core, before: usize, actor: u32) -> bool {
 
 /// Whether the history, once all passes have come back, is nothing but the events before the stop of this actor, and
 /// that.
-fn ends_with_stop(
-    alloc: Global,
-    left: Left,
-    before: usize,
-    actor: u32,
-) -> Result<bool, LineFault>
+fn ends_with_stop(alloc: Global, left: Left, before: usize, actor: u32) -> Result<bool, LineFault>
     requires comp { IsOf left.lock left.comp }
     requires main { IsOf left.lock left.main }
     requires worker { IsOf left.lock left.worker }

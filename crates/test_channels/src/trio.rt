@@ -26,12 +26,20 @@ pub struct Trio {
     pub script: Arc<Script>,
 }
 
+/// The script, read.
+fn script_of(alloc: Global) -> Result<Arc<Script>, LineFault> {
+    match read_script(alloc, SCRIPT) {
+        Ok(script) => Ok(Arc::new(alloc, script)?),
+        Err(_) => Err(LineFault::CallRefused),
+    }
+}
+
 /// A lock around a new core of a script with one worker, and its first pass.
-fn lock_of(alloc: Global, script: Arc<Script>) -> Result<(TurnLock<Core>, Pass<Core>), AllocError>
+fn lock_of(alloc: Global, script: &Arc<Script>) -> Result<(TurnLock<Core>, Pass<Core>), AllocError>
     ensures pass { IfOk result (λ made. IsFresh made.0 0 made.1) }
-    ensures stem { IfOk result (λ made. made.1.stem ≡ Some (record { script = script.value; workers = 1 })) }
+    ensures stem { IfOk result (λ made. made.1.stem ≡ Some (record { script = script.now.value; workers = 1 })) }
 {
-    let core = Core::new(alloc, script, 1)?;
+    let core = Core::new(alloc, Arc::try_clone(script)?, 1)?;
     match TurnLock::new(alloc, core, 3) {
         Ok(made) => Ok(made),
         Err((refused, _core)) => Err(refused),
@@ -60,25 +68,42 @@ fn split<R: Wait>(
     Ok(made)
 }
 
+/// The passes of the main side and of the worker, made of the compositor's.
+fn two_more<R: Wait>(
+    rt: &R,
+    lock: &TurnLock<Core>,
+    comp: &mut Pass<Core>,
+) -> Result<(Pass<Core>, Pass<Core>), LineFault>
+    requires { IsFresh lock.now 0 comp.old }
+    ensures comp { IsFresh lock.now 0 comp.new }
+    ensures main { IfOk result (λ made. IsFresh lock.now 1 made.0) }
+    ensures main_stem { IfOk result (λ made. made.0.stem ≡ comp.old.stem) }
+    ensures worker { IfOk result (λ made. IsFresh lock.now 2 made.1) }
+    ensures worker_stem { IfOk result (λ made. made.1.stem ≡ comp.old.stem) }
+{
+    let main = split(rt, lock, comp, 1)?;
+    match split(rt, lock, comp, 2) {
+        Ok(worker) => Ok((main, worker)),
+        Err(fault) => Err(fault),
+    }
+}
+
 /// The actors of a new run of the script with one worker.
 pub fn trio_of<R: Wait>(rt: &R, alloc: Global) -> Result<Trio, LineFault>
     ensures begun { IfOk result IsBegun }
     ensures worker { IfOk result (λ trio. IsFresh trio.lock 2 trio.worker) }
     ensures worker_stem { IfOk result (λ trio. trio.worker.stem ≡ Some (record { script = trio.script.value; workers = 1 })) }
 {
-    let Ok(read) = read_script(alloc, SCRIPT) else {
-        return Err(LineFault::CallRefused);
-    };
-    let script = Arc::new(alloc, read)?;
-    let shared = Arc::try_clone(&script).map_err(|_| AllocError)?;
-    let (lock, mut comp) = lock_of(alloc, shared)?;
-    let main = split(rt, &lock, &mut comp, 1)?;
-    let worker = split(rt, &lock, &mut comp, 2)?;
-    Ok(Trio {
-        lock,
-        comp,
-        main,
-        worker,
-        script,
-    })
+    let script = script_of(alloc)?;
+    let (lock, mut comp) = lock_of(alloc, &script)?;
+    match two_more(rt, &lock, &mut comp) {
+        Ok((main, worker)) => Ok(Trio {
+            lock,
+            comp,
+            main,
+            worker,
+            script,
+        }),
+        Err(fault) => Err(fault),
+    }
 }
