@@ -93,12 +93,17 @@ impl Drop for Case {
     }
 }
 
+/// Adds a word, `""` for an empty one.
+fn add_word(alloc: Global, words: &mut Vec<String>, word: &str) -> Result<(), ProgramRowFault> {
+    let word = if word == "\"\"" { "" } else { word };
+    Ok(words.push(word.to_string(alloc)?)?)
+}
+
 /// The words of a text, `""` for an empty one.
 fn words_of(alloc: Global, text: &str) -> Result<Vec<String>, ProgramRowFault> {
     let mut words = Vec::new(alloc);
     for word in text.split_whitespace() {
-        let word = if word == "\"\"" { "" } else { word };
-        words.push(word.to_string(alloc)?)?;
+        add_word(alloc, &mut words, word)?;
     }
     Ok(words)
 }
