@@ -3,11 +3,16 @@
 
 usage: tools/audit.py [--look] [--jobs N] [CRATE..]
 
-The gate tries the edits in crates/NAME/must-fail/. Others lie in crates/NAME/audit/: this puts them beside the first
-in a copy of the tree, outside the repository, and runs `rt must-fail` there on the crates that are named, or on all
-that have edits; with --jobs on that many crates side by side. What the repository has kept of proved libraries, of the
-gate too, is used. It prints a line an edit and counts them; the status is 1 where one was not refused. For all crates
-it takes hours. --look tries no edit and says only whether each in audit/ can be applied.
+The gate tries the edits in crates/NAME/must-fail/. Others lie in crates/NAME/audit/: this tries both in a copy of the
+tree, outside the repository, on the crates that are named, or on all that have edits; with --jobs on that many crates
+side by side. What the repository has kept of proved libraries, of the gate too, is used.
+
+Edits in different functions are tried together: one check looks at these functions alone, and each has to be refused
+for what stands in itself. An edit of which that tells nothing, since it changes what isn't a function or the function
+is still proved, is tried alone by `rt must-fail`, which proves the whole crate first.
+
+It prints a line an edit and counts them; the status is 1 where one was not refused. --look tries no edit and says only
+whether each in audit/ can be applied.
 """
 import argparse
 import concurrent.futures
@@ -26,10 +31,16 @@ import threading
 sys.dont_write_bytecode = True
 import gate_libraries
 from crate_list import CRATES, ROOT, CrateList
+from edits import EditFault, functions_of, texts_with
 
 FOLDERS = ("must-fail", "audit")
 # What rt keeps of a proved library, and looks at by a sum of the text that it was made from.
 KEPT = "out/rlib"
+# What a check tells of a function that is not proved, and those parts of it that tell of another function.
+NOT_PROVED = re.compile(r"fn (\S+): (not proved|no proof: .+)")
+OF_OTHERS = re.compile(r"(?:no proof: |; )(?:it calls|it passes|a call of)[^;]*")
+# What tells of the place of a goal.
+GOAL = re.compile(r"(?:note: )?\S+:\d+:\d+: ")
 
 
 def edits_of(crate):
@@ -39,26 +50,11 @@ def edits_of(crate):
 
 def fault_of(edit):
     """Why an edit can't be applied, if it can't."""
-    crate, path, pairs = edit.parent.parent, None, 0
-    texts = {}
-    old = None
-    for line in edit.read_text().split("\n"):
-        word, _, rest = line.partition(":")
-        rest = rest.removeprefix(" ")
-        if word == "file":
-            path = crate / rest.strip()
-            if not path.is_file():
-                return f"there is no file {rest.strip()}"
-            texts.setdefault(path, path.read_text())
-        elif word == "old":
-            old = rest
-        elif word == "new":
-            if path is None or not old:
-                return "`new:` stands before `file:` or `old:`"
-            if texts[path].count(old) != 1:
-                return f"what it replaces stands {texts[path].count(old)} times in {path.relative_to(crate)}: {old.strip()}"
-            texts[path], old, pairs = texts[path].replace(old, rest), None, pairs + 1
-    return None if pairs else "it has no `old:` and `new:`"
+    try:
+        texts_with(edit.parent.parent, [edit])
+    except EditFault as fault:
+        return str(fault)
+    return None
 
 
 def look():
@@ -95,6 +91,7 @@ class Lanes:
     def __init__(self, top, count, names):
         self.folders = [top / str(number) for number in range(count)]
         self.idle, self.running, self.lock = queue.Queue(), set(), threading.Lock()
+        self.is_over = False
         copy_tree(self.folders[0], names)
         for folder in self.folders[1:]:
             shutil.copytree(self.folders[0], folder, copy_function=os.link)
@@ -112,9 +109,11 @@ class Lanes:
 
     def call(self, words, folder):
         """Runs a command and answers its status and its output."""
-        process = subprocess.Popen(words, cwd=folder, stdin=subprocess.DEVNULL, stdout=subprocess.PIPE, stderr=subprocess.STDOUT, text=True,
-                                   errors="replace", start_new_session=True)
         with self.lock:
+            if self.is_over:
+                raise RuntimeError("stopped")
+            process = subprocess.Popen(words, cwd=folder, stdin=subprocess.DEVNULL, stdout=subprocess.PIPE, stderr=subprocess.STDOUT, text=True,
+                                       errors="replace", start_new_session=True)
             self.running.add(process)
         said, _ = process.communicate()
         with self.lock:
@@ -129,8 +128,9 @@ class Lanes:
                 shutil.copytree(folder / "crates" / name / KEPT, other / "crates" / name / KEPT, copy_function=os.link)
 
     def stop(self):
-        """Ends those that run: each leads a session of its own, and what it started ends with it."""
+        """Ends those that run: each leads a session of its own, and what it started ends with it. None begins after that."""
         with self.lock:
+            self.is_over = True
             for process in self.running:
                 with contextlib.suppress(ProcessLookupError):
                     os.killpg(process.pid, signal.SIGTERM)
@@ -161,28 +161,93 @@ def library(lanes, name):
             lanes.share(folder, name)
 
 
+def rounds(edits):
+    """The edits that change functions alone, in lists in which no function is changed twice."""
+    found = []
+    for edit, functions in ((it, functions_of(it)) for it in edits):
+        if functions:
+            free = next((it for it in found if not functions & it[1]), None) or found.append(([], set())) or found[-1]
+            free[0].append(edit)
+            free[1].update(functions)
+    return [some for some, _ in found]
+
+
+def put(text, file):
+    """Writes a file anew: the old one may be that of another copy, too."""
+    file.unlink()
+    file.write_text(text)
+
+
+def refusals(said):
+    """The functions that a check refused for what stands in themselves, each with the first goal that it told of it."""
+    found, goal = {}, ""
+    for line in said.splitlines():
+        if GOAL.match(line):
+            goal = goal or line
+        elif line.startswith("fn "):
+            refused = NOT_PROVED.match(line)
+            if refused and OF_OTHERS.sub("", refused[2]):
+                found[refused[1]] = goal or line
+            goal = ""
+    return found
+
+
+def together(lanes, folder, some):
+    """The edits of a list that one check in this copy refuses, each with what it told."""
+    crate = some[0].parent.parent
+    here, functions = folder / "crates" / crate.name, set().union(*map(functions_of, some))
+    texts = texts_with(crate, some)
+    for file, text in texts.items():
+        put(text, here / file)
+    _, said = lanes.call(["rt", "check", "--jobs", "1", *(word for it in sorted(functions) for word in ("--only", it))], here)
+    for file in texts:
+        put((crate / file).read_text(), here / file)
+    shutil.rmtree(here / "out" / "incremental", ignore_errors=True)
+    found = refusals(said)
+    told = {it: next((found[function] for function in functions_of(it) if function in found), None) for it in some}
+    return {it: f"refused, as it must be: {goal[:160]}" for it, goal in told.items() if goal}
+
+
+def alone(lanes, folder, crate, left):
+    """What `rt must-fail` says of these edits of a crate in this copy, and its end where that isn't one verdict an edit."""
+    if not left:
+        return {}, ""
+    for edit in edits_of(crate):
+        if edit not in left:
+            (folder / "crates" / crate / "must-fail" / edit.name).unlink()
+    status, said = lanes.call(["rt", "must-fail", crate], folder)
+    told = dict(re.findall(r"^rt: must-fail \S+?/(\S+)\.edit: (.*)$", said, re.M))
+    refused = sum(verdict.startswith("refused") for verdict in told.values())
+    wrong = len(told) != len(left) or (status != 0) != (refused != len(left))
+    return {it: told[it.stem] for it in left if it.stem in told}, f"rt ended with status {status}:\n{said[-1500:]}" if wrong else ""
+
+
 def try_crate(lanes, name):
     """Tries the edits of a crate: the lines to print, how many were refused, and how many were not."""
-    count = len(edits_of(name))
+    edits, told = edits_of(name), {}
     with lanes.lane() as folder:
-        status, said = lanes.call(["rt", "must-fail", name], folder)
-    lines = re.findall(r"^rt: must-fail \S+?/(\S+)\.edit: (.*)$", said, re.M)
-    told = [f"{name}/{edit}: {verdict}" for edit, verdict in lines]
-    refused = sum(verdict.startswith("refused") for _, verdict in lines)
-    if len(lines) != count or (status != 0) != (refused != count):
-        told.append(f"{name}: rt ended with status {status} and told of {len(lines)} of {count} edits:\n{said[-1500:]}")
-    return told, refused, count - refused
+        for some in rounds(edits):
+            told.update(together(lanes, folder, some))
+        by_rt, end = alone(lanes, folder, name, [it for it in edits if it not in told])
+    told.update(by_rt)
+    refused = sum(verdict.startswith("refused") for verdict in told.values())
+    lines = [f"{name}/{it.stem}: {told[it]}" for it in edits if it in told]
+    return lines + [f"{name}: {end}"] * bool(end), refused, len(edits) - refused
 
 
 def try_all(lanes, crates, names):
     """Tries the edits of some crates: how many were refused, and how many were not."""
     passed = failed = 0
     build(lanes, crates, names)
-    with concurrent.futures.ThreadPoolExecutor(len(lanes.folders)) as pool:
+    pool = concurrent.futures.ThreadPoolExecutor(len(lanes.folders))
+    try:
         for done in concurrent.futures.as_completed([pool.submit(try_crate, lanes, it) for it in names]):
             told, refused, others = done.result()
             print("\n".join(told), flush=True)
             passed, failed = passed + refused, failed + others
+    finally:
+        # (after a signal nothing more begins)
+        pool.shutdown(wait=False, cancel_futures=True)
     return passed, failed
 
 
