@@ -36,8 +36,9 @@ from edits import EditFault, functions_of, texts_with
 FOLDERS = ("must-fail", "audit")
 # What rt keeps of a proved library, and looks at by a sum of the text that it was made from.
 KEPT = "out/rlib"
-# What a check tells of a function that is not proved, and those parts of it that tell of another function.
-NOT_PROVED = re.compile(r"fn (\S+): (not proved|no proof: .+)")
+# What a check tells of a function that is not proved, and those parts of it that tell of another function: `not proved; it
+# calls ..` may be for the other alone.
+NOT_PROVED = re.compile(r"fn (\S+): (not proved(?!;)|no proof: .+)")
 OF_OTHERS = re.compile(r"(?:no proof: |; )(?:it calls|it passes|a call of)[^;]*")
 # What tells of the place of a goal.
 GOAL = re.compile(r"(?:note: )?\S+:\d+:\d+: ")
