@@ -8,8 +8,9 @@ tree, outside the repository, on the crates that are named, or on all that have 
 side by side. What the repository has kept of proved libraries, of the gate too, is used.
 
 Edits in different functions are tried together: one check looks at these functions alone, and each has to be refused
-for what stands in itself. An edit of which that tells nothing, since it changes what isn't a function or the function
-is still proved, is tried alone by `rt must-fail`, which proves the whole crate first.
+for what stands in itself. Those of which that tells nothing, since they call a function that was refused, are tried
+together once more, without those that it told of, as long as it tells of some. What is left, since it changes what
+isn't a function or the function is still proved, is tried alone by `rt must-fail`, which proves the whole crate first.
 
 It prints a line an edit and counts them; the status is 1 where one was not refused. --look tries no edit and says only
 whether each in audit/ can be applied.
@@ -163,14 +164,20 @@ def library(lanes, name):
 
 
 def rounds(edits):
-    """The edits that change functions alone, in lists in which no function is changed twice."""
+    """The edits that change functions alone, each with these, in groups in which no function is changed twice."""
     found = []
-    for edit, functions in ((it, functions_of(it)) for it in edits):
-        if functions:
-            free = next((it for it in found if not functions & it[1]), None) or found.append(([], set())) or found[-1]
-            free[0].append(edit)
-            free[1].update(functions)
-    return [some for some, _ in found]
+    for edit in edits:
+        functions = functions_of(edit)
+        if not functions:
+            continue
+        for group in found:
+            if functions.isdisjoint(set().union(*group.values())):
+                break
+        else:
+            group = {}
+            found.append(group)
+        group[edit] = functions
+    return found
 
 
 def put(text, file):
@@ -193,20 +200,19 @@ def refusals(said):
     return found
 
 
-def together(lanes, folder, some):
-    """The edits of a list that one check in this copy refuses, each with what it told."""
-    crate = some[0].parent.parent
-    here, functions = folder / "crates" / crate.name, set().union(*map(functions_of, some))
-    texts = texts_with(crate, some)
+def together(lanes, folder, crate, group):
+    """The edits of a group that one check in this copy refuses, each with what it told."""
+    here, texts = folder / "crates" / crate, texts_with(CRATES / crate, group)
     for file, text in texts.items():
         put(text, here / file)
-    _, said = lanes.call(["rt", "check", "--jobs", "1", *(word for it in sorted(functions) for word in ("--only", it))], here)
+    words = [word for function in sorted(set().union(*group.values())) for word in ("--only", function)]
+    _, said = lanes.call(["rt", "check", "--jobs", "1", *words], here)
     for file in texts:
-        put((crate / file).read_text(), here / file)
+        put((CRATES / crate / file).read_text(), here / file)
     shutil.rmtree(here / "out" / "incremental", ignore_errors=True)
     found = refusals(said)
-    told = {it: next((found[function] for function in functions_of(it) if function in found), None) for it in some}
-    return {it: f"refused, as it must be: {goal[:160]}" for it, goal in told.items() if goal}
+    told = {edit: next((found[it] for it in functions if it in found), None) for edit, functions in group.items()}
+    return {edit: f"refused, as it must be: {goal[:160]}" for edit, goal in told.items() if goal}
 
 
 def alone(lanes, folder, crate, left):
@@ -226,10 +232,17 @@ def alone(lanes, folder, crate, left):
 def try_crate(lanes, name):
     """Tries the edits of a crate: the lines to print, how many were refused, and how many were not."""
     edits, told = edits_of(name), {}
+    left = edits
     with lanes.lane() as folder:
-        for some in rounds(edits):
-            told.update(together(lanes, folder, some))
-        by_rt, end = alone(lanes, folder, name, [it for it in edits if it not in told])
+        while True:
+            now = {}
+            for group in rounds(left):
+                now.update(together(lanes, folder, name, group))
+            if not now:
+                break
+            told.update(now)
+            left = [it for it in left if it not in told]
+        by_rt, end = alone(lanes, folder, name, left)
     told.update(by_rt)
     refused = sum(verdict.startswith("refused") for verdict in told.values())
     lines = [f"{name}/{it.stem}: {told[it]}" for it in edits if it in told]

@@ -53,14 +53,18 @@ def changes_of(edit):
     return found
 
 
-def texts_with(folder, edits):
-    """The files of a crate's folder that some edits change, with their texts after all of these."""
+def applied(folder, edits):
+    """Each change of some edits in turn, with the text of its file in a crate's folder before it and after it."""
     texts = {}
     for change in (it for edit in edits for it in changes_of(edit)):
-        if change.file not in texts:
-            texts[change.file] = (folder / change.file).read_text()
-        texts[change.file] = change.applied(texts[change.file])
-    return texts
+        before = texts[change.file] if change.file in texts else (folder / change.file).read_text()
+        texts[change.file] = change.applied(before)
+        yield change, before, texts[change.file]
+
+
+def texts_with(folder, edits):
+    """The files of a crate's folder that some edits change, with their texts after all of these."""
+    return {change.file: after for change, _, after in applied(folder, edits)}
 
 
 def without_parameters(head):
@@ -106,7 +110,7 @@ def function_at(crate, file, text, place):
     number = text.count("\n", 0, place)
     while number >= 0 and not FUNCTION.match(lines[number]):
         number -= 1
-    if number < 0 or not file.startswith("src/"):
+    if number < 0 or not re.fullmatch(r"src/.*\.rt", file):
         return None
     name, module = FUNCTION.match(lines[number])[1], module_of(file)
     if lines[number][:1].isspace():
@@ -118,9 +122,6 @@ def function_at(crate, file, text, place):
 
 def functions_of(edit):
     """The functions that an edit changes, and nothing else; None where it changes something else, or that isn't plain."""
-    crate, texts, found = edit.parent.parent, {}, set()
-    for change in changes_of(edit):
-        text = texts.get(change.file) or (crate / change.file).read_text()
-        texts[change.file] = change.applied(text)
-        found.add(change.file.endswith(".rt") and function_at(crate, change.file, text, text.index(change.old)) or None)
+    crate = edit.parent.parent
+    found = {function_at(crate, change.file, before, before.index(change.old)) for change, before, _ in applied(crate, [edit])}
     return None if None in found else found
