@@ -5,7 +5,8 @@ use Rattle.std.specs.FinMap as fin
 use Rattle.geom.specs.declared.tile.TileKey.{TileKey}
 use Rattle.geom.specs.KeyOrder.{key_cmp}
 use Rattle.geom.specs.KeyLists.{has_key}
-use Rattle.tile_store.specs.inner.Rows.{is_flying, if_live, if_not_named}
+use Rattle.tile_store.specs.inner.Rows.{has_image, if_live, if_not_named}
+use Rattle.tile_store.specs.inner.TileTables.{is_unnamed}
 use Rattle.geom.proofs.KeyOrders.{key_total}
 use Rattle.geom.proofs.KeyLists.{has_key_more}
 
@@ -26,9 +27,37 @@ dropped_more first now new keys i d q lt so_far is =
     ∙ once_more (has_key (take i keys) q) (eq_by_cmp key_cmp q (get_or keys i d)) (fin.get first q)
     ∙ ap (λ b. if_not_named b (fin.get first q)) (sym (has_key_more keys i d q lt))
 
--- where none of these keys is being made, the others are those that are kept
-pub not_named : {X : Type 0} (b : Bool) (x : Option (Option X)) → (b ≡ true → is_flying x ≡ false) → if_live (not b) x ≡ if_not_named b x
-not_named true None made = refl
-not_named true (Some None) made = let e = made refl in cc
-not_named true (Some (Some x)) made = refl
-not_named false x made = refl
+-- a key with an image goes, and one without stays
+pub gone_one : {X : Type 0} (b : Bool) (x : Option (Option X)) → (b ≡ true → has_image x ≡ true) → cond b None x ≡ if_live (not b) x
+gone_one true None has = let e = has refl in cc
+gone_one true (Some None) has = let e = has refl in cc
+gone_one true (Some (Some x)) has = refl
+gone_one false x has = refl
+
+pub stays_one : {X : Type 0} (b : Bool) (x : Option (Option X)) → (b ≡ true → has_image x ≡ false) → x ≡ if_live (not b) x
+stays_one true None has = refl
+stays_one true (Some None) has = refl
+stays_one true (Some (Some x)) has = let e = has refl in cc
+stays_one false x has = refl
+
+twice : {X : Type 0} (a b : Bool) (x : Option (Option X)) → if_live (not b) (if_live (not a) x) ≡ if_live (not (a || b)) x
+twice true true None = refl
+twice true true (Some None) = refl
+twice true true (Some (Some x)) = refl
+twice true false x = refl
+twice false true x = refl
+twice false false x = refl
+
+-- one key more is given up
+pub given_up_more : {X : Type 0} (first now new : fin.FinMap key_cmp (Option X)) (keys : List TileKey) (i : ℕ) (d q : TileKey) → i < length keys
+    → fin.get now q ≡ if_live (is_unnamed (take i keys) q) (fin.get first q) → fin.get new q ≡ if_live (not (eq_by_cmp key_cmp q (get_or keys i d))) (fin.get now q)
+    → fin.get new q ≡ if_live (is_unnamed (take (i + 1) keys) q) (fin.get first q)
+given_up_more first now new keys i d q lt so_far is =
+    is
+    ∙ ap (if_live (not (eq_by_cmp key_cmp q (get_or keys i d)))) so_far
+    ∙ twice (has_key (take i keys) q) (eq_by_cmp key_cmp q (get_or keys i d)) (fin.get first q)
+    ∙ ap (λ b. if_live (not b) (fin.get first q)) (sym (has_key_more keys i d q lt))
+
+-- nothing is given up yet
+pub none_given_up : {X : Type 0} (x : Option (Option X)) → x ≡ if_live (not false) x
+none_given_up x = refl

@@ -1,12 +1,11 @@
 pub mod KeyOrders
 pub mod HeldLists
 pub mod Searches
+pub mod Flats
+pub mod SpotFacts
 pub mod SlabRows
 pub mod TableSteps
 pub mod Dropped
-pub mod Marks
-pub mod KeptRows
-pub mod KeptTables
 pub mod Parts
 pub mod MadeKeys
 pub mod StoreSteps

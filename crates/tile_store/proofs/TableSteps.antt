@@ -1,5 +1,5 @@
 -- What the steps of a tile table make of what it holds.
-use Rattle.std.proofs.Common.{◌≡◌, ℕ, suc, ◌<◌, List, [], ◌∷◌, ◌++◌, length, take, drop, Option, Some, None, is_some, Bool, false, cond, get_or, Bor, option_map, option_copied, true, refl, sym, ◌∙◌, ap, subst, T, arith}
+use Rattle.std.proofs.Common.{◌≡◌, ℕ, suc, ◌+◌, ◌<◌, List, [], ◌∷◌, ◌++◌, length, take, drop, Option, Some, None, OnSome, is_some, Bool, false, cond, get_or, Bor, option_map, option_copied, true, refl, sym, ◌∙◌, ap, subst, T, arith}
 use Rattle.std.proofs.lemmas.List.{take-append-drop, length-map, get_or-drop}
 use Rattle.std.proofs.lemmas.List.Edits.{length-insert, length-remove}
 use Rattle.std.specs.List.{insert, remove}
@@ -7,7 +7,7 @@ use Rattle.std.specs.Option.{option_and_then}
 use Rattle.std.specs.Ordering.{eq_by_cmp}
 use Rattle.std.specs.FinMap as fin
 use Rattle.std.specs.FinMap.{from_sorted, entries-from_sorted, get-from_sorted, get-empty, len-entries, same_map, is_sorted}
-use Rattle.slab.specs.Slab.{Slab, get, Updates}
+use Rattle.slab.specs.Slab.{Slab, get, slab_len, Updates}
 use Rattle.geom.specs.declared.tile.TileKey.{TileKey}
 use Rattle.geom.specs.KeyOrder.{key_cmp}
 use Rattle.tile_raster.specs.Images.{Image}
@@ -53,9 +53,9 @@ not_found tiles held key at gap r =
 -- a key comes to an empty place
 pub put : (old new : Slab Tile) (held : List KeyedPlace) (at : ℕ) (one : KeyedPlace) (tile : Tile)
     → IsTileTable old held → IsGapFor held one.key at → length held < 4294967295
-    → get old one.place ≡ None → Updates old new one.place (Some tile) → tile.key ≡ one.key
+    → get old one.place ≡ None → Updates old new one.place (Some tile) → slab_len new ≡ slab_len old + 1 → tile.key ≡ one.key
     → IsTileTable new (insert held at one) × (held_map new (insert held at one) ≡ fin.insert (held_map old held) one.key (shown tile))
-put old new held at one tile table gap few vacant up is_key =
+put old new held at one tile table gap few vacant up one_more is_key =
     let front : List KeyedPlace = take at held in
     let back : List KeyedPlace = drop at held in
     let whole : front ++ back ≡ held = take-append-drop at held in
@@ -67,6 +67,7 @@ put old new held at one tile table gap few vacant up is_key =
       record {
         rises = rises_with front back one gap.before gap.after rises;
         kept = kept_put (get old) (get new) front back one up.others gap.before gap.after vacant here kept;
+        counted = omega (arith, one_more, table.counted, length-insert held at one gap.in_range);
         few = omega (arith, length-insert held at one gap.in_range);
       },
       ap (from_sorted {R = key_cmp}) list
@@ -92,9 +93,9 @@ module _ (old new : Slab Tile) (held : List KeyedPlace) (key : TileKey) (at : �
   after = subst (λ k. After k (drop (suc at) held)) (sym here.is_key) here.after
 
   -- the tile of a key changes
-  pub set : (tile : Tile) → Updates old new here.one.place (Some tile) → tile.key ≡ key
+  pub set : (tile : Tile) → Updates old new here.one.place (Some tile) → slab_len new ≡ slab_len old → tile.key ≡ key
       → IsTileTable new held × (held_map new held ≡ fin.insert (held_map old held) key (shown tile))
-  set tile up is_key =
+  set tile up as_many is_key =
       let front : List KeyedPlace = take at held in
       let back : List KeyedPlace = drop (suc at) held in
       let one = here.one in
@@ -103,6 +104,7 @@ module _ (old new : Slab Tile) (held : List KeyedPlace) (key : TileKey) (at : �
         record {
           rises = table.rises;
           kept = subst (AreKept (get new)) whole (kept_set (get old) (get new) front back one up.others before after named kept);
+          counted = as_many ∙ table.counted;
           few = table.few;
         },
         ap (held_map new) (sym whole)
@@ -114,9 +116,9 @@ module _ (old new : Slab Tile) (held : List KeyedPlace) (key : TileKey) (at : �
       )
 
   -- a key is taken out, and its place is empty
-  pub drop_one : Updates old new here.one.place None
+  pub drop_one : Updates old new here.one.place None → slab_len new + 1 ≡ slab_len old
       → IsTileTable new (remove held at) × (held_map new (remove held at) ≡ fin.remove (held_map old held) key)
-  drop_one up =
+  drop_one up one_less =
       let front : List KeyedPlace = take at held in
       let back : List KeyedPlace = drop (suc at) held in
       let one = here.one in
@@ -124,6 +126,7 @@ module _ (old new : Slab Tile) (held : List KeyedPlace) (key : TileKey) (at : �
         record {
           rises = rises_without front back one rises;
           kept = kept_drop (get old) (get new) front back one up.others before after kept;
+          counted = omega (arith, one_less, table.counted, length-remove held at here.in_range);
           few = omega (arith, table.few, length-remove held at here.in_range);
         },
         ap (from_sorted {R = key_cmp}) list
@@ -166,3 +169,16 @@ remove_absent m key none = same_map key_total key_ties _ _ (λ q. missing (eq_by
 pub not_none : {X : Type 0} (o : Option X) → o ≡ None → is_some o ≡ true → ⊥
 not_none None e h = cc
 not_none (Some x) e h = cc
+
+-- the tile of a key that is held is there
+pub tile_there : (tiles : Slab Tile) (place : ℕ) (key : TileKey) → HasTileOf (get tiles) place key → is_some (get tiles place) ≡ true
+tile_there tiles place key has = some_key (get tiles place) key has
+  where
+    some_key : (t : Option Tile) (key : TileKey) → option_map (λ (t : Tile). t.key) t ≡ Some key → is_some t ≡ true
+    some_key None key has = cc
+    some_key (Some t) key has = refl
+
+-- a removal that finds a tile leaves one less
+pub one_less : (r : Option Tile) (old new : Slab Tile) → is_some r ≡ true → OnSome r (slab_len new + 1 ≡ slab_len old) → slab_len new + 1 ≡ slab_len old
+one_less None old new there less = cc
+one_less (Some t) old new there less = less

@@ -11,12 +11,16 @@ pub(crate) struct Tile {
     pub(crate) image: Option<Arc<TileImage>>,
 }
 
-/// A key and the place of its tile.
+/// A key and the place of its tile in the slab.
 #[derive(Clone, Copy)]
 pub(crate) struct KeyedPlace {
     pub(crate) key: TileKey,
-    /// the place in the slab
     pub(crate) place: usize,
-    /// of use in one walk over the keys alone
-    pub(crate) live: bool,
+}
+
+/// Where a held key stands: the number of its chunk, and its index there.
+#[derive(Clone, Copy)]
+pub(crate) struct Spot {
+    pub(crate) chunk: usize,
+    pub(crate) at: usize,
 }

@@ -2,7 +2,8 @@
 
 ghost use Rattle.std.specs.Prelude.{◌≡◌, ◌∷◌, [], IsNone, IfSome};
 
-use crate::held::{KeyedPlace, Tile};
+use crate::each_held::EachHeld;
+use crate::held::Tile;
 use crate::tiles::is_made;
 use geom::TileKey;
 use slab::Slab;
@@ -13,7 +14,7 @@ use std::marker::Model;
 /// Contracts see the keys that are left.
 #[derive(Drop)]
 pub struct ReadyKeys<'a> {
-    pub(crate) rest: &'a [KeyedPlace],
+    pub(crate) rest: EachHeld<'a>,
     pub(crate) tiles: &'a Slab<Tile>,
 }
 
@@ -25,7 +26,7 @@ impl<'a> Model for ReadyKeys<'a> {
 
     ghost Value = { List TileKey };
 
-    ghost view = { λ k. made_keys (get k.tiles.now) k.rest.now };
+    ghost view = { λ k. made_keys (get k.tiles.now) k.rest };
 }
 
 impl<'a> ReadyKeys<'a> {
@@ -34,8 +35,7 @@ impl<'a> ReadyKeys<'a> {
         ensures none { IsNone result → self.old ≡ [] }
         ensures some { IfSome result (λ key. self.old ≡ key ∷ self.new) }
     {
-        while let Some((one, others)) = self.rest.split_first() {
-            self.rest = others;
+        while let Some(one) = self.rest.next() {
             if is_made(self.tiles, one.place) {
                 return Some(one.key);
             }

@@ -16,17 +16,6 @@ pub(crate) fn search(held: &[KeyedPlace], key: TileKey) -> Result<usize, usize>
     held.binary_search_by_key(&key, |held| held.key)
 }
 
-// Whether the key stands at this index.
-fn is_at(held: &[KeyedPlace], at: usize, key: TileKey) -> bool
-    requires { Rises held.now }
-    ensures { result ≡ true → StandsAt held.now key at }
-{
-    match held.get(at) {
-        Some(one) => one.key == key,
-        None => false,
-    }
-}
-
 // Whether the keys before this index are below the key, which the last of them tells.
 fn are_below(held: &[KeyedPlace], at: usize, key: TileKey) -> bool
     requires { Rises held.now }
@@ -53,25 +42,10 @@ fn are_above(held: &[KeyedPlace], at: usize, key: TileKey) -> bool
     }
 }
 
-// Whether the key is seen to be missing: it would go to this index.
-fn is_gap(held: &[KeyedPlace], at: usize, key: TileKey) -> bool
+/// Whether the key is seen to be missing: it would go to this index.
+pub(crate) fn is_gap(held: &[KeyedPlace], at: usize, key: TileKey) -> bool
     requires { Rises held.now }
     ensures { result ≡ true → IsGapFor held.now key at }
 {
     are_below(held, at, key) && are_above(held, at, key)
-}
-
-/// The same; a key that stands at index `near`, or would go there, is found without a search.
-pub(crate) fn search_near(held: &[KeyedPlace], near: usize, key: TileKey) -> Result<usize, usize>
-    requires { Rises held.now }
-    ensures found { IfOk result (StandsAt held.now key) }
-    ensures absent { IfErr result (IsGapFor held.now key) }
-{
-    if is_at(held, near, key) {
-        return Ok(near);
-    }
-    if is_gap(held, near, key) {
-        return Err(near);
-    }
-    search(held, key)
 }

@@ -123,8 +123,9 @@ impl TileStore {
     }
 
     /// The same. Where keys are asked for in their order, `near` carries the place from one question to the
-    /// next: a key that stands next to the one before it, or would, is found or missed without a search. The
-    /// answer doesn't depend on it; 0 is as good a beginning as any.
+    /// next: nearly every key that stands next to the one before it, or would, is found or missed without a search.
+    /// The answer doesn't depend on it; 0 is as good a beginning as any.
+    #[inline]
     pub fn ready_near(&self, near: &mut usize, key: TileKey) -> Option<&Arc<TileImage>>
         ensures { option_map (λ image. image.now.value) result ≡ image_of self.now key }
     {

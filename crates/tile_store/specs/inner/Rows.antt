@@ -31,6 +31,11 @@ module _ {X : Type 0} where
   is_flying (Some None) = true
   is_flying _ = false
 
+  -- the key is held with an image
+  abbrev pub has_image : Option (Option X) → Bool
+  has_image (Some (Some x)) = true
+  has_image _ = false
+
   -- what is left of a key where those that are not live lose their images and what has none stays
   abbrev pub if_live : Bool → Option (Option X) → Option (Option X)
   if_live true held = held

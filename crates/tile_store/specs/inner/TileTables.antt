@@ -1,11 +1,10 @@
 -- How a tile store lays out what it holds.
-use Rattle.std.specs.Prelude.{◌≡◌, ◌<◌, ◌≤◌, ℕ, suc, ◌-◌, min, Bool, false, not, ◌||◌, if◌then◌else◌, is_some, Option, Some, None, option_map, List, [], ◌∷◌, map, filter, length, take, drop, refl}
+use Rattle.std.specs.Prelude.{◌≡◌, ◌<◌, ◌≤◌, ℕ, suc, ◌-◌, min, Bool, false, not, is_some, Option, Some, None, option_map, List, [], ◌∷◌, map, filter, length, take, drop, refl}
 use Rattle.std.specs.declared.cmp.Ordering.TheVariants.{Less}
 use Rattle.std.specs.Option.{option_and_then}
-use Rattle.std.specs.Ordering.{eq_by_cmp}
 use Rattle.std.specs.Coded.{Coded, code_by, coded×, coded_ℕ, coded_option}
 use Rattle.std.specs.FinMap as fin
-use Rattle.slab.specs.Slab.{Slab, get}
+use Rattle.slab.specs.Slab.{Slab, get, slab_len}
 use Rattle.geom.specs.declared.tile.TileKey.{TileKey}
 use Rattle.geom.specs.KeyOrder.{key_cmp}
 use Rattle.tile_raster.specs.Images.{Image}
@@ -75,24 +74,16 @@ pub record IsGapFor (held : List KeyedPlace) (key : TileKey) (at : ℕ) : Type 0
   pub before : Before key (take at held)
   pub after : After key (drop at held)
 
--- for how many more keys there is room, in the list, in the slab, and below the limit
-abbrev pub room : ℕ → ℕ → ℕ → ℕ → ℕ
-room list_capacity count slab_capacity tiles =
-    min (list_capacity - count) (min (slab_capacity - tiles) (4294967295 - count))
+-- for how many more keys there is room, in the chunks, in the slab, and below the limit
+abbrev pub room : ℕ → ℕ → ℕ → ℕ
+room chunks slab_capacity tiles = min chunks (min (slab_capacity - tiles) (4294967295 - tiles))
 
--- the keys rise, each has its tile, and they are fewer than 2^32
+-- the keys rise, each has its tile and there are no others, and they are fewer than 2^32
 pub record IsTileTable (tiles : Slab Tile) (held : List KeyedPlace) : Type 0 where
   pub rises : Rises held
   pub kept : AreKept (get tiles) held
+  pub counted : slab_len tiles ≡ length held
   pub few : length held ≤ 4294967295
-
--- the mark says whether the key is live
-abbrev pub marked : (TileKey → Bool) → KeyedPlace → KeyedPlace
-marked live h = record h { live = live h.key }
-
--- this key loses its mark
-abbrev pub unmarked_one : TileKey → KeyedPlace → KeyedPlace
-unmarked_one key h = record h { live = if eq_by_cmp key_cmp h.key key then false else h.live }
 
 -- a list does not name the key
 abbrev pub is_unnamed : List TileKey → TileKey → Bool
@@ -106,12 +97,3 @@ is_made (Some t) = is_some t.image
 -- the keys whose tiles have an image
 abbrev pub made_keys : (ℕ → Option Tile) → List KeyedPlace → List TileKey
 made_keys tiles held = map (λ h. h.key) (filter (λ h. is_made (tiles h.place)) held)
-
--- the key is marked, or its image is being made
-abbrev pub stays : (ℕ → Option Tile) → KeyedPlace → Bool
-stays tiles h = h.live || not (is_made (tiles h.place))
-
--- the place of each key has what it had
-abbrev pub AreSame : (ℕ → Option Tile) → (ℕ → Option Tile) → List KeyedPlace → Type 0
-AreSame old new [] = Unit {0}
-AreSame old new (h ∷ hs) = (new h.place ≡ old h.place) × AreSame old new hs

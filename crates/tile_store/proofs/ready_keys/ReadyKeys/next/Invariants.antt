@@ -5,7 +5,7 @@ use Rattle.tile_store.specs.inner.TileTables.{made_keys}
 use Rattle.tile_store.proofs.ready_keys.ReadyKeys.next.Given as goal
 
 abbrev pub invariant-loop-one : goal.invariant-loop-one
-invariant-loop-one l = made_keys (get l.self-inside.tiles.now) l.self-inside.rest.now ≡ l.fn.self
+invariant-loop-one l = made_keys (get l.self-inside.tiles.now) l.self-inside.rest ≡ l.fn.self
 
 abbrev pub decreases-loop-one : goal.decreases-loop-one
-decreases-loop-one l = length l.self-inside.rest.now
+decreases-loop-one l = length l.self-inside.rest

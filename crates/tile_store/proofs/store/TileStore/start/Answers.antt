@@ -7,14 +7,8 @@ use Rattle.tile_store.specs.Stores.{started, MayStart, Store}
 use Rattle.geom.specs.KeyLists.{has_key}
 use Rattle.tile_store.specs.inner.Rows.{ready_of, flying_of, if_not_named}
 use Rattle.tile_store.proofs.Parts.{get_ready, contains_flying}
-use Rattle.tile_store.proofs.StoreSteps.{not_held, not_flying, absent_after, started_ready, started_flying}
+use Rattle.tile_store.proofs.StoreSteps.{not_held, absent_after, started_ready, started_flying}
 use Rattle.tile_store.proofs.store.TileStore.start.Goals as goal
-
-pub remove_all-requires : goal.remove_all-requires
-remove_all-requires c =
-    let m = c.self.inside.table.held in
-    let may = subst (λ s. MayStart s c.args.key c.args.evicted.now) (sym c.self.view_is) c.requires in
-    record { made = λ q named. not_flying m q (may.evicted_ready q (ap (λ keys. has_key keys q) (sym c.as_slice.ensures) ∙ named)) }
 
 pub put-requires-clause-absent : goal.put-requires-clause-absent
 put-requires-clause-absent c =

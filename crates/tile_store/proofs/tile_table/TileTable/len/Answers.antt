@@ -1,12 +1,13 @@
--- There is one entry for each held key.
-use Rattle.std.proofs.Common.{◌≡◌, length, ap, sym, ◌∙◌, rules}
+-- There is one tile for each held key.
+use Rattle.std.proofs.Common.{ap, sym, ◌∙◌}
 use Rattle.std.specs.FinMap as fin
+use Rattle.tile_store.specs.inner.Chunked.{flat}
 use Rattle.tile_store.proofs.TableSteps.{len_held}
 use Rattle.tile_store.proofs.tile_table.TileTable.len.Goals as goal
 
 pub returns : goal.returns
 returns c =
-    let count : c.len.result ≡ length c.self.inside.held.items = search rules in
-    count
-    ∙ sym (len_held c.self.inside.tiles c.self.inside.held.items c.self.invariant.rises)
+    c.len.ensures
+    ∙ c.self.invariant.counted
+    ∙ sym (len_held c.self.inside.tiles (flat c.self.inside.held.chunks) c.self.invariant.rises)
     ∙ ap (λ s. fin.len s.held) c.self.view_is

@@ -1,8 +1,11 @@
--- The keys so far that have an image.
-use Rattle.std.proofs.Common.{◌≡◌, take}
-use Rattle.slab.specs.Slab.{get}
-use Rattle.tile_store.specs.inner.TileTables.{made_keys}
+-- The keys so far, and those that are left.
+use Rattle.std.proofs.Common.{◌≡◌, ◌++◌, length}
+use Rattle.std.specs.FinMap as fin
+use Rattle.tile_store.specs.inner.Rows.{ready_of}
 use Rattle.tile_store.proofs.tile_table.TileTable.ready_keys.Given as goal
 
-abbrev pub invariant-loop-one : goal.invariant-loop-one
-invariant-loop-one l = l.keys ≡ made_keys (get l.self-inside.tiles) (take l.one-index l.one-items)
+abbrev pub invariant-loop-key : goal.invariant-loop-key
+invariant-loop-key l = l.keys ++ l.all ≡ fin.keys (ready_of l.self.held)
+
+abbrev pub decreases-loop-key : goal.decreases-loop-key
+decreases-loop-key l = length l.all

@@ -1,11 +1,10 @@
--- The keys are taken out one by one, or all others are kept.
-use Rattle.std.proofs.Common.{◌∙◌}
-use Rattle.std.specs.FinMap as fin
-use Rattle.geom.specs.KeyLists.{has_key}
-use Rattle.tile_store.proofs.Dropped.{not_named}
+-- One key more is taken out.
+use Rattle.std.proofs.Common.{arith, rules}
+use Rattle.tile_store.proofs.Dropped.{dropped_more}
 use Rattle.tile_store.proofs.tile_table.TileTable.remove_all.Goals as goal
 
-pub returns-else-keys-le-FEW-clause-held : goal.returns-else-keys-le-FEW-clause-held
-returns-else-keys-le-FEW-clause-held c = λ q.
-    let held = fin.get c.args.self.now.held q in
-    c.give_up.ensures.held q ∙ not_named (has_key c.args.keys.now q) held (c.requires.made q)
+pub loop-key-preserved : goal.loop-key-preserved
+loop-key-preserved c = record {
+  held = λ q. dropped_more c.args.self.now.held c.loop-key.self.held c.remove.new.self.held c.args.keys.now c.loop-key.key-index _ q (search rules) (c.loop-key.invariant.held q) c.remove.ensures.held;
+  spare = omega arith;
+}

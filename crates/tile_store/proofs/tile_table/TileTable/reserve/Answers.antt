@@ -3,13 +3,15 @@ use Rattle.std.proofs.Common.{ℕ, List, subst, sym}
 use Rattle.slab.specs.Slab.{Slab}
 use Rattle.tile_store.specs.declared.held.KeyedPlace.{KeyedPlace}
 use Rattle.tile_store.specs.declared.held.Tile.{Tile}
+use Rattle.tile_store.specs.inner.Chunked.{flat}
 use Rattle.tile_store.specs.inner.TileTables.{IsTileTable}
 use Rattle.tile_store.proofs.tile_table.TileTable.reserve.Goals as goal
 
 with_room : (tiles : Slab Tile) (held : List KeyedPlace) (n : ℕ) → IsTileTable tiles held → IsTileTable (record tiles { capacity = n }) held
-with_room tiles held n table = record { rises = table.rises; kept = table.kept; few = table.few }
+with_room tiles held n table = record { rises = table.rises; kept = table.kept; counted = table.counted; few = table.few }
 
 pub invariant_of-self-2 : goal.invariant_of-self-2
 invariant_of-self-2 c =
-    let tiles = subst (λ t. IsTileTable t c.self.inside.held.items) (sym c.reserve-2.ensures.rest_kept) (with_room c.self.inside.tiles c.self.inside.held.items c.reserve-2.new.self.capacity c.self.invariant) in
-    subst (IsTileTable c.reserve-2.new.self) (sym c.in_ok-reserve.ensures.items) tiles
+    let held = flat c.self.inside.held.chunks in
+    let tiles = subst (λ t. IsTileTable t held) (sym c.reserve-2.ensures.rest_kept) (with_room c.self.inside.tiles held c.reserve-2.new.self.capacity c.self.invariant) in
+    subst (λ cs. IsTileTable c.reserve-2.new.self (flat cs)) (sym c.in_ok-reserve.ensures.chunks) tiles

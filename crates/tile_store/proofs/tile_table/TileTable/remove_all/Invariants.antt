@@ -4,7 +4,7 @@ use Rattle.std.specs.FinMap as fin
 use Rattle.geom.specs.declared.tile.TileKey.{TileKey}
 use Rattle.geom.specs.KeyLists.{has_key}
 use Rattle.tile_store.specs.inner.Rows.{if_not_named}
-use Rattle.tile_store.proofs.tile_table.TileTable.remove_each.Given as goal
+use Rattle.tile_store.proofs.tile_table.TileTable.remove_all.Given as goal
 
 abbrev pub invariant-loop-key : goal.invariant-loop-key
 invariant-loop-key l = record {
