@@ -186,6 +186,14 @@ impl TileManager {
         self.pins.has(key)
     }
 
+    /// The same. Where keys are asked for in their order, `near` carries the place from one question to the next, as in
+    /// [`TileManager::image_near`].
+    pub fn pinned_near(&self, near: &mut usize, key: TileKey) -> bool
+        ensures { result ≡ has_key self.now.pinned key }
+    {
+        self.pins.has_near(near, key)
+    }
+
     /// Whether all of these keys have an image.
     pub fn are_ready(&self, keys: &Keys) -> bool
         ensures { (s : ScriptModel) (h : List Entry) → Manages s h self.now → result ≡ are_ready s h keys.now }

@@ -81,7 +81,7 @@ fn push_hidden(tiles: &mut Vec<ReadyTile>, tile: ReadyTile) -> Result<(), AllocE
     Ok(())
 }
 
-/// The ready tiles of these keys that are not visible. An error means out of memory.
+/// The ready tiles of these keys, which stand in key order, that are not visible. An error means out of memory.
 pub(crate) fn hidden_tiles(
     alloc: Global,
     script: &Script,
@@ -93,8 +93,9 @@ pub(crate) fn hidden_tiles(
     ensures { IfOk result (λ tiles. (a p : Tree) → IsSeenWhere a (option_copied active.entry) → IsSeenWhere p (option_copied pending.entry) → tiles.items ≡ filter is_hidden (map (tile_in_both script.now a p manager.now.pinned) keys.now)) }
 {
     let mut tiles = Vec::new(alloc);
+    let mut near = 0;
     for key in keys {
-        let pinned = manager.pinned(*key);
+        let pinned = manager.pinned_near(&mut near, *key);
         push_hidden(&mut tiles, tile(script, active, pending, *key, pinned))?;
     }
     Ok(tiles)

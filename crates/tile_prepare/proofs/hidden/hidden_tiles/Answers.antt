@@ -11,7 +11,7 @@ pub loop-key-preserved : goal.loop-key-preserved
 loop-key-preserved c = λ a p left right.
     let s = c.args.script.now in
     let g = tile_in_both s a p c.args.manager.now.pinned in
-    let is = pinned_as s a p c.args.manager.now.pinned _ _ _ (c.tile.ensures a p left right) c.pinned-pinned.ensures in
+    let is = pinned_as s a p c.args.manager.now.pinned _ _ _ (c.tile.ensures a p left right) c.pinned_near-pinned.ensures in
     mapped_more is_hidden g c.args.keys.now c.loop-key.key-index _ c.loop-key.tiles.items c.push_hidden.new.tiles.items c.loop-key-test.true (c.loop-key.invariant a p left right)
     (c.in_ok-push_hidden.ensures ∙ ap (λ (t : Tile). c.loop-key.tiles.items ++ filter is_hidden (t ∷ [])) is)
 
