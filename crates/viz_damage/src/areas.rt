@@ -143,21 +143,19 @@ fn partner_of(rects: &[Rect], area: Rect) -> Option<usize>
     }
 }
 
-// how many more pixels the rect of both has than they have one by one
+// how many more pixels the rect of both has than they have one by one; both lie on the screen, so that nothing wraps
 fn waste_of(a: Rect, b: Rect) -> i32 {
-    let across = reach_end(a.x, a.w)
-        .max(reach_end(b.x, b.w))
-        .saturating_sub(a.x.min(b.x));
-    let down = reach_end(a.y, a.h)
-        .max(reach_end(b.y, b.h))
-        .saturating_sub(a.y.min(b.y));
+    let across = span_of_both(a.x, a.w, b.x, b.w);
+    let down = span_of_both(a.y, a.h, b.y, b.h);
     across
-        .saturating_mul(down)
-        .saturating_sub(a.w.saturating_mul(a.h))
-        .saturating_sub(b.w.saturating_mul(b.h))
+        .wrapping_mul(down)
+        .wrapping_sub(a.w.wrapping_mul(a.h))
+        .wrapping_sub(b.w.wrapping_mul(b.h))
 }
 
-// the number after a span
-fn reach_end(at: i32, len: i32) -> i32 {
-    at.saturating_add(len)
+// how far it is from the begin of the first of two spans to the end of the last
+fn span_of_both(at: i32, len: i32, other_at: i32, other_len: i32) -> i32 {
+    let end = at.wrapping_add(len);
+    let other_end = other_at.wrapping_add(other_len);
+    end.max(other_end).wrapping_sub(at.min(other_at))
 }
