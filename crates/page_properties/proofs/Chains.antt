@@ -1,5 +1,5 @@
 -- What is gathered along a chain follows from the parent.
-use Rattle.std.proofs.Common.{◌≡◌, ℕ, ◌≤◌, ◌==◌, Bool, true, false, cond, not, ◌&&◌, ◌||◌, List, [], ◌∷◌, Option, Some, None, is_some, IsTrue, arith, refl, sym, ◌∙◌, ap}
+use Rattle.std.proofs.Common.{◌≡◌, ℕ, suc, ◌<◌, ◌≤◌, ◌==◌, Bool, true, false, cond, not, ◌&&◌, ◌||◌, List, [], ◌∷◌, length, Option, Some, None, is_some, IsTrue, arith, refl, sym, ◌∙◌, ap, subst}
 use Rattle.std.proofs.lemmas.Bool.Decides.{nat_tests}
 use Rattle.geom.specs.declared.rect.Point.{Point}
 use Rattle.geom.specs.declared.rect.Rect.{Rect}
@@ -37,6 +37,19 @@ known_more k f older h = more_by k f older (k == 0) (f.0 == k) h
 pub known_other : {N : Type 0} (id k : ℕ) (nodes : List (ℕ × N)) → knows id nodes ≡ false → 1 ≤ id → IsTrue (is_known k nodes) → id == k ≡ false
 known_other id k nodes fresh low known = known_by id k nodes (id == k) refl fresh low known
 
+-- how many nodes there are once a node has come; 0 where an id has none
+abbrev pub height : {N : Type 0} → ℕ → List (ℕ × N) → ℕ
+height id [] = 0
+height id (e ∷ older) = cond (e.0 == id) (suc (length older)) (height id older)
+
+height_by : {N : Type 0} (id : ℕ) (older : List (ℕ × N)) (t : Bool) → height id older ≤ length older → cond t (suc (length older)) (height id older) ≤ suc (length older)
+height_by id older true h = omega arith
+height_by id older false h = omega (arith, h)
+
+pub height_few : {N : Type 0} (id : ℕ) (nodes : List (ℕ × N)) → height id nodes ≤ length nodes
+height_few id [] = omega arith
+height_few id (e ∷ older) = height_by id older (e.0 == id) (height_few id older)
+
 module _ {N : Type 0} (parent : N → ℕ) (fits : N → Type 0) where
   -- the parent of a node is known
   parent_by : (id : ℕ) (n : N) (e : ℕ × N) (older : List (ℕ × N)) (t : Bool) → MayJoin parent fits e.0 e.1 older → cond t (Some e.1) (find id older) ≡ Some n
@@ -49,6 +62,27 @@ module _ {N : Type 0} (parent : N → ℕ) (fits : N → Type 0) where
   parent_older id n e [] j h = parent_by id n e [] (e.0 == id) j.0 h (λ k. absurd (cc k))
   parent_older id n e (f ∷ older) j h =
       parent_by id n e (f ∷ older) (e.0 == id) j.0 h (λ k. known_more (parent n) f older (parent_older id n f older j.1 k))
+
+  below_by : (id : ℕ) (n : N) (e : ℕ × N) (older : List (ℕ × N)) (t : Bool) → cond t (Some e.1) (find id older) ≡ Some n
+      → (find id older ≡ Some n → height (parent n) older < height id older) → height (parent n) older < cond t (suc (length older)) (height id older)
+  below_by id n e older true h f = omega (arith, height_few (parent n) older)
+  below_by id n e older false h f = f h
+
+  -- a parent came before its child
+  pub parent_below : (nodes : List (ℕ × N)) → IsFamily parent fits nodes → (id : ℕ) (n : N) → find id nodes ≡ Some n → height (parent n) nodes < height id nodes
+  parent_below [] j id n h = absurd (cc h)
+  parent_below (e ∷ older) j id n h =
+      let other : e.0 == parent n ≡ false = known_other e.0 (parent n) older j.0.fresh j.0.id_low (parent_older id n e older j h) in
+      rw other (below_by id n e older (e.0 == id) h (λ k. parent_below older j.1 id n k))
+
+  fits_by : (id : ℕ) (n : N) (e : ℕ × N) (older : List (ℕ × N)) (t : Bool) → fits e.1 → cond t (Some e.1) (find id older) ≡ Some n → (find id older ≡ Some n → fits n) → fits n
+  fits_by id n e older true i h f = subst fits (some_is e.1 n h) i
+  fits_by id n e older false i h f = f h
+
+  -- the values of a node are in their ranges
+  pub fits_found : (nodes : List (ℕ × N)) → IsFamily parent fits nodes → (id : ℕ) (n : N) → find id nodes ≡ Some n → fits n
+  fits_found [] j id n h = absurd (cc h)
+  fits_found (e ∷ older) j id n h = fits_by id n e older (e.0 == id) j.0.in_range h (λ k. fits_found older j.1 id n k)
 
   module _ {A : Type 0} (root : A) (step : ℕ × N → A → A) where
     -- a node that is not of the chain changes nothing
@@ -81,8 +115,18 @@ module _ {N : Type 0} (parent : N → ℕ) (fits : N → Type 0) where
         let low = j.0.id_low in
         let t : e.0 == 0 ≡ false = grind (arith, nat_tests) in rw t (gathered_root older j.1)
 
+    unknown_by : (e : ℕ × N) (older : List (ℕ × N)) (id : ℕ) (t : Bool) → cond t (Some e.1) (find id older) ≡ None → (find id older ≡ None → gathered parent root step older id ≡ root)
+        → cond t (step e (gathered parent root step older (parent e.1))) (gathered parent root step older id) ≡ root
+    unknown_by e older id true h f = absurd (cc h)
+    unknown_by e older id false h f = f h
+
+    -- nothing is gathered at an id without a node
+    pub gathered_unknown : (nodes : List (ℕ × N)) (id : ℕ) → find id nodes ≡ None → gathered parent root step nodes id ≡ root
+    gathered_unknown [] id h = refl
+    gathered_unknown (e ∷ older) id h = unknown_by e older id (e.0 == id) h (λ k. gathered_unknown older id k)
+
 -- the laws of placement
-translation_law : (offset : ℕ → Point) (nodes : List (ℕ × TransformNode)) → IsFamily (λ (n : TransformNode). n.parent) IsTransform nodes → (id : ℕ) (n : TransformNode)
+pub translation_law : (offset : ℕ → Point) (nodes : List (ℕ × TransformNode)) → IsFamily (λ (n : TransformNode). n.parent) IsTransform nodes → (id : ℕ) (n : TransformNode)
     → find id nodes ≡ Some n → translation offset nodes id ≡ plus (translation offset nodes n.parent) (own_translation offset n)
 unfolding translation
 translation_law offset nodes j id n h = gathered_law (λ (m : TransformNode). m.parent) IsTransform origin (λ e above. plus above (own_translation offset e.1)) nodes j id n h
@@ -91,7 +135,7 @@ translation_root : (offset : ℕ → Point) (nodes : List (ℕ × TransformNode)
 unfolding translation
 translation_root offset nodes j = gathered_root (λ (m : TransformNode). m.parent) IsTransform origin (λ e above. plus above (own_translation offset e.1)) nodes j
 
-clip_law : (offset : ℕ → Point) (transforms : List (ℕ × TransformNode)) (nodes : List (ℕ × ClipNode)) → IsFamily (λ (n : ClipNode). n.parent) IsClip nodes → (id : ℕ) (n : ClipNode)
+pub clip_law : (offset : ℕ → Point) (transforms : List (ℕ × TransformNode)) (nodes : List (ℕ × ClipNode)) → IsFamily (λ (n : ClipNode). n.parent) IsClip nodes → (id : ℕ) (n : ClipNode)
     → find id nodes ≡ Some n → clip_of offset transforms nodes id ≡ both (clip_of offset transforms nodes n.parent) (Some (placed_rect offset transforms n))
 unfolding clip_of
 clip_law offset transforms nodes j id n h =
@@ -102,7 +146,7 @@ clip_root : (offset : ℕ → Point) (transforms : List (ℕ × TransformNode)) 
 unfolding clip_of
 clip_root offset transforms nodes j = gathered_root (λ (m : ClipNode). m.parent) IsClip None (λ e above. both above (Some (placed_rect offset transforms e.1))) nodes j
 
-draws_law : (nodes : List (ℕ × EffectNode)) → IsFamily (λ (n : EffectNode). n.parent) IsEffect nodes → (id : ℕ) (n : EffectNode) → find id nodes ≡ Some n
+pub draws_law : (nodes : List (ℕ × EffectNode)) → IsFamily (λ (n : EffectNode). n.parent) IsEffect nodes → (id : ℕ) (n : EffectNode) → find id nodes ≡ Some n
     → draws nodes id ≡ not (n.opacity == 0) && draws nodes n.parent
 unfolding draws
 draws_law nodes j id n h = gathered_law (λ (m : EffectNode). m.parent) IsEffect true (λ e above. not (e.1.opacity == 0) && above) nodes j id n h
@@ -110,6 +154,19 @@ draws_law nodes j id n h = gathered_law (λ (m : EffectNode). m.parent) IsEffect
 draws_root : (nodes : List (ℕ × EffectNode)) → IsFamily (λ (n : EffectNode). n.parent) IsEffect nodes → draws nodes 0 ≡ true
 unfolding draws
 draws_root nodes j = gathered_root (λ (m : EffectNode). m.parent) IsEffect true (λ e above. not (e.1.opacity == 0) && above) nodes j
+
+-- nothing is placed at an id without a node
+pub translation_unknown : (offset : ℕ → Point) (nodes : List (ℕ × TransformNode)) (id : ℕ) → find id nodes ≡ None → translation offset nodes id ≡ origin
+unfolding translation
+translation_unknown offset nodes id h = gathered_unknown (λ (m : TransformNode). m.parent) IsTransform origin (λ e above. plus above (own_translation offset e.1)) nodes id h
+
+pub clip_unknown : (offset : ℕ → Point) (transforms : List (ℕ × TransformNode)) (nodes : List (ℕ × ClipNode)) (id : ℕ) → find id nodes ≡ None → clip_of offset transforms nodes id ≡ None
+unfolding clip_of
+clip_unknown offset transforms nodes id h = gathered_unknown (λ (m : ClipNode). m.parent) IsClip None (λ e above. both above (Some (placed_rect offset transforms e.1))) nodes id h
+
+pub draws_unknown : (nodes : List (ℕ × EffectNode)) (id : ℕ) → find id nodes ≡ None → draws nodes id ≡ true
+unfolding draws
+draws_unknown nodes id h = gathered_unknown (λ (m : EffectNode). m.parent) IsEffect true (λ e above. not (e.1.opacity == 0) && above) nodes id h
 
 pub lies_law : (nodes : List (ℕ × EffectNode)) → IsFamily (λ (n : EffectNode). n.parent) IsEffect nodes → (above id : ℕ) (n : EffectNode) → find id nodes ≡ Some n
     → lies_in nodes above id ≡ (id == above) || lies_in nodes above n.parent

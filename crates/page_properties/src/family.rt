@@ -102,13 +102,6 @@ impl<N: Copy> Family<N> {
         }
     }
 
-    /// The nodes in the order in which they were added.
-    pub fn nodes(&self) -> &[(u32, N)]
-        ensures { result.now ≡ reverse self.now }
-    {
-        &self.nodes
-    }
-
     /// A family of the same nodes. An error means out of memory.
     pub fn copy(&self) -> Result<Family<N>, AllocError>
         ensures { IfOk result (λ f. f ≡ self.now) }

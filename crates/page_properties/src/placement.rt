@@ -1,40 +1,31 @@
 //! Where nodes are placed: translations, clips, and what is drawn at all.
 //!
-//! A node's parent was there before it, so that one pass from the newest node back meets the whole
-//! chain of a node in order.
+//! Each goes up the chain of a node from parent to parent. A parent was there before its child, so that the root is met.
 
-ghost use Rattle.std.specs.Prelude.{◌≡◌, ◌≤◌, ◌+◌, ◌*◌, ℕ, ℤ, pos, ◌+ℤ◌, ◌-ℤ◌, reverse, IfSome, IsSome, IsTrue, ◌↔◌, List, FitsSigned};
+ghost use Rattle.std.specs.Prelude.{◌≡◌, ◌*◌, ◌+ℤ◌, ◌-ℤ◌, Some, IfSome, FitsSigned};
 ghost use Rattle.geom.specs.Covers.{IsSound};
 ghost use Rattle.geom.specs.Gaps.{shifted};
-ghost use Rattle.page_properties.specs.Entries.{knows};
 ghost use Rattle.page_properties.specs.OffsetMap.{offset_at, AreOffsets, IsOffset};
-ghost use Rattle.page_properties.specs.Placement.{both, clip_of, draws, own_translation, plus, scrolled, translation, IsWithin};
-ghost use Rattle.page_properties.specs.Trees.{AreClips, AreTransforms, IsClip, IsTransform};
+ghost use Rattle.page_properties.specs.Placement.{both, clip_of, draws, scrolled, translation, IsWithin};
+ghost use Rattle.page_properties.specs.Trees.{AreClips, AreEffects, AreTransforms, IsClip, IsTransform};
 ghost use mir.Syntax.{w32};
 
+use crate::family::Family;
 use crate::nodes::{ClipNode, EffectNode, TransformNode};
 use crate::offsets::Offsets;
 use geom::{Point, Rect};
 
 /// The translation of a transform; (0, 0) for the root.
-pub fn translation_in(
-    nodes: &[(u32, TransformNode)],
-    mut transform: u32,
-    offsets: &Offsets,
-) -> Point
-    requires family { AreTransforms (reverse nodes.now) }
+pub fn translation_in(nodes: &Family<TransformNode>, mut transform: u32, offsets: &Offsets) -> Point
+    requires family { AreTransforms nodes.now }
     requires offsets { AreOffsets (offset_at offsets.now) }
-    ensures value { result ≡ translation (offset_at offsets.now) (reverse nodes.now) transform }
+    ensures value { result ≡ translation (offset_at offsets.now) nodes.now transform }
     ensures near { IsWithin (256 * 1114112) result }
 {
     let mut sum = Point { x: 0, y: 0 };
-    let mut rest = nodes;
-    while let Some((last, older)) = rest.split_last() {
-        if last.0 == transform {
-            sum = placed(sum, &last.1, scroll_offset(offsets, last.1.scroller));
-            transform = last.1.parent;
-        }
-        rest = older;
+    while let Some(node) = nodes.get(transform) {
+        sum = placed(sum, node, scroll_offset(offsets, node.scroller));
+        transform = node.parent;
     }
     sum
 }
@@ -76,26 +67,22 @@ fn added(below: i32, at: i32, offset: i32) -> i32
 
 /// The clip of a clip node; None where `clip` is the root.
 pub fn clip_in(
-    nodes: &[(u32, ClipNode)],
-    transforms: &[(u32, TransformNode)],
+    nodes: &Family<ClipNode>,
+    transforms: &Family<TransformNode>,
     mut clip: u32,
     offsets: &Offsets,
 ) -> Option<Rect>
-    requires family { AreClips (reverse nodes.now) }
-    requires transforms { AreTransforms (reverse transforms.now) }
+    requires family { AreClips nodes.now }
+    requires transforms { AreTransforms transforms.now }
     requires offsets { AreOffsets (offset_at offsets.now) }
-    ensures value { result ≡ clip_of (offset_at offsets.now) (reverse transforms.now) (reverse nodes.now) clip }
+    ensures value { result ≡ clip_of (offset_at offsets.now) transforms.now nodes.now clip }
     ensures sound { IfSome result IsSound }
 {
     let mut inner = None;
-    let mut rest = nodes;
-    while let Some((last, older)) = rest.split_last() {
-        if last.0 == clip {
-            let by = translation_in(transforms, last.1.transform, offsets);
-            inner = Some(narrowed(&last.1, by, inner));
-            clip = last.1.parent;
-        }
-        rest = older;
+    while let Some(node) = nodes.get(clip) {
+        let by = translation_in(transforms, node.transform, offsets);
+        inner = Some(narrowed(node, by, inner));
+        clip = node.parent;
     }
     inner
 }
@@ -116,18 +103,15 @@ fn narrowed(node: &ClipNode, by: Point, inner: Option<Rect>) -> Rect
 }
 
 /// Whether neither an effect nor one above it has opacity 0.
-pub fn draws_in(nodes: &[(u32, EffectNode)], mut effect: u32) -> bool
-    ensures { result ≡ draws (reverse nodes.now) effect }
+pub fn draws_in(nodes: &Family<EffectNode>, mut effect: u32) -> bool
+    requires { AreEffects nodes.now }
+    ensures { result ≡ draws nodes.now effect }
 {
-    let mut rest = nodes;
-    while let Some((last, older)) = rest.split_last() {
-        if last.0 == effect {
-            if last.1.opacity == 0 {
-                return false;
-            }
-            effect = last.1.parent;
+    while let Some(node) = nodes.get(effect) {
+        if node.opacity == 0 {
+            return false;
         }
-        rest = older;
+        effect = node.parent;
     }
     true
 }

@@ -217,7 +217,7 @@ impl PropertyTrees {
         ensures value { result ≡ translation (offset_at offsets.now) self.now.transforms transform }
         ensures near { IsWithin (256 * 1114112) result }
     {
-        translation_in(self.transforms.nodes(), transform, offsets)
+        translation_in(&self.transforms, transform, offsets)
     }
 
     /// The clip of a clip node at these offsets: the common part of the rects of its chain up to the
@@ -229,14 +229,14 @@ impl PropertyTrees {
         ensures some { IsSome result ↔ IsTrue (knows clip self.now.clips) }
         ensures sound { IfSome result IsSound }
     {
-        clip_in(self.clips.nodes(), self.transforms.nodes(), clip, offsets)
+        clip_in(&self.clips, &self.transforms, clip, offsets)
     }
 
     /// Whether an effect is drawn: false exactly where it or an effect above it has opacity 0.
     pub fn draws(&self, effect: u32) -> bool
         ensures { result ≡ draws self.now.effects effect }
     {
-        draws_in(self.effects.nodes(), effect)
+        draws_in(&self.effects, effect)
     }
 
     /// Whether layers with these effects, in the order of the list of layers, are nested: the layers
