@@ -3,7 +3,7 @@ use Rattle.std.proofs.Common.{◌≡◌, ℕ, ◌<◌, ◌≤◌, ◌+◌, ◌*�
 use Rattle.std.specs.Prelude.{replicate}
 use Rattle.std.proofs.Math.Nat.{mul-le-mul_left}
 use Rattle.std.proofs.lemmas.Bool.Decides.{nat_tests}
-use Rattle.std.proofs.lemmas.List.{take_more, get_or-replicate, length-replicate}
+use Rattle.std.proofs.lemmas.List.{take_more, get_or-replicate}
 use Rattle.std.proofs.lemmas.List.Folds.{list_any-append}
 use Rattle.geom.specs.declared.rect.Rect.{Rect}
 use Rattle.geom.specs.declared.tile.Place.{Place}
@@ -15,8 +15,7 @@ use Rattle.geom.specs.IndexRanges.{IsMeeting}
 use Rattle.geom.proofs.Spans.{same_test, both}
 use Rattle.geom.proofs.Meets.{meet_points, points_meet}
 use Rattle.region.specs.Points.{touched}
-use Rattle.tile_tiling.specs.Tiles.{index_of, HasStamps, shows_in}
-use Rattle.region.specs.declared.change.LayerChange.{LayerChange}
+use Rattle.tile_tiling.specs.Tiles.{index_of}
 use Rattle.tile_tiling.specs.inner.Writes.{in_run, WritesRow, WritesCells, WritesPlaces}
 
 -- a row that is above another lies after it

@@ -8,7 +8,7 @@ use Rattle.geom.specs.Sides.{Sides}
 use Rattle.geom.specs.Grids.{has, tiles, rect_of_place}
 use Rattle.region.specs.declared.change.LayerChange.{LayerChange}
 use Rattle.region.specs.Points.{touched}
-use Rattle.tile_tiling.specs.Tiles.{Tiled, IsWhole, index_of, stamp_at, HasStamps, shows_in}
+use Rattle.tile_tiling.specs.Tiles.{Tiled, IsWhole, index_of, HasStamps, shows_in}
 use Rattle.tile_tiling.specs.inner.Kept.{stamps_of, IsKept}
 use Rattle.tile_tiling.proofs.Cells.{uniform}
 

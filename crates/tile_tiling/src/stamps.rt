@@ -41,8 +41,8 @@ pub(crate) fn spread(stamps: &mut Vec<u32>, grid: Grid, base: u32)
     }
 }
 
-/// The stamp of a place, 0 where the grid does not have it. While there are no stamps, `base` stands for all.
-pub(crate) fn stamp_in(stamps: &[u32], base: u32, grid: Grid, place: Place) -> u32
+// The stamp of a place, 0 where the grid does not have it. While there are no stamps, `base` stands for all.
+fn stamp_in(stamps: &[u32], base: u32, grid: Grid, place: Place) -> u32
     ensures { result ≡ slice_index (stamps_of grid base stamps.now) (index_of grid place) }
 {
     let index = place.y as usize * grid.columns() as usize + place.x as usize;

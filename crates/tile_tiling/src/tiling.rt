@@ -4,9 +4,9 @@ ghost use Rattle.std.specs.Prelude.{◌≡◌, IsTrue, OnOk, OnErr, IfOk, All, i
 ghost use Rattle.geom.specs.Covers.{IsSound};
 ghost use Rattle.geom.specs.Grids.{has, places_touching, rect_of_place};
 ghost use Rattle.region.specs.Points.{touched};
-ghost use Rattle.tile_tiling.specs.Tiles.{key_of, stamp_at, HasStamps, IsCarried};
+ghost use Rattle.tile_tiling.specs.Tiles.{index_of, key_of, stamp_at, HasStamps, IsCarried};
 
-use crate::stamps::{keys_in, room_for, spread, stamp_in, stamp_rects};
+use crate::stamps::{keys_in, room_for, spread, stamp_rects};
 use geom::{Grid, Place, Rect, TileKey};
 use region::LayerChange;
 use std::alloc::{AllocError, Global};
@@ -15,6 +15,8 @@ use std::marker::Model;
 /// The places of a layer, each with its stamp.
 pub struct Tiling {
     grid: Grid,
+    // how many columns that makes
+    columns: u32,
     // the stamp of every place, while `stamps` is empty
     base: u32,
     // the stamp of each place, by row and then by column, once a part of the layer has changed; until then
@@ -23,7 +25,9 @@ pub struct Tiling {
 }
 
 impl Model for Tiling {
+    ghost use Rattle.std.specs.Prelude.{◌≡◌};
     ghost use Rattle.std.specs.Vec.{vec_capacity};
+    ghost use Rattle.geom.specs.Grids.{tiles};
     ghost use Rattle.tile_tiling.specs.Tiles.{Tiled};
     ghost use Rattle.tile_tiling.specs.inner.Kept.{stamps_of, IsKept};
 
@@ -31,7 +35,7 @@ impl Model for Tiling {
 
     ghost view = { λ t. record { grid = t.grid; stamps = stamps_of t.grid t.base t.stamps.items } };
 
-    ghost invariant = { λ t. IsKept t.grid t.stamps.items (vec_capacity t.stamps) };
+    ghost invariant = { λ t. IsKept t.grid t.stamps.items (vec_capacity t.stamps) × (t.columns ≡ tiles t.grid.w t.grid.tile) };
 }
 
 // Written out, since a derived drop is proved anew, field by field, in each function that lets one go.
@@ -39,6 +43,7 @@ impl Drop for Tiling {
     fn drop(self) {
         let Tiling {
             grid: _,
+            columns: _,
             base: _,
             stamps: _,
         } = self;
@@ -53,6 +58,7 @@ impl Tiling {
         let stamps = room_for(alloc, grid)?;
         Ok(Tiling {
             grid,
+            columns: grid.columns(),
             base: stamp,
             stamps,
         })
@@ -67,6 +73,7 @@ impl Tiling {
         let stamps = room_for(*self.stamps.allocator(), grid)?;
         *self = Tiling {
             grid,
+            columns: grid.columns(),
             base: stamp,
             stamps,
         };
@@ -84,6 +91,7 @@ impl Tiling {
         };
         Ok(Tiling {
             grid: self.grid,
+            columns: self.columns,
             base: self.base,
             stamps,
         })
@@ -118,6 +126,13 @@ impl Tiling {
         }
     }
 
+    // Where the stamp of a place stands.
+    fn index_of(&self, place: Place) -> usize
+        ensures { result ≡ index_of self.now.grid place }
+    {
+        place.y as usize * self.columns as usize + place.x as usize
+    }
+
     /// The key of a place, which the grid is to have.
     pub fn key_at(&self, layer: u32, place: Place) -> TileKey
         requires { IsTrue (has self.now.grid place) }
@@ -126,7 +141,8 @@ impl Tiling {
         let stamp = if self.stamps.is_empty() {
             self.base
         } else {
-            stamp_in(&self.stamps, self.base, self.grid, place)
+            let index = self.index_of(place);
+            self.stamps.get(index).copied().unwrap_or(0)
         };
         TileKey {
             layer,
