@@ -1,6 +1,6 @@
 //! A sink that waits for workers.
 
-ghost use Rattle.std.specs.Prelude.{◌≡◌, ◌≤◌, None, Some};
+ghost use Rattle.std.specs.Prelude.{◌≡◌, ◌≤◌, false, None, Some};
 ghost use Rattle.player_io.specs.Pieces.{PutAppends, PutCause};
 
 use crate::meeting::Meeting;
@@ -29,7 +29,9 @@ pub struct WaitingSink<'a> {
 impl<'a> WaitingSink<'a> {
     /// A sink that hands on what it is given, and waits where there is something to wait for.
     pub fn new(out: MemSink, meeting: &'a Meeting, wait: Option<&'a SinkWait>) -> WaitingSink<'a>
-        ensures { result.out ≡ out }
+        ensures out { result.out ≡ out }
+        ensures wait { result.wait ≡ wait.entry }
+        ensures new { result.has_waited ≡ false }
     {
         WaitingSink {
             out,
