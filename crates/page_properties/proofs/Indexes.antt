@@ -2,7 +2,7 @@
 use Rattle.std.proofs.Common.{◌≡◌, ℕ, zero, suc, ◌+◌, ◌<◌, ◌≤◌, ◌==◌, nat_lt, Bool, true, false, cond, List, [], ◌∷◌, ◌++◌, length, get_or, set, reverse, slice_get, Option, Some, None, is_some, arith, refl, sym, ◌∙◌, ap, subst, inl, inr, ◌⊎◌}
 use Rattle.std.proofs.lemmas.Bool.Decides.{nat_tests}
 use Rattle.std.proofs.lemmas.Bool.{cases_lt, cases_order}
-use Rattle.std.proofs.lemmas.List.{reverse-append, reverse-reverse, length-reverse, length-map, set-append_left, set_at}
+use Rattle.std.proofs.lemmas.List.{reverse-append, reverse-reverse, length-append, length-reverse, length-map, set-append_left, set_at}
 use Rattle.std.specs.List.{prefix_len, insert}
 use Rattle.std.specs.List.Sorted.{IsPartitionedBy, IsPartitionPoint}
 use Rattle.page_properties.specs.declared.index.IndexEntry.{IndexEntry}
@@ -77,7 +77,7 @@ unfolding front
 entry_found id [] r = refl
 entry_found id (x ∷ xs) r = found_by id x xs (prefix_len (λ t. nat_lt t.id id) xs) (cases_lt x.id id) r.0 (entry_found id xs r.1)
 
-read_at : {A : Type 0} (xs : List A) (k : ℕ) (d : A) → k < length xs → slice_get xs k ≡ Some (get_or xs k d)
+pub read_at : {A : Type 0} (xs : List A) (k : ℕ) (d : A) → k < length xs → slice_get xs k ≡ Some (get_or xs k d)
 read_at [] k d h = absurd (omega arith)
 read_at (x ∷ xs) zero d h = refl
 read_at (x ∷ xs) (suc k) d h = read_at xs k d (omega arith)
@@ -102,6 +102,12 @@ entry_other id entries d r h e =
 
 pub entry_past : (id : ℕ) (entries : List IndexEntry) → AreRising entries → length entries ≤ front id entries → None ≡ listed_place id entries
 entry_past id entries r h = sym (entry_found id entries r ∙ rw (read_past entries (front id entries) h) refl)
+
+-- an id below the first one is not there
+pub entry_before : (id : ℕ) (entries : List IndexEntry) (d : IndexEntry) → AreRising entries → 0 < length entries → id < (get_or entries 0 d).id → None ≡ listed_place id entries
+entry_before id [] d r h l = refl
+entry_before id (s ∷ ss) d r h l =
+    let t : s.id == id ≡ false = grind (arith, nat_tests) in sym (rw t (none_above id s.id ss (omega arith) r.0))
 
 -- two tests that are not both true may be asked in either order
 in_turn : {A : Type 0} (a b : Bool) (u v w : A) → (a ≡ true → b ≡ true → ⊥) → cond a u (cond b v w) ≡ cond b v (cond a u w)
@@ -215,6 +221,52 @@ at_by id e older p false h k f =
 pub is_at : {N : Type 0} (id : ℕ) (nodes : List (ℕ × N)) (p : ℕ) → place_of id (ids nodes) ≡ Some p → (f : ℕ × N) × IsAt id nodes p f
 is_at id [] p h = cc
 is_at id (e ∷ older) p h = at_by id e older p (e.0 == id) refl h (λ k. is_at id older p k)
+
+some_is : {A : Type 0} (x y : A) → Some x ≡ Some y → x ≡ y
+some_is x y h = cc
+
+-- and a node that stands at a place is the one of its id
+module _ {N : Type 0} (id : ℕ) (e : ℕ × N) (older : List (ℕ × N)) (p : ℕ) (n : N) where
+  seen_older : (t : Bool) → e.0 == id ≡ t → knows e.0 older ≡ false → IsEntryOf id older p n → IsEntryOf id (e ∷ older) p n
+  seen_older true h fresh i =
+      let same : e.0 ≡ id = grind (arith, nat_tests) in
+      let known : knows id older ≡ true = ap is_some i.node in
+      absurd (cc (sym known ∙ (ap (λ (k : ℕ). knows k older) (sym same) ∙ fresh)))
+  seen_older false h fresh i = record {
+    place = rw h i.place;
+    inside = omega (arith, i.inside);
+    node = rw h i.node;
+  }
+
+  seen_newest : p ≡ length older → e ≡ (id, n) → IsEntryOf id (e ∷ older) p n
+  seen_newest here is =
+      let t : e.0 == id ≡ true = let same : e.0 ≡ id = ap (λ f. f.0) is in grind (arith, nat_tests) in
+      let len : length (ids older) ≡ p = length-map older (λ g. g.0) ∙ sym here in
+      record {
+        place = rw t (ap Some len);
+        inside = omega (arith, here);
+        node = rw t (ap (λ f. Some f.1) is);
+      }
+
+seen_by : {N : Type 0} (id : ℕ) (e : ℕ × N) (older : List (ℕ × N)) (p : ℕ) (n : N) → AreDistinctIds (e ∷ older) → (p ≡ length older) ⊎ ((p < length older) ⊎ (length older < p))
+    → slice_get (reverse older ++ e ∷ []) p ≡ Some (id, n) → (slice_get (reverse older) p ≡ Some (id, n) → IsEntryOf id older p n) → IsEntryOf id (e ∷ older) p n
+seen_by id e older p n d (inl here) h f =
+    let end : slice_get (reverse older ++ e ∷ []) p ≡ Some e = ap (slice_get (reverse older ++ e ∷ [])) (here ∙ sym (length-reverse older)) ∙ get_end (reverse older) e in
+    seen_newest id e older p n here (some_is e (id, n) (sym end ∙ h))
+seen_by id e older p n d (inr (inl lt)) h f =
+    seen_older id e older p n (e.0 == id) refl d.0 (f (sym (get_front (reverse older) (e ∷ []) p (omega (arith, lt, length-reverse older))) ∙ h))
+seen_by id e older p n d (inr (inr gt)) h f =
+    absurd (cc (sym (read_past (reverse older ++ e ∷ []) p (omega (arith, gt, length-reverse older, length-append (reverse older) (e ∷ [])))) ∙ h))
+
+pub seen_entry : {N : Type 0} (id : ℕ) (nodes : List (ℕ × N)) (p : ℕ) (n : N) → AreDistinctIds nodes → slice_get (reverse nodes) p ≡ Some (id, n) → IsEntryOf id nodes p n
+seen_entry id [] p n d h = absurd (cc h)
+seen_entry id (e ∷ older) p n d h = seen_by id e older p n d (cases_order p (length older)) (sym (ap (λ l. slice_get l p) (reverse-append (e ∷ []) older)) ∙ h) (λ k. seen_entry id older p n d.1 k)
+
+pub entry_seen : {N : Type 0} (id : ℕ) (items all : List (ℕ × N)) (p : ℕ) (node : ℕ × N) → reverse items ≡ all → AreDistinctIds (reverse items) → slice_get items p ≡ Some node → node.0 ≡ id
+    → IsEntryOf id all p node.1
+entry_seen id items all p node is d read named =
+    subst (λ l. IsEntryOf id l p node.1) is
+    (seen_entry id (reverse items) p node.1 d (ap (λ l. slice_get l p) (reverse-reverse items) ∙ (read ∙ ap (λ (k : ℕ). Some (k, node.1)) named)))
 
 pub unknown_place : {N : Type 0} (id : ℕ) (nodes : List (ℕ × N)) → place_of id (ids nodes) ≡ None → find id nodes ≡ None
 unknown_place id nodes h = none_of (find id nodes) (sym (known_place id nodes) ∙ ap is_some h)

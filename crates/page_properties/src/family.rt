@@ -39,14 +39,25 @@ impl<N: Copy> Family<N> {
         }
     }
 
-    /// The place of an id in the order of addition, and its node; None exactly where the family has
-    /// no such id.
-    pub fn entry(&self, id: u32) -> Option<(usize, &N)>
+    // The same as `entry`, by the index.
+    fn indexed(&self, id: u32) -> Option<(usize, &N)>
         ensures { MatchOption result (find id self.now ≡ None) (λ e. IsEntryOf id self.now e.0 e.1.now) }
     {
         match place_in(&self.entries, id) {
             Some(place) => Some((place, &self.nodes[place].1)),
             None => None,
+        }
+    }
+
+    /// The place of an id in the order of addition, and its node; None exactly where the family has
+    /// no such id. Where nodes are numbered from 1 on as they are added, as in most pages, nothing is searched for.
+    pub fn entry(&self, id: u32) -> Option<(usize, &N)>
+        ensures { MatchOption result (find id self.now ≡ None) (λ e. IsEntryOf id self.now e.0 e.1.now) }
+    {
+        let place = (id as usize).wrapping_sub(1);
+        match self.nodes.get(place) {
+            Some(node) if node.0 == id => Some((place, &node.1)),
+            _ => self.indexed(id),
         }
     }
 

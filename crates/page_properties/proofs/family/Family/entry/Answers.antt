@@ -1,23 +1,12 @@
--- The index leads to the node of the id.
-use Rattle.std.proofs.Common.{◌∙◌, sym, ap, arith}
-use Rattle.page_properties.specs.Entries.{find}
-use Rattle.page_properties.specs.inner.Index.{listed_place}
-use Rattle.page_properties.proofs.Indexes.{entry_of, entry_is, unknown_entry}
+-- A node that stands at the place is the one of its id.
+use Rattle.std.proofs.Common.{ℕ, ◌+◌, ◌%◌, slice_get, Some, sym, ◌∙◌, ap}
+use Rattle.page_properties.proofs.Indexes.{entry_seen, read_at}
 use Rattle.page_properties.proofs.family.Family.entry.Goals as goal
-
-pub index-requires : goal.index-requires
-index-requires g c =
-    let f = entry_of c.args.id c.self.inside.nodes.items c.self.inside.entries.items c.in-Some.place c.self.invariant.1
-    (ap (listed_place c.args.id) (sym c.deref.ensures.value) ∙ (sym c.place_in.ensures ∙ c.in-Some.is)) in
-    omega (arith, f.1.inside)
 
 pub returns-in-Some : goal.returns-in-Some
 returns-in-Some g c =
-    entry_is c.args.id c.self.inside.nodes.items c.args.self.now c.self.inside.entries.items c.in-Some.place c.index.result.now c.self.view_is c.self.invariant.1
-    (ap (listed_place c.args.id) (sym c.deref.ensures.value) ∙ (sym c.place_in.ensures ∙ c.in-Some.is)) c.index.ensures
-
-pub returns-in-None : goal.returns-in-None
-returns-in-None g c =
-    ap (find c.args.id) (sym c.self.view_is)
-    ∙ unknown_entry c.args.id c.self.inside.nodes.items c.self.inside.entries.items c.self.invariant.1
-    (ap (listed_place c.args.id) (sym c.deref.ensures.value) ∙ (sym c.place_in.ensures ∙ c.in-None.is))
+    let there = c.in-Some.ensures.lookup.3 in
+    let node = c.in-Some.node.now in
+    let place : ℕ = (c.args.id + 18446744073709551615) % 18446744073709551616 in
+    entry_seen c.args.id c.self.inside.nodes.items c.args.self.now place node c.self.view_is c.self.invariant.0
+    (ap (λ l. slice_get l place) (sym c.deref.ensures.value) ∙ (read_at c.deref.result.now place node there.0 ∙ ap Some (sym (there.1 node)))) c.if-node-id.true
