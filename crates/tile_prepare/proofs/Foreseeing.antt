@@ -242,3 +242,16 @@ module _ (s : ScriptModel) (acc : IsAccepted s) (h : List Entry) where
           ready = subst (λ (ts : List Tile). SameMembers ts (filter is_hidden (choice s h).ready)) (sym tiles) (same_filter is_hidden (map (tile_in_both s a p (pinned s h)) b.kept) (choice s h).ready made.ready);
           as_many = subst (λ (ts : List Tile). AsMany ts (filter is_hidden (choice s h).ready)) (sym tiles) (as_many_filter is_hidden (map (tile_in_both s a p (pinned s h)) b.kept) (choice s h).ready made.as_many);
         }
+
+-- ---- what was looked at, by the keys of the visible tiles
+
+module _ (s : ScriptModel) (a p : Tree) (store : Store) (shown needed : List TileKey) (in_active : shown ≡ visible_in a) (in_pending : needed ≡ visible_in p) where
+  pub ranks_of_visible : (ks : List TileKey) (rs : List Rank) → ks ≡ first_keys s a store shown needed → rs ≡ filter_map (rank_in_both s a p) ks
+      → rs ≡ filter_map (rank_in_both s a p) (first_keys s a store (visible_in a) (visible_in p))
+  ranks_of_visible ks rs k r = r ∙ ap (filter_map (rank_in_both s a p)) (k ∙ (λ i. first_keys s a store (in_active i) (in_pending i)))
+
+  pub beside_visible : (ls ks : List TileKey) → ks ≡ ls → AreReadyBeside store shown needed ls → AreReadyBeside store (visible_in a) (visible_in p) ks
+  beside_visible ls ks same beside =
+      subst (λ (vs : List TileKey). AreReadyBeside store vs (visible_in p) ks) in_active
+      (subst (λ (vs : List TileKey). AreReadyBeside store shown vs ks) in_pending
+      (subst (AreReadyBeside store shown needed) (sym same) beside))

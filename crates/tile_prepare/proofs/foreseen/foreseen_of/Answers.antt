@@ -1,7 +1,6 @@
 -- The lists are those of the trees.
-use Rattle.std.proofs.Common.{◌≡◌, true, List, Some, filter_map, sym, ◌∙◌, ap, subst}
+use Rattle.std.proofs.Common.{◌≡◌, true, List, Some, filter_map, sym, ◌∙◌, subst}
 use Rattle.std.specs.Prelude.{option_copied}
-use Rattle.geom.specs.declared.tile.TileKey.{TileKey}
 use Rattle.tile_priority.specs.declared.rank.Rank.{Rank}
 use Rattle.tile_priority.specs.Tiles.{Tile}
 use Rattle.tile_priority.specs.Ordered.{In}
@@ -13,8 +12,8 @@ use Rattle.model_steps.specs.Choices.{rank_in_both}
 use Rattle.tile_ranks.specs.SeenTrees.{IsSeenWhere}
 use Rattle.tile_manager.specs.Managers.{Manages, AreVisibleAt}
 use Rattle.tile_manager.specs.Visible.{is_visible}
-use Rattle.tile_prepare.specs.inner.FirstKeys.{first_keys, AreReadyBeside}
-use Rattle.tile_prepare.proofs.Foreseeing.{once_at, shown_at, visible_at}
+use Rattle.tile_prepare.specs.inner.FirstKeys.{first_keys}
+use Rattle.tile_prepare.proofs.Foreseeing.{once_at, shown_at, visible_at, ranks_of_visible, beside_visible}
 use Rattle.tile_prepare.proofs.foreseen.foreseen_of.Goals as goal
 
 pub returns-clause-once : goal.returns-clause-once
@@ -26,13 +25,9 @@ returns-clause-once c =
     let m = c.args.manager.now in
     let shown = c.in_ok-shown.ensures a n.seen_active in
     let needed = c.in_ok-needed.ensures p n.seen_pending in
-    let keys : c.as_slice.result.now ≡ first_keys s a m.store (visible_in a) (visible_in p) = c.as_slice.ensures ∙ (c.in_ok-first.ensures a n.seen_active ∙ (λ i. first_keys s a m.store (shown i) (needed i))) in
-    let wanted = c.in_ok-wanted.ensures a p n.seen_active n.seen_pending ∙ ap (filter_map (rank_in_both s a p)) keys in
+    let wanted = ranks_of_visible s a p m.store _ _ shown needed _ _ (c.as_slice.ensures ∙ c.in_ok-first.ensures a n.seen_active) (c.in_ok-wanted.ensures a p n.seen_active n.seen_pending) in
     let hidden = c.in_ok-hidden.ensures a p n.seen_active n.seen_pending in
-    let beside : AreReadyBeside m.store (visible_in a) (visible_in p) c.as_slice-2.result.now =
-    subst (λ (ks : List TileKey). AreReadyBeside m.store ks (visible_in p) c.as_slice-2.result.now) shown
-    (subst (λ (ks : List TileKey). AreReadyBeside m.store c.in_ok-shown.shown ks c.as_slice-2.result.now) needed
-    (subst (AreReadyBeside m.store c.in_ok-shown.shown c.in_ok-needed.needed) (sym c.as_slice-2.ensures) c.in_ok-left.ensures)) in
+    let beside = beside_visible s a p m.store _ _ shown needed _ _ c.as_slice-2.ensures c.in_ok-left.ensures in
     subst (λ (rs : List Rank). EachKeyOnce rs c.in_ok-hidden.hidden.items) (sym wanted)
     (subst (λ (ts : List Tile). EachKeyOnce (filter_map (rank_in_both s a p) (first_keys s a m.store (visible_in a) (visible_in p))) ts) (sym hidden)
     (once_at s c.is_accepted.ensures.accepted n.past m.store m.pinned c.as_slice-2.result.now beside))
@@ -46,8 +41,7 @@ returns-clause-shown c =
     let m = c.args.manager.now in
     let shown = c.in_ok-shown.ensures a n.seen_active in
     let needed = c.in_ok-needed.ensures p n.seen_pending in
-    let keys : c.as_slice.result.now ≡ first_keys s a m.store (visible_in a) (visible_in p) = c.as_slice.ensures ∙ (c.in_ok-first.ensures a n.seen_active ∙ (λ i. first_keys s a m.store (shown i) (needed i))) in
-    let wanted = c.in_ok-wanted.ensures a p n.seen_active n.seen_pending ∙ ap (filter_map (rank_in_both s a p)) keys in
+    let wanted = ranks_of_visible s a p m.store _ _ shown needed _ _ (c.as_slice.ensures ∙ c.in_ok-first.ensures a n.seen_active) (c.in_ok-wanted.ensures a p n.seen_active n.seen_pending) in
     subst (λ (rs : List Rank). (r : Rank) → In r rs → is_visible (Some r) ≡ true) (sym wanted) (shown_at s c.is_accepted.ensures.accepted n.past m.store)
 
 pub returns-clause-visible : goal.returns-clause-visible
@@ -62,13 +56,9 @@ returns-clause-visible c = λ s workers h is legal holds seen_active seen_pendin
     let m = c.args.manager.now in
     let shown = c.in_ok-shown.ensures a seen_a in
     let needed = c.in_ok-needed.ensures p seen_p in
-    let keys : c.as_slice.result.now ≡ first_keys s a m.store (visible_in a) (visible_in p) = c.as_slice.ensures ∙ (c.in_ok-first.ensures a seen_a ∙ (λ i. first_keys s a m.store (shown i) (needed i))) in
-    let wanted = c.in_ok-wanted.ensures a p seen_a seen_p ∙ ap (filter_map (rank_in_both s a p)) keys in
+    let wanted = ranks_of_visible s a p m.store _ _ shown needed _ _ (c.as_slice.ensures ∙ c.in_ok-first.ensures a seen_a) (c.in_ok-wanted.ensures a p seen_a seen_p) in
     let hidden = c.in_ok-hidden.ensures a p seen_a seen_p in
-    let beside : AreReadyBeside m.store (visible_in a) (visible_in p) c.as_slice-2.result.now =
-    subst (λ (ks : List TileKey). AreReadyBeside m.store ks (visible_in p) c.as_slice-2.result.now) shown
-    (subst (λ (ks : List TileKey). AreReadyBeside m.store c.in_ok-shown.shown ks c.as_slice-2.result.now) needed
-    (subst (AreReadyBeside m.store c.in_ok-shown.shown c.in_ok-needed.needed) (sym c.as_slice-2.ensures) c.in_ok-left.ensures)) in
+    let beside = beside_visible s a p m.store _ _ shown needed _ _ c.as_slice-2.ensures c.in_ok-left.ensures in
     subst (λ (rs : List Rank). AreVisibleAt s h rs c.in_ok-hidden.hidden.items) (sym wanted)
     (subst (λ (ts : List Tile). AreVisibleAt s h (filter_map (rank_in_both s a p) (first_keys s a m.store (visible_in a) (visible_in p))) ts) (sym hidden)
     (visible_at s c.is_accepted.ensures.accepted h workers legal m holds c.as_slice-2.result.now beside)))
