@@ -9,7 +9,7 @@ through the names in those definitions. It prints each file of specs/ with the l
 in lines and in pages of 50 lines; with --words each word too. With --word step (play, gen, demo, film, shot, serve,
 frames, check) it leaves out the cases of the program's other words; --table writes a row for each of them. It fails
 where a word that the clauses themselves name does not stand in docs/DEFINITIONS.md, where the files that `step` rests
-on are not those of its table, or where a name leads nowhere.
+on are not those of its table, where README.md tells another number of lines for a word, or where a name leads nowhere.
 """
 import argparse
 import collections
@@ -18,7 +18,7 @@ import re
 import sys
 
 ROOT = pathlib.Path(__file__).resolve().parent.parent
-CRATES, DEFINITIONS = ROOT / "crates", ROOT / "docs" / "DEFINITIONS.md"
+CRATES, DEFINITIONS, README = ROOT / "crates", ROOT / "docs" / "DEFINITIONS.md", ROOT / "README.md"
 PAGE = 50
 # The call whose contract is the theorem.
 RUN = "player_run/program.rt:run"
@@ -27,6 +27,9 @@ WORDS = ("Step", "Play", "Gen", "Demo", "Film", "Shot", "Serve", "Frames", "Chec
 
 # What a clause says `OnServe`: of the words `serve N` alone.
 OF_SESSIONS = re.compile(r"(\{ OnServe \(.*?\)) \(λ.*\}")
+
+# README's table of lines: its words and their numbers.
+TOLD_LINES = re.compile(r"^(\| `step` \|.*)\n\|[-|]+\n(\|.*)$", re.M)
 
 USE = re.compile(r"^(?:ghost )?(?:pub )?use Rattle\.(\w+)\.(\w+)\.([\w.]+?)(?:\.\{([^}]*)\}| as (\w+))?;?$")
 HEAD = re.compile(r"^(?:(?:abbrev|unfoldable|unfolding|irreducible|strict|pub|priv)\s+)*(?:(record|data)\s+)?(?:pub\s+)?([^\s:(){}]+)\s*(?=[:(\s{])")
@@ -235,13 +238,23 @@ def files_told(page):
     return {(row[0], name) for row in rows if row for name in row[1:]}
 
 
+def worlds(text, names, short):
+    """The definitions that each word of the program rests on, and those of all."""
+    return {word.lower() if word else "all": world_of(word, text, names, short) for word in (*WORDS, None)}
+
+
+def lines_told():
+    """How many lines README says that each word rests on."""
+    words, numbers = (re.findall(r"[\w,]+", it) for it in TOLD_LINES.search(README.read_text()).groups())
+    return {word: int(number.replace(",", "")) for word, number in zip(words, numbers)}
+
+
 def print_table(text, names, short):
     """A row for each word of the program."""
     print("| Word | Definitions | Files | Lines | Pages |\n|---|---|---|---|---|")
-    for word in (*WORDS, None):
-        world = world_of(word, text, names, short)
+    for word, world in worlds(text, names, short).items():
         lines = lines_of(world.found.values())
-        name = f"`{word.lower()}`" if word else "all"
+        name = word if word == "all" else f"`{word}`"
         print(f"| {name} | {len(world.found)} | {len(world.by_file())} | {lines:,} | {-(-lines // PAGE)} |")
     return 0
 
@@ -275,6 +288,8 @@ def main():
         step = world_of("Step", text, names, short).by_file()
         of_step = {(pathlib.Path(it).parts[1], pathlib.Path(it).stem) for it in step}
         wrong += [f"docs/DEFINITIONS.md: the files of `step` differ at {'/'.join(it)}" for it in sorted(of_step ^ files_told(page))]
+        found = {word: lines_of(it.found.values()) for word, it in worlds(text, names, short).items()}
+        wrong += [f"README.md tells {told} lines for {word}, which rests on {found[word]}" for word, told in lines_told().items() if told != found[word]]
     for line in wrong:
         print(f"believed: {line}", file=sys.stderr)
     return 1 if wrong else 0
