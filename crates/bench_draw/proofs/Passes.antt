@@ -1,11 +1,11 @@
 -- One more quad, and one more pass.
 use Rattle.std.proofs.Common.{◌≡◌, ℕ, ◌+◌, ◌≤◌, lit≤, List, [], ◌∷◌, ◌++◌, length, sym, ◌∙◌, ap, subst, arith}
-use Rattle.std.specs.Prelude.{All, map}
+use Rattle.std.specs.Prelude.{All}
 use Rattle.std.proofs.lemmas.List.{map-append, length-map, length-append}
 use Rattle.std.proofs.lemmas.List.Elements.{All-push}
 use Rattle.viz_scene.specs.declared.Quad.{Quad}
 use Rattle.viz_scene.specs.declared.RenderPass.{RenderPass}
-use Rattle.viz_scene.specs.Views.{QuadView, quad_view, quads_view, pass_view, passes_view}
+use Rattle.viz_scene.specs.Views.{quad_view, quads_view, pass_view, passes_view}
 use Rattle.viz_scene.specs.Sound.{QuadFits, AreSound, IsSceneSide}
 use Rattle.viz_scene.proofs.Steps.{sound_append}
 

@@ -2,7 +2,6 @@
 //! shows both.
 
 ghost use Rattle.std.specs.Prelude.{◌≡◌, IsTrue, IfOk};
-ghost use Rattle.viz_scene.specs.Views.{SceneView};
 ghost use Rattle.viz_canvas.specs.Canvases.{IsOfSize};
 
 use crate::pool::pool_of;

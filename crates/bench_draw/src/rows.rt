@@ -1,6 +1,6 @@
 //! The jobs on one row.
 
-ghost use Rattle.std.specs.Prelude.{◌≡◌, ◌*◌, ◌≤◌, IfOk, length};
+ghost use Rattle.std.specs.Prelude.{◌≡◌, ◌*◌, ◌≤◌, IfOk};
 ghost use Rattle.std.specs.Vec.{vec_len};
 ghost use Rattle.pixel.specs.Rows.{ArePremultiplied};
 

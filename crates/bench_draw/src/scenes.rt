@@ -1,8 +1,8 @@
 //! The jobs on a scene of 1024 by 1024 pixels, in tiles of 256.
 
-ghost use Rattle.std.specs.Prelude.{◌≡◌, ◌<◌, ◌≤◌, ◌+◌, ◌*◌, ℕ, pos, ◌≤ℤ◌, length, IfOk, OnOk, All};
+ghost use Rattle.std.specs.Prelude.{◌≡◌, ◌<◌, ◌+◌, ◌*◌, ℕ, pos, IfOk, OnOk};
 ghost use Rattle.page_display_list.specs.Content.{IsSoundItem};
-ghost use Rattle.viz_scene.specs.Views.{quad_view, quads_view, passes_view};
+ghost use Rattle.viz_scene.specs.Views.{quad_view};
 ghost use Rattle.viz_scene.specs.Sound.{QuadFits, IsIn};
 ghost use Rattle.geom.specs.Covers.{IsSound};
 ghost use Rattle.bench_draw.specs.Jobs.{IsLarge, CanBeAnywhere};

@@ -1,6 +1,5 @@
 //! What is done with a large scene, again and again.
 
-ghost use Rattle.std.specs.Prelude.{◌≡◌, IfOk};
 ghost use Rattle.bench_draw.specs.Jobs.{IsLarge};
 
 use crate::large::layered;

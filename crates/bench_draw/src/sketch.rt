@@ -1,7 +1,5 @@
 //! Sketches of scenes: random, and changed by a few random steps.
 
-ghost use Rattle.std.specs.Prelude.{◌≡◌, ◌≤◌, IfSome, IfOk};
-
 use crate::pool::{IMAGES, colour_of};
 use geom::{Point, Rect};
 use pixel::Colour;

@@ -1,5 +1,5 @@
 -- What applying a command to the main page is for the compositor.
-use Rattle.std.proofs.Common.{◌≡◌, Option, List, Result, Ok, Err, ap, sym, subst}
+use Rattle.std.proofs.Common.{Option, List, Result, Ok, Err, ap, sym, subst}
 use Rattle.std.specs.Prelude.{⊤}
 use Rattle.geom.specs.declared.rect.Rect.{Rect}
 use Rattle.region.specs.Lists.{Changed}

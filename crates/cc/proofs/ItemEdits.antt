@@ -4,7 +4,6 @@ use Rattle.std.specs.Prelude.{find, is_some, insert, remove, slice_set, option_m
 use Rattle.geom.specs.declared.rect.Point.{Point}
 use Rattle.geom.specs.declared.rect.Rect.{Rect}
 use Rattle.geom.specs.Covers.{covers}
-use Rattle.geom.specs.Common.{common}
 use Rattle.geom.proofs.Spans.{common_points, both, both_of}
 use Rattle.pixel.specs.Colours.{Parts, clear}
 use Rattle.region.specs.declared.change.LayerChange.{LayerChange}
@@ -21,7 +20,7 @@ use Rattle.page_layers.specs.Lists.{with_first_changed}
 use Rattle.page_layers.specs.Pages.{Page}
 use Rattle.page_layers.specs.Sound.{IsPage}
 use Rattle.page_layers.specs.Refusals.{has_layer}
-use Rattle.page_layers.specs.Effects.{Change, with_layer_changed, page_after_command, layer_change_of, retiles, main_point, rects_of, item_rect_at}
+use Rattle.page_layers.specs.Effects.{with_layer_changed, page_after_command, layer_change_of, retiles, main_point, rects_of, item_rect_at}
 use Rattle.page_layers.specs.Outcomes.{Accepts, Outcome, ListsChange, HoldsOnly}
 use Rattle.page_layers.specs.Contents.{content_at, shows_at}
 use Rattle.page_layers.specs.Painting.{Items, folded, items_at, layer_before}
@@ -29,7 +28,7 @@ use Rattle.page_layers.specs.TreePainting.{groups_in, opacity_in, lets_through, 
 use Rattle.page_layers.proofs.FoundLayers.{found-here}
 use Rattle.page_layers.proofs.Unlisted.{unlisted_stays}
 use Rattle.tile_visible.specs.Visible.{viewport, cut_by}
-use Rattle.cc.specs.inner.Edits.{LookAlikeOutside, CoverBoth, CoverChange, CoverFirst, IsNoted, changes_items, shows_rects}
+use Rattle.cc.specs.inner.Edits.{LookAlikeOutside, CoverBoth, CoverFirst, IsNoted, changes_items, shows_rects}
 use Rattle.cc.specs.inner.Flags.{TellsEdited}
 use Rattle.cc.proofs.Pictures.{inside}
 

@@ -1,5 +1,5 @@
 -- A frame that shows the scene of a page shows the page.
-use Rattle.std.proofs.Common.{◌≡◌, ℕ, pos, ◌<◌, ◌+◌, true, Option, Some, None, List, ap, sym, ◌∙◌, subst, arith}
+use Rattle.std.proofs.Common.{◌≡◌, ℕ, pos, ◌<◌, true, Option, Some, None, List, ap, sym, ◌∙◌, subst, arith}
 use Rattle.std.specs.Prelude.{IfSome}
 use Rattle.geom.specs.declared.rect.Rect.{Rect}
 use Rattle.geom.specs.declared.rect.Point.{Point}

@@ -5,11 +5,11 @@ use Rattle.std.proofs.lemmas.Bool.Decides.{nat_tests}
 use Rattle.std.proofs.lemmas.Int.{ints}
 use Rattle.geom.specs.declared.rect.Point.{Point}
 use Rattle.page_properties.specs.declared.nodes.ScrollNode.{ScrollNode}
-use Rattle.page_properties.specs.Entries.{find, knows, with_node_changed}
+use Rattle.page_properties.specs.Entries.{find, with_node_changed}
 use Rattle.page_properties.specs.Placement.{minus}
 use Rattle.page_layers.specs.Pages.{Page}
 use Rattle.page_layers.specs.Sound.{IsPage}
-use Rattle.page_layers.specs.Scrolls.{clamp_to, origin, or_origin}
+use Rattle.page_layers.specs.Scrolls.{origin, or_origin}
 use Rattle.page_layers.specs.Effects.{scrolled_by, main_point, clamped_in}
 use Rattle.page_properties.proofs.Families.{find_changed}
 use Rattle.page_layers.proofs.NodeKeeps.{not_changed, values-known, clamp_again}

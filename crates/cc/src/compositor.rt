@@ -1,11 +1,8 @@
 //! Compositors.
 
-ghost use Rattle.std.specs.Prelude.{◌≡◌, ◌∷◌, [], true, false, All, IfOk, OnOk, OnErr};
-ghost use Rattle.geom.specs.Covers.{IsSound};
+ghost use Rattle.std.specs.Prelude.{◌≡◌, [], true, false, IfOk, OnOk, OnErr};
 ghost use Rattle.page_layers.specs.Pages.{IsView};
-ghost use Rattle.page_layers.specs.Effects.{main_point};
 ghost use Rattle.page_layers.specs.Hits as hits;
-ghost use Rattle.page_layers.specs.Outcomes.{Outcome};
 ghost use Rattle.page_hit_test.specs.Wheels.{IsAmount, IsWheel};
 ghost use Rattle.viz_canvas.specs.Canvases.{IsOfSize, EachIs, black};
 ghost use Rattle.viz_painter.specs.Painters.{IsKeptOutside};
@@ -51,7 +48,6 @@ pub struct Compositor<F: PixelFormat> {
 }
 
 impl<F: PixelFormat> Model for Compositor<F> {
-    ghost use Rattle.std.specs.Prelude.{◌≡◌};
     ghost use Rattle.cc_tiles.specs.KeptTiles.{AreKeptFor, AreCurrent};
     ghost use Rattle.cc.specs.Compositors.{CompositorView};
     ghost use Rattle.cc.specs.inner.Flags.{TellsCommitted, TellsEdited, TellsShown, damage_in};

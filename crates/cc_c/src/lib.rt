@@ -9,7 +9,7 @@ mod handle;
 mod held;
 mod status;
 
-ghost use Rattle.std.specs.Prelude.{◌≡◌, ◌≤◌, ℕ, true, false, length, IfSome};
+ghost use Rattle.std.specs.Prelude.{◌≡◌, ◌≤◌, true, false, length, IfSome};
 ghost use Rattle.page_layers.specs.Pages.{IsView};
 ghost use Rattle.cc.specs.Compositors.{CompositorView, offsets};
 ghost use Rattle.cc_numbers.specs.Damages.{written};

@@ -1,5 +1,5 @@
 -- Which command numbers mean.
-use Rattle.std.specs.Prelude.{⊤, ◌≡◌, ◌⊎◌, ℕ, ℤ, true, false, cond, ◌==◌, Option, Some, None, List, Result, Ok, Err}
+use Rattle.std.specs.Prelude.{⊤, ◌≡◌, ◌⊎◌, ℕ, ℤ, true, false, cond, ◌==◌, Some, None, List, Result, Ok, Err}
 use Rattle.page_display_list.specs.declared.bitmap.BitmapCause.{BitmapCause}
 use Rattle.page_display_list.specs.declared.item.Item.{Item}
 use Rattle.page_display_list.specs.declared.item.Item.TheVariants as item

@@ -1,6 +1,6 @@
 //! Damage as C sees it.
 
-ghost use Rattle.std.specs.Prelude.{◌≡◌, ◌+◌, ◌<◌, length};
+ghost use Rattle.std.specs.Prelude.{◌≡◌, length};
 ghost use Rattle.cc_numbers.specs.Damages as spec;
 
 use geom::Rect;

@@ -1,5 +1,5 @@
 -- Images of kept tiles, and lists of them.
-use Rattle.std.proofs.Common.{◌≡◌, ◌<◌, ◌++◌, ℕ, Bool, true, false, not, Option, Some, None, List, [], ◌∷◌, filter, map, All, length, get_or, set, refl, sym, ◌∙◌, ap, subst}
+use Rattle.std.proofs.Common.{◌≡◌, ◌<◌, ◌++◌, ℕ, Bool, true, false, not, Some, List, [], ◌∷◌, filter, map, All, length, get_or, set, refl, sym, ◌∙◌, ap, subst}
 use Rattle.std.specs.Prelude.{is_some, find, insert}
 use Rattle.std.proofs.lemmas.List.Elements.{All-filter, filter_passes, All-set, All-get_or, All-nil, All-cons, All-head, All-tail, All-push, All-map, All-weaker}
 use Rattle.geom.specs.declared.tile.Place.{Place}

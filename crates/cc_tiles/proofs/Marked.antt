@@ -1,5 +1,5 @@
 -- What a command does not change, kept tiles show after it too.
-use Rattle.std.proofs.Common.{◌≡◌, ℕ, ℤ, ◌==◌, ◌&&◌, ◌||◌, Bool, true, false, not, Option, Some, None, option_map, List, [], ◌∷◌, map, All, refl, sym, ◌∙◌, ap, subst, eqb-true, ◌+◌, ◌<◌, ◌≤◌, zero, suc, length, get_or, arith, add-one}
+use Rattle.std.proofs.Common.{◌≡◌, ℕ, ℤ, ◌==◌, ◌&&◌, ◌||◌, Bool, true, false, not, Option, Some, None, option_map, List, [], ◌∷◌, map, refl, sym, ◌∙◌, ap, subst, eqb-true, ◌+◌, ◌<◌, ◌≤◌, zero, suc, length, get_or, arith, add-one}
 use Rattle.std.specs.Prelude.{slice_set, is_some, find}
 use Rattle.std.proofs.lemmas.List.Elements.{All-map, All-weaker}
 use Rattle.geom.specs.declared.rect.Rect.{Rect}
@@ -25,7 +25,7 @@ use Rattle.page_layers.specs.Contents.{shows_at, is_changed_whole, KeepsTheRest}
 use Rattle.page_layers.proofs.Unlisted.{unlisted_stays}
 use Rattle.viz_quads.specs.ShownTiles.{IsImageOf}
 use Rattle.cc_tiles.specs.declared.kept_tile.KeptTile.{KeptTile}
-use Rattle.cc_tiles.specs.KeptTiles.{place_of, IsImageAt, IsKeptFor, AreKeptFor, IsCurrent, AreCurrent}
+use Rattle.cc_tiles.specs.KeptTiles.{place_of, IsKeptFor, AreKeptFor, IsCurrent, AreCurrent}
 use Rattle.cc_tiles.specs.inner.Marks.{shows_in, shows, is_touched, marked}
 
 -- ---- tests

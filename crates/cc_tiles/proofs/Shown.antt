@@ -1,5 +1,5 @@
 -- Tiles that all have their images are those that a page shows.
-use Rattle.std.proofs.Common.{ℕ, ◌≡◌, nat_lt, Bool, true, false, cond, Result, Ok, Err, Option, Some, None, List, [], ◌∷◌, map, filter, find, All, refl, ap, sym, ◌∙◌, subst, Global, Vec}
+use Rattle.std.proofs.Common.{ℕ, ◌≡◌, nat_lt, Bool, true, false, cond, Result, Ok, Err, Option, Some, List, [], ◌∷◌, map, filter, find, All, refl, ap, sym, ◌∙◌, subst, Global, Vec}
 use Rattle.std.specs.Prelude.{is_none, IfSome, IfOk}
 use Rattle.std.specs.declared.alloc.AllocError.{AllocError}
 use Rattle.std.specs.List.{flat_map}

@@ -2,7 +2,6 @@
 
 ghost use Rattle.std.specs.Prelude.{◌≡◌, [], true, map, IfOk};
 ghost use Rattle.page_properties.specs.OffsetMap.{offset_at, AreOffsets};
-ghost use Rattle.region.specs.Lists.{Changed};
 ghost use Rattle.page_layers.specs.declared.command.Command.{Command as Edit};
 ghost use Rattle.page_layers.specs.Pages.{Page};
 ghost use Rattle.page_layers.specs.Sound.{IsPage};

@@ -7,7 +7,7 @@ ghost use Rattle.page_properties.specs.OffsetMap.{offset_at, AreOffsets};
 ghost use Rattle.page_layers.specs.Layers.{parts_of, has_id};
 ghost use Rattle.tile_visible.specs.Visible as visible;
 ghost use Rattle.viz_quads.specs.ShownTiles.{tile_of, missing_keys, IsImageOf, AreShownTiles};
-ghost use Rattle.cc_tiles.specs.KeptTiles.{place_of, IsImageAt, HasItsImage, HaveTheirImages, IsKeptFor, AreKeptFor, IsCurrent, AreCurrent};
+ghost use Rattle.cc_tiles.specs.KeptTiles.{place_of, IsImageAt, HaveTheirImages, IsKeptFor, AreKeptFor, IsCurrent, AreCurrent};
 
 use crate::kept_tile::KeptTile;
 use geom::{Place, TileKey};

@@ -2,7 +2,6 @@
 
 ghost use Rattle.std.specs.Prelude.{◌≡◌, map, filter, not};
 ghost use Rattle.geom.specs.Covers.{IsSound};
-ghost use Rattle.region.specs.Lists.{Changed};
 ghost use Rattle.page_layers.specs.declared.command.Command.{Command as Edit};
 ghost use Rattle.page_layers.specs.Layers.{parts_of};
 ghost use Rattle.page_layers.specs.Pages.{Page};

@@ -1,6 +1,6 @@
 //! The grid of a layer: its places, their rects, and the places that an area touches.
 
-ghost use Rattle.std.specs.Prelude.{◌≡◌, ◌≤◌, Bool, true, IsTrue, IfOk};
+ghost use Rattle.std.specs.Prelude.{◌≡◌, ◌≤◌, IsTrue, IfOk};
 ghost use Rattle.geom.specs.Covers.{covers, IsSound};
 ghost use Rattle.geom.specs.IndexRanges;
 ghost use Rattle.geom.specs.IndexRanges.{IsMeeting};

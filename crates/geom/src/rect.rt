@@ -1,6 +1,6 @@
 //! Points and rects of whole pixels.
 
-ghost use Rattle.std.specs.Prelude.{◌≡◌, ◌↔◌, ℤ, ◌+ℤ◌, ◌&&◌, Bool, false, IsTrue};
+ghost use Rattle.std.specs.Prelude.{◌≡◌, ◌↔◌, ℤ, ◌+ℤ◌, ◌&&◌, IsTrue};
 ghost use Rattle.geom.specs.Covers.{covers, IsSound};
 ghost use Rattle.geom.specs.Common.{common, meets, empty_rect, Meet};
 ghost use Rattle.geom.specs.Gaps.{distance, shifted};

@@ -1,6 +1,6 @@
 //! One axis of a rect: the whole numbers from `at` on, `len` of them.
 
-ghost use Rattle.std.specs.Prelude.{◌≡◌, ℤ, ◌&&◌, Bool, false, pos, ◌<ℤ◌, ◌+ℤ◌, ◌-ℤ◌, ◌≤ℤ◌, ◌<◌, ◌+◌, ◌/◌, IfSome, IsTrue, FitsSigned, unsigned_abs};
+ghost use Rattle.std.specs.Prelude.{◌≡◌, ℤ, ◌&&◌, ◌+ℤ◌, ◌<◌, ◌+◌, IfSome, FitsSigned};
 ghost use mir.Syntax.{w32};
 ghost use Rattle.geom.specs.Covers.{within, IsSpan};
 ghost use Rattle.geom.specs.Common;

@@ -1,6 +1,6 @@
 //! The trees as their tiles are seen.
 
-ghost use Rattle.std.specs.Prelude.{◌≡◌, ◌*◌, ℕ, List, Option, is_some, IfOk, option_copied};
+ghost use Rattle.std.specs.Prelude.{◌≡◌, ℕ, List, Option, is_some, IfOk, option_copied};
 ghost use Rattle.geom.specs.declared.rect.Point.{Point};
 ghost use Rattle.page_properties.specs.OffsetMap.{offset_at, AreOffsets};
 ghost use Rattle.page_layers.specs.declared.moves.Move.{Move};

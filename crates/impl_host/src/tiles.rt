@@ -1,6 +1,6 @@
 //! What the trees tell of single tiles.
 
-ghost use Rattle.std.specs.Prelude.{◌≡◌, ◌*◌, ℕ, List, Option, Some, None, cond, is_some, IfOk, IfSome, option_copied};
+ghost use Rattle.std.specs.Prelude.{◌≡◌, ℕ, List, Option, Some, None, cond, is_some, IfOk, IfSome, option_copied};
 ghost use Rattle.geom.specs.declared.rect.Point.{Point};
 ghost use Rattle.geom.specs.KeyLists.{has_key};
 ghost use Rattle.geom.specs.Covers.{IsSound};

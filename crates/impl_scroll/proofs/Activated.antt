@@ -1,5 +1,5 @@
 -- Activated values are within the bounds of every step.
-use Rattle.std.proofs.Common.{ℕ, ℤ, ◌≡◌, suc, ◌*◌, ◌^◌, ◌-◌, ◌<◌, ◌≤◌, pos, ◌+ℤ◌, ◌-ℤ◌, ◌≤ℤ◌, List, arith}
+use Rattle.std.proofs.Common.{ℕ, ℤ, ◌*◌, ◌-◌, ◌≤◌, ◌+ℤ◌, ◌-ℤ◌, List, arith}
 use Rattle.std.proofs.lemmas.Int.{ints}
 use Rattle.model_scroll_values.specs.declared.Synced.{Synced}
 use Rattle.model_scroll_values.specs.Table.{activated, active_value}

@@ -1,5 +1,5 @@
 -- How large the moves of an activation are.
-use Rattle.std.proofs.Common.{ℕ, ℤ, ◌≡◌, ◌^◌, ◌-◌, ◌≤◌, pos, ◌+ℤ◌, ◌-ℤ◌, ◌≤ℤ◌, Bool, true, false, arith}
+use Rattle.std.proofs.Common.{ℕ, ℤ, ◌^◌, ◌-◌, ◌≤◌, pos, ◌+ℤ◌, ◌-ℤ◌, ◌≤ℤ◌, Bool, true, false, arith}
 use Rattle.std.specs.Int.RustNames.{FitsSigned}
 use Rattle.std.specs.Prelude.{neg_ℤ}
 use Rattle.std.proofs.lemmas.Int.{ints, clamps}

@@ -1,12 +1,10 @@
 -- Rows by rising scroller: each has the values of its scroller.
-use Rattle.std.proofs.Common.{◌≡◌, ℕ, zero, suc, ◌<◌, ◌≤◌, ◌==◌, Bool, true, false, cond, ◌||◌, List, [], ◌∷◌, length, get_or, map, refl, sym, ◌∙◌, ap, arith}
-use Rattle.std.specs.List.{list_any}
-use Rattle.model_scroll_values.specs.declared.Synced.{Synced}
+use Rattle.std.proofs.Common.{◌≡◌, ℕ, zero, suc, ◌<◌, ◌==◌, false, cond, List, [], ◌∷◌, length, get_or, refl, ◌∙◌, ap, arith}
 use Rattle.model_scroll_values.specs.Table.{zero as nothing}
-use Rattle.page_layers.specs.Axes.{Axis, across, down}
-use Rattle.model_history.proofs.BoolFacts.{is_same, is_other, same_number, or_left_false, or_right_false}
+use Rattle.page_layers.specs.Axes.{Axis}
+use Rattle.model_history.proofs.BoolFacts.{is_same, is_other, or_left_false, or_right_false}
 use Rattle.impl_scroll.specs.declared.row.Row.{Row}
-use Rattle.impl_scroll.specs.Rows.{value_along, row_value, has_number, row_at}
+use Rattle.impl_scroll.specs.Rows.{value_along, row_value, has_number}
 use Rattle.impl_scroll.specs.inner.Steps.{ids_of, AllAbove, AreRising}
 
 pub above_get : (n : ℕ) (rs : List Row) (i : ℕ) (d : Row) → AllAbove n rs → i < length rs → n < (get_or rs i d).scroller

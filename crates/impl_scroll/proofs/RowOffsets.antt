@@ -1,5 +1,5 @@
 -- Offsets that are set, one row after another.
-use Rattle.std.proofs.Common.{◌≡◌, ℕ, ◌+◌, ◌<◌, ◌==◌, ℤ, pos, ◌≤ℤ◌, Bool, true, false, cond, ◌||◌, List, [], ◌∷◌, ◌++◌, length, map, get_or, take, refl, sym, ◌∙◌, ap, subst, arith}
+use Rattle.std.proofs.Common.{◌≡◌, ℕ, ◌+◌, ◌<◌, ◌==◌, ℤ, pos, Bool, true, false, cond, ◌||◌, List, [], ◌∷◌, length, get_or, take, refl, sym, ◌∙◌, ap, subst, arith}
 use Rattle.std.specs.Prelude.{if◌then◌else◌}
 use Rattle.std.proofs.lemmas.List.{take_more, map-append}
 use Rattle.std.proofs.lemmas.Bool.Decides.{nat_tests}
@@ -8,9 +8,8 @@ use Rattle.geom.specs.declared.rect.Point.{Point}
 use Rattle.page_properties.specs.OffsetMap.{IsOffset}
 use Rattle.page_layers.specs.Pages.{Page}
 use Rattle.page_layers.specs.Axes.{Axis, across, down}
-use Rattle.page_layers.specs.Scrolls.{origin, clamp_to, IsInRange}
+use Rattle.page_layers.specs.Scrolls.{origin, IsInRange}
 use Rattle.page_layers.specs.Scrollers.{has_scroller, most, offsets_in}
-use Rattle.model_scroll_values.specs.declared.Synced.{Synced}
 use Rattle.model_scroll_values.specs.Table.{zero as nothing}
 use Rattle.model_history.proofs.BoolFacts.{same_number}
 use Rattle.model_history.proofs.PageRanges.{clamp_zero}
@@ -19,7 +18,7 @@ use Rattle.model_steps.specs.Standing.{brought_to}
 use Rattle.impl_scroll.specs.declared.row.Row.{Row}
 use Rattle.impl_scroll.specs.declared.offsets.Stage.{Stage}
 use Rattle.impl_scroll.specs.declared.offsets.Stage.TheVariants as stage
-use Rattle.impl_scroll.specs.Rows.{value_along, row_value, has_number}
+use Rattle.impl_scroll.specs.Rows.{has_number}
 use Rattle.impl_scroll.specs.inner.Stages.{value_in, stands_at, point_at}
 use Rattle.impl_scroll.specs.inner.Steps.{ids_of, AreRising}
 use Rattle.impl_scroll.proofs.RowFacts.{value_at, value_none}

@@ -1,6 +1,6 @@
 //! The scroll values of all scrollers.
 
-ghost use Rattle.std.specs.Prelude.{◌≡◌, ◌≤ℤ◌, ◌^◌, ℕ, [], cond, pos, neg_ℤ, IfOk, OnOk, OnErr};
+ghost use Rattle.std.specs.Prelude.{◌≡◌, ℕ, [], cond, pos, IfOk, OnOk, OnErr};
 ghost use Rattle.model_scroll_values.specs.Bounds.{IsBounded, IsBoundedNumber};
 ghost use Rattle.model_scroll_values.specs.Table.{pull_answer, pulled, pushed, activated, aborted, added};
 ghost use Rattle.page_properties.specs.OffsetMap.{offset_at, AreOffsets};

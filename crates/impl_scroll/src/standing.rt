@@ -27,7 +27,6 @@ pub struct Standing {
 }
 
 impl Model for Standing {
-    ghost use Rattle.std.specs.Prelude.{◌*◌};
     ghost use Rattle.page_properties.specs.OffsetMap.{offset_at, AreOffsets};
     ghost use Rattle.impl_scroll.specs.Standings.{StandingModel};
 

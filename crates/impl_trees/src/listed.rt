@@ -1,6 +1,6 @@
 //! What a commit changed in a layer.
 
-ghost use Rattle.std.specs.Prelude.{◌≡◌, ◌||◌, Bool, true, false, not, ◌&&◌, is_none};
+ghost use Rattle.std.specs.Prelude.{◌≡◌, true, false, not, ◌&&◌, is_none};
 ghost use Rattle.std.specs.Option.{option_copied};
 ghost use Rattle.region.specs.Lists.{change_of};
 ghost use Rattle.impl_trees.specs.inner.Steps as spec;

@@ -1,10 +1,7 @@
 //! The tilings of the tree of a commit.
 
 ghost use Rattle.std.specs.Prelude.{◌≡◌, [], false, All, IfOk, IfSome, OnOk};
-ghost use Rattle.geom.specs.Sides.{IsLayerSide};
-ghost use Rattle.page_layers.specs.Layers.{parts_of};
-ghost use Rattle.tile_visible.specs.Visible as visible;
-ghost use Rattle.impl_trees.specs.Trees.{TreeModel, AreCut, MayFollow};
+ghost use Rattle.impl_trees.specs.Trees.{AreCut, MayFollow};
 ghost use Rattle.impl_trees.specs.inner.Steps as spec;
 ghost use Rattle.impl_trees.specs.inner.Steps.{IsSpareOf, IsTwin, HasTiling, HasTilingIn, IsNextTiling, AreMade, Follows, IsRecycled};
 

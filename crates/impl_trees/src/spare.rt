@@ -1,6 +1,6 @@
 //! Tilings that are used again.
 
-ghost use Rattle.std.specs.Prelude.{◌≡◌, ◌≤◌, ◌<◌, ℕ, false, All, IfSome, length, slice_get, Some};
+ghost use Rattle.std.specs.Prelude.{◌≡◌, ◌<◌, ℕ, All, IfSome, slice_get, Some};
 ghost use Rattle.geom.specs.Sides.{IsLayerSide};
 ghost use Rattle.page_layers.specs.Layers.{parts_of};
 ghost use Rattle.tile_visible.specs.Visible as visible;

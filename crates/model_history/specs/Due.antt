@@ -1,5 +1,5 @@
 -- What is due: the one event of a kind and an actor that may come after a past, where its further condition holds.
-use Rattle.std.specs.Prelude.{ℕ, ◌-◌, ◌==◌, nat_le, pos, Bool, true, false, cond, not, ◌&&◌, List, [], ◌∷◌, length, slice_get, is_some, Option, Some, None}
+use Rattle.std.specs.Prelude.{ℕ, ◌-◌, ◌==◌, nat_le, pos, Bool, true, false, cond, not, ◌&&◌, List, length, slice_get, is_some, Option, Some, None}
 use Rattle.geom.specs.declared.tile.TileKey.{TileKey}
 use Rattle.tile_priority.specs.declared.rank.Rank.{Rank}
 use Rattle.model_scheduler.specs.declared.kind.Kind.{Kind}

@@ -7,7 +7,7 @@ use Rattle.page_layers.specs.declared.command.Command.{Command}
 use Rattle.page_layers.specs.declared.fault.EditError.{EditError}
 use Rattle.page_layers.specs.declared.fault.EditError.TheVariants as error
 use Rattle.page_layers.specs.Pages.{Page}
-use Rattle.page_layers.specs.Effects.{page_after_command, page_after_pulls, commanded}
+use Rattle.page_layers.specs.Effects.{page_after_pulls, commanded}
 use Rattle.page_layers.specs.declared.moves.Move.{Move}
 use Rattle.model_history.specs.Scripts.{ScriptModel}
 use Rattle.model_history.specs.Frames.{commands_of, page, changes}

@@ -1,6 +1,6 @@
 -- The tiles of the active and of the pending tree: which of them are ready, which are made at this time, which must stay.
-use Rattle.std.specs.Prelude.{ℕ, ◌+◌, ◌==◌, Bool, not, ◌&&◌, List, [], ◌∷◌, ◌++◌, length, map, filter, flat_map, Option, Some, None}
-use Rattle.std.specs.List.{list_any, list_all}
+use Rattle.std.specs.Prelude.{ℕ, ◌+◌, Bool, not, List, [], ◌∷◌, ◌++◌, length, map, filter, flat_map, Option, Some, None}
+use Rattle.std.specs.List.{list_all}
 use Rattle.geom.specs.declared.rect.Point.{Point}
 use Rattle.geom.specs.declared.tile.Place.{Place}
 use Rattle.geom.specs.declared.tile.TileKey.{TileKey}

@@ -1,6 +1,6 @@
 //! Histories: what was entered, by whom, in order.
 
-ghost use Rattle.std.specs.Prelude.{◌≡◌, ℕ, ◌+◌, ◌-◌, ◌<◌, ◌≤◌, List, [], ◌∷◌, ◌++◌, length, slice_get, OnOk, OnErr, IfErr, vec_len, vec_capacity, option_copied};
+ghost use Rattle.std.specs.Prelude.{◌≡◌, ◌+◌, ◌-◌, ◌<◌, ◌≤◌, [], ◌∷◌, ◌++◌, length, slice_get, OnOk, OnErr, IfErr, vec_len, vec_capacity, option_copied};
 ghost use Rattle.model_history.specs.Entries.{Record};
 
 use crate::event::Event;

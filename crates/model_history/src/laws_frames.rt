@@ -1,7 +1,7 @@
 //! Laws of legal histories: what may come next, and how main frames go. They are contracts of
 //! functions that do nothing, over pasts, which list the newest entry first.
 
-ghost use Rattle.std.specs.Prelude.{◌≡◌, ◌⊎◌, ℕ, ◌+◌, ◌<◌, ◌≤◌, nat_lt, true, false, List, ◌++◌, is_some, Option, Some};
+ghost use Rattle.std.specs.Prelude.{◌≡◌, ◌⊎◌, ℕ, ◌+◌, ◌<◌, ◌≤◌, nat_lt, true, false, List, ◌++◌, is_some, Some};
 ghost use Rattle.model_scheduler.specs.declared.kind.Kind.TheVariants as kind;
 ghost use Rattle.model_scheduler.specs.Kinds.{is_main_idle, is_sent};
 ghost use Rattle.model_history.specs.Scripts.{ScriptModel};

@@ -1,6 +1,6 @@
 //! Laws of the pages of a run, as contracts of functions that do nothing.
 
-ghost use Rattle.std.specs.Prelude.{◌≡◌, ℕ, suc, ◌<◌, ◌≤◌, ℤ, pos, true, false, List, [], ◌∷◌};
+ghost use Rattle.std.specs.Prelude.{◌≡◌, ℕ, suc, ◌<◌, ◌≤◌, pos, true, false, List, [], ◌∷◌};
 ghost use Rattle.page_layers.specs.Scrolls.{clamp_to};
 ghost use Rattle.model_history.specs.Scripts.{ScriptModel};
 ghost use Rattle.model_history.specs.declared.history.Entry.{Entry};

@@ -1,7 +1,7 @@
 //! Laws of the tiles of legal histories, as contracts of functions that do nothing. They speak of
 //! pasts, which list the newest entry first.
 
-ghost use Rattle.std.specs.Prelude.{◌≡◌, ℕ, ◌<◌, Bool, true, false, List, [], Option, Some};
+ghost use Rattle.std.specs.Prelude.{◌≡◌, ℕ, ◌<◌, true, List, [], Some};
 ghost use Rattle.geom.specs.declared.tile.TileKey.{TileKey};
 ghost use Rattle.model_history.specs.Scripts.{ScriptModel};
 ghost use Rattle.model_history.specs.declared.history.Entry.{Entry};

@@ -1,6 +1,6 @@
 //! Lists of moves of scrollers.
 
-ghost use Rattle.std.specs.Prelude.{◌≡◌, ℕ, ℤ, ◌<◌, List, [], ◌∷◌, ◌++◌, length, slice_get, OnOk, OnErr, IfOk, IfErr, MatchOption, option_copied};
+ghost use Rattle.std.specs.Prelude.{◌≡◌, ◌<◌, List, [], ◌∷◌, ◌++◌, length, slice_get, OnOk, OnErr, IfOk, IfErr, option_copied};
 ghost use Rattle.std.specs.List.{flat_map};
 
 use page_layers::Move;

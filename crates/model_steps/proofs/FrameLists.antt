@@ -1,5 +1,5 @@
 -- What the commands of a frame do not list they do not change: sizes, items and the tile size.
-use Rattle.std.proofs.Common.{ℕ, ◌≡◌, ◌==◌, nat_eq, nat_lt, Bool, true, false, cond, not, ◌&&◌, ◌||◌, Option, Some, None, List, [], ◌∷◌, filter, refl, ap, sym, ◌∙◌, eqb-true}
+use Rattle.std.proofs.Common.{ℕ, ◌≡◌, ◌==◌, nat_eq, nat_lt, Bool, true, false, cond, not, ◌&&◌, ◌||◌, Option, Some, None, List, [], ◌∷◌, refl, ap, sym, ◌∙◌, eqb-true}
 use Rattle.std.specs.Prelude.{option_map, is_some}
 use Rattle.std.specs.List.{find}
 use Rattle.page_display_list.specs.declared.item.Item.{Item}

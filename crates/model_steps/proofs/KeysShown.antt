@@ -1,5 +1,5 @@
 -- A layer's own list shows the tiles of its page.
-use Rattle.std.proofs.Common.{◌≡◌, ℕ, true, List, Option, Some, option_map, refl, ◌∙◌, ap}
+use Rattle.std.proofs.Common.{◌≡◌, ℕ, true, List, Option, Some, option_map, ◌∙◌, ap}
 use Rattle.geom.specs.declared.tile.TileKey.{TileKey}
 use Rattle.page_display_list.specs.Content.{content}
 use Rattle.page_layers.specs.Layers.{PageLayer, has_id}

@@ -5,10 +5,10 @@ use Rattle.std.specs.List.{find}
 use Rattle.geom.specs.declared.rect.Point.{Point}
 use Rattle.geom.specs.declared.rect.Rect.{Rect}
 use Rattle.geom.specs.declared.tile.Place.{Place}
-use Rattle.geom.specs.Grids.{has, rect_of_place}
-use Rattle.region.specs.Lists.{Changed, IsRising, change_of, is_listed, is_listed_whole}
+use Rattle.geom.specs.Grids.{has}
+use Rattle.region.specs.Lists.{Changed, IsRising, is_listed, is_listed_whole}
 use Rattle.tile_tiling.specs.Tiles.{Tiled, stamp_at}
-use Rattle.tile_tiling.specs.Stamps.{Commit, may_show_in, changes_in, stamp_of, IsStamped}
+use Rattle.tile_tiling.specs.Stamps.{Commit, stamp_of, IsStamped}
 use Rattle.page_layers.specs.declared.command.Command.{Command}
 use Rattle.page_layers.specs.declared.command.Command.TheVariants as command
 use Rattle.page_layers.specs.Effects.{page_after_command, commanded}
@@ -25,7 +25,7 @@ use Rattle.model_history.specs.EventFields.{sends, commits, aborts, activates}
 use Rattle.model_history.specs.Scans.{was_named, newest, counted}
 use Rattle.model_history.specs.Scripts.{ScriptModel}
 use Rattle.model_history.specs.Accepted.{IsAccepted}
-use Rattle.model_history.specs.Frames.{commands_of, page, page_before, pulls_of, active, pending, up_to, changes}
+use Rattle.model_history.specs.Frames.{commands_of, page, page_before, pulls_of, active, pending, up_to}
 use Rattle.model_history.specs.Stamps.{unchanged, changed_by, frame_changes, commits_to, place_rect, stamp_in}
 use Rattle.model_history.specs.SameChanges.{SameChanges}
 use Rattle.model_history.specs.Legal.{sched, Legal}

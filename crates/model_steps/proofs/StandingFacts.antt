@@ -1,6 +1,5 @@
 -- Where the scrollers of both trees stand, by the five values.
 use Rattle.std.proofs.Common.{◌≡◌, ℕ, ℤ, ◌-ℤ◌, true, false, cond, List, refl, sym, ◌∙◌, ap}
-use Rattle.geom.specs.declared.rect.Point.{Point}
 use Rattle.model_scroll_values.specs.declared.Synced.{Synced}
 use Rattle.model_scroll_values.specs.Table.{pending_value}
 use Rattle.page_layers.specs.Scrolls.{clamp_to, origin}
@@ -10,7 +9,7 @@ use Rattle.page_layers.specs.Scrollers.{has_scroller, most, offsets_in, amount_t
 use Rattle.model_history.specs.declared.history.Entry.{Entry}
 use Rattle.model_history.specs.Scripts.{ScriptModel}
 use Rattle.model_history.specs.Frames.{pending, active_page, pending_page}
-use Rattle.model_history.specs.Scrolls.{offset, offset_then, pending_base, pending_offset, clobbers, clamp_move, accepted, active_offsets, pending_offsets}
+use Rattle.model_history.specs.Scrolls.{offset_then, pending_base, pending_offset, clobbers, clamp_move, accepted, active_offsets, pending_offsets}
 use Rattle.model_history.specs.Values.{values}
 use Rattle.model_history.specs.Legal.{Legal}
 use Rattle.model_history.proofs.ValueSums.{are_sums}

@@ -1,7 +1,7 @@
 //! What a commit lists, and the stamps after it. The laws speak of pasts, which list the newest entry
 //! first.
 
-ghost use Rattle.std.specs.Prelude.{◌≡◌, ℕ, suc, true, false, List, ◌∷◌, Option, None, Some, find};
+ghost use Rattle.std.specs.Prelude.{◌≡◌, ℕ, suc, true, false, List, ◌∷◌, None, Some, find};
 ghost use Rattle.geom.specs.declared.rect.Rect.{Rect};
 ghost use Rattle.geom.specs.declared.tile.Place.{Place};
 ghost use Rattle.geom.specs.Grids.{has};

@@ -1,6 +1,6 @@
 //! Bitmaps: rects whose pixels are given one by one.
 
-ghost use Rattle.std.specs.Prelude.{◌≡◌, ℕ, ◌+◌, ◌*◌, ◌<◌, ◌-ℤ◌, Bool, true, false, MatchOption, MatchResult, IfOk};
+ghost use Rattle.std.specs.Prelude.{◌≡◌, ◌+◌, ◌*◌, ◌<◌, ◌-ℤ◌, true, false, MatchOption, MatchResult, IfOk};
 ghost use Rattle.geom.specs.Covers.{covers, within, IsSound, IsSpan};
 ghost use Rattle.page_display_list.specs.Bitmaps.{BitmapModel, IsBitmap, bitmap_pixel, has_sides, byte_count, near};
 ghost use Rattle.page_display_list.specs.Causes.{IsBitmapCause};

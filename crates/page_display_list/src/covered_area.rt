@@ -1,6 +1,6 @@
 //! The part of an area that a rect covers.
 
-ghost use Rattle.std.specs.Prelude.{◌≡◌, ℕ, ℤ, pos, ◌+ℤ◌, ◌≤ℤ◌, MatchOption};
+ghost use Rattle.std.specs.Prelude.{◌≡◌, ℤ, pos, ◌+ℤ◌, ◌≤ℤ◌, MatchOption};
 ghost use Rattle.geom.specs.Covers.{IsSpan, IsSound};
 ghost use Rattle.page_display_list.specs.Shared.{IsRun, IsApart, IsOutside, IsShared};
 

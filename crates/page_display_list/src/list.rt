@@ -1,8 +1,8 @@
 //! Display lists.
 
-ghost use Rattle.std.specs.Prelude.{◌≡◌, ℕ, ◌*◌, ◌<◌, ◌≤◌, List, [], length, insert, remove, slice_set, slice_index_or, All, MatchOption, IfErr, IfOk, OnOk, Option, Some, None};
+ghost use Rattle.std.specs.Prelude.{◌≡◌, ◌*◌, ◌<◌, ◌≤◌, List, [], length, insert, remove, slice_set, slice_index_or, All, MatchOption, IfErr, IfOk, OnOk, Option};
 ghost use Rattle.geom.specs.Covers.{IsSound};
-ghost use Rattle.page_display_list.specs.Bitmaps.{near, byte_count};
+ghost use Rattle.page_display_list.specs.Bitmaps.{byte_count};
 ghost use Rattle.page_display_list.specs.Content.{content, IsSoundItem, IsRaster};
 
 use crate::item::Item;

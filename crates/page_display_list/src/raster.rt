@@ -1,8 +1,8 @@
 //! Drawing items into the pixels of an area.
 
-ghost use Rattle.std.specs.Prelude.{◌≡◌, ℕ, ◌+◌, ◌-◌, ◌*◌, ◌/◌, ◌<◌, ◌≤◌, ◌^◌, ℤ, pos, ◌+ℤ◌, ◌≤ℤ◌, length, fold, All, IfOk};
+ghost use Rattle.std.specs.Prelude.{◌≡◌, ℕ, ◌+◌, ◌-◌, ◌*◌, ◌<◌, ◌≤◌, ◌^◌, ℤ, pos, ◌+ℤ◌, ◌≤ℤ◌, length, fold, All, IfOk};
 ghost use Rattle.geom.specs.Covers.{IsSound};
-ghost use Rattle.pixel.specs.Colours.{Parts, blend, clear};
+ghost use Rattle.pixel.specs.Colours.{blend, clear};
 ghost use Rattle.pixel.specs.Rows.{pixel, ArePremultiplied};
 ghost use Rattle.pixel.specs.Surfaces.{IsInside, EachPixel, within_rows};
 ghost use Rattle.page_display_list.specs.Bitmaps.{near, byte_count};

@@ -1,6 +1,6 @@
 //! Laws of wheels and of chains, as contracts of functions that do nothing.
 
-ghost use Rattle.std.specs.Prelude.{◌≡◌, ℕ, ℤ, List, ◌+ℤ◌};
+ghost use Rattle.std.specs.Prelude.{◌≡◌, ℕ, ℤ, ◌+ℤ◌};
 ghost use Rattle.geom.specs.declared.rect.Point.{Point as Place};
 ghost use Rattle.page_layers.specs.Axes.{Axis, across, down};
 ghost use Rattle.page_layers.specs.Layers.{PageLayer};

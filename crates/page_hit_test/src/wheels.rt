@@ -1,7 +1,7 @@
 //! What the scrollers under a point take of a wheel, and what they leave.
 
-ghost use Rattle.std.specs.Prelude.{◌≡◌, ◌≤◌, ◌^◌, ℤ, pos, neg_ℤ, ◌+ℤ◌, ◌-ℤ◌, ◌≤ℤ◌, map, IfOk, Some};
-ghost use Rattle.page_properties.specs.OffsetMap.{offset_at, AreOffsets};
+ghost use Rattle.std.specs.Prelude.{◌≡◌, ◌≤◌, ◌^◌, ℤ, pos, ◌+ℤ◌, ◌-ℤ◌, ◌≤ℤ◌, map, IfOk, Some};
+ghost use Rattle.page_properties.specs.OffsetMap.{offset_at};
 ghost use Rattle.page_layers.specs.Axes.{across, down};
 ghost use Rattle.page_layers.specs.Scrolls.{clamp_to as clamp, IsInRange};
 ghost use Rattle.page_layers.specs.Wheels as spec;

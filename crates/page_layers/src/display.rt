@@ -3,12 +3,11 @@
 //! Trees share display lists. A list that is shared is copied before it is changed, so that the other
 //! trees keep theirs.
 
-ghost use Rattle.std.specs.Prelude.{◌≡◌, ◌≤◌, ◌<◌, ℕ, length, map, insert, remove, slice_set, OnOk, OnErr, IfOk, IfSome, find, Option, Some};
+ghost use Rattle.std.specs.Prelude.{◌≡◌, ◌≤◌, ◌<◌, length, map, insert, remove, slice_set, OnOk, OnErr, IfSome, find, Option, Some};
 ghost use Rattle.geom.specs.Covers.{IsSound};
 ghost use Rattle.page_display_list.specs.Content.{IsSoundItem};
 ghost use Rattle.page_layers.specs.Lists.{with_first_changed};
 ghost use Rattle.page_layers.specs.Layers.{parts_of, has_id, with_items};
-ghost use Rattle.page_layers.specs.inner.FoundPlaces.{StandsAt};
 ghost use Rattle.page_layers.specs.Refusals as refusals;
 ghost use Rattle.page_layers.specs.Effects as effects;
 

@@ -1,6 +1,6 @@
 //! The changes that one command lists.
 
-ghost use Rattle.std.specs.Prelude.{◌≡◌, ◌∷◌, ◌++◌, [], true, false, IfOk, IfSome, Option, None, Some};
+ghost use Rattle.std.specs.Prelude.{◌∷◌, [], true, false, IfOk, IfSome, Option, None, Some};
 ghost use Rattle.geom.specs.Covers.{IsSound};
 ghost use Rattle.page_layers.specs.Effects.{rects_of};
 ghost use Rattle.page_layers.specs.Outcomes.{ListsChange};

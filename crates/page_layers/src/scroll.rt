@@ -1,6 +1,6 @@
 //! The main scroll values.
 
-ghost use Rattle.std.specs.Prelude.{◌≡◌, ◌≤◌, ◌<◌, ℕ, ℤ, pos, ◌≤ℤ◌, ◌<ℤ◌, ◌+ℤ◌, neg_ℤ, ◌^◌, List};
+ghost use Rattle.std.specs.Prelude.{◌≡◌, ◌≤◌, ◌<◌};
 ghost use Rattle.page_properties.specs.Entries.{find, with_node_changed};
 ghost use Rattle.page_layers.specs.Scrolls as spec;
 

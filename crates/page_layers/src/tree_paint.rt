@@ -3,7 +3,7 @@
 //! What of a layer does not depend on the point is made ready once, for all points of a picture: where
 //! the layer lies on the screen, and the groups that it is blended in.
 
-ghost use Rattle.std.specs.Prelude.{◌≡◌, ◌≤◌, ℕ, ℤ, List, map, length, All, IfOk, vec_len};
+ghost use Rattle.std.specs.Prelude.{◌≡◌, ◌≤◌, ℕ, ℤ, List, map, length, All, IfOk};
 ghost use Rattle.geom.specs.declared.rect.Point.{Point};
 ghost use Rattle.geom.specs.declared.tile.TileKey.{TileKey as Key};
 ghost use Rattle.geom.specs.Sides.{IsLayerSide};

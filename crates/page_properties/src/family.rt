@@ -1,6 +1,6 @@
 //! A family of nodes: added one after another under ids of their own, and found by id.
 
-ghost use Rattle.std.specs.Prelude.{◌≡◌, ℕ, Bool, true, false, ◌∷◌, [], List, length, if◌then◌else◌, is_ok, IfOk, MatchOption, IsTrue, reverse, slice_get};
+ghost use Rattle.std.specs.Prelude.{◌≡◌, ℕ, false, ◌∷◌, [], List, length, if◌then◌else◌, is_ok, IfOk, MatchOption, IsTrue, reverse, slice_get};
 ghost use Rattle.std.specs.Option.{option_copied};
 ghost use Rattle.page_properties.specs.Entries.{with_node_changed, find, ids, knows, rising};
 ghost use Rattle.page_properties.specs.inner.Index.{IsEntryOf};
@@ -17,7 +17,7 @@ pub struct Family<N> {
 }
 
 impl<N> Model for Family<N> {
-    ghost use Rattle.std.specs.Prelude.{◌≡◌, ℕ, List, reverse};
+    ghost use Rattle.std.specs.Prelude.{ℕ, List, reverse};
     ghost use Rattle.page_properties.specs.Entries.{ids, AreDistinctIds};
     ghost use Rattle.page_properties.specs.inner.Index.{IsIndex};
 

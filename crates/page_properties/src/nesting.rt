@@ -5,7 +5,7 @@
 //! must still be in it. Each effect is entered once and left once, so that the work grows with the
 //! number of layers and effects, times a search by id.
 
-ghost use Rattle.std.specs.Prelude.{◌≡◌, ◌≤◌, ◌⊎◌, ◌↔◌, ℕ, Bool, true, false, ◌&&◌, ◌||◌, not, length, IsTrue};
+ghost use Rattle.std.specs.Prelude.{◌≡◌, ◌≤◌, ◌⊎◌, ◌↔◌, ℕ, true, false, ◌&&◌, ◌||◌, not, length, IsTrue};
 ghost use Rattle.page_properties.specs.inner.Marks.{marked};
 ghost use Rattle.page_properties.specs.Nesting.{lies_in, AreNested};
 ghost use Rattle.page_properties.specs.Trees.{AreEffects};

@@ -1,6 +1,6 @@
 //! The offsets of scrollers.
 
-ghost use Rattle.std.specs.Prelude.{◌≡◌, ◌==◌, ◌&&◌, ℕ, pos, [], if◌then◌else◌, is_ok, OnErr};
+ghost use Rattle.std.specs.Prelude.{◌≡◌, ◌==◌, ◌&&◌, ℕ, pos, if◌then◌else◌, is_ok, OnErr};
 ghost use Rattle.page_properties.specs.OffsetMap.{offset_at};
 
 use crate::family::Family;

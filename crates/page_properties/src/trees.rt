@@ -1,6 +1,6 @@
 //! The property trees: four families of nodes, which are added and changed, never removed.
 
-ghost use Rattle.std.specs.Prelude.{◌≡◌, ◌∷◌, ℕ, ℤ, [], if◌then◌else◌, is_ok, IsTrue, IfOk, IfSome, IsSome, ◌↔◌, ◌*◌, length, slice_get, ◌≤◌, ◌^◌};
+ghost use Rattle.std.specs.Prelude.{◌≡◌, ◌∷◌, [], if◌then◌else◌, is_ok, IsTrue, IfOk, IfSome, IsSome, ◌↔◌, ◌*◌, length, slice_get, ◌≤◌, ◌^◌};
 ghost use Rattle.std.specs.Option.{option_copied};
 ghost use Rattle.page_properties.specs.Entries.{with_node_changed, find, ids, is_known, knows, rising};
 ghost use Rattle.geom.specs.Covers.{IsSound};

@@ -1,6 +1,6 @@
 //! A premultiplied colour and its arithmetic.
 
-ghost use Rattle.std.specs.Prelude.{◌≡◌, ◌≤◌, MatchOption, Bool, false, true, ◌&&◌, nat_le};
+ghost use Rattle.std.specs.Prelude.{◌≡◌, ◌≤◌, MatchOption, false, true, ◌&&◌};
 ghost use Rattle.pixel.specs.Colours.{Parts, times_255, blend, scaled, is_colour};
 
 use std::marker::Model;

@@ -1,7 +1,7 @@
 //! Sixteen bytes of a row at a time, two of them in each lane of sixteen bits.
 
 ghost use Rattle.std.specs.Prelude.{◌≡◌, ℕ, ◌+◌, ◌-◌, ◌*◌, ◌/◌, ◌%◌, ◌<◌, ◌≤◌, ◌↔◌, IsTrue, length, slice_index};
-ghost use Rattle.pixel.specs.Colours.{above, times_255};
+ghost use Rattle.pixel.specs.Colours.{times_255};
 ghost use Rattle.pixel.specs.Rows.{alpha_place, ArePremultiplied, IsLaid, IsFaded, IsFilled, component_of, AreOpaque, AreClear};
 ghost use Rattle.pixel.specs.LaneBytes.{IsBytes, AreParts};
 

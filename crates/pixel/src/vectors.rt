@@ -1,6 +1,6 @@
 //! Four pixels in a vector.
 
-ghost use Rattle.std.specs.Prelude.{◌≡◌, ℕ, ◌<◌, ◌≤◌, length, slice_index};
+ghost use Rattle.std.specs.Prelude.{◌≡◌, ℕ, ◌<◌, length, slice_index};
 ghost use Rattle.pixel.specs.Colours.{above, times_255};
 ghost use Rattle.pixel.specs.Rows.{alpha_place, ArePremultiplied};
 ghost use Rattle.pixel.specs.LaneBytes.{IsBytes};

@@ -1,6 +1,6 @@
 //! The other side of a session.
 
-ghost use Rattle.std.specs.Prelude.{◌≡◌, ℕ, List, Option, None, OnErr, ◌≤◌, length};
+ghost use Rattle.std.specs.Prelude.{ℕ, List, Option, None, OnErr, ◌≤◌, length};
 ghost use Rattle.std.specs.Io.{ReadsAtMost};
 ghost use Rattle.player_io.specs.Counts.{Rose};
 ghost use Rattle.player_lines.specs.Sessions.{Act};

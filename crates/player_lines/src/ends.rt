@@ -1,11 +1,11 @@
 //! A client of which the two directions are a source and a sink.
 
-ghost use Rattle.std.specs.Prelude.{◌≡◌, ◌++◌, codes, ℕ, List, None, OnErr, ◌≤◌};
+ghost use Rattle.std.specs.Prelude.{◌≡◌, ◌++◌, codes, None, OnErr, ◌≤◌};
 ghost use Rattle.std.specs.Io.{ReadsAtMost};
 ghost use Rattle.std.specs.Io.KnownBytes.{ReadConsumes};
 ghost use Rattle.player_io.specs.Counts.{Rose};
 ghost use Rattle.player_lines.specs.Sessions.{frame};
-ghost use Rattle.player_lines.specs.inner.Pasts.{Gains, HasRefused, ReadAdds, DataAdds, TextAdds};
+ghost use Rattle.player_lines.specs.inner.Pasts.{Gains, HasRefused, ReadAdds};
 
 use crate::client::{Client, Failed};
 use itoa::Buffer;

@@ -1,6 +1,6 @@
 //! A session: a client, and whether a piece of data was torn.
 
-ghost use Rattle.std.specs.Prelude.{◌≡◌, ℕ, ◌≤◌, List, Bool, true, false, OnErr, OnOk, length};
+ghost use Rattle.std.specs.Prelude.{◌≡◌, ◌≤◌, true, false, OnErr, length};
 ghost use Rattle.std.specs.Io.{ReadsAtMost};
 ghost use Rattle.player_io.specs.Counts.{Rose};
 ghost use Rattle.player_io.specs.Pieces.{PutAppends, PutCause};

@@ -1,6 +1,6 @@
 //! The jobs of the workers of a core on the same thread.
 
-ghost use Rattle.std.specs.Prelude.{◌≡◌, ◌+◌, ◌<◌, IfOk, ℕ};
+ghost use Rattle.std.specs.Prelude.{◌+◌, ◌<◌, IfOk};
 ghost use Rattle.model_scheduler.specs.declared.kind.Kind.TheVariants as kind;
 ghost use Rattle.model_history.specs.Scripts.{ScriptModel};
 ghost use Rattle.impl_log.specs.Runs.{new_run};

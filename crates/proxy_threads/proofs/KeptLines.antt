@@ -1,6 +1,5 @@
 -- What others entered since the compositor wrote last uses no input: so all of it is kept until it is written.
-use Rattle.std.proofs.Common.{◌≡◌, ◌≢◌, inl, inr, ℕ, ◌+◌, ◌≤◌, List, [], ◌∷◌, ◌++◌, length, min, take, drop, Option, Some, None, refl, sym, ◌∙◌, ap, subst, arith, append_assoc}
-use Rattle.std.specs.Prelude.{reverse}
+use Rattle.std.proofs.Common.{◌≡◌, ◌≢◌, inl, inr, ℕ, ◌+◌, ◌≤◌, List, [], ◌∷◌, ◌++◌, length, min, take, drop, Option, None, refl, sym, ◌∙◌, ap, subst, arith, append_assoc}
 use Rattle.std.proofs.lemmas.List.{take-append-drop, length-take, length-reverse, length-map}
 use Rattle.thread_lock.specs.Lists.{entries_by}
 use Rattle.model_history.specs.declared.event.Event.{Event}

@@ -1,7 +1,7 @@
 //! The lines of what others and the compositor entered.
 
-ghost use Rattle.std.specs.Prelude.{◌≡◌, ◌≤◌, ◌++◌, drop, OnOk};
-ghost use Rattle.proxy_threads.specs.inner.Steps.{GathersAll, lines_of};
+ghost use Rattle.std.specs.Prelude.{◌≡◌, ◌≤◌, OnOk};
+ghost use Rattle.proxy_threads.specs.inner.Steps.{GathersAll};
 
 use crate::wakes::Wakes;
 use impl_log::KeptHistory;

@@ -1,6 +1,6 @@
 //! What the compositor does while it holds the turn.
 
-ghost use Rattle.std.specs.Prelude.{◌≡◌, ◌≤◌, false, true, length};
+ghost use Rattle.std.specs.Prelude.{◌≡◌, ◌≤◌, false, length};
 ghost use Rattle.model_history.specs.Scans.{has_ended};
 ghost use Rattle.impl_log.specs.Kept.{before_input};
 ghost use Rattle.impl_log.specs.Runs.{past};

@@ -1,5 +1,5 @@
 -- The inputs of an accepted script: how many there are, and which scrollers and amounts they name.
-use Rattle.std.proofs.Common.{◌≡◌, ℕ, zero, suc, ◌<◌, ◌≤◌, ◌==◌, ◌&&◌, Bool, true, false, Option, Some, None, List, [], ◌∷◌, length, subst, arith}
+use Rattle.std.proofs.Common.{◌≡◌, ℕ, zero, suc, ◌<◌, ◌≤◌, ◌&&◌, Bool, true, Some, List, [], ◌∷◌, length, subst, arith}
 use Rattle.std.specs.Prelude.{ℤ, pos, neg_ℤ, slice_get, nat_le, int_le}
 use Rattle.std.specs.List.{list_all}
 use Rattle.std.proofs.lemmas.Bool.Decides.{nat_tests}
@@ -7,7 +7,7 @@ use Rattle.std.proofs.lemmas.Int.{ints}
 use Rattle.model_history.specs.declared.input.Input.{Input}
 use Rattle.model_history.specs.declared.input.Input.TheVariants as input
 use Rattle.model_history.specs.Accepted.{IsAccepted}
-use Rattle.model_history.specs.Ranges.{in_range, int_in_range, input_in_range, draw_count, head_in_range, main_in_range, inputs_in_range, is_in_ranges, is_amount}
+use Rattle.model_history.specs.Ranges.{in_range, input_in_range, draw_count, head_in_range, main_in_range, inputs_in_range, is_in_ranges, is_amount}
 use Rattle.model_history.specs.Scripts.{ScriptModel}
 use Rattle.model_history.proofs.BoolFacts.{and_left, and_right}
 use Rattle.recording_check.proofs.MovesFit.{IsAmount}

@@ -1,9 +1,8 @@
 -- The keys of the tiles of an accepted script fit the format.
-use Rattle.std.proofs.Common.{◌≡◌, ◌⊎◌, inl, inr, ℕ, zero, suc, ◌<◌, ◌≤◌, ◌==◌, ◌&&◌, ◌||◌, Bool, true, false, cond, Option, Some, None, List, [], ◌∷◌, ◌++◌, map, filter, refl, ap, sym, ◌∙◌, subst, arith, Ok}
-use Rattle.std.specs.Prelude.{ℤ, pos, if◌then◌else◌, nat_lt, unwrap_or, ◌^◌}
+use Rattle.std.proofs.Common.{◌≡◌, ◌⊎◌, inl, inr, ℕ, zero, suc, ◌<◌, ◌≤◌, ◌==◌, ◌||◌, Bool, true, false, cond, Option, Some, None, List, [], ◌∷◌, refl, ap, sym, ◌∙◌, subst, arith, Ok}
+use Rattle.std.specs.Prelude.{ℤ, pos, if◌then◌else◌, nat_lt, unwrap_or}
 use Rattle.std.specs.List.{find, AllByRecursion}
 use Rattle.geom.specs.declared.rect.Point.{Point}
-use Rattle.geom.specs.declared.rect.Rect.{Rect}
 use Rattle.geom.specs.declared.tile.Place.{Place}
 use Rattle.geom.specs.declared.tile.TileKey.{TileKey}
 use Rattle.geom.specs.Grids.{has, places, tiles}
@@ -36,7 +35,7 @@ use Rattle.model_history.proofs.BarePages.{page_bare}
 use Rattle.model_history.proofs.BoolFacts.{and_left, and_right, or_either, same_number, is_below}
 use Rattle.model_history.proofs.Course.{course}
 use Rattle.model_history.proofs.FindKeys.{has_place, key_on, key_of_page}
-use Rattle.model_history.proofs.KeyFacts.{has_append, has_filter, same_from, has_in as key_has}
+use Rattle.model_history.proofs.KeyFacts.{has_append, has_filter, has_in as key_has}
 use Rattle.model_history.proofs.RangeBounds.{few_frames, sent_few}
 use Rattle.model_history.proofs.ScriptPages.{plain_page}
 use Rattle.model_history.proofs.StampFacts.{visible_is_key}

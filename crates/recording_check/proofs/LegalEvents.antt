@@ -1,10 +1,8 @@
 -- The events of a legal past of an accepted script fit the format.
-use Rattle.std.proofs.Common.{◌≡◌, ℕ, suc, ◌+◌, ◌<◌, ◌≤◌, ◌==◌, ◌&&◌, Bool, true, false, cond, not, Option, Some, None, is_some, List, [], ◌∷◌, length, refl, ap, sym, ◌∙◌, subst, arith}
-use Rattle.std.specs.Prelude.{ℤ, pos, ◌-ℤ◌, FitsSigned, nat_lt, ◌^◌, slice_get}
-use Rattle.std.specs.Int.{w32}
+use Rattle.std.proofs.Common.{◌≡◌, ℕ, ◌<◌, ◌≤◌, ◌==◌, ◌&&◌, Bool, true, false, cond, not, Option, Some, None, is_some, List, [], ◌∷◌, length, refl, ap, sym, subst, arith}
+use Rattle.std.specs.Prelude.{ℤ, pos, ◌-ℤ◌, ◌^◌, slice_get}
 use Rattle.std.specs.Option.{option_or}
 use Rattle.geom.specs.declared.tile.TileKey.{TileKey}
-use Rattle.geom.specs.KeyLists.{has_key}
 use Rattle.page_properties.specs.Entries.{ids}
 use Rattle.page_layers.specs.declared.moves.Move.{Move}
 use Rattle.page_layers.specs.Axes.{Axis, across, down, named_in}
@@ -25,8 +23,7 @@ use Rattle.model_history.specs.Frames.{pulls_of, active, pending, up_to, active_
 use Rattle.model_history.specs.Legal.{Next, Legal}
 use Rattle.model_history.specs.Ranking.{evicted_for}
 use Rattle.model_history.specs.Scans.{newest, counted, held}
-use Rattle.model_history.specs.ScrollLaws.{AreSmall}
-use Rattle.model_history.specs.Scrolls.{offset, next_pulls, next_clamps, clamp_move, unsent, scrollers_moved, active_offsets}
+use Rattle.model_history.specs.Scrolls.{offset, clamp_move, unsent, scrollers_moved, active_offsets}
 use Rattle.model_history.specs.Tiles.{missing_visible}
 use Rattle.model_history.proofs.BoolFacts.{is_below}
 use Rattle.model_history.proofs.Bounds.{all_small}
@@ -36,7 +33,7 @@ use Rattle.model_history.proofs.Offsets.{takes_is}
 use Rattle.model_history.proofs.RangeBounds.{few_frames}
 use Rattle.model_history.proofs.RankFacts.{first_unmade, evicted_may_go}
 use Rattle.model_history.proofs.ValueReadings.{offset_in_range}
-use Rattle.recording_text.specs.Fits.{FitsEvent, FitsKey, FitKeys, FitMoves}
+use Rattle.recording_text.specs.Fits.{FitsEvent, FitsKey, FitKeys}
 use Rattle.recording_check.proofs.InputsFit.{input_there, scroll_ranges, wheel_ranges}
 use Rattle.recording_check.proofs.KeysFit.{frames, target_low, live_key_fits, ready_key_fits, missing_key_fits, keys_fit}
 use Rattle.recording_check.proofs.MovesFit.{AreLow, page_low, low_rising, low_chain_at, low_listed, low_parts, low_numbers, moves_fit, IsAmount, amount_fits, taken_amount, rest_amount}

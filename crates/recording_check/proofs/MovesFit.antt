@@ -1,9 +1,8 @@
 -- The moves that events list, and the amounts of scrolls and wheels, fit the format.
-use Rattle.std.proofs.Common.{◌≡◌, ℕ, zero, suc, ◌<◌, ◌≤◌, ◌==◌, ◌&&◌, Bool, true, false, cond, Option, Some, None, List, [], ◌∷◌, length, refl, ap, sym, ◌∙◌, subst, arith, Ok}
-use Rattle.std.specs.Prelude.{ℤ, pos, neg_ℤ, ◌+ℤ◌, ◌-ℤ◌, ◌≤ℤ◌, FitsSigned, nat_lt, ◌^◌, slice_get, find}
+use Rattle.std.proofs.Common.{◌≡◌, ℕ, zero, suc, ◌≤◌, ◌==◌, Bool, true, false, cond, Option, Some, None, List, [], ◌∷◌, sym, subst, arith, Ok}
+use Rattle.std.specs.Prelude.{ℤ, pos, ◌+ℤ◌, ◌-ℤ◌, ◌≤ℤ◌, FitsSigned, nat_lt, find}
 use Rattle.std.specs.Int.{w32, w64}
 use Rattle.std.proofs.lemmas.Int.{ints, clamps}
-use Rattle.geom.specs.declared.rect.Point.{Point}
 use Rattle.page_properties.specs.declared.nodes.ScrollNode.{ScrollNode}
 use Rattle.page_properties.specs.Entries.{ids, rising, put_id}
 use Rattle.page_properties.specs.Entries as entries
@@ -18,17 +17,15 @@ use Rattle.page_layers.specs.Pages.{Page}
 use Rattle.page_layers.specs.Refusals.{test_of}
 use Rattle.page_layers.specs.Scrollers.{scrollers, has_scroller, most, amount_taken}
 use Rattle.page_layers.specs.Scrolls.{clamp_to, IsInRange}
-use Rattle.page_layers.specs.Wheels.{chain_parts, chain_rest, chain_or_none, chain_at, takes_at}
+use Rattle.page_layers.specs.Wheels.{chain_parts, chain_rest, chain_or_none, chain_at}
 use Rattle.page_layers.proofs.TestFacts.{add_scroller_facts}
-use Rattle.model_history.specs.declared.history.Entry.{Entry}
 use Rattle.model_history.specs.Scripts.{ScriptModel}
 use Rattle.model_history.specs.Accepted.{IsAccepted, TakesAll}
-use Rattle.model_history.specs.Frames.{commands_of, page, page_before}
+use Rattle.model_history.specs.Frames.{commands_of, page}
 use Rattle.model_history.specs.ScrollLaws.{IsSmall, AreSmall}
-use Rattle.model_history.proofs.BarePages.{no_pulls, page_bare}
-use Rattle.model_history.proofs.PageFacts.{takes_frame}
+use Rattle.model_history.proofs.BarePages.{page_bare}
 use Rattle.model_history.proofs.ScriptPages.{plain, plain_takes}
-use Rattle.recording_text.specs.Fits.{FitsMove, FitMoves}
+use Rattle.recording_text.specs.Fits.{FitMoves}
 
 -- ---- the scrollers of a page: their ids are low
 

@@ -1,6 +1,6 @@
 -- Bytes that are no recording break off at one place, and of one that is read but not legal one event is the first that is wrong.
 use Rattle.std.proofs.Common.{◌≡◌, ℕ, suc, ◌+◌, List, [], ◌∷◌, ◌++◌, length, reverse, refl, ap, sym, ◌∙◌, subst, append-nil, arith, None, inl, inr}
-use Rattle.std.specs.Prelude.{Option, Result, Ok, Err, codes}
+use Rattle.std.specs.Prelude.{Err}
 use Rattle.std.specs.List.{flat_map}
 use Rattle.model_history.specs.declared.history.Entry.{Entry}
 use Rattle.model_history.specs.Scripts.{ScriptModel}
@@ -8,10 +8,10 @@ use Rattle.script_json.specs.Recordings.{script_text}
 use Rattle.recording_reader.specs.BadParts.{BreaksAt}
 use Rattle.recording_reader.specs.Pieces.{Piece, piece_text, entry_of, entries}
 use Rattle.recording_reader.specs.Views.{ViewTable, views_of}
-use Rattle.recording_reader.specs.inner.Parts.{Body, body}
+use Rattle.recording_reader.specs.inner.Parts.{body}
 use Rattle.recording_reader.proofs.BadRuns.{breaks_again}
 use Rattle.recording_check.specs.Openings.{OpensWith, IsBadOpening, opening_length}
-use Rattle.recording_check.specs.Recordings.{IsRecording, IsBadAt}
+use Rattle.recording_check.specs.Recordings.{IsBadAt}
 use Rattle.recording_check.specs.Verdicts.{IsRight, AreRightPieces, IsWrongAt, IsFirstWrongEvent}
 use Rattle.recording_check.proofs.JudgedPieces.{past_on}
 use Rattle.recording_check.proofs.OneReading.{one_opening, one_reading}

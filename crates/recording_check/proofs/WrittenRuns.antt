@@ -1,5 +1,5 @@
 -- The recording of a legal history that the end closes is legal.
-use Rattle.std.proofs.Common.{◌≡◌, ℕ, ◌+◌, ◌<◌, ◌≤◌, ◌||◌, Bool, true, false, cond, List, [], ◌∷◌, ◌++◌, length, reverse, refl, ap, sym, ◌∙◌, subst, append-nil, arith}
+use Rattle.std.proofs.Common.{◌≡◌, ℕ, ◌+◌, ◌<◌, ◌≤◌, Bool, true, false, cond, List, [], ◌∷◌, ◌++◌, length, reverse, refl, ap, sym, ◌∙◌, subst, append-nil, arith}
 use Rattle.std.specs.Prelude.{MatchBool, nat_lt}
 use Rattle.model_history.specs.declared.event.Event.{Event}
 use Rattle.model_history.specs.declared.event.Event.TheVariants as event

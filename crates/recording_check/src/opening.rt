@@ -1,6 +1,6 @@
 //! The two lines that a recording begins with: the name of the format, and the script.
 
-ghost use Rattle.std.specs.Prelude.{◌≡◌, ℕ, ◌==◌, ◌<◌, ◌≤◌, ◌^◌, List, length, take, drop, codes, IfSome, IfOk, IsTrue, ◌↔◌};
+ghost use Rattle.std.specs.Prelude.{◌≡◌, ◌==◌, ◌<◌, ◌≤◌, ◌^◌, length, take, drop, IfSome, IfOk, IsTrue, ◌↔◌};
 ghost use Rattle.std.specs.List.{position_from};
 ghost use Rattle.recording_check.specs.Openings as spec;
 

@@ -1,6 +1,6 @@
 //! Recordings, read.
 
-ghost use Rattle.std.specs.Prelude.{◌≡◌, ℕ, ◌<◌, ◌^◌, List, length};
+ghost use Rattle.std.specs.Prelude.{◌<◌, ◌^◌, length};
 ghost use Rattle.recording_check.specs.Answers.{ReadsRecording, ReadsImages};
 
 use crate::fault::RecordingFault;

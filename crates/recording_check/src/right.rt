@@ -1,6 +1,6 @@
 //! Whether a piece of a recording is right after what stands before it.
 
-ghost use Rattle.std.specs.Prelude.{◌≡◌, ℕ, List, length, IfOk, option_copied};
+ghost use Rattle.std.specs.Prelude.{◌≡◌, ℕ, List, IfOk, option_copied};
 ghost use Rattle.impl_log.specs.Runs.{past};
 ghost use Rattle.recording_reader.specs.Pieces as pieces;
 ghost use Rattle.recording_reader.specs.Taking.{IsImageAt};

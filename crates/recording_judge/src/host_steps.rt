@@ -1,7 +1,6 @@
 //! What events do to the host.
 
 ghost use Rattle.std.specs.Prelude.{◌≡◌, ◌∷◌, ℕ, List, true, false, option_copied, OnOk};
-ghost use Rattle.page_layers.specs.declared.moves.Move.{Move as MoveModel};
 ghost use Rattle.model_history.specs.declared.history.Entry.{Entry};
 ghost use Rattle.model_history.specs.Scripts.{ScriptModel};
 ghost use Rattle.model_history.specs.Accepted.{IsAccepted};

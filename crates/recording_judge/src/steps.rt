@@ -1,7 +1,6 @@
 //! What an event does to the parts of a state, before it is entered.
 
-ghost use Rattle.std.specs.Prelude.{◌≡◌, ◌∷◌, ℕ, List, true, false, IfOk, OnOk};
-ghost use Rattle.page_layers.specs.declared.moves.Move.{Move as MoveModel};
+ghost use Rattle.std.specs.Prelude.{◌≡◌, ◌∷◌, ℕ, List, true, false, OnOk};
 ghost use Rattle.model_history.specs.declared.event.Event.TheVariants as variant;
 ghost use Rattle.model_history.specs.declared.history.Entry.{Entry};
 ghost use Rattle.model_history.specs.Scripts.{ScriptModel};

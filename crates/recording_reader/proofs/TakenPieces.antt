@@ -1,5 +1,5 @@
 -- The piece that a part was taken of.
-use Rattle.std.proofs.Common.{◌≡◌, ℕ, ◌+◌, ◌≤◌, List, [], ◌∷◌, ◌++◌, length, take, drop, refl, ap, sym, ◌∙◌, append-nil, None, Some, subst}
+use Rattle.std.proofs.Common.{◌≡◌, ℕ, ◌+◌, ◌≤◌, List, ◌++◌, length, take, drop, refl, ap, sym, ◌∙◌, append-nil, None, Some, subst}
 use Rattle.std.specs.Prelude.{Option, Ok, Err, option_to_list}
 use Rattle.std.specs.List.{flat_map}
 use Rattle.std.proofs.lemmas.List.{take-append-drop, length-take-le, drop-drop}
@@ -8,11 +8,11 @@ use Rattle.recording_reader.specs.declared.cursor.Cursor.{Cursor}
 use Rattle.recording_reader.specs.declared.cursor.ImageSpan.{ImageSpan}
 use Rattle.recording_reader.specs.declared.cursor.EventSpan.{EventSpan}
 use Rattle.recording_reader.specs.declared.part.RecordingPart.{RecordingPart}
-use Rattle.recording_reader.specs.Pieces.{Piece, piece_text, IsPiece, image_span_of, is_end, shown_after}
+use Rattle.recording_reader.specs.Pieces.{IsPiece, image_span_of, is_end, shown_after}
 use Rattle.recording_reader.specs.Spans.{span_bytes, AreWithin}
 use Rattle.recording_reader.specs.Taking.{IsImageAt, TakesNext}
 use Rattle.recording_reader.specs.Views.{ViewTable, view_at}
-use Rattle.recording_reader.specs.inner.Parts.{part_at, images_in}
+use Rattle.recording_reader.specs.inner.Parts.{part_at}
 use Rattle.recording_reader.specs.inner.Steps.{Moves}
 use Rattle.recording_reader.proofs.BadRuns.{part_bad}
 use Rattle.recording_reader.proofs.PieceParts.{PartTells, part_exact}

@@ -1,6 +1,6 @@
 //! The parts of a recording after its first two lines, one after another.
 
-ghost use Rattle.std.specs.Prelude.{◌≡◌, ℕ, ◌+◌, ◌<◌, ◌≤◌, ◌^◌, List, length, map, Result, OnOk, IfOk, OnErr, option_to_list, ◌∷◌, ◌++◌, []};
+ghost use Rattle.std.specs.Prelude.{◌≡◌, ◌+◌, ◌<◌, ◌≤◌, ◌^◌, length, map, Result, OnOk, IfOk, option_to_list, ◌∷◌, ◌++◌, []};
 ghost use Rattle.recording_reader.specs.Pieces.{is_end as is_end_of, entry_of as entry_is};
 ghost use Rattle.recording_reader.specs.inner.Parts.{read_from};
 ghost use Rattle.recording_reader.specs.Places.{image_place_of};

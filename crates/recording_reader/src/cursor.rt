@@ -1,6 +1,6 @@
 //! A way through a recording, part by part.
 
-ghost use Rattle.std.specs.Prelude.{◌≡◌, ℕ, ◌+◌, ◌-◌, ◌<◌, ◌≤◌, ◌^◌, List, length, drop, Option, Result, IfOk, option_to_list};
+ghost use Rattle.std.specs.Prelude.{◌≡◌, ◌+◌, ◌-◌, ◌<◌, ◌≤◌, ◌^◌, length, drop, Option, Result, IfOk, option_to_list};
 ghost use Rattle.recording_reader.specs.Pieces as pieces;
 ghost use Rattle.recording_reader.specs.inner.Parts as parts;
 ghost use Rattle.recording_reader.specs.Views.{view_at};

@@ -1,9 +1,7 @@
 //! The parts of a recording: an event's line, and the image after it where it is a draw.
 
-ghost use Rattle.std.specs.Prelude.{◌≡◌, ℕ, ◌+◌, ◌<◌, ◌≤◌, List, length, drop, Result, IfOk, IfSome, MatchResult};
-ghost use Rattle.model_history.specs.Texts.{event_line};
+ghost use Rattle.std.specs.Prelude.{◌≡◌, ◌+◌, ◌<◌, ◌≤◌, length, drop, Result, IfOk};
 ghost use Rattle.model_history.specs.EventFields as fields;
-ghost use Rattle.recording_text.specs.Images.{image_length as length_of};
 ghost use Rattle.recording_reader.specs.Pieces as pieces;
 ghost use Rattle.recording_reader.specs.inner.Parts as parts;
 ghost use Rattle.recording_reader.specs.inner.Within.{IsWithin};

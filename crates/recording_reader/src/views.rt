@@ -1,6 +1,6 @@
 //! How large the images of a recording are.
 
-ghost use Rattle.std.specs.Prelude.{◌≡◌, List, IfOk, map};
+ghost use Rattle.std.specs.Prelude.{◌≡◌, IfOk, map};
 ghost use Rattle.recording_reader.specs.Views as spec;
 ghost use Rattle.recording_reader.specs.Views.{ViewTable, views_of};
 

@@ -1,7 +1,6 @@
 -- One piece more.
 use Rattle.std.proofs.Common.{◌≡◌, ℕ, ◌+◌, ◌%◌, ◌^◌, List, [], ◌∷◌, ◌++◌, length, ap, ◌∙◌, append-nil, length-append, arith}
 use Rattle.std.specs.Global.{Vec}
-use Rattle.std.specs.List.{flat_map}
 use Rattle.std.proofs.lemmas.Grind.{flat_map-append}
 use Rattle.recording_sums.specs.Put.{joined}
 use Rattle.recording_sums.specs.Sums.{byte_sum}

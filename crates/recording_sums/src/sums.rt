@@ -1,6 +1,6 @@
 //! Bytes, summed up.
 
-ghost use Rattle.std.specs.Prelude.{◌≡◌, ℕ, ◌+◌, ◌%◌, ◌^◌};
+ghost use Rattle.std.specs.Prelude.{◌≡◌, ◌+◌, ◌%◌, ◌^◌};
 ghost use Rattle.recording_sums.specs.Sums.{byte_sum};
 
 /// A sum with that of some bytes, modulo 2^64.

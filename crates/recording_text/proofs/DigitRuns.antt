@@ -1,6 +1,6 @@
 -- A number's text reads back as that number.
-use Rattle.std.proofs.Common.{◌≡◌, ℕ, suc, zero, ◌+◌, ◌-◌, ◌*◌, ◌/◌, ◌%◌, ◌<◌, ◌≤◌, ◌^◌, true, false, List, [], ◌∷◌, ◌++◌, refl, ap, sym, ◌∙◌, append_assoc, arith, None, Some}
-use Rattle.std.specs.Prelude.{Bool, ℤ, pos, negsuc, decimal, FitsSigned, nat_le, nat_lt, ◌==◌, Option}
+use Rattle.std.proofs.Common.{◌≡◌, ℕ, suc, ◌+◌, ◌-◌, ◌*◌, ◌/◌, ◌%◌, ◌<◌, ◌≤◌, true, false, List, [], ◌∷◌, ◌++◌, refl, ap, ◌∙◌, append_assoc, arith, Some}
+use Rattle.std.specs.Prelude.{Bool, ℤ, pos, negsuc, decimal, FitsSigned, nat_le, nat_lt, ◌==◌}
 use Rattle.std.specs.Int.{w64}
 use Rattle.std.specs.Char.{is_ascii_digit}
 use Rattle.std.specs.Fmt.{signed_decimal}

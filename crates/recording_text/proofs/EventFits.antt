@@ -1,5 +1,5 @@
 -- What is read as an event has numbers that fit.
-use Rattle.std.proofs.Common.{◌≡◌, ℕ, zero, suc, ◌+◌, ◌-◌, ◌*◌, ◌<◌, ◌^◌, true, false, List, [], ◌∷◌, take, drop, refl, ap, sym, ◌∙◌, arith, None, Some, subst}
+use Rattle.std.proofs.Common.{◌≡◌, ℕ, zero, suc, ◌+◌, ◌-◌, ◌*◌, ◌<◌, ◌^◌, true, false, List, [], ◌∷◌, take, drop, refl, arith, None, Some, subst}
 use Rattle.std.specs.Prelude.{Bool, ℤ, pos, negsuc, FitsSigned, Option, nat_eq, nat_lt, nat_le, int_le, ◌&&◌, ◌==◌, if◌then◌else◌}
 use Rattle.std.specs.Int.{w32, w64}
 use Rattle.std.specs.Char.{is_ascii_digit}
@@ -16,7 +16,7 @@ use Rattle.recording_text.specs.declared.guess.Hit.{Hit}
 use Rattle.recording_text.specs.declared.word.Word.{Word}
 use Rattle.recording_text.specs.declared.word.Word.TheVariants as word
 use Rattle.recording_text.specs.Fits.{FitsKey, FitKeys, FitsMove, FitMoves, FitsEvent}
-use Rattle.recording_text.specs.Numbers.{◌>>=◌, before, signed, numbers, u32_of, i32_of, key_from, key_in, keys_from, move_from, move_in, moves_of}
+use Rattle.recording_text.specs.Numbers.{◌>>=◌, before, signed, numbers, u32_of, i32_of, key_from, key_in, keys_from, move_from, moves_of}
 use Rattle.recording_text.specs.Guesses.{guess, guess_of, has_plain_dash, event_with_numbers, event_of, single_of, plain_of, number_of, send_of, activate_of, scroll_of, hit_in, rest_in, turned, wheel_of, start_of, done_of, draw_of, word_at, head}
 use Rattle.recording_text.specs.Lines.{checked, event_at}
 use Rattle.recording_text.proofs.Binds.{bind_some, either_way}

@@ -1,13 +1,13 @@
 -- The fields of a line read back as their numbers.
-use Rattle.std.proofs.Common.{◌≡◌, ℕ, suc, zero, ◌<◌, ◌^◌, true, false, List, [], ◌∷◌, ◌++◌, refl, ap, sym, ◌∙◌, append_assoc, arith, None, Some}
-use Rattle.std.specs.Prelude.{ℤ, pos, negsuc, decimal, FitsSigned, map, flat_map, Option, nat_lt, int_le}
+use Rattle.std.proofs.Common.{◌≡◌, ℕ, ◌<◌, ◌^◌, true, false, List, [], ◌∷◌, ◌++◌, refl, ap, ◌∙◌, append_assoc, arith, Some}
+use Rattle.std.specs.Prelude.{ℤ, pos, negsuc, FitsSigned, map, flat_map, Option, nat_lt, int_le}
 use Rattle.std.specs.Int.{w32, w64}
 use Rattle.std.specs.Fmt.{signed_decimal}
 use Rattle.std.proofs.lemmas.Bool.Decides.{nat_tests}
 use Rattle.std.proofs.lemmas.Int.{ints}
 use Rattle.geom.specs.declared.tile.TileKey.{TileKey}
 use Rattle.page_layers.specs.declared.moves.Move.{Move}
-use Rattle.model_history.specs.Texts.{Field, field, field_text, fields_text, key_fields, move_fields}
+use Rattle.model_history.specs.Texts.{Field, fields_text, key_fields, move_fields}
 use Rattle.recording_text.specs.Fits.{FitsKey, FitKeys, FitsMove, FitMoves}
 use Rattle.recording_text.specs.Numbers.{numbers, before, u32_of, i32_of, key_from, key_in, keys_from, move_from, moves_of}
 use Rattle.recording_text.proofs.DigitRuns.{number, at_separator, at_newline, IsSeparator, is_negative, size_of}

@@ -1,5 +1,5 @@
 -- What a text that grew step by step still begins with.
-use Rattle.std.proofs.Common.{◌≡◌, ℕ, List, ◌++◌, take, length, sym, ◌∙◌, subst}
+use Rattle.std.proofs.Common.{◌≡◌, ℕ, List, ◌++◌}
 use Rattle.std.specs.Prelude.{Result, Ok, Err, OnErr}
 use Rattle.std.specs.Io.{StartsWith}
 use Rattle.std.proofs.Transfers.{starts_with_of_append, starts_with_trans}

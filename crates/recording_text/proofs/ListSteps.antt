@@ -1,5 +1,5 @@
 -- One more key or move of a list of numbers.
-use Rattle.std.proofs.Common.{◌≡◌, ℕ, List, [], ◌∷◌, ◌++◌, take, drop, length, ◌<◌, refl, ap, sym, ◌∙◌, append_assoc, append-nil, None, Some, arith, subst}
+use Rattle.std.proofs.Common.{◌≡◌, List, [], ◌∷◌, ◌++◌, take, drop, length, ◌<◌, refl, ap, sym, ◌∙◌, append_assoc, append-nil, None, Some, arith}
 use Rattle.std.specs.Prelude.{ℤ, Option}
 use Rattle.geom.specs.declared.tile.TileKey.{TileKey}
 use Rattle.page_layers.specs.declared.moves.Move.{Move}

@@ -1,8 +1,8 @@
 -- What an event's line reads back as, and what reads as an event is its line.
-use Rattle.std.proofs.Common.{◌≡◌, ℕ, ◌<◌, ◌≤◌, true, false, List, [], ◌∷◌, ◌++◌, length, drop, refl, ap, sym, ◌∙◌, append_assoc, append-nil, arith, None, Some, subst}
+use Rattle.std.proofs.Common.{◌≡◌, ℕ, ◌<◌, ◌≤◌, true, false, List, [], ◌++◌, length, drop, refl, ap, sym, ◌∙◌, append-nil, arith, None, Some, subst}
 use Rattle.std.proofs.lemmas.Bool.Decides.{Decides-eqb}
 use Rattle.std.proofs.lemmas.List.{drop_all}
-use Rattle.std.specs.Prelude.{Bool, Option, IfSome, nat_eq, if◌then◌else◌}
+use Rattle.std.specs.Prelude.{Bool, Option, nat_eq, if◌then◌else◌}
 use Rattle.std.specs.List.{starts_with}
 use Rattle.std.proofs.lemmas.Slice.Eq.{starts_is}
 use Rattle.model_history.specs.declared.event.Event.{Event}
@@ -11,7 +11,6 @@ use Rattle.recording_text.specs.Fits.{FitsEvent}
 use Rattle.recording_text.specs.Numbers.{◌>>=◌}
 use Rattle.recording_text.specs.Guesses.{guess}
 use Rattle.recording_text.specs.Lines.{checked, event_at, ReadsLine}
-use Rattle.recording_text.specs.Taken.{TakesLine}
 use Rattle.recording_text.proofs.EventFits.{event_fits}
 use Rattle.recording_text.proofs.LineRuns.{guess_again}
 

@@ -1,5 +1,5 @@
 -- Which events have numbers that fit the types of their fields, as every event of a program has.
-use Rattle.std.specs.Prelude.{ℕ, ◌<◌, ◌^◌, List, [], ◌∷◌, FitsSigned}
+use Rattle.std.specs.Prelude.{◌<◌, ◌^◌, List, [], ◌∷◌, FitsSigned}
 use Rattle.std.specs.Int.{w32, w64}
 use Rattle.geom.specs.declared.tile.TileKey.{TileKey}
 use Rattle.page_layers.specs.declared.moves.Move.{Move}

@@ -1,7 +1,7 @@
 -- The one event that the numbers of a line can be, if its line is an event's.
 --
 -- The word of a line is told by its first and its third byte alone, and its numbers are taken whatever stands between them; whether the line is that of the event is seen afterwards.
-use Rattle.std.specs.Prelude.{ℕ, ◌+◌, ◌==◌, ℤ, Bool, false, if◌then◌else◌, List, [], ◌∷◌, take, drop, Option, Some, None}
+use Rattle.std.specs.Prelude.{ℕ, ◌==◌, ℤ, Bool, false, if◌then◌else◌, List, [], ◌∷◌, take, drop, Option, Some, None}
 use Rattle.model_history.specs.declared.event.Event.{Event}
 use Rattle.model_history.specs.declared.event.Event.TheVariants as event
 use Rattle.page_layers.specs.declared.moves.Move.{Move}

@@ -1,5 +1,5 @@
 -- Which event's line bytes begin with.
-use Rattle.std.specs.Prelude.{◌≡◌, ℕ, nat_eq, ◌<◌, ◌≤◌, if◌then◌else◌, List, [], ◌++◌, length, take, Option, Some, None, Result, Ok, Err, IfSome, ⊤}
+use Rattle.std.specs.Prelude.{◌≡◌, ℕ, nat_eq, if◌then◌else◌, List, Option, Some, None, IfSome}
 use Rattle.std.specs.List.{starts_with}
 use Rattle.model_history.specs.declared.event.Event.{Event}
 use Rattle.model_history.specs.Texts.{event_line}

@@ -1,6 +1,6 @@
 //! The one event that a line can be, by its word and its numbers.
 
-ghost use Rattle.std.specs.Prelude.{◌≡◌, ℕ, List, Option, drop, length, IfOk};
+ghost use Rattle.std.specs.Prelude.{◌≡◌, Option, drop, IfOk};
 ghost use Rattle.recording_text.specs.Guesses as guesses;
 
 use crate::numbers::{

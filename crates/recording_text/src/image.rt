@@ -1,6 +1,6 @@
 //! The images of a recording: raw portable pixmaps.
 
-ghost use Rattle.std.specs.Prelude.{◌≡◌, ℕ, ◌+◌, ◌*◌, ◌<◌, ◌≤◌, List, [], ◌∷◌, ◌++◌, length, codes, decimal, option_copied, MatchOption, OnSome, IfSome, IfOk, OnOk, OnErr};
+ghost use Rattle.std.specs.Prelude.{◌≡◌, ℕ, ◌+◌, ◌*◌, ◌<◌, ◌≤◌, List, ◌++◌, length, decimal, option_copied, MatchOption, IfSome, IfOk, OnOk, OnErr};
 ghost use Rattle.std.specs.Io.{StartsWith};
 ghost use Rattle.model_history.specs.Recordings.{image_head, rgb};
 ghost use Rattle.recording_text.specs.Images as images;

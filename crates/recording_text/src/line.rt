@@ -1,6 +1,6 @@
 //! The line of an event.
 
-ghost use Rattle.std.specs.Prelude.{◌≡◌, ℕ, pos, List, [], ◌∷◌, ◌++◌, flat_map, codes, OnOk, OnErr, IfOk};
+ghost use Rattle.std.specs.Prelude.{◌≡◌, ◌++◌, flat_map, codes, OnOk, OnErr, IfOk};
 ghost use Rattle.std.specs.Io.{StartsWith};
 ghost use Rattle.model_history.specs.Texts.{field, field_text, fields_text, spaced, pair_fields, key_fields, move_fields, event_text, event_line as line_of};
 

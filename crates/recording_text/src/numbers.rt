@@ -1,6 +1,6 @@
 //! The numbers of a line, and what is made of them.
 
-ghost use Rattle.std.specs.Prelude.{◌≡◌, ℕ, ℤ, Bool, true, false, List, take, drop, Option, Some, None, IfOk};
+ghost use Rattle.std.specs.Prelude.{◌≡◌, true, false, take, drop, Option, Some, None, IfOk};
 ghost use Rattle.recording_text.specs.Numbers as spec;
 ghost use Rattle.recording_text.specs.Gathering.{Gathers};
 

@@ -1,7 +1,6 @@
 //! Event lines, read back.
 
-ghost use Rattle.std.specs.Prelude.{◌≡◌, ℕ, ◌<◌, ◌≤◌, List, Option, length, IfOk};
-ghost use Rattle.model_history.specs.Texts.{event_line as line_of};
+ghost use Rattle.std.specs.Prelude.{◌<◌, Option, IfOk};
 ghost use Rattle.recording_text.specs.Lines as lines;
 ghost use Rattle.recording_text.specs.Taken.{TakesLine};
 

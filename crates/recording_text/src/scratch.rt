@@ -1,7 +1,5 @@
 //! Room that is used again from line to line.
 
-ghost use Rattle.std.specs.Prelude.{◌≡◌, []};
-
 use std::alloc::Global;
 
 /// Room for reading lines: the numbers of a line, and the line of the event that they are.

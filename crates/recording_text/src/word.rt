@@ -1,6 +1,6 @@
 //! The words that event lines begin with.
 
-ghost use Rattle.std.specs.Prelude.{◌≡◌, ℕ, List, Option};
+ghost use Rattle.std.specs.Prelude.{◌≡◌, Option};
 ghost use Rattle.recording_text.specs.Guesses as guesses;
 
 /// The first word of an event's line.

@@ -1,6 +1,6 @@
 //! What a list of commands changed in a tree.
 
-ghost use Rattle.std.specs.Prelude.{◌≡◌, Bool, true, false, ◌||◌, OnOk, OnErr, IfOk, IfErr, is_ok, if◌then◌else◌, [], ◌∷◌, ◌++◌, length, slice_get};
+ghost use Rattle.std.specs.Prelude.{◌≡◌, true, false, ◌||◌, OnOk, OnErr, IfOk, IfErr, is_ok, if◌then◌else◌, [], ◌∷◌, ◌++◌, length, slice_get};
 ghost use Rattle.std.specs.Option.{option_copied};
 ghost use Rattle.region.specs.Lists.{Changed, IsRising, IsAboveLast, AreJoined, without_layer};
 

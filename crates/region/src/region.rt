@@ -1,6 +1,6 @@
 //! Sets of points, kept as rects.
 
-ghost use Rattle.std.specs.Prelude.{◌≡◌, ◌↔◌, ◌⊎◌, ℤ, Bool, ◌&&◌, ◌||◌, IsTrue, OnOk, OnErr, IfOk, All, List, [], ◌∷◌, ◌++◌};
+ghost use Rattle.std.specs.Prelude.{◌≡◌, ◌↔◌, ◌⊎◌, ℤ, ◌&&◌, ◌||◌, IsTrue, OnOk, OnErr, IfOk, All, List, [], ◌∷◌, ◌++◌};
 ghost use Rattle.geom.specs.Covers.{covers, IsSound, IsSpan};
 ghost use Rattle.region.specs.inner.Holding;
 ghost use Rattle.region.specs.inner.Holding.{any_holds, rect_holds};

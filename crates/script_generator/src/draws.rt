@@ -1,7 +1,7 @@
 //! Numbers drawn one after another.
 
-ghost use Rattle.std.specs.Prelude.{◌≡◌, ◌+◌, ◌<◌, ◌≤◌};
-ghost use Rattle.script_generator.specs.Draws.{after_draws, drawn, given, next};
+ghost use Rattle.std.specs.Prelude.{◌≡◌, ◌<◌};
+ghost use Rattle.script_generator.specs.Draws.{given, next};
 
 /// A generator of numbers: the linear congruential one with Knuth's constants.
 #[derive(Drop)]

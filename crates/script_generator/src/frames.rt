@@ -1,6 +1,6 @@
 //! The main frames of a made script.
 
-ghost use Rattle.std.specs.Prelude.{◌≡◌, ◌+◌, ◌<◌, ◌≤◌, ◌++◌, ◌∷◌, [], false, map, IfOk, OnOk};
+ghost use Rattle.std.specs.Prelude.{◌≡◌, ◌+◌, ◌<◌, ◌++◌, ◌∷◌, [], false, map, IfOk, OnOk};
 ghost use Rattle.script_generator.specs.Draws.{after_draws, drawn};
 ghost use Rattle.script_generator.specs.Generated as spec;
 

@@ -1,12 +1,12 @@
 -- A value or a member further, and the end of an array or an object.
-use Rattle.std.proofs.Common.{◌≡◌, ℕ, ◌-◌, ◌<◌, ◌≤◌, List, [], ◌∷◌, length, Option, Some, None, option_map, option_and_then, refl, sym, ap, ◌∙◌, arith}
+use Rattle.std.proofs.Common.{◌≡◌, ℕ, ◌-◌, ◌<◌, List, [], ◌∷◌, length, Option, Some, None, option_map, option_and_then, refl, ap, ◌∙◌, arith}
 use Rattle.json.specs.Token.{Token}
 use Rattle.json.specs.Lex.{tokens}
 use Rattle.json.specs.Json as json
 use Rattle.json.specs.Json.{parse_map, after_end_array, read_key, items, members, if_last, value}
 use Rattle.json.proofs.Grammar.{after_end_array-shorter, read_key-shorter, value-begin_array, value-begin_object}
 use Rattle.serde_json.specs.Data.{Data, array, object, Items, no_items, item, Members, no_members, put}
-use Rattle.serde_json.specs.Read.{of_json, of_items, of_members, converted, max_depth, read}
+use Rattle.serde_json.specs.Read.{of_json, of_items, converted, max_depth, read}
 use Rattle.script_values.specs.Tokens.{first_value, first_items, first_members}
 use Rattle.script_values.specs.Progress.{ItemsUpTo, MembersUpTo}
 use Rattle.script_values.proofs.Turns.{converted_some, converted-array, converted-object, item_read, item_refused, items_over, member_read, member_refused, key_refused, members_over}

@@ -1,8 +1,7 @@
 //! Actors that find the run stopped.
 
-ghost use Rattle.std.specs.Prelude.{◌≡◌, ◌<◌, Some, None, All, vec_len, IfOk};
+ghost use Rattle.std.specs.Prelude.{◌≡◌, ◌<◌, Some, None, IfOk};
 ghost use Rattle.model_history.specs.Scans.{held};
-ghost use Rattle.impl_core.specs.Origins.{Origin};
 ghost use Rattle.proxy_threads.specs.Seats.{past_of};
 ghost use Rattle.thread_lock.specs.PassModels.{IsOf};
 ghost use Rattle.test_channels.specs.Passes.{IsBegun, IsFree, IsFresh, IsStill};

@@ -1,7 +1,6 @@
 //! The actors of a run with one worker, before their first turns.
 
-ghost use Rattle.std.specs.Prelude.{◌≡◌, ◌≤◌, Some, IfOk};
-ghost use Rattle.impl_core.specs.Origins.{Origin};
+ghost use Rattle.std.specs.Prelude.{◌≡◌, Some, IfOk};
 ghost use Rattle.test_channels.specs.Passes.{IsBegun, IsFresh, IsStill};
 
 use impl_core::Core;

@@ -1,6 +1,6 @@
 //! Where a judge lets a history go no further.
 
-ghost use Rattle.std.specs.Prelude.{◌≡◌, ◌≤◌, [], IfOk};
+ghost use Rattle.std.specs.Prelude.{◌≡◌, [], IfOk};
 ghost use Rattle.test_histories.specs.Walks.{EndsAt};
 
 use crate::fault::HistoryLineFault;

@@ -1,6 +1,6 @@
 //! A small value to take turns with, and how two threads write in it.
 //! A journal has a title, its stem, and numbers that actors wrote down, its entries.
-ghost use Rattle.std.specs.Prelude.{◌≡◌, ◌≢◌, ℕ, [], ◌∷◌, ◌++◌, length, Some, IfOk, OnOk, OnErr};
+ghost use Rattle.std.specs.Prelude.{◌≡◌, ◌≢◌, ℕ, [], ◌∷◌, ◌++◌, Some, IfOk, OnOk, OnErr};
 ghost use mathlib.Core.List.{IsPrefix};
 ghost use Rattle.thread_lock.specs.Lists.{entries_by};
 ghost use Rattle.thread_lock.specs.Journals.{notes_of};

@@ -1,5 +1,5 @@
 //! The whole life of a ring, for a list of pieces.
-ghost use Rattle.std.specs.Prelude.{ℕ, List, [], Option, ◌≡◌, ◌≤◌, ◌++◌};
+ghost use Rattle.std.specs.Prelude.{ℕ, List, [], Option, ◌≡◌, ◌≤◌};
 ghost use Rattle.thread_ring.specs.Ring.{OneRing, SameSink, bytes_taken, joined, whole};
 ghost use Rattle.thread_ring.specs.Answers.{Blames, FaultRose, Filled, Gained, answer_for_all};
 

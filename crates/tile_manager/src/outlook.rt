@@ -1,6 +1,6 @@
 //! What tells the next tile: a queue, of all tiles or of the visible ones, or the ranks of which one is to be made.
 
-ghost use Rattle.std.specs.Prelude.{◌≡◌, ◌↔◌, true, map, take, option_map, IsTrue, IfOk};
+ghost use Rattle.std.specs.Prelude.{◌≡◌, ◌↔◌, true, take, option_map, IsTrue, IfOk};
 ghost use Rattle.tile_priority.specs.Ranks.{rank_cmp};
 ghost use Rattle.tile_priority.specs.Ordered.{in_order};
 ghost use Rattle.tile_priority.specs.Choice as choosing;

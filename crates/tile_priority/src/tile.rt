@@ -1,6 +1,6 @@
 //! The bin and the rank of one tile in one tree.
 
-ghost use Rattle.std.specs.Prelude.{◌≡◌, ◌↔◌, Bool, true, IsTrue, IsNone, None};
+ghost use Rattle.std.specs.Prelude.{◌≡◌, ◌↔◌, true, IsTrue, IsNone, None};
 ghost use Rattle.geom.specs.Covers.{IsSound};
 ghost use Rattle.geom.specs.Common.{Meet};
 ghost use Rattle.tile_priority.specs.Bins.{bin_at, bin_of, rank_of};

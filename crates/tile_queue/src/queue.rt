@@ -1,6 +1,6 @@
 //! The raster queue.
 
-ghost use Rattle.std.specs.Prelude.{◌≡◌, ◌+◌, ◌-◌, ◌≤◌, ◌↔◌, false, [], length, map, take, option_map, IfOk, IfSome, OnOk, OnErr, IsNone};
+ghost use Rattle.std.specs.Prelude.{◌≡◌, ◌+◌, ◌-◌, ◌≤◌, ◌↔◌, false, [], map, take, option_map, IfOk, IfSome, OnOk, OnErr, IsNone};
 ghost use Rattle.geom.specs.KeyLists.{has_key};
 ghost use Rattle.tile_priority.specs.Ranks.{rank_cmp};
 ghost use Rattle.tile_priority.specs.Ordered.{in_order};

@@ -3,7 +3,7 @@
 ghost use Rattle.std.specs.Prelude.{◌≡◌, ◌++◌, filter_map, map, IfOk, option_copied};
 ghost use Rattle.std.specs.List.{flat_map};
 ghost use Rattle.geom.specs.Covers.{IsSound};
-ghost use Rattle.geom.specs.KeyLists.{has_key, AreDistinctKeys};
+ghost use Rattle.geom.specs.KeyLists.{AreDistinctKeys};
 ghost use Rattle.tile_priority.specs.declared.rank.Rank.{Rank as RankModel};
 ghost use Rattle.tile_priority.specs.declared.rank.Side.TheVariants as side;
 ghost use Rattle.tile_priority.specs.Ordered.{SameMembers};

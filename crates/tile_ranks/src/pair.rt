@@ -35,7 +35,7 @@ pub(crate) struct Pair<'b, 'a> {
 }
 
 impl<'b, 'a> Model for Pair<'b, 'a> {
-    ghost use Rattle.std.specs.Prelude.{◌≡◌, ◌*◌, true, option_copied};
+    ghost use Rattle.std.specs.Prelude.{◌≡◌, true, option_copied};
     ghost use Rattle.geom.specs.Covers.{IsSound};
     ghost use Rattle.tile_ranks.specs.inner.Pairs as pairs;
 

@@ -1,6 +1,6 @@
 //! A tree that is asked for single keys.
 
-ghost use Rattle.std.specs.Prelude.{◌≡◌, ◌==◌, ◌&&◌, ◌*◌, IfSome, option_map};
+ghost use Rattle.std.specs.Prelude.{◌≡◌, ◌==◌, ◌&&◌, IfSome, option_map};
 ghost use Rattle.std.specs.List.{find};
 ghost use Rattle.geom.specs.Covers.{IsSound};
 ghost use Rattle.geom.specs.Grids.{has};
@@ -42,7 +42,6 @@ pub struct PlacedTree<'a> {
 }
 
 impl<'a> Model for PlacedTree<'a> {
-    ghost use Rattle.std.specs.Prelude.{◌*◌};
     ghost use Rattle.page_properties.specs.OffsetMap.{offset_at, AreOffsets};
     ghost use Rattle.tile_ranks.specs.SeenTrees.{AreCut, PlacedModel};
 

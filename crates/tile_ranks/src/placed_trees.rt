@@ -1,6 +1,6 @@
 //! An active and a pending tree that are asked for single keys.
 
-ghost use Rattle.std.specs.Prelude.{◌≡◌, ◌++◌, option_copied};
+ghost use Rattle.std.specs.Prelude.{◌≡◌, ◌++◌};
 ghost use Rattle.geom.specs.KeyLists.{has_key};
 ghost use Rattle.tile_priority.specs.Tiles.{IsRankOfKey};
 ghost use Rattle.model_history.specs.Tiles.{Tree, keys_of};

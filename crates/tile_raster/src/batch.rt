@@ -2,7 +2,6 @@
 
 ghost use Rattle.std.specs.Prelude.{◌≡◌, ◌≤◌, All, map, IfOk};
 ghost use Rattle.geom.specs.Covers.{IsSound};
-ghost use Rattle.tile_raster.specs.Images.{Image};
 
 use crate::image::TileImage;
 use crate::job::Job;

@@ -1,6 +1,6 @@
 //! The bytes of rows, and whether their pixels have one colour.
 
-ghost use Rattle.std.specs.Prelude.{◌≡◌, ◌≢◌, ◌↔◌, ℕ, ◌<◌, ◌≤◌, ◌*◌, ◌+◌, ◌/◌, ◌≤ℤ◌, ◌^◌, pos, length, slice_index, IsTrue, MatchOption, IfOk};
+ghost use Rattle.std.specs.Prelude.{◌≡◌, ◌≢◌, ◌↔◌, ℕ, ◌<◌, ◌≤◌, ◌*◌, ◌+◌, ◌/◌, ◌≤ℤ◌, pos, length, IsTrue, MatchOption};
 ghost use Rattle.geom.specs.Covers.{IsSound};
 ghost use Rattle.pixel.specs.Rows.{pixel, ArePremultiplied};
 ghost use Rattle.page_display_list.specs.Bitmaps.{near};

@@ -3,7 +3,7 @@
 //! A row is drawn run by run: from a column on, the topmost opaque span and those above it tell the colour, and how
 //! many columns have it. Each pixel is written once, and what is hidden is never looked at.
 
-ghost use Rattle.std.specs.Prelude.{◌≡◌, ℕ, ◌*◌, ◌+◌, ◌-◌, ◌<◌, ◌≤◌, ◌^◌, true, length, drop, fold, IsTrue};
+ghost use Rattle.std.specs.Prelude.{◌≡◌, ℕ, ◌*◌, ◌+◌, ◌-◌, ◌<◌, ◌≤◌, true, length, drop, fold, IsTrue};
 ghost use Rattle.pixel.specs.Colours.{clear};
 ghost use Rattle.pixel.specs.Rows.{pixel, ArePremultiplied};
 ghost use Rattle.tile_raster.specs.inner.Patches.{has_column, spanned, spans_show};

@@ -17,7 +17,7 @@ pub(crate) struct Chunk {
 }
 
 impl Model for Chunk {
-    ghost use Rattle.std.specs.Prelude.{◌≤◌, ◌*◌, List, length, vec_capacity};
+    ghost use Rattle.std.specs.Prelude.{◌≤◌, List, length, vec_capacity};
     ghost use Rattle.tile_store.specs.declared.held.KeyedPlace.{KeyedPlace};
 
     ghost Value = { List KeyedPlace };

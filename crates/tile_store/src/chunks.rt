@@ -20,7 +20,7 @@ pub(crate) struct Chunks {
 }
 
 impl Model for Chunks {
-    ghost use Rattle.std.specs.Prelude.{◌≡◌, ◌*◌, ◌<◌, [], All, IfSome, length, is_some, vec_len, vec_capacity};
+    ghost use Rattle.std.specs.Prelude.{◌≡◌, ◌<◌, [], All, IfSome, length, is_some, vec_len, vec_capacity};
     ghost use Rattle.tile_store.specs.inner.Chunked.{ChunksModel, chunk_room};
 
     ghost Value = { ChunksModel };

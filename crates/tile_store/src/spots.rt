@@ -2,7 +2,7 @@
 
 ghost use Rattle.std.specs.Prelude.{◌≡◌, ◌<◌, ◌+◌, true, false, [], length, take, drop, get_or, All, IfOk, IfErr, IfSome};
 ghost use Rattle.tile_store.specs.inner.Chunked.{flat, BeginsAbove, BeginsBy, HasKeyAt, HasGapAt};
-ghost use Rattle.tile_store.specs.inner.TileTables.{Rises, StandsAt, IsGapFor, Before, After};
+ghost use Rattle.tile_store.specs.inner.TileTables.{Rises, Before, After};
 
 use crate::chunk::{Chunk, MOST};
 use crate::held::{KeyedPlace, Spot};

@@ -1,6 +1,6 @@
 //! The held keys with their tiles.
 
-ghost use Rattle.std.specs.Prelude.{◌≡◌, ◌≤◌, ◌+◌, not, true, false, Some, None, IsSome, IfOk, OnOk, OnErr, option_map};
+ghost use Rattle.std.specs.Prelude.{◌≡◌, ◌≤◌, ◌+◌, not, false, Some, None, IsSome, IfOk, OnOk, OnErr, option_map};
 ghost use Rattle.geom.specs.declared.tile.TileKey.{TileKey};
 ghost use Rattle.std.specs.FinMap as fin;
 ghost use Rattle.std.specs.Ordering.{eq_by_cmp};

@@ -1,7 +1,7 @@
 //! Which tiles of a page are seen.
 
-ghost use Rattle.std.specs.Prelude.{◌≡◌, ◌≤◌, ◌*◌, ◌++◌, ℕ, ℤ, pos, neg_ℤ, map, length, nat_lt, All, FitsSigned, IfOk, IfSome, OnOk};
-ghost use Rattle.std.specs.List.{prefix_len, flat_map};
+ghost use Rattle.std.specs.Prelude.{◌≡◌, ◌*◌, ◌++◌, neg_ℤ, map, All, FitsSigned, IfOk, OnOk};
+ghost use Rattle.std.specs.List.{flat_map};
 ghost use mir.Syntax.{w32};
 ghost use Rattle.geom.specs.Covers.{IsSound};
 ghost use Rattle.geom.specs.Gaps.{shifted};
@@ -9,7 +9,6 @@ ghost use Rattle.geom.specs.Sides.{IsLayerSide};
 ghost use Rattle.page_properties.specs.OffsetMap.{offset_at, AreOffsets};
 ghost use Rattle.page_properties.specs.Placement.{IsWithin};
 ghost use Rattle.page_layers.specs.Layers.{parts_of};
-ghost use Rattle.page_layers.specs.Pages.{IsView};
 ghost use Rattle.tile_visible.specs.Visible as spec;
 
 use crate::order::{OrderedLayer, by_id};

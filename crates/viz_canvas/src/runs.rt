@@ -1,6 +1,6 @@
 //! Runs of pixels in a picture.
 
-ghost use Rattle.std.specs.Prelude.{◌≡◌, ℕ, ◌+◌, ◌*◌, ◌<◌, ◌≤◌, ◌^◌, length};
+ghost use Rattle.std.specs.Prelude.{◌≡◌, ◌+◌, ◌*◌, ◌<◌, ◌≤◌, ◌^◌, length};
 ghost use Rattle.pixel.specs.Rows.{pixel};
 ghost use Rattle.viz_canvas.specs.Formats.{bytes_at};
 ghost use Rattle.viz_canvas.specs.inner.Parts.{PartOf};

@@ -1,6 +1,6 @@
 //! Drawing a scene onto a picture, strip by strip.
 
-ghost use Rattle.std.specs.Prelude.{◌≡◌, ℕ, ◌+◌, ◌-◌, ◌*◌, ◌<◌, ◌≤◌, ◌^◌, pos, length};
+ghost use Rattle.std.specs.Prelude.{◌≡◌, ◌+◌, ◌-◌, ◌*◌, ◌<◌, ◌≤◌, ◌^◌, length};
 ghost use Rattle.pixel.specs.Rows.{pixel};
 ghost use Rattle.pixel.specs.Surfaces.{IsInside};
 ghost use Rattle.viz_render.specs.Surfaces.{AreReady};

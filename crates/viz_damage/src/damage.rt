@@ -1,6 +1,6 @@
 //! Where two scenes may differ.
 
-ghost use Rattle.std.specs.Prelude.{◌≡◌, ℕ, ◌≤◌, ◌<◌, All, List, [], ◌∷◌, length, OnOk, IfOk, IsTrue, ℤ, pos, false};
+ghost use Rattle.std.specs.Prelude.{◌≡◌, ◌<◌, All, [], length, IfOk, IsTrue, ℤ, false};
 ghost use Rattle.geom.specs.Covers.{covers};
 ghost use Rattle.region.specs.Points.{covered};
 ghost use Rattle.viz_scene.specs.Views.{passes_view};

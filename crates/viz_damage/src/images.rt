@@ -1,7 +1,7 @@
 //! Whether two images of tiles show the same.
 
-ghost use Rattle.std.specs.Prelude.{◌≡◌, ℕ, ◌<◌, true, All, length, IsTrue};
-ghost use Rattle.geom.specs.Covers.{covers, IsSound};
+ghost use Rattle.std.specs.Prelude.{◌≡◌, ◌<◌, true, IsTrue};
+ghost use Rattle.geom.specs.Covers.{IsSound};
 ghost use Rattle.page_display_list.specs.Content.{IsSoundItem};
 ghost use Rattle.tile_raster.specs.Images.{ShowAlike};
 ghost use Rattle.viz_damage.specs.inner.Alike.{PaintAlike, PaintsNothing, AreSameImages};

@@ -1,6 +1,6 @@
 //! What changes from the quads of a pass to those of its successor.
 
-ghost use Rattle.std.specs.Prelude.{◌≡◌, ℕ, ◌+◌, ◌-◌, ◌<◌, ◌≤◌, ◌∷◌, All, length, take, drop, false, OnOk, IfOk, IsTrue};
+ghost use Rattle.std.specs.Prelude.{◌≡◌, ◌+◌, ◌-◌, ◌<◌, ◌≤◌, All, length, take, drop, false, OnOk, IfOk, IsTrue};
 ghost use Rattle.viz_scene.specs.Views.{quads_view};
 ghost use Rattle.viz_scene.specs.Sound.{QuadFits};
 ghost use Rattle.viz_scene.specs.Areas.{IsOnScreen};

@@ -1,7 +1,7 @@
 //! What changes where one quad stands in the place of another: of a tile that moved up or down, the rows alone that
 //! differ from those that were there.
 
-ghost use Rattle.std.specs.Prelude.{◌≡◌, ℕ, ◌+◌, ◌<◌, ◌≤◌, ℤ, pos, ◌+ℤ◌, ◌-ℤ◌, ◌≤ℤ◌, ◌<ℤ◌, ◌∷◌, [], All, length, OnOk, IfSome, IsTrue, ◌^◌};
+ghost use Rattle.std.specs.Prelude.{◌≡◌, ℕ, ◌+◌, ◌<◌, ◌≤◌, ℤ, pos, ◌+ℤ◌, ◌-ℤ◌, ◌≤ℤ◌, ◌∷◌, [], All, length, OnOk, IsTrue, ◌^◌};
 ghost use Rattle.std.specs.Int.{int_max, int_min};
 ghost use Rattle.page_display_list.specs.Bitmaps.{near};
 ghost use Rattle.tile_raster.specs.Images.{AreSameRows};

@@ -1,6 +1,6 @@
 //! Single quads: whether two act alike, and the area that one acts on.
 
-ghost use Rattle.std.specs.Prelude.{◌≡◌, ◌<◌, ◌∷◌, [], All, length, IsTrue};
+ghost use Rattle.std.specs.Prelude.{◌≡◌, ◌∷◌, [], All, length, IsTrue};
 ghost use Rattle.viz_scene.specs.Views.{quad_view, quads_view};
 ghost use Rattle.viz_scene.specs.Sound.{QuadFits};
 ghost use Rattle.viz_scene.specs.Areas.{IsOnScreen};

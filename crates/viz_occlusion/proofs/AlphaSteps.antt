@@ -1,5 +1,5 @@
 -- The alphas of a part of an image.
-use Rattle.std.proofs.Common.{◌≡◌, ◌⊎◌, inl, inr, List, ℕ, ◌+◌, ◌-◌, ◌<◌, ◌≤◌, ℤ, pos, negsuc, ◌+ℤ◌, ◌-ℤ◌, ◌≤ℤ◌, ◌<ℤ◌, Bool, true, false, IsTrue, refl, sym, ◌∙◌, ap, arith}
+use Rattle.std.proofs.Common.{◌≡◌, ◌⊎◌, inl, inr, List, ℕ, ◌+◌, ◌-◌, ◌<◌, ◌≤◌, ℤ, pos, negsuc, ◌+ℤ◌, ◌-ℤ◌, ◌≤ℤ◌, Bool, true, false, IsTrue, refl, sym, ◌∙◌, ap, arith}
 use Rattle.std.proofs.lemmas.Bool.{cases_lt}
 use Rattle.std.proofs.lemmas.Int.{ints}
 use Rattle.geom.specs.declared.Rect.{Rect}
@@ -11,7 +11,7 @@ use Rattle.pixel.specs.Rows.{pixel}
 use Rattle.page_display_list.specs.Content.{content}
 use Rattle.page_display_list.specs.Bitmaps.{near}
 use Rattle.tile_raster.specs.Images.{Image, IsOneColour, AreSameRows, list_colour}
-use Rattle.viz_scene.specs.Views.{QuadView, tiled, plain}
+use Rattle.viz_scene.specs.Views.{tiled}
 use Rattle.viz_scene.specs.Pixels.{placed_pixel}
 use Rattle.viz_scene.specs.Opaque.{IsOpaque}
 use Rattle.viz_scene.specs.Sound.{IsTaken}

@@ -1,6 +1,6 @@
 //! The area that opaque quads cover, as rects.
 
-ghost use Rattle.std.specs.Prelude.{◌≡◌, ◌<◌, ℤ, pos, ◌+ℤ◌, ◌<ℤ◌, ◌≤ℤ◌, true, false, ◌||◌, All, length, IsTrue, IfSome, OnOk, MatchOption};
+ghost use Rattle.std.specs.Prelude.{◌≡◌, ◌<◌, ℤ, pos, ◌+ℤ◌, ◌<ℤ◌, ◌≤ℤ◌, true, false, ◌||◌, All, IsTrue, IfSome, OnOk, MatchOption};
 ghost use Rattle.geom.specs.Covers.{covers};
 ghost use Rattle.region.specs.Points.{covered};
 ghost use Rattle.viz_scene.specs.Areas.{IsOnScreen};

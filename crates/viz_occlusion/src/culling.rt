@@ -1,6 +1,6 @@
 //! Leaving out hidden quads.
 
-ghost use Rattle.std.specs.Prelude.{◌≡◌, ℕ, false, All, List, ◌∷◌, OnOk, IsTrue, IfOk};
+ghost use Rattle.std.specs.Prelude.{◌≡◌, false, All, List, ◌∷◌, OnOk, IsTrue, IfOk};
 ghost use Rattle.viz_scene.specs.Views.{QuadView, quad_view, quads_view, passes_view};
 ghost use Rattle.viz_scene.specs.Opaque.{IsHidden};
 ghost use Rattle.viz_scene.specs.Areas.{IsOnScreen};

@@ -16,7 +16,7 @@ use Rattle.viz_scene.specs.Views.{QuadView, pass_view, passes_view}
 use Rattle.viz_scene.specs.Pixels.{quads_over, passes_at}
 use Rattle.viz_scene.proofs.Steps.{passes_push}
 use Rattle.viz_render.specs.inner.Drawing.{SurfaceView, colour_of, colours, CanBeDrawn, AreRoomy, PassesCanBeDrawn, ShowsQuads, ShowsPass}
-use Rattle.viz_render.specs.inner.Masks.{top, AreNumbers, AreOpenNumbers}
+use Rattle.viz_render.specs.inner.Masks.{AreNumbers, AreOpenNumbers}
 use Rattle.viz_render.specs.inner.Shown.{ShowsSeen, IsSeenAt, ShowsOpenPass, ShowOpenPasses}
 use Rattle.viz_render.proofs.QuadSteps.{place_below}
 use Rattle.viz_render.proofs.Hulls.{place_in}

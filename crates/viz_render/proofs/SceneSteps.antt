@@ -1,18 +1,14 @@
 -- A scene, drawn strip by strip.
-use Rattle.std.proofs.Common.{◌≡◌, ℕ, ◌+◌, ◌-◌, ◌*◌, ◌<◌, ◌≤◌, ℤ, pos, ◌+ℤ◌, ◌-ℤ◌, true, false, cond, List, [], ◌∷◌, ◌++◌, length, inl, inr, sym, ◌∙◌, ap, subst, arith}
+use Rattle.std.proofs.Common.{◌≡◌, ℕ, ◌+◌, ◌-◌, ◌*◌, ◌<◌, ◌≤◌, ℤ, pos, ◌+ℤ◌, ◌-ℤ◌, List, [], ◌∷◌, ◌++◌, length, inl, inr, sym, ◌∙◌, ap, subst, arith}
 use Rattle.std.specs.Prelude.{All, slice_index_or}
 use Rattle.std.proofs.Math.Nat.{mul-le-mul_left}
 use Rattle.std.proofs.lemmas.Int.{ints}
 use Rattle.std.proofs.lemmas.Bool.{cases_lt}
-use Rattle.std.proofs.lemmas.Bool.Decides.{nat_tests}
 use Rattle.std.proofs.lemmas.List.{map-append, length-append, length-map, get_or_append_left, get_or_push}
 use Rattle.std.proofs.lemmas.List.Elements.{All-weaker}
 use Rattle.geom.specs.declared.Rect.{Rect}
 use Rattle.geom.specs.Covers.{IsSound}
 use Rattle.pixel.specs.Colours.{Parts}
-use Rattle.pixel.specs.Rows.{pixel}
-use Rattle.pixel.specs.Surfaces.{IsPart, IsInside, EachPixel, within_rows, in_rows}
-use Rattle.pixel.specs.declared.Area.{Area}
 use Rattle.page_display_list.specs.Bitmaps.{near}
 use Rattle.viz_scene.specs.declared.RenderPass.{RenderPass}
 use Rattle.viz_scene.specs.Views.{QuadView, tiled, plain, grouped, pass_view, passes_view, SceneView}
@@ -26,7 +22,6 @@ use Rattle.viz_render.specs.Surfaces.{ShowsArea}
 use Rattle.viz_render.specs.inner.Rooms.{HasRoom}
 use Rattle.viz_render.specs.declared.pass_surfaces.PassSurfaces.{PassSurfaces}
 use Rattle.geom.proofs.Spans.{both_of}
-use Rattle.viz_render.proofs.Tiles.{where_held}
 use Rattle.viz_render.proofs.Hulls.{in_place}
 
 -- a rect on a screen is sound

@@ -1,6 +1,6 @@
 //! What is laid over a part of an area.
 
-ghost use Rattle.std.specs.Prelude.{◌≡◌, ℕ, ◌*◌, length};
+ghost use Rattle.std.specs.Prelude.{◌≡◌, ◌*◌, length};
 ghost use Rattle.pixel.specs.Rows.{ArePremultiplied};
 ghost use Rattle.pixel.specs.Surfaces.{IsInside, EachPixel, within_rows};
 ghost use Rattle.viz_render.specs.inner.Paints.{painted, CanPaint};

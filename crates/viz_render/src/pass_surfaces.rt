@@ -1,6 +1,6 @@
 //! Drawing all passes of a scene.
 
-ghost use Rattle.std.specs.Prelude.{◌≡◌, ℕ, ◌+◌, ◌*◌, ◌≤◌, ◌^◌, length, IfOk};
+ghost use Rattle.std.specs.Prelude.{◌≡◌, ℕ, ◌*◌, ◌≤◌, ◌^◌, length, IfOk};
 ghost use Rattle.page_display_list.specs.Bitmaps.{near, byte_count};
 ghost use Rattle.viz_scene.specs.Views.{passes_view};
 ghost use Rattle.viz_scene.specs.Sound.{IsIn};

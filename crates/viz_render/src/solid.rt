@@ -1,6 +1,6 @@
 //! Drawing a rect of one colour.
 
-ghost use Rattle.std.specs.Prelude.{◌≡◌, ℕ, ◌*◌, ◌≤◌, length, IsTrue};
+ghost use Rattle.std.specs.Prelude.{◌≡◌, ℕ, ◌≤◌, length, IsTrue};
 ghost use Rattle.geom.specs.Covers.{IsSound};
 ghost use Rattle.pixel.specs.Colours.{Parts, blend, clear};
 ghost use Rattle.pixel.specs.Rows.{ArePremultiplied};

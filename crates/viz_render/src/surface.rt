@@ -1,6 +1,6 @@
 //! The pixels that a pass is drawn into.
 
-ghost use Rattle.std.specs.Prelude.{◌≡◌, ℕ, ◌*◌, ◌≤◌, ◌^◌, pos, length, IfOk};
+ghost use Rattle.std.specs.Prelude.{◌≡◌, ◌*◌, ◌≤◌, ◌^◌, length, IfOk};
 ghost use Rattle.geom.specs.Covers.{IsSound};
 ghost use Rattle.pixel.specs.Rows.{ArePremultiplied};
 ghost use Rattle.page_display_list.specs.Bitmaps.{byte_count};

@@ -1,10 +1,10 @@
 -- Quads and passes, one more at a time.
-use Rattle.std.proofs.Common.{◌≡◌, ℕ, ◌+◌, ◌<◌, ◌≤◌, ℤ, List, [], ◌∷◌, ◌++◌, length, get_or, take, refl, sym, ◌∙◌, ap, arith, zero, suc, add-zero}
-use Rattle.std.specs.Prelude.{map, All, fold, slice_index_or}
+use Rattle.std.proofs.Common.{◌≡◌, ℕ, ◌+◌, ◌<◌, ◌≤◌, ℤ, List, [], ◌∷◌, ◌++◌, length, refl, arith, zero, suc, add-zero}
+use Rattle.std.specs.Prelude.{All, slice_index_or}
 use Rattle.std.proofs.lemmas.List.Sums.{fold-append}
 use Rattle.std.proofs.lemmas.List.{length-append}
 use Rattle.pixel.specs.Colours.{Parts, clear}
-use Rattle.viz_scene.specs.Views.{QuadView, tiled, plain, grouped, SceneView}
+use Rattle.viz_scene.specs.Views.{QuadView, tiled, plain, grouped}
 use Rattle.viz_scene.specs.Pixels.{quad_over, quads_over, passes_at, root_pixel, scene_pixel}
 use Rattle.viz_scene.specs.Sound.{QuadFits, AreSound}
 

@@ -1,7 +1,7 @@
 -- Laws of the pixels of scenes.
 use Rattle.std.specs.Prelude.{◌≡◌, ℕ, ℤ, List, [], ◌∷◌, ◌++◌}
 use Rattle.pixel.specs.Colours.{Parts}
-use Rattle.viz_scene.specs.Views.{QuadView, SceneView}
+use Rattle.viz_scene.specs.Views.{QuadView}
 use Rattle.viz_scene.specs.Pixels.{quads_over, passes_at, scene_pixel}
 use Rattle.viz_scene.specs.Opaque.{IsHidden}
 

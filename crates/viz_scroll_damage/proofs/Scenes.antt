@@ -3,10 +3,10 @@ use Rattle.std.proofs.Common.{◌≡◌, ℕ, ◌+◌, ◌<◌, ◌≤◌, ℤ, 
 use Rattle.std.specs.Prelude.{All}
 use Rattle.std.proofs.lemmas.Int.{ints}
 use Rattle.std.proofs.lemmas.List.{get_or-map, length-map, take_all, take_more}
-use Rattle.std.proofs.lemmas.List.Elements.{All-weaker, All-append}
+use Rattle.std.proofs.lemmas.List.Elements.{All-weaker}
 use Rattle.geom.specs.declared.Rect.{Rect}
 use Rattle.geom.specs.Covers.{covers, within}
-use Rattle.geom.proofs.Spans.{Inside, inside, is_within_of, both, both_of}
+use Rattle.geom.proofs.Spans.{inside, both}
 use Rattle.pixel.specs.Colours.{Parts, clear}
 use Rattle.region.specs.Points.{covered}
 use Rattle.viz_scene.specs.declared.quad.Quad.{Quad}

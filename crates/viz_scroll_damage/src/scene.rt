@@ -1,6 +1,6 @@
 //! Scenes that are moved down or up, and cut to some rows.
 
-ghost use Rattle.std.specs.Prelude.{◌≡◌, pos, ◌≤ℤ◌, All, List, [], ◌∷◌, ◌++◌, IfOk, OnOk};
+ghost use Rattle.std.specs.Prelude.{pos, ◌≤ℤ◌, All, List, [], ◌∷◌, ◌++◌, IfOk, OnOk};
 ghost use Rattle.viz_scene.specs.Views.{QuadView, quad_view, quads_view, passes_view};
 ghost use Rattle.viz_scroll_damage.specs.inner.Acting.{IsCut, IsShown, ActMoved, AllActMoved, AlsoFit, AllAlsoFit, IsMoved};
 

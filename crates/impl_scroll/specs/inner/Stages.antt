@@ -1,5 +1,5 @@
 -- Where the scrollers of a tree stand, and the moves that are listed of rows.
-use Rattle.std.specs.Prelude.{ℕ, ℤ, pos, ◌-ℤ◌, cond, List, [], ◌∷◌}
+use Rattle.std.specs.Prelude.{ℕ, ℤ, pos, cond, List, [], ◌∷◌}
 use Rattle.geom.specs.declared.rect.Point.{Point}
 use Rattle.model_scroll_values.specs.declared.Synced.{Synced}
 use Rattle.model_scroll_values.specs.Table.{pull_answer, active_value}

@@ -1,5 +1,5 @@
 -- What a step does to the rows, and rows that are added.
-use Rattle.std.specs.Prelude.{◌≡◌, ℕ, ◌<◌, ◌==◌, nat_lt, pos, Bool, true, cond, List, [], ◌∷◌, map}
+use Rattle.std.specs.Prelude.{◌≡◌, ℕ, ◌<◌, ◌==◌, nat_lt, pos, true, cond, List, [], ◌∷◌, map}
 use Rattle.model_scroll_values.specs.declared.Synced.{Synced}
 use Rattle.model_scroll_values.specs.Table as table
 use Rattle.model_scroll_values.specs.Bounds.{IsBoundedNumber, IsBounded}

@@ -12,7 +12,6 @@ use Rattle.page_layers.specs.Outcomes.{Accepts, Refuses, ListsChange}
 use Rattle.page_layers.specs.declared.moves.Move.{Move}
 use Rattle.page_layers.specs.Axes.{across, down, amount_in}
 use Rattle.page_layers.specs.Scrollers.{main_value}
-use Rattle.model_history.specs.Frames.{page}
 use Rattle.model_history.specs.Stamps.{with_command}
 use Rattle.model_history.specs.SameChanges.{SameChanges}
 

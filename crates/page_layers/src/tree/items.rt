@@ -1,10 +1,8 @@
 //! Commands on the items of a layer.
 
-ghost use Rattle.std.specs.Prelude.{◌≡◌, ◌≤◌, ◌<◌, length, map, true, false, IfSome};
+ghost use Rattle.std.specs.Prelude.{◌≡◌, ◌<◌};
 ghost use Rattle.page_layers.specs.declared.command.Command.TheVariants as command;
-ghost use Rattle.page_layers.specs.Layers.{PageLayer, parts_of};
 ghost use Rattle.page_layers.specs.Refusals as refusals;
-ghost use Rattle.page_layers.specs.Outcomes.{ListsChange};
 ghost use Rattle.page_layers.specs.inner.Tested.{Tested};
 
 use super::LayerTree;

@@ -1,10 +1,8 @@
 //! Commands on the list of layers.
 
-ghost use Rattle.std.specs.Prelude.{◌≡◌, ◌≤◌, ◌<◌, length, map, true, false};
+ghost use Rattle.std.specs.Prelude.{◌≡◌, ◌<◌};
 ghost use Rattle.page_layers.specs.declared.command.Command.TheVariants as command;
-ghost use Rattle.page_layers.specs.Layers.{PageLayer, parts_of};
 ghost use Rattle.page_layers.specs.Refusals as refusals;
-ghost use Rattle.page_layers.specs.Outcomes.{ListsChange};
 ghost use Rattle.page_layers.specs.inner.Tested.{Tested};
 
 use super::LayerTree;

@@ -1,6 +1,6 @@
 //! Commands on property nodes.
 
-ghost use Rattle.std.specs.Prelude.{◌≡◌, ℕ};
+ghost use Rattle.std.specs.Prelude.{◌≡◌};
 ghost use Rattle.page_properties.specs.Entries.{is_known};
 ghost use Rattle.page_layers.specs.declared.command.Command.TheVariants as command;
 ghost use Rattle.page_layers.specs.Refusals as refusals;

@@ -1,6 +1,6 @@
 //! Commands and main frames, out of their JSON values.
 
-ghost use Rattle.std.specs.Prelude.{◌≡◌, ◌<◌, ◌+◌, ◌^◌, ◌≤◌, length, map, nat_lt, true, IfOk, vec_len};
+ghost use Rattle.std.specs.Prelude.{◌≡◌, ◌<◌, ◌+◌, ◌≤◌, length, map, nat_lt, true, IfOk, vec_len};
 ghost use Rattle.model_history.specs.Ranges.{are_short};
 ghost use Rattle.serde_json.specs.View.{view, items_view};
 ghost use Rattle.script_fields.specs.Faults.{Gives as GivesField};

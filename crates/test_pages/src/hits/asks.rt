@@ -1,6 +1,6 @@
 //! What the hit test says of a page whose scrollers stand at their main values.
 
-ghost use Rattle.std.specs.Prelude.{◌≡◌, IsTrue, IfOk};
+ghost use Rattle.std.specs.Prelude.{IsTrue, IfOk};
 ghost use Rattle.page_properties.specs.OffsetMap.{offset_at, AreOffsets};
 ghost use Rattle.page_hit_test.specs.Wheels.{IsAmount, AreWithinRanges};
 

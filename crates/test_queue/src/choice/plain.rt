@@ -1,6 +1,6 @@
 //! The choice as lists.
 
-ghost use Rattle.std.specs.Prelude.{◌≡◌, ℕ, ◌+◌, ◌-◌, ◌<◌, ◌^◌, length, cond, map, filter, IfOk, Some};
+ghost use Rattle.std.specs.Prelude.{◌≡◌, ◌+◌, ◌-◌, ◌<◌, ◌^◌, cond, map, filter, IfOk, Some};
 ghost use Rattle.tile_priority.specs.Ranks.{least};
 ghost use Rattle.tile_priority.specs.Choice as choosing;
 ghost use Rattle.tile_priority.specs.Choice.{evictable_of, evictable_key};

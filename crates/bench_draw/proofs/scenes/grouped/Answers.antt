@@ -1,5 +1,5 @@
 -- Each pass is one more, and the root has a group of it.
-use Rattle.std.proofs.Common.{◌≡◌, ◌+◌, ◌∙◌, ap, length, arith, subst, sym}
+use Rattle.std.proofs.Common.{◌+◌, ◌∙◌, ap, length, arith}
 use Rattle.std.proofs.lemmas.List.{length-append}
 use Rattle.bench_draw.proofs.Passes.{quads_push, passes_push, large_side, some_pass}
 use Rattle.bench_draw.proofs.scenes.grouped.Goals as goal

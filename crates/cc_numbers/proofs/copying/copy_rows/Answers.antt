@@ -1,5 +1,5 @@
 -- One row more is copied.
-use Rattle.std.proofs.Common.{◌≡◌, ◌≤◌, ◌-◌, ◌*◌, length, ◌∙◌, ap, arith, rules}
+use Rattle.std.proofs.Common.{◌≡◌, ◌≤◌, ◌-◌, ◌*◌, length, rules}
 use Rattle.cc_numbers.proofs.CopiedRows.{rows_more, between_more}
 use Rattle.cc_numbers.proofs.copying.copy_rows.Goals as goal
 

@@ -1,5 +1,5 @@
 -- The rows before this one are copied.
-use Rattle.std.specs.Prelude.{◌≡◌, ◌≤◌, ◌*◌, length}
+use Rattle.std.specs.Prelude.{◌≡◌, ◌*◌, length}
 use Rattle.cc_numbers.specs.Copies.{HoldsRows, KeepsBetween}
 use Rattle.cc_numbers.proofs.copying.copy_rows.Given as given
 

@@ -1,5 +1,5 @@
 -- The pixels that come next are copied after those before.
-use Rattle.std.proofs.Common.{true, arith, rules}
+use Rattle.std.proofs.Common.{true, rules}
 use Rattle.cc_numbers.proofs.CopiedRows.{row_more}
 use Rattle.cc_numbers.proofs.exchange.copy_exchanged.Goals as goal
 

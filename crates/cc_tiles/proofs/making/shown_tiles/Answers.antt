@@ -1,5 +1,5 @@
 -- The tiles are those that the page shows, and each has its image.
-use Rattle.std.proofs.Common.{◌≡◌, List, map, ◌∙◌, ap, rules}
+use Rattle.std.proofs.Common.{◌≡◌, map, ◌∙◌, ap}
 use Rattle.std.specs.Prelude.{find, Some}
 use Rattle.page_properties.specs.OffsetMap.{offset_at}
 use Rattle.page_layers.specs.Layers.{PageLayer, has_id, parts_of}

@@ -1,4 +1,4 @@
-use Rattle.std.proofs.Common.{ℕ, ℤ, ◌≡◌, ◌-ℤ◌, Bool, sym, ap, ◌∙◌, subst, rules}
+use Rattle.std.proofs.Common.{ℤ, ◌-ℤ◌, sym, subst, rules}
 use Rattle.std.proofs.lemmas.Int.{to_z-of_z}
 use Rattle.std.specs.Int.RustNames.{FitsSigned}
 use mir.Syntax.{w64}

@@ -1,5 +1,5 @@
 -- One offset more is set.
-use Rattle.std.proofs.Common.{ℕ, ◌==◌, List, get_or, ap, ◌∙◌, subst, rules}
+use Rattle.std.proofs.Common.{◌==◌, List, get_or, ap, ◌∙◌, subst, rules}
 use Rattle.model_scroll_values.specs.declared.Synced.{Synced}
 use Rattle.model_scroll_values.specs.Bounds.{IsBounded}
 use Rattle.page_properties.specs.OffsetMap.{offset_at}

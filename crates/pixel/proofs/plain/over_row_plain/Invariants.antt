@@ -1,4 +1,4 @@
-use Rattle.std.specs.Prelude.{◌≤◌, ◌-◌, ◌≡◌, length}
+use Rattle.std.specs.Prelude.{◌≤◌, ◌-◌, length}
 use Rattle.pixel.specs.Rows.{IsLaid}
 use Rattle.pixel.proofs.plain.over_row_plain.Given as given
 

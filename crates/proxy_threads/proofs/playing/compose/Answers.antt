@@ -1,5 +1,5 @@
 -- None of the entries that were not written is forgotten.
-use Rattle.std.proofs.Common.{◌≡◌, ◌≤◌, ℕ, ◌∙◌, subst, sym, arith}
+use Rattle.std.proofs.Common.{◌≡◌, ◌≤◌, ◌∙◌, subst, sym, arith}
 use Rattle.impl_log.specs.Kept.{forgettable}
 use Rattle.impl_log.specs.Runs.{Run, past}
 use Rattle.proxy_threads.proofs.CompTurns.{plays_steps}

@@ -1,5 +1,5 @@
 -- The pass has one entry more, its actor's stop.
-use Rattle.std.proofs.Common.{◌≡◌, ℕ, [], inr, sym, ◌∙◌, ap}
+use Rattle.std.proofs.Common.{◌≡◌, [], inr, sym, ◌∙◌, ap}
 use Rattle.model_history.specs.declared.event.Event.TheVariants as event
 use Rattle.proxy_threads.specs.Seats.{Seat, pairs}
 use Rattle.test_channels.proofs.Stopped.{seen_stopped, free_stopped}

@@ -1,6 +1,5 @@
 -- The rect that is put in the place of another holds both.
-use Rattle.std.proofs.Common.{rules, subst, sym}
-use Rattle.std.specs.Prelude.{All, slice_set}
+use Rattle.std.proofs.Common.{rules}
 use Rattle.std.proofs.lemmas.List.Elements.{All-set}
 use Rattle.viz_scene.specs.Areas.{IsOnScreen}
 use Rattle.viz_damage.proofs.AreaSteps.{set_holds}

@@ -1,5 +1,5 @@
 -- Each band is alike or damaged.
-use Rattle.std.proofs.Common.{◌≡◌, ◌+◌, List, ◌∷◌, pos, ◌+ℤ◌, subst, sym, arith, rules}
+use Rattle.std.proofs.Common.{◌≡◌, ◌+◌, ◌∷◌, pos, ◌+ℤ◌, subst, arith, rules}
 use Rattle.std.proofs.lemmas.Int.{ints}
 use Rattle.geom.specs.declared.Rect.{Rect}
 use Rattle.viz_damage.specs.inner.Areas.{HoldAll}

@@ -1,5 +1,5 @@
 -- The common rows lie in both parts.
-use Rattle.std.proofs.Common.{◌≡◌, ℕ, ◌+◌, ◌≤◌, ℤ, pos, ◌+ℤ◌, ◌-ℤ◌, ◌≤ℤ◌, ◌<ℤ◌, subst, arith, to_z, of_z, w32}
+use Rattle.std.proofs.Common.{◌≡◌, ◌+◌, ℤ, pos, ◌+ℤ◌, ◌<ℤ◌, subst, arith, to_z, of_z, w32}
 use Rattle.std.proofs.lemmas.Int.{ints}
 use Rattle.geom.specs.Covers.{IsSound}
 use Rattle.page_display_list.specs.Bitmaps.{near}

@@ -1,9 +1,9 @@
 -- Rows of one part alone are damaged, those of both are compared.
-use Rattle.std.proofs.Common.{◌≡◌, List, ◌∷◌, [], ◌≤ℤ◌, subst, arith}
+use Rattle.std.proofs.Common.{◌≡◌, ◌∷◌, [], subst, arith}
 use Rattle.std.proofs.lemmas.Int.{ints}
 use Rattle.geom.specs.declared.Rect.{Rect}
 use Rattle.viz_damage.specs.inner.Areas.{HoldAll}
-use Rattle.viz_damage.specs.inner.Moved.{rows_of, AreCommonRows}
+use Rattle.viz_damage.specs.inner.Moved.{rows_of}
 use Rattle.viz_damage.proofs.QuadSteps.{same_rects}
 use Rattle.viz_damage.proofs.MovedSteps.{common_bounds, parts_alike, three_held, all_held}
 use Rattle.viz_damage.proofs.moved.add_moved.Goals as goal

@@ -1,5 +1,5 @@
 -- Rows of one band are equal.
-use Rattle.std.proofs.Common.{◌≡◌, ℕ, ◌+◌, ◌-◌, ◌<◌, sym, ◌∙◌, subst, arith}
+use Rattle.std.proofs.Common.{◌≡◌, ◌+◌, ◌-◌, sym, ◌∙◌, subst, arith}
 use Rattle.tile_raster.specs.Images.{AreSameRows}
 use Rattle.viz_damage.proofs.moved.step_from.Goals as goal
 

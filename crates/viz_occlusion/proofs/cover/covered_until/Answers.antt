@@ -1,7 +1,7 @@
 -- The rect covers more columns, down to its end at least.
-use Rattle.std.proofs.Common.{◌≡◌, ◌+ℤ◌, ◌≤ℤ◌, ◌<ℤ◌, ℤ, arith, rules, ap, ◌∙◌, FitsSigned, to_z}
+use Rattle.std.proofs.Common.{◌≡◌, ◌+ℤ◌, ℤ, arith, rules, ap, ◌∙◌, FitsSigned, to_z}
 use Rattle.std.specs.Int.{int_min}
-use Rattle.std.proofs.lemmas.Int.{ints, clamps, to_z-of_z}
+use Rattle.std.proofs.lemmas.Int.{ints, to_z-of_z}
 use mir.Syntax.{w32}
 use Rattle.viz_occlusion.proofs.CoverSteps.{block_more, right_end, lower_end, is_less, gap_falls}
 use Rattle.viz_occlusion.proofs.cover.covered_until.Goals as goal

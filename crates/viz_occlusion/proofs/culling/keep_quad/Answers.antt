@@ -1,5 +1,4 @@
 -- A quad that can be seen is kept.
-use Rattle.std.proofs.Common.{rules}
 use Rattle.viz_scene.specs.Views.{quad_view}
 use Rattle.viz_occlusion.proofs.KeptSteps.{passed_kept}
 use Rattle.viz_occlusion.proofs.culling.keep_quad.Goals as goal

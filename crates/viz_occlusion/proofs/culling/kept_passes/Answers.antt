@@ -1,7 +1,6 @@
 -- One pass more is kept.
-use Rattle.std.proofs.Common.{◌≡◌, List, ap, ◌∙◌, sym, subst}
+use Rattle.std.proofs.Common.{◌≡◌, List, sym, subst}
 use Rattle.viz_scene.specs.declared.Quad.{Quad}
-use Rattle.viz_scene.specs.declared.RenderPass.{RenderPass}
 use Rattle.viz_scene.specs.Views.{quads_view}
 use Rattle.std.specs.Prelude.{All}
 use Rattle.viz_occlusion.specs.Culled.{AreKept}

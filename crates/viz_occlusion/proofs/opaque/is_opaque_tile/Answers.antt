@@ -1,5 +1,4 @@
 -- The colour, or the part that is shown, decides.
-use Rattle.std.proofs.Common.{rules}
 use Rattle.viz_occlusion.proofs.AlphaSteps.{opaque_solid, other_solid, opaque_tile, other_tile, never}
 use Rattle.viz_occlusion.proofs.opaque.is_opaque_tile.Goals as goal
 

@@ -1,5 +1,5 @@
 -- A layer, or the run of layers in a group, is added to what was built.
-use Rattle.std.proofs.Common.{ℕ, ◌≡◌, ◌+◌, ◌-◌, ◌*◌, ◌≤◌, suc, List, [], ◌∷◌, ◌++◌, All, length, take, drop, ap, sym, ◌∙◌, subst, arith, add-one}
+use Rattle.std.proofs.Common.{ℕ, ◌≡◌, ◌+◌, ◌-◌, ◌*◌, ◌≤◌, suc, List, [], ◌∷◌, ◌++◌, length, take, drop, ap, sym, ◌∙◌, subst, arith, add-one}
 use Rattle.std.proofs.lemmas.List.{length-map, length-append}
 use Rattle.std.proofs.lemmas.List.Elements.{All-drop, All-head, All-rest, All-same, All-take}
 use Rattle.viz_scene.specs.Views.{QuadView, grouped, pass_view, passes_view, quads_view}

@@ -1,5 +1,5 @@
 -- One row of blocks more is above.
-use Rattle.std.proofs.Common.{◌+◌, ◌/◌, arith, rules}
+use Rattle.std.proofs.Common.{arith, rules}
 use Rattle.viz_render.proofs.MarkSteps.{row_above}
 use Rattle.viz_render.proofs.Hulls.{area_bottom}
 use Rattle.viz_render.proofs.mask.are_blocks_above.Goals as goal

@@ -1,6 +1,6 @@
 -- Each quad that is passed by is no group.
 use Rattle.std.proofs.Common.{◌-◌, arith}
-use Rattle.viz_render.proofs.ShownSteps.{one_more, none_after}
+use Rattle.viz_render.proofs.ShownSteps.{one_more}
 use Rattle.viz_render.proofs.shown.last_group.Goals as goal
 
 pub loop-number-preserved : goal.loop-number-preserved

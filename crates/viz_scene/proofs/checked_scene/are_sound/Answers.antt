@@ -1,5 +1,5 @@
 -- The first pass of the rest decides, or the rest after it.
-use Rattle.std.proofs.Common.{length, ap, arith, ◌∙◌}
+use Rattle.std.proofs.Common.{length, ap, arith}
 use Rattle.viz_scene.proofs.Rests.{passes_rest, passes_fail, both_ways}
 use Rattle.viz_scene.proofs.checked_scene.are_sound.Goals as goal
 

@@ -1,9 +1,7 @@
 -- A quad that stays, and one that is gone.
-use Rattle.std.proofs.Common.{◌≡◌, List, [], ◌∷◌, ◌++◌, ◌∙◌, ap, sym, subst}
-use Rattle.std.specs.Prelude.{Option}
+use Rattle.std.proofs.Common.{◌≡◌, [], ◌∷◌, ◌++◌, ◌∙◌, ap, sym, subst}
 use Rattle.std.proofs.lemmas.List.{map-append}
-use Rattle.viz_scene.specs.declared.quad.Quad.{Quad}
-use Rattle.viz_scene.specs.Views.{QuadView, quad_view, quads_view}
+use Rattle.viz_scene.specs.Views.{quad_view, quads_view}
 use Rattle.viz_scroll_damage.specs.inner.Acting.{ActMoved, AlsoFit, IsMovedTo}
 use Rattle.viz_scroll_damage.proofs.Moving.{act_more, act_gone, fit_more, fit_gone}
 use Rattle.viz_scroll_damage.proofs.scene.add_moved.Goals as goal

@@ -3,7 +3,6 @@ use Rattle.std.proofs.Common.{◌≡◌, ◌+◌, List, [], ◌∷◌, ◌++◌,
 use Rattle.std.specs.Prelude.{All}
 use Rattle.std.proofs.lemmas.List.{map-append}
 use Rattle.viz_scene.specs.declared.quad.Quad.{Quad}
-use Rattle.viz_scene.specs.declared.quad.RenderPass.{RenderPass}
 use Rattle.viz_scene.specs.Views.{QuadView, quads_view, pass_view, passes_view}
 use Rattle.viz_scroll_damage.specs.inner.Acting.{IsShown, ActMoved, AllActMoved, AlsoFit, AllAlsoFit}
 use Rattle.viz_scroll_damage.proofs.Scenes.{pass_shown, pass_acts, pass_fits, all_passes}

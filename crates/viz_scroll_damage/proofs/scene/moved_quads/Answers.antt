@@ -1,5 +1,5 @@
 -- One quad more is moved.
-use Rattle.std.proofs.Common.{◌≡◌, ◌+◌, List, ◌++◌, take, sym, subst}
+use Rattle.std.proofs.Common.{List, take, sym, subst}
 use Rattle.viz_scene.specs.Views.{QuadView, quads_view}
 use Rattle.viz_damage.proofs.QuadSteps.{view_more}
 use Rattle.viz_scroll_damage.specs.inner.Acting.{ActMoved, AlsoFit}

@@ -1,7 +1,7 @@
 -- Sixteen more.
-use Rattle.std.proofs.Common.{◌≡◌, ℕ, ◌+◌, ◌-◌, ◌<◌, inl, inr, subst, arith}
+use Rattle.std.proofs.Common.{◌≡◌, ℕ, ◌+◌, ◌-◌, inl, inr, subst, arith}
 use Rattle.std.proofs.lemmas.Bool.{cases_lt}
-use Rattle.pixel.specs.Colours.{Parts, blend}
+use Rattle.pixel.specs.Colours.{blend}
 use Rattle.pixel.specs.Rows.{pixel}
 use Rattle.viz_surface.proofs.sixteen.opaque_run.Goals as goal
 

@@ -1,6 +1,6 @@
 -- The keys that were kept are those that the pending tree needs.
-use Rattle.std.proofs.Common.{◌≡◌, sym, ◌∙◌, ap, subst}
-use Rattle.std.specs.Prelude.{IfSome, option_copied}
+use Rattle.std.proofs.Common.{◌≡◌, subst}
+use Rattle.std.specs.Prelude.{IfSome}
 use Rattle.model_history.specs.Tiles.{required}
 use Rattle.impl_log.specs.Runs.{Run, past}
 use Rattle.impl_core.proofs.core_state.Core.activated_tiles.Goals as goal

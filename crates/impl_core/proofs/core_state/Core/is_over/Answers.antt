@@ -1,5 +1,5 @@
 -- The entry at the last place tells.
-use Rattle.std.proofs.Common.{◌≡◌, ◌-◌, ◌≤◌, List, length, Some, slice_get, sym, ◌∙◌, ap, arith}
+use Rattle.std.proofs.Common.{◌≡◌, ◌-◌, List, length, Some, slice_get, sym, ◌∙◌, ap, arith}
 use Rattle.model_history.specs.declared.history.Entry.{Entry}
 use Rattle.impl_log.specs.Runs.{Run}
 use Rattle.impl_core.specs.Replies.{is_played}

@@ -1,4 +1,4 @@
-use Rattle.std.proofs.Common.{◌≡◌, ℕ, ℤ, pos, true, false, List, refl, ap, sym, ◌∙◌, subst}
+use Rattle.std.proofs.Common.{◌≡◌, ℕ, ℤ, pos, false, List, ap, sym, ◌∙◌, subst}
 use Rattle.model_scroll_values.specs.declared.Synced.{Synced}
 use Rattle.model_scroll_values.specs.Table.{zero, pushed}
 use Rattle.page_layers.specs.Scrollers.{scrollers, has_scroller, main_value}

@@ -1,5 +1,5 @@
 -- The scenes of the draws after the written entries, and none is left.
-use Rattle.std.proofs.Common.{◌≡◌, ℕ, ◌-◌, List, length, sym, ◌∙◌, ap, subst, Vec, Global}
+use Rattle.std.proofs.Common.{ℕ, ◌-◌, List, length, sym, ◌∙◌, ap, subst, Vec, Global}
 use Rattle.viz_scene.specs.declared.scene.Scene.{Scene}
 use Rattle.viz_scene.specs.Views.{SceneView}
 use Rattle.model_history.specs.declared.history.Entry.{Entry}

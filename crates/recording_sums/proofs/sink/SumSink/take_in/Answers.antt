@@ -1,8 +1,7 @@
 -- The count and the sum are those of all bytes.
-use Rattle.std.proofs.Common.{◌≡◌, ℕ, List, ◌++◌, ◌+◌, ◌%◌, ◌^◌, length, ap, ◌∙◌, rules}
+use Rattle.std.proofs.Common.{◌≡◌, ℕ, List, ◌++◌, ◌+◌, length, ◌∙◌, rules}
 use Rattle.rtrb.specs.Ring.{sent}
 use Rattle.recording_sums.specs.Put.{joined}
-use Rattle.recording_sums.specs.Sums.{byte_sum}
 use Rattle.recording_sums.proofs.Pieces.{joined_more, counts_more}
 use Rattle.recording_sums.proofs.sink.SumSink.take_in.Goals as goal
 

@@ -1,5 +1,5 @@
 -- An input more.
-use Rattle.std.proofs.Common.{◌≡◌, ◌++◌, ◌∷◌, [], ◌∙◌, sym, ap, List, ℕ, drop, ◌+◌, rules, arith}
+use Rattle.std.proofs.Common.{◌≡◌, ◌++◌, ◌∷◌, [], ◌∙◌, sym, ap, ℕ, drop, ◌+◌, rules, arith}
 use Rattle.serde_json.specs.View.{items_view}
 use Rattle.script_json.specs.InputReading.{inputs_at}
 use Rattle.script_json.proofs.Behind.{behind}
