@@ -277,7 +277,8 @@ def main():
     unknown = [it for it in words.crates if it not in crates.uses]
     if unknown:
         sys.exit(f"audit: crates.txt has no {' '.join(unknown)}")
-    names = [it for it in crates.lowest_first(crates.uses) if edits_of(it) and (not words.crates or it in words.crates)]
+    # The highest take longest: they begin.
+    names = [it for it in reversed(crates.lowest_first(crates.uses)) if edits_of(it) and (not words.crates or it in words.crates)]
     # Ends by a signal are ends like others: the copy goes.
     for number in (signal.SIGTERM, signal.SIGHUP):
         signal.signal(number, lambda *_: sys.exit(1))
