@@ -285,11 +285,11 @@ def main():
     page = DEFINITIONS.read_text()
     wrong += [f"docs/DEFINITIONS.md lacks `{name}`" for name in told if not re.search(rf"`(?:\w+\.)*{re.escape(name)}[`( ]", page)]
     if words.of == RUN:
-        step = world_of("Step", text, names, short).by_file()
-        of_step = {(pathlib.Path(it).parts[1], pathlib.Path(it).stem) for it in step}
+        of_words = worlds(text, names, short)
+        of_step = {(pathlib.Path(it).parts[1], pathlib.Path(it).stem) for it in of_words["step"].by_file()}
         wrong += [f"docs/DEFINITIONS.md: the files of `step` differ at {'/'.join(it)}" for it in sorted(of_step ^ files_told(page))]
-        found = {word: lines_of(it.found.values()) for word, it in worlds(text, names, short).items()}
-        wrong += [f"README.md tells {told} lines for {word}, which rests on {found[word]}" for word, told in lines_told().items() if told != found[word]]
+        found = {word: lines_of(it.found.values()) for word, it in of_words.items()}
+        wrong += [f"README.md tells {lines} lines for {word}, which rests on {found[word]}" for word, lines in lines_told().items() if lines != found[word]]
     for line in wrong:
         print(f"believed: {line}", file=sys.stderr)
     return 1 if wrong else 0
