@@ -1,12 +1,13 @@
-//! Sixty-four bytes of a row at a time, by a look at their alphas first.
+//! Sixty-four bytes of a row at a time: sixteen pixels.
 
 ghost use Rattle.std.specs.Prelude.{◌≡◌, ℕ, ◌+◌, ◌<◌, ◌≤◌, ◌%◌, IsTrue, length, slice_index};
-ghost use Rattle.pixel.specs.Rows.{ArePremultiplied, IsLaid, AreOpaque, AreClear};
+ghost use Rattle.pixel.specs.Rows.{ArePremultiplied, IsLaid, IsFilled, AreOpaque, AreClear};
 
-use crate::lanes::{are_clear, are_opaque, copy_lanes, over_lanes};
+use crate::colour::Colour;
+use crate::lanes::{are_clear, are_opaque, copy_lanes, fill_lanes, over_lanes};
 use std::simd::prelude::*;
 
-/// How many bytes are looked at before they are laid over others.
+/// How many bytes are taken at a time.
 pub(crate) const BLOCK: usize = 64;
 
 /// The lesser of the two bytes in each lane.
@@ -59,9 +60,9 @@ fn greatest(row: &[u8], at: usize) -> u8x16
     greater(greater(first, second), greater(third, fourth))
 }
 
-/// Whether the pixels of sixty-four bytes of a row are opaque.
+/// Whether the sixteen pixels of sixty-four bytes of a row, from byte `at` on, are opaque.
 #[inline(always)]
-fn is_opaque(row: &[u8], at: usize) -> bool
+pub fn is_opaque(row: &[u8], at: usize) -> bool
     requires inside { at + 64 ≤ length row.now }
     requires whole { at % 4 ≡ 0 }
     ensures { IsTrue result → AreOpaque at 64 row.now }
@@ -69,9 +70,9 @@ fn is_opaque(row: &[u8], at: usize) -> bool
     are_opaque(least(row, at))
 }
 
-/// Whether the bytes of sixty-four bytes of a row are all 0.
+/// Whether sixty-four bytes of a row, from byte `at` on, are all 0.
 #[inline(always)]
-fn is_clear(row: &[u8], at: usize) -> bool
+pub fn is_clear(row: &[u8], at: usize) -> bool
     requires { at + 64 ≤ length row.now }
     ensures { IsTrue result → AreClear at 64 row.now }
 {
@@ -122,4 +123,17 @@ pub(crate) fn over_block(dst: &mut [u8], src: &[u8], at: usize)
     } else if !is_clear(src, at) {
         blend_block(dst, src, at);
     }
+}
+
+/// Gives the sixteen pixels of sixty-four bytes of a row one colour.
+#[inline(always)]
+pub(crate) fn fill_block(row: &mut [u8], at: usize, colour: Colour)
+    requires inside { at + 64 ≤ length row.old }
+    requires whole { at % 4 ≡ 0 }
+    ensures { IsFilled at 64 colour row.old row.new }
+{
+    fill_lanes(row, at, colour);
+    fill_lanes(row, at + 16, colour);
+    fill_lanes(row, at + 32, colour);
+    fill_lanes(row, at + 48, colour);
 }

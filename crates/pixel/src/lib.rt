@@ -1,7 +1,7 @@
 //! Premultiplied colours: one of a pixel, and rows of them as bytes.
 #![tactic(auto)]
 
-mod blocks;
+pub mod blocks;
 mod colour;
 pub mod four;
 pub mod lanes;

@@ -4,7 +4,7 @@ ghost use Rattle.std.specs.Prelude.{◌≡◌, ℕ, ◌+◌, ◌<◌, ◌≤◌,
 ghost use Rattle.pixel.specs.Colours.{is_colour, above, times_255};
 ghost use Rattle.pixel.specs.Rows.{pixel, ArePremultiplied, IsFirstBadPixel, IsFilled, alpha_place};
 
-use crate::blocks::{BLOCK, over_block};
+use crate::blocks::{BLOCK, fill_block, over_block};
 use crate::colour::Colour;
 use crate::lanes::{LANES, fade_lanes, fill_lanes, over_lanes};
 use crate::plain::{fade_byte, over_byte};
@@ -62,6 +62,10 @@ pub fn fill_row(dst: &mut [u8], colour: Colour)
     ensures premultiplied { ArePremultiplied dst.new }
 {
     let mut at = 0;
+    'sixty_fours: while at + BLOCK <= dst.len() {
+        fill_block(dst, at, colour);
+        at += BLOCK;
+    }
     'sixteens: while at + LANES <= dst.len() {
         fill_lanes(dst, at, colour);
         at += LANES;

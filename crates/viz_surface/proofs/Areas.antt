@@ -1,7 +1,6 @@
 -- Runs of pixels one after another, and columns of an area side by side.
 use Rattle.std.specs.Prelude.{ℕ, ◌+◌, ◌-◌, ◌*◌, ◌<◌, ◌≤◌, ◌≡◌, Bool, true, false, cond, ◌&&◌, ◌||◌, List, slice_index, refl}
-use Rattle.std.proofs.Common.{arith, ◌∙◌, ap, sym, subst, inl, inr}
-use Rattle.std.proofs.lemmas.Bool.{cases_lt}
+use Rattle.std.proofs.Common.{arith, ◌∙◌, ap, sym, subst}
 use Rattle.std.proofs.lemmas.Bool.Decides.{nat_tests}
 use Rattle.pixel.specs.Colours.{Parts}
 use Rattle.pixel.specs.Rows.{pixel}
@@ -111,18 +110,18 @@ each_same w h at g old same = each_like w h at (λ x y below. below) g old old (
     no_change true c = refl
     no_change false c = refl
 
--- four opaque pixels over others
-pub opaque_laid : (v : List ℕ) (j : ℕ) (below : Parts) → AreOpaque 0 16 v → j < 4 → pixel v j ≡ blend below (pixel v j)
-opaque_laid v j below opaque lt =
+-- one of some opaque pixels over others
+pub opaque_laid : (row : List ℕ) (at n j : ℕ) (below : Parts) → AreOpaque at n row → at ≤ 4 * j → 4 * j < at + n → pixel row j ≡ blend below (pixel row j)
+opaque_laid row at n j below opaque from to =
     let place : alpha_place (4 * j) ≡ 4 * j + 3 = omega arith in
-    let alpha = sym (ap (slice_index v) place) ∙ opaque (4 * j) (omega arith) (omega arith) in
-    sym (opaque_hides below (pixel v j) alpha)
+    let alpha = sym (ap (slice_index row) place) ∙ opaque (4 * j) from to in
+    sym (opaque_hides below (pixel row j) alpha)
 
--- a pixel of four transparent ones
-pub clear_pixel : (v : List ℕ) (j : ℕ) → AreClear 0 16 v → j < 4 → pixel v j ≡ clear
-clear_pixel v j none lt =
-    same_parts (pixel v j) clear (none (4 * j) (omega arith) (omega arith)) (none (4 * j + 1) (omega arith) (omega arith))
-    (none (4 * j + 2) (omega arith) (omega arith)) (none (4 * j + 3) (omega arith) (omega arith))
+-- one of some transparent pixels
+pub clear_pixel : (row : List ℕ) (at n j : ℕ) → AreClear at n row → at ≤ 4 * j → 4 * j + 3 < at + n → pixel row j ≡ clear
+clear_pixel row at n j none from to =
+    same_parts (pixel row j) clear (none (4 * j) from (omega arith)) (none (4 * j + 1) (omega arith) (omega arith))
+    (none (4 * j + 2) (omega arith) (omega arith)) (none (4 * j + 3) (omega arith) to)
 
 -- a transparent pixel over another
 pub clear_over : (p below : Parts) → p ≡ clear → below ≡ blend below p
@@ -149,14 +148,6 @@ one_row w h at place g f old new inside one there part same =
     area_step w h at 0 place at.w g f old old new inside (omega (arith, one)) refl (there ∙ ap (λ (y : ℕ). y * w + at.x) e)
     (no_row w h at g old) part same in
     subst (λ (n : ℕ). EachPixel w h (within_rows at n g) old new) (sym one) step
-
--- what holds of pixels, and of those after them, holds of both
-pub of_both : (P : ℕ → Type 0) (k n m : ℕ) → ((j : ℕ) → j < n → P (k + j)) → ((j : ℕ) → j < m → P (k + n + j)) → (j : ℕ) → j < n + m → P (k + j)
-of_both P k n m first second j lt =
-    elim (cases_lt j n) as (λ _. P (k + j)) [
-      | inl low ↦ first j low
-      | inr from ↦ let e : k + n + (j - n) ≡ k + j = omega arith in subst P e (second (j - n) (omega arith))
-    ]
 
 -- columns beside others
 columns_beside : (w h : ℕ) (at : Area) (first n m : ℕ) (f : ℕ → ℕ → Parts → Parts) (start old new : List ℕ)

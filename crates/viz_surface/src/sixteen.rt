@@ -4,8 +4,7 @@ ghost use Rattle.std.specs.Prelude.{◌≡◌, ℕ, ◌+◌, ◌*◌, ◌<◌, �
 ghost use Rattle.pixel.specs.Colours.{Parts, blend, clear};
 ghost use Rattle.pixel.specs.Rows.{pixel, ArePremultiplied};
 
-use pixel::four::four_at;
-use pixel::lanes::{are_clear, are_opaque};
+use pixel::blocks::{is_clear, is_opaque};
 
 /// Whether sixteen pixels of a row, from pixel `k` on, are opaque.
 #[inline(always)]
@@ -14,7 +13,7 @@ pub fn are_sixteen_opaque(row: &[u8], k: usize) -> bool
     requires premultiplied { ArePremultiplied row.now }
     ensures { IsTrue result → (j : ℕ) → j < 16 → (below : Parts) → pixel row.now (k + j) ≡ blend below (pixel row.now (k + j)) }
 {
-    are_eight_opaque(row, k) && are_eight_opaque(row, k + 8)
+    is_opaque(row, 4 * k)
 }
 
 /// How many pixels of a row, from pixel `k` on and at most the given number, are opaque, counted by sixteens.
@@ -34,26 +33,6 @@ pub(crate) fn opaque_run(row: &[u8], k: usize, most: usize) -> usize
     run
 }
 
-// whether eight pixels of a row, from pixel `k` on, are opaque
-#[inline(always)]
-fn are_eight_opaque(row: &[u8], k: usize) -> bool
-    requires inside { 4 * (k + 8) ≤ length row.now }
-    requires premultiplied { ArePremultiplied row.now }
-    ensures { IsTrue result → (j : ℕ) → j < 8 → (below : Parts) → pixel row.now (k + j) ≡ blend below (pixel row.now (k + j)) }
-{
-    are_four_opaque(row, k) && are_four_opaque(row, k + 4)
-}
-
-// whether four pixels of a row, from pixel `k` on, are opaque
-#[inline(always)]
-fn are_four_opaque(row: &[u8], k: usize) -> bool
-    requires inside { 4 * (k + 4) ≤ length row.now }
-    requires premultiplied { ArePremultiplied row.now }
-    ensures { IsTrue result → (j : ℕ) → j < 4 → (below : Parts) → pixel row.now (k + j) ≡ blend below (pixel row.now (k + j)) }
-{
-    are_opaque(four_at(row, k))
-}
-
 /// Whether sixteen pixels of a row, from pixel `k` on, are clear.
 #[inline(always)]
 pub(crate) fn are_sixteen_clear(row: &[u8], k: usize) -> bool
@@ -61,25 +40,5 @@ pub(crate) fn are_sixteen_clear(row: &[u8], k: usize) -> bool
     requires premultiplied { ArePremultiplied row.now }
     ensures { IsTrue result → (j : ℕ) → j < 16 → pixel row.now (k + j) ≡ clear }
 {
-    are_eight_clear(row, k) && are_eight_clear(row, k + 8)
-}
-
-// whether eight pixels of a row, from pixel `k` on, are clear
-#[inline(always)]
-fn are_eight_clear(row: &[u8], k: usize) -> bool
-    requires inside { 4 * (k + 8) ≤ length row.now }
-    requires premultiplied { ArePremultiplied row.now }
-    ensures { IsTrue result → (j : ℕ) → j < 8 → pixel row.now (k + j) ≡ clear }
-{
-    are_four_clear(row, k) && are_four_clear(row, k + 4)
-}
-
-// whether four pixels of a row, from pixel `k` on, are clear
-#[inline(always)]
-fn are_four_clear(row: &[u8], k: usize) -> bool
-    requires inside { 4 * (k + 4) ≤ length row.now }
-    requires premultiplied { ArePremultiplied row.now }
-    ensures { IsTrue result → (j : ℕ) → j < 4 → pixel row.now (k + j) ≡ clear }
-{
-    are_clear(four_at(row, k))
+    is_clear(row, 4 * k)
 }

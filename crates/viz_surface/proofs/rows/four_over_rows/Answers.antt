@@ -11,4 +11,4 @@ returns-then-are_opaque-clause-pixels c =
     (λ x y below. blend below (pixel c.args.pixels (x - c.args.at.x))) c.args.surface.now c.put_four_in_rows.new.surface
     c.put_four_in_rows.ensures.pixels
     (λ x y below low high.
-    opaque_laid c.args.pixels (x - c.args.at.x) below (c.are_opaque.ensures.0 c.if-are_opaque.true) (omega (arith, c.requires.four, low, high)))
+    opaque_laid c.args.pixels 0 16 (x - c.args.at.x) below (c.are_opaque.ensures.0 c.if-are_opaque.true) (omega arith) (omega (arith, c.requires.four, low, high)))
