@@ -13,9 +13,7 @@ use Rattle.page_properties.specs.Nesting.{lies_in}
 use Rattle.page_properties.specs.OffsetMap.{origin}
 use Rattle.page_properties.specs.Placement.{plus, own_translation, translation, both, placed_rect, clip_of, draws}
 use Rattle.page_properties.specs.Trees.{IsTransform, IsClip, IsEffect}
-
-some_is : {A : Type 0} (x y : A) → Some x ≡ Some y → x ≡ y
-some_is x y h = cc
+use Rattle.page_properties.proofs.Indexes.{some_is}
 
 known_by : {N : Type 0} (id k : ℕ) (nodes : List (ℕ × N)) (t : Bool) → id == k ≡ t → knows id nodes ≡ false → 1 ≤ id → IsTrue (is_known k nodes) → t ≡ false
 known_by id k nodes false e fresh low known = refl

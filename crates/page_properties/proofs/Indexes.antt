@@ -222,7 +222,7 @@ pub is_at : {N : Type 0} (id : ℕ) (nodes : List (ℕ × N)) (p : ℕ) → plac
 is_at id [] p h = cc
 is_at id (e ∷ older) p h = at_by id e older p (e.0 == id) refl h (λ k. is_at id older p k)
 
-some_is : {A : Type 0} (x y : A) → Some x ≡ Some y → x ≡ y
+pub some_is : {A : Type 0} (x y : A) → Some x ≡ Some y → x ≡ y
 some_is x y h = cc
 
 -- and a node that stands at a place is the one of its id
