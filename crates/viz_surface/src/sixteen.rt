@@ -5,6 +5,8 @@ ghost use Rattle.pixel.specs.Colours.{Parts, blend, clear};
 ghost use Rattle.pixel.specs.Rows.{pixel, ArePremultiplied};
 
 use pixel::blocks::{is_clear, is_opaque};
+use pixel::four::four_at;
+use pixel::lanes::are_clear;
 
 /// Whether sixteen pixels of a row, from pixel `k` on, are opaque.
 #[inline(always)]
@@ -40,5 +42,6 @@ pub(crate) fn are_sixteen_clear(row: &[u8], k: usize) -> bool
     requires premultiplied { ArePremultiplied row.now }
     ensures { IsTrue result → (j : ℕ) → j < 16 → pixel row.now (k + j) ≡ clear }
 {
-    is_clear(row, 4 * k)
+    // Most that are asked for are not clear, and the first four tell it soonest.
+    are_clear(four_at(row, k)) && is_clear(row, 4 * k)
 }
