@@ -6,7 +6,7 @@ use Rattle.std.proofs.lemmas.Simd.{get_or_wider, get_or_narrower, Each1-from_get
 use Rattle.std.proofs.lemmas.Bool.{cases_lt}
 use mir.Syntax.{w8, w16}
 use mir.Val.{Fits}
-use Rattle.std.proofs.lemmas.List.{get_or-map}
+use Rattle.std.proofs.lemmas.List.{get_or-map, length-map}
 use Rattle.std.proofs.lemmas.Grind.{and_numeral}
 use Rattle.pixel.specs.Colours.{Parts, times_255, above}
 use Rattle.pixel.specs.Rows.{alpha_place, ArePremultiplied, IsLaid, IsFaded, IsFilled, component_of, AreOpaque}
@@ -54,8 +54,8 @@ lane_of_two : (f : ℕ → ℕ → ℕ) (x y : List ℕ) (j : ℕ) → length x 
     → slice_index (zip2 f x y) j ≡ f (slice_index x j) (slice_index y j)
 lane_of_two f x y j lx ly lt = get_or-zip2 f x y j 0 0 0 (omega arith) (omega arith)
 
--- the rounded quotient by 255, by shifts
-pub quotient : (p : ℕ) → p ≤ 65025 → (p + 128 + (p + 128) / 256) / 256 ≡ (p + 127) / 255
+-- the rounded quotient by 255, by a product and a shift
+quotient : (p : ℕ) → p ≤ 65025 → (p + 128) * 257 / 65536 ≡ (p + 127) / 255
 quotient p le = omega arith
 
 -- an operation on two vectors of eight lanes has eight
@@ -80,20 +80,8 @@ shift_16 a b = a / 2 ^ b
 abbrev pub raised_lanes : List ℕ → List ℕ → List ℕ
 raised_lanes x y = zip2 sum_16 (zip2 product_16 x y) (replicate 8 128)
 
--- the products of two vectors of parts, before the last shift
-abbrev pub product_lanes : List ℕ → List ℕ → List ℕ
-product_lanes x y = zip2 sum_16 (raised_lanes x y) (zip2 shift_16 (raised_lanes x y) (replicate 8 8))
-
-raised_count : (x y : List ℕ) → length x ≡ 8 → length y ≡ 8 → length (raised_lanes x y) ≡ 8
+pub raised_count : (x y : List ℕ) → length x ≡ 8 → length y ≡ 8 → length (raised_lanes x y) ≡ 8
 raised_count x y lx ly = count_of_two sum_16 (zip2 product_16 x y) (replicate 8 128) (count_of_two product_16 x y lx ly) refl
-
-shifted_count : (x y : List ℕ) → length x ≡ 8 → length y ≡ 8 → length (zip2 shift_16 (raised_lanes x y) (replicate 8 8)) ≡ 8
-shifted_count x y lx ly = count_of_two shift_16 (raised_lanes x y) (replicate 8 8) (raised_count x y lx ly) refl
-
-pub product_count : (x y : List ℕ) → AreParts x → AreParts y → length (product_lanes x y) ≡ 8
-product_count x y p q =
-    count_of_two sum_16 (raised_lanes x y) (zip2 shift_16 (raised_lanes x y) (replicate 8 8)) (raised_count x y p.count q.count)
-    (shifted_count x y p.count q.count)
 
 -- the product of two bytes
 product_bound : (a b : ℕ) → a < 256 → b < 256 → a * b ≤ 65025
@@ -109,95 +97,124 @@ raised_lane x y j p q lt =
     let sum : sum_16 (slice_index x j * slice_index y j) 128 ≡ slice_index x j * slice_index y j + 128 = omega arith in
     two ∙ ap (λ (n : ℕ). sum_16 n 128) (one ∙ fits) ∙ sum
 
-pub product_lane : (x y : List ℕ) (j : ℕ) → AreParts x → AreParts y → j < 8
-    → slice_index (product_lanes x y) j / 256 ≡ times_255 (slice_index x j) (slice_index y j)
-product_lane x y j p q lt =
-    let n = slice_index x j * slice_index y j in
-    let low : n ≤ 65025 = product_bound (slice_index x j) (slice_index y j) (p.parts j lt) (q.parts j lt) in
-    let raised = raised_lane x y j p q lt in
-    let shifted = lane_of_splat shift_16 (raised_lanes x y) 8 j (raised_count x y p.count q.count) lt in
-    let last =
-    lane_of_two sum_16 (raised_lanes x y) (zip2 shift_16 (raised_lanes x y) (replicate 8 8)) j (raised_count x y p.count q.count)
-    (shifted_count x y p.count q.count) lt in
-    let fits : sum_16 (n + 128) ((n + 128) / 256) ≡ n + 128 + (n + 128) / 256 = omega arith in
-    let whole : slice_index (product_lanes x y) j ≡ n + 128 + (n + 128) / 256 =
-    last ∙ ap (λ (m : ℕ). sum_16 (slice_index (raised_lanes x y) j) m) (shifted ∙ ap (λ (m : ℕ). m / 256) raised)
-    ∙ ap (λ (m : ℕ). sum_16 m ((n + 128) / 256)) raised ∙ fits in
-    ap (λ (m : ℕ). m / 256) whole ∙ quotient n low
+-- the product of two parts of 255 is one
+pub product_part : (a b : ℕ) → a < 256 → b < 256 → times_255 a b < 256
+product_part a b p q = let low = product_bound a b p q in omega arith
 
--- a shift to the left of sixteen bits
-abbrev pub shift_left_16 : ℕ → ℕ → ℕ
-shift_left_16 a b = (a * 2 ^ b) % 65536
+-- a lane of the products of two vectors of parts
+pub product_lane : (x y half : List ℕ) (j : ℕ) → AreParts x → AreParts y → j < 8
+    → slice_index half j ≡ slice_index (raised_lanes x y) j * 257 / 65536 → slice_index half j ≡ times_255 (slice_index x j) (slice_index y j)
+product_lane x y half j p q lt is =
+    let low : slice_index x j * slice_index y j ≤ 65025 = product_bound (slice_index x j) (slice_index y j) (p.parts j lt) (q.parts j lt) in
+    is ∙ ap (λ (n : ℕ). n * 257 / 65536) (raised_lane x y j p q lt) ∙ quotient (slice_index x j * slice_index y j) low
 
--- the upper bytes of a vector of eight lanes
-abbrev pub tops : List ℕ → List ℕ
-tops x = zip2 shift_16 x (replicate 8 8)
+-- ---- the upper halves of products of thirty-two bits
 
--- the upper bytes of two vectors of eight lanes, side by side
-abbrev pub upper_lanes : List ℕ → List ℕ → List ℕ
-upper_lanes low high = zip2 sum_16 (tops low) (zip2 shift_left_16 (tops high) (replicate 8 8))
+-- a product of thirty-two bits
+abbrev pub product_32 : ℕ → ℕ → ℕ
+product_32 a b = (a * b) % 4294967296
 
-tops_count : (x : List ℕ) → length x ≡ 8 → length (tops x) ≡ 8
-tops_count x lx = count_of_two shift_16 x (replicate 8 8) lx refl
+-- the same lanes at another width
+abbrev pub cast_lanes : List ℕ → List ℕ
+cast_lanes v = map (λ (a : ℕ). a) v
 
-upper_count : (low high : List ℕ) → length low ≡ 8 → length high ≡ 8 → length (upper_lanes low high) ≡ 8
-upper_count low high ll lh =
-    count_of_two sum_16 (tops low) (zip2 shift_left_16 (tops high) (replicate 8 8)) (tops_count low ll)
-    (count_of_two shift_left_16 (tops high) (replicate 8 8) (tops_count high lh) refl)
+abbrev pub half_lanes : List ℕ → List ℕ
+half_lanes v = zip2 shift_16 (zip2 product_32 (cast_lanes v) (replicate 8 257)) (replicate 8 16)
+
+cast_count : (v : List ℕ) → length v ≡ 8 → length (cast_lanes v) ≡ 8
+cast_count v long = length-map v (λ (a : ℕ). a) ∙ long
+
+half_count : (v : List ℕ) → length v ≡ 8 → length (half_lanes v) ≡ 8
+half_count v long =
+    count_of_two shift_16 (zip2 product_32 (cast_lanes v) (replicate 8 257)) (replicate 8 16)
+    (count_of_two product_32 (cast_lanes v) (replicate 8 257) (cast_count v long) refl) refl
 
 -- a lane fits sixteen bits
 fits_16 : (x : List ℕ) (j : ℕ) → Each1 (Fits w16) x → length x ≡ 8 → j < 8 → slice_index x j < 65536
 fits_16 x j f lx lt = (Each1-get_or (Fits w16) x j 0 (omega arith) f).fits
 
+half_lane : (v : List ℕ) (j : ℕ) → Each1 (Fits w16) v → length v ≡ 8 → j < 8 → slice_index (half_lanes v) j ≡ slice_index v j * 257 / 65536
+half_lane v j fits long lt =
+    let low = fits_16 v j fits long lt in
+    let wide : slice_index (cast_lanes v) j ≡ slice_index v j = get_or-map (λ (a : ℕ). a) v j 0 0 (omega arith) in
+    let product = lane_of_splat product_32 (cast_lanes v) 257 j (cast_count v long) lt in
+    let half =
+    lane_of_splat shift_16 (zip2 product_32 (cast_lanes v) (replicate 8 257)) 16 j
+    (count_of_two product_32 (cast_lanes v) (replicate 8 257) (cast_count v long) refl) lt in
+    let small : product_32 (slice_index v j) 257 ≡ slice_index v j * 257 = omega arith in
+    half ∙ ap (λ (n : ℕ). shift_16 n 16) (product ∙ ap (λ (n : ℕ). product_32 n 257) wide ∙ small)
+
+-- the same at the first width
+pub cast_half : (v : List ℕ) (j : ℕ) → Each1 (Fits w16) v → length v ≡ 8 → j < 8
+    → slice_index (cast_lanes (half_lanes v)) j ≡ slice_index v j * 257 / 65536
+cast_half v j fits long lt = get_or-map (λ (a : ℕ). a) (half_lanes v) j 0 0 (omega (arith, half_count v long)) ∙ half_lane v j fits long lt
+
+-- they fit sixteen bits again
+pub halves_fit : (v : List ℕ) → Each1 (Fits w16) v → length v ≡ 8 → Each1 (Fits w16) (half_lanes v)
+halves_fit v fits long =
+    Each1-from_get_or (Fits w16) (half_lanes v) 0 (λ j h.
+    let lt : j < 8 = omega (arith, half_count v long) in
+    let low = fits_16 v j fits long lt in
+    let lane = half_lane v j fits long lt in
+    record { fits = omega arith })
+
+-- ---- two vectors of parts as bytes
+
+-- a shift to the left of sixteen bits
+abbrev pub shift_left_16 : ℕ → ℕ → ℕ
+shift_left_16 a b = (a * 2 ^ b) % 65536
+
+-- those of the second above those of the first
+abbrev pub byte_lanes : List ℕ → List ℕ → List ℕ
+byte_lanes low high = zip2 sum_16 low (zip2 shift_left_16 high (replicate 8 8))
+
+byte_count : (low high : List ℕ) → AreParts low → AreParts high → length (byte_lanes low high) ≡ 8
+byte_count low high p q =
+    count_of_two sum_16 low (zip2 shift_left_16 high (replicate 8 8)) p.count (count_of_two shift_left_16 high (replicate 8 8) q.count refl)
+
 -- a lane of both
-upper_lane : (low high : List ℕ) (j : ℕ) → Each1 (Fits w16) low → Each1 (Fits w16) high → length low ≡ 8 → length high ≡ 8 → j < 8
-    → slice_index (upper_lanes low high) j ≡ slice_index low j / 256 + 256 * (slice_index high j / 256)
-upper_lane low high j fl fh ll lh lt =
-    let a = fits_16 low j fl ll lt in
-    let b = fits_16 high j fh lh lt in
-    let one = lane_of_splat shift_16 low 8 j ll lt in
-    let two = lane_of_splat shift_16 high 8 j lh lt in
-    let three = lane_of_splat shift_left_16 (tops high) 8 j (tops_count high lh) lt in
-    let four =
-    lane_of_two sum_16 (tops low) (zip2 shift_left_16 (tops high) (replicate 8 8)) j (tops_count low ll)
-    (count_of_two shift_left_16 (tops high) (replicate 8 8) (tops_count high lh) refl) lt in
-    let up : shift_left_16 (slice_index high j / 256) 8 ≡ 256 * (slice_index high j / 256) = omega arith in
-    let sum : sum_16 (slice_index low j / 256) (256 * (slice_index high j / 256)) ≡ slice_index low j / 256 + 256 * (slice_index high j / 256) = omega arith in
-    four ∙ ap (λ (n : ℕ). sum_16 n (slice_index (zip2 shift_left_16 (tops high) (replicate 8 8)) j)) one
-    ∙ ap (sum_16 (slice_index low j / 256)) (three ∙ ap (λ (n : ℕ). shift_left_16 n 8) two ∙ up)
-    ∙ sum
+byte_lane : (low high : List ℕ) (j : ℕ) → AreParts low → AreParts high → j < 8
+    → slice_index (byte_lanes low high) j ≡ slice_index low j + 256 * slice_index high j
+byte_lane low high j p q lt =
+    let a = p.parts j lt in
+    let b = q.parts j lt in
+    let raised = lane_of_splat shift_left_16 high 8 j q.count lt in
+    let both =
+    lane_of_two sum_16 low (zip2 shift_left_16 high (replicate 8 8)) j p.count (count_of_two shift_left_16 high (replicate 8 8) q.count refl) lt in
+    let up : shift_left_16 (slice_index high j) 8 ≡ 256 * slice_index high j = omega arith in
+    let sum : sum_16 (slice_index low j) (256 * slice_index high j) ≡ slice_index low j + 256 * slice_index high j = omega arith in
+    both ∙ ap (sum_16 (slice_index low j)) (raised ∙ up) ∙ sum
 
 -- the lanes of both fit sixteen bits
-upper_fits : (low high : List ℕ) → Each1 (Fits w16) low → Each1 (Fits w16) high → length low ≡ 8 → length high ≡ 8
-    → Each1 (λ x. x < 65536) (upper_lanes low high)
-upper_fits low high fl fh ll lh =
-    Each1-from_get_or (λ x. x < 65536) (upper_lanes low high) 0 (λ j h.
-    let lt : j < 8 = omega (arith, upper_count low high ll lh) in
-    let a = fits_16 low j fl ll lt in
-    let b = fits_16 high j fh lh lt in
-    let lane = upper_lane low high j fl fh ll lh lt in
+bytes_fit : (low high : List ℕ) → AreParts low → AreParts high → Each1 (λ x. x < 65536) (byte_lanes low high)
+bytes_fit low high p q =
+    Each1-from_get_or (λ x. x < 65536) (byte_lanes low high) 0 (λ j h.
+    let lt : j < 8 = omega (arith, byte_count low high p q) in
+    let a = p.parts j lt in
+    let b = q.parts j lt in
+    let lane = byte_lane low high j p q lt in
     omega arith)
 
-pub upper_even : (low high : List ℕ) (j : ℕ) → Each1 (Fits w16) low → Each1 (Fits w16) high → length low ≡ 8 → length high ≡ 8 → j < 8
-    → slice_index (digits_l 256 16 (number_l 65536 (upper_lanes low high))) (2 * j) ≡ slice_index low j / 256
-upper_even low high j fl fh ll lh lt =
+pub byte_even : (low high : List ℕ) (j : ℕ) → AreParts low → AreParts high → j < 8
+    → slice_index (digits_l 256 16 (number_l 65536 (byte_lanes low high))) (2 * j) ≡ slice_index low j
+byte_even low high j p q lt =
     let place : 2 * j ≡ 2 * j + 0 = omega arith in
-    let a = fits_16 low j fl ll lt in
-    let bytes = digits_l 256 16 (number_l 65536 (upper_lanes low high)) in
-    let part : (slice_index low j / 256 + 256 * (slice_index high j / 256)) / 1 % 256 ≡ slice_index low j / 256 = omega arith in
+    let a = p.parts j lt in
+    let bytes = digits_l 256 16 (number_l 65536 (byte_lanes low high)) in
+    let part : (slice_index low j + 256 * slice_index high j) / 1 % 256 ≡ slice_index low j = omega arith in
     ap (slice_index bytes) place
-    ∙ get_or_narrower 65536 2 256 16 (upper_lanes low high) j 0 refl (upper_fits low high fl fh ll lh) (omega arith) (omega arith)
-    ∙ ap (λ (n : ℕ). n / 1 % 256) (upper_lane low high j fl fh ll lh lt)
+    ∙ get_or_narrower 65536 2 256 16 (byte_lanes low high) j 0 refl (bytes_fit low high p q) (omega (arith, byte_count low high p q)) (omega arith)
+    ∙ ap (λ (n : ℕ). n / 1 % 256) (byte_lane low high j p q lt)
     ∙ part
 
-pub upper_odd : (low high : List ℕ) (j : ℕ) → Each1 (Fits w16) low → Each1 (Fits w16) high → length low ≡ 8 → length high ≡ 8 → j < 8
-    → slice_index (digits_l 256 16 (number_l 65536 (upper_lanes low high))) (2 * j + 1) ≡ slice_index high j / 256
-upper_odd low high j fl fh ll lh lt =
-    let a = fits_16 low j fl ll lt in
-    let b = fits_16 high j fh lh lt in
-    let part : (slice_index low j / 256 + 256 * (slice_index high j / 256)) / 256 % 256 ≡ slice_index high j / 256 = omega arith in
-    get_or_narrower 65536 2 256 16 (upper_lanes low high) j 1 refl (upper_fits low high fl fh ll lh) (omega arith) (omega arith)
-    ∙ ap (λ (n : ℕ). n / 256 % 256) (upper_lane low high j fl fh ll lh lt)
+pub byte_odd : (low high : List ℕ) (j : ℕ) → AreParts low → AreParts high → j < 8
+    → slice_index (digits_l 256 16 (number_l 65536 (byte_lanes low high))) (2 * j + 1) ≡ slice_index high j
+byte_odd low high j p q lt =
+    let a = p.parts j lt in
+    let b = q.parts j lt in
+    let part : (slice_index low j + 256 * slice_index high j) / 256 % 256 ≡ slice_index high j = omega arith in
+    get_or_narrower 65536 2 256 16 (byte_lanes low high) j 1 refl (bytes_fit low high p q) (omega (arith, byte_count low high p q)) (omega arith)
+    ∙ ap (λ (n : ℕ). n / 256 % 256) (byte_lane low high j p q lt)
     ∙ part
 
 -- what holds of the bytes at even places and of those at odd places holds of all

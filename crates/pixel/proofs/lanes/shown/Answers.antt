@@ -8,16 +8,16 @@ use Rattle.pixel.proofs.lanes.shown.Goals as goal
 pub returns-clause-lanes : goal.returns-clause-lanes
 returns-clause-lanes c =
     let P : ℕ → Type 0 =
-    λ i. slice_index c.upper_bytes.result i ≡ times_255 (slice_index c.args.dst i) (255 - slice_index c.args.src (alpha_place i)) in
+    λ i. slice_index c.bytes_of.result i ≡ times_255 (slice_index c.args.dst i) (255 - slice_index c.args.src (alpha_place i)) in
     by_halves P
     (λ j lt.
-    c.upper_bytes.ensures.even j lt
+    c.bytes_of.ensures.even j lt
     ∙ c.products.ensures.lanes j lt
     ∙ ap (λ (n : ℕ). times_255 n (slice_index c.kept-kept.result j)) (c.low_bytes.ensures.lanes j lt)
     ∙ ap (times_255 (slice_index c.args.dst (2 * j))) (c.kept-kept.ensures.lanes j lt))
     (λ j lt.
     let same : alpha_place (2 * j) ≡ alpha_place (2 * j + 1) = omega arith in
-    c.upper_bytes.ensures.odd j lt
+    c.bytes_of.ensures.odd j lt
     ∙ c.products-2.ensures.lanes j lt
     ∙ ap (λ (n : ℕ). times_255 n (slice_index c.kept-kept.result j)) (c.high_bytes.ensures.lanes j lt)
     ∙ ap (times_255 (slice_index c.args.dst (2 * j + 1))) (c.kept-kept.ensures.lanes j lt)
