@@ -160,62 +160,86 @@ halves_fit v fits long =
 
 -- ---- two vectors of parts as bytes
 
--- a shift to the left of sixteen bits
-abbrev pub shift_left_16 : ℕ → ℕ → ℕ
-shift_left_16 a b = (a * 2 ^ b) % 65536
+-- a sum of eight bits
+abbrev pub sum_8 : ℕ → ℕ → ℕ
+sum_8 a b = (a + b) % 256
 
--- those of the second above those of the first
-abbrev pub byte_lanes : List ℕ → List ℕ → List ℕ
-byte_lanes low high = zip2 sum_16 low (zip2 shift_left_16 high (replicate 8 8))
+-- the bytes of eight lanes
+abbrev pub bytes_of_lanes : List ℕ → List ℕ
+bytes_of_lanes v = digits_l 256 16 (number_l 65536 v)
 
-byte_count : (low high : List ℕ) → AreParts low → AreParts high → length (byte_lanes low high) ≡ 8
-byte_count low high p q =
-    count_of_two sum_16 low (zip2 shift_left_16 high (replicate 8 8)) p.count (count_of_two shift_left_16 high (replicate 8 8) q.count refl)
+-- the two bytes of each lane exchanged
+abbrev pub swapped : List ℕ → List ℕ
+swapped v =
+    slice_index v 1 ∷ slice_index v 0 ∷ slice_index v 3 ∷ slice_index v 2 ∷ slice_index v 5 ∷ slice_index v 4 ∷ slice_index v 7 ∷ slice_index v 6
+    ∷ slice_index v 9 ∷ slice_index v 8 ∷ slice_index v 11 ∷ slice_index v 10 ∷ slice_index v 13 ∷ slice_index v 12 ∷ slice_index v 15 ∷ slice_index v 14 ∷ []
 
--- a lane of both
-byte_lane : (low high : List ℕ) (j : ℕ) → AreParts low → AreParts high → j < 8
-    → slice_index (byte_lanes low high) j ≡ slice_index low j + 256 * slice_index high j
-byte_lane low high j p q lt =
-    let a = p.parts j lt in
-    let b = q.parts j lt in
-    let raised = lane_of_splat shift_left_16 high 8 j q.count lt in
-    let both =
-    lane_of_two sum_16 low (zip2 shift_left_16 high (replicate 8 8)) j p.count (count_of_two shift_left_16 high (replicate 8 8) q.count refl) lt in
-    let up : shift_left_16 (slice_index high j) 8 ≡ 256 * slice_index high j = omega arith in
-    let sum : sum_16 (slice_index low j) (256 * slice_index high j) ≡ slice_index low j + 256 * slice_index high j = omega arith in
-    both ∙ ap (sum_16 (slice_index low j)) (raised ∙ up) ∙ sum
+swapped_even : (v : List ℕ) (j : ℕ) → j < 8 → slice_index (swapped v) (2 * j) ≡ slice_index v (2 * j + 1)
+swapped_even v zero lt = refl
+swapped_even v (suc zero) lt = refl
+swapped_even v (suc (suc zero)) lt = refl
+swapped_even v (suc (suc (suc zero))) lt = refl
+swapped_even v (suc (suc (suc (suc zero)))) lt = refl
+swapped_even v (suc (suc (suc (suc (suc zero))))) lt = refl
+swapped_even v (suc (suc (suc (suc (suc (suc zero)))))) lt = refl
+swapped_even v (suc (suc (suc (suc (suc (suc (suc zero))))))) lt = refl
+swapped_even v (suc (suc (suc (suc (suc (suc (suc (suc j)))))))) lt = absurd (omega arith)
 
--- the lanes of both fit sixteen bits
-bytes_fit : (low high : List ℕ) → AreParts low → AreParts high → Each1 (λ x. x < 65536) (byte_lanes low high)
-bytes_fit low high p q =
-    Each1-from_get_or (λ x. x < 65536) (byte_lanes low high) 0 (λ j h.
-    let lt : j < 8 = omega (arith, byte_count low high p q) in
-    let a = p.parts j lt in
-    let b = q.parts j lt in
-    let lane = byte_lane low high j p q lt in
-    omega arith)
+swapped_odd : (v : List ℕ) (j : ℕ) → j < 8 → slice_index (swapped v) (2 * j + 1) ≡ slice_index v (2 * j)
+swapped_odd v zero lt = refl
+swapped_odd v (suc zero) lt = refl
+swapped_odd v (suc (suc zero)) lt = refl
+swapped_odd v (suc (suc (suc zero))) lt = refl
+swapped_odd v (suc (suc (suc (suc zero)))) lt = refl
+swapped_odd v (suc (suc (suc (suc (suc zero))))) lt = refl
+swapped_odd v (suc (suc (suc (suc (suc (suc zero)))))) lt = refl
+swapped_odd v (suc (suc (suc (suc (suc (suc (suc zero))))))) lt = refl
+swapped_odd v (suc (suc (suc (suc (suc (suc (suc (suc j)))))))) lt = absurd (omega arith)
 
-pub byte_even : (low high : List ℕ) (j : ℕ) → AreParts low → AreParts high → j < 8
-    → slice_index (digits_l 256 16 (number_l 65536 (byte_lanes low high))) (2 * j) ≡ slice_index low j
-byte_even low high j p q lt =
+-- the lower byte of a lane is the part, and the upper one 0
+parts_fit : (v : List ℕ) → AreParts v → Each1 (λ x. x < 65536) v
+parts_fit v p = Each1-from_get_or (λ x. x < 65536) v 0 (λ j h. let low = p.parts j (omega (arith, p.count)) in omega arith)
+
+part_byte : (v : List ℕ) (j : ℕ) → AreParts v → j < 8 → slice_index (bytes_of_lanes v) (2 * j) ≡ slice_index v j
+part_byte v j p lt =
     let place : 2 * j ≡ 2 * j + 0 = omega arith in
-    let a = p.parts j lt in
-    let bytes = digits_l 256 16 (number_l 65536 (byte_lanes low high)) in
-    let part : (slice_index low j + 256 * slice_index high j) / 1 % 256 ≡ slice_index low j = omega arith in
-    ap (slice_index bytes) place
-    ∙ get_or_narrower 65536 2 256 16 (byte_lanes low high) j 0 refl (bytes_fit low high p q) (omega (arith, byte_count low high p q)) (omega arith)
-    ∙ ap (λ (n : ℕ). n / 1 % 256) (byte_lane low high j p q lt)
+    let low = p.parts j lt in
+    let part : slice_index v j / 1 % 256 ≡ slice_index v j = omega arith in
+    ap (slice_index (bytes_of_lanes v)) place
+    ∙ get_or_narrower 65536 2 256 16 v j 0 refl (parts_fit v p) (omega (arith, p.count)) (omega arith)
     ∙ part
 
-pub byte_odd : (low high : List ℕ) (j : ℕ) → AreParts low → AreParts high → j < 8
-    → slice_index (digits_l 256 16 (number_l 65536 (byte_lanes low high))) (2 * j + 1) ≡ slice_index high j
-byte_odd low high j p q lt =
+no_byte : (v : List ℕ) (j : ℕ) → AreParts v → j < 8 → slice_index (bytes_of_lanes v) (2 * j + 1) ≡ 0
+no_byte v j p lt =
+    let low = p.parts j lt in
+    let none : slice_index v j / 256 % 256 ≡ 0 = omega arith in
+    get_or_narrower 65536 2 256 16 v j 1 refl (parts_fit v p) (omega (arith, p.count)) (omega arith) ∙ none
+
+-- the bytes of the second beside those of the first
+abbrev pub byte_lanes : List ℕ → List ℕ → List ℕ
+byte_lanes low high = zip2 sum_8 (bytes_of_lanes low) (swapped (bytes_of_lanes high))
+
+byte_lane : (low high : List ℕ) (i : ℕ) → i < 16
+    → slice_index (byte_lanes low high) i ≡ sum_8 (slice_index (bytes_of_lanes low) i) (slice_index (swapped (bytes_of_lanes high)) i)
+byte_lane low high i lt = get_or-zip2 sum_8 (bytes_of_lanes low) (swapped (bytes_of_lanes high)) i 0 0 0 lt lt
+
+pub byte_even : (low high : List ℕ) (j : ℕ) → AreParts low → AreParts high → j < 8 → slice_index (byte_lanes low high) (2 * j) ≡ slice_index low j
+byte_even low high j p q lt =
     let a = p.parts j lt in
+    let whole : sum_8 (slice_index low j) 0 ≡ slice_index low j = omega arith in
+    byte_lane low high (2 * j) (omega arith)
+    ∙ ap (λ (n : ℕ). sum_8 n (slice_index (swapped (bytes_of_lanes high)) (2 * j))) (part_byte low j p lt)
+    ∙ ap (sum_8 (slice_index low j)) (swapped_even (bytes_of_lanes high) j lt ∙ no_byte high j q lt)
+    ∙ whole
+
+pub byte_odd : (low high : List ℕ) (j : ℕ) → AreParts low → AreParts high → j < 8 → slice_index (byte_lanes low high) (2 * j + 1) ≡ slice_index high j
+byte_odd low high j p q lt =
     let b = q.parts j lt in
-    let part : (slice_index low j + 256 * slice_index high j) / 256 % 256 ≡ slice_index high j = omega arith in
-    get_or_narrower 65536 2 256 16 (byte_lanes low high) j 1 refl (bytes_fit low high p q) (omega (arith, byte_count low high p q)) (omega arith)
-    ∙ ap (λ (n : ℕ). n / 256 % 256) (byte_lane low high j p q lt)
-    ∙ part
+    let whole : sum_8 0 (slice_index high j) ≡ slice_index high j = omega arith in
+    byte_lane low high (2 * j + 1) (omega arith)
+    ∙ ap (λ (n : ℕ). sum_8 n (slice_index (swapped (bytes_of_lanes high)) (2 * j + 1))) (no_byte low j p lt)
+    ∙ ap (sum_8 0) (swapped_odd (bytes_of_lanes high) j lt ∙ part_byte high j q lt)
+    ∙ whole
 
 -- what holds of the bytes at even places and of those at odd places holds of all
 pub by_halves : (P : ℕ → Type 0) → ((j : ℕ) → j < 8 → P (2 * j)) → ((j : ℕ) → j < 8 → P (2 * j + 1)) → (i : ℕ) → i < 16 → P i
@@ -238,10 +262,6 @@ loaded row at fit bytes = record {
 -- a part of 255 is no more than the whole
 pub part_low : (d k : ℕ) → d < 256 → times_255 d k ≤ k
 part_low d k lt = let low : d * k ≤ 255 * k = grind arith in omega arith
-
--- a sum of eight bits
-abbrev pub sum_8 : ℕ → ℕ → ℕ
-sum_8 a b = (a + b) % 256
 
 -- sixteen bytes of a row, each the source's and what shows through it
 pub laid : (old source seen : List ℕ) (at : ℕ) → length old ≡ length source → at + 16 ≤ length source → at % 4 ≡ 0

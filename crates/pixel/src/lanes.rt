@@ -72,7 +72,10 @@ fn bytes_of(low: u16x8, high: u16x8) -> u8x16
     ensures even { (j : ℕ) → j < 8 → slice_index result (2 * j) ≡ slice_index low j }
     ensures odd { (j : ℕ) → j < 8 → slice_index result (2 * j + 1) ≡ slice_index high j }
 {
-    (low + (high << u16x8::splat(8))).to_le_bytes()
+    let raised = high
+        .to_le_bytes()
+        .swizzle([1, 0, 3, 2, 5, 4, 7, 6, 9, 8, 11, 10, 13, 12, 15, 14]);
+    low.to_le_bytes() + raised
 }
 
 /// Each byte of `dst` times what shows through of the pixel of `src`.
