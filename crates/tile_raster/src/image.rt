@@ -18,15 +18,18 @@ use std::sync::Arc;
 
 /// The picture of a tile: what its display list shows on its rect.
 pub struct TileImage {
-    key: TileKey,
-    rect: Rect,
-    list: Arc<DisplayList>,
+    // The fields keep this order in memory: what a draw reads stands first, beside the count of the `Arc` that holds
+    // the picture, so that a small tile costs a draw one cache miss.
+    //
     // the colour of all pixels, where they have one
     solid: Option<Colour>,
     // whether all pixels are opaque
     is_opaque: bool,
+    rect: Rect,
     // the rows, of which equal ones that follow one another are kept once
     rows: PictureRows,
+    key: TileKey,
+    list: Arc<DisplayList>,
 }
 
 impl Model for TileImage {
@@ -46,12 +49,12 @@ impl Model for TileImage {
 impl Drop for TileImage {
     fn drop(self) {
         let TileImage {
-            key: _,
-            rect: _,
-            list: _,
             solid: _,
             is_opaque: _,
+            rect: _,
             rows: _,
+            key: _,
+            list: _,
         } = self;
     }
 }
@@ -71,12 +74,12 @@ impl TileImage {
         let solid = one_colour(&list, rect, &rows);
         let is_opaque = are_all_opaque(&list, rect, &rows);
         Ok(TileImage {
-            key,
-            rect,
-            list,
             solid,
             is_opaque,
+            rect,
             rows,
+            key,
+            list,
         })
     }
 

@@ -18,13 +18,13 @@ use std::alloc::{AllocError, Global};
 /// The rows of a picture.
 #[derive(Drop)]
 pub(crate) struct PictureRows {
+    /// The bytes of the rows that are kept.
+    pub(crate) bytes: Vec<u8>,
     /// For each row of the picture the place of its bytes among the rows that are kept. None where one row is kept
     /// for all.
     pub(crate) places: Vec<u32>,
     /// For each row of the picture the row after the last that is kept as it. None where one row is kept for all.
     pub(crate) ends: Vec<u32>,
-    /// The bytes of the rows that are kept.
-    pub(crate) bytes: Vec<u8>,
 }
 
 /// The rows of what the list shows on the rect.
@@ -59,16 +59,16 @@ fn with_ends(
 {
     if kept_count(&places) <= 1 {
         return Ok(PictureRows {
+            bytes,
             places: Vec::new(alloc),
             ends: Vec::new(alloc),
-            bytes,
         });
     }
     let ends = ends_of(alloc, &places)?;
     Ok(PictureRows {
+        bytes,
         places,
         ends,
-        bytes,
     })
 }
 
