@@ -1,17 +1,17 @@
 -- The patches of a picture, and the rows that they make.
-use Rattle.std.proofs.Common.{◌≡◌, ℕ, suc, ◌<◌, ◌+◌, ◌-◌, ◌*◌, inl, inr, pos, ◌+ℤ◌, Bool, true, false, ◌&&◌, cond, List, [], ◌∷◌, slice_index, refl, sym, ◌∙◌, ap, subst, arith}
-use Rattle.std.specs.Prelude.{fold}
-use Rattle.geom.specs.declared.Rect.{Rect}
-use Rattle.pixel.specs.Colours.{Parts, blend, clear}
-use Rattle.page_display_list.specs.declared.Item.{Item}
-use Rattle.page_display_list.specs.declared.item.Item.TheVariants as kind
-use Rattle.page_display_list.specs.Bitmaps.{near}
-use Rattle.page_display_list.specs.Content.{painted, colour_of}
-use Rattle.tile_raster.specs.Images.{list_colour}
-use Rattle.tile_raster.specs.inner.Bands.{IsLevel, AreLevel, AreSteps, IsCount}
-use Rattle.pixel.specs.Rows.{pixel}
+use Rattle.std.proofs.Common.{◌≡◌, ℕ, ◌<◌, ◌+◌, ◌-◌, ◌*◌, inl, inr, Bool, true, false, ◌&&◌, cond, List, length, take, slice_index, refl, sym, ◌∙◌, ap, subst, arith}
+use Rattle.std.specs.Prelude.{slice_index_or, fold}
 use Rattle.std.proofs.lemmas.Bool.{cases_lt}
-use Rattle.tile_raster.specs.inner.Patches.{AreDrawnTo}
+use Rattle.std.proofs.lemmas.List.Sums.{fold_more}
+use Rattle.geom.specs.declared.Rect.{Rect}
+use Rattle.pixel.specs.Colours.{Parts, clear}
+use Rattle.pixel.specs.Rows.{pixel}
+use Rattle.page_display_list.specs.declared.Item.{Item}
+use Rattle.page_display_list.specs.Bitmaps.{near}
+use Rattle.tile_raster.specs.Images.{list_colour}
+use Rattle.tile_raster.specs.inner.Bands.{IsRepeated, AreSteps, IsCount}
+use Rattle.tile_raster.specs.declared.patches.Patch.{Patch}
+use Rattle.tile_raster.specs.inner.Patches.{patched, AreLevelPatches, ShowList, AreDrawnTo}
 use Rattle.tile_raster.proofs.Places.{place_is, place_below, rise_to}
 
 -- ---- tests of columns and rows
@@ -27,33 +27,36 @@ cond_both true true false f u v = refl
 cond_both true false e f u v = cond_same (e && f) v
 cond_both false d e f u v = cond_same (e && f) v
 
--- ---- level rows show alike
+-- ---- rows that show alike
 
-painted_level : (r : Rect) (y x : ℕ) (item : Item) (below : Parts) → IsLevel item r y → x < near r.w
-    → painted (r.x +ℤ pos x) (r.y +ℤ pos y) below item ≡ painted (r.x +ℤ pos x) (r.y +ℤ pos (y + 1)) below item
-painted_level r y x (kind.Rect rect colour) below level lt = ap (λ (t : Bool). cond t (blend below colour) below) (level x lt)
-painted_level r y x (kind.Bitmap picture) below level lt =
-    let both = level x lt in
-    let here = colour_of (kind.Bitmap picture) (r.x +ℤ pos x) (r.y +ℤ pos y) in
-    let there = colour_of (kind.Bitmap picture) (r.x +ℤ pos x) (r.y +ℤ pos (y + 1)) in
-    ap (λ (t : Bool). cond t (blend below here) below) both.0
-    ∙ sym (ap (λ (t : Bool). cond t (blend below there) below) both.1)
+-- one patch more that is the same in two rows
+pub level_more : (patches : List Patch) (i x y : ℕ) (patch : Patch) → i < length patches → patch ≡ slice_index_or patches i patch
+    → fold (patched x y) clear (take i patches) ≡ fold (patched x (y + 1)) clear (take i patches)
+    → ((below : Parts) → patched x y below patch ≡ patched x (y + 1) below patch)
+    → fold (patched x y) clear (take (i + 1) patches) ≡ fold (patched x (y + 1)) clear (take (i + 1) patches)
+level_more patches i x y patch lt is before level =
+    let here = fold (patched x y) clear (take i patches) in
+    fold_more (patched x y) clear patches i patch lt
+    ∙ ap (λ (p : Patch). patched x y here p) (sym is)
+    ∙ level here
+    ∙ ap (λ (below : Parts). patched x (y + 1) below patch) before
+    ∙ ap (λ (p : Patch). patched x (y + 1) (fold (patched x (y + 1)) clear (take i patches)) p) is
+    ∙ sym (fold_more (patched x (y + 1)) clear patches i patch lt)
 
-level_fold : (r : Rect) (y x : ℕ) (list : List Item) (below : Parts) → AreLevel list r y → x < near r.w
-    → fold (painted (r.x +ℤ pos x) (r.y +ℤ pos y)) below list ≡ fold (painted (r.x +ℤ pos x) (r.y +ℤ pos (y + 1))) below list
-level_fold r y x [] below level lt = refl
-level_fold r y x (item ∷ list) below level lt =
-    level_fold r y x list (painted (r.x +ℤ pos x) (r.y +ℤ pos y) below item) (λ k d low. level (suc k) d (omega arith)) lt
-    ∙ ap (λ (c : Parts). fold (painted (r.x +ℤ pos x) (r.y +ℤ pos (y + 1))) c list) (painted_level r y x item below (level 0 item (omega arith)) lt)
+-- what patches show of level rows, the list shows
+pub shown_repeated : (list : List Item) (r : Rect) (patches : List Patch) (y : ℕ) → ShowList list r patches → y + 1 < near r.h
+    → AreLevelPatches patches y → IsRepeated list r y
+shown_repeated list r patches y shows lt level x xw =
+    sym (shows x y xw (omega arith)) ∙ level x ∙ shows x (y + 1) xw lt
 
-module _ (list : List Item) (r : Rect) (places : List ℕ) (steps : AreSteps (AreLevel list r) (near r.h) places) where
+module _ (list : List Item) (r : Rect) (places : List ℕ) (steps : AreSteps (IsRepeated list r) (near r.h) places) where
   -- a row that has the place of the row above it shows what that shows
   pub as_above : (t y x : ℕ) → t + 1 ≡ y → y < near r.h → x < near r.w → slice_index places t ≡ slice_index places y
       → list_colour list r x t ≡ list_colour list r x y
   as_above t y x next lt xw same =
       let there : slice_index places (t + 1) ≡ slice_index places y = ap (slice_index places) next in
       elim (steps.steps t (omega arith)) as (λ _. list_colour list r x t ≡ list_colour list r x y) [
-        | inl stays ↦ level_fold r t x list clear stays.1 xw ∙ ap (list_colour list r x) next
+        | inl stays ↦ stays.1 x xw ∙ ap (list_colour list r x) next
         | inr more ↦ absurd (omega (arith, more, there, same))
       ]
 
@@ -63,7 +66,7 @@ module _ (list : List Item) (r : Rect) (places : List ℕ) (steps : AreSteps (Ar
   first_of_place kept z t y last next lt low other same =
       let there : slice_index places (t + 1) ≡ slice_index places y = ap (slice_index places) next in
       let count = steps.count in
-      let up = rise_to (AreLevel list r) (near r.h) places kept z t steps last (omega arith) (omega arith) in
+      let up = rise_to (IsRepeated list r) (near r.h) places kept z t steps last (omega arith) (omega arith) in
       let here = place_is places kept z (omega arith) in
       let last_one = place_is places kept t (omega arith) in
       elim (steps.steps t (omega arith)) as (λ _. ⊥) [
@@ -97,7 +100,7 @@ module _ (list : List Item) (r : Rect) (places : List ℕ) (steps : AreSteps (Ar
       let w = near r.w in
       elim (cases_lt z y) as (λ _. pixel new (slice_index places z * w + x) ≡ list_colour list r x z) [
         | inl less ↦
-            others x (slice_index places z) xw (place_below (AreLevel list r) (near r.h) places kept z steps last (omega arith))
+            others x (slice_index places z) xw (place_below (IsRepeated list r) (near r.h) places kept z steps last (omega arith))
             (λ same. first_of_place kept z (y - 1) y last (omega arith) lt less (first (omega arith)) (same ∙ own))
             ∙ drawn x z xw less
         | inr from ↦

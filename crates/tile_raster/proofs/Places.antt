@@ -109,6 +109,15 @@ steps_map l m rows places s f = record {
       ];
 }
 
+-- the steps by the marks of rows, where rows that are not marked are level with the row above
+pub steps_of_marks : (level : ℕ → Type 0) (rows : ℕ) (marks read : List Bool) (places lent : List ℕ) → read ≡ marks → lent ≡ places
+    → length marks ≡ rows → AreSteps (λ y. slice_index_or read (y + 1) true ≡ false) (length read) places
+    → ((y : ℕ) → y + 1 < rows → slice_index_or marks (y + 1) true ≡ false → level y) → AreSteps level rows lent
+steps_of_marks level rows marks read places lent is own count s low =
+    let marked = subst (λ (l : List Bool). AreSteps (λ y. slice_index_or l (y + 1) true ≡ false) (length l) places) is s in
+    let steps = subst (λ (n : ℕ). AreSteps (λ y. slice_index_or marks (y + 1) true ≡ false) n places) count marked in
+    subst (AreSteps level rows) (sym own) (steps_map (λ y. slice_index_or marks (y + 1) true ≡ false) level rows places steps low)
+
 -- the place of a row of the picture
 pub place_is : (places : List ℕ) (kept y : ℕ) → y < length places → place_of places kept y ≡ slice_index places y
 place_is places kept y lt = get_or_default places y kept 0 lt

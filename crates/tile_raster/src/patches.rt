@@ -5,7 +5,7 @@ ghost use Rattle.geom.specs.Covers.{IsSound};
 ghost use Rattle.pixel.specs.Rows.{ArePremultiplied};
 ghost use Rattle.page_display_list.specs.Bitmaps.{near};
 ghost use Rattle.page_display_list.specs.Content.{painted, IsSoundItem};
-ghost use Rattle.tile_raster.specs.inner.Bands.{AreLevel, AreSteps, AreKept, IsCount};
+ghost use Rattle.tile_raster.specs.inner.Bands.{IsRepeated, AreSteps, AreKept, IsCount};
 ghost use Rattle.tile_raster.specs.inner.Patches.{patched, patches_show, spans_show, ShowList, AreDrawnTo};
 
 use crate::pixels::{height_of, width_of};
@@ -94,7 +94,7 @@ pub(crate) fn draw_patches(
 ) -> Result<(), AllocError>
     requires rect { IsSound rect }
     requires shows { ShowList _list.now rect patches.now }
-    requires steps { AreSteps (AreLevel _list.now rect) (near rect.h) places.now }
+    requires steps { AreSteps (IsRepeated _list.now rect) (near rect.h) places.now }
     requires kept { IsCount places.now kept }
     requires size { length bytes.old ≡ 4 * (near rect.w * kept) }
     requires premultiplied { ArePremultiplied bytes.old }
@@ -120,7 +120,7 @@ fn draw_row(
 ) -> Result<(), AllocError>
     requires rect { IsSound rect }
     requires shows { ShowList _list.now rect patches.now }
-    requires steps { AreSteps (AreLevel _list.now rect) (near rect.h) places.now }
+    requires steps { AreSteps (IsRepeated _list.now rect) (near rect.h) places.now }
     requires kept { IsCount places.now kept }
     requires size { length bytes.old ≡ 4 * (near rect.w * kept) }
     requires inside { y < near rect.h }
@@ -147,7 +147,7 @@ fn draw_first(
 ) -> Result<(), AllocError>
     requires rect { IsSound rect }
     requires shows { ShowList _list.now rect patches.now }
-    requires steps { AreSteps (AreLevel _list.now rect) (near rect.h) places.now }
+    requires steps { AreSteps (IsRepeated _list.now rect) (near rect.h) places.now }
     requires kept { IsCount places.now kept }
     requires size { length bytes.old ≡ 4 * (near rect.w * kept) }
     requires inside { y < near rect.h }

@@ -1,15 +1,16 @@
 //! The rows that a picture keeps: of equal rows that follow one another only the first.
 
-ghost use Rattle.std.specs.Prelude.{◌≡◌, ℕ, ◌+◌, ◌*◌, ◌<◌, ◌≤◌, ◌^◌, length, true, false, cond, slice_index, slice_index_or, IsTrue, IfOk, OnOk};
+ghost use Rattle.std.specs.Prelude.{◌≡◌, ℕ, ◌+◌, ◌*◌, ◌<◌, ◌≤◌, ◌^◌, length, true, false, cond, slice_index, slice_index_or, IsTrue, IfOk, ⊤};
 ghost use Rattle.geom.specs.Covers.{IsSound};
 ghost use Rattle.pixel.specs.Colours.{clear};
 ghost use Rattle.pixel.specs.Rows.{pixel, ArePremultiplied};
 ghost use Rattle.page_display_list.specs.Bitmaps.{near};
-ghost use Rattle.tile_raster.specs.inner.Bands.{AreLevel, AreSteps, AreKept, IsEnd, AreEnds, IsCount};
+ghost use Rattle.tile_raster.specs.inner.Bands.{AreLevel, IsRepeated, AreSteps, AreKept, IsEnd, AreEnds, IsCount};
+ghost use Rattle.tile_raster.specs.inner.Patches.{ShowList};
 
-use crate::changes::changing_rows;
+use crate::changes::{changing_patches, changing_rows};
 use crate::draw::draw_items;
-use crate::patches::{draw_patches, patches_of};
+use crate::patches::{Patch, draw_patches, patches_of};
 use crate::pixels::width_of;
 use geom::Rect;
 use page_display_list::DisplayList;
@@ -37,9 +38,39 @@ pub(crate) fn kept_rows(
     ensures kept { IfOk result (λ rows. AreKept list.now rect rows.places.items rows.bytes.items) }
     ensures ends { IfOk result (λ rows. AreEnds (near rect.h) rows.places.items rows.ends.items) }
 {
+    match patches_of(alloc, list, rect)? {
+        Some(patches) => rows_of_patches(alloc, list, rect, patches.as_slice()),
+        None => rows_of_items(alloc, list, rect),
+    }
+}
+
+// the rows of what the list shows on the rect, where patches show it
+fn rows_of_patches(
+    alloc: Global,
+    list: &DisplayList,
+    rect: Rect,
+    patches: &[Patch],
+) -> Result<PictureRows, AllocError>
+    requires rect { IsSound rect }
+    requires shows { ShowList list.now rect patches.now }
+    ensures kept { IfOk result (λ rows. AreKept list.now rect rows.places.items rows.bytes.items) }
+    ensures ends { IfOk result (λ rows. AreEnds (near rect.h) rows.places.items rows.ends.items) }
+{
+    let changes = changing_patches(alloc, patches, rect)?;
+    let places = places_of(alloc, &changes)?;
+    let bytes = drawn_patches(alloc, list, rect, patches, &places)?;
+    with_ends(alloc, list, rect, places, bytes)
+}
+
+// the rows of what the list shows on the rect, drawn item by item
+fn rows_of_items(alloc: Global, list: &DisplayList, rect: Rect) -> Result<PictureRows, AllocError>
+    requires { IsSound rect }
+    ensures kept { IfOk result (λ rows. AreKept list.now rect rows.places.items rows.bytes.items) }
+    ensures ends { IfOk result (λ rows. AreEnds (near rect.h) rows.places.items rows.ends.items) }
+{
     let changes = changing_rows(alloc, list, rect)?;
     let places = places_of(alloc, &changes)?;
-    let bytes = drawn_rows(alloc, list, rect, &places)?;
+    let bytes = drawn_items(alloc, list, rect, &places)?;
     with_ends(alloc, list, rect, places, bytes)
 }
 
@@ -52,7 +83,7 @@ fn with_ends(
     bytes: Vec<u8>,
 ) -> Result<PictureRows, AllocError>
     requires rect { IsSound rect }
-    requires steps { AreSteps (AreLevel _list.now rect) (near rect.h) places.items }
+    requires steps { AreSteps (λ y. ⊤) (near rect.h) places.items }
     requires kept { AreKept _list.now rect places.items bytes.items }
     ensures kept { IfOk result (λ rows. AreKept _list.now rect rows.places.items rows.bytes.items) }
     ensures ends { IfOk result (λ rows. AreEnds (near rect.h) rows.places.items rows.ends.items) }
@@ -130,8 +161,35 @@ fn equal_places_at(places: &[u32], y: usize) -> usize
     rows
 }
 
-// the bytes of the rows that are kept
-fn drawn_rows(
+// the bytes of the rows that are kept, each pixel drawn once
+fn drawn_patches(
+    alloc: Global,
+    list: &DisplayList,
+    rect: Rect,
+    patches: &[Patch],
+    places: &[u32],
+) -> Result<Vec<u8>, AllocError>
+    requires rect { IsSound rect }
+    requires shows { ShowList list.now rect patches.now }
+    requires steps { AreSteps (IsRepeated list.now rect) (near rect.h) places.now }
+    ensures { IfOk result (λ bytes. AreKept list.now rect places.now bytes.items) }
+{
+    let kept = kept_count(places);
+    let mut bytes = clear_rows(alloc, width_of(rect), kept)?;
+    draw_patches(
+        alloc,
+        list,
+        rect,
+        patches,
+        places,
+        kept,
+        bytes.as_mut_slice(),
+    )?;
+    Ok(bytes)
+}
+
+// the bytes of the rows that are kept, drawn item by item
+fn drawn_items(
     alloc: Global,
     list: &DisplayList,
     rect: Rect,
@@ -141,38 +199,10 @@ fn drawn_rows(
     requires steps { AreSteps (AreLevel list.now rect) (near rect.h) places.now }
     ensures { IfOk result (λ bytes. AreKept list.now rect places.now bytes.items) }
 {
-    let width = width_of(rect);
     let kept = kept_count(places);
-    let mut bytes = clear_rows(alloc, width, kept)?;
-    draw_list(alloc, list, rect, places, kept, bytes.as_mut_slice())?;
+    let mut bytes = clear_rows(alloc, width_of(rect), kept)?;
+    draw_items(list, rect, places, kept, bytes.as_mut_slice());
     Ok(bytes)
-}
-
-// draws what the list shows on the rect into the rows that are kept, which are transparent before: each pixel once,
-// where no bitmap is among the items
-fn draw_list(
-    alloc: Global,
-    list: &DisplayList,
-    rect: Rect,
-    places: &[u32],
-    kept: usize,
-    bytes: &mut [u8],
-) -> Result<(), AllocError>
-    requires rect { IsSound rect }
-    requires steps { AreSteps (AreLevel list.now rect) (near rect.h) places.now }
-    requires kept { IsCount places.now kept }
-    requires size { length bytes.old ≡ 4 * (near rect.w * kept) }
-    requires blank { (k : ℕ) → k < near rect.w * kept → pixel bytes.old k ≡ clear }
-    requires premultiplied { ArePremultiplied bytes.old }
-    ensures { OnOk result (AreKept list.now rect places.now bytes.new) }
-{
-    match patches_of(alloc, list, rect)? {
-        Some(patches) => draw_patches(alloc, list, rect, patches.as_slice(), places, kept, bytes),
-        None => {
-            draw_items(list, rect, places, kept, bytes);
-            Ok(())
-        }
-    }
 }
 
 // how many rows are kept

@@ -8,7 +8,7 @@ use Rattle.pixel.specs.declared.Area.{Area}
 use Rattle.page_display_list.specs.declared.Item.{Item}
 use Rattle.page_display_list.specs.declared.item.Item.TheVariants as kind
 use Rattle.page_display_list.specs.Bitmaps.{near}
-use Rattle.tile_raster.specs.Images.{IsRow, IsOneColour, HasTwoColours, AreAllOpaque, HasTranslucentPixel, row_bytes}
+use Rattle.tile_raster.specs.Images.{IsRow, IsOneColour, HasTwoColours, AreAllOpaque, HasTranslucentPixel, AreSameRows, row_bytes}
 
 -- an item covers the same columns in row y of the rect and in the row below it, and a bitmap covers none in both
 abbrev pub IsLevel : Item → Rect → ℕ → Type 0
@@ -20,6 +20,10 @@ IsLevel (kind.Bitmap picture) r y = (x : ℕ) → x < near r.w
 -- each item does so
 abbrev pub AreLevel : List Item → Rect → ℕ → Type 0
 AreLevel list r y = All (λ item. IsLevel item r y) list
+
+-- what the list shows in row y of the rect, it shows in the row below it too
+abbrev pub IsRepeated : List Item → Rect → ℕ → Type 0
+IsRepeated list r y = AreSameRows list r y (y + 1)
 
 -- a row has the place of the row above, where `level` holds of the two, or it has the next place
 abbrev pub IsStep : (ℕ → Type 0) → List ℕ → ℕ → Type 0

@@ -33,6 +33,10 @@ patched x y below patch = cond (nat_le patch.top y && nat_lt y patch.bottom) (sp
 abbrev pub patches_show : List Patch → ℕ → ℕ → Parts
 patches_show patches x y = fold (patched x y) clear patches
 
+-- patches show the same in row y and in the row below it
+abbrev pub AreLevelPatches : List Patch → ℕ → Type 0
+AreLevelPatches patches y = (x : ℕ) → patches_show patches x y ≡ patches_show patches x (y + 1)
+
 -- patches show on a rect what a list shows there
 abbrev pub ShowList : List Item → Rect → List Patch → Type 0
 ShowList list r patches = (x y : ℕ) → x < near r.w → y < near r.h → patches_show patches x y ≡ list_colour list r x y

@@ -2,7 +2,7 @@
 use Rattle.std.proofs.Common.{List, refl, ap, ◌∙◌, slice_index}
 use Rattle.page_display_list.specs.Bitmaps.{near}
 use Rattle.tile_raster.specs.declared.spans.Span.{Span}
-use Rattle.tile_raster.specs.inner.Bands.{AreLevel}
+use Rattle.tile_raster.specs.inner.Bands.{IsRepeated}
 use Rattle.tile_raster.specs.inner.Patches.{spans_show}
 use Rattle.tile_raster.proofs.Places.{place_below}
 use Rattle.tile_raster.proofs.PatchRows.{more_drawn}
@@ -10,7 +10,7 @@ use Rattle.tile_raster.proofs.patches.draw_first.Goals as goal
 
 pub draw_spans-requires-clause-place : goal.draw_spans-requires-clause-place
 draw_spans-requires-clause-place c =
-    place_below (AreLevel c.args._list.now c.args.rect) (near c.args.rect.h) c.args.places.now c.args.kept c.args.y c.requires.steps c.requires.kept
+    place_below (IsRepeated c.args._list.now c.args.rect) (near c.args.rect.h) c.args.places.now c.args.kept c.args.y c.requires.steps c.requires.kept
     c.requires.inside
 
 pub returns-clause-drawn : goal.returns-clause-drawn
