@@ -1,7 +1,7 @@
 //! The area that opaque quads cover, as rects.
 
 ghost use Rattle.std.specs.Prelude.{◌≡◌, ◌<◌, ℤ, pos, ◌+ℤ◌, ◌<ℤ◌, ◌≤ℤ◌, true, false, ◌||◌, All, IsTrue, IfSome, OnOk, MatchOption};
-ghost use Rattle.geom.specs.Covers.{covers};
+ghost use Rattle.geom.specs.Covers.{covers, IsSound};
 ghost use Rattle.region.specs.Points.{covered};
 ghost use Rattle.viz_scene.specs.Areas.{IsOnScreen};
 ghost use Rattle.viz_occlusion.specs.inner.Cover.{IsBlock, IsOpen, HasGap, IsJoint, IsRectAt};
@@ -111,9 +111,20 @@ fn rect_at(x: i32, y: i32, cover: &[Rect]) -> Option<Rect>
     ensures { MatchOption result (covered cover.now x y ≡ false) (λ rect. IsRectAt cover.now x y rect) }
 {
     for rect in cover {
-        if rect.contains(Point { x, y }) {
+        if has_point(*rect, x, y) {
             return Some(*rect);
         }
     }
     None
+}
+
+// whether a rect covers a point; its row is looked at first, as most rects of a list lie below: quads are gone through
+// from the last to the first
+#[inline(always)]
+#[tactic(auto, unfolding(geom::specs::Covers::within))]
+fn has_point(rect: Rect, x: i32, y: i32) -> bool
+    requires { IsSound rect }
+    ensures { result ≡ covers rect x y }
+{
+    rect.y <= y && rect.contains(Point { x, y })
 }
