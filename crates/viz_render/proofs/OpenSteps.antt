@@ -4,7 +4,7 @@ use Rattle.std.specs.Prelude.{nat_le}
 use Rattle.std.proofs.lemmas.Bool.Decides.{nat_tests}
 use Rattle.pixel.specs.Colours.{Parts, blend, scaled}
 use Rattle.pixel.specs.Rows.{pixel}
-use Rattle.pixel.specs.Surfaces.{within_rows, in_rows}
+use Rattle.pixel.specs.Surfaces.{EachPixel, within_rows, in_rows}
 use Rattle.pixel.specs.declared.Area.{Area}
 use Rattle.page_display_list.specs.declared.CoveredArea.{CoveredArea}
 use Rattle.viz_render.specs.inner.Drawing.{rows_from, columns_from}
@@ -69,7 +69,7 @@ rows_step w h tops number p part r n start old new before after =
     (λ x y below held. painted_rows p part r n x y below (row_low (rows_from part.at r n) n x y held)))
 
 -- some more columns of a part
-pub columns_step : (w h : ℕ) (tops : List ℕ) (number : ℕ) (p : Paint) (part : CoveredArea) (c n : ℕ) (start old new : List ℕ)
+columns_step : (w h : ℕ) (tops : List ℕ) (number : ℕ) (p : Paint) (part : CoveredArea) (c n : ℕ) (start old new : List ℕ)
     → EachOpen w h tops number (within_rows (columns_from part.at 0 c) part.at.h (painted p part)) start old
     → EachOpen w h tops number (within_rows (columns_from part.at c n) part.at.h (painted p (some_columns part c n))) old new
     → EachOpen w h tops number (within_rows (columns_from part.at 0 (c + n)) part.at.h (painted p part)) start new
@@ -93,29 +93,40 @@ same_top tops x y first e = ap (λ (k : ℕ). slice_index tops (k * 129 + x / 16
 is_closed : (t n : ℕ) → nat_le t n ≡ false → t ≤ n → ⊥
 is_closed t n off le = absurd (grind (arith, nat_tests))
 
+-- a number above another one is not up to it
+pub is_above : (t n : ℕ) → n < t → nat_le t n ≡ false
+is_above t n lt = grind (arith, nat_tests)
+
 -- nothing of a part is seen that is hidden as a whole
-pub hidden_kept : (w h : ℕ) (tops : List ℕ) (number : ℕ) (at : Area) (g : ℕ → ℕ → Parts → Parts) (old : List ℕ)
+hidden_kept : (w h : ℕ) (tops : List ℕ) (number : ℕ) (at : Area) (g : ℕ → ℕ → Parts → Parts) (old : List ℕ)
     → at.y % 8 + at.h ≤ 8
-    → is_open tops number at.x at.y ≡ false
-    → ((x : ℕ) → at.x ≤ x → x < at.x + at.w → is_open tops number x at.y ≡ is_open tops number at.x at.y)
+    → ((x : ℕ) → at.x ≤ x → x < at.x + at.w → is_open tops number x at.y ≡ false)
     → EachOpen w h tops number (within_rows at at.h g) old old
-hidden_kept w h tops number at g old one off alike x y xw yh seen =
-    at_pixel w tops number at g old one off alike x y seen (in_rows at at.h x y) refl
+hidden_kept w h tops number at g old one hidden x y xw yh seen =
+    at_pixel w tops number at g old one hidden x y seen (in_rows at at.h x y) refl
   where
     at_pixel : (w : ℕ) (tops : List ℕ) (number : ℕ) (at : Area) (g : ℕ → ℕ → Parts → Parts) (old : List ℕ)
-        → at.y % 8 + at.h ≤ 8 → is_open tops number at.x at.y ≡ false
-        → ((x : ℕ) → at.x ≤ x → x < at.x + at.w → is_open tops number x at.y ≡ is_open tops number at.x at.y)
+        → at.y % 8 + at.h ≤ 8
+        → ((x : ℕ) → at.x ≤ x → x < at.x + at.w → is_open tops number x at.y ≡ false)
         → (x y : ℕ) → top tops x y ≤ number → (t : Bool) → in_rows at at.h x y ≡ t
         → pixel old (y * w + x) ≡ cond t (g x y (pixel old (y * w + x))) (pixel old (y * w + x))
-    at_pixel w tops number at g old one off alike x y seen false held = refl
-    at_pixel w tops number at g old one off alike x y seen true held =
+    at_pixel w tops number at g old one hidden x y seen false held = refl
+    at_pixel w tops number at g old one hidden x y seen true held =
         let low = row_low at at.h x y held in
         let high = row_high at at.h x y held in
-        let closed = alike x (column_low at at.h x y held) (column_high at at.h x y held) ∙ off in
+        let closed = hidden x (column_low at at.h x y held) (column_high at at.h x y held) in
         let same = same_top tops x y at.y (omega arith) in
         absurd (is_closed (top tops x at.y) number closed (omega arith))
 
--- the test of a block
-pub open_test : (tops : List ℕ) (number x y : ℕ) → is_open tops number x y ≡ nat_le (slice_index tops (y / 8 * 129 + x / 16)) number
-unfolding top
-open_test tops number x y = refl
+-- some hidden columns, and after them some that are painted
+pub run_step : (w h : ℕ) (tops : List ℕ) (number : ℕ) (p : Paint) (part : CoveredArea) (c hidden seen : ℕ) (start old new : List ℕ)
+    → part.at.y % 8 + part.at.h ≤ 8
+    → ((x : ℕ) → part.at.x + c ≤ x → x < part.at.x + c + hidden → is_open tops number x part.at.y ≡ false)
+    → EachOpen w h tops number (within_rows (columns_from part.at 0 c) part.at.h (painted p part)) start old
+    → EachPixel w h (within_rows (columns_from part.at (c + hidden) seen) part.at.h (painted p (some_columns part (c + hidden) seen))) old new
+    → EachOpen w h tops number (within_rows (columns_from part.at 0 (c + hidden + seen)) part.at.h (painted p part)) start new
+run_step w h tops number p part c hidden seen start old new one closed before after =
+    columns_step w h tops number p part (c + hidden) seen start old new
+    (columns_step w h tops number p part c hidden start old old before
+    (hidden_kept w h tops number (columns_from part.at c hidden) (painted p (some_columns part c hidden)) old one closed))
+    (λ x y xw yh is. after x y xw yh)

@@ -1,8 +1,8 @@
 //! Painting where a mask lets a quad be seen.
 
-ghost use Rattle.std.specs.Prelude.{◌≡◌, ℕ, ◌+◌, ◌*◌, ◌/◌, ◌%◌, ◌^◌, ◌<◌, ◌≤◌, nat_le, length, slice_index};
+ghost use Rattle.std.specs.Prelude.{◌≡◌, ℕ, ◌+◌, ◌-◌, ◌*◌, ◌%◌, ◌^◌, ◌<◌, ◌≤◌, min, false, length, slice_index};
 ghost use Rattle.pixel.specs.Rows.{ArePremultiplied};
-ghost use Rattle.pixel.specs.Surfaces.{IsInside, within_rows};
+ghost use Rattle.pixel.specs.Surfaces.{IsInside, EachPixel, within_rows};
 ghost use Rattle.viz_render.specs.inner.Masks.{is_open, EachOpen};
 ghost use Rattle.viz_render.specs.inner.Paints.{painted, CanPaint, some_rows, some_columns};
 
@@ -68,7 +68,7 @@ fn paint_rows(
     }
 }
 
-// paints the columns of a part of one row of blocks, as many as are seen or hidden together at a time
+// paints the columns of a part of one row of blocks, as many as are seen together at a time
 fn paint_columns(
     surface: &mut [u8],
     width: usize,
@@ -93,37 +93,24 @@ fn paint_columns(
 {
     let mut done = 0;
     while done < part.at.w {
-        let columns = alike_columns(tops, part.at, done, number);
-        let run = columns_of(part, done, columns);
-        paint_run(surface, width, height, run, paint, tops, number);
-        done += columns;
+        let run = next_run(tops, part.at, done, number);
+        let first = done + run.hidden;
+        let columns = columns_of(part, first, run.seen);
+        paint_run(surface, width, height, columns, paint);
+        done = first + run.seen;
     }
 }
 
-// paints a part that is seen or hidden as a whole
-fn paint_run(
-    surface: &mut [u8],
-    width: usize,
-    height: usize,
-    part: CoveredArea,
-    paint: &Paint<'_>,
-    tops: &[usize],
-    number: usize,
-)
+// paints a part, which may be empty
+#[inline(always)]
+fn paint_run(surface: &mut [u8], width: usize, height: usize, part: CoveredArea, paint: &Paint<'_>)
     requires size { length surface.old ≡ 4 * (width * height) }
-    requires wide { width ≤ 2048 }
-    requires low { height ≤ 64 }
     requires inside { IsInside part.at width height }
     requires paint { CanPaint paint.now part }
-    requires tops { length tops.now ≡ 1032 }
-    requires rows { 1 ≤ part.at.h }
-    requires columns { 1 ≤ part.at.w }
-    requires one { part.at.y % 8 + part.at.h ≤ 8 }
-    requires alike { (x : ℕ) → part.at.x ≤ x → x < part.at.x + part.at.w → is_open tops.now number x part.at.y ≡ is_open tops.now number part.at.x part.at.y }
-    ensures pixels { EachOpen width height tops.now number (within_rows part.at part.at.h (painted paint.now part)) surface.old surface.new }
+    ensures pixels { EachPixel width height (within_rows part.at part.at.h (painted paint.now part)) surface.old surface.new }
     ensures premultiplied { ArePremultiplied surface.old → ArePremultiplied surface.new }
 {
-    if is_block_open(tops, part.at.x / 16, part.at.y / 8, number) {
+    if part.at.w > 0 {
         paint_part(surface, width, height, part, paint);
     }
 }
@@ -166,33 +153,76 @@ fn columns_of(part: CoveredArea, first: usize, columns: usize) -> CoveredArea
     }
 }
 
-// how many columns of an area, from column `first` on, are seen or hidden together in its top row
-fn alike_columns(tops: &[usize], at: Area, first: usize, number: usize) -> usize
+/// Columns of an area in one row of blocks: some on which a quad is hidden, and after them some on which it is seen.
+#[derive(Clone, Copy)]
+pub(crate) struct ColumnRun {
+    pub(crate) hidden: usize,
+    pub(crate) seen: usize,
+}
+
+// the columns of an area from column `first` on in its top row of blocks, up to the end of those that are seen
+// together
+#[inline(always)]
+fn next_run(tops: &[usize], at: Area, first: usize, number: usize) -> ColumnRun
     requires tops { length tops.now ≡ 1032 }
     requires wide { at.x + at.w ≤ 2048 }
     requires low { at.y < 64 }
     requires there { first < at.w }
-    ensures some { 1 ≤ result }
-    ensures most { first + result ≤ at.w }
-    ensures alike { (x : ℕ) → at.x + first ≤ x → x < at.x + first + result → is_open tops.now number x at.y ≡ is_open tops.now number (at.x + first) at.y }
+    ensures some { 1 ≤ result.hidden + result.seen }
+    ensures most { first + result.hidden + result.seen ≤ at.w }
+    ensures hidden { (x : ℕ) → at.x + first ≤ x → x < at.x + first + result.hidden → is_open tops.now number x at.y ≡ false }
 {
     let from = at.x + first;
     let end = at.x + at.w;
-    let open = is_block_open(tops, from / 16, at.y / 8, number);
-    let mut block = from / 16 + 1;
-    while 16 * block < end && is_block_open(tops, block, at.y / 8, number) == open {
-        block += 1;
+    let row = at.y / 8 * 129;
+    let last = row + (end + 15) / 16;
+    let first_seen = hidden_until(tops, row + from / 16, last, number);
+    let next = seen_until(tops, first_seen, last, number);
+    let hidden = columns_before(first_seen - row, from, end);
+    ColumnRun {
+        hidden,
+        seen: columns_before(next - row, from, end) - hidden,
     }
-    (16 * block).min(end) - from
 }
 
-// whether a quad of this number is seen on a block
+// how many columns from column `from` to before `end` lie before a block
 #[inline(always)]
-fn is_block_open(tops: &[usize], across: usize, down: usize, number: usize) -> bool
-    requires tops { length tops.now ≡ 1032 }
-    requires across { across < 129 }
-    requires down { down < 8 }
-    ensures { result ≡ nat_le (slice_index tops.now (down * 129 + across)) number }
+fn columns_before(block: usize, from: usize, end: usize) -> usize
+    requires { block ≤ 128 }
+    ensures { result ≡ min (16 * block) end - from }
 {
-    tops[down * 129 + across] <= number
+    (16 * block).min(end).saturating_sub(from)
+}
+
+// the first place from `first` to before `end` with a number up to the given one; `end` where there is none
+#[inline(always)]
+fn hidden_until(tops: &[usize], first: usize, end: usize, number: usize) -> usize
+    requires order { first ≤ end }
+    requires inside { end ≤ length tops.now }
+    ensures low { first ≤ result }
+    ensures high { result ≤ end }
+    ensures hidden { (i : ℕ) → first ≤ i → i < result → number < slice_index tops.now i }
+    ensures seen { result < end → slice_index tops.now result ≤ number }
+{
+    let mut place = first;
+    while place < end && tops[place] > number {
+        place += 1;
+    }
+    place
+}
+
+// the first place from `first` to before `end` with a number above the given one; `end` where there is none
+#[inline(always)]
+fn seen_until(tops: &[usize], first: usize, end: usize, number: usize) -> usize
+    requires order { first ≤ end }
+    requires inside { end ≤ length tops.now }
+    ensures low { first ≤ result }
+    ensures high { result ≤ end }
+    ensures hidden { result < end → number < slice_index tops.now result }
+{
+    let mut place = first;
+    while place < end && tops[place] <= number {
+        place += 1;
+    }
+    place
 }

@@ -1,17 +1,18 @@
 -- Each run adds its columns.
 use Rattle.std.proofs.Common.{arith}
 use Rattle.viz_render.specs.inner.Paints.{painted}
-use Rattle.viz_render.proofs.OpenSteps.{columns_step, all_columns}
+use Rattle.viz_render.proofs.OpenSteps.{run_step, all_columns}
 use Rattle.viz_render.proofs.open.paint_columns.Goals as goal
 
 pub loop-done-preserved : goal.loop-done-preserved
 loop-done-preserved c =
-    let drawn = rw (c.columns_of-run.ensures) at c.paint_run.ensures.pixels in
+    let drawn = rw (c.columns_of-columns.ensures) at c.paint_run.ensures.pixels in
     record {
-      inside = omega (arith, c.alike_columns-columns.ensures.most);
+      inside = omega (arith, c.next_run-run.ensures.most);
       pixels =
-          columns_step c.args.width c.args.height c.args.tops.now c.args.number c.args.paint.now c.args.part c.loop-done.done c.alike_columns-columns.result
-          c.args.surface.now c.loop-done.surface c.paint_run.new.surface c.loop-done.invariant.pixels drawn;
+          run_step c.args.width c.args.height c.args.tops.now c.args.number c.args.paint.now c.args.part c.loop-done.done c.next_run-run.result.hidden
+          c.next_run-run.result.seen c.args.surface.now c.loop-done.surface c.paint_run.new.surface c.requires.one c.next_run-run.ensures.hidden
+          c.loop-done.invariant.pixels drawn;
       premultiplied = λ old. c.paint_run.ensures.premultiplied (c.loop-done.invariant.premultiplied old);
     }
 
