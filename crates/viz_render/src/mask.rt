@@ -250,11 +250,12 @@ fn open_marked(
     ensures marked { AreMarked area quads.now tops.new }
     ensures numbers { AreOpenNumbers (length quads.now) root.now last tops.new }
 {
-    hide_blocks(tops, root, last, quads.len() + 1);
+    let number = quads.len() + 1;
+    hide_blocks(tops, root, last, number);
     if deep {
         mark_deep(tops, area, quads, passes)
     } else {
-        highest_of(tops)
+        number
     }
 }
 
