@@ -1,11 +1,13 @@
 -- What quads show where none of their groups is seen.
-use Rattle.std.proofs.Common.{◌≡◌, ℕ, zero, suc, ◌+◌, ◌-◌, ◌<◌, ◌≤◌, ℤ, pos, ◌+ℤ◌, List, [], ◌∷◌, length, drop, get_or, refl, sym, ◌∙◌, ap, subst, add-one, drop-cons, arith}
+use Rattle.std.proofs.Common.{◌≡◌, ℕ, zero, suc, ◌+◌, ◌<◌, ◌≤◌, ℤ, pos, ◌+ℤ◌, List, [], ◌∷◌, length, drop, get_or, refl, sym, ◌∙◌, ap, subst, add-one, drop-cons, arith}
+use Rattle.std.specs.Prelude.{All}
 use Rattle.geom.specs.declared.Rect.{Rect}
 use Rattle.pixel.specs.Colours.{Parts}
 use Rattle.page_display_list.specs.Bitmaps.{near}
 use Rattle.viz_scene.specs.declared.Quad.{Quad}
 use Rattle.viz_scene.specs.Views.{QuadView, tiled, plain, grouped, quad_view, quads_view}
 use Rattle.viz_scene.specs.Pixels.{quad_over, quads_over}
+use Rattle.viz_render.specs.inner.Drawing.{CanBeDrawn}
 use Rattle.viz_render.specs.inner.Masks.{top, Hides, AreMarked, AreNumbers}
 use Rattle.viz_render.specs.inner.Shown.{IsGroup, HaveNoGroup, ShowsNoPass}
 
@@ -63,3 +65,13 @@ none_after [] zero le = tt
 none_after [] (suc n) le = tt
 none_after (q ∷ qs) zero le = absurd (omega arith)
 none_after (q ∷ qs) (suc n) le = none_after qs n (omega arith)
+
+-- quads that can be drawn without any passes
+pub none_drawable : (n : ℕ) (quads : List QuadView) → n ≤ 0 → All (CanBeDrawn n) quads → HaveNoGroup quads
+none_drawable n [] none drawable = tt
+none_drawable n (q ∷ qs) none drawable = (no_group n q none (drawable 0 q (omega arith)), none_drawable n qs none (λ i d lt. drawable (suc i) d (omega arith)))
+  where
+    no_group : (n : ℕ) (q : QuadView) → n ≤ 0 → CanBeDrawn n q → IsGroup q → ⊥
+    no_group n (tiled image at from) none drawable is = is
+    no_group n (plain at colour) none drawable is = is
+    no_group n (grouped pass opacity) none drawable is = absurd (omega arith)

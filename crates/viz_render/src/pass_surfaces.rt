@@ -86,7 +86,7 @@ pub(crate) fn draw_scene(scene: &Scene, area: Rect, surfaces: &mut PassSurfaces)
         return;
     };
     let quads = root.quads.as_slice();
-    let last = last_group(quads);
+    let last = last_group(quads, inner.len());
     surfaces.root_mask.mark(area, quads, &surfaces.passes);
     draw_inner(
         inner,

@@ -1,16 +1,22 @@
 //! The last group of a pass.
 
-ghost use Rattle.std.specs.Prelude.{◌≡◌, ◌≤◌, false, length, drop};
+ghost use Rattle.std.specs.Prelude.{◌≡◌, ◌≤◌, false, All, length, drop};
 ghost use Rattle.viz_scene.specs.Views.{quad_view, quads_view};
+ghost use Rattle.viz_render.specs.inner.Drawing.{CanBeDrawn};
 ghost use Rattle.viz_render.specs.inner.Shown.{IsGroup, HaveNoGroup};
 
 use viz_scene::Quad;
 
-/// The number of the last group among some quads, counted from 1; 0 where there is none.
-pub(crate) fn last_group(quads: &[Quad]) -> usize
+/// The number of the last group among some quads, counted from 1; 0 where there is none. There are surfaces for the
+/// given number of passes.
+pub(crate) fn last_group(quads: &[Quad], passes: usize) -> usize
+    requires { All (CanBeDrawn passes) (quads_view quads.now) }
     ensures few { result ≤ length quads.now }
     ensures after { HaveNoGroup (quads_view (drop result quads.now)) }
 {
+    if passes == 0 {
+        return 0;
+    }
     let mut number = quads.len();
     while number > 0 {
         if is_group(&quads[number - 1]) {

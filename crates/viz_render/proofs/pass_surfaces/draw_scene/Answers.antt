@@ -1,5 +1,5 @@
 -- The passes before the root are drawn where they are seen, and then the root over the background.
-use Rattle.std.proofs.Common.{ℕ, ◌<◌, List, pos, ◌+ℤ◌, ap, length, arith}
+use Rattle.std.proofs.Common.{ℕ, ◌<◌, List, pos, ◌+ℤ◌, ap, length, refl, arith}
 use Rattle.page_display_list.specs.Bitmaps.{near}
 use Rattle.viz_scene.specs.declared.Quad.{Quad}
 use Rattle.viz_scene.specs.Views.{quads_view}
@@ -20,6 +20,12 @@ mark-requires-clause-quads c =
     rw (c.as_slice-quads.ensures.value)
     (root_drawable c.args.scene.now c.passes.result.now c.in-Some.inner.now c.in-Some.root.now (length c.deref.result.now)
     c.passes.ensures.sound c.passes.ensures.value c.in-Some.ensures.cases.0 (omega arith))
+
+pub last_group-last-requires : goal.last_group-last-requires
+last_group-last-requires c =
+    rw (c.as_slice-quads.ensures.value)
+    (root_drawable c.args.scene.now c.passes.result.now c.in-Some.inner.now c.in-Some.root.now (length c.in-Some.inner.now)
+    c.passes.ensures.sound c.passes.ensures.value c.in-Some.ensures.cases.0 refl)
 
 pub draw_inner-requires-clause-each : goal.draw_inner-requires-clause-each
 draw_inner-requires-clause-each c =
