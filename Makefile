@@ -34,7 +34,7 @@ help:
 	@echo 'make lib       the library for C: build/libcc.a, build/libcc.so, build/cc.pc (proved first, minutes)'
 	@echo 'make embed     tries the library: its callers in C, C++, Python and Rust, sanitizers, refused memory, random pages'
 	@echo 'make bench     times step 1 on large pages'
-	@echo 'make check     the gate: all proofs, edits, tests and programs, and our own checks (50 to 58 minutes at first, then what changed)'
+	@echo 'make check     the gate: all proofs, edits, tests and programs, and our own checks (37 to 58 minutes at first, by the machine, then what changed)'
 	@echo 'make audit     tries all must-fail edits, also those that the gate leaves out (an hour or more); ONLY="geom pixel": of these crates; JOBS=4'
 	@echo 'make install   puts program, manual page and completions below DESTDIR and PREFIX (/usr/local)'
 	@echo 'make install-lib  the library for C, its header and cc.pc, in the same place'
