@@ -1,40 +1,58 @@
 -- What lists of rects cover.
-use Rattle.std.proofs.Common.{◌≡◌, ◌⊎◌, inl, inr, ℕ, suc, ◌+◌, ◌<◌, ℤ, pos, negsuc, ◌+ℤ◌, ◌≤ℤ◌, ◌<ℤ◌, int_lt, Bool, true, false, ◌||◌, List, ◌∷◌, ◌++◌, length, get_or, take, drop, refl, sym, ◌∙◌, ap, add-one, drop-cons, arith}
+use Rattle.std.proofs.Common.{◌≡◌, ◌⊎◌, inl, inr, ℕ, suc, ◌+◌, ◌<◌, ℤ, pos, negsuc, ◌+ℤ◌, ◌≤ℤ◌, ◌<ℤ◌, int_lt, Bool, true, false, ◌||◌, nat_lt, List, [], ◌∷◌, length, get_or, swap_remove, sum_by, All, IsPermutation, refl, sym, ◌∙◌, ap, subst, arith}
+use Rattle.std.specs.List.{list_any}
 use Rattle.std.specs.Int.{int_min, int_gap}
+use Rattle.std.proofs.lemmas.Bool.Decides.{nat_tests}
 use Rattle.std.proofs.lemmas.Int.{ints, clamps}
-use Rattle.std.proofs.lemmas.List.{take-append-drop}
-use Rattle.std.proofs.lemmas.List.Folds.{list_any-append}
+use Rattle.std.proofs.lemmas.List.Sums.{sum_by-cons}
+use Rattle.std.proofs.lemmas.List.Sorted.{All-permutation, sum_by-IsPermutation, IsPermutation-swap_remove}
 use Rattle.geom.specs.declared.Rect.{Rect}
 use Rattle.geom.specs.Covers.{covers}
 use Rattle.geom.proofs.Spans.{inside, is_within_of, both, both_of}
 use Rattle.region.specs.Points.{covered}
-use Rattle.region.proofs.Covering.{or-true}
-use Rattle.viz_scene.specs.Areas.{IsUnion}
+use Rattle.viz_scene.specs.Areas.{IsOnScreen, IsUnion}
 use Rattle.viz_occlusion.specs.inner.Cover.{IsBlock, IsOpen, HasGap, IsRectAt}
 
--- what one rect of a list adds to the others
-covered_out : (rs : List Rect) (i : ℕ) (s : Rect) → i < length rs → s ≡ get_or rs i s → (x y : ℤ)
-    → covered rs x y ≡ (covered (take i rs) x y || (covers s x y || covered (drop (i + 1) rs) x y))
-covered_out rs i s lt e x y =
-    ap (λ (ts : List Rect). covered ts x y) (sym (take-append-drop i rs))
-    ∙ list_any-append (λ t. covers t x y) (take i rs) (drop i rs)
-    ∙ ap (λ (ts : List Rect). covered (take i rs) x y || covered ts x y) (drop-cons rs i s lt ∙ ap (λ (t : Rect). t ∷ drop (suc i) rs) (sym e))
-    ∙ ap (λ (n : ℕ). covered (take i rs) x y || (covers s x y || covered (drop n rs) x y)) (sym (add-one i))
+-- how many rects cover a point tells whether one does
+abbrev one_if : Bool → ℕ
+one_if true = 1
+one_if false = 0
 
-shuffled : (t d s w : Bool) → ((t || d) || (s || w)) ≡ ((t || (s || d)) || w)
-shuffled true d s w = refl
-shuffled false d true w = or-true d
-shuffled false d false w = refl
+any_counted : (p : Rect → Bool) (rs : List Rect) → list_any p rs ≡ nat_lt 0 (sum_by (λ r. one_if (p r)) rs)
+any_counted p [] = refl
+any_counted p (r ∷ rs) = ap (λ (b : Bool). p r || b) (any_counted p rs) ∙ one_more (p r) (sum_by (λ r. one_if (p r)) rs) ∙ ap (nat_lt 0) (sym (sum_by-cons (λ r. one_if (p r)) r rs))
+  where
+    one_more : (b : Bool) (n : ℕ) → (b || nat_lt 0 n) ≡ nat_lt 0 (one_if b + n)
+    one_more true n = grind (arith, nat_tests)
+    one_more false n = let same : n ≡ 0 + n = omega arith in ap (nat_lt 0) same
+
+-- the order of the rects does not matter
+covered_again : (rs ss : List Rect) → IsPermutation rs ss → (x y : ℤ) → covered rs x y ≡ covered ss x y
+covered_again rs ss p x y =
+    any_counted (λ r. covers r x y) rs
+    ∙ sym (ap (nat_lt 0) (sum_by-IsPermutation (λ r. one_if (covers r x y)) rs ss p))
+    ∙ sym (any_counted (λ r. covers r x y) ss)
+
+joined : (t s w : Bool) → (t || (s || w)) ≡ ((s || t) || w)
+joined true true w = refl
+joined true false w = refl
+joined false true w = refl
+joined false false w = refl
 
 -- a rect of the list that makes one rect with another represents both
-pub joined_same : (rs rest : List Rect) (i : ℕ) (s whole union : Rect) → i < length rs → s ≡ get_or rs i s → rest ≡ take i rs ++ drop (i + 1) rs
+pub joined_same : (rs rest : List Rect) (i : ℕ) (s whole union : Rect) → i < length rs → s ≡ get_or rs i s → rest ≡ swap_remove rs i s
     → IsUnion s whole union → (x y : ℤ) → (covered rest x y || covers union x y) ≡ (covered rs x y || covers whole x y)
 joined_same rs rest i s whole union lt e f is x y =
     ap (λ (ts : List Rect). covered ts x y || covers union x y) f
-    ∙ ap (λ (b : Bool). b || covers union x y) (list_any-append (λ t. covers t x y) (take i rs) (drop (i + 1) rs))
-    ∙ ap (λ (b : Bool). (covered (take i rs) x y || covered (drop (i + 1) rs) x y) || b) (is x y)
-    ∙ shuffled (covered (take i rs) x y) (covered (drop (i + 1) rs) x y) (covers s x y) (covers whole x y)
-    ∙ ap (λ (b : Bool). b || covers whole x y) (sym (covered_out rs i s lt e x y))
+    ∙ ap (λ (b : Bool). covered (swap_remove rs i s) x y || b) (is x y)
+    ∙ joined (covered (swap_remove rs i s) x y) (covers s x y) (covers whole x y)
+    ∙ ap (λ (b : Bool). b || covers whole x y) (sym (covered_again rs (s ∷ swap_remove rs i s) (IsPermutation-swap_remove rs i s lt e) x y))
+
+-- the other rects of the list stay on the screen
+pub rest_inside : (rs rest : List Rect) (i : ℕ) (s : Rect) → i < length rs → s ≡ get_or rs i s → rest ≡ swap_remove rs i s → All IsOnScreen rs → All IsOnScreen rest
+rest_inside rs rest i s lt e f all =
+    subst (All IsOnScreen) (sym f)
+    (λ k d less. All-permutation IsOnScreen rs (s ∷ swap_remove rs i s) (IsPermutation-swap_remove rs i s lt e) all (suc k) d (omega arith))
 
 -- numbers are in order one way or the other
 before_or_not : (a b : ℤ) → (a <ℤ b) ⊎ (b ≤ℤ a)

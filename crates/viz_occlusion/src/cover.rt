@@ -19,7 +19,7 @@ pub(crate) fn add_rect(cover: &mut Vec<Rect>, rect: Rect) -> Result<(), AllocErr
 {
     let mut whole = rect;
     while let Some(joint) = joint_of(cover, whole) {
-        cover.remove(joint.place);
+        cover.swap_remove(joint.place);
         whole = joint.union;
     }
     cover.push(whole)?;
