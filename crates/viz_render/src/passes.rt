@@ -37,14 +37,15 @@ pub(crate) fn draw_passes(
     ensures pixels { ShowOpenPasses area root.now.tops last (passes_view passes.now) surfaces.new }
     ensures room { (n : ℕ) → AreRoomy n surfaces.old → AreRoomy n surfaces.new }
 {
+    let open = !passes.is_empty() && root.hides_most(area, last);
     for (i, pass) in passes.iter().enumerate() {
         let (before, rest) = surfaces.split_at_mut(i);
-        draw_inner_pass(&mut rest[0], area, &pass.quads, before, mask, root, last);
+        let surface = &mut rest[0];
+        draw_inner_pass(surface, area, &pass.quads, before, mask, root, last, open);
     }
 }
 
-// draws the pixels of an area of one pass before the root, as `draw_passes` does; where much of it is hidden, no other
-// ones
+// draws the pixels of an area of one pass before the root, as `draw_passes` does; if `open`, only those
 fn draw_inner_pass(
     surface: &mut Surface,
     area: Rect,
@@ -53,6 +54,7 @@ fn draw_inner_pass(
     mask: &mut Mask,
     root: &Mask,
     last: usize,
+    open: bool,
 )
     requires area { IsIn 2048 2048 area }
     requires low { near area.h ≤ 64 }
@@ -61,7 +63,7 @@ fn draw_inner_pass(
     ensures pixels { ShowsOpenPass area root.now.tops last passes.now (quads_view quads.now) surface.new }
     ensures size { length surface.new.bytes ≡ length surface.old.bytes }
 {
-    if root.hides_most(area, last) {
+    if open {
         draw_open_pass(surface, area, quads, passes, mask, root, last);
     } else {
         draw_whole_pass(surface, area, quads, passes, mask);
