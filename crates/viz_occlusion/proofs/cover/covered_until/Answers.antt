@@ -1,5 +1,5 @@
 -- The rect covers more columns, down to its end at least.
-use Rattle.std.proofs.Common.{◌≡◌, ◌+ℤ◌, ℤ, arith, rules, ap, ◌∙◌, FitsSigned, to_z}
+use Rattle.std.proofs.Common.{◌≡◌, ◌+ℤ◌, arith, rules, ap, ◌∙◌, FitsSigned, to_z}
 use Rattle.std.specs.Int.{int_min}
 use Rattle.std.proofs.lemmas.Int.{ints, to_z-of_z}
 use mir.Syntax.{w32}
