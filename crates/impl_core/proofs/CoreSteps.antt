@@ -1,6 +1,6 @@
 -- What a core keeps stays right with each entry.
 use Rattle.std.proofs.Common.{◌≡◌, ℕ, Bool, true, false, cond, not, filter, List, [], ◌∷◌, ◌++◌, Some, None, Result, Ok, Err, refl, sym, ◌∙◌, ap, subst}
-use Rattle.std.specs.Prelude.{IfOk, IfSome, OnOk, OnErr, ⊤}
+use Rattle.std.specs.Prelude.{IfOk, OnOk, OnErr, ⊤}
 use Rattle.std.specs.declared.alloc.AllocError.{AllocError}
 use Rattle.model_scheduler.specs.declared.kind.Kind.{Kind}
 use Rattle.geom.specs.declared.tile.TileKey.{TileKey}
@@ -13,7 +13,7 @@ use Rattle.model_history.specs.Scripts.{ScriptModel}
 use Rattle.model_history.specs.Commits.{CommitModel}
 use Rattle.model_history.specs.EventFields.{kind_of}
 use Rattle.model_history.specs.Frames.{pulls_of}
-use Rattle.model_history.specs.Tiles.{Tree, active_tree, ready, required, visible_in}
+use Rattle.model_history.specs.Tiles.{Tree, active_tree, live_keys, made_so_far, ready, required, visible_in}
 use Rattle.model_history.specs.Legal.{Legal}
 use Rattle.model_history.proofs.BoolFacts.{is_same}
 use Rattle.model_history.proofs.DueFacts.{entry, at_ready}
@@ -25,7 +25,10 @@ use Rattle.tile_manager.specs.Managers.{Managed, Manages}
 use Rattle.impl_host.specs.Hosts.{ImplHostModel, Hosts}
 use Rattle.impl_core.specs.declared.drawn.Drawn.{Drawn}
 use Rattle.impl_core.specs.declared.drawn.Drawn.TheVariants as drawn
+use Rattle.impl_core.specs.declared.needs.Needs.{Needs}
+use Rattle.impl_core.specs.inner.Needed.{KnowsNeeds, no_needs, after_evicting}
 use Rattle.impl_core.specs.inner.Cores.{Kept, IsPreparedFor, ShowsPage, IfKept, IsDrawnAt, IsCore}
+use Rattle.impl_core.proofs.NeedSteps.{forgotten, same_needs, fewer_ready, one_more_ready}
 
 -- a drawing that is kept, where the active tree and the ready keys are the same after another past
 pub same_drawn : (s : ScriptModel) (d : Drawn) (h g : List Entry) → active_tree s g ≡ active_tree s h → ready s g ≡ ready s h → IsDrawnAt s h d → IsDrawnAt s g d
@@ -34,8 +37,8 @@ same_drawn s d h g tree made shows =
     (subst (λ (ks : List TileKey). IfKept d (ShowsPage s (active_tree s h).page (active_tree s h).offset (filter (λ q. not (has_key ks q)) (visible_in (active_tree s h))))) (sym made) shows)
 
 -- at the beginning
-pub begin_core : (s : ScriptModel) (host : ImplHostModel) (m : Managed) → Hosts s [] host → Manages s [] m → IsCore s [] (record { host = host; tiles = m; told = []; prepared = None; required = None; drawn = drawn.Nothing })
-begin_core s host m hosts holds = record { host = hosts; tiles = holds; told = λ t k e. absurd cc; prepared = λ t k e. absurd cc; required = tt; drawn = tt }
+pub begin_core : (s : ScriptModel) (host : ImplHostModel) (m : Managed) → Hosts s [] host → Manages s [] m → IsCore s [] (record { host = host; tiles = m; told = []; prepared = None; required = no_needs; drawn = drawn.Nothing })
+begin_core s host m hosts holds = record { host = hosts; tiles = holds; told = λ t k e. absurd cc; prepared = λ t k e. absurd cc; required = forgotten no_needs (required s []) (ready s []) refl; drawn = tt }
 
 module _ (kept : Kept) where
   -- a core of a run
@@ -83,7 +86,7 @@ send_core s n h a k ms told kept host legal core hosts holds is = record {
   tiles = holds;
   told = λ t j e. let same : k ≡ j = cc in is ∙ sym (ap (λ b. cond b ms (pulls_of h j)) (is_same k j same));
   prepared = λ t j e. absurd cc;
-  required = subst (λ needs. IfSome kept.required (λ ks. ks ≡ needs)) (sym (ap (λ t. visible_in t) (send_pending s n h a k ms legal))) core.required;
+  required = same_needs kept.required (required s h) (required s (send a k ms ∷ h)) (ready s h) (ready s (send a k ms ∷ h)) (ap (λ t. visible_in t) (send_pending s n h a k ms legal)) (send_ready s n h a k ms legal) core.required;
   drawn = same_drawn s kept.drawn h (send a k ms ∷ h) (send_active s n h a k ms legal) (send_ready s n h a k ms legal) core.drawn;
 }
 
@@ -99,10 +102,10 @@ ready_core s n h k c kept legal core is = record {
   drawn = core.drawn;
 }
 
--- a core with the keys that are needed
-pub with_required : (s : ScriptModel) (h : List Entry) (kept : Kept) (ks : List TileKey) → IsCore s h kept → ks ≡ required s h
-    → IsCore s h (record { host = kept.host; tiles = kept.tiles; told = kept.told; prepared = kept.prepared; required = Some ks; drawn = kept.drawn })
-with_required s h kept ks core needs = record { host = core.host; tiles = core.tiles; told = core.told; prepared = core.prepared; required = needs; drawn = core.drawn }
+-- a core that knows something else of the keys that are needed
+pub with_required : (s : ScriptModel) (h : List Entry) (kept : Kept) (n : Needs) → IsCore s h kept → KnowsNeeds n (required s h) (ready s h)
+    → IsCore s h (record { host = kept.host; tiles = kept.tiles; told = kept.told; prepared = kept.prepared; required = n; drawn = kept.drawn })
+with_required s h kept n core needs = record { host = core.host; tiles = core.tiles; told = core.told; prepared = core.prepared; required = needs; drawn = core.drawn }
 
 -- a core with another drawing
 pub with_drawing : (s : ScriptModel) (h : List Entry) (kept : Kept) (d : Drawn) → IsCore s h kept → IsDrawnAt s h d
@@ -117,9 +120,23 @@ with_tiles s h kept m core holds = record { host = core.host; tiles = holds; tol
 -- a core after a start, and after its end
 
 pub start_core : (s : ScriptModel) (h : List Entry) (a w : ℕ) (q : TileKey) (ks : List TileKey) (kept : Kept) (m : Managed) → IsCore s h kept → Manages s (start a w q ks ∷ h) m
-    → IsCore s (start a w q ks ∷ h) (record { host = kept.host; tiles = m; told = kept.told; prepared = kept.prepared; required = kept.required; drawn = drawn.Nothing })
-start_core s h a w q ks kept m core holds = record { host = core.host; tiles = holds; told = core.told; prepared = core.prepared; required = core.required; drawn = tt }
+    → IsCore s (start a w q ks ∷ h) (record { host = kept.host; tiles = m; told = kept.told; prepared = kept.prepared; required = after_evicting kept.required ks; drawn = drawn.Nothing })
+start_core s h a w q ks kept m core holds = record {
+  host = core.host;
+  tiles = holds;
+  told = core.told;
+  prepared = core.prepared;
+  required = fewer_ready kept.required (required s h) (has_key (live_keys s h)) (made_so_far h) ks core.required;
+  drawn = tt;
+}
 
 pub done_core : (s : ScriptModel) (h : List Entry) (a w : ℕ) (q : TileKey) (kept : Kept) (m : Managed) → IsCore s h kept → Manages s (done a w q ∷ h) m
     → IsCore s (done a w q ∷ h) (record { host = kept.host; tiles = m; told = kept.told; prepared = kept.prepared; required = kept.required; drawn = drawn.Nothing })
-done_core s h a w q kept m core holds = record { host = core.host; tiles = holds; told = core.told; prepared = core.prepared; required = core.required; drawn = tt }
+done_core s h a w q kept m core holds = record {
+  host = core.host;
+  tiles = holds;
+  told = core.told;
+  prepared = core.prepared;
+  required = one_more_ready kept.required (required s h) (ready s h) q (has_key (live_keys s h) q) core.required;
+  drawn = tt;
+}

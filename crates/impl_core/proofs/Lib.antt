@@ -1,5 +1,6 @@
 pub mod CoreSteps
 pub mod MayCome
+pub mod NeedSteps
 pub mod Prepared
 pub mod SeenSteps
 pub mod InputEvents

@@ -1,3 +1,4 @@
 pub mod Cores
+pub mod Needed
 pub mod Outlooks
 pub mod Pushes

@@ -41,7 +41,7 @@ impl Core {
         self.log.enter(1, Event::Abort { frame })?;
         self.host.stand(standing);
         self.tiles.forget();
-        self.required = None;
+        self.required.forget();
         self.drawn = Drawn::Nothing;
         Ok(())
     }

@@ -36,8 +36,25 @@ impl Core {
     {
         let required = self.required_keys()?;
         let ready = self.tiles.are_ready(&required);
-        self.required = Some(required);
+        self.required.keys = Some(required);
+        self.required.all_ready = ready;
         Ok(ready)
+    }
+
+    // Asks the tiles whether all that the pending tree needs is ready, and keeps the answer. An error means out of
+    // memory.
+    fn ask_required(&mut self) -> Result<bool, AllocError>
+        ensures ready { IfOk result (λ ready. ready ≡ are_ready self.old.script (past self.old) (required self.old.script (past self.old))) }
+        ensures same { self.new ≡ self.old }
+    {
+        match &self.required.keys {
+            Some(required) => {
+                let ready = self.tiles.are_ready(required);
+                self.required.all_ready = ready;
+                Ok(ready)
+            }
+            None => self.find_required(),
+        }
     }
 
     // Whether all that the pending tree needs is ready. An error means out of memory.
@@ -45,9 +62,10 @@ impl Core {
         ensures ready { IfOk result (λ ready. ready ≡ are_ready self.old.script (past self.old) (required self.old.script (past self.old))) }
         ensures same { self.new ≡ self.old }
     {
-        match &self.required {
-            Some(required) => Ok(self.tiles.are_ready(required)),
-            None => self.find_required(),
+        if self.required.all_ready {
+            Ok(true)
+        } else {
+            self.ask_required()
         }
     }
 
@@ -96,7 +114,7 @@ impl Core {
         requires { pending (past self.now) ≡ Some frame }
         ensures { IfOk result (λ next. AreForActivation self.now.script (past self.now) next.pins next.dead) }
     {
-        match &self.required {
+        match &self.required.keys {
             Some(needs) => self.tiles_with(frame, needs),
             None => {
                 let needs = self.required_keys()?;
@@ -145,7 +163,7 @@ impl Core {
         let Activation { pins, dead } = next;
         self.host.activate(standing);
         self.tiles.activate(pins, &dead);
-        self.required = None;
+        self.required.forget();
         self.drawn = Drawn::Nothing;
         Ok(())
     }

@@ -74,7 +74,7 @@ impl Core {
         match self.log.enter(0, Event::Commit { frame }) {
             Ok(()) => {
                 self.tiles.forget();
-                self.required = None;
+                self.required.forget();
                 self.drawn = Drawn::Nothing;
                 Ok(())
             }

@@ -18,8 +18,9 @@ ghost use Rattle.impl_core.specs.Replies as replies;
 ghost use Rattle.impl_core.specs.Replies.{next_key, told_frame, is_played};
 
 use crate::drawn::Drawn;
+use crate::needs::Needs;
 use crate::outlooks::{look, look_for_next};
-use geom::{Keys, TileKey};
+use geom::TileKey;
 use impl_host::ImplHost;
 use impl_log::{KeptHistory, Log, Progress};
 use model_history::{Commit, Event, Moves, Script};
@@ -41,8 +42,8 @@ pub struct Core {
     pub(crate) told: Moves,
     // the commit of the frame in flight, once it is ready
     pub(crate) prepared: Option<Commit>,
-    // the visible keys of the pending tree, which an activation needs, once they were asked for
-    pub(crate) required: Option<Keys>,
+    // the visible keys of the pending tree, which an activation needs
+    pub(crate) required: Needs,
     // what was drawn since the picture may have changed
     pub(crate) drawn: Drawn,
     pub(crate) alloc: Global,
@@ -101,7 +102,7 @@ impl Core {
             tiles,
             told: Moves::new(alloc),
             prepared: None,
-            required: None,
+            required: Needs::new(),
             drawn: Drawn::Nothing,
             alloc,
         })

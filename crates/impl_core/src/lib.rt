@@ -17,6 +17,7 @@ mod core_state;
 mod dones;
 mod drawn;
 mod draws;
+mod needs;
 mod outlooks;
 mod plain;
 mod play;

@@ -35,6 +35,7 @@ impl Core {
         };
         self.log.enter(actor, event)?;
         self.tiles.start(key, &evicted);
+        self.required.evict(&evicted);
         self.drawn = Drawn::Nothing;
         Ok(())
     }

@@ -64,7 +64,7 @@ impl Core {
         self.log.enter(0, event)?;
         self.host.stand(standing);
         self.tiles.forget();
-        self.required = None;
+        self.required.forget();
         self.drawn = Drawn::Nothing;
         Ok(())
     }

@@ -1,5 +1,5 @@
 -- What a core keeps of its history. The record speaks of the values that the model tells of a past, not of the past, so that an event which changes none of them keeps it.
-use Rattle.std.specs.Prelude.{◌≡◌, ⊤, ℕ, suc, ℤ, true, Option, Some, None, IfSome, List}
+use Rattle.std.specs.Prelude.{◌≡◌, ⊤, ℕ, suc, ℤ, true, Option, Some, None, List}
 use Rattle.geom.specs.Covers.{covers}
 use Rattle.geom.specs.declared.rect.Point.{Point}
 use Rattle.geom.specs.declared.tile.TileKey.{TileKey}
@@ -31,6 +31,8 @@ use Rattle.tile_manager.specs.Managers.{Managed, HoldsTiles, live_ranks}
 use Rattle.impl_drawing.specs.declared.drawing.Drawing.{Drawing}
 use Rattle.impl_host.specs.Hosts.{ImplHostModel, HostsAt}
 use Rattle.impl_core.specs.declared.drawn.Drawn.{Drawn}
+use Rattle.impl_core.specs.declared.needs.Needs.{Needs}
+use Rattle.impl_core.specs.inner.Needed.{KnowsNeeds}
 use Rattle.impl_core.specs.declared.drawn.Drawn.TheVariants as drawn
 
 -- what a core keeps beside its log
@@ -39,7 +41,7 @@ pub record Kept : Type 0 where
   pub tiles : Managed
   pub told : List Move
   pub prepared : Option CommitModel
-  pub required : Option (List TileKey)
+  pub required : Needs
   pub drawn : Drawn
 
 -- the page after a frame with these pulls, and what the frame changed
@@ -68,13 +70,13 @@ IfKept _ P = ⊤
 abbrev pub IsDrawnAt : ScriptModel → List Entry → Drawn → Type 0
 IsDrawnAt s h d = IfKept d (ShowsPage s (active_page s h) (active_offsets s h) (missing_visible s h))
 
--- the trees stand, the tiles are there, the main side was told this, these are the keys that the pending tree needs, where they were asked for, and a drawing that is kept shows the active page
+-- the trees stand, the tiles are there, the main side was told this, what is known of the keys that the pending tree needs is so, and a drawing that is kept shows the active page
 pub record CoreOf (s : ScriptModel) (kept : Kept) (ps : ℕ → List Move) (on wait : Option ℕ) (value : ℕ → Axis → Synced) (at then : ℕ → Point) (made flying pins : List TileKey) (c : Choice) (live : List Rank) (main : MainState) (last : Option ℕ) (needs : List TileKey) (shown : Page) (missing : List TileKey) : Type 0 where
   pub host : HostsAt s kept.host ps on wait value at then
   pub tiles : HoldsTiles s kept.tiles made flying pins c live
   pub told : is_sent main ≡ true → (k : ℕ) → last ≡ Some k → kept.told ≡ ps k
   pub prepared : is_ready_to_commit main ≡ true → (k : ℕ) → last ≡ Some k → IsPrepared s ps k kept.prepared
-  pub required : IfSome kept.required (λ ks. ks ≡ needs)
+  pub required : KnowsNeeds kept.required needs made
   pub drawn : IfKept kept.drawn (ShowsPage s shown at missing)
 
 abbrev pub IsCore : ScriptModel → List Entry → Kept → Type 0

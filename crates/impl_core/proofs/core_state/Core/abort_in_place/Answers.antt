@@ -1,6 +1,5 @@
 -- Nothing but what stands has changed.
 use Rattle.std.proofs.Common.{◌≡◌, ℕ, false, List, ◌∷◌, Some, refl, sym, subst, arith}
-use Rattle.std.specs.Prelude.{IfSome}
 use Rattle.model_scheduler.specs.declared.kind.Kind.TheVariants as kind
 use Rattle.model_history.specs.declared.event.Event.TheVariants as event
 use Rattle.model_history.specs.declared.history.Entry.{Entry}
@@ -35,5 +34,5 @@ invariant_of-self-2 c =
     let hosts : Hosts r.script (abort 1 k ∷ h) c.stand.new.self = c.stand.ensures.keeps r.script h (abort 1 k) refl refl refl c.self.invariant.host stood in
     one_more (record { host = c.stand.new.self; tiles = c.self.inside.tiles; told = c.self.inside.told; prepared = c.self.inside.prepared; required = c.self.inside.required; drawn = c.self.inside.drawn }) r c.enter.new.self 1 (event.Abort k) c.in_ok-enter.ensures.ok
     (abort_core r.script h (record { host = c.self.inside.host; tiles = c.self.inside.tiles; told = c.self.inside.told; prepared = c.self.inside.prepared; required = c.self.inside.required; drawn = c.self.inside.drawn }) c.self.invariant c.stand.new.self c.self.inside.tiles c.self.inside.required c.self.inside.drawn k hosts
-    (tiles_stay r.script r.workers h 1 k next none c.self.inside.tiles c.self.invariant.tiles) (subst (λ needs. IfSome c.self.inside.required (λ ks. ks ≡ needs)) (sym (needs_stay r.script r.workers h 1 k next none)) c.self.invariant.required)
+    (tiles_stay r.script r.workers h 1 k next none c.self.inside.tiles c.self.invariant.tiles) (needs_stay r.script r.workers h 1 k next none c.self.inside.required c.self.invariant.required)
     (drawing_stays r.script r.workers h 1 k next none c.self.inside.drawn c.self.invariant.drawn))

@@ -1,11 +1,13 @@
 -- The pending tree becomes the active one, and nothing is pending then.
-use Rattle.std.proofs.Common.{◌≡◌, ℕ, true, List, ◌∷◌, Some, None, is_some, refl, sym, subst}
+use Rattle.std.proofs.Common.{◌≡◌, ℕ, true, List, ◌∷◌, Some, is_some, refl, sym, subst}
 use Rattle.model_scheduler.specs.declared.kind.Kind.TheVariants as kind
 use Rattle.page_layers.specs.declared.moves.Move.{Move}
 use Rattle.model_history.specs.declared.event.Event.TheVariants as event
 use Rattle.model_history.specs.declared.history.Entry.{Entry}
 use Rattle.model_history.specs.Frames.{pending}
 use Rattle.model_history.specs.Scrolls.{next_clamps}
+use Rattle.model_history.specs.Tiles.{ready, required}
+use Rattle.model_history.proofs.DueFacts.{entry}
 use Rattle.model_steps.specs.Events.{activate}
 use Rattle.impl_scroll.specs.Standings.{StandsForPast}
 use Rattle.tile_prepare.specs.Rebuilds.{AreForActivation}
@@ -17,6 +19,7 @@ use Rattle.impl_core.specs.declared.drawn.Drawn.TheVariants as drawn
 use Rattle.impl_core.proofs.CoreSteps.{one_more}
 use Rattle.impl_core.proofs.SeenSteps.{activate_core}
 use Rattle.impl_core.proofs.ActivationSteps.{OfActivation, of_activation}
+use Rattle.impl_core.proofs.NeedSteps.{forgotten}
 use Rattle.impl_core.proofs.core_state.Core.enter_activation.Goals as goal
 
 pub activate-requires : goal.activate-requires
@@ -56,9 +59,9 @@ invariant_of-self-2 c =
     let hosts : Hosts r.script (activate 0 k ms ∷ h) c.activate.new.self = c.activate.ensures r.script r.workers h 0 k ms activation.legal c.self.invariant.host stands in
     let holds : Manages r.script (activate 0 k ms ∷ h) c.activate-2.new.self =
     c.activate-2.ensures r.script r.workers h 0 k ms c.is_legal.ensures.accepted activation.legal c.self.invariant.tiles brings.pins (ready_dead r.script h c.in_ok-next.next.pins c.in_ok-next.next.dead brings) in
-    one_more (record { host = c.activate.new.self; tiles = c.activate-2.new.self; told = c.self.inside.told; prepared = c.self.inside.prepared; required = None; drawn = drawn.Nothing }) r c.enter.new.self 0 (event.Activate k ms) c.in_ok-enter.ensures.ok
+    one_more (record { host = c.activate.new.self; tiles = c.activate-2.new.self; told = c.self.inside.told; prepared = c.self.inside.prepared; required = c.forget.new.self; drawn = drawn.Nothing }) r c.enter.new.self 0 (event.Activate k ms) c.in_ok-enter.ensures.ok
     (activate_core r.script h (record { host = c.self.inside.host; tiles = c.self.inside.tiles; told = c.self.inside.told; prepared = c.self.inside.prepared; required = c.self.inside.required; drawn = c.self.inside.drawn }) c.self.invariant
-    c.activate.new.self c.activate-2.new.self None drawn.Nothing k ms hosts holds tt tt)
+    c.activate.new.self c.activate-2.new.self c.forget.new.self drawn.Nothing k ms hosts holds (forgotten c.forget.new.self (required r.script (entry 0 (event.Activate k ms) ∷ h)) (ready r.script (entry 0 (event.Activate k ms) ∷ h)) c.forget.ensures) tt)
 
 pub returns-clause-ok : goal.returns-clause-ok
 returns-clause-ok c =

@@ -1,5 +1,5 @@
 -- The commit becomes the pending tree, and is taken back where it is not entered.
-use Rattle.std.proofs.Common.{◌≡◌, ℕ, List, ◌∷◌, Some, None, sym, ◌∙◌, subst}
+use Rattle.std.proofs.Common.{◌≡◌, ℕ, List, ◌∷◌, Some, sym, ◌∙◌, subst}
 use Rattle.model_scheduler.specs.declared.kind.Kind.TheVariants as kind
 use Rattle.model_history.specs.declared.event.Event.TheVariants as event
 use Rattle.model_history.specs.declared.history.Entry.{Entry}
@@ -7,6 +7,8 @@ use Rattle.model_history.specs.Scripts.{ScriptModel}
 use Rattle.model_history.specs.Accepted.{IsAccepted}
 use Rattle.model_history.specs.Frames.{pulls_of}
 use Rattle.model_history.specs.Legal.{Legal}
+use Rattle.model_history.specs.Tiles.{ready, required}
+use Rattle.model_history.proofs.DueFacts.{entry}
 use Rattle.model_steps.specs.Events.{commit}
 use Rattle.tile_manager.specs.Managers.{Manages}
 use Rattle.impl_host.specs.Hosts.{Hosts}
@@ -17,6 +19,7 @@ use Rattle.impl_core.specs.declared.drawn.Drawn.TheVariants as drawn
 use Rattle.impl_core.proofs.CoreSteps.{one_more, refused}
 use Rattle.impl_core.proofs.SeenSteps.{commit_core}
 use Rattle.impl_core.proofs.CommitSteps.{OfCommit, of_commit}
+use Rattle.impl_core.proofs.NeedSteps.{forgotten}
 use Rattle.impl_core.proofs.core_state.Core.enter_commit.Goals as goal
 
 pub push_prepared-requires : goal.push_prepared-requires
@@ -47,8 +50,8 @@ invariant_of-self-in-Ok-1 c =
     subst (λ (z : ScriptModel). (workers : ℕ) (past : List Entry) (actor : ℕ) → IsAccepted z → Legal z workers (commit actor k ∷ past) → Hosts z past kept.host → IsPrepared z (pulls_of past) k kept.prepared → Hosts z (commit actor k ∷ past) c.push_prepared.new.host)
     same c.in_ok-before.ensures.hosts r.workers h 0 c.is_legal.ensures.accepted is.legal c.self.invariant.host is.is_prepared in
     let holds : Manages r.script (commit 0 k ∷ h) c.forget.new.self = c.forget.ensures r.script h (commit 0 k ∷ h) c.self.invariant.tiles is.same in
-    one_more (record { host = c.push_prepared.new.host; tiles = c.forget.new.self; told = kept.told; prepared = kept.prepared; required = None; drawn = drawn.Nothing }) r c.enter.new.self 0 (event.Commit k) c.in-Ok.ensures.ok
-    (commit_core r.script h kept c.self.invariant c.push_prepared.new.host c.forget.new.self None drawn.Nothing k pushed holds tt tt)
+    one_more (record { host = c.push_prepared.new.host; tiles = c.forget.new.self; told = kept.told; prepared = kept.prepared; required = c.forget-in-Ok.new.self; drawn = drawn.Nothing }) r c.enter.new.self 0 (event.Commit k) c.in-Ok.ensures.ok
+    (commit_core r.script h kept c.self.invariant c.push_prepared.new.host c.forget.new.self c.forget-in-Ok.new.self drawn.Nothing k pushed holds (forgotten c.forget-in-Ok.new.self (required r.script (entry 0 (event.Commit k) ∷ h)) (ready r.script (entry 0 (event.Commit k) ∷ h)) c.forget-in-Ok.ensures) tt)
 
 pub invariant_of-self-in-Err : goal.invariant_of-self-in-Err
 invariant_of-self-in-Err c =

@@ -1,5 +1,5 @@
 -- A wheel moves what stands, and it is to be looked anew.
-use Rattle.std.proofs.Common.{◌≡◌, ℕ, ℤ, true, List, ◌∷◌, Some, None, refl, sym, ◌∙◌, subst}
+use Rattle.std.proofs.Common.{◌≡◌, ℕ, ℤ, true, List, ◌∷◌, Some, refl, sym, ◌∙◌, subst}
 use Rattle.std.proofs.lemmas.Int.{to_z-of_z}
 use Rattle.model_scheduler.specs.declared.kind.Kind.TheVariants as kind
 use Rattle.page_layers.specs.declared.moves.Move.{Move}
@@ -10,6 +10,7 @@ use Rattle.model_history.specs.declared.history.Entry.{Entry}
 use Rattle.model_history.specs.EventFields.{kind_of}
 use Rattle.model_history.specs.Due.{next_input, input_now}
 use Rattle.model_history.specs.Legal.{is_open}
+use Rattle.model_history.specs.Tiles.{ready, required}
 use Rattle.model_history.proofs.DueFacts.{entry}
 use Rattle.impl_scroll.specs.Standings.{StandingModel, StandsForPast}
 use Rattle.tile_prepare.proofs.SameTiles.{same_tiles}
@@ -20,6 +21,7 @@ use Rattle.impl_core.specs.declared.drawn.Drawn.TheVariants as drawn
 use Rattle.impl_core.proofs.CoreSteps.{one_more, refused}
 use Rattle.impl_core.proofs.SeenSteps.{wheel_core}
 use Rattle.impl_core.proofs.InputEvents.{OfWheel, of_wheel}
+use Rattle.impl_core.proofs.NeedSteps.{forgotten}
 use Rattle.impl_core.proofs.core_state.Core.enter_wheel.Goals as goal
 
 pub wheel-requires : goal.wheel-requires
@@ -109,8 +111,8 @@ invariant_of-self-2 c =
     let entered : c.enter.new.self ≡ with_entry r 0 e = subst (λ (z : Event). c.enter.new.self ≡ with_entry r 0 z) is_event c.in_ok-enter.ensures.ok in
     let hosts : Hosts r.script (entry 0 e ∷ h) c.stand.new.self = c.stand.ensures.keeps r.script h (entry 0 e) refl refl refl c.self.invariant.host moved in
     let holds : Manages r.script (entry 0 e ∷ h) c.forget.new.self = c.forget.ensures r.script h (entry 0 e ∷ h) c.self.invariant.tiles (same_tiles r.script h (entry 0 e) refl) in
-    one_more (record { host = c.stand.new.self; tiles = c.forget.new.self; told = c.self.inside.told; prepared = c.self.inside.prepared; required = None; drawn = drawn.Nothing }) r c.enter.new.self 0 e entered
-    (wheel_core r.script h (record { host = c.self.inside.host; tiles = c.self.inside.tiles; told = c.self.inside.told; prepared = c.self.inside.prepared; required = c.self.inside.required; drawn = c.self.inside.drawn }) c.self.invariant c.stand.new.self c.forget.new.self None drawn.Nothing i layer rest_x rest_y ms hosts holds tt tt)
+    one_more (record { host = c.stand.new.self; tiles = c.forget.new.self; told = c.self.inside.told; prepared = c.self.inside.prepared; required = c.forget-2.new.self; drawn = drawn.Nothing }) r c.enter.new.self 0 e entered
+    (wheel_core r.script h (record { host = c.self.inside.host; tiles = c.self.inside.tiles; told = c.self.inside.told; prepared = c.self.inside.prepared; required = c.self.inside.required; drawn = c.self.inside.drawn }) c.self.invariant c.stand.new.self c.forget.new.self c.forget-2.new.self drawn.Nothing i layer rest_x rest_y ms hosts holds (forgotten c.forget-2.new.self (required r.script (entry 0 e ∷ h)) (ready r.script (entry 0 e ∷ h)) c.forget-2.ensures) tt)
 
 pub returns-clause-ok : goal.returns-clause-ok
 returns-clause-ok c =

@@ -5,6 +5,8 @@ use Rattle.model_history.specs.Scripts.{ScriptModel}
 use Rattle.impl_log.specs.Runs.{Run, past}
 use Rattle.impl_core.specs.inner.Cores.{IsCore}
 use Rattle.impl_core.specs.declared.drawn.Drawn.TheVariants as drawn
+use Rattle.impl_core.specs.declared.needs.Needs.{Needs}
+use Rattle.impl_core.specs.inner.Needed.{no_needs}
 use Rattle.impl_core.proofs.CoreSteps.{begin_core}
 use Rattle.impl_core.proofs.core_state.Core.new.Goals as goal
 
@@ -13,7 +15,8 @@ invariant_of-result c =
     let s = c.args.script.value in
     let m = c.in_ok-tiles.tiles in
     let host = c.new-3.result in
-    let first : IsCore s [] (record { host = host; tiles = m; told = []; prepared = None; required = None; drawn = drawn.Nothing }) =
+    let first : IsCore s [] (record { host = host; tiles = m; told = []; prepared = None; required = no_needs; drawn = drawn.Nothing }) =
     begin_core s host m (c.new-3.ensures s) (c.in_ok-tiles.ensures.tiles s (sym (c.budget-budget.ensures ∙ ap (λ (z : ScriptModel). z.budget) c.deref.ensures))) in
-    subst (λ (r : Run). IsCore r.script (past r) (record { host = host; tiles = m; told = c.new-4.result; prepared = None; required = None; drawn = drawn.Nothing })) (sym c.in_ok-log.ensures)
-    (subst (λ (ms : List Move). IsCore s [] (record { host = host; tiles = m; told = ms; prepared = None; required = None; drawn = drawn.Nothing })) (sym c.new-4.ensures) first)
+    subst (λ (r : Run). IsCore r.script (past r) (record { host = host; tiles = m; told = c.new-4.result; prepared = None; required = c.new-5.result; drawn = drawn.Nothing })) (sym c.in_ok-log.ensures)
+    (subst (λ (n : Needs). IsCore s [] (record { host = host; tiles = m; told = c.new-4.result; prepared = None; required = n; drawn = drawn.Nothing })) (sym c.new-5.ensures)
+    (subst (λ (ms : List Move). IsCore s [] (record { host = host; tiles = m; told = ms; prepared = None; required = no_needs; drawn = drawn.Nothing })) (sym c.new-4.ensures) first))

@@ -12,6 +12,8 @@ use Rattle.impl_log.specs.Runs.{Run, past, now, with_entry}
 use Rattle.impl_core.specs.Replies.{next_key, StartsKey}
 use Rattle.impl_core.specs.inner.Outlooks.{LooksNow}
 use Rattle.impl_core.specs.declared.drawn.Drawn.TheVariants as drawn
+use Rattle.impl_core.specs.declared.needs.Needs.{Needs}
+use Rattle.impl_core.specs.inner.Cores.{IsCore}
 use Rattle.impl_core.proofs.CoreSteps.{with_tiles, start_core, one_more, refused}
 use Rattle.impl_core.proofs.MayCome.{IsFirst, next_first, start_now, comes_next}
 use Rattle.impl_core.proofs.core_state.Core.start_key.Goals as goal
@@ -103,8 +105,9 @@ invariant_of-self-2 c =
     c.start.ensures.tiles r.script r.workers (past r) (2 + w) w (c.reserve.ensures.same r.script (past r) (c.look_for_next.ensures.same r.script r.workers (past r) (c.deref.ensures ∙ c.script.ensures) c.is_legal.ensures.legal c.self.invariant.host c.self.invariant.tiles)) legal in
     let entered : c.enter.new.self ≡ with_entry r (2 + w) (event.Start w q ks) =
     subst (λ (z : List TileKey). c.enter.new.self ≡ with_entry r (2 + w) (event.Start w q z)) c.in_ok-evicted_keys.ensures c.in_ok-enter.ensures.ok in
-    one_more (record { host = c.self.inside.host; tiles = c.start.new.self; told = c.self.inside.told; prepared = c.self.inside.prepared; required = c.self.inside.required; drawn = drawn.Nothing }) r c.enter.new.self (2 + w) (event.Start w q ks) entered
-    (start_core r.script (past r) (2 + w) w q ks (record { host = c.self.inside.host; tiles = c.self.inside.tiles; told = c.self.inside.told; prepared = c.self.inside.prepared; required = c.self.inside.required; drawn = c.self.inside.drawn }) c.start.new.self c.self.invariant started)
+    one_more (record { host = c.self.inside.host; tiles = c.start.new.self; told = c.self.inside.told; prepared = c.self.inside.prepared; required = c.evict.new.self; drawn = drawn.Nothing }) r c.enter.new.self (2 + w) (event.Start w q ks) entered
+    (subst (λ (n : Needs). IsCore r.script (start (2 + w) w q ks ∷ past r) (record { host = c.self.inside.host; tiles = c.start.new.self; told = c.self.inside.told; prepared = c.self.inside.prepared; required = n; drawn = drawn.Nothing })) (sym c.evict.ensures)
+    (start_core r.script (past r) (2 + w) w q ks (record { host = c.self.inside.host; tiles = c.self.inside.tiles; told = c.self.inside.told; prepared = c.self.inside.prepared; required = c.self.inside.required; drawn = c.self.inside.drawn }) c.start.new.self c.self.invariant started))
 
 pub returns-clause-ok : goal.returns-clause-ok
 returns-clause-ok c =
