@@ -1,7 +1,7 @@
 //! Whether a quad is opaque.
 
 ghost use Rattle.std.specs.Prelude.{◌≡◌, ◌≢◌, ◌↔◌, ◌+◌, ◌*◌, ◌<◌, ◌≤◌, ◌^◌, ℕ, pos, ◌≤ℤ◌, false, length, IsTrue, MatchOption};
-ghost use Rattle.pixel.specs.Rows.{pixel, ArePremultiplied};
+ghost use Rattle.pixel.specs.Rows.{pixel};
 ghost use Rattle.page_display_list.specs.Bitmaps.{near};
 ghost use Rattle.viz_scene.specs.Views.{quad_view, tiled};
 ghost use Rattle.viz_scene.specs.Opaque.{IsOpaque};
@@ -10,9 +10,7 @@ ghost use Rattle.viz_scene.specs.Areas.{IsOnScreen};
 ghost use Rattle.viz_occlusion.specs.inner.Cover.{HidesNothing, IsFit, IsOpaquePart, HasOtherAlpha};
 
 use geom::{Point, Rect};
-use pixel::Colour;
-use pixel::four::four_at;
-use pixel::lanes::are_opaque;
+use pixel::{Colour, blocks};
 use tile_raster::TileImage;
 use viz_scene::Quad;
 
@@ -111,7 +109,6 @@ fn is_opaque_part(image: &TileImage, part: ImagePart) -> bool
 fn first_other(row: &[u8], left: usize, right: usize) -> Option<usize>
     requires order { left ≤ right }
     requires inside { 4 * right ≤ length row.now }
-    requires premultiplied { ArePremultiplied row.now }
     ensures { MatchOption result
         ((k : ℕ) → left ≤ k → k < right → (pixel row.now k).a ≡ 255)
         (λ k. (left ≤ k) × (k < right) × ((pixel row.now k).a ≢ 255)) }
@@ -124,29 +121,18 @@ fn first_other(row: &[u8], left: usize, right: usize) -> Option<usize>
     None
 }
 
-// a column from `left` on before which the pixels of a row are opaque, found by fours
+// a column from `left` on before which the pixels of a row are opaque, found by sixteens
 #[inline(always)]
 fn opaque_until(row: &[u8], left: usize, right: usize) -> usize
     requires order { left ≤ right }
     requires inside { 4 * right ≤ length row.now }
-    requires premultiplied { ArePremultiplied row.now }
     ensures low { left ≤ result }
     ensures high { result ≤ right }
     ensures opaque { (k : ℕ) → left ≤ k → k < result → (pixel row.now k).a ≡ 255 }
 {
     let mut k = left;
-    while k + 4 <= right && are_four_opaque(row, k) {
-        k += 4;
+    while k + 16 <= right && blocks::is_opaque(row, 4 * k) {
+        k += 16;
     }
     k
-}
-
-// whether four pixels of a row, from pixel `k` on, have alpha 255
-#[inline(always)]
-fn are_four_opaque(row: &[u8], k: usize) -> bool
-    requires inside { 4 * (k + 4) ≤ length row.now }
-    requires premultiplied { ArePremultiplied row.now }
-    ensures { IsTrue result → (j : ℕ) → j < 4 → (pixel row.now (k + j)).a ≡ 255 }
-{
-    are_opaque(four_at(row, k))
 }
