@@ -8,7 +8,7 @@ the gate built). Where the image of a draw differs, the first pixel is told with
 come, the rule that it breaks is told as far as the recording itself shows it, and what comes there in lockstep, where
 the events before are those of lockstep. The status is 0 where the recording is legal, else 1.
 
-The rules are those of crates/model_scheduler/specs (`Kinds`: in which state an event may come) and of
+The rules are those of crates/model_states/specs (`Kinds`: in which state an event may come) and of
 crates/model_history/specs (`Due`: what its line says); docs/DEFINITIONS.md has them in words. Pictures are painted
 from the definition (painting.py). It needs Python alone.
 """

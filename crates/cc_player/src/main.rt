@@ -2,7 +2,7 @@
 //! pictures; or a script that is made of a number.
 #![tactic(auto)]
 
-use player_io::{OpenGate, Sink, StdSink, StdSource};
+use byte_io::{OpenGate, Sink, StdSink, StdSource};
 use player_lines::{Ends, Session};
 use player_run::run;
 use std::alloc::{AllocError, Global};

@@ -1,6 +1,6 @@
 -- The commit of the frame that was sent last.
 use Rattle.std.proofs.Common.{◌≡◌, ℕ, List, ◌∷◌, Some, None, refl, arith}
-use Rattle.model_scheduler.specs.declared.kind.Kind.TheVariants as kind
+use Rattle.model_states.specs.declared.kind.Kind.TheVariants as kind
 use Rattle.model_history.specs.declared.event.Event.TheVariants as event
 use Rattle.model_history.specs.declared.history.Entry.{Entry}
 use Rattle.model_history.specs.Scripts.{ScriptModel}
@@ -9,8 +9,8 @@ use Rattle.model_history.specs.Frames.{pulls_of, pending}
 use Rattle.model_history.specs.Legal.{Legal, can}
 use Rattle.model_history.proofs.DueFacts.{AtCommit, at_commit}
 use Rattle.model_steps.specs.Events.{commit}
-use Rattle.tile_prepare.proofs.SameTiles.{same_after_commit}
-use Rattle.tile_manager.specs.Managers.{HaveSameTiles}
+use Rattle.impl_choice.proofs.SameTiles.{same_after_commit}
+use Rattle.impl_tiles.specs.Managers.{HaveSameTiles}
 use Rattle.impl_host.proofs.Commits.{none_before}
 use Rattle.impl_core.specs.inner.Cores.{Kept, IsCore, IsPrepared}
 use Rattle.impl_core.proofs.MayCome.{comes_next}

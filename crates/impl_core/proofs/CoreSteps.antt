@@ -2,7 +2,7 @@
 use Rattle.std.proofs.Common.{◌≡◌, ℕ, Bool, true, false, cond, not, filter, List, [], ◌∷◌, ◌++◌, Some, None, Result, Ok, Err, refl, sym, ◌∙◌, ap, subst}
 use Rattle.std.specs.Prelude.{IfOk, OnOk, OnErr, ⊤}
 use Rattle.std.specs.declared.alloc.AllocError.{AllocError}
-use Rattle.model_scheduler.specs.declared.kind.Kind.{Kind}
+use Rattle.model_states.specs.declared.kind.Kind.{Kind}
 use Rattle.geom.specs.declared.tile.TileKey.{TileKey}
 use Rattle.geom.specs.KeyLists.{has_key}
 use Rattle.page_layers.specs.declared.moves.Move.{Move}
@@ -21,7 +21,7 @@ use Rattle.model_steps.specs.Events.{send, start, done}
 use Rattle.model_steps.proofs.TreesAfter.{send_active, send_pending, send_ready}
 use Rattle.impl_log.specs.Runs.{Run, past, with_entry, is_plain_kind, Plays}
 use Rattle.impl_log.proofs.LogSteps.{past_more, plain_row}
-use Rattle.tile_manager.specs.Managers.{Managed, Manages}
+use Rattle.impl_tiles.specs.Managers.{Managed, Manages}
 use Rattle.impl_host.specs.Hosts.{ImplHostModel, Hosts}
 use Rattle.impl_core.specs.declared.drawn.Drawn.{Drawn}
 use Rattle.impl_core.specs.declared.drawn.Drawn.TheVariants as drawn

@@ -1,6 +1,6 @@
 -- The scroll or the wheel that is the next input, as an event.
 use Rattle.std.proofs.Common.{◌≡◌, ℕ, ℤ, pos, true, List, [], ◌∷◌, Some, refl, ◌∙◌, ap, arith}
-use Rattle.model_scheduler.specs.declared.kind.Kind.TheVariants as kind
+use Rattle.model_states.specs.declared.kind.Kind.TheVariants as kind
 use Rattle.page_layers.specs.declared.moves.Move.{Move}
 use Rattle.page_layers.specs.Axes.{across, down}
 use Rattle.page_layers.specs.Hits.{target}

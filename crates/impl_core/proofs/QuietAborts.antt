@@ -10,9 +10,9 @@ use Rattle.model_history.proofs.BoolFacts.{same_number}
 use Rattle.model_steps.specs.Events.{abort}
 use Rattle.model_steps.proofs.TreesAfter.{same_ready, abort_active, abort_pending, abort_choice}
 use Rattle.impl_scroll.specs.Rows.{has_number}
-use Rattle.tile_prepare.proofs.SameTiles.{same_tiles}
-use Rattle.tile_manager.specs.Managers.{Managed, Manages}
-use Rattle.tile_manager.proofs.OtherTiles.{reseen, stays_foreseen}
+use Rattle.impl_choice.proofs.SameTiles.{same_tiles}
+use Rattle.impl_tiles.specs.Managers.{Managed, Manages}
+use Rattle.impl_tiles.proofs.OtherTiles.{reseen, stays_foreseen}
 use Rattle.impl_core.specs.declared.drawn.Drawn.{Drawn}
 use Rattle.impl_core.specs.declared.needs.Needs.{Needs}
 use Rattle.impl_core.specs.inner.Needed.{KnowsNeeds}

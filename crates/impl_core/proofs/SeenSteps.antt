@@ -7,7 +7,7 @@ use Rattle.model_history.specs.Scripts.{ScriptModel}
 use Rattle.model_history.specs.Tiles.{ready, required}
 use Rattle.model_history.proofs.DueFacts.{entry}
 use Rattle.model_steps.specs.Events.{abort}
-use Rattle.tile_manager.specs.Managers.{Managed, Manages}
+use Rattle.impl_tiles.specs.Managers.{Managed, Manages}
 use Rattle.impl_host.specs.Hosts.{ImplHostModel, Hosts}
 use Rattle.impl_core.specs.declared.drawn.Drawn.{Drawn}
 use Rattle.impl_core.specs.declared.needs.Needs.{Needs}

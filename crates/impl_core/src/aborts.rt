@@ -1,7 +1,7 @@
 //! A main frame ends with no commit.
 
 ghost use Rattle.std.specs.Prelude.{◌≡◌, ℕ, false, ◌∷◌, Some, OnOk, OnErr};
-ghost use Rattle.model_scheduler.specs.declared.kind.Kind.TheVariants as kind;
+ghost use Rattle.model_states.specs.declared.kind.Kind.TheVariants as kind;
 ghost use Rattle.model_history.specs.declared.event.Event.TheVariants as event;
 ghost use Rattle.model_history.specs.Frames.{pending};
 ghost use Rattle.model_history.specs.Scrolls.{clobbers};

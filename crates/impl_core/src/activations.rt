@@ -1,23 +1,23 @@
 //! The pending tree becomes the active one.
 
 ghost use Rattle.std.specs.Prelude.{◌≡◌, ◌∷◌, true, Some, is_some, IfOk, IfSome, OnOk, OnErr};
-ghost use Rattle.model_scheduler.specs.declared.kind.Kind.TheVariants as kind;
+ghost use Rattle.model_states.specs.declared.kind.Kind.TheVariants as kind;
 ghost use Rattle.model_history.specs.Frames.{pending};
 ghost use Rattle.model_history.specs.Scrolls.{next_clamps};
 ghost use Rattle.model_history.specs.Tiles.{are_ready, required};
 ghost use Rattle.model_steps.specs.Events.{activate};
 ghost use Rattle.impl_scroll.specs.Standings.{StandsForPast};
-ghost use Rattle.tile_prepare.specs.Rebuilds.{AreForActivation};
+ghost use Rattle.impl_choice.specs.Rebuilds.{AreForActivation};
 ghost use Rattle.impl_log.specs.Runs.{past, now, Entered, Plays};
 
 use crate::core_state::Core;
 use crate::drawn::Drawn;
 use geom::Keys;
+use impl_choice::{Activation, activation_of, visible_of};
 use impl_scroll::Standing;
 use model_history::{Event, Moves};
-use model_scheduler::Kind;
+use model_states::Kind;
 use std::alloc::AllocError;
-use tile_prepare::{Activation, activation_of, visible_of};
 
 impl Core {
     // The visible keys of the pending tree. An error means out of memory.

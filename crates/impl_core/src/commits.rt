@@ -1,7 +1,7 @@
 //! A commit becomes the pending tree.
 
 ghost use Rattle.std.specs.Prelude.{◌≡◌, ℕ, List, ◌∷◌, Some, option_map, IsSome, IfOk, OnOk, OnErr};
-ghost use Rattle.model_scheduler.specs.declared.kind.Kind.TheVariants as kind;
+ghost use Rattle.model_states.specs.declared.kind.Kind.TheVariants as kind;
 ghost use Rattle.model_history.specs.declared.event.Event.TheVariants as event;
 ghost use Rattle.model_history.specs.declared.history.Entry.{Entry};
 ghost use Rattle.model_history.specs.Accepted.{IsAccepted};
@@ -18,7 +18,7 @@ use crate::drawn::Drawn;
 use impl_host::ImplHost;
 use impl_scroll::Standing;
 use model_history::{Commit, Event, Script};
-use model_scheduler::Kind;
+use model_states::Kind;
 use std::alloc::{AllocError, Global};
 
 // Pushes a copy of the commit that is prepared, and answers how the scrollers stood before. An error means

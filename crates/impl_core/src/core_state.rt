@@ -1,7 +1,7 @@
 //! What a core keeps, and what it is asked.
 
 ghost use Rattle.std.specs.Prelude.{◌≡◌, ◌-◌, ◌≤◌, length, IfOk, not, ◌&&◌, option_map};
-ghost use Rattle.model_scheduler.specs.Kinds.{is_main_idle};
+ghost use Rattle.model_states.specs.Kinds.{is_main_idle};
 ghost use Rattle.page_layers.specs.Axes.{across, down};
 ghost use Rattle.model_history.specs.Accepted.{IsAccepted};
 ghost use Rattle.model_history.specs.Frames as frames;
@@ -23,13 +23,13 @@ use crate::outlooks::{look, look_for_next};
 use geom::TileKey;
 use impl_host::ImplHost;
 use impl_log::{KeptHistory, Log, Progress};
+use impl_tiles::TileManager;
 use model_history::{Commit, Event, Moves, Script};
-use model_scheduler::MainState;
 use model_scroll_values::Synced;
+use model_states::MainState;
 use std::alloc::{AllocError, Global};
 use std::marker::Model;
 use std::sync::Arc;
-use tile_manager::TileManager;
 
 /// The state of the compositor side of a run of a script. By its type its history is legal.
 ///

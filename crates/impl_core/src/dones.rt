@@ -4,7 +4,7 @@ ghost use Rattle.std.specs.Prelude.{◌≡◌, ◌+◌, false, Some};
 ghost use Rattle.model_history.specs.declared.event.Event.TheVariants as event;
 ghost use Rattle.model_history.specs.Scans.{has_ended, held};
 ghost use Rattle.model_steps.specs.ShownKeys.{KeyShows};
-ghost use Rattle.tile_manager.specs.Managers.{tile_made};
+ghost use Rattle.impl_tiles.specs.Managers.{tile_made};
 ghost use Rattle.impl_log.specs.Runs.{past, with_entry};
 
 use crate::core_state::Core;

@@ -1,7 +1,7 @@
 //! The active tree is drawn.
 
 ghost use Rattle.std.specs.Prelude.{◌≡◌, Some, None, is_some, true, IfOk, IfSome, IsNone, OnErr};
-ghost use Rattle.model_scheduler.specs.declared.kind.Kind.TheVariants as kind;
+ghost use Rattle.model_states.specs.declared.kind.Kind.TheVariants as kind;
 ghost use Rattle.model_history.specs.declared.event.Event.TheVariants as event;
 ghost use Rattle.model_history.specs.Frames.{active};
 ghost use Rattle.model_history.specs.Tiles.{missing_visible};
@@ -10,11 +10,11 @@ ghost use Rattle.impl_core.specs.Replies.{Draws, DrawsScene, IsPicture};
 
 use crate::core_state::Core;
 use crate::drawn::Drawn;
+use impl_choice::visible_of;
 use impl_drawing::{Drawing, draw};
 use model_history::Event;
-use model_scheduler::Kind;
+use model_states::Kind;
 use std::alloc::AllocError;
-use tile_prepare::visible_of;
 use viz_scene::Scene;
 
 impl Core {

@@ -4,15 +4,15 @@ ghost use Rattle.std.specs.Prelude.{◌≡◌, ℕ, true, List, OnOk, OnErr};
 ghost use Rattle.model_history.specs.declared.history.Entry.{Entry};
 ghost use Rattle.model_history.specs.Scripts.{ScriptModel};
 ghost use Rattle.model_history.specs.Legal.{Legal};
-ghost use Rattle.tile_manager.specs.Managers.{Manages, is_seen, TellsNext};
+ghost use Rattle.impl_tiles.specs.Managers.{Manages, is_seen, TellsNext};
 ghost use Rattle.impl_host.specs.Hosts.{Hosts};
 ghost use Rattle.impl_core.specs.inner.Outlooks.{LooksNow};
 
+use impl_choice::{foreseen_of, reranked};
 use impl_host::ImplHost;
+use impl_tiles::TileManager;
 use model_history::Script;
 use std::alloc::{AllocError, Global};
-use tile_manager::TileManager;
-use tile_prepare::{foreseen_of, reranked};
 
 /// Looks where the trees of the host stand, where that was not done since they were moved, and gives all tiles
 /// their ranks. An error means out of memory, and the tiles are as they were.

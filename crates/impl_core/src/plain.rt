@@ -1,12 +1,12 @@
 //! The events that follow from the inputs, the main frames and the states alone, and the end of a settle.
 
 ghost use Rattle.std.specs.Prelude.{◌≡◌, true, is_some, IfOk, OnErr};
-ghost use Rattle.model_scheduler.specs.declared.kind.Kind.TheVariants as kind;
+ghost use Rattle.model_states.specs.declared.kind.Kind.TheVariants as kind;
 ghost use Rattle.impl_log.specs.Runs.{now, is_plain_kind, Plays};
 
 use crate::core_state::Core;
 use model_history::{Event, Input};
-use model_scheduler::Kind;
+use model_states::Kind;
 use std::alloc::AllocError;
 
 impl Core {

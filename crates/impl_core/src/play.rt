@@ -1,13 +1,13 @@
 //! What the compositor does, by the kind of its event.
 
 ghost use Rattle.std.specs.Prelude.{◌≡◌, true, false, is_some, IfOk, OnErr};
-ghost use Rattle.model_scheduler.specs.declared.kind.Kind.TheVariants as kind;
+ghost use Rattle.model_states.specs.declared.kind.Kind.TheVariants as kind;
 ghost use Rattle.impl_log.specs.Runs.{now, Plays};
 ghost use Rattle.impl_core.specs.Replies.{is_own, is_draw_kind, IsReply};
 
 use crate::core_state::Core;
 use crate::reply::{CoreFault, Reply};
-use model_scheduler::Kind;
+use model_states::Kind;
 use std::alloc::AllocError;
 
 impl Core {

@@ -1,7 +1,7 @@
 //! A main frame is ready to be committed.
 
 ghost use Rattle.std.specs.Prelude.{◌≡◌, ℕ, ◌≤◌, Some, OnOk, OnErr, IfErr};
-ghost use Rattle.model_scheduler.specs.declared.kind.Kind.TheVariants as kind;
+ghost use Rattle.model_states.specs.declared.kind.Kind.TheVariants as kind;
 ghost use Rattle.model_history.specs.declared.event.Event.TheVariants as event;
 ghost use Rattle.model_history.specs.Frames.{pulls_of, pulls_in};
 ghost use Rattle.impl_log.specs.Runs.{past, now, with_entry};

@@ -1,6 +1,6 @@
 //! What a call of `play` answers.
 
-use model_scheduler::{Kind, Sched};
+use model_states::{Kind, Sched};
 use std::alloc::AllocError;
 use viz_scene::Scene;
 

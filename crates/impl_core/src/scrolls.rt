@@ -1,7 +1,7 @@
 //! A scroll is accepted.
 
 ghost use Rattle.std.specs.Prelude.{◌≡◌, true, Some, is_some, IfOk, OnOk, OnErr};
-ghost use Rattle.model_scheduler.specs.declared.kind.Kind.TheVariants as kind;
+ghost use Rattle.model_states.specs.declared.kind.Kind.TheVariants as kind;
 ghost use Rattle.model_history.specs.declared.event.Event.TheVariants as event;
 ghost use Rattle.model_history.specs.declared.input.Input.TheVariants as input;
 ghost use Rattle.model_history.specs.Due.{input_now};
@@ -12,7 +12,7 @@ use crate::core_state::Core;
 use crate::drawn::Drawn;
 use geom::Point;
 use model_history::{Event, Input};
-use model_scheduler::Kind;
+use model_states::Kind;
 use page_layers::Move;
 use std::alloc::AllocError;
 

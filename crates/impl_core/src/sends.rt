@@ -1,12 +1,12 @@
 //! A main frame is sent.
 
 ghost use Rattle.std.specs.Prelude.{◌≡◌, is_some, IfOk, OnErr};
-ghost use Rattle.model_scheduler.specs.declared.kind.Kind.TheVariants as kind;
+ghost use Rattle.model_states.specs.declared.kind.Kind.TheVariants as kind;
 ghost use Rattle.impl_log.specs.Runs.{now, Plays};
 
 use crate::core_state::Core;
 use model_history::Event;
-use model_scheduler::Kind;
+use model_states::Kind;
 use std::alloc::AllocError;
 
 impl Core {

@@ -1,7 +1,7 @@
 //! A wheel is turned.
 
 ghost use Rattle.std.specs.Prelude.{◌≡◌, true, Some, is_some, IfOk, OnOk, OnErr};
-ghost use Rattle.model_scheduler.specs.declared.kind.Kind.TheVariants as kind;
+ghost use Rattle.model_states.specs.declared.kind.Kind.TheVariants as kind;
 ghost use Rattle.model_history.specs.declared.event.Event.TheVariants as event;
 ghost use Rattle.model_history.specs.declared.input.Input.TheVariants as input;
 ghost use Rattle.model_history.specs.Due.{input_now};
@@ -13,7 +13,7 @@ use crate::drawn::Drawn;
 use geom::Point;
 use impl_scroll::moves_of;
 use model_history::{Event, Input, Moves};
-use model_scheduler::Kind;
+use model_states::Kind;
 use std::alloc::AllocError;
 
 // The event of a wheel that hits a layer, moves scrollers so, and leaves a rest.

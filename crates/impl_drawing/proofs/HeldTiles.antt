@@ -24,7 +24,7 @@ use Rattle.model_history.specs.Tiles.{active_tree, visible_in, ready, missing_vi
 use Rattle.model_history.proofs.BoolFacts.{or_left, or_right}
 use Rattle.model_history.proofs.StampFacts.{visible_is_key}
 use Rattle.model_steps.proofs.Picks.{filter_same}
-use Rattle.tile_manager.specs.Managers.{Managed, Manages}
+use Rattle.impl_tiles.specs.Managers.{Managed, Manages}
 use Rattle.impl_drawing.specs.Drawings.{held_tile}
 
 -- the missing keys of held tiles are those that are not ready

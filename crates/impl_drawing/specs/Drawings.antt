@@ -10,7 +10,7 @@ use Rattle.model_history.specs.Scripts.{ScriptModel}
 use Rattle.model_history.specs.Frames.{active_page}
 use Rattle.model_history.specs.Scrolls.{active_offsets}
 use Rattle.model_history.specs.Tiles.{active_tree, visible_in}
-use Rattle.tile_manager.specs.Managers.{Managed, Manages}
+use Rattle.impl_tiles.specs.Managers.{Managed, Manages}
 
 -- the tile of a key, with the image that a store has for it
 abbrev pub held_tile : Store → TileKey → PageTile

@@ -11,16 +11,16 @@ ghost use Rattle.model_history.specs.Scripts.{ScriptModel};
 ghost use Rattle.model_history.specs.Frames.{active_page};
 ghost use Rattle.model_history.specs.Scrolls.{active_offsets};
 ghost use Rattle.model_history.specs.Tiles as model;
-ghost use Rattle.tile_manager.specs.Managers.{Manages};
+ghost use Rattle.impl_tiles.specs.Managers.{Manages};
 ghost use Rattle.impl_drawing.specs.Drawings.{DrawsNow};
 
 use crate::tiles::{missing_of, shown_tiles};
 use geom::Keys;
+use impl_tiles::TileManager;
 use page_layers::LayerTree;
 use page_properties::Offsets;
 use pixel::Colour;
 use std::alloc::{AllocError, Global};
-use tile_manager::TileManager;
 use viz_quads::quads_of;
 use viz_scene::Scene;
 

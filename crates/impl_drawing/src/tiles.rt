@@ -5,9 +5,9 @@ ghost use Rattle.viz_quads.specs.ShownTiles.{tile_of, missing_keys};
 ghost use Rattle.impl_drawing.specs.Drawings.{held_tile};
 
 use geom::{Keys, TileKey};
+use impl_tiles::TileManager;
 use std::alloc::{AllocError, Global};
 use std::sync::Arc;
-use tile_manager::TileManager;
 use viz_quads::ShownTile;
 
 // The tile of a key, with its image where the key is ready, which is looked for at `near` first.

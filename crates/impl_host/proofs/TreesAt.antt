@@ -22,8 +22,8 @@ use Rattle.model_history.proofs.KeyFacts.{has_append}
 use Rattle.model_steps.proofs.QuietFrames.{page_stamp}
 use Rattle.impl_trees.specs.Trees.{TreeModel, Paired}
 use Rattle.impl_trees.proofs.Standing.{stands_found}
-use Rattle.tile_ranks.proofs.BothTrees.{no_keys}
-use Rattle.tile_ranks.specs.SeenTrees.{IsTiled}
+use Rattle.impl_ranks.proofs.BothTrees.{no_keys}
+use Rattle.impl_ranks.specs.SeenTrees.{IsTiled}
 use Rattle.impl_host.specs.Hosts.{IsTreeAt}
 use Rattle.impl_host.specs.inner.LivePages.{tree_at, HasPageKey, HasLivePage}
 

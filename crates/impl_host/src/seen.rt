@@ -7,16 +7,16 @@ ghost use Rattle.page_layers.specs.declared.moves.Move.{Move};
 ghost use Rattle.model_history.specs.declared.history.Entry.{Entry};
 ghost use Rattle.model_history.specs.Scripts.{ScriptModel};
 ghost use Rattle.model_history.specs.Tiles.{active_tree, pending_tree};
-ghost use Rattle.tile_ranks.specs.SeenTrees.{IsSeenWhere, IsPlacedWhere, AreSeenAt};
+ghost use Rattle.impl_ranks.specs.SeenTrees.{IsSeenWhere, IsPlacedWhere, AreSeenAt};
 ghost use Rattle.impl_host.specs.Hosts.{Hosts, IsTreeAt, with_standing};
 ghost use Rattle.impl_host.specs.inner.LivePages.{tree_at};
 
 use crate::host::ImplHost;
+use impl_ranks::{PlacedTree, PlacedTrees, SeenTree, SeenTrees};
 use impl_scroll::Standing;
 use impl_trees::TreeState;
 use page_properties::Offsets;
 use std::alloc::{AllocError, Global};
-use tile_ranks::{PlacedTree, PlacedTrees, SeenTree, SeenTrees};
 
 // A tree that may be missing, as its tiles are seen at these offsets. An error means out of memory.
 fn seen_tree<'a>(

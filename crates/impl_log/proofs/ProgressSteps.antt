@@ -1,7 +1,7 @@
 -- The progress after one event more.
 use Rattle.std.proofs.Common.{◌≡◌, ◌⊎◌, inl, inr, ℕ, suc, ◌-◌, ◌<◌, nat_lt, Bool, true, false, cond, List, ◌∷◌, length, Option, Some, None, refl, sym, ◌∙◌, ap, arith}
 use Rattle.geom.specs.declared.tile.TileKey.{TileKey}
-use Rattle.model_scheduler.specs.Kinds.{is_main_idle}
+use Rattle.model_states.specs.Kinds.{is_main_idle}
 use Rattle.model_history.specs.declared.event.Event.{Event}
 use Rattle.model_history.specs.declared.event.Event.TheVariants as event
 use Rattle.model_history.specs.declared.history.Entry.{Entry}

@@ -1,6 +1,6 @@
 -- How far a run has come: what a past tells, without the tiles and the scrollers.
 use Rattle.std.specs.Prelude.{ℕ, ◌-◌, Bool, true, false, List, length}
-use Rattle.model_scheduler.specs.Kinds.{is_main_idle}
+use Rattle.model_states.specs.Kinds.{is_main_idle}
 use Rattle.impl_log.specs.declared.progress.Progress.{Progress}
 use Rattle.model_history.specs.declared.history.Entry.{Entry}
 use Rattle.model_history.specs.EventFields.{uses, sends, begins}

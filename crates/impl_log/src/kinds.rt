@@ -4,7 +4,7 @@ ghost use Rattle.std.specs.Prelude.{◌≡◌};
 ghost use Rattle.model_history.specs.EventFields as spec;
 
 use model_history::Event;
-use model_scheduler::Kind;
+use model_states::Kind;
 
 /// The kind of an event.
 pub fn kind_of(event: &Event) -> Kind

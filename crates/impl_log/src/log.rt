@@ -1,7 +1,7 @@
 //! A history that only takes what may come.
 
 ghost use Rattle.std.specs.Prelude.{◌≡◌, ◌<◌, ◌≤◌, ◌+◌, ◌-◌, ◌++◌, ◌∷◌, [], length, true, not, ◌&&◌, Some, OnOk, OnErr, IfOk};
-ghost use Rattle.model_scheduler.specs.Kinds.{may, is_main_idle};
+ghost use Rattle.model_states.specs.Kinds.{may, is_main_idle};
 ghost use Rattle.model_history.specs.EventFields.{kind_of, actor_of, begins, uses};
 ghost use Rattle.model_history.specs.declared.event.Event.TheVariants as event;
 ghost use Rattle.model_history.specs.Accepted.{IsAccepted};
@@ -19,7 +19,7 @@ use crate::input_places::InputPlaces;
 use crate::kept_history::KeptHistory;
 use crate::progress::Progress;
 use model_history::{Entry, Event, Input, Script};
-use model_scheduler::{Kind, MainState};
+use model_states::{Kind, MainState};
 use std::alloc::{AllocError, Global};
 use std::marker::Model;
 use std::sync::Arc;

@@ -1,15 +1,15 @@
 //! How far a run has come.
 
 ghost use Rattle.std.specs.Prelude.{◌≡◌, ◌≤◌, true};
-ghost use Rattle.model_scheduler.specs.Kinds.{may};
-ghost use Rattle.model_scheduler.specs.declared.kind.Kind.TheVariants as kind;
+ghost use Rattle.model_states.specs.Kinds.{may};
+ghost use Rattle.model_states.specs.declared.kind.Kind.TheVariants as kind;
 ghost use Rattle.model_history.specs.EventFields as fields;
 ghost use Rattle.impl_log.specs.Progress.{ended_frames};
 ghost use Rattle.impl_log.specs.inner.Steps as spec;
 
 use crate::kinds::kind_of;
 use model_history::Event;
-use model_scheduler::{MainState, Sched};
+use model_states::{MainState, Sched};
 
 /// How far a run has come: what its past tells, without the tiles and the scrollers.
 #[derive(Clone, Copy, PartialEq, Eq, Debug)]

@@ -1,8 +1,8 @@
 -- The values and the pages after each event that changes them.
 use Rattle.std.proofs.Common.{◌≡◌, ℕ, suc, pos, ◌&&◌, true, List, [], ◌∷◌, Some, None, refl, sym, ◌∙◌, ap}
 use Rattle.std.specs.Prelude.{option_copied}
-use Rattle.model_scheduler.specs.declared.kind.Kind.TheVariants as kind
-use Rattle.model_scheduler.specs.Kinds.{may, is_inside_begin_frame, is_main_idle}
+use Rattle.model_states.specs.declared.kind.Kind.TheVariants as kind
+use Rattle.model_states.specs.Kinds.{may, is_inside_begin_frame, is_main_idle}
 use Rattle.model_scroll_values.specs.declared.Synced.{Synced}
 use Rattle.model_scroll_values.specs.Table as table
 use Rattle.page_properties.specs.OffsetMap.{offset_at}

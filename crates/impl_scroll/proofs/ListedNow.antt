@@ -1,7 +1,7 @@
 -- What a send and an activation list, by what the rows tell.
 use Rattle.std.proofs.Common.{◌≡◌, ℕ, pos, true, cond, List, Result, Ok, Err, sym, ◌∙◌, ap}
 use Rattle.std.specs.Prelude.{IfOk}
-use Rattle.model_scheduler.specs.declared.kind.Kind.TheVariants as kind
+use Rattle.model_states.specs.declared.kind.Kind.TheVariants as kind
 use Rattle.model_scroll_values.specs.Table.{pull_answer}
 use Rattle.page_layers.specs.Pages.{Page}
 use Rattle.page_layers.specs.declared.moves.Move.{Move}

@@ -1,7 +1,7 @@
 //! What the events do to the scrollers, and the moves that they list.
 
 ghost use Rattle.std.specs.Prelude.{◌≡◌, ◌∷◌, ℕ, suc, true, List, Some, IfOk, option_copied};
-ghost use Rattle.model_scheduler.specs.declared.kind.Kind.TheVariants as kind;
+ghost use Rattle.model_states.specs.declared.kind.Kind.TheVariants as kind;
 ghost use Rattle.page_layers.specs.declared.moves.Move.{Move as MoveModel};
 ghost use Rattle.model_history.specs.declared.history.Entry.{Entry as EntryModel};
 ghost use Rattle.model_history.specs.Scripts.{ScriptModel};

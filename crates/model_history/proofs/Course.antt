@@ -1,8 +1,8 @@
 -- The course of frames: each is sent, ends by a commit or an abort, and a commit is pending and then active.
 use Rattle.std.proofs.Common.{◌≡◌, ◌⊎◌, inl, inr, ℕ, suc, ◌<◌, ◌≤◌, ◌==◌, nat_lt, Bool, true, false, cond, ◌||◌, List, [], ◌∷◌, Option, Some, None, is_some, refl, sym, ◌∙◌, ap, subst, arith}
-use Rattle.model_scheduler.specs.declared.states.MainState.{MainState}
-use Rattle.model_scheduler.specs.declared.states.MainState.TheVariants as main
-use Rattle.model_scheduler.specs.Kinds.{is_main_idle, is_sent, is_ready_to_commit}
+use Rattle.model_states.specs.declared.states.MainState.{MainState}
+use Rattle.model_states.specs.declared.states.MainState.TheVariants as main
+use Rattle.model_states.specs.Kinds.{is_main_idle, is_sent, is_ready_to_commit}
 use Rattle.model_history.specs.declared.event.Event.{Event}
 use Rattle.model_history.specs.declared.event.Event.TheVariants as event
 use Rattle.model_history.specs.declared.history.Entry.{Entry}

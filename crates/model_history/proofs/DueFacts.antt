@@ -2,7 +2,7 @@
 use Rattle.std.proofs.Common.{◌≡◌, ℕ, ◌-◌, ℤ, pos, Bool, true, false, not, List, Option, Some, None, is_some, refl, sym, ◌∙◌, ap}
 use Rattle.geom.specs.declared.tile.TileKey.{TileKey}
 use Rattle.tile_priority.specs.declared.rank.Rank.{Rank}
-use Rattle.model_scheduler.specs.Kinds.{is_idle, is_inside_begin_frame, is_inside_deadline, is_main_idle, is_sent, is_ready_to_commit, is_for_draw}
+use Rattle.model_states.specs.Kinds.{is_idle, is_inside_begin_frame, is_inside_deadline, is_main_idle, is_sent, is_ready_to_commit, is_for_draw}
 use Rattle.page_layers.specs.Hits.{target}
 use Rattle.model_history.specs.declared.event.Event.{Event}
 use Rattle.model_history.specs.declared.event.Event.TheVariants as event

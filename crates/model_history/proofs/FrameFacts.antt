@@ -11,7 +11,7 @@ use Rattle.page_properties.specs.Entries as entries
 use Rattle.page_layers.specs.Scrolls.{or_origin}
 use Rattle.page_layers.specs.Pages.{Page}
 use Rattle.page_layers.specs.Effects.{clamped_in, main_point, scrolled_by, page_after_pulls, commanded}
-use Rattle.model_scheduler.specs.Kinds.{is_ready_to_commit}
+use Rattle.model_states.specs.Kinds.{is_ready_to_commit}
 use Rattle.model_history.specs.declared.event.Event.{Event}
 use Rattle.model_history.specs.declared.event.Event.TheVariants as event
 use Rattle.page_layers.specs.declared.moves.Move.{Move}

@@ -3,9 +3,9 @@ use Rattle.std.proofs.Common.{ℕ, zero, suc, ◌+◌, ◌<◌, ◌≡◌, Bool,
 use Rattle.std.specs.Prelude.{MatchBool, is_some, reverse}
 use Rattle.std.proofs.lemmas.List.{reverse-reverse}
 use Rattle.std.proofs.lemmas.Grind.{reverse_onto}
-use Rattle.model_scheduler.specs.declared.kind.Kind.{Kind}
-use Rattle.model_scheduler.specs.declared.kind.Kind.TheVariants as kind
-use Rattle.model_scheduler.specs.Kinds.{may}
+use Rattle.model_states.specs.declared.kind.Kind.{Kind}
+use Rattle.model_states.specs.declared.kind.Kind.TheVariants as kind
+use Rattle.model_states.specs.Kinds.{may}
 use Rattle.model_history.specs.declared.event.Event.{Event}
 use Rattle.model_history.specs.declared.event.Event.TheVariants as event
 use Rattle.model_history.specs.declared.input.Input.{Input}

@@ -6,7 +6,7 @@ use Rattle.page_properties.specs.declared.nodes.ScrollNode.{ScrollNode}
 use Rattle.page_properties.specs.Entries.{ids, put_id, rising, find, knows}
 use Rattle.page_layers.specs.Scrolls.{clamp_to}
 use Rattle.page_layers.specs.Pages.{Page}
-use Rattle.model_scheduler.specs.Kinds.{is_main_idle}
+use Rattle.model_states.specs.Kinds.{is_main_idle}
 use Rattle.page_layers.specs.declared.moves.Move.{Move}
 use Rattle.model_history.specs.declared.history.Entry.{Entry}
 use Rattle.model_history.specs.Scripts.{ScriptModel}

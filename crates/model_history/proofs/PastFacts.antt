@@ -1,6 +1,6 @@
 -- What the course of frames tells of the sums: which frames are retired, in flight and pending, and what the next send lists.
 use Rattle.std.proofs.Common.{ℕ, ◌≡◌, ◌⊎◌, inl, inr, suc, ◌≤◌, ◌==◌, pos, Bool, true, false, cond, ◌||◌, List, [], ◌∷◌, Option, Some, None, refl, sym, ◌∙◌, ap, arith}
-use Rattle.model_scheduler.specs.Kinds.{is_main_idle}
+use Rattle.model_states.specs.Kinds.{is_main_idle}
 use Rattle.model_history.specs.declared.event.Event.{Event}
 use Rattle.model_history.specs.declared.event.Event.TheVariants as event
 use Rattle.model_history.specs.declared.history.Entry.{Entry}

@@ -1,8 +1,8 @@
 -- What an event says in each field: which frame it sends, which tile it starts, and so on.
 use Rattle.std.specs.Prelude.{ℕ, ◌+◌, ◌==◌, ℤ, Bool, true, false, cond, List, [], ◌∷◌, slice_get, Option, Some, None}
 use Rattle.geom.specs.declared.tile.TileKey.{TileKey}
-use Rattle.model_scheduler.specs.declared.kind.Kind.{Kind}
-use Rattle.model_scheduler.specs.declared.kind.Kind.TheVariants as kind
+use Rattle.model_states.specs.declared.kind.Kind.{Kind}
+use Rattle.model_states.specs.declared.kind.Kind.TheVariants as kind
 use Rattle.model_history.specs.declared.event.Event.{Event}
 use Rattle.model_history.specs.declared.event.Event.TheVariants as event
 use Rattle.model_history.specs.declared.input.Input.{Input}

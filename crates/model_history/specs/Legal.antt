@@ -1,8 +1,8 @@
 -- Which histories are legal: each entry is what is due after those before it.
 use Rattle.std.specs.Prelude.{◌≡◌, ◌<◌, ℕ, ◌+◌, Bool, true, false, cond, not, ◌&&◌, List, [], ◌∷◌, reverse, Option, Some, None}
-use Rattle.model_scheduler.specs.declared.Sched.{Sched}
-use Rattle.model_scheduler.specs.declared.kind.Kind.{Kind}
-use Rattle.model_scheduler.specs.Kinds.{start_state, may, sched_after}
+use Rattle.model_states.specs.declared.Sched.{Sched}
+use Rattle.model_states.specs.declared.kind.Kind.{Kind}
+use Rattle.model_states.specs.Kinds.{start_state, may, sched_after}
 use Rattle.model_history.specs.declared.event.Event.{Event}
 use Rattle.model_history.specs.declared.history.Entry.{Entry}
 use Rattle.model_history.specs.Scripts.{ScriptModel}

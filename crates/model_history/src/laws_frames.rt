@@ -2,8 +2,8 @@
 //! functions that do nothing, over pasts, which list the newest entry first.
 
 ghost use Rattle.std.specs.Prelude.{◌≡◌, ◌⊎◌, ℕ, ◌+◌, ◌<◌, ◌≤◌, nat_lt, true, false, List, ◌++◌, is_some, Some};
-ghost use Rattle.model_scheduler.specs.declared.kind.Kind.TheVariants as kind;
-ghost use Rattle.model_scheduler.specs.Kinds.{is_main_idle, is_sent};
+ghost use Rattle.model_states.specs.declared.kind.Kind.TheVariants as kind;
+ghost use Rattle.model_states.specs.Kinds.{is_main_idle, is_sent};
 ghost use Rattle.model_history.specs.Scripts.{ScriptModel};
 ghost use Rattle.model_history.specs.declared.history.Entry.{Entry};
 ghost use Rattle.model_history.specs.EventFields.{kind_of, sends, commits, aborts, activates};

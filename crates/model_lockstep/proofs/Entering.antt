@@ -3,14 +3,14 @@ use Rattle.std.proofs.Common.{ℕ, zero, suc, ◌<◌, ◌≤◌, ◌≡◌, Boo
 use Rattle.std.specs.Prelude.{MatchBool}
 use Rattle.geom.specs.declared.tile.TileKey.{TileKey}
 use Rattle.tile_priority.specs.declared.rank.Rank.{Rank}
-use Rattle.model_scheduler.specs.declared.Sched.{Sched}
-use Rattle.model_scheduler.specs.declared.kind.Kind.{Kind}
-use Rattle.model_scheduler.specs.declared.kind.Kind.TheVariants as kind
-use Rattle.model_scheduler.specs.declared.states.ImplState.TheVariants as impl
-use Rattle.model_scheduler.specs.declared.states.MainState.TheVariants as main
-use Rattle.model_scheduler.specs.declared.states.Begun.{Begun}
-use Rattle.model_scheduler.specs.declared.states.Begun.TheVariants as begun
-use Rattle.model_scheduler.specs.Kinds.{may, sched_after}
+use Rattle.model_states.specs.declared.Sched.{Sched}
+use Rattle.model_states.specs.declared.kind.Kind.{Kind}
+use Rattle.model_states.specs.declared.kind.Kind.TheVariants as kind
+use Rattle.model_states.specs.declared.states.ImplState.TheVariants as impl
+use Rattle.model_states.specs.declared.states.MainState.TheVariants as main
+use Rattle.model_states.specs.declared.states.Begun.{Begun}
+use Rattle.model_states.specs.declared.states.Begun.TheVariants as begun
+use Rattle.model_states.specs.Kinds.{may, sched_after}
 use Rattle.model_history.specs.declared.event.Event.{Event}
 use Rattle.model_history.specs.declared.event.Event.TheVariants as event
 use Rattle.model_history.specs.declared.history.Entry.{Entry}

@@ -1,11 +1,11 @@
 -- Each part of lockstep leads somewhere: main parts, activations, rounds and draws.
 use Rattle.std.proofs.Common.{ℕ, zero, suc, ◌≡◌, ◌⊎◌, inl, inr, ◌<◌, ◌≤◌, Bool, true, false, not, ◌||◌, Some, None, List, ◌∷◌, is_some, length, refl, ap, sym, ◌∙◌, subst, arith}
 use Rattle.tile_priority.specs.declared.rank.Rank.{Rank}
-use Rattle.model_scheduler.specs.declared.Sched.{Sched}
-use Rattle.model_scheduler.specs.declared.kind.Kind.TheVariants as kind
-use Rattle.model_scheduler.specs.declared.states.Begun.{Begun}
-use Rattle.model_scheduler.specs.declared.states.Begun.TheVariants as begun
-use Rattle.model_scheduler.specs.Kinds.{is_inside_deadline, may, sched_after}
+use Rattle.model_states.specs.declared.Sched.{Sched}
+use Rattle.model_states.specs.declared.kind.Kind.TheVariants as kind
+use Rattle.model_states.specs.declared.states.Begun.{Begun}
+use Rattle.model_states.specs.declared.states.Begun.TheVariants as begun
+use Rattle.model_states.specs.Kinds.{is_inside_deadline, may, sched_after}
 use Rattle.model_history.specs.declared.event.Event.{Event}
 use Rattle.model_history.specs.declared.event.Event.TheVariants as event
 use Rattle.model_history.specs.declared.history.Entry.{Entry}

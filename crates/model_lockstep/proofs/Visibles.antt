@@ -40,8 +40,8 @@ use Rattle.model_history.specs.Due.{on_if, due_activate}
 use Rattle.model_history.specs.Legal.{sched, is_open, Legal}
 use Rattle.model_history.specs.Lockstep.{is_possible}
 use Rattle.model_history.specs.declared.event.Event.TheVariants as event
-use Rattle.model_scheduler.specs.declared.kind.Kind.TheVariants as kind
-use Rattle.model_scheduler.specs.Kinds.{is_inside_deadline, may}
+use Rattle.model_states.specs.declared.kind.Kind.TheVariants as kind
+use Rattle.model_states.specs.Kinds.{is_inside_deadline, may}
 use Rattle.model_history.proofs.Course.{course}
 use Rattle.model_history.proofs.BoolFacts.{and_right, and_both, or_right, none_or_some}
 use Rattle.model_history.proofs.KeyFacts.{has_append, in_has, has_in}

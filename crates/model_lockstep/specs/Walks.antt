@@ -1,7 +1,7 @@
 -- What code says of a run that is played in lockstep: where it may go, where it went, and how far it came.
 use Rattle.std.specs.Prelude.{◌≡◌, ℕ, not, ◌||◌, is_some, List, ◌++◌, ⊤, Option, Some, None, Result, Ok, Err}
-use Rattle.model_scheduler.specs.declared.kind.Kind.{Kind}
-use Rattle.model_scheduler.specs.declared.kind.Kind.TheVariants as kind
+use Rattle.model_states.specs.declared.kind.Kind.{Kind}
+use Rattle.model_states.specs.declared.kind.Kind.TheVariants as kind
 use Rattle.model_history.specs.declared.input.Input.{Input}
 use Rattle.model_history.specs.declared.history.Entry.{Entry}
 use Rattle.model_history.specs.Scripts.{ScriptModel}

@@ -2,14 +2,14 @@
 
 ghost use Rattle.std.specs.Prelude.{◌≡◌, ℕ, Some, is_some, IfOk};
 ghost use Rattle.std.specs.Thread.{IsSync};
-ghost use Rattle.model_scheduler.specs.declared.kind.Kind.TheVariants as kind;
+ghost use Rattle.model_states.specs.declared.kind.Kind.TheVariants as kind;
 ghost use Rattle.model_history.specs.EventFields.{sends};
 ghost use Rattle.model_history.specs.Scans.{newest};
 ghost use Rattle.model_history.specs.Frames.{active, changes as frame_changes, is_left as is_frame_left, pulls_of};
 ghost use Rattle.model_history.specs.Lockstep.{has_first as is_tile_first, is_possible, waits as is_waiting};
 ghost use Rattle.model_lockstep.specs.Walks.{actor_for, WalkEnters, WalkState};
 
-use model_scheduler::Kind;
+use model_states::Kind;
 use std::alloc::AllocError;
 use std::thread::Threads;
 

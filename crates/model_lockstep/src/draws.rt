@@ -7,7 +7,7 @@ ghost use Rattle.model_lockstep.specs.Walks.{CanFollow, Follows, IsOnWay, main_p
 use crate::compositor::Compositor;
 use crate::frames::main_part;
 use crate::pairs::{enter, make_some};
-use model_scheduler::Kind;
+use model_states::Kind;
 use std::alloc::AllocError;
 use std::thread::Threads;
 

@@ -9,7 +9,7 @@ ghost use Rattle.model_lockstep.specs.Walks.{CanFollow, Follows, IsOnWay, commit
 
 use crate::compositor::Compositor;
 use crate::pairs::{enter, pairs_until_activation};
-use model_scheduler::Kind;
+use model_states::Kind;
 use std::alloc::AllocError;
 use std::thread::Threads;
 

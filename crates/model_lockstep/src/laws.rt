@@ -3,7 +3,7 @@
 
 ghost use Rattle.std.specs.Prelude.{◌≡◌, ◌⊎◌, ℕ, ◌<◌, true, false, List, [], Some};
 ghost use Rattle.geom.specs.declared.tile.TileKey.{TileKey};
-ghost use Rattle.model_scheduler.specs.declared.kind.Kind.TheVariants as kind;
+ghost use Rattle.model_states.specs.declared.kind.Kind.TheVariants as kind;
 ghost use Rattle.tile_priority.specs.declared.rank.Bin.TheVariants as bin;
 ghost use Rattle.tile_priority.specs.declared.rank.Rank.{Rank};
 ghost use Rattle.tile_priority.specs.Ordered.{In};

@@ -5,7 +5,7 @@ ghost use Rattle.model_history.specs.Lockstep.{Pair};
 ghost use Rattle.model_lockstep.specs.Walks.{CanFollow, Follows, IsOnWay, actor_for, entering, pairs_to_activation, pairs_at_most, all_pairs};
 
 use crate::compositor::{Compositor, EnterFault};
-use model_scheduler::Kind;
+use model_states::Kind;
 use std::alloc::AllocError;
 use std::thread::Threads;
 

@@ -11,7 +11,7 @@ use crate::draws::draw_frame;
 use crate::frames::round;
 use crate::pairs::{enter, make_all};
 use model_history::Input;
-use model_scheduler::Kind;
+use model_states::Kind;
 use std::alloc::AllocError;
 use std::thread::Threads;
 

@@ -1,6 +1,6 @@
 -- What a session answers to the lines that came so far, and when.
 use Rattle.std.specs.Prelude.{◌≡◌, ℕ, Bool, true, ◌⊎◌, cond, ◌==◌, List, [], ◌∷◌, ◌++◌, length, take, codes, decimal, ⊤, Option, Some, None}
-use Rattle.player_io.specs.Counts.{Rose}
+use Rattle.byte_io.specs.Counts.{Rose}
 
 -- a piece of data as it goes out: a line with the number of its bytes, and the bytes
 abbrev pub data_line : ℕ → List ℕ

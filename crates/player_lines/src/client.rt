@@ -2,7 +2,7 @@
 
 ghost use Rattle.std.specs.Prelude.{ℕ, List, Option, None, OnErr, ◌≤◌, length};
 ghost use Rattle.std.specs.Io.{ReadsAtMost};
-ghost use Rattle.player_io.specs.Counts.{Rose};
+ghost use Rattle.byte_io.specs.Counts.{Rose};
 ghost use Rattle.player_lines.specs.Sessions.{Act};
 ghost use Rattle.player_lines.specs.inner.Pasts.{ReadAdds, DataAdds, TextAdds};
 

@@ -3,13 +3,13 @@
 ghost use Rattle.std.specs.Prelude.{◌≡◌, ◌++◌, codes, None, OnErr, ◌≤◌};
 ghost use Rattle.std.specs.Io.{ReadsAtMost};
 ghost use Rattle.std.specs.Io.KnownBytes.{ReadConsumes};
-ghost use Rattle.player_io.specs.Counts.{Rose};
+ghost use Rattle.byte_io.specs.Counts.{Rose};
 ghost use Rattle.player_lines.specs.Sessions.{frame};
 ghost use Rattle.player_lines.specs.inner.Pasts.{Gains, HasRefused, ReadAdds};
 
 use crate::client::{Client, Failed};
+use byte_io::{PutFault, Sink, Source};
 use itoa::Buffer;
-use player_io::{PutFault, Sink, Source};
 
 /// A source that gives the bytes of a client, and a sink that takes those for it. What they tell apart says nothing
 /// of the order in which both were called, so as a client they tell no past.

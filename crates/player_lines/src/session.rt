@@ -2,12 +2,12 @@
 
 ghost use Rattle.std.specs.Prelude.{◌≡◌, ◌≤◌, true, false, OnErr, length};
 ghost use Rattle.std.specs.Io.{ReadsAtMost};
-ghost use Rattle.player_io.specs.Counts.{Rose};
-ghost use Rattle.player_io.specs.Pieces.{PutAppends, PutCause};
+ghost use Rattle.byte_io.specs.Counts.{Rose};
+ghost use Rattle.byte_io.specs.Pieces.{PutAppends, PutCause};
 ghost use Rattle.player_lines.specs.inner.Pasts.{ReadAdds, Said, told};
 
 use crate::client::{Client, Failed};
-use player_io::{PutFault, Sink};
+use byte_io::{PutFault, Sink};
 use std::alloc::AllocError;
 
 /// A client, as a sink of the data of an answer: each piece that is put goes to the client at once, after a line

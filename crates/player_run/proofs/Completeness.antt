@@ -1,19 +1,19 @@
 -- What a use takes is not refused.
 use Rattle.std.proofs.Common.{◌≡◌, ◌⊎◌, inl, inr, ℕ, List, None, Some, Ok, Err, refl, subst}
 use Rattle.std.specs.Prelude.{Option, Result, IfOk}
-use Rattle.player_io.specs.Counts.{Rose}
+use Rattle.byte_io.specs.Counts.{Rose}
 use Rattle.model_history.specs.Scripts.{ScriptModel}
 use Rattle.script_json.proofs.ScriptLaws.{one_script}
-use Rattle.player_outcomes.specs.declared.outcome.Outcome.{Outcome}
-use Rattle.player_outcomes.specs.declared.outcome.Outcome.TheVariants.{Done, Usage, Json, Shape, Script, ReadFault, WriteFault, TooLong, BadRecording, No, Memory, NoPicture}
+use Rattle.player_uses.specs.declared.outcome.Outcome.{Outcome}
+use Rattle.player_uses.specs.declared.outcome.Outcome.TheVariants.{Done, Usage, Json, Shape, Script, ReadFault, WriteFault, TooLong, BadRecording, No, Memory, NoPicture}
 use Rattle.player_words.specs.declared.words.Use.{Use}
 use Rattle.player_words.specs.declared.words.Use.TheVariants.{Step, Play, Gen, Demo, Film, Shot, Frames, Check, Serve}
-use Rattle.recording_writer.specs.Films.{IsLastImage}
-use Rattle.player_outcomes.specs.Shots.{with_shot}
-use Rattle.player_outcomes.specs.Answers.{TellsMisfit, IsUnread}
-use Rattle.player_outcomes.specs.Faults.{Causes}
+use Rattle.player_lockstep.specs.Films.{IsLastImage}
+use Rattle.player_uses.specs.Shots.{with_shot}
+use Rattle.player_uses.specs.Answers.{TellsMisfit, IsUnread}
+use Rattle.player_uses.specs.Faults.{Causes}
 use Rattle.player_run.specs.Runs.{Takes, RefusedShot, Refused, CauseOf, CauseFrom, IsComplete}
-use Rattle.player_outcomes.proofs.NotRefused.{script_taken, recording_taken, history_taken}
+use Rattle.player_uses.proofs.NotRefused.{script_taken, recording_taken, history_taken}
 use Rattle.player_run.proofs.ShotsTaken.{one_last_image}
 
 -- a script whose shot has a picture is not refused for having none

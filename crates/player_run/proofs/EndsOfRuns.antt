@@ -1,8 +1,8 @@
 -- How a run of actors ended, and what its sink gained.
 use Rattle.std.proofs.Common.{◌≡◌, inl, inr, ℕ, Bool, true, false, List, [], ◌++◌, Option, Some, sym, ◌∙◌, ap, subst, arith, append_assoc, append-nil}
 use Rattle.std.specs.Io.KnownBytes.{Appends}
-use Rattle.player_io.specs.Counts.{Rose}
-use Rattle.player_io.specs.Pieces.{GainsPrefix}
+use Rattle.byte_io.specs.Counts.{Rose}
+use Rattle.byte_io.specs.Pieces.{GainsPrefix}
 use Rattle.thread_ring.specs.Ring.{whole}
 use Rattle.thread_ring.specs.Answers.{Gained, FaultRose}
 use Rattle.thread_ring.specs.declared.ends.Presented.{Presented}
@@ -19,7 +19,7 @@ use Rattle.proxy_threads.specs.Writing.{part, FaultCause, IsLast, KnowsEnd, Wrot
 use Rattle.proxy_threads.proofs.Holds.{entries_pairs}
 use Rattle.player_run.specs.declared.beside.Ending.{Ending}
 use Rattle.player_run.specs.declared.beside.Ran.{Ran}
-use Rattle.player_outcomes.specs.Faults.{Causes}
+use Rattle.player_uses.specs.Faults.{Causes}
 use Rattle.player_run.specs.inner.Actors.{HasRun, IsRunAt, PlayEnds, joint_outcome}
 
 -- a count that did not rise

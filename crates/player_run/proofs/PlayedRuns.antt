@@ -18,9 +18,9 @@ use Rattle.impl_core.specs.Replies.{is_end, is_played}
 use Rattle.proxy_threads.specs.Seats.{pairs}
 use Rattle.proxy_threads.specs.Writing.{part}
 use Rattle.proxy_threads.proofs.Holds.{entries_pairs}
-use Rattle.player_outcomes.specs.declared.outcome.Outcome.{Outcome}
-use Rattle.player_outcomes.specs.declared.outcome.Outcome.TheVariants.{Done, Usage, Json, Shape, Script, ReadFault, WriteFault, TooLong, BadRecording, No, Memory, NoPicture}
-use Rattle.player_outcomes.specs.Outputs.{WritesOrBegins, WritesSome}
+use Rattle.player_uses.specs.declared.outcome.Outcome.{Outcome}
+use Rattle.player_uses.specs.declared.outcome.Outcome.TheVariants.{Done, Usage, Json, Shape, Script, ReadFault, WriteFault, TooLong, BadRecording, No, Memory, NoPicture}
+use Rattle.player_uses.specs.Outputs.{WritesOrBegins, WritesSome}
 use Rattle.player_run.specs.Promises.{HasEnded, IsSoundHistory}
 use Rattle.player_run.specs.Runs.{IsPlayOf, IsPlayUpTo, IsRunOf}
 use Rattle.player_run.specs.inner.Actors.{IsRunAt, PlayEnds}

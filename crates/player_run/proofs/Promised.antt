@@ -13,7 +13,7 @@ use Rattle.model_history.proofs.Sums.{offset_is}
 use Rattle.model_history.proofs.ValueReadings.{active_is_value, offset_in_range}
 use Rattle.script_json.proofs.CanonicalTexts.{recording_of}
 use Rattle.recording_check.proofs.WrittenRuns.{legal_with_more}
-use Rattle.recording_writer.specs.Recordings.{IsLockstepRecording}
+use Rattle.player_lockstep.specs.Recordings.{IsLockstepRecording}
 use Rattle.player_run.specs.Promises.{StandsRight, IsSoundHistory, IsPromised}
 use Rattle.player_run.specs.Runs.{IsRunOf}
 

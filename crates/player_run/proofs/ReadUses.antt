@@ -1,11 +1,11 @@
 -- What is said of `frames` and `check` below the other uses is what is said of these uses.
 use Rattle.std.proofs.Common.{ℕ, List, None, Some}
 use Rattle.std.specs.Prelude.{Option, IfSome}
-use Rattle.player_outcomes.specs.declared.outcome.Outcome.{Outcome}
-use Rattle.player_outcomes.specs.declared.outcome.Outcome.TheVariants.{Done, Usage, Json, Shape, Script, ReadFault, WriteFault, TooLong, BadRecording, No, Memory, NoPicture}
+use Rattle.player_uses.specs.declared.outcome.Outcome.{Outcome}
+use Rattle.player_uses.specs.declared.outcome.Outcome.TheVariants.{Done, Usage, Json, Shape, Script, ReadFault, WriteFault, TooLong, BadRecording, No, Memory, NoPicture}
 use Rattle.player_words.specs.declared.words.Use.TheVariants.{Frames, Check}
-use Rattle.player_outcomes.specs.Outputs.{DeliversImages}
-use Rattle.player_outcomes.specs.Refusals.{ExplainsImages, ExplainsJudgement}
+use Rattle.player_uses.specs.Outputs.{DeliversImages}
+use Rattle.player_uses.specs.Refusals.{ExplainsImages, ExplainsJudgement}
 use Rattle.player_run.specs.Runs.{CauseOf, CauseFrom, Writes}
 
 images_of : (bytes : List ℕ) (o : Outcome) → ExplainsImages bytes o → CauseOf Frames bytes o

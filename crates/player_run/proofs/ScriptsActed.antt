@@ -5,12 +5,12 @@ use Rattle.model_history.specs.Accepted.{IsAccepted}
 use Rattle.model_history.specs.Scripts.{ScriptModel}
 use Rattle.script_json.specs.Causes.{IsScriptText}
 use Rattle.script_json.proofs.CanonicalTexts.{said}
-use Rattle.player_outcomes.specs.declared.outcome.Outcome.{Outcome}
-use Rattle.player_outcomes.specs.declared.outcome.Outcome.TheVariants.{Done, Usage, Json, Shape, Script, ReadFault, WriteFault, TooLong, BadRecording, No, Memory, NoPicture}
+use Rattle.player_uses.specs.declared.outcome.Outcome.{Outcome}
+use Rattle.player_uses.specs.declared.outcome.Outcome.TheVariants.{Done, Usage, Json, Shape, Script, ReadFault, WriteFault, TooLong, BadRecording, No, Memory, NoPicture}
 use Rattle.player_words.specs.declared.words.Use.TheVariants.{Play}
-use Rattle.player_outcomes.specs.Outputs.{WritesOrBegins}
-use Rattle.player_outcomes.specs.Refusals.{script_limit}
-use Rattle.player_outcomes.specs.Answers.{TellsMisfit}
+use Rattle.player_uses.specs.Outputs.{WritesOrBegins}
+use Rattle.player_uses.specs.Refusals.{script_limit}
+use Rattle.player_uses.specs.Answers.{TellsMisfit}
 use Rattle.player_run.specs.Runs.{IsPlayOf, IsPlayUpTo, Takes, CauseOf, CauseFrom, Writes}
 use Rattle.player_run.proofs.ScriptsPlayed.{text_of}
 

@@ -5,13 +5,13 @@ use Rattle.model_history.specs.Accepted.{IsAccepted}
 use Rattle.model_history.specs.Scripts.{ScriptModel}
 use Rattle.script_json.specs.Causes.{IsScriptText}
 use Rattle.script_json.proofs.CanonicalTexts.{said}
-use Rattle.recording_writer.specs.Films.{IsLockstepFilm}
-use Rattle.player_outcomes.specs.declared.outcome.Outcome.{Outcome}
-use Rattle.player_outcomes.specs.declared.outcome.Outcome.TheVariants.{Done, Usage, Json, Shape, Script, ReadFault, WriteFault, TooLong, BadRecording, No, Memory, NoPicture}
+use Rattle.player_lockstep.specs.Films.{IsLockstepFilm}
+use Rattle.player_uses.specs.declared.outcome.Outcome.{Outcome}
+use Rattle.player_uses.specs.declared.outcome.Outcome.TheVariants.{Done, Usage, Json, Shape, Script, ReadFault, WriteFault, TooLong, BadRecording, No, Memory, NoPicture}
 use Rattle.player_words.specs.declared.words.Use.{Use}
 use Rattle.player_words.specs.declared.words.Use.TheVariants.{Step, Film}
-use Rattle.player_outcomes.specs.Outputs.{WritesSome}
-use Rattle.player_outcomes.specs.Refusals.{script_limit}
+use Rattle.player_uses.specs.Outputs.{WritesSome}
+use Rattle.player_uses.specs.Refusals.{script_limit}
 use Rattle.player_run.specs.Runs.{IsRunOf, Takes, CauseOf, CauseFrom, Writes}
 use Rattle.player_run.proofs.Outputs.{some_output}
 

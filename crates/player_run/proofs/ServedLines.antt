@@ -10,14 +10,14 @@ use Rattle.model_history.specs.Accepted.{IsAccepted}
 use Rattle.model_history.specs.Scripts.{ScriptModel}
 use Rattle.script_json.specs.Causes.{IsScriptText}
 use Rattle.script_json.proofs.CanonicalTexts.{said}
-use Rattle.player_outcomes.specs.declared.outcome.Outcome.{Outcome}
-use Rattle.player_outcomes.specs.declared.outcome.Outcome.TheVariants.{Done, Usage, Json, Shape, Script, ReadFault, WriteFault, TooLong, BadRecording, No, Memory, NoPicture}
+use Rattle.player_uses.specs.declared.outcome.Outcome.{Outcome}
+use Rattle.player_uses.specs.declared.outcome.Outcome.TheVariants.{Done, Usage, Json, Shape, Script, ReadFault, WriteFault, TooLong, BadRecording, No, Memory, NoPicture}
 use Rattle.player_words.specs.declared.words.Use.TheVariants.{Step}
-use Rattle.player_outcomes.specs.Outputs.{WritesSome}
-use Rattle.player_outcomes.specs.Scripts.{IsNone}
-use Rattle.player_outcomes.specs.Refusals.{script_limit}
-use Rattle.player_outcomes.specs.Outcomes.{is_write_fault}
-use Rattle.player_outcomes.specs.Verdicts.{verdict}
+use Rattle.player_uses.specs.Outputs.{WritesSome}
+use Rattle.player_uses.specs.Scripts.{IsNone}
+use Rattle.player_uses.specs.Refusals.{script_limit}
+use Rattle.player_uses.specs.Outcomes.{is_write_fault}
+use Rattle.player_uses.specs.Verdicts.{verdict}
 use Rattle.player_run.specs.Runs.{IsRunOf, IsOutput, CauseOf, Writes}
 use Rattle.player_run.specs.Served.{EndsLine, IsLineAnswer}
 

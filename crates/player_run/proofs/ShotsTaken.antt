@@ -6,17 +6,17 @@ use Rattle.model_history.specs.Scripts.{ScriptModel}
 use Rattle.model_history.proofs.LockstepWords.{lockstep_one}
 use Rattle.script_json.specs.Causes.{IsScriptText}
 use Rattle.script_json.proofs.CanonicalTexts as canonical
-use Rattle.recording_writer.specs.Films.{IsLastImage}
-use Rattle.recording_writer.specs.Shots.{IsShot}
-use Rattle.player_outcomes.specs.declared.outcome.Outcome.{Outcome}
-use Rattle.player_outcomes.specs.declared.outcome.Outcome.TheVariants.{Done, Usage, Json, Shape, Script, ReadFault, WriteFault, TooLong, BadRecording, No, Memory, NoPicture}
+use Rattle.player_lockstep.specs.Films.{IsLastImage}
+use Rattle.player_lockstep.specs.Shots.{IsShot}
+use Rattle.player_uses.specs.declared.outcome.Outcome.{Outcome}
+use Rattle.player_uses.specs.declared.outcome.Outcome.TheVariants.{Done, Usage, Json, Shape, Script, ReadFault, WriteFault, TooLong, BadRecording, No, Memory, NoPicture}
 use Rattle.player_words.specs.declared.words.Use.TheVariants.{Shot}
-use Rattle.player_outcomes.specs.Outputs.{WritesSome}
-use Rattle.player_outcomes.specs.Shots.{IsAskedFrom, with_shot}
-use Rattle.player_outcomes.specs.Refusals.{script_limit}
-use Rattle.player_outcomes.specs.Answers.{TellsMisfit, AnswersScript, AnswersShot}
-use Rattle.player_outcomes.specs.Reading.{IsJudgedWhole}
-use Rattle.player_outcomes.specs.Faults.{StopsAtFault}
+use Rattle.player_uses.specs.Outputs.{WritesSome}
+use Rattle.player_uses.specs.Shots.{IsAskedFrom, with_shot}
+use Rattle.player_uses.specs.Refusals.{script_limit}
+use Rattle.player_uses.specs.Answers.{TellsMisfit, AnswersScript, AnswersShot}
+use Rattle.player_uses.specs.Reading.{IsJudgedWhole}
+use Rattle.player_uses.specs.Faults.{StopsAtFault}
 use Rattle.player_run.specs.inner.Shots.{Shoots}
 use Rattle.player_run.specs.Runs.{CauseOf, CauseFrom, Writes}
 use Rattle.player_run.specs.Shots.{HasPicture}

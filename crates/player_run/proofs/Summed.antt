@@ -6,13 +6,13 @@ use Rattle.model_history.specs.Lockstep.{IsLockstep}
 use Rattle.model_history.specs.Scripts.{ScriptModel}
 use Rattle.model_history.proofs.LockstepWords.{lockstep_one}
 use Rattle.script_json.specs.Recordings.{recording}
-use Rattle.recording_writer.specs.Recordings.{IsLockstepRecording}
-use Rattle.player_outcomes.specs.declared.outcome.Outcome.{Outcome}
-use Rattle.player_outcomes.specs.declared.summary.Summary.{Summary}
-use Rattle.player_outcomes.specs.Demos.{demo_line}
-use Rattle.player_outcomes.specs.Outputs.{WritesSome}
-use Rattle.player_outcomes.specs.Summaries.{IsSummary, summary_line}
-use Rattle.player_outcomes.proofs.Outputs.{some_as}
+use Rattle.player_lockstep.specs.Recordings.{IsLockstepRecording}
+use Rattle.player_uses.specs.declared.outcome.Outcome.{Outcome}
+use Rattle.player_uses.specs.declared.summary.Summary.{Summary}
+use Rattle.player_uses.specs.Demos.{demo_line}
+use Rattle.player_uses.specs.Outputs.{WritesSome}
+use Rattle.player_uses.specs.Summaries.{IsSummary, summary_line}
+use Rattle.player_uses.proofs.Outputs.{some_as}
 use Rattle.player_run.specs.Runs.{IsDemoOf}
 use Rattle.player_run.specs.inner.Summaries.{IsDemoSummary}
 

@@ -1,8 +1,8 @@
 -- What a run of the program does with its words, its input and its output.
 use Rattle.std.specs.Prelude.{◌≡◌, ℕ, ◌≤◌, ◌⊎◌, List, [], ◌++◌, length, codes, ⊤, Option, Some, None, IfSome, Result, Ok}
 use Rattle.std.specs.Io.KnownBytes.{Appends}
-use Rattle.player_io.specs.Counts.{Rose}
-use Rattle.player_io.specs.Pieces.{GainsPrefix}
+use Rattle.byte_io.specs.Counts.{Rose}
+use Rattle.byte_io.specs.Pieces.{GainsPrefix}
 use Rattle.model_history.specs.Scripts.{ScriptModel}
 use Rattle.model_history.specs.Frames.{blank}
 use Rattle.model_history.specs.Accepted.{TakesFrames}
@@ -10,16 +10,16 @@ use Rattle.model_history.specs.declared.history.Entry.{Entry}
 use Rattle.model_history.specs.Lockstep.{IsLockstep}
 use Rattle.script_json.specs.Causes.{IsSaid, IsScriptText}
 use Rattle.script_json.specs.Recordings.{IsRecordingOf, script_text}
-use Rattle.recording_writer.specs.Films.{IsLockstepFilm, IsLastImage}
-use Rattle.recording_writer.specs.Shots.{IsShot}
+use Rattle.player_lockstep.specs.Films.{IsLockstepFilm, IsLastImage}
+use Rattle.player_lockstep.specs.Shots.{IsShot}
 use Rattle.script_generator.specs.Generated.{script_of_number}
-use Rattle.player_outcomes.specs.declared.outcome.Outcome.{Outcome}
-use Rattle.player_outcomes.specs.declared.outcome.Outcome.TheVariants.{Done, Usage, ReadFault, WriteFault, Memory, NoPicture}
-use Rattle.player_outcomes.specs.Answers.{IsUnread, AnswersSession}
-use Rattle.player_outcomes.specs.Demos.{demo_line}
-use Rattle.player_outcomes.specs.Outputs.{AreImagesFrom}
-use Rattle.player_outcomes.specs.Refusals.{script_limit, IsAcceptedText, TakesRecording, TakesHistory, RefusedScript, RefusedRecording, RefusedHistory}
-use Rattle.player_outcomes.specs.Shots.{with_shot}
+use Rattle.player_uses.specs.declared.outcome.Outcome.{Outcome}
+use Rattle.player_uses.specs.declared.outcome.Outcome.TheVariants.{Done, Usage, ReadFault, WriteFault, Memory, NoPicture}
+use Rattle.player_uses.specs.Answers.{IsUnread, AnswersSession}
+use Rattle.player_uses.specs.Demos.{demo_line}
+use Rattle.player_uses.specs.Outputs.{AreImagesFrom}
+use Rattle.player_uses.specs.Refusals.{script_limit, IsAcceptedText, TakesRecording, TakesHistory, RefusedScript, RefusedRecording, RefusedHistory}
+use Rattle.player_uses.specs.Shots.{with_shot}
 use Rattle.player_run.specs.Promises.{IsSoundHistory, IsPlayed, IsPromised}
 use Rattle.player_run.specs.Shots.{HasPicture}
 use Rattle.player_words.specs.declared.words.Use.{Use}

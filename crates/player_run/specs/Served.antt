@@ -1,9 +1,9 @@
 -- What `serve N` answers a line, and what a session with a client was.
 use Rattle.std.specs.Prelude.{◌≡◌, ℕ, Bool, List, [], ◌++◌, flat_map, ⊤, Option, Some}
 use Rattle.player_lines.specs.Sessions.{Act, AtOnce, IsAnswered, IsBegun, IsEnded, frame, Has, HasFailed, IsNew}
-use Rattle.player_outcomes.specs.declared.outcome.Outcome.{Outcome}
-use Rattle.player_outcomes.specs.declared.outcome.Outcome.TheVariants.{Done, Json, Shape, Script, ReadFault, WriteFault, TooLong, Memory}
-use Rattle.player_outcomes.specs.Verdicts.{verdict}
+use Rattle.player_uses.specs.declared.outcome.Outcome.{Outcome}
+use Rattle.player_uses.specs.declared.outcome.Outcome.TheVariants.{Done, Json, Shape, Script, ReadFault, WriteFault, TooLong, Memory}
+use Rattle.player_uses.specs.Verdicts.{verdict}
 use Rattle.player_run.specs.Runs.{CauseOf, Writes}
 use Rattle.player_words.specs.declared.words.Use.TheVariants.{Step}
 

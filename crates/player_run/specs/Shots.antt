@@ -1,7 +1,7 @@
 -- Scripts that have a picture.
 use Rattle.std.specs.Prelude.{ℕ, List, Some}
 use Rattle.model_history.specs.Scripts.{ScriptModel}
-use Rattle.recording_writer.specs.Films.{IsLastImage}
+use Rattle.player_lockstep.specs.Films.{IsLastImage}
 
 -- some draw of its lockstep history gave an image
 abbrev pub HasPicture : ScriptModel → Type 0

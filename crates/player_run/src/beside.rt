@@ -7,21 +7,21 @@ ghost use Rattle.thread_ring.specs.Answers.{FaultRose};
 ghost use Rattle.impl_core.specs.Origins.{Origin};
 ghost use Rattle.proxy_threads.specs.Seats.{Of, OfBoth, Seat};
 ghost use Rattle.proxy_threads.specs.Writing.{FaultCause};
-ghost use Rattle.player_outcomes.specs.Faults.{Causes};
+ghost use Rattle.player_uses.specs.Faults.{Causes};
 ghost use Rattle.player_run.specs.inner.Actors.{Drove, HasRun, IsFirst, PlayEnds, ended_as, joint_outcome};
 
+use byte_io::Sink;
 use impl_core::Core;
-use player_io::Sink;
-use player_outcomes::Outcome;
+use player_uses::Outcome;
 use proxy_threads::{CompActor, Turned, drive_compositor};
-use recording_entries::ImagePainter;
-use recording_pieces::{Painters, SceneSink};
+use recording_writer::ImagePainter;
 use std::alloc::Global;
 use std::marker::Send;
 use std::sync::Wait;
 use std::thread::{Threads, join_mut};
 use thread_bell::Bell;
 use thread_lock::{Pass, TurnLock};
+use thread_pieces::{Painters, SceneSink};
 use thread_ring::{Presented, Presenter, RingSink, finish};
 
 /// What the compositor and the presenter left.

@@ -7,10 +7,10 @@ ghost use Rattle.proxy_threads.specs.MainTurns.{MainIsReady};
 ghost use Rattle.proxy_threads.specs.WorkTurns.{WorkIsReady};
 ghost use Rattle.player_run.specs.inner.Actors.{IsFirst, IsSame, IsSplitOf};
 
+use byte_io::Gate;
 use impl_core::Core;
 use main_host::MainHost;
 use model_history::Script;
-use player_io::Gate;
 use proxy_threads::{MainActor, RasterActor};
 use std::alloc::{AllocError, Global};
 use std::sync::{Arc, Wait};

@@ -2,16 +2,16 @@
 
 ghost use Rattle.std.specs.Prelude.{◌≤◌, IfSome};
 ghost use Rattle.script_generator.specs.Generated.{script_of_number as numbered_script};
-ghost use Rattle.player_outcomes.specs.Faults.{Causes};
-ghost use Rattle.player_outcomes.specs.Outputs.{WritesSome};
+ghost use Rattle.player_uses.specs.Faults.{Causes};
+ghost use Rattle.player_uses.specs.Outputs.{WritesSome};
 ghost use Rattle.player_run.specs.Runs.{IsDemoOf};
 ghost use Rattle.player_run.specs.inner.Summaries.{IsDemoSummary};
 
+use byte_io::Sink;
 use model_history::Script;
-use player_io::Sink;
-use player_outcomes::{Outcome, Summary, put_summary, summary_of};
+use player_lockstep::{Retention, record_lockstep};
+use player_uses::{Outcome, Summary, put_summary, summary_of};
 use recording_sums::SumSink;
-use recording_writer::{Retention, record_lockstep};
 use script_generator::script_of_number;
 use std::alloc::Global;
 use std::sync::Arc;

@@ -1,22 +1,22 @@
 //! A script of the source, played in lockstep, of which the images alone are written.
 
 ghost use Rattle.std.specs.Prelude.{◌≤◌, Ok};
-ghost use Rattle.recording_writer.specs.Films.{IsLockstepFilm};
-ghost use Rattle.player_outcomes.specs.Answers.{TellsMisfit, MayAnswer};
-ghost use Rattle.player_outcomes.specs.Reading.{Reads, ReadToEnd};
-ghost use Rattle.player_outcomes.specs.Faults.{Causes, StopsAtFault};
-ghost use Rattle.player_outcomes.specs.Outputs.{WritesSome};
+ghost use Rattle.player_lockstep.specs.Films.{IsLockstepFilm};
+ghost use Rattle.player_uses.specs.Answers.{TellsMisfit, MayAnswer};
+ghost use Rattle.player_uses.specs.Reading.{Reads, ReadToEnd};
+ghost use Rattle.player_uses.specs.Faults.{Causes, StopsAtFault};
+ghost use Rattle.player_uses.specs.Outputs.{WritesSome};
 ghost use Rattle.player_run.specs.Runs.{CauseFrom, Writes};
 
+use byte_io::{Sink, Source};
 use model_history::Script;
-use player_io::{Sink, Source};
-use player_outcomes::{Outcome, read_script_from};
+use player_lockstep::film_lockstep;
+use player_uses::{Outcome, read_script_from};
 use player_words::Use;
-use recording_pieces::WriteStop;
-use recording_writer::film_lockstep;
 use std::alloc::Global;
 use std::sync::Arc;
 use std::thread::Threads;
+use thread_pieces::WriteStop;
 
 // Plays a script in lockstep with the given number of raster workers, and writes its images.
 fn film<R: Threads + Sync, K: Sink>(
@@ -42,7 +42,7 @@ fn film<R: Threads + Sync, K: Sink>(
 }
 
 /// Plays the script of the source in lockstep with the given number of raster workers, and writes its images.
-#[tactic(auto, using(crate::proofs::ScriptsPlayed::film_output, crate::proofs::ScriptsPlayed::film_cause, player_outcomes::proofs::Outputs::some_words, player_outcomes::proofs::Answered::some_script, player_outcomes::proofs::Answered::some_stops))]
+#[tactic(auto, using(crate::proofs::ScriptsPlayed::film_output, crate::proofs::ScriptsPlayed::film_cause, player_uses::proofs::Outputs::some_words, player_uses::proofs::Answered::some_script, player_uses::proofs::Answered::some_stops))]
 pub fn run_film<R: Threads + Sync, S: Source, K: Sink>(
     rt: &R,
     alloc: Global,

@@ -4,7 +4,7 @@
 //! `demo NUMBER` plays one and sums it up.
 //!
 //! `program` joins all; each use that plays has a module. What the words ask for is in `player_words`; how a run ends,
-//! what reads its script, and the words that play nothing are in `player_outcomes`.
+//! what reads its script, and the words that play nothing are in `player_uses`.
 #![tactic(auto)]
 
 mod beside;
@@ -20,6 +20,6 @@ mod shot;
 mod step;
 mod threads;
 
-pub use player_outcomes::Outcome;
+pub use player_uses::Outcome;
 pub use program::{run, run_alone};
 pub use serving::serve;

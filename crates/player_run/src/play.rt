@@ -4,20 +4,20 @@ ghost use Rattle.std.specs.Prelude.{◌≡◌, ◌≤◌, [], Ok, IfOk, IfSome, 
 ghost use Rattle.thread_ring.specs.Ring.{OneRing, bytes_taken, whole};
 ghost use Rattle.model_history.specs.Recordings.{header};
 ghost use Rattle.script_json.specs.Recordings.{script_text};
-ghost use Rattle.player_outcomes.specs.Answers.{TellsMisfit, MayAnswer};
-ghost use Rattle.player_outcomes.specs.Reading.{Reads, ReadToEnd};
-ghost use Rattle.player_outcomes.specs.Faults.{Causes, StopsAtFault};
-ghost use Rattle.player_outcomes.specs.Outputs.{WritesOrBegins};
+ghost use Rattle.player_uses.specs.Answers.{TellsMisfit, MayAnswer};
+ghost use Rattle.player_uses.specs.Reading.{Reads, ReadToEnd};
+ghost use Rattle.player_uses.specs.Faults.{Causes, StopsAtFault};
+ghost use Rattle.player_uses.specs.Outputs.{WritesOrBegins};
 ghost use Rattle.player_run.specs.Runs.{CauseFrom, IsPlayOf, IsPlayUpTo, Writes};
 
 use crate::crew::crew_of;
 use crate::step::play_lockstep;
 use crate::threads::run_crew;
+use byte_io::{Gate, Sink, Source};
 use model_history::Script;
-use player_io::{Gate, Sink, Source};
-use player_outcomes::{Outcome, read_script_from};
+use player_uses::{Outcome, read_script_from};
 use player_words::Use;
-use recording_entries::header_of;
+use recording_writer::header_of;
 use script_json::print_script;
 use std::alloc::{AllocError, Global};
 use std::marker::Send;
@@ -89,7 +89,7 @@ fn play<R: Threads + Wait + Sync, K: Sink + Send, G: Gate + Sync>(
 
 /// Plays the script of the source by actors on threads, the given number of raster workers among them, and
 /// writes its recording.
-#[tactic(auto, using(crate::proofs::ScriptsActed::acted_output, crate::proofs::ScriptsActed::acted_cause, crate::proofs::ScriptsActed::acted_words, player_outcomes::proofs::Answered::begun_script, player_outcomes::proofs::Answered::begun_stops))]
+#[tactic(auto, using(crate::proofs::ScriptsActed::acted_output, crate::proofs::ScriptsActed::acted_cause, crate::proofs::ScriptsActed::acted_words, player_uses::proofs::Answered::begun_script, player_uses::proofs::Answered::begun_stops))]
 pub fn run_play<R: Threads + Wait + Sync, S: Source, K: Sink + Send, G: Gate + Sync>(
     rt: &R,
     alloc: Global,

@@ -2,10 +2,10 @@
 
 ghost use Rattle.std.specs.Prelude.{◌≡◌, Ok, true, false, is_none, IfNone, IfOk, IfSome, OnErr, map, string_bytes};
 ghost use Rattle.player_words.specs.Words.{asks_more, asks_play, asks_serve, needs_more, use_of as use_in};
-ghost use Rattle.player_outcomes.specs.Outcomes.{line_of, Told};
-ghost use Rattle.player_outcomes.specs.Answers.{TellsMisfit, MayAnswer};
-ghost use Rattle.player_outcomes.specs.Reading.{Reads, ReadToEnd};
-ghost use Rattle.player_outcomes.specs.Faults.{Causes, StopsAtFault};
+ghost use Rattle.player_uses.specs.Outcomes.{line_of, Told};
+ghost use Rattle.player_uses.specs.Answers.{TellsMisfit, MayAnswer};
+ghost use Rattle.player_uses.specs.Reading.{Reads, ReadToEnd};
+ghost use Rattle.player_uses.specs.Faults.{Causes, StopsAtFault};
 ghost use Rattle.player_run.specs.Runs.{CauseFrom, Writes, IsComplete, OnServe, UnlessServe};
 ghost use Rattle.player_run.specs.Served.{Serves, ServeCause};
 ghost use Rattle.player_words.specs.Words.{IsFew};
@@ -16,9 +16,9 @@ use crate::play::run_play;
 use crate::serving::serve;
 use crate::shot::run_shot;
 use crate::step::run_step;
-use player_io::{Gate, Sink, Source};
+use byte_io::{Gate, Sink, Source};
 use player_lines::{Client, Session};
-use player_outcomes::{Outcome, run_check, run_frames, run_gen, tell};
+use player_uses::{Outcome, run_check, run_frames, run_gen, tell};
 use player_words::{Use, players, servers, use_of};
 use std::alloc::Global;
 use std::marker::Send;
@@ -27,7 +27,7 @@ use std::thread::Threads;
 
 // Does what a use asks for, but for the line to the notes. None where it is `play N` or `serve N`; then nothing
 // was read and nothing written.
-#[tactic(auto, using(player_outcomes::proofs::Outputs::some_words, player_outcomes::proofs::Outputs::some_unread, crate::proofs::Outputs::some_output, player_outcomes::proofs::Answered::some_stops))]
+#[tactic(auto, using(player_uses::proofs::Outputs::some_words, player_uses::proofs::Outputs::some_unread, crate::proofs::Outputs::some_output, player_uses::proofs::Answered::some_stops))]
 fn run_use<R: Threads + Sync, S: Source, K: Sink>(
     rt: &R,
     alloc: Global,

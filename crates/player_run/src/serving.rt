@@ -5,21 +5,21 @@ ghost use Rattle.model_history.specs.Accepted.{IsAccepted};
 ghost use Rattle.script_json.specs.Causes.{IsScriptText};
 ghost use Rattle.player_lines.specs.Sessions.{HasFailed};
 ghost use Rattle.player_lines.specs.inner.Pasts.{Answered};
-ghost use Rattle.player_outcomes.specs.Refusals.{script_limit};
-ghost use Rattle.player_outcomes.specs.Answers.{AnswersSession};
+ghost use Rattle.player_uses.specs.Refusals.{script_limit};
+ghost use Rattle.player_uses.specs.Answers.{AnswersSession};
 ghost use Rattle.player_run.specs.Served.{IsLineAnswer, Serves, ServeCause};
 
 use crate::line_player::LinePlayer;
 use crate::step::play;
 use model_history::Script;
 use player_lines::{Answerer, Client, Failed, Session, Stop, Unkept};
-use player_outcomes::{Outcome, SCRIPT_LIMIT, put_verdict, script_in};
+use player_uses::{Outcome, SCRIPT_LIMIT, put_verdict, script_in};
 use std::alloc::Global;
 use std::thread::Threads;
 
 impl LinePlayer {
     // Plays the script of the line of a number, and answers with its recording.
-    #[tactic(auto, using(player_outcomes::proofs::Answered::fault_rose))]
+    #[tactic(auto, using(player_uses::proofs::Answered::fault_rose))]
     fn play_line<R: Threads + Sync, C: Client>(
         &self,
         rt: &R,

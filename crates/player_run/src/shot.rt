@@ -1,17 +1,17 @@
 //! A script of the source, played in lockstep, of which the last picture is written as a PNG file.
 
 ghost use Rattle.std.specs.Prelude.{◌≤◌, Ok};
-ghost use Rattle.player_outcomes.specs.Answers.{TellsMisfit, MayAnswer};
-ghost use Rattle.player_outcomes.specs.Reading.{Reads, ReadToEnd};
-ghost use Rattle.player_outcomes.specs.Faults.{Causes, StopsAtFault};
+ghost use Rattle.player_uses.specs.Answers.{TellsMisfit, MayAnswer};
+ghost use Rattle.player_uses.specs.Reading.{Reads, ReadToEnd};
+ghost use Rattle.player_uses.specs.Faults.{Causes, StopsAtFault};
 ghost use Rattle.player_run.specs.Runs.{CauseFrom, Writes};
 ghost use Rattle.player_run.specs.inner.Shots.{Shoots};
 
+use byte_io::{Sink, Source};
 use model_history::Script;
-use player_io::{Sink, Source};
-use player_outcomes::{Outcome, put_file, read_shot_from};
+use player_lockstep::shoot;
+use player_uses::{Outcome, put_file, read_shot_from};
 use player_words::Use;
-use recording_writer::shoot;
 use std::alloc::Global;
 use std::sync::Arc;
 use std::thread::Threads;

@@ -1,21 +1,21 @@
 //! A script of the source, played in lockstep.
 
 ghost use Rattle.std.specs.Prelude.{◌≡◌, ◌≤◌, Ok};
-ghost use Rattle.player_outcomes.specs.Answers.{TellsMisfit, MayAnswer};
-ghost use Rattle.player_outcomes.specs.Reading.{Reads, ReadToEnd};
-ghost use Rattle.player_outcomes.specs.Faults.{Causes, StopsAtFault};
-ghost use Rattle.player_outcomes.specs.Outputs.{WritesSome};
+ghost use Rattle.player_uses.specs.Answers.{TellsMisfit, MayAnswer};
+ghost use Rattle.player_uses.specs.Reading.{Reads, ReadToEnd};
+ghost use Rattle.player_uses.specs.Faults.{Causes, StopsAtFault};
+ghost use Rattle.player_uses.specs.Outputs.{WritesSome};
 ghost use Rattle.player_run.specs.Runs.{CauseFrom, IsRunOf, Writes};
 
+use byte_io::{Sink, Source};
 use model_history::Script;
-use player_io::{Sink, Source};
-use player_outcomes::{Outcome, read_script_from};
+use player_lockstep::{Recorded, Retention, record_lockstep};
+use player_uses::{Outcome, read_script_from};
 use player_words::Use;
-use recording_pieces::WriteStop;
-use recording_writer::{Recorded, Retention, record_lockstep};
 use std::alloc::Global;
 use std::sync::Arc;
 use std::thread::Threads;
+use thread_pieces::WriteStop;
 
 // All was done with a run, which is given up.
 fn done_with(_run: Recorded) -> Outcome
@@ -65,7 +65,7 @@ pub(crate) fn play<R: Threads + Sync, K: Sink>(
 }
 
 /// Plays the script of the source in lockstep with the given number of raster workers, and writes its recording.
-#[tactic(auto, using(crate::proofs::ScriptsPlayed::script_output, crate::proofs::ScriptsPlayed::script_cause, player_outcomes::proofs::Outputs::some_words, player_outcomes::proofs::Answered::some_script, player_outcomes::proofs::Answered::some_stops))]
+#[tactic(auto, using(crate::proofs::ScriptsPlayed::script_output, crate::proofs::ScriptsPlayed::script_cause, player_uses::proofs::Outputs::some_words, player_uses::proofs::Answered::some_script, player_uses::proofs::Answered::some_stops))]
 pub fn run_step<R: Threads + Sync, S: Source, K: Sink>(
     rt: &R,
     alloc: Global,

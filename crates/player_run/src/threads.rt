@@ -7,14 +7,14 @@ ghost use Rattle.impl_core.specs.Origins.{Origin};
 ghost use Rattle.proxy_threads.specs.Seats.{Of};
 ghost use Rattle.proxy_threads.specs.MainTurns.{MainIsReady};
 ghost use Rattle.proxy_threads.specs.WorkTurns.{WorkIsReady};
-ghost use Rattle.player_outcomes.specs.Faults.{Causes};
+ghost use Rattle.player_uses.specs.Faults.{Causes};
 ghost use Rattle.player_run.specs.inner.Actors.{HasRun, IsFirst, PlayEnds};
 
 use crate::beside::{Ran, join_outcomes, run_beside, take_back};
 use crate::crew::Crew;
+use byte_io::{Gate, Sink};
 use impl_core::Core;
-use player_io::{Gate, Sink};
-use player_outcomes::Outcome;
+use player_uses::Outcome;
 use proxy_threads::{MainActor, RasterActor, drive_main, drive_worker};
 use std::alloc::Global;
 use std::marker::Send;

@@ -1,7 +1,7 @@
 -- The main side of a run, as it runs the frame in flight and hands over how that frame ends.
 use Rattle.std.proofs.Common.{◌≡◌, ℕ, suc, ◌<◌, ◌≤◌, Bool, true, false, List, length, Option, Some, None, sym, ◌∙◌, ap, subst, arith}
-use Rattle.model_scheduler.specs.declared.kind.Kind.TheVariants as kind
-use Rattle.model_scheduler.specs.Kinds.{is_sent}
+use Rattle.model_states.specs.declared.kind.Kind.TheVariants as kind
+use Rattle.model_states.specs.Kinds.{is_sent}
 use Rattle.page_layers.specs.declared.moves.Move.{Move}
 use Rattle.model_history.specs.declared.event.Event.TheVariants as event
 use Rattle.model_history.specs.Scripts.{ScriptModel}

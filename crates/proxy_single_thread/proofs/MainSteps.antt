@@ -1,10 +1,10 @@
 -- The main side of a run after an event more.
 use Rattle.std.proofs.Common.{◌≡◌, ℕ, suc, Bool, true, false, cond, List, [], ◌∷◌, ◌++◌, Some, None, refl, sym, ◌∙◌, ap, subst, arith}
-use Rattle.model_scheduler.specs.declared.kind.Kind.{Kind}
-use Rattle.model_scheduler.specs.declared.kind.Kind.TheVariants as kind
-use Rattle.model_scheduler.specs.declared.states.MainState.{MainState}
-use Rattle.model_scheduler.specs.declared.states.MainState.TheVariants as main
-use Rattle.model_scheduler.specs.Kinds.{is_main_idle, is_sent, is_ready_to_commit}
+use Rattle.model_states.specs.declared.kind.Kind.{Kind}
+use Rattle.model_states.specs.declared.kind.Kind.TheVariants as kind
+use Rattle.model_states.specs.declared.states.MainState.{MainState}
+use Rattle.model_states.specs.declared.states.MainState.TheVariants as main
+use Rattle.model_states.specs.Kinds.{is_main_idle, is_sent, is_ready_to_commit}
 use Rattle.page_layers.specs.declared.moves.Move.{Move}
 use Rattle.model_history.specs.declared.event.Event.{Event}
 use Rattle.model_history.specs.declared.event.Event.TheVariants as event

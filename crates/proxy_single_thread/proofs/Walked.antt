@@ -1,6 +1,6 @@
 -- What the main side tells of the frame that was sent last.
 use Rattle.std.proofs.Common.{◌≡◌, ℕ, suc, Bool, true, false, List, Option, Some, None, is_some, refl, ◌∙◌, ap, arith}
-use Rattle.model_scheduler.specs.Kinds.{is_sent}
+use Rattle.model_states.specs.Kinds.{is_sent}
 use Rattle.page_layers.specs.declared.moves.Move.{Move}
 use Rattle.model_history.specs.Scripts.{ScriptModel}
 use Rattle.model_history.specs.EventFields.{sends}

@@ -4,7 +4,7 @@ ghost use Rattle.proxy_single_thread.specs.Singles.{walk_of};
 
 use crate::single::SingleThread;
 use model_lockstep::{Compositor, EnterFault};
-use model_scheduler::Kind;
+use model_states::Kind;
 use std::alloc::AllocError;
 use std::thread::Threads;
 

@@ -1,13 +1,13 @@
 //! Entering an event by its kind and its actor.
 
 ghost use Rattle.std.specs.Prelude.{◌≡◌, ◌+◌, ◌≤◌, ◌<◌, true};
-ghost use Rattle.model_scheduler.specs.declared.kind.Kind.TheVariants as kind;
+ghost use Rattle.model_states.specs.declared.kind.Kind.TheVariants as kind;
 ghost use Rattle.impl_core.specs.Replies.{is_own};
 ghost use Rattle.proxy_single_thread.specs.Singles.{SingleEnters, HasKind};
 
 use crate::single::SingleThread;
 use model_lockstep::EnterFault;
-use model_scheduler::Kind;
+use model_states::Kind;
 
 impl SingleThread {
     /// Enters the event of this kind and actor, where it may come now. The actor is one that has such events:

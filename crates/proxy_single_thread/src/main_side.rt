@@ -1,7 +1,7 @@
 //! The main side of a core on the same thread.
 
 ghost use Rattle.std.specs.Prelude.{◌≡◌, ℕ, false, OnOk};
-ghost use Rattle.model_scheduler.specs.declared.kind.Kind.TheVariants as kind;
+ghost use Rattle.model_states.specs.declared.kind.Kind.TheVariants as kind;
 ghost use Rattle.model_history.specs.Scans.{has_ended};
 ghost use Rattle.impl_log.specs.Runs.{new_run, past};
 ghost use Rattle.proxy_single_thread.specs.Singles.{SingleEnters};

@@ -8,7 +8,7 @@ ghost use Rattle.proxy_single_thread.specs.inner.Images.{ArePrepared, IsOfKey, S
 
 use geom::TileKey;
 use impl_core::Core;
-use model_scheduler::{Begun, Kind};
+use model_states::{Begun, Kind};
 use std::alloc::{AllocError, Global};
 use std::sync::Arc;
 use std::thread::Threads;

@@ -9,7 +9,7 @@ ghost use Rattle.proxy_single_thread.specs.inner.Sides.{IsShown};
 
 use impl_core::{Core, CoreFault, Reply};
 use model_lockstep::EnterFault;
-use model_scheduler::Kind;
+use model_states::Kind;
 use std::alloc::Global;
 use viz_scene::Scene;
 

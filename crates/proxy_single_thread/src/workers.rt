@@ -1,7 +1,7 @@
 //! The jobs of the workers of a core on the same thread.
 
 ghost use Rattle.std.specs.Prelude.{◌+◌, ◌<◌, IfOk};
-ghost use Rattle.model_scheduler.specs.declared.kind.Kind.TheVariants as kind;
+ghost use Rattle.model_states.specs.declared.kind.Kind.TheVariants as kind;
 ghost use Rattle.model_history.specs.Scripts.{ScriptModel};
 ghost use Rattle.impl_log.specs.Runs.{new_run};
 ghost use Rattle.proxy_single_thread.specs.Singles.{SingleEnters};

@@ -3,9 +3,9 @@ use Rattle.std.proofs.Common.{◌≡◌, ◌≢◌, inl, inr, ℕ, zero, suc, mi
 use Rattle.std.specs.Prelude.{⊤}
 use Rattle.std.specs.Io.KnownBytes.{Appends}
 use Rattle.std.proofs.lemmas.List.{take-append-drop, length-take}
-use Rattle.player_io.specs.Pieces.{GainsPrefix}
-use Rattle.model_scheduler.specs.declared.kind.Kind.{Kind}
-use Rattle.model_scheduler.specs.declared.kind.Kind.TheVariants as kind
+use Rattle.byte_io.specs.Pieces.{GainsPrefix}
+use Rattle.model_states.specs.declared.kind.Kind.{Kind}
+use Rattle.model_states.specs.declared.kind.Kind.TheVariants as kind
 use Rattle.thread_lock.specs.Lists.{entries_by}
 use Rattle.model_history.specs.declared.event.Event.{Event}
 use Rattle.model_history.specs.declared.history.Entry.{Entry}
@@ -18,8 +18,8 @@ use Rattle.impl_log.specs.Runs.{Run, past, with_entry, Entered}
 use Rattle.impl_log.proofs.LogSteps.{now_is, past_more}
 use Rattle.impl_core.specs.Origins.{Origin}
 use Rattle.impl_core.specs.Replies.{is_played, is_draw_kind, IsPicture}
-use Rattle.recording_pieces.specs.Scenes.{scene_image}
-use Rattle.recording_pieces.proofs.Gains.{gains_longer}
+use Rattle.thread_pieces.specs.Scenes.{scene_image}
+use Rattle.thread_pieces.proofs.Gains.{gains_longer}
 use Rattle.proxy_threads.specs.declared.turned.Turned.{Turned}
 use Rattle.proxy_threads.specs.declared.turned.Turned.TheVariants as turned
 use Rattle.proxy_threads.specs.declared.playing.Played.{Played}

@@ -2,10 +2,10 @@
 use Rattle.std.proofs.Common.{◌≡◌, ℕ, List, [], ◌++◌, append-nil, sym, subst}
 use Rattle.std.specs.Prelude.{Option}
 use Rattle.std.specs.Io.KnownBytes.{Appends}
-use Rattle.player_io.specs.Pieces.{GainsPrefix}
-use Rattle.recording_pieces.specs.declared.writing.WriteStop.{WriteStop}
-use Rattle.recording_pieces.specs.declared.writing.WriteStop.TheVariants as stop
-use Rattle.recording_pieces.proofs.Gains.{appends_nothing, gains_both, gains_front, gains_longer}
+use Rattle.byte_io.specs.Pieces.{GainsPrefix}
+use Rattle.thread_pieces.specs.declared.writing.WriteStop.{WriteStop}
+use Rattle.thread_pieces.specs.declared.writing.WriteStop.TheVariants as stop
+use Rattle.thread_pieces.proofs.Gains.{appends_nothing, gains_both, gains_front, gains_longer}
 use Rattle.proxy_threads.specs.declared.turned.Turned.{Turned}
 use Rattle.proxy_threads.specs.declared.turned.Turned.TheVariants as turned
 use Rattle.proxy_threads.specs.Writing.{FaultCause, Wrote}

@@ -8,7 +8,7 @@ use Rattle.model_history.specs.Scans.{has_ended}
 use Rattle.model_history.specs.Scripts.{ScriptModel}
 use Rattle.impl_log.specs.Runs.{Run, past}
 use Rattle.impl_core.specs.Origins.{Origin, origin_of}
-use Rattle.recording_pieces.proofs.Gains.{appends_nothing, gains_both}
+use Rattle.thread_pieces.proofs.Gains.{appends_nothing, gains_both}
 use Rattle.proxy_threads.specs.declared.turned.Turned.{Turned}
 use Rattle.proxy_threads.specs.declared.turned.Turned.TheVariants as turned
 use Rattle.proxy_threads.specs.Seats.{Seat, Of}

@@ -1,7 +1,7 @@
 -- Which events may come of an actor.
 use Rattle.std.proofs.Common.{◌≡◌, ℕ, ◌+◌, true, false, cond, not, ◌&&◌, List, Option, Some, None, refl, sym, ◌∙◌, ap, arith}
-use Rattle.model_scheduler.specs.declared.kind.Kind.{Kind}
-use Rattle.model_scheduler.specs.declared.kind.Kind.TheVariants as kind
+use Rattle.model_states.specs.declared.kind.Kind.{Kind}
+use Rattle.model_states.specs.declared.kind.Kind.TheVariants as kind
 use Rattle.model_history.specs.declared.event.Event.{Event}
 use Rattle.model_history.specs.declared.event.Event.TheVariants as event
 use Rattle.model_history.specs.declared.history.Entry.{Entry}
@@ -10,7 +10,7 @@ use Rattle.model_history.specs.EventFields.{kind_of, actor_of}
 use Rattle.model_history.specs.Scans.{held}
 use Rattle.model_history.specs.Due.{due}
 use Rattle.model_history.specs.Legal.{sched, can, Next}
-use Rattle.model_scheduler.specs.Kinds.{is_sent}
+use Rattle.model_states.specs.Kinds.{is_sent}
 use Rattle.model_history.proofs.BoolFacts.{not_both}
 use Rattle.model_history.proofs.DueFacts.{entry, at_ready, at_abort, at_done}
 use Rattle.impl_core.specs.Replies.{is_own}

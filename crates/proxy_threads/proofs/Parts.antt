@@ -2,7 +2,7 @@
 use Rattle.std.proofs.Common.{◌≡◌, ◌≢◌, ℕ, false, List, [], ◌∷◌, ◌++◌, refl, sym, ◌∙◌, ap, subst, append_assoc, append-nil}
 use mathlib.Core.List.{reverse_aux}
 use Rattle.viz_scene.specs.Views.{SceneView}
-use Rattle.model_scheduler.specs.declared.kind.Kind.TheVariants as kind
+use Rattle.model_states.specs.declared.kind.Kind.TheVariants as kind
 use Rattle.thread_lock.specs.Lists.{entries_by}
 use Rattle.model_history.specs.declared.event.Event.{Event}
 use Rattle.model_history.specs.declared.event.Event.TheVariants as event
@@ -16,7 +16,7 @@ use Rattle.model_history.proofs.BoolFacts.{other_number}
 use Rattle.model_history.proofs.DueFacts.{entry}
 use Rattle.impl_core.specs.Replies.{IsPicture, is_draw_kind}
 use Rattle.impl_core.proofs.DrawnImages.{drawn_image}
-use Rattle.recording_pieces.specs.Scenes.{scene_image}
+use Rattle.thread_pieces.specs.Scenes.{scene_image}
 use Rattle.proxy_threads.specs.Seats.{entry_of_pair, entries_of, past_of}
 use Rattle.proxy_threads.specs.Writing.{part}
 use Rattle.proxy_threads.specs.inner.Steps.{lines_of}

@@ -1,8 +1,8 @@
 -- What the compositor writes.
 use Rattle.std.specs.Prelude.{◌≡◌, ◌≤◌, ℕ, Bool, true, List, length, take, drop, Option, Some, None, ⊤}
 use Rattle.std.specs.Io.KnownBytes.{Appends}
-use Rattle.player_io.specs.Counts.{Rose}
-use Rattle.player_io.specs.Pieces.{GainsPrefix}
+use Rattle.byte_io.specs.Counts.{Rose}
+use Rattle.byte_io.specs.Pieces.{GainsPrefix}
 use Rattle.atomic_table.specs.Seated.{TableId}
 use Rattle.thread_lock.specs.Lists.{entries_by}
 use Rattle.model_history.specs.declared.event.Event.{Event}

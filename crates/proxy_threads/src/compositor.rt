@@ -11,10 +11,10 @@ use crate::turned::Turned;
 use crate::wakes::Wakes;
 use crate::writing::write;
 use impl_core::Core;
-use recording_pieces::SceneSink;
 use std::alloc::Global;
 use std::sync::Wait;
 use thread_lock::{Pass, TurnLock};
+use thread_pieces::SceneSink;
 
 /// The compositor: it plays the inputs, sends and takes the main frames, draws, and writes what it and the
 /// others enter.

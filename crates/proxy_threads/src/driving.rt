@@ -12,13 +12,13 @@ use crate::main_actor::MainActor;
 use crate::raster_actor::RasterActor;
 use crate::turned::Turned;
 use crate::wakes::Wakes;
+use byte_io::Gate;
 use impl_core::Core;
-use player_io::Gate;
-use recording_pieces::SceneSink;
 use std::sync::Wait;
 use std::time::Duration;
 use thread_bell::{Bell, Post};
 use thread_lock::TurnLock;
+use thread_pieces::SceneSink;
 
 // How many milliseconds the compositor sleeps at most. Nobody rings when a worker has started a tile, or when the sink
 // has place again for what it keeps; at its next turn the compositor writes the one and passes the other on.

@@ -12,7 +12,7 @@ ghost use Rattle.proxy_threads.specs.inner.Steps.{AreOwn, Composes, Gathers, Pla
 use crate::holding::{put_back, take_turn};
 use crate::lines::Lines;
 use impl_core::{Core, CoreFault, Reply};
-use model_scheduler::Kind;
+use model_states::Kind;
 use std::sync::Wait;
 use thread_lock::{Pass, TurnLock};
 use viz_scene::Scene;

@@ -10,8 +10,8 @@ ghost use Rattle.proxy_threads.specs.inner.Works.{CanBeDone, Finishes, Holds, Ho
 
 use crate::holding::{put_back, stop, take_turn};
 use crate::turned::Turned;
+use byte_io::Gate;
 use impl_core::Core;
-use player_io::Gate;
 use std::alloc::Global;
 use std::sync::{Arc, Wait};
 use thread_lock::{Pass, TurnLock};

@@ -2,15 +2,15 @@
 
 ghost use Rattle.std.specs.Prelude.{◌≡◌, ◌≤◌, ◌++◌, []};
 ghost use Rattle.std.specs.Io.KnownBytes.{Appends};
-ghost use Rattle.recording_pieces.specs.Scenes.{scene_image};
+ghost use Rattle.thread_pieces.specs.Scenes.{scene_image};
 ghost use Rattle.proxy_threads.specs.declared.turned.Turned.TheVariants.{Blocked};
 ghost use Rattle.proxy_threads.specs.Writing.{FaultCause, Wrote};
 ghost use Rattle.proxy_threads.specs.inner.Steps.{Answers, answer_at, image_in, text_for, GoesOrGivesUp};
 
 use crate::playing::Played;
 use crate::turned::Turned;
-use player_io::PutFault;
-use recording_pieces::{SceneSink, WriteStop, put_all};
+use byte_io::PutFault;
+use thread_pieces::{SceneSink, WriteStop, put_all};
 use viz_scene::Scene;
 
 // The answer where a piece was not put.

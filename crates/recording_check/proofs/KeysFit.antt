@@ -19,8 +19,8 @@ use Rattle.page_layers.specs.Tests.{check_range, is_id, is_size}
 use Rattle.page_layers.proofs.LayerKeeps.{each-found}
 use Rattle.page_layers.proofs.TestFacts.{passed, count_facts}
 use Rattle.tile_visible.specs.Visible.{grid_of}
-use Rattle.tile_ranks.proofs.GridPlaces.{place_had}
-use Rattle.tile_ranks.proofs.SeenLayers.{has_in}
+use Rattle.impl_ranks.proofs.GridPlaces.{place_had}
+use Rattle.impl_ranks.proofs.SeenLayers.{has_in}
 use Rattle.model_history.specs.declared.history.Entry.{Entry}
 use Rattle.model_history.specs.Scripts.{ScriptModel}
 use Rattle.model_history.specs.Accepted.{IsAccepted}

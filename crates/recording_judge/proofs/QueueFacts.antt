@@ -16,8 +16,8 @@ use Rattle.model_history.specs.Legal.{Legal}
 use Rattle.model_history.specs.Tiles.{in_flight}
 use Rattle.model_history.proofs.BoolFacts.{or_either, or_right}
 use Rattle.model_history.proofs.TileCourse.{tile_course, holder}
-use Rattle.tile_prepare.specs.inner.Queued.{AreTilesAt}
-use Rattle.tile_manager.proofs.KeyOrders.{in_order_sorted}
+use Rattle.impl_choice.specs.inner.Queued.{AreTilesAt}
+use Rattle.impl_tiles.proofs.KeyOrders.{in_order_sorted}
 use Rattle.recording_judge.specs.declared.tile_keys.TileKeys.{TileKeys}
 use Rattle.recording_judge.specs.inner.Tiles.{Holds, held_keys, store_of}
 

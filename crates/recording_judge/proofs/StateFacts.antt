@@ -2,7 +2,7 @@
 use Rattle.std.proofs.Common.{◌≡◌, ℕ, ◌+◌, ◌<◌, Bool, true, false, cond, not, ◌&&◌, List, [], ◌∷◌, ◌++◌, Option, Some, None, is_some, Result, Ok, Err, refl, sym, ◌∙◌, ap, subst, arith}
 use Rattle.std.specs.Prelude.{IfSome, OnOk}
 use Rattle.std.specs.Bool.{Decides}
-use Rattle.model_scheduler.specs.declared.kind.Kind.{Kind}
+use Rattle.model_states.specs.declared.kind.Kind.{Kind}
 use Rattle.page_layers.specs.declared.moves.Move.{Move}
 use Rattle.model_history.specs.declared.event.Event.{Event}
 use Rattle.model_history.specs.declared.event.Event.TheVariants as event
@@ -19,8 +19,8 @@ use Rattle.tile_priority.specs.Alike.{Alike}
 use Rattle.model_steps.specs.Events.{send, abort, commit, start, done}
 use Rattle.model_steps.proofs.TreesAfter.{send_ready, send_choice, abort_choice}
 use Rattle.impl_scroll.specs.Standings.{StandingModel, StandsForPast, uses_scroll}
-use Rattle.tile_prepare.proofs.SameTiles.{same_tiles, same_after_commit}
-use Rattle.tile_prepare.specs.Rebuilds.{leaves_tiles}
+use Rattle.impl_choice.proofs.SameTiles.{same_tiles, same_after_commit}
+use Rattle.impl_choice.specs.Rebuilds.{leaves_tiles}
 use Rattle.model_history.specs.Accepted.{IsAccepted}
 use Rattle.impl_host.specs.Hosts.{ImplHostModel, Hosts, with_standing}
 use Rattle.geom.specs.declared.tile.TileKey.{TileKey}

@@ -32,8 +32,8 @@ use Rattle.model_steps.specs.Events.{start, done, activate}
 use Rattle.model_steps.proofs.Starts.{has_ready_next, start_alike}
 use Rattle.model_steps.proofs.Dones.{flies, ready_done, done_live, done_dead}
 use Rattle.model_steps.proofs.ReadyAfter.{activate_ready}
-use Rattle.tile_manager.specs.Managers.{tile_made}
-use Rattle.tile_manager.proofs.Bools.{is_some_if, some_key}
+use Rattle.impl_tiles.specs.Managers.{tile_made}
+use Rattle.impl_tiles.proofs.Bools.{is_some_if, some_key}
 use Rattle.recording_judge.specs.declared.tile_keys.TileKeys.{TileKeys}
 use Rattle.recording_judge.specs.inner.Tiles.{Holds, AreFree, Started, Finished}
 

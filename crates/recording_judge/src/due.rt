@@ -1,7 +1,7 @@
 //! Which event is due, by its kind and its actor, where the states allow its kind.
 
 ghost use Rattle.std.specs.Prelude.{◌≡◌, ◌+◌, ◌-◌, ◌<◌, ◌≤◌, true, is_some, option_copied, IfOk, Some, None};
-ghost use Rattle.model_scheduler.specs.declared.kind.Kind.TheVariants as kind;
+ghost use Rattle.model_states.specs.declared.kind.Kind.TheVariants as kind;
 ghost use Rattle.model_history.specs.declared.event.Event.TheVariants as event;
 ghost use Rattle.model_history.specs.declared.input.Input.TheVariants as input;
 ghost use Rattle.model_history.specs.Due as dues;
@@ -12,16 +12,16 @@ ghost use Rattle.model_history.specs.Scrolls.{next_clamps};
 ghost use Rattle.model_history.specs.Frames.{pending, is_empty};
 ghost use Rattle.model_history.specs.Legal.{is_open};
 ghost use Rattle.model_history.specs.Tiles.{Tree, visible_in, active_tree, pending_tree, required, are_ready, in_flight};
-ghost use Rattle.tile_ranks.specs.SeenTrees.{IsSeenWhere};
+ghost use Rattle.impl_ranks.specs.SeenTrees.{IsSeenWhere};
 ghost use Rattle.impl_log.specs.Runs.{past};
 ghost use Rattle.recording_judge.specs.inner.States.{IsState, IsFirstKey};
 
 use crate::state::State;
 use geom::{Keys, Point, TileKey};
+use impl_ranks::SeenTree;
 use impl_scroll::moves_of;
 use model_history::{Event, Input, Moves};
 use std::alloc::{AllocError, Global};
-use tile_ranks::SeenTree;
 
 // The event of a scroll of which this much is accepted.
 fn scroll_event(input: u32, by: Point) -> Event

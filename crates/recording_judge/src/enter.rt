@@ -17,7 +17,7 @@ use crate::tile_keys::TileKeys;
 use impl_host::ImplHost;
 use impl_log::{Log, kind_of};
 use model_history::{Entry, Event};
-use model_scheduler::Kind;
+use model_states::Kind;
 use std::alloc::{AllocError, Global};
 use tile_queue::RasterQueue;
 

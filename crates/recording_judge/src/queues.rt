@@ -10,18 +10,18 @@ ghost use Rattle.model_history.specs.Tiles.{Tree, active_tree, pending_tree};
 ghost use Rattle.model_history.specs.Tiles as model;
 ghost use Rattle.model_history.specs.Ranking.{choice};
 ghost use Rattle.model_steps.specs.Choices.{tile_in_both};
-ghost use Rattle.tile_ranks.specs.SeenTrees.{IsSeenWhere};
-ghost use Rattle.tile_prepare.specs.inner.Queued.{AreTilesAt, RebuildsNow};
+ghost use Rattle.impl_ranks.specs.SeenTrees.{IsSeenWhere};
+ghost use Rattle.impl_choice.specs.inner.Queued.{AreTilesAt, RebuildsNow};
 ghost use Rattle.recording_judge.specs.inner.Tiles.{Holds, QueuesNow, store_of};
 
 use crate::key_set::KeySet;
 use crate::tile_keys::{TileKeys, keys_held};
 use geom::TileKey;
+use impl_ranks::{SeenTree, ranked, tile};
 use model_history::Script;
 use std::alloc::{AllocError, Global};
 use tile_priority::{Rank, ReadyTile};
 use tile_queue::RasterQueue;
-use tile_ranks::{SeenTree, ranked, tile};
 
 // The tiles for which a queue is made.
 #[derive(Clone, Copy)]

@@ -16,18 +16,18 @@ ghost use Rattle.model_history.specs.Tiles as model;
 ghost use Rattle.model_history.specs.Tiles.{Tree, active_tree, pending_tree, keys_of, required};
 ghost use Rattle.model_history.specs.Ranking.{rank_to_start as first_rank, evicted_for};
 ghost use Rattle.model_steps.specs.Events.{start, done, activate};
-ghost use Rattle.tile_ranks.specs.SeenTrees.{IsSeenTree, IsSeenWhere};
-ghost use Rattle.tile_manager.specs.Managers.{tile_made};
+ghost use Rattle.impl_ranks.specs.SeenTrees.{IsSeenTree, IsSeenWhere};
+ghost use Rattle.impl_tiles.specs.Managers.{tile_made};
 ghost use Rattle.recording_judge.specs.inner.Tiles.{Holds, held_keys, AreFree, Started, Finished, HaveSameKeys, QueuesNow, StartsNow, DoneNow};
 
 use crate::key_set::KeySet;
 use crate::queues::queue_of;
 use geom::{Keys, TileKey};
+use impl_ranks::SeenTree;
 use model_history::Script;
 use std::alloc::{AllocError, Global};
 use tile_priority::ReadyTile;
 use tile_queue::RasterQueue;
-use tile_ranks::SeenTree;
 
 /// The tiles of a run as their keys: which are ready, which pinned, which a worker holds, and the raster
 /// queue, which is made when it is asked for.

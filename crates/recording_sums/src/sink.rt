@@ -4,7 +4,7 @@ ghost use Rattle.std.specs.Prelude.{◌≡◌, ◌++◌, ◌%◌, ◌^◌, [], l
 ghost use Rattle.recording_sums.specs.Sums.{byte_sum};
 
 use crate::sums::sum_behind;
-use player_io::{PutFault, Sink};
+use byte_io::{PutFault, Sink};
 use rtrb::{Consumer, Producer, RingBuffer};
 use std::alloc::{AllocError, Global};
 use std::marker::Model;
@@ -107,7 +107,7 @@ impl SumSink {
 
 impl Sink for SumSink {
     ghost use Rattle.std.specs.Prelude.{Some, ◌≤◌};
-    ghost use Rattle.player_io.specs.Pieces.{NotFailed, PutAppends, PutCause};
+    ghost use Rattle.byte_io.specs.Pieces.{NotFailed, PutAppends, PutCause};
 
     type Place = ();
 

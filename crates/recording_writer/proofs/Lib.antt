@@ -1,7 +1,7 @@
-mod BatchedRuns
-pub mod DrawnScenes
-pub mod PlayedWays
-pub mod RecordedRuns
-pub mod UsedInputs
-mod FilmedRuns
-mod ShotRuns
+pub mod Gains
+pub mod KeptPictures
+pub mod QuietEvents
+mod NextEntries
+mod PictureFiles
+mod Places
+mod ShownImages

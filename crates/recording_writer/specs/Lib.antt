@@ -1,4 +1,7 @@
-pub mod Recordings
-pub mod inner
-pub mod Films
-pub mod Shots
+pub mod Parts
+pub mod Images
+pub mod Files
+pub mod Repeats
+pub mod Scenes
+pub mod Steps
+pub mod Batches

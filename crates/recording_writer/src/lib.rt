@@ -1,21 +1,31 @@
-//! Plays a script in lockstep and writes its recording as it is made.
+//! Writes the entries of a history as they come: the line of each event, and the image of what it shows after that of
+//! a draw.
 //!
-//! A compositor on one thread plays what an input brings; then what it entered is written by `recording_entries`. So no
-//! more is held than two inputs bring, unless all entries are to be kept ([`Retention`]). With several workers it plays
-//! a batch of inputs while the batch before is painted and put.
+//! In: a core whose entries are not forgotten yet, the scenes of their draws, and a sink. Out: the sink gained what the
+//! entries add to the recording, but for the lines that are held back; or where it failed or memory was refused, a
+//! prefix of that.
 //!
-//! In: an accepted script and a sink. Out: the sink gained the script's recording, or where it failed or memory
-//! was refused, a prefix of it.
-//!
-//! [`film_lockstep`] writes the images of a run alone, and [`shoot`] makes a PNG file of the last of them.
+//! A [`Recorder`] paints and puts entry by entry. A [`Batch`] gathers entries, which several painters paint and put
+//! then. An [`ImagePainter`] gives the image of a scene; an [`ImageWriter`] puts images alone, one after another, and
+//! [`png_of`] makes a PNG file of one.
 #![tactic(auto)]
 
-mod batches;
-mod film;
-mod lockstep;
-mod shot;
+mod batch;
+mod draws;
+mod header;
+mod image;
+mod image_painter;
+mod image_writer;
+mod last_draw;
+mod picture_file;
+mod recorder;
+mod scene_painter;
+mod writing;
 
-pub use film::film_lockstep;
-pub use lockstep::{Recorded, record_lockstep};
-pub use proxy_single_thread::Retention;
-pub use shot::shoot;
+pub use batch::{Batch, put_shots};
+pub use header::header_of;
+pub use image_painter::ImagePainter;
+pub use image_writer::ImageWriter;
+pub use last_draw::LastDraw;
+pub use picture_file::png_of;
+pub use recorder::Recorder;

@@ -3,7 +3,7 @@
 use crate::case::{Call, Case, InjectedFault};
 use crate::fault::ProgramRowFault;
 use crate::output::Short;
-use player_io::{MemSink, MemSource};
+use byte_io::{MemSink, MemSource};
 use std::alloc::{AllocError, Global};
 use std::fmt;
 

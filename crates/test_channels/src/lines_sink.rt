@@ -1,8 +1,8 @@
 //! A sink for lines alone.
 
-use player_io::{MemSink, PutFault, Sink};
-use recording_pieces::SceneSink;
+use byte_io::{MemSink, PutFault, Sink};
 use std::sync::Wait;
+use thread_pieces::SceneSink;
 use viz_scene::Scene;
 
 /// A sink in memory for a compositor that draws nothing: of a scene it takes no byte.

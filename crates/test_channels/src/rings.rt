@@ -3,12 +3,12 @@ ghost use Rattle.std.specs.Prelude.{◌<◌};
 ghost use Rattle.thread_ring.specs.Ring.{SameSink};
 
 use crate::cases::Cases;
-use player_io::{MemSink, Sink};
-use recording_pieces::{Painters, ScenePainter, SceneSink};
+use byte_io::{MemSink, Sink};
 use std::alloc::{AllocError, Global};
 use std::sync::Wait;
 use std::thread::{Threads, join_mut};
 use test_table::LineFault;
+use thread_pieces::{Painters, ScenePainter, SceneSink};
 use thread_ring::{Presented, RingSink, finish, present_from, ring};
 use viz_scene::Scene;
 

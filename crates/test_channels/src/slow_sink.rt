@@ -2,14 +2,14 @@
 
 use crate::cases::Cases;
 use crate::rings::{Refuser, large};
-use player_io::{MemSink, PutFault, Sink};
-use recording_pieces::{Painters, SceneSink};
+use byte_io::{MemSink, PutFault, Sink};
 use std::alloc::{AllocError, Global};
 use std::marker::Send;
 use std::sync::Wait;
 use std::sync::atomic::{AtomicU64, Ordering};
 use std::thread::{Threads, join_mut, yield_now};
 use test_table::LineFault;
+use thread_pieces::{Painters, SceneSink};
 use thread_ring::{Presented, RingSink, ring_within};
 
 /// How often a wait looks before it is given up, and after how many looks it lets another thread run.

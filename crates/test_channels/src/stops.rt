@@ -9,16 +9,16 @@ ghost use Rattle.test_channels.specs.Passes.{IsBegun, IsFree, IsFresh, IsStill};
 use crate::cases::Cases;
 use crate::lines_sink::LinesSink;
 use crate::trio::{Trio, trio_of};
+use byte_io::{MemSink, OpenGate};
 use impl_core::Core;
 use main_host::MainHost;
 use model_history::{Event, Script};
-use player_io::{MemSink, OpenGate};
 use proxy_threads::{CompActor, MainActor, RasterActor, Turned};
-use recording_pieces::SceneSink;
 use std::alloc::{AllocError, Global};
 use std::sync::{Arc, Wait};
 use test_table::LineFault;
 use thread_lock::{HeldTurn, Pass, TurnLock};
+use thread_pieces::SceneSink;
 
 /// The core goes back as it was.
 fn leave(lock: &TurnLock<Core>, held: HeldTurn<Core>)

@@ -2,7 +2,7 @@
 ghost use Rattle.std.specs.Prelude.{◌≤◌, IfOk};
 
 use crate::cases::Cases;
-use player_io::{
+use byte_io::{
     Failed, Gate, MemSink, MemSource, OpenGate, PutFault, Sink, Source, StdSink, StdSource,
 };
 use std::alloc::{AllocError, Global};

@@ -2,9 +2,9 @@
 use Rattle.std.specs.Prelude.{◌≡◌, ℕ, ◌-◌, ◌≤◌, ◌<◌, List, [], ◌∷◌, ◌++◌, length, take, Some, Err}
 use Rattle.std.proofs.Common.{refl, sym, ap, subst, ◌∙◌, append-nil, append_assoc, arith, length-append, length-take}
 use Rattle.player_lines.specs.Sessions.{Act, Got, Data, Text, TornData, TornText, came, frame}
-use Rattle.player_io.specs.Pieces.{PutAppends}
-use Rattle.player_io.specs.declared.writing.PutFault.{PutFault}
-use Rattle.player_io.specs.declared.writing.PutFault.TheVariants.{Failed, Memory}
+use Rattle.byte_io.specs.Pieces.{PutAppends}
+use Rattle.byte_io.specs.declared.writing.PutFault.{PutFault}
+use Rattle.byte_io.specs.declared.writing.PutFault.TheVariants.{Failed, Memory}
 use Rattle.test_doubles.specs.declared.talk.Passed.{Passed}
 use Rattle.test_doubles.specs.Talks.{IsTold, act_of, acts_after, acts}
 

@@ -1,7 +1,7 @@
 //! A gate at which workers wait, or are counted.
 
 use crate::meeting::Meeting;
-use player_io::Gate;
+use byte_io::Gate;
 
 /// Which workers come to a gate.
 #[derive(Clone, Copy)]

@@ -1,10 +1,10 @@
 //! A sink that waits for workers.
 
 ghost use Rattle.std.specs.Prelude.{◌≡◌, ◌≤◌, false, None, Some};
-ghost use Rattle.player_io.specs.Pieces.{PutAppends, PutCause};
+ghost use Rattle.byte_io.specs.Pieces.{PutAppends, PutCause};
 
 use crate::meeting::Meeting;
-use player_io::{MemSink, PutFault, Sink};
+use byte_io::{MemSink, PutFault, Sink};
 
 /// What a sink waits for, and what it tells.
 #[derive(Drop)]

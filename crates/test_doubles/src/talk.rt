@@ -5,8 +5,8 @@ ghost use Rattle.player_lines.specs.Sessions.{AreAnswers, AtOnce, lines_of};
 ghost use Rattle.player_lines.specs.inner.Reading.{ClientCause, StoppedBy};
 ghost use Rattle.test_doubles.specs.Talks.{IsTold, acts};
 
+use byte_io::{MemSink, MemSource, Sink, Source};
 use ghost_list::GhostList;
-use player_io::{MemSink, MemSource, Sink, Source};
 use player_lines::{Answerer, Client, Failed, Session, Stop, put_frame, serve};
 use std::alloc::Global;
 use std::marker::Sync;

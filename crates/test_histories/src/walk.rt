@@ -13,7 +13,7 @@ use crate::fault::HistoryLineFault;
 use impl_log::{KeptHistory, kind_of};
 use model_history::{Entry, Event, Script};
 use model_lockstep::EnterFault;
-use model_scheduler::Kind;
+use model_states::Kind;
 use proxy_single_thread::{Retention, SingleThread};
 use recording_judge::same_event;
 use std::alloc::{AllocError, Global};

@@ -1,6 +1,6 @@
 //! The runs of a case.
 
-use player_io::{MemSink, MemSource};
+use byte_io::{MemSink, MemSource};
 use player_lines::{Ends, Session};
 use player_run::{run, run_alone};
 use std::alloc::{AllocError, Global};

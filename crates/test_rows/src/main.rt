@@ -12,12 +12,12 @@
 //! | `channels` | `channels.rt` of `test_channels`: cases worked by hand for what threads share, and for stops |
 //! | `queue` | `lib.rt` of `test_queue`: what the raster queue answers |
 //! | `damage` | `lib.rt` of `test_damage`: what is hidden, where two scenes differ, and what is drawn |
-//! | `drawn` | `asked.rt` of `bench_draw`: what the benches draw, and pairs of random scenes |
+//! | `drawn` | `asked.rt` of `test_draw`: what the benches draw, and pairs of random scenes |
 //!
 //! Standard output tells how many cases each table had, so that none gets lost, and each that differs, with its line.
 //! One of these, or a line that can't be read, ends in status 1 and one line on standard error.
 //!
-//! With words it does one job of `bench_draw` or `test_queue`, whose `lib.rt` list them, and prints what came out. The
+//! With words it does one job of `test_draw` or `test_queue`, whose `lib.rt` list them, and prints what came out. The
 //! scripts `bench/rows`, `bench/redraws` and `bench/queue` time it.
 #![tactic(auto)]
 
@@ -36,7 +36,7 @@ fn job(rt: &HostRuntime) -> io::Result<Option<bool>> {
         return Ok(None);
     }
     let words = words.as_slice();
-    let is_done = bench_draw::run_job(rt, words)? || test_queue::run_job(rt, words)?;
+    let is_done = test_draw::run_job(rt, words)? || test_queue::run_job(rt, words)?;
     Ok(Some(is_done))
 }
 

@@ -1,10 +1,10 @@
 //! The tables, one after another.
 
-use bench_draw::Drawings;
 use std::alloc::Global;
 use std::io;
 use test_channels::Channels;
 use test_damage::Scenes;
+use test_draw::Drawings;
 use test_pages::{Calls, HitQuestions, Pushes};
 use test_queue::QueueTable;
 use test_table::{LineFault, Questions, Table, Tally};

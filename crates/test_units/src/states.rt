@@ -1,6 +1,6 @@
 //! States of the scheduler worked by hand.
 
-use model_scheduler::{Kind, Sched};
+use model_states::{Kind, Sched};
 use test_table::Checks;
 
 /// A frame is sent at most once in an impl frame.

@@ -4,14 +4,14 @@ use Rattle.std.specs.Io.KnownBytes.{Appends}
 use Rattle.std.specs.Global.{Vec}
 use Rattle.std.proofs.lemmas.List.{take-append-drop}
 use Rattle.std.proofs.lemmas.Grind.{flat_map-append}
-use Rattle.player_io.specs.Counts.{Rose}
-use Rattle.player_io.specs.Pieces.{GainsPrefix, NotFailed, PutAppends}
-use Rattle.player_io.specs.declared.writing.PutFault.{PutFault}
-use Rattle.player_io.specs.declared.writing.PutFault.TheVariants as put_fault
-use Rattle.recording_pieces.specs.declared.writing.WriteStop.{WriteStop}
-use Rattle.recording_pieces.specs.declared.writing.WriteStop.TheVariants as stop
+use Rattle.byte_io.specs.Counts.{Rose}
+use Rattle.byte_io.specs.Pieces.{GainsPrefix, NotFailed, PutAppends}
+use Rattle.byte_io.specs.declared.writing.PutFault.{PutFault}
+use Rattle.byte_io.specs.declared.writing.PutFault.TheVariants as put_fault
+use Rattle.thread_pieces.specs.declared.writing.WriteStop.{WriteStop}
+use Rattle.thread_pieces.specs.declared.writing.WriteStop.TheVariants as stop
 use Rattle.thread_ring.specs.Ring.{joined}
-use Rattle.recording_pieces.specs.Writing.{PutsAll, WriteCause}
+use Rattle.thread_pieces.specs.Writing.{PutsAll, WriteCause}
 use Rattle.thread_ring.specs.Answers.{AddsBytes, Blames, Gained, Filled, Served, Takes, answer_for_all, told_of}
 use Rattle.thread_ring.specs.declared.ends.Presented.{Presented}
 use Rattle.thread_ring.specs.declared.ends.Presented.TheVariants.{Written, Fault, Memory}

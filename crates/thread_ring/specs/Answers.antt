@@ -1,10 +1,10 @@
 -- What an answer of the presenter's end says of the sink after it.
 use Rattle.std.specs.Prelude.{◌≡◌, ℕ, ◌≤◌, Bool, true, false, List, ◌++◌, ⊤, Option, Result, Ok, Err}
 use Rattle.std.specs.Io.KnownBytes.{Appends}
-use Rattle.player_io.specs.Counts.{Rose}
-use Rattle.player_io.specs.Pieces.{GainsPrefix}
-use Rattle.recording_pieces.specs.declared.writing.WriteStop.{WriteStop}
-use Rattle.recording_pieces.specs.declared.writing.WriteStop.TheVariants as stop
+use Rattle.byte_io.specs.Counts.{Rose}
+use Rattle.byte_io.specs.Pieces.{GainsPrefix}
+use Rattle.thread_pieces.specs.declared.writing.WriteStop.{WriteStop}
+use Rattle.thread_pieces.specs.declared.writing.WriteStop.TheVariants as stop
 use Rattle.thread_ring.specs.declared.ends.Presented.{Presented}
 use Rattle.thread_ring.specs.declared.ends.Presented.TheVariants.{Written, Fault, Memory}
 

@@ -2,8 +2,8 @@
 use Rattle.std.specs.Prelude.{◌≡◌, ℕ, ⊤, ◌⊎◌, List, [], ◌++◌, flat_map, Result, Ok, Err}
 use Rattle.std.specs.Global.{Vec}
 use Rattle.rtrb.specs.Ring.{sent, received, known_free, known_items}
-use Rattle.recording_pieces.specs.declared.shot.Shot.{Shot}
-use Rattle.recording_pieces.specs.Shots.{all_shown}
+use Rattle.thread_pieces.specs.declared.shot.Shot.{Shot}
+use Rattle.thread_pieces.specs.Shots.{all_shown}
 use Rattle.thread_ring.specs.declared.ends.RingSink.{RingSink}
 use Rattle.thread_ring.specs.declared.ends.Presenter.{Presenter}
 use Rattle.thread_ring.specs.declared.ends.Label.{Label}

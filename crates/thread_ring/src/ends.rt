@@ -4,11 +4,11 @@ ghost use Rattle.rtrb.specs.Ring.{producer_capacity};
 ghost use Rattle.thread_ring.specs.Ring.{OneRing, bytes_taken, whole};
 
 use crate::shared::Shared;
-use recording_pieces::Shot;
 use rtrb::{Consumer, Producer, RingBuffer};
 use std::alloc::{AllocError, Global};
 use std::collections::VecDeque;
 use std::sync::Arc;
+use thread_pieces::Shot;
 
 /// How many pieces the ring has place for.
 const PLACES: usize = 64;

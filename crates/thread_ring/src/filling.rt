@@ -1,20 +1,20 @@
 //! Putting bytes and scenes into a ring, without waiting.
 ghost use Rattle.std.specs.Prelude.{Some, [], ◌≡◌, ◌≤◌, ◌<◌, ◌++◌, IsFalse, IsTrue, OnOk, OnErr};
 ghost use Rattle.rtrb.specs.Ring.{known_free, sent};
-ghost use Rattle.player_io.specs.Counts.{Rose};
-ghost use Rattle.player_io.specs.Pieces.{NotFailed, PutAppends, PutCause};
-ghost use Rattle.player_io.specs.declared.writing.PutFault.TheVariants.{Memory};
-ghost use Rattle.recording_pieces.specs.Scenes.{scene_image};
-ghost use Rattle.recording_pieces.specs.Shots.{shown};
+ghost use Rattle.byte_io.specs.Counts.{Rose};
+ghost use Rattle.byte_io.specs.Pieces.{NotFailed, PutAppends, PutCause};
+ghost use Rattle.byte_io.specs.declared.writing.PutFault.TheVariants.{Memory};
+ghost use Rattle.thread_pieces.specs.Scenes.{scene_image};
+ghost use Rattle.thread_pieces.specs.Shots.{shown};
 ghost use Rattle.thread_ring.specs.Ring.{HasMovedAll, HasMovedKept, SameSink, ring_filled, whole};
 
 use crate::ends::{Label, RingSink};
 use crate::shared::byte_count;
-use player_io::{PutFault, Sink};
-use recording_pieces::{SceneSink, Shot};
+use byte_io::{PutFault, Sink};
 use std::alloc::AllocError;
 use std::mem;
 use std::sync::Wait;
+use thread_pieces::{SceneSink, Shot};
 use viz_scene::Scene;
 
 // How many bytes of lines are gathered before they become a piece of their own.

@@ -5,12 +5,12 @@ ghost use Rattle.thread_ring.specs.Answers.{Blames, FaultRose, Filled, Gained, a
 
 use crate::ends::{Presented, Presenter, RingSink, ring};
 use crate::rest::finish;
-use player_io::Sink;
-use recording_pieces::{Painters, ScenePainter};
+use byte_io::Sink;
 use std::alloc::Global;
 use std::marker::Send;
 use std::sync::Wait;
 use std::thread::{Threads, join_mut};
+use thread_pieces::{Painters, ScenePainter};
 
 /// Puts the pieces into `out` by a ring: one thread puts them into the ring and ends, another serves
 /// `out`. Where no thread can be made, the calling one puts them all and then serves.

@@ -1,19 +1,19 @@
 //! What is left once both ends are in one thread.
 ghost use Rattle.std.specs.Prelude.{ℕ, List, Option, ◌≡◌, ◌≤◌, length, IfOk};
 ghost use Rattle.rtrb.specs.Ring.{known_items};
-ghost use Rattle.recording_pieces.specs.Shots.{all_shown, shown};
+ghost use Rattle.thread_pieces.specs.Shots.{all_shown, shown};
 ghost use Rattle.thread_ring.specs.Ring.{OneRing, bytes_taken, whole};
 ghost use Rattle.thread_ring.specs.Answers.{AddsBytes, Blames, Gained, Stops};
 
 use crate::ends::{Presented, Presenter, RingSink};
 use crate::serving::{present, told, without_memory};
-use player_io::Sink;
-use recording_pieces::{Painters, ScenePainter, Shot, put_all};
+use byte_io::Sink;
 use rtrb::Consumer;
 use std::alloc::{AllocError, Global};
 use std::collections::VecDeque;
 use std::marker::Sync;
 use std::thread::Threads;
+use thread_pieces::{Painters, ScenePainter, Shot, put_all};
 
 /// Puts what is left in the ring and in the sink into `out`, with the images of its scenes, where `serve` answered
 /// `Written` or was never called (`served` is then `Written`); else it puts nothing and answers

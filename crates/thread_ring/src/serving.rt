@@ -1,17 +1,17 @@
 //! Handing the pieces of a ring on.
 ghost use Rattle.std.specs.Prelude.{◌≡◌, ◌≤◌, ℕ, ◌++◌, List, [], IfNone, IsFalse, MatchOption};
-ghost use Rattle.recording_pieces.specs.Shots.{all_shown, shown};
+ghost use Rattle.thread_pieces.specs.Shots.{all_shown, shown};
 ghost use Rattle.thread_ring.specs.Ring.{EmptyBatch, SamePresenter, TakesBatch, bytes_taken, seen};
 ghost use Rattle.thread_ring.specs.Answers.{AddsBytes, Blames, FaultRose, Served, Stops, Takes, told_of};
 
 use crate::ends::{Presented, Presenter};
 use crate::shared::byte_count;
-use player_io::Sink;
-use recording_pieces::{Painters, ScenePainter, Shot, WriteStop};
+use byte_io::Sink;
 use std::alloc::AllocError;
 use std::marker::Sync;
 use std::sync::Wait;
 use std::thread::Threads;
+use thread_pieces::{Painters, ScenePainter, Shot, WriteStop};
 
 // How many pieces are taken at a time for each painter, at most.
 const RUN: usize = 4;
@@ -70,7 +70,7 @@ pub(crate) fn without_memory<K: Sink>(state: Presented, out: &mut K) -> Presente
 
 impl Presenter {
     // Takes the next piece out of the ring, if there is one.
-    #[tactic(auto, using(recording_pieces::proofs::Parts::one_more))]
+    #[tactic(auto, using(thread_pieces::proofs::Parts::one_more))]
     fn take_one(&mut self) -> Option<Shot>
         ensures ring { SamePresenter self.old self.new }
         ensures bytes { MatchOption result (bytes_taken self.new ≡ bytes_taken self.old) (λ piece. bytes_taken self.new ≡ bytes_taken self.old ++ shown piece) }
@@ -87,7 +87,7 @@ impl Presenter {
 
     // Takes pieces out of the ring, at least one where there is any, and at most the given number, until there is none
     // or they are large. An error means out of memory, and the piece that was taken last is lost.
-    #[tactic(auto, using(crate::proofs::Gains::taken_and_lost, recording_pieces::proofs::Parts::one_more))]
+    #[tactic(auto, using(crate::proofs::Gains::taken_and_lost, thread_pieces::proofs::Parts::one_more))]
     fn take_batch(&mut self, most: usize) -> Result<Vec<Shot>, AllocError>
         requires { 1 ≤ most }
         ensures ring { SamePresenter self.old self.new }

@@ -1,9 +1,9 @@
 //! What the two ends of a ring share.
 
-use recording_pieces::Shot;
 use std::sync::Wait;
 use std::sync::atomic::{AtomicBool, AtomicU64, Ordering};
 use thread_bell::{Bell, Post};
+use thread_pieces::Shot;
 
 // Where the sink's end sleeps at the bell; the presenter sleeps at the first post.
 const SPACE: Post = Post::Second;

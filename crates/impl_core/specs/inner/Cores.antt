@@ -5,8 +5,8 @@ use Rattle.geom.specs.declared.rect.Point.{Point}
 use Rattle.geom.specs.declared.tile.TileKey.{TileKey}
 use Rattle.tile_priority.specs.declared.rank.Rank.{Rank}
 use Rattle.tile_priority.specs.Choice.{Choice}
-use Rattle.model_scheduler.specs.declared.states.MainState.{MainState}
-use Rattle.model_scheduler.specs.Kinds.{is_sent, is_ready_to_commit}
+use Rattle.model_states.specs.declared.states.MainState.{MainState}
+use Rattle.model_states.specs.Kinds.{is_sent, is_ready_to_commit}
 use Rattle.model_scroll_values.specs.declared.Synced.{Synced}
 use Rattle.page_layers.specs.declared.moves.Move.{Move}
 use Rattle.page_layers.specs.Axes.{Axis}
@@ -27,7 +27,7 @@ use Rattle.model_history.specs.Legal.{sched}
 use Rattle.model_history.specs.Tiles.{in_flight, ready, pinned, required, missing_visible}
 use Rattle.model_history.specs.Ranking.{choice}
 use Rattle.model_history.specs.Values.{values}
-use Rattle.tile_manager.specs.Managers.{Managed, HoldsTiles, live_ranks}
+use Rattle.impl_tiles.specs.Managers.{Managed, HoldsTiles, live_ranks}
 use Rattle.impl_drawing.specs.declared.drawing.Drawing.{Drawing}
 use Rattle.impl_host.specs.Hosts.{ImplHostModel, HostsAt}
 use Rattle.impl_core.specs.declared.drawn.Drawn.{Drawn}

@@ -1,6 +1,6 @@
 -- What one event more makes of the progress of a run.
 use Rattle.std.specs.Prelude.{ℕ, suc, ◌-◌, Bool, true, false, ◌||◌, Option, Some, None}
-use Rattle.model_scheduler.specs.Kinds.{sched_after}
+use Rattle.model_states.specs.Kinds.{sched_after}
 use Rattle.impl_log.specs.declared.progress.Progress.{Progress}
 use Rattle.impl_log.specs.declared.input_places.InputPlaces.{InputPlaces}
 use Rattle.model_history.specs.declared.event.Event.{Event}

@@ -2,7 +2,7 @@
 use Rattle.std.specs.Prelude.{◌≡◌, ℕ, Bool, true, false, ◌&&◌, cond, List, [], ◌++◌, Option, Some}
 use Rattle.std.specs.Io.KnownBytes.{Appends}
 use Rattle.atomic_table.specs.Seated.{TableId}
-use Rattle.player_io.specs.Pieces.{GainsPrefix}
+use Rattle.byte_io.specs.Pieces.{GainsPrefix}
 use Rattle.thread_ring.specs.Ring.{OneRing, bytes_taken, whole}
 use Rattle.thread_ring.specs.Answers.{Gained}
 use Rattle.thread_ring.specs.declared.ends.Presented.{Presented}
@@ -17,8 +17,8 @@ use Rattle.proxy_threads.specs.declared.turned.Turned.{Turned}
 use Rattle.proxy_threads.specs.declared.turned.Turned.TheVariants as turned
 use Rattle.player_run.specs.declared.beside.Ending.{Ending}
 use Rattle.player_run.specs.declared.beside.Ran.{Ran}
-use Rattle.player_outcomes.specs.declared.outcome.Outcome.{Outcome}
-use Rattle.player_outcomes.specs.declared.outcome.Outcome.TheVariants.{Done, WriteFault, Memory}
+use Rattle.player_uses.specs.declared.outcome.Outcome.{Outcome}
+use Rattle.player_uses.specs.declared.outcome.Outcome.TheVariants.{Done, WriteFault, Memory}
 
 -- a pass of this lock, with which the compositor has entered nothing
 pub record IsFirst (id : TableId) (p : Seat) : Type 0 where

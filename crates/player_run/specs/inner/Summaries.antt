@@ -4,8 +4,8 @@ use Rattle.std.specs.Prelude.{List}
 use Rattle.model_history.specs.Lockstep.{IsLockstep}
 use Rattle.model_history.specs.Scripts.{ScriptModel}
 use Rattle.script_json.specs.Recordings.{recording}
-use Rattle.player_outcomes.specs.Summaries.{IsSummary}
-use Rattle.player_outcomes.specs.declared.summary.Summary.{Summary}
+use Rattle.player_uses.specs.Summaries.{IsSummary}
+use Rattle.player_uses.specs.declared.summary.Summary.{Summary}
 
 -- they are those of a script in lockstep, and of its recording
 abbrev pub IsDemoSummary : ScriptModel → Summary → Type 0

@@ -3,7 +3,7 @@ use Rattle.std.specs.Prelude.{◌≡◌, ℕ, suc, ◌+◌, ◌≤◌, ◌<◌, 
 use Rattle.geom.specs.declared.tile.TileKey.{TileKey}
 use Rattle.geom.specs.Covers.{IsSound}
 use Rattle.tile_raster.specs.declared.job.Job.{Job}
-use Rattle.model_scheduler.specs.Kinds.{is_sent}
+use Rattle.model_states.specs.Kinds.{is_sent}
 use Rattle.page_layers.specs.declared.moves.Move.{Move}
 use Rattle.model_history.specs.Scripts.{ScriptModel}
 use Rattle.model_history.specs.EventFields.{sends}

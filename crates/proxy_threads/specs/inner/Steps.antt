@@ -1,15 +1,15 @@
 -- What an actor does in one holding of the turn.
 use Rattle.std.specs.Prelude.{◌≡◌, ◌+◌, ◌<◌, ℕ, true, false, List, ◌∷◌, [], ◌++◌, length, drop, Some, None, ⊤}
-use Rattle.model_scheduler.specs.declared.kind.Kind.{Kind}
+use Rattle.model_states.specs.declared.kind.Kind.{Kind}
 use Rattle.model_history.specs.declared.history.Entry.{Entry}
 use Rattle.model_history.specs.Scans.{has_ended}
 use Rattle.model_history.specs.Texts.{event_line}
 use Rattle.impl_log.specs.Runs.{Run, past, now, Entered}
 use Rattle.impl_core.specs.Origins.{Origin}
 use Rattle.impl_core.specs.Replies.{is_own, is_draw_kind, is_played, DrawsScene}
-use Rattle.recording_pieces.specs.Scenes.{scene_image}
-use Rattle.recording_pieces.specs.declared.writing.WriteStop.{WriteStop}
-use Rattle.recording_pieces.specs.declared.writing.WriteStop.TheVariants as stop
+use Rattle.thread_pieces.specs.Scenes.{scene_image}
+use Rattle.thread_pieces.specs.declared.writing.WriteStop.{WriteStop}
+use Rattle.thread_pieces.specs.declared.writing.WriteStop.TheVariants as stop
 use Rattle.proxy_threads.specs.declared.turned.Turned.{Turned}
 use Rattle.proxy_threads.specs.declared.turned.Turned.TheVariants as turned
 use Rattle.proxy_threads.specs.declared.playing.Played.{Played}

@@ -4,7 +4,7 @@ use Rattle.geom.specs.declared.tile.TileKey.{TileKey}
 use Rattle.geom.specs.Covers.{IsSound}
 use Rattle.tile_raster.specs.Images.{Image}
 use Rattle.tile_raster.specs.declared.job.Job.{Job}
-use Rattle.model_scheduler.specs.declared.kind.Kind.TheVariants as kind
+use Rattle.model_states.specs.declared.kind.Kind.TheVariants as kind
 use Rattle.model_history.specs.declared.event.Event.TheVariants as event
 use Rattle.model_history.specs.Scans.{has_ended, held}
 use Rattle.model_steps.specs.ShownKeys.{KeyShows}

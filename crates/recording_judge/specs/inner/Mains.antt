@@ -1,6 +1,6 @@
 -- What a judge keeps of the main side of a run.
 use Rattle.std.specs.Prelude.{◌≡◌, ℕ, suc, ◌<◌, Bool, true, false, List, ◌∷◌, length, Option, Some, None}
-use Rattle.model_scheduler.specs.Kinds.{is_main_idle}
+use Rattle.model_states.specs.Kinds.{is_main_idle}
 use Rattle.page_layers.specs.declared.moves.Move.{Move}
 use Rattle.model_history.specs.declared.event.Event.{Event}
 use Rattle.model_history.specs.declared.event.Event.TheVariants as event

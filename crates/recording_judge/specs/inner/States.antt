@@ -11,8 +11,8 @@ use Rattle.model_history.specs.Accepted.{IsAccepted}
 use Rattle.model_history.specs.EventFields.{kind_of, actor_of}
 use Rattle.model_history.specs.Ranking.{rank_to_start}
 use Rattle.model_history.specs.Legal.{Legal}
-use Rattle.model_scheduler.specs.declared.kind.Kind.{Kind}
-use Rattle.model_scheduler.specs.declared.kind.Kind.TheVariants as kind
+use Rattle.model_states.specs.declared.kind.Kind.{Kind}
+use Rattle.model_states.specs.declared.kind.Kind.TheVariants as kind
 use Rattle.impl_host.specs.Hosts.{ImplHostModel, Hosts}
 use Rattle.impl_log.specs.Runs.{past, now, with_entry}
 use Rattle.recording_judge.specs.declared.tile_keys.TileKeys.{TileKeys}

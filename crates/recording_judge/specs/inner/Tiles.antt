@@ -16,8 +16,8 @@ use Rattle.model_history.specs.Tiles as model
 use Rattle.model_history.specs.Tiles.{active_tree, pending_tree}
 use Rattle.model_history.specs.Ranking.{choice}
 use Rattle.model_steps.specs.Events.{start, done}
-use Rattle.tile_ranks.specs.SeenTrees.{SeenTreeModel, IsSeenWhere}
-use Rattle.tile_manager.specs.Managers.{HaveSameTiles, tile_made}
+use Rattle.impl_ranks.specs.SeenTrees.{SeenTreeModel, IsSeenWhere}
+use Rattle.impl_tiles.specs.Managers.{HaveSameTiles, tile_made}
 use Rattle.recording_judge.specs.declared.tile_keys.TileKeys.{TileKeys}
 
 -- these keys are ready, these pinned, each of the given number of workers holds this, and the queue is for this choice, where there is one

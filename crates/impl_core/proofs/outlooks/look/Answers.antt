@@ -1,7 +1,7 @@
 -- The trees are seen where the scrollers stand.
 use Rattle.std.proofs.Common.{refl, sym, subst}
 use Rattle.model_history.specs.Tiles.{active_tree, pending_tree}
-use Rattle.tile_ranks.specs.SeenTrees.{IsSeenWhere}
+use Rattle.impl_ranks.specs.SeenTrees.{IsSeenWhere}
 use Rattle.impl_core.proofs.StandingHosts.{as_it_stands}
 use Rattle.impl_core.proofs.outlooks.look.Goals as goal
 

@@ -2,9 +2,9 @@
 use Rattle.std.proofs.Common.{◌≡◌, true, Result, Ok, Err}
 use Rattle.std.specs.Prelude.{⊤, OnOk}
 use Rattle.std.specs.declared.alloc.AllocError.{AllocError}
-use Rattle.tile_manager.specs.declared.outlook.Outlook.{Outlook}
-use Rattle.tile_manager.specs.Managers.{is_seen, TellsNext}
-use Rattle.tile_manager.proofs.SeenOutlooks.{seen_tells}
+use Rattle.impl_tiles.specs.declared.outlook.Outlook.{Outlook}
+use Rattle.impl_tiles.specs.Managers.{is_seen, TellsNext}
+use Rattle.impl_tiles.proofs.SeenOutlooks.{seen_tells}
 use Rattle.impl_core.proofs.outlooks.look_for_next.Goals as goal
 
 told_where : (x : Result ⊤ AllocError) (o : Outlook) → OnOk x (is_seen o ≡ true) → OnOk x (TellsNext o)

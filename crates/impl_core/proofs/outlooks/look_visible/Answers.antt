@@ -5,8 +5,8 @@ use Rattle.tile_priority.specs.Tiles.{Tile}
 use Rattle.tile_queue.specs.Queues.{EachKeyOnce}
 use Rattle.model_history.specs.Scripts.{ScriptModel}
 use Rattle.model_history.specs.Tiles.{active_tree, pending_tree}
-use Rattle.tile_ranks.specs.SeenTrees.{IsSeenWhere}
-use Rattle.tile_manager.specs.Managers.{AreVisibleAt}
+use Rattle.impl_ranks.specs.SeenTrees.{IsSeenWhere}
+use Rattle.impl_tiles.specs.Managers.{AreVisibleAt}
 use Rattle.impl_core.proofs.StandingHosts.{as_it_stands}
 use Rattle.impl_core.proofs.outlooks.look_visible.Goals as goal
 

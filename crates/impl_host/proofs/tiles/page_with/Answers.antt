@@ -1,6 +1,6 @@
 use Rattle.std.proofs.Common.{Some, sym, ◌∙◌, subst}
 use Rattle.std.specs.Prelude.{option_copied}
-use Rattle.tile_ranks.specs.SeenTrees.{IsPlacedWhere}
+use Rattle.impl_ranks.specs.SeenTrees.{IsPlacedWhere}
 use Rattle.impl_trees.specs.Trees.{TreeModel}
 use Rattle.impl_host.specs.Hosts.{IsTreeAt}
 use Rattle.impl_host.specs.inner.LivePages.{tree_at}

@@ -1,5 +1,5 @@
 use Rattle.std.proofs.Common.{refl, sym, ◌∙◌, subst}
-use Rattle.model_scheduler.specs.declared.kind.Kind.TheVariants as kind
+use Rattle.model_states.specs.declared.kind.Kind.TheVariants as kind
 use Rattle.model_history.specs.Lockstep.{is_possible, Stays}
 use Rattle.model_lockstep.specs.Walks as ways
 use Rattle.model_lockstep.specs.Walks.{WalkState}

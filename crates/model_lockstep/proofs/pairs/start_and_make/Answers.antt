@@ -1,5 +1,5 @@
 use Rattle.std.proofs.Common.{refl}
-use Rattle.model_scheduler.specs.declared.kind.Kind.TheVariants as kind
+use Rattle.model_states.specs.declared.kind.Kind.TheVariants as kind
 use Rattle.model_lockstep.specs.Walks as ways
 use Rattle.model_lockstep.proofs.Fronts as fronts
 use Rattle.model_lockstep.proofs.Parts as parts

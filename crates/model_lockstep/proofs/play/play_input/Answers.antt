@@ -1,5 +1,5 @@
 use Rattle.std.proofs.Common.{refl, sym, subst}
-use Rattle.model_scheduler.specs.declared.kind.Kind.TheVariants as kind
+use Rattle.model_states.specs.declared.kind.Kind.TheVariants as kind
 use Rattle.model_history.specs.declared.input.Input.{Input}
 use Rattle.model_lockstep.specs.Walks.{CanFollow, Follows, IsOnWay, input_played, entering}
 use Rattle.model_lockstep.proofs.Parts as parts

@@ -1,5 +1,5 @@
 use Rattle.std.proofs.Common.{Bool, not, List, ap, sym}
-use Rattle.model_scheduler.specs.declared.kind.Kind.TheVariants as kind
+use Rattle.model_states.specs.declared.kind.Kind.TheVariants as kind
 use Rattle.model_history.specs.declared.history.Entry.{Entry}
 use Rattle.model_history.specs.Scripts.{ScriptModel}
 use Rattle.model_history.specs.Lockstep.{is_possible, Round}

@@ -1,7 +1,7 @@
 -- What was put, and why the run ended so.
 use Rattle.std.proofs.Common.{sym, subst}
-use Rattle.player_outcomes.specs.declared.outcome.Outcome.{Outcome}
-use Rattle.player_outcomes.specs.Faults.{Causes}
+use Rattle.player_uses.specs.declared.outcome.Outcome.{Outcome}
+use Rattle.player_uses.specs.Faults.{Causes}
 use Rattle.player_run.specs.inner.Actors.{PlayEnds}
 use Rattle.player_run.proofs.EndsOfRuns.{settles, told_cause}
 use Rattle.player_run.proofs.beside.join_outcomes.Goals as goal

@@ -2,7 +2,7 @@
 use Rattle.std.proofs.Common.{◌≡◌, [], List, rules, subst}
 use Rattle.std.specs.Prelude.{IfSome}
 use Rattle.model_history.specs.declared.history.Entry.{Entry}
-use Rattle.player_outcomes.specs.Summaries.{IsSummary}
+use Rattle.player_uses.specs.Summaries.{IsSummary}
 use Rattle.player_run.proofs.Summed.{summed}
 use Rattle.player_run.proofs.demo.play_summed.Goals as goal
 

@@ -1,9 +1,9 @@
 -- What was written are the images of the script's run, or a prefix of them.
 use Rattle.std.proofs.Common.{rules, ◌≡◌, ℕ, List, inr, subst}
 use Rattle.std.specs.Io.KnownBytes.{Appends}
-use Rattle.player_io.specs.Pieces.{GainsPrefix}
+use Rattle.byte_io.specs.Pieces.{GainsPrefix}
 use Rattle.model_history.specs.Scripts.{ScriptModel}
-use Rattle.recording_writer.specs.Films.{IsLockstepFilm}
+use Rattle.player_lockstep.specs.Films.{IsLockstepFilm}
 use Rattle.player_run.proofs.filmed.film.Goals as goal
 
 pub returns-in-Ok-film_lockstep-clause-films : goal.returns-in-Ok-film_lockstep-clause-films

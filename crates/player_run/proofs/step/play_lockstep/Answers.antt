@@ -2,9 +2,9 @@
 use Rattle.std.proofs.Common.{ℕ, List, inr, subst, sym}
 use Rattle.std.specs.Io.KnownBytes.{Appends}
 use Rattle.model_history.specs.Accepted.{IsAccepted}
-use Rattle.player_io.specs.Pieces.{GainsPrefix}
-use Rattle.player_outcomes.specs.declared.outcome.Outcome.{Outcome}
-use Rattle.player_outcomes.specs.Outputs.{WritesSome}
+use Rattle.byte_io.specs.Pieces.{GainsPrefix}
+use Rattle.player_uses.specs.declared.outcome.Outcome.{Outcome}
+use Rattle.player_uses.specs.Outputs.{WritesSome}
 use Rattle.player_run.specs.Runs.{IsRunOf}
 use Rattle.player_run.proofs.Promised.{promised_run}
 use Rattle.player_run.proofs.step.play_lockstep.Goals as goal

@@ -1,7 +1,7 @@
 -- Where there is no tree, the tree has no layer.
 use Rattle.std.proofs.Common.{sym, ◌∙◌, ap, subst}
 use Rattle.std.specs.Prelude.{option_copied}
-use Rattle.tile_ranks.specs.SeenTrees.{IsSeenWhere}
+use Rattle.impl_ranks.specs.SeenTrees.{IsSeenWhere}
 use Rattle.recording_judge.proofs.EmptyTrees.{shows_nothing}
 use Rattle.recording_judge.proofs.due.visible_of.Goals as goal
 

@@ -3,7 +3,7 @@ use Rattle.std.proofs.Common.{◌≡◌, sym, ◌∙◌, ap, subst}
 use Rattle.std.specs.Prelude.{option_copied}
 use Rattle.model_history.specs.Scripts.{ScriptModel}
 use Rattle.model_history.specs.Tiles.{active_tree, pending_tree}
-use Rattle.tile_ranks.specs.SeenTrees.{IsSeenWhere}
+use Rattle.impl_ranks.specs.SeenTrees.{IsSeenWhere}
 use Rattle.impl_log.specs.declared.progress.Progress.{Progress}
 use Rattle.impl_log.specs.Runs.{past}
 use Rattle.recording_judge.specs.inner.Tiles.{QueuesNow}

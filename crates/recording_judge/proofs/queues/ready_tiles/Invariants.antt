@@ -3,7 +3,7 @@ use Rattle.std.proofs.Common.{◌≡◌, map, take}
 use Rattle.std.specs.Prelude.{option_copied}
 use Rattle.model_history.specs.Tiles.{Tree}
 use Rattle.model_steps.specs.Choices.{tile_in_both}
-use Rattle.tile_ranks.specs.SeenTrees.{IsSeenWhere}
+use Rattle.impl_ranks.specs.SeenTrees.{IsSeenWhere}
 use Rattle.recording_judge.proofs.queues.ready_tiles.Given as goal
 
 abbrev pub invariant-loop-key : goal.invariant-loop-key

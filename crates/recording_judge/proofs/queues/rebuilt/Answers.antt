@@ -9,9 +9,9 @@ use Rattle.model_history.specs.Legal.{Legal}
 use Rattle.model_history.specs.Tiles.{active_tree, pending_tree}
 use Rattle.model_history.specs.Ranking.{choice}
 use Rattle.model_steps.specs.Choices.{tile_in_both}
-use Rattle.tile_ranks.specs.SeenTrees.{IsSeenWhere}
-use Rattle.tile_prepare.specs.inner.Queued.{AreTilesAt}
-use Rattle.tile_prepare.proofs.Rebuilding.{each_key_once, stands_for}
+use Rattle.impl_ranks.specs.SeenTrees.{IsSeenWhere}
+use Rattle.impl_choice.specs.inner.Queued.{AreTilesAt}
+use Rattle.impl_choice.proofs.Rebuilding.{each_key_once, stands_for}
 use Rattle.recording_judge.specs.inner.Tiles.{store_of}
 use Rattle.recording_judge.proofs.QueueFacts.{flies_in}
 use Rattle.recording_judge.proofs.queues.rebuilt.Goals as goal

@@ -2,7 +2,7 @@
 use Rattle.std.proofs.Common.{sym, ◌∙◌, ap, subst}
 use Rattle.std.specs.Prelude.{option_copied}
 use Rattle.model_history.specs.Tiles.{pending_tree}
-use Rattle.tile_ranks.specs.SeenTrees.{IsSeenWhere}
+use Rattle.impl_ranks.specs.SeenTrees.{IsSeenWhere}
 use Rattle.recording_judge.proofs.HostFacts.{on_ok}
 use Rattle.recording_judge.proofs.StateFacts.{hosts_with}
 use Rattle.recording_judge.proofs.steps.activate_tiles.Goals as goal

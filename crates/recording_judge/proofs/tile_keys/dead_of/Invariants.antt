@@ -2,7 +2,7 @@
 use Rattle.std.proofs.Common.{◌≡◌, not, filter, take}
 use Rattle.geom.specs.KeyLists.{has_key}
 use Rattle.model_history.specs.Tiles.{Tree, keys_of}
-use Rattle.tile_ranks.specs.SeenTrees.{IsSeenTree}
+use Rattle.impl_ranks.specs.SeenTrees.{IsSeenTree}
 use Rattle.recording_judge.proofs.tile_keys.dead_of.Given as goal
 
 abbrev pub invariant-loop-key : goal.invariant-loop-key

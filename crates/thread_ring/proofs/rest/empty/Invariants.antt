@@ -1,6 +1,6 @@
 use Rattle.std.proofs.Common.{◌≡◌, ◌≤◌, take, drop}
 use Rattle.rtrb.specs.Ring.{known_items}
-use Rattle.recording_pieces.specs.Shots.{all_shown}
+use Rattle.thread_pieces.specs.Shots.{all_shown}
 use Rattle.thread_ring.specs.Answers.{AddsBytes, Blames, Stops}
 use Rattle.thread_ring.proofs.rest.empty.Given as goal
 

@@ -1,5 +1,5 @@
 use Rattle.std.proofs.Common.{◌≡◌, ◌≤◌}
-use Rattle.recording_pieces.specs.Shots.{all_shown}
+use Rattle.thread_pieces.specs.Shots.{all_shown}
 use Rattle.thread_ring.specs.Answers.{AddsBytes, Blames, Stops}
 use Rattle.thread_ring.proofs.rest.put_kept.Given as goal
 

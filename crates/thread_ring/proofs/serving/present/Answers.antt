@@ -1,5 +1,5 @@
 -- What was gained before is a prefix of all.
-use Rattle.recording_pieces.specs.Shots.{all_shown}
+use Rattle.thread_pieces.specs.Shots.{all_shown}
 use Rattle.thread_ring.proofs.Gains.{wants}
 use Rattle.thread_ring.proofs.serving.present.Goals as goal
 

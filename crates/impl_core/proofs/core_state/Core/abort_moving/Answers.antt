@@ -1,13 +1,13 @@
 -- What stands has moved, and it is to be looked anew.
 use Rattle.std.proofs.Common.{◌≡◌, ℕ, List, ◌∷◌, Some, refl, sym, subst}
-use Rattle.model_scheduler.specs.declared.kind.Kind.TheVariants as kind
+use Rattle.model_states.specs.declared.kind.Kind.TheVariants as kind
 use Rattle.model_history.specs.declared.event.Event.TheVariants as event
 use Rattle.model_history.specs.declared.history.Entry.{Entry}
 use Rattle.model_history.specs.Tiles.{ready, required}
 use Rattle.model_steps.specs.Events.{abort}
 use Rattle.impl_scroll.specs.Standings.{StandsForPast}
-use Rattle.tile_prepare.proofs.SameTiles.{same_tiles}
-use Rattle.tile_manager.specs.Managers.{Manages}
+use Rattle.impl_choice.proofs.SameTiles.{same_tiles}
+use Rattle.impl_tiles.specs.Managers.{Manages}
 use Rattle.impl_host.specs.Hosts.{Hosts}
 use Rattle.impl_log.specs.Runs.{Run, past, now}
 use Rattle.impl_core.specs.declared.drawn.Drawn.TheVariants as drawn

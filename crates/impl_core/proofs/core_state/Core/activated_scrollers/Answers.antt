@@ -1,7 +1,7 @@
 -- The page is the pending one, and the moves are those that the activation lists.
 use Rattle.std.proofs.Common.{◌≡◌, true, List, ◌∷◌, Some, is_some, sym, ◌∙◌, ap, subst}
 use Rattle.std.specs.Prelude.{option_copied}
-use Rattle.model_scheduler.specs.declared.kind.Kind.TheVariants as kind
+use Rattle.model_states.specs.declared.kind.Kind.TheVariants as kind
 use Rattle.page_layers.specs.declared.moves.Move.{Move}
 use Rattle.model_history.specs.declared.history.Entry.{Entry}
 use Rattle.model_history.specs.Frames.{pending, pending_page}

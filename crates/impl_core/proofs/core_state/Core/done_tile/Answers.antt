@@ -8,7 +8,7 @@ use Rattle.model_history.specs.Legal.{Legal}
 use Rattle.model_history.proofs.TileCourse.{holder_is_worker}
 use Rattle.model_steps.specs.Events.{done}
 use Rattle.model_steps.specs.ShownKeys.{KeyShows}
-use Rattle.tile_manager.specs.Managers.{Manages, tile_made}
+use Rattle.impl_tiles.specs.Managers.{Manages, tile_made}
 use Rattle.impl_log.specs.Runs.{Run, past, with_entry}
 use Rattle.impl_core.specs.declared.drawn.Drawn.TheVariants as drawn
 use Rattle.impl_core.proofs.CoreSteps.{done_core, one_more}

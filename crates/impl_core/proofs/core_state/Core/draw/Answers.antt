@@ -1,7 +1,7 @@
 -- What is shown is what the draw that may come shows.
 use Rattle.std.proofs.Common.{◌≡◌, List, Some, sym, subst}
 use Rattle.geom.specs.declared.tile.TileKey.{TileKey}
-use Rattle.model_scheduler.specs.declared.kind.Kind.TheVariants as kind
+use Rattle.model_states.specs.declared.kind.Kind.TheVariants as kind
 use Rattle.model_history.specs.declared.event.Event.TheVariants as event
 use Rattle.impl_log.specs.Runs.{Run, past, now}
 use Rattle.impl_core.specs.Replies.{IsPicture}

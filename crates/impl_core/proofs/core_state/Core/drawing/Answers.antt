@@ -12,7 +12,7 @@ use Rattle.model_history.specs.Frames.{active, active_page}
 use Rattle.model_history.specs.Scrolls.{active_offsets}
 use Rattle.model_history.specs.Tiles.{active_tree, visible_in, missing_visible}
 use Rattle.impl_scroll.specs.Standings.{StandingModel}
-use Rattle.tile_ranks.specs.SeenTrees.{IsSeenWhere}
+use Rattle.impl_ranks.specs.SeenTrees.{IsSeenWhere}
 use Rattle.impl_log.specs.Runs.{Run, past}
 use Rattle.impl_core.specs.Replies.{IsPicture}
 use Rattle.impl_core.proofs.Pictures.{is_picture}

@@ -1,6 +1,6 @@
 -- The pending tree becomes the active one, and nothing is pending then.
 use Rattle.std.proofs.Common.{◌≡◌, ℕ, true, List, ◌∷◌, Some, is_some, refl, sym, subst}
-use Rattle.model_scheduler.specs.declared.kind.Kind.TheVariants as kind
+use Rattle.model_states.specs.declared.kind.Kind.TheVariants as kind
 use Rattle.page_layers.specs.declared.moves.Move.{Move}
 use Rattle.model_history.specs.declared.event.Event.TheVariants as event
 use Rattle.model_history.specs.declared.history.Entry.{Entry}
@@ -10,9 +10,9 @@ use Rattle.model_history.specs.Tiles.{ready, required}
 use Rattle.model_history.proofs.DueFacts.{entry}
 use Rattle.model_steps.specs.Events.{activate}
 use Rattle.impl_scroll.specs.Standings.{StandsForPast}
-use Rattle.tile_prepare.specs.Rebuilds.{AreForActivation}
-use Rattle.tile_prepare.proofs.Activating.{ready_dead}
-use Rattle.tile_manager.specs.Managers.{Manages}
+use Rattle.impl_choice.specs.Rebuilds.{AreForActivation}
+use Rattle.impl_choice.proofs.Activating.{ready_dead}
+use Rattle.impl_tiles.specs.Managers.{Manages}
 use Rattle.impl_host.specs.Hosts.{Hosts}
 use Rattle.impl_log.specs.Runs.{Run, past, now, Entered}
 use Rattle.impl_core.specs.declared.drawn.Drawn.TheVariants as drawn

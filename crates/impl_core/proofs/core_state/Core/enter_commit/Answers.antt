@@ -1,6 +1,6 @@
 -- The commit becomes the pending tree, and is taken back where it is not entered.
 use Rattle.std.proofs.Common.{◌≡◌, ℕ, List, ◌∷◌, Some, sym, ◌∙◌, subst}
-use Rattle.model_scheduler.specs.declared.kind.Kind.TheVariants as kind
+use Rattle.model_states.specs.declared.kind.Kind.TheVariants as kind
 use Rattle.model_history.specs.declared.event.Event.TheVariants as event
 use Rattle.model_history.specs.declared.history.Entry.{Entry}
 use Rattle.model_history.specs.Scripts.{ScriptModel}
@@ -10,7 +10,7 @@ use Rattle.model_history.specs.Legal.{Legal}
 use Rattle.model_history.specs.Tiles.{ready, required}
 use Rattle.model_history.proofs.DueFacts.{entry}
 use Rattle.model_steps.specs.Events.{commit}
-use Rattle.tile_manager.specs.Managers.{Manages}
+use Rattle.impl_tiles.specs.Managers.{Manages}
 use Rattle.impl_host.specs.Hosts.{Hosts}
 use Rattle.impl_log.specs.Runs.{Run, past, now}
 use Rattle.impl_core.specs.inner.Cores.{Kept, IsPrepared}

@@ -1,6 +1,6 @@
 -- A draw changes nothing of what is kept.
 use Rattle.std.proofs.Common.{◌≡◌, Some, sym, subst}
-use Rattle.model_scheduler.specs.declared.kind.Kind.TheVariants as kind
+use Rattle.model_states.specs.declared.kind.Kind.TheVariants as kind
 use Rattle.model_history.specs.declared.event.Event.TheVariants as event
 use Rattle.impl_log.specs.Runs.{Run, now}
 use Rattle.impl_core.proofs.CoreSteps.{tried}

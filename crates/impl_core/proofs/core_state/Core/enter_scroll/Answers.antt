@@ -1,7 +1,7 @@
 -- A scroll moves what stands, and it is to be looked anew.
 use Rattle.std.proofs.Common.{◌≡◌, ℕ, ℤ, true, List, [], ◌∷◌, Some, refl, sym, ◌∙◌, ap, subst}
 use Rattle.std.proofs.lemmas.Int.{to_z-of_z}
-use Rattle.model_scheduler.specs.declared.kind.Kind.TheVariants as kind
+use Rattle.model_states.specs.declared.kind.Kind.TheVariants as kind
 use Rattle.page_layers.specs.declared.moves.Move.{Move}
 use Rattle.model_history.specs.declared.event.Event.{Event}
 use Rattle.model_history.specs.declared.event.Event.TheVariants as event
@@ -13,8 +13,8 @@ use Rattle.model_history.specs.Legal.{is_open}
 use Rattle.model_history.specs.Tiles.{ready, required}
 use Rattle.model_history.proofs.DueFacts.{entry}
 use Rattle.impl_scroll.specs.Standings.{StandingModel, StandsForPast}
-use Rattle.tile_prepare.proofs.SameTiles.{same_tiles}
-use Rattle.tile_manager.specs.Managers.{Manages}
+use Rattle.impl_choice.proofs.SameTiles.{same_tiles}
+use Rattle.impl_tiles.specs.Managers.{Manages}
 use Rattle.impl_host.specs.Hosts.{Hosts}
 use Rattle.impl_log.specs.Runs.{Run, past, now, with_entry, Entered}
 use Rattle.impl_core.specs.declared.drawn.Drawn.TheVariants as drawn

@@ -1,6 +1,6 @@
 -- The commit that is kept is that of the frame in flight.
 use Rattle.std.proofs.Common.{◌≡◌, ℕ, Some, refl, sym, ◌∙◌, ap, subst, arith}
-use Rattle.model_scheduler.specs.declared.kind.Kind.TheVariants as kind
+use Rattle.model_states.specs.declared.kind.Kind.TheVariants as kind
 use Rattle.model_history.specs.declared.event.Event.TheVariants as event
 use Rattle.model_history.specs.Frames.{pulls_of}
 use Rattle.impl_log.specs.Runs.{Run, past, now, with_entry}

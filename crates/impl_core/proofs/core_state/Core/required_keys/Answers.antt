@@ -1,7 +1,7 @@
 -- The keys are those of the pending tree as it is seen now.
 use Rattle.std.proofs.Common.{◌≡◌, sym, subst}
 use Rattle.model_history.specs.Tiles.{pending_tree, required}
-use Rattle.tile_ranks.specs.SeenTrees.{IsSeenWhere}
+use Rattle.impl_ranks.specs.SeenTrees.{IsSeenWhere}
 use Rattle.impl_log.specs.Runs.{Run, past}
 use Rattle.page_layers.proofs.KeptPages.{weaken}
 use Rattle.impl_core.proofs.core_state.Core.required_keys.Goals as goal

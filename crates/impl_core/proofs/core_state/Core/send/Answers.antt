@@ -1,6 +1,6 @@
 -- The host tells what the send lists, and steps with it.
 use Rattle.std.proofs.Common.{ℕ, ◌∷◌, List, refl, sym, ◌∙◌, ap, subst, arith}
-use Rattle.model_scheduler.specs.declared.kind.Kind.TheVariants as kind
+use Rattle.model_states.specs.declared.kind.Kind.TheVariants as kind
 use Rattle.page_layers.specs.declared.moves.Move.{Move}
 use Rattle.model_history.specs.declared.event.Event.TheVariants as event
 use Rattle.model_history.specs.Legal.{Legal}
@@ -8,7 +8,7 @@ use Rattle.model_steps.specs.Events.{send}
 use Rattle.impl_scroll.specs.Standings.{StandingModel, StandsForPast}
 use Rattle.impl_log.specs.declared.progress.Progress.{Progress}
 use Rattle.impl_log.specs.Runs.{Run, past, Entered}
-use Rattle.tile_manager.proofs.OtherTiles.{send_holds}
+use Rattle.impl_tiles.proofs.OtherTiles.{send_holds}
 use Rattle.impl_core.proofs.CoreSteps.{send_core, one_more, refused}
 use Rattle.impl_core.proofs.MayCome.{send_now, comes_next}
 use Rattle.impl_core.proofs.core_state.Core.send.Goals as goal

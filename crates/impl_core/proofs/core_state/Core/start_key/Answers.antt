@@ -1,13 +1,13 @@
 -- The next key is started, with what is evicted for it.
 use Rattle.std.proofs.Common.{◌≡◌, ℕ, ◌+◌, ◌<◌, ◌∷◌, List, None, Some, refl, sym, ◌∙◌, subst, arith}
 use Rattle.geom.specs.declared.tile.TileKey.{TileKey}
-use Rattle.model_scheduler.specs.declared.kind.Kind.TheVariants as kind
+use Rattle.model_states.specs.declared.kind.Kind.TheVariants as kind
 use Rattle.model_history.specs.declared.event.Event.TheVariants as event
 use Rattle.model_history.specs.Scans.{held}
 use Rattle.model_history.specs.Legal.{Legal}
 use Rattle.model_history.specs.Scripts.{ScriptModel}
 use Rattle.model_steps.specs.Events.{start}
-use Rattle.tile_manager.specs.Managers.{Manages, TellsNext}
+use Rattle.impl_tiles.specs.Managers.{Manages, TellsNext}
 use Rattle.impl_log.specs.Runs.{Run, past, now, with_entry}
 use Rattle.impl_core.specs.Replies.{next_key, StartsKey}
 use Rattle.impl_core.specs.inner.Outlooks.{LooksNow}

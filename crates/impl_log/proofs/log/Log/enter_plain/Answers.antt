@@ -1,5 +1,5 @@
 use Rattle.std.proofs.Common.{ap, sym, ◌∙◌}
-use Rattle.model_scheduler.specs.declared.kind.Kind.{Kind}
+use Rattle.model_states.specs.declared.kind.Kind.{Kind}
 use Rattle.impl_log.specs.Runs.{past, now}
 use Rattle.impl_log.proofs.LogSteps.{plain_row}
 use Rattle.impl_log.proofs.log.Log.enter_plain.Goals as goal

@@ -1,6 +1,6 @@
 -- What was played is what the line is answered.
 use Rattle.std.proofs.Common.{rules, ◌≡◌, false}
-use Rattle.player_outcomes.specs.Outcomes.{is_write_fault}
+use Rattle.player_uses.specs.Outcomes.{is_write_fault}
 use Rattle.player_run.proofs.ServedLines.{played_failed, played_answer}
 use Rattle.player_run.proofs.line_player.LinePlayer.play_line.Goals as goal
 

@@ -3,8 +3,8 @@ use Rattle.std.proofs.Common.{rules, refl, subst, ◌≡◌}
 use Rattle.player_lines.specs.declared.answering.Unkept.{Unkept}
 use Rattle.player_lines.specs.declared.answering.Unkept.TheVariants.{TooLong}
 use Rattle.player_lines.specs.inner.Reading.{IsUnkept}
-use Rattle.player_outcomes.specs.declared.outcome.Outcome.TheVariants as outcome
-use Rattle.player_outcomes.specs.Refusals.{script_limit}
+use Rattle.player_uses.specs.declared.outcome.Outcome.TheVariants as outcome
+use Rattle.player_uses.specs.Refusals.{script_limit}
 use Rattle.player_run.proofs.ServedLines.{told_answer, too_long, no_memory}
 use Rattle.player_run.proofs.serving.LinePlayerAnswerer.refuse.Goals as goal
 

@@ -1,6 +1,6 @@
 -- The main side and what was drawn stay.
 use Rattle.std.proofs.Common.{◌+◌, ◌-◌, refl}
-use Rattle.model_scheduler.specs.declared.kind.Kind.TheVariants as kind
+use Rattle.model_states.specs.declared.kind.Kind.TheVariants as kind
 use Rattle.proxy_single_thread.proofs.Keeps.{by_worker}
 use Rattle.proxy_single_thread.proofs.single.SingleThread.enter_start.Goals as goal
 

@@ -1,6 +1,6 @@
 -- The run is the same once there is a queue.
 use Rattle.std.proofs.Common.{◌<◌, ◌+◌, sym, ◌∙◌, ap, subst}
-use Rattle.model_scheduler.specs.declared.kind.Kind.{Kind}
+use Rattle.model_states.specs.declared.kind.Kind.{Kind}
 use Rattle.page_layers.proofs.KeptPages.{weaken}
 use Rattle.impl_log.specs.Runs.{Run, now}
 use Rattle.recording_judge.specs.Judging.{JudgesEntry}

@@ -2,7 +2,7 @@
 use Rattle.std.proofs.Common.{sym, subst}
 use Rattle.model_history.specs.Tiles.{active_tree}
 use Rattle.page_layers.proofs.KeptPages.{weaken}
-use Rattle.tile_ranks.specs.SeenTrees.{IsSeenWhere}
+use Rattle.impl_ranks.specs.SeenTrees.{IsSeenWhere}
 use Rattle.impl_log.specs.Runs.{past}
 use Rattle.recording_judge.proofs.StateFacts.{hosts_with}
 use Rattle.recording_judge.proofs.state.State.shown.Goals as goal

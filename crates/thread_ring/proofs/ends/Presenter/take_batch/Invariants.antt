@@ -1,6 +1,6 @@
 -- What was taken is the batch.
 use Rattle.std.proofs.Common.{◌≡◌, ◌-◌, ◌++◌, length}
-use Rattle.recording_pieces.specs.Shots.{all_shown}
+use Rattle.thread_pieces.specs.Shots.{all_shown}
 use Rattle.thread_ring.specs.Ring.{SamePresenter, bytes_taken}
 use Rattle.thread_ring.proofs.ends.Presenter.take_batch.Given as goal
 

@@ -1,5 +1,0 @@
-use Rattle.viz_canvas.specs.Canvases.{IsOfSize}
-use Rattle.bench_draw.proofs.scenes.draw.Given as given
-
-abbrev pub invariant-loop-turn : given.invariant-loop-turn
-invariant-loop-turn l = IsOfSize 1024 1024 l.canvas

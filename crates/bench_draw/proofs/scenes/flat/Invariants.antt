@@ -1,5 +1,0 @@
-use Rattle.bench_draw.specs.Jobs.{CanBeAnywhere}
-use Rattle.bench_draw.proofs.scenes.flat.Given as given
-
-abbrev pub invariant-loop-layer : given.invariant-loop-layer
-invariant-loop-layer l = CanBeAnywhere l.quads.items

@@ -1,0 +1,61 @@
+//! A sink over std's `Write`.
+ghost use Rattle.std.specs.Prelude.{◌≡◌, ◌≤◌, is_err};
+ghost use Rattle.byte_io.specs.Counts.{raised_if};
+ghost use Rattle.byte_io.specs.Pieces.{PutAppends, PutCause};
+
+use crate::writing::{PutFault, Sink};
+use std::io::{ErrorKind, Write};
+
+/// A sink over a writer. It tells the bytes that the writer tells, takes no memory, and so never
+/// answers `Memory`.
+#[derive(Drop)]
+pub struct StdSink<W> {
+    writer: W,
+    /// How many puts failed. An interrupted call that was repeated is no fault.
+    faults: u64,
+}
+
+impl<W: Write> StdSink<W> {
+    /// A sink that hands its pieces to `writer`.
+    pub fn new(writer: W) -> StdSink<W>
+        ensures { (result.writer ≡ writer) × (result.faults ≡ 0) }
+    {
+        StdSink { writer, faults: 0 }
+    }
+}
+
+impl<W: Write> Sink for StdSink<W> {
+    type Place = ();
+
+    ghost held = { λ s. W.contents s.writer };
+
+    ghost faults = { λ s. s.faults };
+
+    ghost refusals = { λ _. 0 };
+
+    ghost place = { λ _. tt };
+
+    /// Writes on where the writer took a part or was interrupted. A writer that takes nothing of
+    /// what is left has failed.
+    fn put(&mut self, piece: &[u8]) -> Result<(), PutFault>
+        ensures bytes { PutAppends (W.contents self.old.writer) (W.contents self.new.writer) piece.now result }
+        ensures grows { self.old.faults ≤ self.new.faults }
+        ensures cause { PutCause self.old.faults self.new.faults 0 0 result }
+        ensures count { self.new.faults ≡ raised_if (is_err result) self.old.faults }
+    {
+        let mut rest = piece;
+        for _ in 0..u64::MAX {
+            if rest.is_empty() {
+                return Ok(());
+            }
+            match self.writer.write(rest) {
+                Ok(0) => break,
+                Ok(count) => rest = &rest[count..],
+                Err(error) if error.kind() == ErrorKind::Interrupted => {}
+                Err(_) => break,
+            }
+        }
+        self.faults = self.faults.saturating_add(1);
+        Err(PutFault::Failed)
+    }
+}

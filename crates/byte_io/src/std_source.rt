@@ -1,0 +1,61 @@
+//! A source over std's `Read`.
+ghost use Rattle.std.specs.Prelude.{◌≡◌, ◌≤◌, OnErr, is_err, false};
+ghost use Rattle.std.specs.Io.{ReadsAtMost};
+ghost use Rattle.std.specs.Io.KnownBytes.{ReadConsumes};
+ghost use Rattle.byte_io.specs.Counts.{Rose, raised_if};
+
+use crate::reading::{Failed, Source};
+use std::io::{ErrorKind, Read};
+
+/// A source over a reader. It tells the bytes that the reader tells.
+#[derive(Drop)]
+pub struct StdSource<R> {
+    reader: R,
+    /// How many reads failed. An interrupted call that was repeated is no fault.
+    faults: u64,
+    /// Whether the last read failed.
+    failed: bool,
+}
+
+impl<R: Read> StdSource<R> {
+    /// A source that gives what `reader` gives.
+    pub fn new(reader: R) -> StdSource<R>
+        ensures { (result.reader ≡ reader) × (result.faults ≡ 0) × (result.failed ≡ false) }
+    {
+        StdSource {
+            reader,
+            faults: 0,
+            failed: false,
+        }
+    }
+}
+
+impl<R: Read> Source for StdSource<R> {
+    ghost left = { λ s. R.remaining s.reader };
+
+    ghost faults = { λ s. s.faults };
+
+    ghost has_failed = { λ s. s.failed };
+
+    /// Reads again where the reader was interrupted.
+    fn read(&mut self, buf: &mut [u8]) -> Result<usize, Failed>
+        ensures bound { ReadsAtMost result buf.new }
+        ensures bytes { ReadConsumes (R.remaining self.old.reader) (R.remaining self.new.reader) result buf.new }
+        ensures grows { self.old.faults ≤ self.new.faults }
+        ensures cause { OnErr result (Rose self.old.faults self.new.faults) }
+        ensures count { self.new.faults ≡ raised_if (is_err result) self.old.faults }
+        ensures last { self.new.failed ≡ is_err result }
+    {
+        self.failed = false;
+        for _ in 0..u64::MAX {
+            match self.reader.read(buf) {
+                Ok(count) => return Ok(count),
+                Err(error) if error.kind() == ErrorKind::Interrupted => {}
+                Err(_) => break,
+            }
+        }
+        self.faults = self.faults.saturating_add(1);
+        self.failed = true;
+        Err(Failed)
+    }
+}

@@ -1,0 +1,8 @@
+-- The ranks of the layers so far were added.
+use Rattle.std.proofs.Common.{◌≡◌, take}
+use Rattle.std.specs.List.{flat_map}
+use Rattle.impl_ranks.specs.inner.Pairs.{better_near}
+use Rattle.impl_ranks.proofs.both.all_better.Given as goal
+
+abbrev pub invariant-loop-layer : goal.invariant-loop-layer
+invariant-loop-layer l = l.all.items ≡ flat_map (better_near l.borders l.theirs l.others) (take l.layer-index l.layers)

@@ -1,0 +1,7 @@
+mod BatchedRuns
+pub mod DrawnScenes
+pub mod PlayedWays
+pub mod RecordedRuns
+pub mod UsedInputs
+mod FilmedRuns
+mod ShotRuns

@@ -1,0 +1,30 @@
+-- What was played waits, and what waited was put; or a prefix of it was.
+use Rattle.std.proofs.Common.{◌<◌, length, subst, sym}
+use Rattle.std.specs.Prelude.{IfOk, OnErr, OnOk}
+use Rattle.byte_io.specs.Pieces.{GainsPrefix}
+use Rattle.thread_pieces.specs.Writing.{WriteCause}
+use Rattle.recording_writer.specs.Batches.{held_of}
+use Rattle.player_lockstep.specs.inner.Batches.{StaysOn, run_text}
+use Rattle.recording_writer.specs.Parts.{Half}
+use Rattle.player_lockstep.proofs.BatchedRuns.{joint_cause, joint_err, joint_if, joint_ok, put_front}
+use Rattle.player_lockstep.proofs.batches.record_batch.Goals as goal
+
+pub returns-clause-course : goal.returns-clause-course
+returns-clause-course g c = subst (λ r. IfOk r (λ left. StaysOn left.now c.args.single.now.run c.play_beside-put.new.single)) (sym c.both_answer.ensures) (joint_if _ c.play_beside-put.result.0 c.play_beside-put.result.1 c.play_beside-put.ensures.course)
+
+pub returns-clause-fewer : goal.returns-clause-fewer
+returns-clause-fewer g c = λ some. subst (λ r. IfOk r (λ left. length left.now < length c.args.inputs.now)) (sym c.both_answer.ensures) (joint_if _ c.play_beside-put.result.0 c.play_beside-put.result.1 (c.play_beside-put.ensures.fewer some))
+
+pub returns-clause-ok : goal.returns-clause-ok
+returns-clause-ok g c = λ start half.
+    subst (λ r. OnOk r (Half start (g.K.Sink.held c.play_beside-put.new.out) (run_text c.play_beside-put.new.single.run) (held_of c.play_beside-put.new.batch))) (sym c.both_answer.ensures)
+    (joint_ok c.args.single.now.run c.play_beside-put.new.single.run start _ _ _ _ _ _ c.take_shots-shots.ensures.all half c.play_beside-put.result.0 c.play_beside-put.result.1 c.play_beside-put.ensures.bytes c.play_beside-put.ensures.put)
+
+pub returns-clause-err : goal.returns-clause-err
+returns-clause-err g c = λ start half.
+    subst (λ r. OnErr r (GainsPrefix start (g.K.Sink.held c.play_beside-put.new.out) (run_text c.args.single.now.run))) (sym c.both_answer.ensures)
+    (joint_err _ c.play_beside-put.result.0 c.play_beside-put.result.1
+    (put_front c.args.single.now.run start _ _ _ _ _ c.take_shots-shots.ensures.all half c.play_beside-put.result.1 c.play_beside-put.ensures.put))
+
+pub returns-clause-cause : goal.returns-clause-cause
+returns-clause-cause g c = subst (λ r. WriteCause (g.K.Sink.faults c.args.out.now) (g.K.Sink.faults c.play_beside-put.new.out) r) (sym c.both_answer.ensures) (joint_cause _ _ c.play_beside-put.result.0 c.play_beside-put.result.1 c.play_beside-put.ensures.cause)

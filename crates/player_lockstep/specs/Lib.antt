@@ -1,0 +1,4 @@
+pub mod Recordings
+pub mod inner
+pub mod Films
+pub mod Shots

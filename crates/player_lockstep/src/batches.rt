@@ -1,0 +1,267 @@
+//! Scripts, played in lockstep batch by batch, while others paint the batch before.
+
+ghost use Rattle.std.specs.Prelude.{◌≡◌, ◌≤◌, ◌<◌, ◌++◌, ℕ, List, [], Option, length, reverse, IfOk, OnErr, OnOk};
+ghost use Rattle.std.specs.Thread.{IsSync};
+ghost use Rattle.serde_json.specs.Written.{compact_text};
+ghost use Rattle.byte_io.specs.Pieces.{GainsPrefix};
+ghost use Rattle.model_history.specs.declared.history.Entry.{Entry};
+ghost use Rattle.model_history.specs.Lockstep.{IsLockstep};
+ghost use Rattle.model_history.specs.Recordings.{header, pieces};
+ghost use Rattle.model_lockstep.specs.Walks.{CanFollow, input_played, run_end};
+ghost use Rattle.impl_log.specs.Kept.{forgettable};
+ghost use Rattle.impl_log.specs.Runs.{past};
+ghost use Rattle.proxy_single_thread.specs.Singles.{walk_of};
+ghost use Rattle.thread_pieces.specs.Shots.{all_shown};
+ghost use Rattle.thread_pieces.specs.Writing.{PutsAll, WriteCause};
+ghost use Rattle.script_json.specs.ScriptValue.{parts_data};
+ghost use Rattle.player_lockstep.specs.Recordings.{Records};
+ghost use Rattle.recording_writer.specs.Batches.{held_of};
+ghost use Rattle.player_lockstep.specs.inner.Batches.{HasGathered, KeepsUp, OnCourse, StaysOn, StopsEarly, joint_answer, run_text};
+ghost use Rattle.recording_writer.specs.Parts.{Half};
+ghost use Rattle.player_lockstep.specs.inner.Ways.{IsFresh};
+
+use byte_io::Sink;
+use model_history::{Input, Script};
+use model_lockstep::{end_run, play_input};
+use proxy_single_thread::SingleThread;
+use recording_writer::{Batch, ImagePainter, put_shots};
+use std::alloc::{AllocError, Global};
+use std::marker::Sync;
+use std::thread::{Threads, join_mut};
+use thread_pieces::{Painters, Shot, WriteStop};
+
+// Adds what was entered since the last time.
+fn gather_news(single: &mut SingleThread, batch: &mut Batch) -> Result<(), AllocError>
+    requires { forgettable (past single.old.run) ≤ single.old.written }
+    ensures run { single.new.run ≡ single.old.run }
+    ensures all { single.new.written ≡ length single.old.run.entries }
+    ensures bytes { OnOk result ((done news : List Entry) → single.old.run.entries ≡ done ++ news → single.old.written ≡ length done → held_of batch.new ≡ held_of batch.old ++ pieces single.old.run.script (reverse done) news) }
+{
+    single.core().is_legal();
+    let from = single.written();
+    let scenes = single.take_scenes();
+    batch.push_entries(single.core(), from, scenes)
+}
+
+// Plays what an input brings, and adds it.
+fn gather_input<R: Threads + Sync>(
+    rt: &R,
+    single: &mut SingleThread,
+    input: &Input,
+    batch: &mut Batch,
+) -> Result<(), AllocError>
+    requires can { CanFollow (input_played input.now) (walk_of single.old) }
+    requires all { single.old.written ≡ length single.old.run.entries }
+    ensures { OnOk result (HasGathered (input_played input.now) single.old single.new (held_of batch.old) (held_of batch.new)) }
+{
+    play_input(rt, single, input)?;
+    gather_news(single, batch)
+}
+
+// Plays inputs until the batch has as much as the given number of painters take at a time, and adds what they bring.
+// The inputs that are left.
+fn gather_inputs<'i, R: Threads + Sync>(
+    rt: &R,
+    single: &mut SingleThread,
+    inputs: &'i [Input],
+    painters: usize,
+    batch: &mut Batch,
+) -> Result<&'i [Input], AllocError>
+    requires course { OnCourse inputs.now single.old }
+    ensures course { IfOk result (λ left. StaysOn left.now single.old.run single.new) }
+    ensures bytes { OnOk result (KeepsUp single.old.run single.new.run (held_of batch.old) (held_of batch.new)) }
+    ensures fewer { 1 ≤ length inputs.now → IfOk result (λ left. length left.now < length inputs.now) }
+{
+    let mut rest = inputs;
+    while let Some((input, after)) = rest.split_first() {
+        gather_input(rt, single, input, batch)?;
+        rest = after;
+        if batch.is_full(painters) {
+            return Ok(rest);
+        }
+    }
+    Ok(rest)
+}
+
+// What playing and putting answered together.
+fn both_answer<'i>(
+    played: Result<&'i [Input], AllocError>,
+    put: Result<(), WriteStop>,
+) -> Result<&'i [Input], WriteStop>
+    ensures { result ≡ joint_answer played.entry put }
+{
+    match (played, put) {
+        (_, Err(stop)) => Err(stop),
+        (Ok(left), Ok(())) => Ok(left),
+        (Err(_), Ok(())) => Err(WriteStop::Memory),
+    }
+}
+
+// Plays inputs into a batch, and paints and puts these pieces, side by side where a thread can be started. The inputs
+// that are left.
+fn play_beside<'i, R: Threads + Sync, K: Sink>(
+    rt: &R,
+    alloc: Global,
+    painters: &mut Painters<ImagePainter>,
+    single: &mut SingleThread,
+    inputs: &'i [Input],
+    batch: &mut Batch,
+    shots: Vec<Shot>,
+    out: &mut K,
+) -> (Result<&'i [Input], AllocError>, Result<(), WriteStop>)
+    requires course { OnCourse inputs.now single.old }
+    ensures course { IfOk result.0 (λ left. StaysOn left.now single.old.run single.new) }
+    ensures bytes { OnOk result.0 (KeepsUp single.old.run single.new.run (held_of batch.old) (held_of batch.new)) }
+    ensures fewer { 1 ≤ length inputs.now → IfOk result.0 (λ left. length left.now < length inputs.now) }
+    ensures put { PutsAll (K.held out.old) (K.held out.new) (all_shown shots.items) result.1 }
+    ensures grows { K.faults out.old ≤ K.faults out.new }
+    ensures cause { WriteCause (K.faults out.old) (K.faults out.new) result.1 }
+{
+    let most = painters.most();
+    let mut waiting = shots;
+    join_mut(
+        rt,
+        &mut || -> Result<&[Input], AllocError>
+            requires sync { IsSync R.row }
+            requires course { OnCourse inputs.now single.now }
+        { gather_inputs(rt, single, inputs, most, batch) },
+        &mut || put_shots(rt, alloc, painters, &mut waiting, out),
+    )
+}
+
+// Plays inputs into a batch, and puts what waited in it before. The inputs that are left.
+fn record_batch<'i, R: Threads + Sync, K: Sink>(
+    rt: &R,
+    alloc: Global,
+    painters: &mut Painters<ImagePainter>,
+    single: &mut SingleThread,
+    inputs: &'i [Input],
+    batch: &mut Batch,
+    out: &mut K,
+) -> Result<&'i [Input], WriteStop>
+    requires course { OnCourse inputs.now single.old }
+    ensures course { IfOk result (λ left. StaysOn left.now single.old.run single.new) }
+    ensures ok { (start : Option (List ℕ)) → Half start (K.held out.old) (run_text single.old.run) (held_of batch.old) → OnOk result (Half start (K.held out.new) (run_text single.new.run) (held_of batch.new)) }
+    ensures err { (start : Option (List ℕ)) → Half start (K.held out.old) (run_text single.old.run) (held_of batch.old) → OnErr result (GainsPrefix start (K.held out.new) (run_text single.old.run)) }
+    ensures fewer { 1 ≤ length inputs.now → IfOk result (λ left. length left.now < length inputs.now) }
+    ensures grows { K.faults out.old ≤ K.faults out.new }
+    ensures cause { WriteCause (K.faults out.old) (K.faults out.new) result }
+{
+    let shots = batch.take_shots();
+    let (played, put) = play_beside(rt, alloc, painters, single, inputs, batch, shots, out);
+    both_answer(played, put)
+}
+
+// Plays all inputs, batch by batch. What the last batch has waits.
+fn record_inputs<R: Threads + Sync, K: Sink>(
+    rt: &R,
+    alloc: Global,
+    painters: &mut Painters<ImagePainter>,
+    single: &mut SingleThread,
+    inputs: &[Input],
+    batch: &mut Batch,
+    out: &mut K,
+) -> Result<(), WriteStop>
+    requires course { OnCourse inputs.now single.old }
+    ensures course { OnOk result (StaysOn [] single.old.run single.new) }
+    ensures ok { (start : Option (List ℕ)) → Half start (K.held out.old) (run_text single.old.run) (held_of batch.old) → OnOk result (Half start (K.held out.new) (run_text single.new.run) (held_of batch.new)) }
+    ensures err { (start : Option (List ℕ)) → Half start (K.held out.old) (run_text single.old.run) (held_of batch.old) → OnErr result (StopsEarly single.old.run.script start (K.held out.new)) }
+    ensures grows { K.faults out.old ≤ K.faults out.new }
+    ensures cause { WriteCause (K.faults out.old) (K.faults out.new) result }
+{
+    let mut rest = inputs;
+    while !rest.is_empty() {
+        match record_batch(rt, alloc, painters, single, rest, batch, out) {
+            Ok(left) => rest = left,
+            Err(stop) => return Err(stop),
+        }
+    }
+    Ok(())
+}
+
+// Plays what is left after all inputs, and adds it.
+fn gather_end<R: Threads + Sync>(
+    rt: &R,
+    single: &mut SingleThread,
+    batch: &mut Batch,
+) -> Result<(), AllocError>
+    requires can { CanFollow run_end (walk_of single.old) }
+    requires all { single.old.written ≡ length single.old.run.entries }
+    ensures { OnOk result (HasGathered run_end single.old single.new (held_of batch.old) (held_of batch.new)) }
+{
+    end_run(rt, single)?;
+    gather_news(single, batch)
+}
+
+// Plays what is left after all inputs, and puts all that waits.
+fn record_end<R: Threads + Sync, K: Sink>(
+    rt: &R,
+    painters: &mut Painters<ImagePainter>,
+    single: &mut SingleThread,
+    batch: &mut Batch,
+    out: &mut K,
+) -> Result<(), WriteStop>
+    requires course { OnCourse [] single.old }
+    ensures bytes { (start : Option (List ℕ)) → Half start (K.held out.old) (run_text single.old.run) (held_of batch.old) → Records single.old.run.script start (K.held out.new) result }
+    ensures history { IfOk result (λ whole. IsLockstep single.old.run.script single.new.run.entries) }
+    ensures grows { K.faults out.old ≤ K.faults out.new }
+    ensures cause { WriteCause (K.faults out.old) (K.faults out.new) result }
+{
+    match gather_end(rt, single, batch) {
+        Ok(()) => batch.put(rt, painters, out),
+        Err(_) => Err(WriteStop::Memory),
+    }
+}
+
+// Plays and writes the whole run of these inputs with a batch that has the lines before the events.
+fn record_run<R: Threads + Sync, K: Sink>(
+    rt: &R,
+    alloc: Global,
+    painters: &mut Painters<ImagePainter>,
+    single: &mut SingleThread,
+    inputs: &[Input],
+    batch: &mut Batch,
+    out: &mut K,
+) -> Result<(), WriteStop>
+    requires course { OnCourse inputs.now single.old }
+    ensures bytes { (start : Option (List ℕ)) → Half start (K.held out.old) (run_text single.old.run) (held_of batch.old) → Records single.old.run.script start (K.held out.new) result }
+    ensures history { IfOk result (λ whole. IsLockstep single.old.run.script single.new.run.entries) }
+    ensures grows { K.faults out.old ≤ K.faults out.new }
+    ensures cause { WriteCause (K.faults out.old) (K.faults out.new) result }
+{
+    if let Err(stop) = record_inputs(rt, alloc, painters, single, inputs, batch, out) {
+        return Err(stop);
+    }
+    record_end(rt, painters, single, batch, out)
+}
+
+/// Plays and writes the whole run of a script after the lines before the events, of which these were not put yet.
+/// With at most the given number of painters, one batch is painted and put while the next one is played.
+pub(crate) fn record_batches<R: Threads + Sync, K: Sink>(
+    rt: &R,
+    alloc: Global,
+    most: usize,
+    lines: Vec<u8>,
+    single: &mut SingleThread,
+    script: &Script,
+    out: &mut K,
+) -> Result<(), WriteStop>
+    requires { IsFresh script.now single.old }
+    ensures bytes { (start : Option (List ℕ)) → Half start (K.held out.old) (header (compact_text (parts_data script.now))) lines.items → Records script.now start (K.held out.new) result }
+    ensures history { IfOk result (λ whole. IsLockstep script.now single.new.run.entries) }
+    ensures grows { K.faults out.old ≤ K.faults out.new }
+    ensures cause { WriteCause (K.faults out.old) (K.faults out.new) result }
+{
+    script.is_accepted();
+    let mut painters: Painters<ImagePainter> = Painters::new(alloc, most);
+    let mut batch = Batch::new(alloc, lines);
+    record_run(
+        rt,
+        alloc,
+        &mut painters,
+        single,
+        script.inputs(),
+        &mut batch,
+        out,
+    )
+}

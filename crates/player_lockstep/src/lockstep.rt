@@ -1,0 +1,309 @@
+//! Scripts, played in lockstep and recorded.
+
+ghost use Rattle.std.specs.Prelude.{◌≡◌, ◌≤◌, ℕ, ◌++◌, List, None, Option, codes, length, reverse, take, IfOk, OnOk};
+ghost use Rattle.serde_json.specs.Written.{compact_text};
+ghost use Rattle.model_history.specs.declared.history.Entry.{Entry};
+ghost use Rattle.model_history.specs.Lockstep.{IsLockstep};
+ghost use Rattle.model_history.specs.Recordings.{header, pieces};
+ghost use Rattle.script_json.specs.ScriptValue.{parts_data};
+ghost use Rattle.model_lockstep.specs.Walks.{CanFollow, input_played, inputs_from, run_end};
+ghost use Rattle.impl_log.specs.Kept.{forgettable};
+ghost use Rattle.impl_log.specs.Runs.{past};
+ghost use Rattle.proxy_single_thread.specs.Singles.{walk_of};
+ghost use Rattle.player_lockstep.specs.Recordings.{Records};
+ghost use Rattle.thread_pieces.specs.Writing.{WriteCause};
+ghost use Rattle.recording_writer.specs.Parts.{Half, WritesPart};
+ghost use Rattle.recording_writer.specs.Repeats.{Keeps};
+ghost use Rattle.player_lockstep.specs.inner.Ways.{IsFresh, IsWritten, WritesWay, recorded_run, whole_played};
+
+use crate::batches::record_batches;
+use byte_io::Sink;
+use impl_log::KeptHistory;
+use model_history::{Input, Script};
+use model_lockstep::{end_run, play_input};
+use proxy_single_thread::{Retention, SingleThread};
+use recording_writer::Recorder;
+use script_json::print_script;
+use std::alloc::{AllocError, Global};
+use std::marker::Model;
+use std::sync::Arc;
+use std::thread::Threads;
+use thread_pieces::WriteStop;
+
+/// A run whose recording was written to its end. Contracts see its entries, forgotten ones too, the oldest first.
+#[derive(Drop)]
+pub struct Recorded {
+    single: SingleThread,
+}
+
+impl Model for Recorded {
+    ghost use Rattle.std.specs.Prelude.{List};
+    ghost use Rattle.model_history.specs.declared.history.Entry.{Entry};
+
+    ghost Value = { List Entry };
+
+    ghost view = { λ r. r.single.run.entries };
+}
+
+impl Recorded {
+    /// The entries, the oldest first.
+    pub fn history(&self) -> &KeptHistory
+        ensures { result.now.entries ≡ self.now }
+    {
+        self.single.history()
+    }
+}
+
+// Writes what was entered since the last time.
+fn write_news<R: Threads + Sync, K: Sink>(
+    rt: &R,
+    recorder: &mut Recorder,
+    single: &mut SingleThread,
+    out: &mut K,
+) -> Result<(), WriteStop>
+    requires kept { forgettable (past single.old.run) ≤ single.old.written }
+    requires keeps { Keeps single.old.run.script (reverse (take single.old.written single.old.run.entries)) single.old.run.entries recorder.old.last }
+    ensures run { single.new.run ≡ single.old.run }
+    ensures written { OnOk result (IsWritten single.new recorder.new) }
+    ensures bytes { (done news : List Entry) → single.old.run.entries ≡ done ++ news → single.old.written ≡ length done → WritesPart (K.held out.old) (K.held out.new) (recorder.old.lines.items ++ pieces single.old.run.script (reverse done) news) recorder.new.lines.items result }
+    ensures grows { K.faults out.old ≤ K.faults out.new }
+    ensures cause { WriteCause (K.faults out.old) (K.faults out.new) result }
+{
+    single.core().is_legal();
+    let from = single.written();
+    let scenes = single.take_scenes();
+    recorder.write_entries(rt, out, single.core(), from, scenes)
+}
+
+// Plays what an input brings, and writes it.
+fn record_input<R: Threads + Sync, K: Sink>(
+    rt: &R,
+    recorder: &mut Recorder,
+    single: &mut SingleThread,
+    input: &Input,
+    out: &mut K,
+) -> Result<(), WriteStop>
+    requires can { CanFollow (input_played input.now) (walk_of single.old) }
+    requires written { IsWritten single.old recorder.old }
+    ensures bytes { WritesWay (input_played input.now) single.old single.new (K.held out.old) (K.held out.new) recorder.old.lines.items recorder.new result }
+    ensures grows { K.faults out.old ≤ K.faults out.new }
+    ensures cause { WriteCause (K.faults out.old) (K.faults out.new) result }
+{
+    match play_input(rt, single, input) {
+        Ok(()) => write_news(rt, recorder, single, out),
+        Err(_) => Err(WriteStop::Memory),
+    }
+}
+
+// Plays what these inputs bring, and writes it input by input.
+fn record_inputs<R: Threads + Sync, K: Sink>(
+    rt: &R,
+    recorder: &mut Recorder,
+    single: &mut SingleThread,
+    inputs: &[Input],
+    out: &mut K,
+) -> Result<(), WriteStop>
+    requires can { CanFollow (inputs_from inputs.now) (walk_of single.old) }
+    requires written { IsWritten single.old recorder.old }
+    ensures bytes { WritesWay (inputs_from inputs.now) single.old single.new (K.held out.old) (K.held out.new) recorder.old.lines.items recorder.new result }
+    ensures grows { K.faults out.old ≤ K.faults out.new }
+    ensures cause { WriteCause (K.faults out.old) (K.faults out.new) result }
+{
+    let mut rest = inputs;
+    while let Some((input, after)) = rest.split_first() {
+        if let Err(stop) = record_input(rt, recorder, single, input, out) {
+            return Err(stop);
+        }
+        rest = after;
+    }
+    Ok(())
+}
+
+// Plays what is left after all inputs, and writes it.
+fn record_end<R: Threads + Sync, K: Sink>(
+    rt: &R,
+    recorder: &mut Recorder,
+    single: &mut SingleThread,
+    out: &mut K,
+) -> Result<(), WriteStop>
+    requires can { CanFollow run_end (walk_of single.old) }
+    requires written { IsWritten single.old recorder.old }
+    ensures bytes { WritesWay run_end single.old single.new (K.held out.old) (K.held out.new) recorder.old.lines.items recorder.new result }
+    ensures grows { K.faults out.old ≤ K.faults out.new }
+    ensures cause { WriteCause (K.faults out.old) (K.faults out.new) result }
+{
+    match end_run(rt, single) {
+        Ok(()) => write_news(rt, recorder, single, out),
+        Err(_) => Err(WriteStop::Memory),
+    }
+}
+
+// Plays the whole run of these inputs, and writes it.
+fn record_run<R: Threads + Sync, K: Sink>(
+    rt: &R,
+    recorder: &mut Recorder,
+    single: &mut SingleThread,
+    inputs: &[Input],
+    out: &mut K,
+) -> Result<(), WriteStop>
+    requires can { CanFollow (whole_played inputs.now) (walk_of single.old) }
+    requires written { IsWritten single.old recorder.old }
+    ensures bytes { WritesWay (whole_played inputs.now) single.old single.new (K.held out.old) (K.held out.new) recorder.old.lines.items recorder.new result }
+    ensures grows { K.faults out.old ≤ K.faults out.new }
+    ensures cause { WriteCause (K.faults out.old) (K.faults out.new) result }
+{
+    if let Err(stop) = record_inputs(rt, recorder, single, inputs, out) {
+        return Err(stop);
+    }
+    record_end(rt, recorder, single, out)
+}
+
+// The compositor of a script with the given number of workers, before anything was entered, which keeps these
+// entries, a recorder that holds the name of the format, and the text of the script.
+fn prepare(
+    alloc: Global,
+    script: &Arc<Script>,
+    workers: u32,
+    retention: Retention,
+) -> Result<(SingleThread, Recorder, Vec<u8>), AllocError>
+    requires { (1 ≤ workers) × (workers ≤ 16) }
+    ensures fresh { IfOk result (λ p. IsFresh script.now.value p.0) }
+    ensures name { IfOk result (λ p. p.1.lines.items ≡ codes "cc1\n") }
+    ensures none { IfOk result (λ p. p.1.last.place ≡ None) }
+    ensures text { IfOk result (λ p. p.2.items ≡ compact_text (parts_data script.now.value)) }
+{
+    let text = print_script(alloc, script)?;
+    let recorder = Recorder::new(alloc, workers as usize)?;
+    let single = SingleThread::new(alloc, Arc::try_clone(script)?, workers, retention)?;
+    Ok((single, recorder, text))
+}
+
+// Plays and writes the whole run of a script after the lines before the events, and puts what is left.
+fn record_events<R: Threads + Sync, K: Sink>(
+    rt: &R,
+    recorder: &mut Recorder,
+    single: &mut SingleThread,
+    script: &Script,
+    out: &mut K,
+) -> Result<(), WriteStop>
+    requires fresh { IsFresh script.now single.old }
+    requires none { recorder.old.last.place ≡ None }
+    ensures bytes { (start : Option (List ℕ)) → Half start (K.held out.old) (header (compact_text (parts_data script.now))) recorder.old.lines.items → Records script.now start (K.held out.new) result }
+    ensures history { IfOk result (λ whole. IsLockstep script.now single.new.run.entries) }
+    ensures grows { K.faults out.old ≤ K.faults out.new }
+    ensures cause { WriteCause (K.faults out.old) (K.faults out.new) result }
+{
+    script.is_accepted();
+    if let Err(stop) = record_run(rt, recorder, single, script.inputs(), out) {
+        return Err(stop);
+    }
+    recorder.finish(out)
+}
+
+// Plays and writes the whole run of a script after the lines before the events: batch by batch, painted beside the
+// compositor, where there are several workers.
+fn record_history<R: Threads + Sync, K: Sink>(
+    rt: &R,
+    recorder: &mut Recorder,
+    single: &mut SingleThread,
+    script: &Script,
+    out: &mut K,
+) -> Result<(), WriteStop>
+    requires fresh { IsFresh script.now single.old }
+    requires none { recorder.old.last.place ≡ None }
+    ensures bytes { (start : Option (List ℕ)) → Half start (K.held out.old) (header (compact_text (parts_data script.now))) recorder.old.lines.items → Records script.now start (K.held out.new) result }
+    ensures history { IfOk result (λ whole. IsLockstep script.now single.new.run.entries) }
+    ensures grows { K.faults out.old ≤ K.faults out.new }
+    ensures cause { WriteCause (K.faults out.old) (K.faults out.new) result }
+{
+    let parts = recorder.parts();
+    if parts < 2 {
+        return record_events(rt, recorder, single, script, out);
+    }
+    let lines = recorder.take_lines();
+    record_batches(rt, recorder.alloc(), parts, lines, single, script, out)
+}
+
+// Writes the whole recording of a script with this text.
+fn record_whole<R: Threads + Sync, K: Sink>(
+    rt: &R,
+    recorder: &mut Recorder,
+    single: &mut SingleThread,
+    script: &Script,
+    text: Vec<u8>,
+    out: &mut K,
+) -> Result<(), WriteStop>
+    requires fresh { IsFresh script.now single.old }
+    requires name { recorder.old.lines.items ≡ codes "cc1\n" }
+    requires none { recorder.old.last.place ≡ None }
+    requires text { text.items ≡ compact_text (parts_data script.now) }
+    ensures bytes { Records script.now (K.held out.old) (K.held out.new) result }
+    ensures history { IfOk result (λ whole. IsLockstep script.now single.new.run.entries) }
+    ensures grows { K.faults out.old ≤ K.faults out.new }
+    ensures cause { WriteCause (K.faults out.old) (K.faults out.new) result }
+{
+    script.is_accepted();
+    let begun = recorder.begin(out, text.as_slice());
+    drop(text);
+    match begun {
+        Ok(()) => record_history(rt, recorder, single, script, out),
+        Err(stop) => Err(stop),
+    }
+}
+
+// The run, if all of it was written.
+fn end_with(single: SingleThread, written: Result<(), WriteStop>) -> Result<Recorded, WriteStop>
+    ensures { result ≡ recorded_run single.run.entries written }
+{
+    match written {
+        Ok(()) => Ok(Recorded { single }),
+        Err(stop) => Err(stop),
+    }
+}
+
+// Records the run of a script with a compositor and a recorder that are at its beginning.
+fn record_with<R: Threads + Sync, K: Sink>(
+    rt: &R,
+    prepared: (SingleThread, Recorder, Vec<u8>),
+    script: &Script,
+    out: &mut K,
+) -> Result<Recorded, WriteStop>
+    requires fresh { IsFresh script.now prepared.0 }
+    requires name { prepared.1.lines.items ≡ codes "cc1\n" }
+    requires none { prepared.1.last.place ≡ None }
+    requires text { prepared.2.items ≡ compact_text (parts_data script.now) }
+    ensures bytes { Records script.now (K.held out.old) (K.held out.new) result }
+    ensures history { IfOk result (IsLockstep script.now) }
+    ensures grows { K.faults out.old ≤ K.faults out.new }
+    ensures cause { WriteCause (K.faults out.old) (K.faults out.new) result }
+{
+    let (mut single, mut recorder, text) = prepared;
+    let written = record_whole(rt, &mut recorder, &mut single, script, text, out);
+    end_with(single, written)
+}
+
+/// Plays an accepted script in lockstep with the given number of workers, and writes its recording as it is
+/// made: the two header lines, the line of each event, and the image of what it shows after that of a draw.
+/// Where it stops early, the sink gained a prefix of it. Tiles that come next are made ahead and images are
+/// drawn in as many threads as there are workers, beside the compositor; the recording is the same for every number
+/// of them. The run that is handed out keeps these entries.
+pub fn record_lockstep<R: Threads + Sync, K: Sink>(
+    rt: &R,
+    alloc: Global,
+    script: Arc<Script>,
+    workers: u32,
+    retention: Retention,
+    out: &mut K,
+) -> Result<Recorded, WriteStop>
+    requires { (1 ≤ workers) × (workers ≤ 16) }
+    ensures bytes { Records script.value (K.held out.old) (K.held out.new) result }
+    ensures history { IfOk result (IsLockstep script.value) }
+    ensures grows { K.faults out.old ≤ K.faults out.new }
+    ensures cause { WriteCause (K.faults out.old) (K.faults out.new) result }
+{
+    script.is_accepted();
+    match prepare(alloc, &script, workers, retention) {
+        Ok(prepared) => record_with(rt, prepared, &script, out),
+        Err(_) => Err(WriteStop::Memory),
+    }
+}

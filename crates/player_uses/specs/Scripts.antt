@@ -1,0 +1,37 @@
+-- A script on its way from the source.
+use Rattle.std.specs.Prelude.{◌≤◌, ℕ, List, length, ⊤, Option, IfSome, Result, Ok, Err}
+use Rattle.std.specs.Io.KnownBytes.{IsAtEnd}
+use Rattle.model_history.specs.Accepted.{IsAccepted}
+use Rattle.model_history.specs.Scripts.{ScriptModel}
+use Rattle.script_json.specs.Causes.{IsScriptText}
+use Rattle.player_uses.specs.declared.outcome.Outcome.{Outcome}
+use Rattle.player_uses.specs.declared.outcome.Outcome.TheVariants.{Done, Usage, ReadFault, WriteFault, Memory}
+use Rattle.player_uses.specs.Reading.{IsJudgedWhole}
+use Rattle.player_uses.specs.Refusals.{script_limit, RefusedScript}
+
+-- nothing is to be written
+abbrev pub IsStopped : Outcome → Type 0
+IsStopped Done = ⊥
+IsStopped WriteFault = ⊥
+IsStopped (Usage word) = ⊥
+IsStopped _ = ⊤
+
+-- why there is no script in these bytes
+abbrev pub IsNone : List ℕ → Outcome → Type 0
+IsNone bytes Memory = ⊤
+IsNone bytes result = RefusedScript bytes result
+
+-- the script in these bytes, or why there is none
+abbrev pub ScriptIn : List ℕ → Result ScriptModel Outcome → Type 0
+ScriptIn bytes (Ok s) = IsScriptText bytes s × IsAccepted s
+ScriptIn bytes (Err o) = IsNone bytes o
+
+-- why there is no script in a source that has these bytes
+abbrev pub IsNoneOf : List ℕ → Outcome → Type 0
+IsNoneOf bytes ReadFault = ⊤
+IsNoneOf bytes result = IsNone bytes result
+
+-- the script in the bytes of a source, or why there is none
+abbrev pub ScriptFrom : Option (List ℕ) → Option (List ℕ) → Result ScriptModel Outcome → Type 0
+ScriptFrom old new (Ok s) = IfSome old (λ bytes. (length bytes ≤ script_limit) × IsScriptText bytes s) × IsAtEnd new × IsAccepted s
+ScriptFrom old new (Err o) = IfSome old (λ bytes. IsNoneOf bytes o) × IsJudgedWhole new o × IsStopped o

@@ -1,0 +1,82 @@
+//! The source, read to its end.
+
+ghost use Rattle.std.specs.Prelude.{◌≡◌, ◌+◌, ◌-◌, ◌<◌, ◌≤◌, ◌^◌, length, vec_len, IfOk, MatchResult};
+ghost use Rattle.player_uses.specs.Reading.{TakenAtMost};
+ghost use Rattle.player_uses.specs.inner.Inputs.{ReadWhole, StoppedAt, ReadCause, ReadMore, ReadStops, NotTooLong};
+
+use byte_io::Source;
+use std::alloc::{AllocError, Global};
+
+/// The greatest number of bytes of a recording.
+pub const RECORDING_LIMIT: usize = 268435456;
+
+// How many bytes one call of the source is asked for at most.
+const PIECE: usize = 65536;
+
+/// Why the source was not read to its end.
+#[derive(Clone, Copy, Drop)]
+pub enum ReadStop {
+    /// It gave more bytes than the limit.
+    TooLong,
+    /// It failed.
+    Fault,
+    /// There was no memory for its bytes.
+    Memory,
+}
+
+// A buffer of this many bytes.
+fn blank(alloc: Global, length: usize) -> Result<Vec<u8>, AllocError>
+    ensures { IfOk result (λ buffer. vec_len buffer ≡ length) }
+{
+    vec![in alloc; 0u8; length]
+}
+
+// Reads one piece, at most as long as the buffer, and adds it to the bytes; answers its length.
+#[tactic(auto, using(crate::proofs::Told::took_nothing, crate::proofs::Told::took_front))]
+fn read_piece<S: Source>(
+    source: &mut S,
+    buffer: &mut [u8],
+    bytes: &mut Vec<u8>,
+) -> Result<usize, ReadStop>
+    ensures bytes { MatchResult result (ReadMore (S.left source.old) (S.left source.new) (length buffer.old) bytes.old.items bytes.new.items) (λ stop. NotTooLong stop) }
+    ensures reads { TakenAtMost (length buffer.old) (S.left source.old) (S.left source.new) }
+    ensures grows { S.faults source.old ≤ S.faults source.new }
+    ensures cause { ReadCause (S.faults source.old) (S.faults source.new) result }
+    ensures stops { ReadStops (S.faults source.old) (S.faults source.new) (S.has_failed source.new) result }
+{
+    let taken = match source.read(buffer) {
+        Ok(taken) => taken,
+        Err(_) => return Err(ReadStop::Fault),
+    };
+    match bytes.extend_from_slice(&buffer[..taken]) {
+        Ok(()) => Ok(taken),
+        Err(_) => Err(ReadStop::Memory),
+    }
+}
+
+/// All bytes that a source has, read to its end.
+///
+/// At most one byte more than `limit` is read, and after a failed read the source is not called again.
+#[tactic(auto, using(crate::proofs::Told::took_nothing, crate::proofs::Told::took_more))]
+pub fn read_all<S: Source>(alloc: Global, source: &mut S, limit: usize) -> Result<Vec<u8>, ReadStop>
+    requires { limit < 2 ^ 32 }
+    ensures bytes { MatchResult result (λ v. ReadWhole limit (S.left source.old) (S.left source.new) v.items) (StoppedAt limit (S.left source.old) (S.left source.new)) }
+    ensures reads { TakenAtMost (limit + 1) (S.left source.old) (S.left source.new) }
+    ensures grows { S.faults source.old ≤ S.faults source.new }
+    ensures cause { ReadCause (S.faults source.old) (S.faults source.new) result }
+    ensures stops { ReadStops (S.faults source.old) (S.faults source.new) (S.has_failed source.new) result }
+{
+    let mut bytes = Vec::new(alloc);
+    let mut buffer = match blank(alloc, PIECE) {
+        Ok(buffer) => buffer,
+        Err(_) => return Err(ReadStop::Memory),
+    };
+    while bytes.len() <= limit {
+        let room = (limit - bytes.len() + 1).min(PIECE);
+        let taken = read_piece(source, &mut buffer[..room], &mut bytes)?;
+        if taken == 0 {
+            return Ok(bytes);
+        }
+    }
+    Err(ReadStop::TooLong)
+}

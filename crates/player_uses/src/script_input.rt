@@ -1,0 +1,63 @@
+//! The script in the source.
+
+ghost use Rattle.std.specs.Prelude.{◌≡◌, ℕ, ◌+◌, ◌≤◌, Bool, length, IfErr};
+ghost use Rattle.player_uses.specs.Refusals.{script_limit};
+ghost use Rattle.player_uses.specs.Answers.{AnswersScript};
+ghost use Rattle.player_uses.specs.Reading.{TakenAtMost};
+ghost use Rattle.player_uses.specs.Scripts.{ScriptIn, ScriptFrom};
+ghost use Rattle.player_uses.specs.Faults.{RefusedBy, RefusedAtFault};
+
+use crate::input::{ReadStop, read_all};
+use crate::outcome::Outcome;
+use byte_io::Source;
+use model_history::Script;
+use script_json::{TextFault, read_script};
+use std::alloc::Global;
+
+/// The greatest number of bytes of a script.
+pub const SCRIPT_LIMIT: usize = 16777216;
+
+/// The script in a text of at most [`SCRIPT_LIMIT`] bytes, or why there is none: `Json` where the bytes are no JSON text,
+/// `Shape` where their value is no script, `Script` where a command of it is refused, and `Memory`.
+pub fn script_in(alloc: Global, bytes: &[u8]) -> Result<Script, Outcome>
+    requires { length bytes.now ≤ script_limit }
+    ensures script { ScriptIn bytes.now result }
+    ensures answers { IfErr result AnswersScript }
+    ensures stops { (before after : ℕ) (failed : Bool) → after ≡ before → RefusedAtFault before after failed result }
+{
+    match read_script(alloc, bytes) {
+        Ok(script) => Ok(script),
+        Err(TextFault::Json) => Err(Outcome::Json),
+        Err(TextFault::Shape(fault)) => Err(Outcome::Shape(fault)),
+        Err(
+            TextFault::Script {
+                frame,
+                command,
+                fault,
+            },
+        ) => Err(Outcome::Script {
+            frame,
+            command,
+            fault,
+        }),
+        Err(TextFault::Memory(_)) => Err(Outcome::Memory),
+    }
+}
+
+/// Reads the source to its end, and the script in it; or tells why there is none, as [`script_in`] does, by `TooLong` where
+/// the source has more than [`SCRIPT_LIMIT`] bytes, and by `ReadFault` where it failed.
+pub fn read_script_from<S: Source>(alloc: Global, source: &mut S) -> Result<Script, Outcome>
+    ensures script { ScriptFrom (S.left source.old) (S.left source.new) result }
+    ensures reads { TakenAtMost (script_limit + 1) (S.left source.old) (S.left source.new) }
+    ensures grows { S.faults source.old ≤ S.faults source.new }
+    ensures cause { RefusedBy (S.faults source.old) (S.faults source.new) result }
+    ensures answers { IfErr result AnswersScript }
+    ensures stops { RefusedAtFault (S.faults source.old) (S.faults source.new) (S.has_failed source.new) result }
+{
+    match read_all(alloc, source, SCRIPT_LIMIT) {
+        Ok(bytes) => script_in(alloc, bytes.as_slice()),
+        Err(ReadStop::TooLong) => Err(Outcome::TooLong { limit: 16777216 }),
+        Err(ReadStop::Fault) => Err(Outcome::ReadFault),
+        Err(ReadStop::Memory) => Err(Outcome::Memory),
+    }
+}

@@ -1,7 +1,0 @@
--- The outlook tells it.
-use Rattle.std.proofs.Common.{subst, ◌↔◌, IsTrue}
-use Rattle.tile_manager.specs.Managers.{Managed, TellsNext}
-use Rattle.tile_manager.proofs.manager.TileManager.tells_next.Goals as goal
-
-pub returns : goal.returns
-returns c = subst (λ (z : Managed). IsTrue c.tells_next.result ↔ TellsNext z.outlook) c.self.view_is c.tells_next.ensures

@@ -1,6 +1,0 @@
--- What is passed is less.
-use Rattle.tile_manager.specs.Passed.{AreLessBefore}
-use Rattle.tile_manager.proofs.near.not_less_from.Given as goal
-
-abbrev pub invariant-loop-at : goal.invariant-loop-at
-invariant-loop-at l = AreLessBefore l.keys l.near l.key → AreLessBefore l.keys l.at l.key

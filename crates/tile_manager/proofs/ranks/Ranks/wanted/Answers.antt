@@ -1,9 +1,0 @@
--- The queue that is made wants the same ranks.
-use Rattle.std.proofs.Common.{◌∙◌, ap, take}
-use Rattle.tile_manager.specs.Choices.{choice_among}
-use Rattle.tile_manager.proofs.AlikeChoices.{same_wanted}
-use Rattle.tile_manager.proofs.Bools.{of_answer}
-use Rattle.tile_manager.proofs.ranks.Ranks.wanted.Goals as goal
-
-pub returns : goal.returns
-returns c = of_answer c.wanted.result (λ ranks given. given ∙ ap (take c.args.most) (same_wanted c.in_ok-queue.queue (choice_among c.args.store.now c.args.pins.now c.args.self.now) c.in_ok-queue.ensures)) c.wanted.ensures

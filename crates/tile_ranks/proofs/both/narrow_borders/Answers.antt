@@ -1,7 +1,0 @@
-use Rattle.std.proofs.Common.{sym, subst}
-use Rattle.tile_ranks.specs.inner.Lists.{IsNarrow}
-use Rattle.tile_ranks.proofs.BothTrees.{narrow}
-use Rattle.tile_ranks.proofs.both.narrow_borders.Goals as goal
-
-pub returns-clause-narrow : goal.returns-clause-narrow
-returns-clause-narrow c = subst IsNarrow (sym c.borders.ensures.value) (narrow c.args.script.now c.page-page.result.now c.is_accepted.ensures.accepted c.is_page.ensures.view)

@@ -1,5 +1,0 @@
-use Rattle.tile_ranks.proofs.NearTiles.{near_ranked}
-use Rattle.tile_ranks.proofs.laws.ranked_tiles_are_near.Goals as goal
-
-pub returns : goal.returns
-returns c = λ s side t q r acc page e. near_ranked s side t q r acc page e
