@@ -5,7 +5,7 @@ usage: tools/check_words.py
 
 The pages are those in docs/ that speak of the code, README, CONTRIBUTING and the READMEs of crates. A name is a word
 that begins with a capital (`IsLegal`), one with an underscore (`page_after_command`), or a path of such words
-(`thread_ring::RingRun`). Each must stand as a whole word in a source, or be the name of a file or folder. Of
+(`thread_pieces::RingRun`). Each must stand as a whole word in a source, or be the name of a file or folder. Of
 `Effects.retiles`, where the first is a file of specs/, that file must have the second. It prints the names that
 lead nowhere, each with its place, and fails where there is one. Blocks of code are not looked at.
 """

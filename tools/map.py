@@ -10,7 +10,8 @@ of its crates with the first sentence of their README.md and the crates of this 
 Without a flag nothing is written. It fails, with a line for each fault, where one of these parts is not what --write
 would make; where crates.txt, the folders of crates/ and their README.md do not belong together; where a README.md
 does not begin with its crate's name, has more than 60 lines, or links to a file that is missing; where the
-dependencies have a cycle, or a chain of more than 14 crates; and where a crate's sources name a library that its
+dependencies have a cycle, or a chain of more than 14 crates; where a crate uses one of a family that comes later in
+the list, since the families are floors and nothing goes upstairs; and where a crate's sources name a library that its
 line of crates.txt lacks, or name nothing of one that it lists. Both ways it prints the longest chain.
 """
 import argparse
@@ -38,6 +39,15 @@ def misplaced(crates):
         prefix = name.partition("_")[0]
         if prefix in crates.families and prefix != family:
             yield f"crates.txt: {name} stands below the heading of {family}"
+
+
+def upstairs(crates):
+    """Faults of crates that use one of a family that comes later in the list."""
+    order = list(crates.families)
+    for name, family in crates.family.items():
+        for it in crates.own(name):
+            if order.index(crates.family[it]) > order.index(family):
+                yield f"crates.txt: {name} ({family}) stands on {it} ({crates.family[it]}), which is upstairs"
 
 
 def longest_chain(crates):
@@ -84,25 +94,19 @@ def tables(crates):
 
 
 def drawing(crates):
-    """A graph of the families. An arrow that follows from others is left out; a dotted one leads to a later family."""
+    """A graph of the families. An arrow that follows from others is left out."""
     order = list(crates.families)
-    back, direct = {}, {family: set() for family in order}
+    direct = {family: set() for family in order}
     for name, family in crates.family.items():
-        for below in crates.own(name):
-            other = crates.family[below]
-            if order.index(other) < order.index(family):
-                direct[family].add(other)
-            elif other != family:
-                back.setdefault((family, other), set()).add(below)
-    reached = {}
+        direct[family].update(crates.family[below] for below in crates.own(name))
+        direct[family].discard(family)
+    reached = {family: set() for family in order}
     for family in order:
         reached[family] = direct[family].union(*(reached[it] for it in direct[family]))
     lines = ["```mermaid", "flowchart TD"]
     for family in order:
         through = set().union(*(reached[it] for it in direct[family]))
         lines += [f"    {family} --> {it}" for it in order if it in direct[family] - through]
-    for (family, other), names in back.items():
-        lines.append(f'    {family} -.->|"{", ".join(it for it in crates.uses if it in names)}"| {other}')
     return "\n".join(lines) + "\n```\n"
 
 
@@ -179,7 +183,7 @@ def faults_of_readmes():
 
 def all_faults(crates, chain, cycle):
     """All that does not agree, but the marked parts of the map."""
-    faults = [*crates.faults, *misplaced(crates), *faults_of_folders(crates), *faults_of_readmes()]
+    faults = [*crates.faults, *misplaced(crates), *upstairs(crates), *faults_of_folders(crates), *faults_of_readmes()]
     if cycle:
         faults.append(f"crates.txt: a cycle: {cycle}")
     if len(chain) > MOST_CHAIN:

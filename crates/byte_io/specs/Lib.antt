@@ -1,3 +1,5 @@
 pub mod Counts
-pub mod Pieces
 pub mod Memory
+pub mod Pieces
+pub mod Put
+pub mod Sums

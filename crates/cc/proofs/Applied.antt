@@ -8,8 +8,8 @@ use Rattle.page_layers.specs.declared.fault.EditError.{EditError}
 use Rattle.page_layers.specs.declared.fault.EditError.TheVariants as error
 use Rattle.page_layers.specs.Pages.{Page}
 use Rattle.page_layers.specs.Outcomes.{Outcome}
-use Rattle.cc_tiles.specs.declared.kept_tile.KeptTile.{KeptTile}
-use Rattle.cc_tiles.specs.KeptTiles.{AreCurrent}
+use Rattle.cc.specs.declared.kept_tile.KeptTile.{KeptTile}
+use Rattle.cc.specs.KeptTiles.{AreCurrent}
 use Rattle.cc.specs.Compositors.{CompositorView, Applied, AppliedTo}
 use Rattle.cc.specs.inner.Flags.{TellsEdited}
 

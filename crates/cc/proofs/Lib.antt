@@ -1,7 +1,10 @@
 pub mod Applied
 pub mod Damages
-pub mod ScrollSteps
+pub mod Images
 pub mod ItemEdits
+pub mod Marked
 pub mod Pages
 pub mod Pictures
 pub mod ScreenRects
+pub mod ScrollSteps
+pub mod ShownImages

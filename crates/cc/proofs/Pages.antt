@@ -13,9 +13,9 @@ use Rattle.page_layers.specs.Pages.{Page}
 use Rattle.page_layers.specs.Scrolls.{origin}
 use Rattle.page_layers.specs.Effects.{scrolled_by, main_point, page_after_pulls}
 use Rattle.viz_canvas.specs.Canvases.{CanvasView}
-use Rattle.cc_tiles.specs.declared.kept_tile.KeptTile.{KeptTile}
-use Rattle.cc_tiles.specs.KeptTiles.{IsKeptFor, AreKeptFor, IsCurrent, AreCurrent, HaveSameLayers}
-use Rattle.cc_tiles.proofs.Images.{alike_kept, alike_current}
+use Rattle.cc.specs.declared.kept_tile.KeptTile.{KeptTile}
+use Rattle.cc.specs.KeptTiles.{IsKeptFor, AreKeptFor, IsCurrent, AreCurrent, HaveSameLayers}
+use Rattle.cc.proofs.Images.{alike_kept, alike_current}
 use Rattle.cc.specs.Compositors.{CompositorView, ShowsPage, amount_scrolled, move_by}
 use Rattle.cc.specs.inner.Edits.{LookAlikeOutside, CoverBoth, IsKnownUnion}
 use Rattle.cc.specs.inner.Flags.{TellsCommitted, TellsEdited, ShowsPageOutside, TellsShown}

@@ -1,2 +1,3 @@
 pub mod Compositors
+pub mod KeptTiles
 pub mod inner

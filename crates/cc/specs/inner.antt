@@ -1,2 +1,3 @@
-pub mod Flags
 pub mod Edits
+pub mod Flags
+pub mod Marks

@@ -6,16 +6,16 @@ ghost use Rattle.page_layers.specs.Hits as hits;
 ghost use Rattle.page_hit_test.specs.Wheels.{IsAmount, IsWheel};
 ghost use Rattle.viz_canvas.specs.Canvases.{IsOfSize, EachIs, black};
 ghost use Rattle.viz_painter.specs.Painters.{IsKeptOutside};
-ghost use Rattle.cc_tiles.specs.KeptTiles.{AreKeptFor, AreCurrent};
+ghost use Rattle.cc.specs.KeptTiles.{AreKeptFor, AreCurrent};
 ghost use Rattle.cc.specs.Compositors.{CompositorView, Applied, AppliedTo, Scrolled, ShowsPage, empty_page, moved, offsets, wheel_moves, AreRowsOf, IsKeptOutsideRows};
 ghost use Rattle.cc.specs.inner.Flags.{TellsEdited};
 
+use crate::TileCache;
 use crate::damage::{FrameRows, frame_rows, no_rows, paint};
 use crate::edits::{known_union, noted};
 use crate::moves::{move_both, move_main, scroll_active};
 use crate::scenes::{scene_of, target_on, wheel_on};
 use crate::shown::{edited_after_moves, is_shown, unshown_after, unshown_after_parts};
-use cc_tiles::TileCache;
 use geom::{Point, Rect};
 use page_hit_test::Wheel;
 use page_layers::{Command, EditError, LayerTree, View};
@@ -48,7 +48,7 @@ pub struct Compositor<F: PixelFormat> {
 }
 
 impl<F: PixelFormat> Model for Compositor<F> {
-    ghost use Rattle.cc_tiles.specs.KeptTiles.{AreKeptFor, AreCurrent};
+    ghost use Rattle.cc.specs.KeptTiles.{AreKeptFor, AreCurrent};
     ghost use Rattle.cc.specs.Compositors.{CompositorView};
     ghost use Rattle.cc.specs.inner.Flags.{TellsCommitted, TellsEdited, TellsShown, damage_in};
 

@@ -4,10 +4,10 @@ ghost use Rattle.std.specs.Prelude.{◌≡◌, ◌∷◌, [], map, IsTrue};
 ghost use Rattle.page_properties.specs.Entries.{knows};
 ghost use Rattle.page_layers.specs.Effects.{scrolled_by, page_after_pulls};
 ghost use Rattle.page_hit_test.specs.Wheels.{part_move};
-ghost use Rattle.cc_tiles.specs.KeptTiles.{AreKeptFor, AreCurrent};
+ghost use Rattle.cc.specs.KeptTiles.{AreKeptFor, AreCurrent};
 ghost use Rattle.cc.specs.Compositors.{amount_scrolled};
 
-use cc_tiles::TileCache;
+use crate::TileCache;
 use geom::Point;
 use page_hit_test::WheelPart;
 use page_layers::LayerTree;

@@ -4,10 +4,10 @@ ghost use Rattle.std.specs.Prelude.{◌≡◌, true, IfOk};
 ghost use Rattle.page_layers.specs.Effects.{main_point};
 ghost use Rattle.page_layers.specs.Hits as hits;
 ghost use Rattle.page_hit_test.specs.Wheels.{IsAmount, IsWheel};
-ghost use Rattle.cc_tiles.specs.KeptTiles.{AreKeptFor, AreCurrent};
+ghost use Rattle.cc.specs.KeptTiles.{AreKeptFor, AreCurrent};
 ghost use Rattle.cc.specs.Compositors.{IsSceneOf};
 
-use cc_tiles::TileCache;
+use crate::TileCache;
 use geom::Point;
 use page_hit_test::{Wheel, main_values_are_within_ranges, target, wheel_parts};
 use page_layers::{LayerTree, main_offsets};

@@ -14,8 +14,8 @@ use Rattle.viz_canvas.specs.Canvases.{CanvasView, IsOfSize, EachIs, black}
 use Rattle.cc.specs.declared.damage.FrameRows.{FrameRows}
 use Rattle.viz_painter.specs.Painters.{IsKeptOutside}
 use Rattle.cc.specs.Compositors.{CompositorView, ShowsPage, AreRowsOf, IsKeptOutsideRows, offsets, empty_page, amount_scrolled, move_by, moved}
-use Rattle.cc_numbers.specs.Commands.{colour_of}
-use Rattle.cc_numbers.specs.Copies.{HoldsRows, KeepsBetween, HasRoom, rgba}
+use Rattle.cc_c.specs.Commands.{colour_of}
+use Rattle.cc_c.specs.Copies.{HoldsRows, KeepsBetween, HasRoom, rgba}
 
 -- both pages are empty and have this view; the frame has its size, and is black and opaque
 pub record IsNew (view : View) (colour : Parts) (new : CompositorView) : Type 0 where

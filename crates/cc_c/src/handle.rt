@@ -3,8 +3,8 @@
 ghost use Rattle.std.specs.Prelude.{◌≡◌};
 ghost use Rattle.cc_c.specs.declared.held.Held.{Held};
 
+use crate::box_parts::BoxParts;
 use crate::held::Held;
-use cc_handle::BoxParts;
 use std::alloc::Global;
 use std::marker::Model;
 

@@ -4,25 +4,40 @@
 //! back in `out`: the same pointer. What a call did is told by a status.
 #![tactic(auto)]
 
+mod box_parts;
+mod commands;
+mod copying;
+mod damage;
 mod edits;
+mod exchange;
+mod failure;
+mod fault;
+mod fields;
 mod handle;
 mod held;
+mod items;
+mod layers;
+mod nodes;
+mod scrollers;
 mod status;
 
 ghost use Rattle.std.specs.Prelude.{◌≡◌, ◌≤◌, true, false, length, IfSome};
 ghost use Rattle.page_layers.specs.Pages.{IsView};
 ghost use Rattle.cc.specs.Compositors.{CompositorView, offsets};
-ghost use Rattle.cc_numbers.specs.Damages.{written};
+ghost use Rattle.cc_c.specs.Damages.{written};
 ghost use Rattle.cc_c.specs.Edits.{TellsEdit};
 ghost use Rattle.cc_c.specs.Answers.{IsNew, TellsNew, TellsReset, TellsCommit, TellsDraw, TellsCopy, TellsScroll, TellsWheel, TellsTarget, TellsChanged};
 ghost use Rattle.page_hit_test.specs.Wheels.{IsAmount};
 
+use crate::copying::copied;
+use crate::damage::{DamageRect, told_damage};
 use crate::edits::edited;
+use crate::fault::Fault;
+use crate::fields::colour_of;
 use crate::handle::{Handle, given};
 use crate::held::Held;
 use crate::status::{BAD, DONE, MEMORY, SHORT, UNKNOWN};
 use cc::Compositor;
-use cc_numbers::{DamageRect, Fault, colour_of, copied, told_damage};
 use geom::Point;
 use page_layers::View;
 use pixel::Colour;

@@ -2,7 +2,7 @@
 use Rattle.std.proofs.Common.{◌≡◌, true, not, ◌&&◌, List, ◌∙◌, ap}
 use Rattle.geom.specs.declared.tile.TileKey.{TileKey}
 use Rattle.geom.specs.KeyLists.{has_key}
-use Rattle.tile_store.specs.Stores.{is_ready}
+use Rattle.impl_tiles.specs.Stores.{is_ready}
 use Rattle.model_history.specs.declared.history.Entry.{Entry}
 use Rattle.model_history.specs.Scripts.{ScriptModel}
 use Rattle.model_history.specs.Tiles.{pending_tree, keys_of, ready}

@@ -15,7 +15,7 @@ use Rattle.tile_priority.proofs.InOrder.{in_filter, filter_in, same_filter}
 use Rattle.tile_priority.proofs.Members.{in_append, in_append_left, in_append_right, in_filter_map, filter_map_in, same_itself}
 use Rattle.tile_priority.proofs.StayAlike.{as_many_filter}
 use Rattle.tile_queue.specs.Queues.{rank_key, tile_key, EachKeyOnce}
-use Rattle.tile_store.specs.Stores.{Store, is_ready, is_in_flight}
+use Rattle.impl_tiles.specs.Stores.{Store, is_ready, is_in_flight}
 use Rattle.page_layers.specs.Pages.{Page}
 use Rattle.page_layers.specs.Sound.{AreDistinctLayers}
 use Rattle.page_layers.specs.declared.moves.Move.{Move}

@@ -11,7 +11,7 @@ use Rattle.tile_priority.proofs.InOrder.{in_filter, filter_in}
 use Rattle.tile_priority.proofs.Members.{in_filter_map, filter_map_in}
 use Rattle.tile_priority.proofs.StayAlike.{alike_stay}
 use Rattle.tile_queue.specs.Queues.{rank_key, tile_key, EachKeyOnce}
-use Rattle.tile_store.specs.Stores.{Store, is_in_flight}
+use Rattle.impl_tiles.specs.Stores.{Store, is_in_flight}
 use Rattle.model_history.specs.declared.history.Entry.{Entry}
 use Rattle.model_history.specs.Scripts.{ScriptModel}
 use Rattle.model_history.specs.Legal.{Legal}

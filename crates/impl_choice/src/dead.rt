@@ -3,7 +3,7 @@
 ghost use Rattle.std.specs.Prelude.{◌≡◌, not, ◌&&◌, IfOk};
 ghost use Rattle.geom.specs.declared.tile.TileKey.{TileKey as Key};
 ghost use Rattle.geom.specs.KeyLists.{has_key};
-ghost use Rattle.tile_store.specs.Stores.{is_ready};
+ghost use Rattle.impl_tiles.specs.Stores.{is_ready};
 ghost use Rattle.model_history.specs.Tiles.{Tree, keys_of};
 ghost use Rattle.impl_ranks.specs.SeenTrees.{IsSeenTree};
 

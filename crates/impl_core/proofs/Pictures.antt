@@ -12,7 +12,7 @@ use Rattle.model_history.specs.Scripts.{ScriptModel}
 use Rattle.model_history.specs.Frames.{active_page}
 use Rattle.model_history.specs.Scrolls.{active_offsets}
 use Rattle.model_history.specs.Tiles.{missing_visible}
-use Rattle.impl_drawing.specs.declared.drawing.Drawing.{Drawing}
+use Rattle.impl_core.specs.declared.drawing.Drawing.{Drawing}
 use Rattle.impl_core.specs.Replies.{IsPicture}
 use Rattle.impl_core.specs.inner.Cores.{ShowsPage}
 

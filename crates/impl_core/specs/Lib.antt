@@ -1,3 +1,4 @@
-pub mod Replies
+pub mod Drawings
 pub mod Origins
+pub mod Replies
 pub mod inner

@@ -1,6 +1,6 @@
 //! What was drawn since the picture may have changed.
 
-use impl_drawing::Drawing;
+use crate::Drawing;
 
 /// What was drawn since the active tree was moved, or one of its tiles made or evicted. Most draws come after such a
 /// change, so the first drawing is handed out and no more; of the second one a copy is kept for those after it.

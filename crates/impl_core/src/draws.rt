@@ -10,8 +10,8 @@ ghost use Rattle.impl_core.specs.Replies.{Draws, DrawsScene, IsPicture};
 
 use crate::core_state::Core;
 use crate::drawn::Drawn;
+use crate::{Drawing, draw};
 use impl_choice::visible_of;
-use impl_drawing::{Drawing, draw};
 use model_history::Event;
 use model_states::Kind;
 use std::alloc::AllocError;

@@ -8,13 +8,21 @@
 //!
 //! Where a tree has moved, the ranks of its tiles and the keys that it needs are looked for once somebody asks:
 //! most scrolls are followed by another before that.
+//!
+//! What a draw shows: the scene of the active page, and the tiles that it lacks.
+//!
+//! A draw takes the tiles that the page shows from the tile manager. A ready tile is drawn with its image,
+//! which is shared; a tile that is not ready is drawn in its layer's background colour, and its key is
+//! listed. The scene stays as it is, whatever becomes of the page and of the tiles.
 #![tactic(auto)]
 
 mod aborts;
 mod activations;
 mod commits;
+mod copying;
 mod core_state;
 mod dones;
+mod drawing;
 mod drawn;
 mod draws;
 mod needs;
@@ -27,10 +35,12 @@ mod scrolls;
 mod sends;
 mod starts;
 mod stops;
+mod tiles;
 mod turns;
 mod upcoming;
 mod wheels;
 
 pub use core_state::Core;
+pub use drawing::{Drawing, draw};
 pub use reply::{CoreFault, Reply};
 pub use turns::Stem;

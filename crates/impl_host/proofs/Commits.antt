@@ -20,7 +20,7 @@ use Rattle.model_history.proofs.Course.{course}
 use Rattle.model_history.proofs.DueFacts.{at_commit}
 use Rattle.model_steps.specs.Events.{commit}
 use Rattle.model_steps.proofs.QuietFrames.{sizes, tile, stamps}
-use Rattle.impl_trees.specs.Trees.{TreeModel, AreStampedIn, MayFollow, IsTreeOf, last_size}
+use Rattle.impl_host.specs.Trees.{TreeModel, AreStampedIn, MayFollow, IsTreeOf, last_size}
 use Rattle.impl_host.specs.Hosts.{IsTree, IsTreeAt, IsMadeBy}
 
 -- nothing is pending where a commit may come

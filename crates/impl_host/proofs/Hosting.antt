@@ -21,7 +21,7 @@ use Rattle.model_history.proofs.StampFacts.{commits_alike}
 use Rattle.impl_scroll.specs.Rows.{has_number}
 use Rattle.model_steps.specs.Events.{send, commit, activate}
 use Rattle.model_steps.proofs.TreesAfter.{commit_is_pending, none_is_pending}
-use Rattle.impl_trees.specs.Trees.{TreeModel, TreesModel, AreStamped, IsPushed}
+use Rattle.impl_host.specs.Trees.{TreeModel, TreesModel, AreStamped, IsPushed}
 use Rattle.impl_scroll.specs.Standings.{StandingModel, StandsForPast}
 use Rattle.impl_host.specs.Hosts.{IsTreeAt, ImplHostModel, Hosts, with_standing, IsMadeBy}
 use Rattle.impl_host.proofs.Commits.{pushed_tree}

@@ -1,5 +1,12 @@
-pub mod TreesAt
-pub mod SingleKeys
 pub mod Commits
+pub mod Following
 pub mod Hosting
 pub mod KeyedJobs
+pub mod ListedOnce
+pub mod ListedWhole
+pub mod Pairs
+pub mod Pushing
+pub mod SingleKeys
+pub mod Standing
+pub mod TreesAt
+pub mod Twins

@@ -20,8 +20,8 @@ use Rattle.model_history.specs.Tiles.{active_tree, pending_tree, keys_of}
 use Rattle.model_history.proofs.BoolFacts.{or_left}
 use Rattle.model_history.proofs.KeyFacts.{has_append}
 use Rattle.model_steps.proofs.QuietFrames.{page_stamp}
-use Rattle.impl_trees.specs.Trees.{TreeModel, Paired}
-use Rattle.impl_trees.proofs.Standing.{stands_found}
+use Rattle.impl_host.specs.Trees.{TreeModel, Paired}
+use Rattle.impl_host.proofs.Standing.{stands_found}
 use Rattle.impl_ranks.proofs.BothTrees.{no_keys}
 use Rattle.impl_ranks.specs.SeenTrees.{IsTiled}
 use Rattle.impl_host.specs.Hosts.{IsTreeAt}

@@ -1,7 +1,7 @@
 -- What contracts see of the compositor side, and when it represents a run.
 use Rattle.std.specs.Prelude.{◌≡◌, ℕ, suc, List, Option, Some, None}
 use Rattle.geom.specs.declared.rect.Point.{Point}
-use Rattle.model_scroll_values.specs.declared.Synced.{Synced}
+use Rattle.model_states.specs.declared.Synced.{Synced}
 use Rattle.region.specs.Lists.{Changed}
 use Rattle.page_layers.specs.declared.command.Command.{Command}
 use Rattle.page_layers.specs.declared.moves.Move.{Move}
@@ -16,7 +16,7 @@ use Rattle.model_history.specs.SameChanges.{SameChanges}
 use Rattle.model_history.specs.Values.{values}
 use Rattle.impl_scroll.specs.Rows.{has_number}
 use Rattle.impl_scroll.specs.Standings.{StandingModel, HasScrollState}
-use Rattle.impl_trees.specs.Trees.{TreeModel, TreesModel, AreStamped}
+use Rattle.impl_host.specs.Trees.{TreeModel, TreesModel, AreStamped}
 
 -- the tree is that of page n of a script with these pulls: its tilings have the stamps after the first n frames
 pub record IsTree (s : ScriptModel) (ps : ℕ → List Move) (n : ℕ) (t : TreeModel) : Type 0 where

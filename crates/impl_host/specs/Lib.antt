@@ -1,4 +1,5 @@
 pub mod Hosts
-pub mod Occasions
-pub mod inner
 pub mod Jobs
+pub mod Occasions
+pub mod Trees
+pub mod inner

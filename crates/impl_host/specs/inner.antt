@@ -1,1 +1,3 @@
 pub mod LivePages
+pub mod Steps
+pub mod Tests

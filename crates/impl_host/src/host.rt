@@ -4,12 +4,12 @@ ghost use Rattle.std.specs.Prelude.{◌≡◌, ◌∷◌, [], List, None, option
 ghost use Rattle.model_history.specs.declared.history.Entry.{Entry};
 ghost use Rattle.model_history.specs.EventFields.{sends, commits, activates};
 ghost use Rattle.model_history.specs.Scripts.{ScriptModel};
-ghost use Rattle.impl_trees.specs.Trees.{TreeModel};
+ghost use Rattle.impl_host.specs.Trees.{TreeModel};
 ghost use Rattle.impl_scroll.specs.Standings.{StandsForPast, ArePages};
 ghost use Rattle.impl_host.specs.Hosts.{Hosts, with_standing};
 
+use crate::{TreeState, Trees};
 use impl_scroll::{Pages, Standing};
-use impl_trees::{TreeState, Trees};
 use page_layers::LayerTree;
 use std::alloc::Global;
 use std::marker::Model;

@@ -11,10 +11,10 @@ ghost use Rattle.impl_ranks.specs.SeenTrees.{IsSeenWhere, IsPlacedWhere, AreSeen
 ghost use Rattle.impl_host.specs.Hosts.{Hosts, IsTreeAt, with_standing};
 ghost use Rattle.impl_host.specs.inner.LivePages.{tree_at};
 
+use crate::TreeState;
 use crate::host::ImplHost;
 use impl_ranks::{PlacedTree, PlacedTrees, SeenTree, SeenTrees};
 use impl_scroll::Standing;
-use impl_trees::TreeState;
 use page_properties::Offsets;
 use std::alloc::{AllocError, Global};
 

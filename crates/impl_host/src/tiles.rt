@@ -17,11 +17,11 @@ ghost use Rattle.model_steps.specs.ShownKeys.{KeyShows};
 ghost use Rattle.impl_host.specs.Hosts.{Hosts, IsTreeAt};
 ghost use Rattle.impl_host.specs.inner.LivePages.{HasPageKey, HasLivePage};
 
+use crate::TreeState;
 use crate::host::ImplHost;
 use crate::jobs::job_of;
 use crate::seen::placed_tree;
 use geom::TileKey;
-use impl_trees::TreeState;
 use model_history::Script;
 use page_layers::LayerTree;
 use page_properties::Offsets;

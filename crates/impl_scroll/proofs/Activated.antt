@@ -1,9 +1,9 @@
 -- Activated values are within the bounds of every step.
 use Rattle.std.proofs.Common.{ℕ, ℤ, ◌*◌, ◌-◌, ◌≤◌, ◌+ℤ◌, ◌-ℤ◌, List, arith}
 use Rattle.std.proofs.lemmas.Int.{ints}
-use Rattle.model_scroll_values.specs.declared.Synced.{Synced}
-use Rattle.model_scroll_values.specs.Table.{activated, active_value}
-use Rattle.model_scroll_values.specs.Bounds.{IsBoundedNumber, IsBounded}
+use Rattle.model_states.specs.declared.Synced.{Synced}
+use Rattle.model_states.specs.Table.{activated, active_value}
+use Rattle.model_states.specs.Bounds.{IsBoundedNumber, IsBounded}
 use Rattle.page_layers.specs.Axes.{Axis}
 use Rattle.model_history.specs.declared.history.Entry.{Entry}
 use Rattle.model_history.specs.Scripts.{ScriptModel}

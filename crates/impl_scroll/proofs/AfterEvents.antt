@@ -3,8 +3,8 @@ use Rattle.std.proofs.Common.{◌≡◌, ℕ, suc, pos, ◌&&◌, true, List, []
 use Rattle.std.specs.Prelude.{option_copied}
 use Rattle.model_states.specs.declared.kind.Kind.TheVariants as kind
 use Rattle.model_states.specs.Kinds.{may, is_inside_begin_frame, is_main_idle}
-use Rattle.model_scroll_values.specs.declared.Synced.{Synced}
-use Rattle.model_scroll_values.specs.Table as table
+use Rattle.model_states.specs.declared.Synced.{Synced}
+use Rattle.model_states.specs.Table as table
 use Rattle.page_properties.specs.OffsetMap.{offset_at}
 use Rattle.page_layers.specs.Pages.{Page}
 use Rattle.page_layers.specs.declared.moves.Move.{Move}

@@ -1,7 +1,7 @@
 -- How large the values of a run are, and the moves that its events list.
 use Rattle.std.proofs.Common.{◌≡◌, ℕ, ◌==◌, ℤ, Bool, true, false, cond, List, [], ◌∷◌, sym, subst, arith}
 use Rattle.std.proofs.lemmas.Int.{ints}
-use Rattle.model_scroll_values.specs.Bounds.{IsBoundedNumber, IsBounded}
+use Rattle.model_states.specs.Bounds.{IsBoundedNumber, IsBounded}
 use Rattle.page_layers.specs.declared.moves.Move.{Move}
 use Rattle.page_layers.specs.Axes.{Axis, across, down, amount, amount_in}
 use Rattle.model_history.specs.declared.history.Entry.{Entry}

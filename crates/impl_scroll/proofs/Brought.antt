@@ -4,9 +4,9 @@ use Rattle.std.specs.Int.RustNames.{FitsSigned}
 use Rattle.std.specs.Prelude.{neg_ℤ}
 use Rattle.std.proofs.lemmas.Int.{ints, clamps}
 use mir.Syntax.{w64}
-use Rattle.model_scroll_values.specs.declared.Synced.{Synced}
-use Rattle.model_scroll_values.specs.Table.{pending_value}
-use Rattle.model_scroll_values.specs.Bounds.{IsBoundedNumber, IsBounded}
+use Rattle.model_states.specs.declared.Synced.{Synced}
+use Rattle.model_states.specs.Table.{pending_value}
+use Rattle.model_states.specs.Bounds.{IsBoundedNumber, IsBounded}
 use Rattle.page_layers.specs.Scrolls.{clamp_to}
 use Rattle.model_steps.specs.Standing.{brought_to}
 

@@ -2,7 +2,7 @@
 use Rattle.std.proofs.Common.{◌≡◌, ℕ, pos, true, cond, List, Result, Ok, Err, sym, ◌∙◌, ap}
 use Rattle.std.specs.Prelude.{IfOk}
 use Rattle.model_states.specs.declared.kind.Kind.TheVariants as kind
-use Rattle.model_scroll_values.specs.Table.{pull_answer}
+use Rattle.model_states.specs.Table.{pull_answer}
 use Rattle.page_layers.specs.Pages.{Page}
 use Rattle.page_layers.specs.declared.moves.Move.{Move}
 use Rattle.page_layers.specs.Axes.{Axis, amount_in}

@@ -2,7 +2,7 @@
 use Rattle.std.proofs.Common.{◌≡◌, ℕ, List, Option, Some, None, refl, sym, ◌∙◌, ap, subst}
 use Rattle.std.specs.Prelude.{option_copied}
 use Rattle.geom.specs.declared.rect.Point.{Point}
-use Rattle.model_scroll_values.specs.declared.Synced.{Synced}
+use Rattle.model_states.specs.declared.Synced.{Synced}
 use Rattle.page_properties.specs.OffsetMap.{offset_at}
 use Rattle.page_layers.specs.Pages.{Page}
 use Rattle.page_layers.specs.Axes.{Axis}

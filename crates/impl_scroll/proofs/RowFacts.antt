@@ -1,6 +1,6 @@
 -- Rows by rising scroller: each has the values of its scroller.
 use Rattle.std.proofs.Common.{◌≡◌, ℕ, zero, suc, ◌<◌, ◌==◌, false, cond, List, [], ◌∷◌, length, get_or, refl, ◌∙◌, ap, arith}
-use Rattle.model_scroll_values.specs.Table.{zero as nothing}
+use Rattle.model_states.specs.Table.{zero as nothing}
 use Rattle.page_layers.specs.Axes.{Axis}
 use Rattle.model_history.proofs.BoolFacts.{is_same, is_other, or_left_false, or_right_false}
 use Rattle.impl_scroll.specs.declared.row.Row.{Row}

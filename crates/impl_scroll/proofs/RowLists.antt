@@ -5,8 +5,8 @@ use Rattle.page_layers.specs.declared.moves.Move.{Move}
 use Rattle.page_layers.specs.Axes.{Axis, across, down, is_still, with_move, move_of, listed, amount_in}
 use Rattle.page_layers.specs.Pages.{Page}
 use Rattle.page_layers.specs.Scrollers.{has_scroller, most}
-use Rattle.model_scroll_values.specs.declared.Synced.{Synced}
-use Rattle.model_scroll_values.specs.Table.{zero as nothing, pull_answer, pending_value}
+use Rattle.model_states.specs.declared.Synced.{Synced}
+use Rattle.model_states.specs.Table.{zero as nothing, pull_answer, pending_value}
 use Rattle.model_history.proofs.PageRanges.{clamp_zero}
 use Rattle.model_steps.specs.Standing.{brought_to}
 use Rattle.model_history.specs.ScrollLaws.{AreRising as AreRisingMoves}

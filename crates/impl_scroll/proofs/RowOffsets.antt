@@ -10,7 +10,7 @@ use Rattle.page_layers.specs.Pages.{Page}
 use Rattle.page_layers.specs.Axes.{Axis, across, down}
 use Rattle.page_layers.specs.Scrolls.{origin, IsInRange}
 use Rattle.page_layers.specs.Scrollers.{has_scroller, most, offsets_in}
-use Rattle.model_scroll_values.specs.Table.{zero as nothing}
+use Rattle.model_states.specs.Table.{zero as nothing}
 use Rattle.model_history.proofs.BoolFacts.{same_number}
 use Rattle.model_history.proofs.PageRanges.{clamp_zero}
 use Rattle.model_history.proofs.PageStanding.{most_absent}

@@ -1,7 +1,7 @@
 -- Rows that are stepped one after another, and the values of the scrollers then.
 use Rattle.std.proofs.Common.{◌≡◌, ℕ, zero, suc, ◌+◌, ◌<◌, ◌≤◌, ◌==◌, Bool, true, false, cond, ◌||◌, List, [], ◌∷◌, length, get_or, map, refl, sym, ◌∙◌, ap, subst, arith, add-one}
 use Rattle.std.specs.Prelude.{slice_set}
-use Rattle.model_scroll_values.specs.Table.{zero as nothing}
+use Rattle.model_states.specs.Table.{zero as nothing}
 use Rattle.page_layers.specs.Axes.{Axis, across, down}
 use Rattle.model_history.proofs.BoolFacts.{same_number}
 use Rattle.impl_scroll.specs.declared.row.Row.{Row}

@@ -1,8 +1,8 @@
 -- The scroll values of all scrollers, by the rows of those that have one.
 use Rattle.std.specs.Prelude.{ℕ, ◌==◌, Bool, cond, List, [], ◌∷◌}
 use Rattle.std.specs.List.{list_any}
-use Rattle.model_scroll_values.specs.declared.Synced.{Synced}
-use Rattle.model_scroll_values.specs.Table.{zero}
+use Rattle.model_states.specs.declared.Synced.{Synced}
+use Rattle.model_states.specs.Table.{zero}
 use Rattle.page_layers.specs.Axes.{Axis, across, down}
 use Rattle.impl_scroll.specs.declared.row.Row.{Row}
 

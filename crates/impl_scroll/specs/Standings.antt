@@ -1,7 +1,7 @@
 -- Where the scrollers stand, as contracts see it, and when that is true of a run.
 use Rattle.std.specs.Prelude.{◌≡◌, ℕ, suc, Bool, true, false, List, Option, option_map, option_copied}
 use Rattle.geom.specs.declared.rect.Point.{Point}
-use Rattle.model_scroll_values.specs.declared.Synced.{Synced}
+use Rattle.model_states.specs.declared.Synced.{Synced}
 use Rattle.page_properties.specs.OffsetMap.{offset_at}
 use Rattle.page_layers.specs.Axes.{Axis}
 use Rattle.page_layers.specs.Pages.{Page}

@@ -5,11 +5,11 @@ ghost use Rattle.page_layers.specs.Axes as axes;
 ghost use Rattle.page_layers.specs.Scrollers as scrollers;
 ghost use Rattle.impl_scroll.specs.Rows as rows;
 ghost use Rattle.impl_scroll.specs.inner.Axes.{axis_of};
-ghost use Rattle.model_scroll_values.specs.Bounds.{IsBoundedNumber};
+ghost use Rattle.model_states.specs.Bounds.{IsBoundedNumber};
 
 use crate::row::Row;
 use geom::Point;
-use model_scroll_values::Synced;
+use model_states::Synced;
 use page_layers::{LayerTree, Move};
 
 /// An axis.

@@ -2,8 +2,8 @@
 //! the newest entry first.
 
 ghost use Rattle.std.specs.Prelude.{ℕ, List};
-ghost use Rattle.model_scroll_values.specs.Bounds.{IsBounded};
-ghost use Rattle.model_scroll_values.specs.Table.{activated};
+ghost use Rattle.model_states.specs.Bounds.{IsBounded};
+ghost use Rattle.model_states.specs.Table.{activated};
 ghost use Rattle.page_layers.specs.Axes.{Axis};
 ghost use Rattle.model_history.specs.declared.history.Entry.{Entry};
 ghost use Rattle.model_history.specs.Scripts.{ScriptModel};

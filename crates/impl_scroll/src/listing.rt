@@ -3,8 +3,8 @@
 ghost use Rattle.std.specs.Prelude.{◌≡◌, ◌++◌, ◌-ℤ◌, ℕ, cond, pos, FitsSigned, IfOk, OnOk};
 ghost use mir.Syntax.{w64};
 ghost use Rattle.std.specs.Ordering.{int_eq};
-ghost use Rattle.model_scroll_values.specs.Bounds.{IsBounded};
-ghost use Rattle.model_scroll_values.specs.Table as table;
+ghost use Rattle.model_states.specs.Bounds.{IsBounded};
+ghost use Rattle.model_states.specs.Table as table;
 ghost use Rattle.page_layers.specs.Axes as axes;
 ghost use Rattle.page_layers.specs.Axes.{listed};
 ghost use Rattle.page_layers.specs.Scrollers as scrollers;
@@ -20,7 +20,7 @@ use crate::axis::{Axis, values_of};
 use crate::offsets::{brought_to, is_among, most};
 use crate::row::Row;
 use model_history::Moves;
-use model_scroll_values::Synced;
+use model_states::Synced;
 use page_layers::{LayerTree, Move};
 use std::alloc::{AllocError, Global};
 

@@ -1,7 +1,7 @@
 //! The offsets of a tree, by the values of all scrollers.
 
 ghost use Rattle.std.specs.Prelude.{◌≡◌, ◌≤◌, ◌≤ℤ◌, ◌^◌, ℕ, pos, IfOk, Some};
-ghost use Rattle.model_scroll_values.specs.Bounds.{IsBounded};
+ghost use Rattle.model_states.specs.Bounds.{IsBounded};
 ghost use Rattle.page_properties.specs.OffsetMap.{offset_at, IsOffset, AreOffsets};
 ghost use Rattle.page_layers.specs.Axes as axes;
 ghost use Rattle.page_layers.specs.Scrolls.{clamp_to, IsInRange};
@@ -18,7 +18,7 @@ ghost use Rattle.impl_scroll.specs.inner.Steps.{AreRising};
 use crate::axis::{Axis, values_of};
 use crate::row::Row;
 use geom::Point;
-use model_scroll_values::Synced;
+use model_states::Synced;
 use page_layers::LayerTree;
 use page_properties::{Offsets, ScrollNode};
 use std::alloc::{AllocError, Global};

@@ -1,7 +1,7 @@
 //! The offsets of both pages, by the values of the scrollers.
 
 ghost use Rattle.std.specs.Prelude.{◌≡◌, ℕ, IfOk, option_copied};
-ghost use Rattle.model_scroll_values.specs.Bounds.{IsBounded};
+ghost use Rattle.model_states.specs.Bounds.{IsBounded};
 ghost use Rattle.page_properties.specs.OffsetMap.{offset_at, AreOffsets};
 ghost use Rattle.page_layers.specs.Axes.{Axis};
 ghost use Rattle.page_layers.specs.Scrolls.{origin};

@@ -3,7 +3,7 @@
 ghost use Rattle.std.specs.Prelude.{◌≡◌, []};
 ghost use Rattle.impl_scroll.specs.Rows.{row_at};
 
-use model_scroll_values::Synced;
+use model_states::Synced;
 
 /// The scroll values of one scroller.
 #[derive(Clone, Copy, PartialEq, Eq, Debug)]

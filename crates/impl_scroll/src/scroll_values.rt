@@ -1,8 +1,8 @@
 //! The scroll values of all scrollers.
 
 ghost use Rattle.std.specs.Prelude.{◌≡◌, ℕ, [], cond, pos, IfOk, OnOk, OnErr};
-ghost use Rattle.model_scroll_values.specs.Bounds.{IsBounded, IsBoundedNumber};
-ghost use Rattle.model_scroll_values.specs.Table.{pull_answer, pulled, pushed, activated, aborted, added};
+ghost use Rattle.model_states.specs.Bounds.{IsBounded, IsBoundedNumber};
+ghost use Rattle.model_states.specs.Table.{pull_answer, pulled, pushed, activated, aborted, added};
 ghost use Rattle.page_properties.specs.OffsetMap.{offset_at, AreOffsets};
 ghost use Rattle.page_layers.specs.Axes.{Axis, across, down, amount_in};
 ghost use Rattle.page_layers.specs.Scrolls.{IsInRange};

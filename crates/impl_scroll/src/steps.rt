@@ -9,7 +9,7 @@ ghost use Rattle.impl_scroll.specs.inner.Steps.{MayStep, row_stepped, AreRising}
 
 use crate::axis::{Axis, amount_in, main_value};
 use crate::row::Row;
-use model_scroll_values::Synced;
+use model_states::Synced;
 use page_layers::{LayerTree, Move};
 
 /// What an event does to the values of every scroller.

@@ -1,8 +1,8 @@
 //! How much of a scroll is accepted.
 
 ghost use Rattle.std.specs.Prelude.{◌≡◌, ◌≤◌, ◌≤ℤ◌, ◌+ℤ◌, ◌-ℤ◌, ◌^◌, pos};
-ghost use Rattle.model_scroll_values.specs.Bounds.{IsBounded};
-ghost use Rattle.model_scroll_values.specs.Table.{active_value};
+ghost use Rattle.model_states.specs.Bounds.{IsBounded};
+ghost use Rattle.model_states.specs.Table.{active_value};
 ghost use Rattle.page_layers.specs.Axes as axes;
 ghost use Rattle.page_layers.specs.Scrolls.{clamp_to, IsInRange};
 ghost use Rattle.page_layers.specs.Scrollers as scrollers;

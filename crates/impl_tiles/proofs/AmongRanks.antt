@@ -14,8 +14,8 @@ use Rattle.tile_priority.proofs.Members.{in_filter_map, filter_map_in}
 use Rattle.tile_priority.proofs.Choosing.{order_is_free}
 use Rattle.tile_priority.proofs.StayAlike.{alike_stay}
 use Rattle.tile_queue.specs.Queues.{rank_key, tile_key, EachKeyOnce}
-use Rattle.tile_store.specs.Stores.{Store, is_ready, is_in_flight}
-use Rattle.tile_store.proofs.StoreWords.{len_by_names}
+use Rattle.impl_tiles.specs.Stores.{Store, is_ready, is_in_flight}
+use Rattle.impl_tiles.proofs.StoreWords.{len_by_names}
 use Rattle.model_history.specs.declared.history.Entry.{Entry}
 use Rattle.model_history.specs.Scripts.{ScriptModel}
 use Rattle.model_history.specs.Legal.{Legal}
@@ -34,7 +34,7 @@ use Rattle.impl_tiles.specs.declared.outlook.Outlook.TheVariants as outlook
 use Rattle.impl_tiles.specs.Choices.{Ranked, store_lacks, tile_among, choice_among}
 use Rattle.impl_tiles.specs.Managers.{Managed, Manages, AreRanksAt, live_ranks, Foresees, foreseen, is_seen, TellsNext}
 use Rattle.impl_tiles.proofs.RankedKeys.{rank_is}
-use Rattle.impl_tiles.proofs.ReadyKeys.{keys_once, keys_ready}
+use Rattle.impl_tiles.proofs.ReadyKeyLists.{keys_once, keys_ready}
 use Rattle.impl_tiles.proofs.VisibleParts.{shows_first, shows_evicted}
 
 -- the ranks of the missing keys

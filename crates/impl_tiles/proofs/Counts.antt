@@ -23,7 +23,7 @@ use Rattle.tile_priority.proofs.InOrder.{in_map, in_order_members, orders_fix}
 use Rattle.tile_priority.proofs.Members.{in_append, in_append_left, in_append_right}
 use Rattle.tile_priority.proofs.RankOrders.{rank_order, worst_order, IsLeastOf, least_of_is}
 use Rattle.tile_queue.specs.Queues.{rank_key}
-use Rattle.tile_store.specs.Stores.{Store, is_ready}
+use Rattle.impl_tiles.specs.Stores.{Store, is_ready}
 use Rattle.model_history.proofs.BoolFacts.{not_both}
 use Rattle.model_history.proofs.KeyFacts.{has_in, has_filter, distinct_filter}
 use Rattle.model_steps.proofs.Picks.{filter_map_test}
@@ -31,7 +31,7 @@ use Rattle.model_steps.proofs.SameKeys.{same_count}
 use Rattle.impl_tiles.specs.Choices.{Ranked, rank_among, tile_among, choice_among, stays_for}
 use Rattle.impl_tiles.specs.inner.Places.{IsRankAmong}
 use Rattle.impl_tiles.proofs.RankedKeys.{find_among}
-use Rattle.impl_tiles.proofs.ReadyKeys.{keys_once, keys_ready}
+use Rattle.impl_tiles.proofs.ReadyKeyLists.{keys_once, keys_ready}
 
 -- the best of some ranks, and of one more after them
 

@@ -18,9 +18,9 @@ use Rattle.tile_priority.proofs.Members.{in_filter_map}
 use Rattle.tile_priority.proofs.StayAlike.{alike_stay}
 use Rattle.tile_raster.specs.Images.{Image}
 use Rattle.tile_queue.specs.Queues.{IsNew, rank_key, tile_key}
-use Rattle.tile_store.specs.Stores.{Store, is_ready, is_in_flight, image_of}
-use Rattle.tile_store.specs.Stores as stores
-use Rattle.tile_store.proofs.StoreWords.{image_of-done_with, is_in_flight-done_with}
+use Rattle.impl_tiles.specs.Stores.{Store, is_ready, is_in_flight, image_of}
+use Rattle.impl_tiles.specs.Stores as stores
+use Rattle.impl_tiles.proofs.StoreWords.{image_of-done_with, is_in_flight-done_with}
 use Rattle.model_history.specs.declared.history.Entry.{Entry}
 use Rattle.model_history.specs.Scripts.{ScriptModel}
 use Rattle.model_history.specs.Legal.{Legal}

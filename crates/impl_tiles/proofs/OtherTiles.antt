@@ -9,8 +9,8 @@ use Rattle.tile_priority.specs.Choice.{Choice}
 use Rattle.tile_priority.specs.Alike.{Alike}
 use Rattle.page_layers.specs.declared.moves.Move.{Move}
 use Rattle.tile_raster.specs.Images.{Image}
-use Rattle.tile_store.specs.Stores.{image_of, empty_store, without}
-use Rattle.tile_store.proofs.StoreWords.{image_of-without}
+use Rattle.impl_tiles.specs.Stores.{image_of, empty_store, without}
+use Rattle.impl_tiles.proofs.StoreWords.{image_of-without}
 use Rattle.model_history.specs.declared.history.Entry.{Entry}
 use Rattle.model_history.specs.Scripts.{ScriptModel}
 use Rattle.model_history.specs.Accepted.{IsAccepted}

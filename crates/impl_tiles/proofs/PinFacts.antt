@@ -10,7 +10,7 @@ use Rattle.geom.specs.KeyOrder.{key_cmp}
 use Rattle.geom.specs.KeyLists.{same_key, has_key}
 use Rattle.geom.proofs.KeyOrders.{key_total}
 use Rattle.geom.proofs.KeyLists.{has_key_ties}
-use Rattle.tile_store.proofs.KeyOrders.{flips, flips_back, tied_back}
+use Rattle.impl_tiles.proofs.StoreKeyOrders.{flips, flips_back, tied_back}
 
 any_at : (p : TileKey → Bool) (xs : List TileKey) (i : ℕ) → i < length xs → ((d : TileKey) → p (get_or xs i d) ≡ true) → list_any p xs ≡ true
 any_at p [] i lt is = absurd (omega arith)

@@ -5,7 +5,7 @@ use Rattle.tile_priority.specs.declared.rank.Rank.{Rank}
 use Rattle.tile_priority.specs.Tiles.{Tile}
 use Rattle.tile_priority.specs.Choice.{Choice}
 use Rattle.tile_priority.specs.Alike.{Alike}
-use Rattle.tile_store.specs.Stores.{store_used}
+use Rattle.impl_tiles.specs.Stores.{store_used}
 use Rattle.model_history.specs.declared.history.Entry.{Entry}
 use Rattle.model_history.specs.Scripts.{ScriptModel}
 use Rattle.model_history.specs.Legal.{Legal}
@@ -13,7 +13,7 @@ use Rattle.model_history.specs.Tiles.{in_flight, ready}
 use Rattle.model_history.specs.Ranking.{choice, ready_tile}
 use Rattle.impl_tiles.specs.Visible.{is_visible, is_hidden, without_shown, Shows}
 use Rattle.impl_tiles.specs.Managers.{Managed, Manages, AreVisibleAt}
-use Rattle.impl_tiles.proofs.ReadyKeys.{used_is}
+use Rattle.impl_tiles.proofs.ReadyKeyLists.{used_is}
 use Rattle.impl_tiles.proofs.VisibleParts.{both_parts, alike_part}
 
 all_pass : {X : Type 0} (xs : List X) → filter (λ x. true) xs ≡ xs

@@ -12,9 +12,9 @@ use Rattle.tile_priority.proofs.InOrder.{in_map}
 use Rattle.tile_priority.proofs.Choosing.{first_is_one, evicted_give_way, order_is_free}
 use Rattle.tile_priority.proofs.StayAlike.{alike_stay}
 use Rattle.tile_queue.specs.Queues.{MayStartWith}
-use Rattle.tile_store.specs.Stores.{MayStart, is_ready, image_of}
-use Rattle.tile_store.specs.Stores as stores
-use Rattle.tile_store.proofs.StoreWords.{image_of-started, is_in_flight-started}
+use Rattle.impl_tiles.specs.Stores.{MayStart, is_ready, image_of}
+use Rattle.impl_tiles.specs.Stores as stores
+use Rattle.impl_tiles.proofs.StoreWords.{image_of-started, is_in_flight-started}
 use Rattle.model_history.specs.declared.history.Entry.{Entry}
 use Rattle.model_history.specs.Scripts.{ScriptModel}
 use Rattle.model_history.specs.Legal.{Legal}

@@ -9,7 +9,7 @@ use Rattle.tile_priority.specs.declared.rank.Rank.{Rank}
 use Rattle.tile_priority.specs.Tiles.{Tile}
 use Rattle.tile_priority.specs.Choice.{Choice, is_worse}
 use Rattle.tile_priority.specs.Alike.{is_of}
-use Rattle.tile_store.specs.Stores.{Store, is_ready, is_in_flight}
+use Rattle.impl_tiles.specs.Stores.{Store, is_ready, is_in_flight}
 
 -- ranks, and how many tiles there may be
 pub record Ranked : Type 0 where

@@ -1,5 +1,6 @@
 pub mod Choices
-pub mod Passed
-pub mod Visible
 pub mod Managers
+pub mod Passed
+pub mod Stores
+pub mod Visible
 pub mod inner

@@ -10,7 +10,7 @@ use Rattle.tile_priority.specs.Tiles.{Tile}
 use Rattle.tile_priority.specs.Choice.{Choice}
 use Rattle.tile_priority.specs.Alike.{AsMany, Alike}
 use Rattle.tile_raster.specs.Images.{Image}
-use Rattle.tile_store.specs.Stores.{Store, image_of, is_ready, is_in_flight}
+use Rattle.impl_tiles.specs.Stores.{Store, image_of, is_ready, is_in_flight}
 use Rattle.model_history.specs.declared.history.Entry.{Entry}
 use Rattle.model_history.specs.Scripts.{ScriptModel}
 use Rattle.model_history.specs.Legal.{Legal}

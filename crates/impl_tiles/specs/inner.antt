@@ -1,2 +1,5 @@
-pub mod Places
+pub mod Chunked
 pub mod Outlooks
+pub mod Places
+pub mod Rows
+pub mod TileTables

@@ -8,8 +8,18 @@
 //! It knows no page: ranks, dead keys and the keys that an activation needs are handed in.
 //!
 //! The name is that of Chromium's `cc/tiles/impl_tiles.h`, which schedules raster work under a budget.
+//!
+//! The tiles that the compositor has: those whose images are ready, and those whose images are being made.
+//!
+//! Keys stand in their order, each with the place of its tile in a slab, so a look-up is a binary search. They are
+//! cut into chunks, so that one that comes or goes moves a few others and not all. `reserve` takes the memory of one
+//! later start; neither that start nor the tile's end takes any.
 #![tactic(auto)]
 
+mod chunk;
+mod chunks;
+mod each_held;
+mod held;
 mod laws;
 mod manager;
 mod missing;
@@ -18,7 +28,13 @@ mod outlook;
 mod picks;
 mod pins;
 mod ranks;
+mod ready_keys;
+mod search;
+mod spots;
 mod stays;
+mod store;
+mod tile_table;
+mod tiles;
 mod visible;
 
 pub use laws::sends_keep_the_tiles;
@@ -26,4 +42,6 @@ pub use manager::TileManager;
 pub use near::{has_near, is_next};
 pub use pins::Pins;
 pub use ranks::Ranks;
+pub use ready_keys::ReadyKeys;
+pub use store::TileStore;
 pub use visible::is_visible;

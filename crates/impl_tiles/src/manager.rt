@@ -10,7 +10,7 @@ ghost use Rattle.tile_priority.specs.Ranks.{rank_cmp};
 ghost use Rattle.tile_priority.specs.Ordered.{IsInOrder, in_order};
 ghost use Rattle.page_layers.specs.declared.moves.Move.{Move};
 ghost use Rattle.tile_queue.specs.Queues.{rank_key, EachKeyOnce};
-ghost use Rattle.tile_store.specs.Stores.{image_of, is_ready};
+ghost use Rattle.impl_tiles.specs.Stores.{image_of, is_ready};
 ghost use Rattle.model_history.specs.declared.history.Entry.{Entry};
 ghost use Rattle.model_history.specs.Scripts.{ScriptModel};
 ghost use Rattle.model_history.specs.Accepted.{IsAccepted};
@@ -22,6 +22,7 @@ ghost use Rattle.model_steps.specs.ShownKeys.{KeyShows};
 ghost use Rattle.impl_tiles.specs.Choices.{store_lacks};
 ghost use Rattle.impl_tiles.specs.Managers.{Manages, StartsNow, DoneNow, HaveSameTiles, AreRanksAt, AreVisibleAt, IsOfVisible, is_seen, is_unseen, has_ranks_alone, TellsNext, tile_made};
 
+use crate::TileStore;
 use crate::missing::missing_keys;
 use crate::outlook::Outlook;
 use crate::pins::Pins;
@@ -34,7 +35,6 @@ use std::sync::Arc;
 use tile_priority::{Rank, ReadyTile};
 use tile_queue::RasterQueue;
 use tile_raster::TileImage;
-use tile_store::TileStore;
 
 /// The tiles of a run: the ready keys with their images, the keys in flight, the pinned keys, and what tells the
 /// next tile and what is evicted for it: the raster queue, of all tiles or of the visible ones, or the ranks of which
@@ -48,7 +48,7 @@ pub struct TileManager {
 }
 
 impl Model for TileManager {
-    ghost use Rattle.tile_store.specs.contracts.store.TileStore as the_store;
+    ghost use Rattle.impl_tiles.specs.contracts.store.TileStore as the_store;
     ghost use Rattle.impl_tiles.specs.contracts.outlook.Outlook as the_outlook;
     ghost use Rattle.impl_tiles.specs.contracts.pins.Pins as the_pins;
     ghost use Rattle.impl_tiles.specs.Managers.{Managed, managed_code};

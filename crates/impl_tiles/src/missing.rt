@@ -3,9 +3,9 @@
 ghost use Rattle.std.specs.Prelude.{◌≡◌, filter, IfOk};
 ghost use Rattle.impl_tiles.specs.Choices.{store_lacks};
 
+use crate::TileStore;
 use geom::{Keys, TileKey};
 use std::alloc::{AllocError, Global};
-use tile_store::TileStore;
 
 // Whether a key is neither ready, which is looked for at `near` first, nor being made.
 fn is_missing(store: &TileStore, near: &mut usize, key: TileKey) -> bool

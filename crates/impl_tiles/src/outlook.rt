@@ -8,6 +8,7 @@ ghost use Rattle.tile_queue.specs.Queues.{rank_key, AreEvictedFor};
 ghost use Rattle.impl_tiles.specs.Managers.{foreseen, is_seen, is_unseen, TellsNext};
 ghost use Rattle.impl_tiles.specs.inner.Outlooks.{MayStartNext, HasStarted, MayFinish, HasFinished};
 
+use crate::TileStore;
 use crate::pins::Pins;
 use crate::ranks::Ranks;
 use crate::visible::{finish_hidden, tells_first};
@@ -15,7 +16,6 @@ use geom::{Keys, TileKey};
 use std::alloc::AllocError;
 use tile_priority::{Rank, ReadyTile};
 use tile_queue::RasterQueue;
-use tile_store::TileStore;
 
 /// What tells the next tile, and what is evicted for it.
 pub(crate) enum Outlook {

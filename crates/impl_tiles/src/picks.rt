@@ -12,18 +12,18 @@ ghost use Rattle.geom.specs.KeyOrder.{key_cmp};
 ghost use Rattle.tile_priority.specs.declared.rank.Rank.{Rank as Ranking};
 ghost use Rattle.tile_priority.specs.Ordered.{SameMembers};
 ghost use Rattle.tile_priority.specs.Tiles.{IsRankOfKey};
-ghost use Rattle.tile_store.specs.Stores.{is_in_flight};
+ghost use Rattle.impl_tiles.specs.Stores.{is_in_flight};
 ghost use Rattle.tile_queue.specs.Queues.{rank_key};
 ghost use Rattle.impl_tiles.specs.Choices.{rank_among, tile_among};
 ghost use Rattle.impl_tiles.specs.inner.Places.{IsRankAmong, IsRankAt};
 
+use crate::TileStore;
 use crate::near::has_near;
 use crate::pins::Pins;
 use geom::TileKey;
 use std::alloc::{AllocError, Global};
 use std::cmp::Ordering;
 use tile_priority::{Rank, ReadyTile};
-use tile_store::TileStore;
 
 /// How many ranks in a row are passed before the next key is searched for.
 const STEPS: usize = 8;

@@ -17,6 +17,7 @@ ghost use Rattle.tile_priority.specs.Alike.{Alike};
 ghost use Rattle.tile_queue.specs.Queues.{rank_key, AreEvictedFor};
 ghost use Rattle.impl_tiles.specs.Choices.{store_lacks, choice_among};
 
+use crate::TileStore;
 use crate::picks::{in_key_order, is_made_now, parted, ready_tiles};
 use crate::pins::Pins;
 use crate::stays::{ready_count, staying, unpinned};
@@ -26,7 +27,6 @@ use std::cmp::Ordering;
 use std::marker::Model;
 use tile_priority::{Bin, Rank, least};
 use tile_queue::RasterQueue;
-use tile_store::TileStore;
 
 /// The ranks of all live keys that have one, each key once, in no order, and how many tiles there may be.
 pub struct Ranks {

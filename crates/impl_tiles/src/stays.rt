@@ -5,9 +5,9 @@ ghost use Rattle.std.specs.FinMap as fin;
 ghost use Rattle.geom.specs.KeyLists.{has_key};
 ghost use Rattle.impl_tiles.specs.Choices.{stays_for};
 
+use crate::TileStore;
 use crate::pins::Pins;
 use tile_priority::{Bin, Rank};
-use tile_store::TileStore;
 
 /// How many keys are ready.
 pub(crate) fn ready_count(store: &TileStore) -> u32

@@ -9,14 +9,14 @@ ghost use Rattle.tile_priority.specs.declared.rank.Rank.{Rank as Ranking};
 ghost use Rattle.tile_priority.specs.Choice as choosing;
 ghost use Rattle.tile_priority.specs.Alike.{Alike};
 ghost use Rattle.tile_queue.specs.Queues.{EachKeyOnce, IsNew};
-ghost use Rattle.tile_store.specs.Stores.{store_used};
+ghost use Rattle.impl_tiles.specs.Stores.{store_used};
 ghost use Rattle.impl_tiles.specs.Visible as spec;
 ghost use Rattle.impl_tiles.specs.Visible.{TellsFirst, finished_hidden};
 
+use crate::TileStore;
 use std::alloc::{AllocError, Global};
 use tile_priority::{Bin, Rank, ReadyTile};
 use tile_queue::RasterQueue;
-use tile_store::TileStore;
 
 // Whether a bin is that of visible tiles.
 fn is_now(bin: Bin) -> bool

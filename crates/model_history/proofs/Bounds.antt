@@ -2,9 +2,9 @@
 use Rattle.std.proofs.Common.{ℕ, ℤ, ◌≡◌, suc, ◌+◌, ◌-◌, ◌*◌, ◌^◌, ◌<◌, ◌≤◌, pos, ◌+ℤ◌, ◌-ℤ◌, ◌≤ℤ◌, Bool, true, false, cond, ◌||◌, List, [], ◌∷◌, length, Option, Some, None, slice_get, sym, ◌∙◌, ap, subst, arith}
 use Rattle.std.specs.Option.{option_or}
 use Rattle.std.proofs.lemmas.Int.{ints, clamps}
-use Rattle.model_scroll_values.specs.declared.Synced.{Synced}
-use Rattle.model_scroll_values.specs.Table as table
-use Rattle.model_scroll_values.specs.Bounds.{IsBoundedNumber, IsBounded}
+use Rattle.model_states.specs.declared.Synced.{Synced}
+use Rattle.model_states.specs.Table as table
+use Rattle.model_states.specs.Bounds.{IsBoundedNumber, IsBounded}
 use Rattle.page_layers.specs.Scrolls.{clamp_to, IsInRange}
 use Rattle.page_layers.specs.Hits.{target}
 use Rattle.model_history.specs.declared.event.Event.{Event}

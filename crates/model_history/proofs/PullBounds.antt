@@ -1,7 +1,7 @@
 -- The pulls of a legal past are within the bounds of a main frame.
 use Rattle.std.proofs.Common.{ℕ, ℤ, Bool, true, false, cond, List, [], ◌∷◌, arith}
 use Rattle.std.proofs.lemmas.Int.{ints}
-use Rattle.model_scroll_values.specs.Bounds.{IsBoundedNumber}
+use Rattle.model_states.specs.Bounds.{IsBoundedNumber}
 use Rattle.page_layers.specs.declared.moves.Move.{Move}
 use Rattle.model_history.specs.declared.history.Entry.{Entry}
 use Rattle.model_history.specs.Scripts.{ScriptModel}

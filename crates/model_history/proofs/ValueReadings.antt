@@ -1,8 +1,8 @@
 -- Where the active and the pending tree stand, and what the next send lists, by the five values.
 use Rattle.std.proofs.Common.{ℕ, ℤ, ◌≡◌, pos, ◌+ℤ◌, ◌-ℤ◌, ◌||◌, cond, List, Option, Some, None, refl, sym, ◌∙◌, ap, arith}
 use Rattle.std.proofs.lemmas.Int.{ints}
-use Rattle.model_scroll_values.specs.declared.Synced.{Synced}
-use Rattle.model_scroll_values.specs.Table as table
+use Rattle.model_states.specs.declared.Synced.{Synced}
+use Rattle.model_states.specs.Table as table
 use Rattle.page_layers.specs.Scrolls.{clamp_to, IsInRange}
 use Rattle.model_history.specs.declared.history.Entry.{Entry}
 use Rattle.model_history.specs.Scripts.{ScriptModel}

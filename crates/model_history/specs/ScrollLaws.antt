@@ -1,6 +1,6 @@
 -- Words for the laws of scrolls: the frame in flight, what a send carries, and the five values as sums.
 use Rattle.std.specs.Prelude.{ℕ, zero, suc, ◌-◌, ◌^◌, ◌<◌, ◌≡◌, ℤ, pos, negsuc, ◌+ℤ◌, ◌<ℤ◌, false, cond, List, [], ◌∷◌, Option, Some, None}
-use Rattle.model_scroll_values.specs.declared.Synced.{Synced}
+use Rattle.model_states.specs.declared.Synced.{Synced}
 use Rattle.model_history.specs.declared.event.Event.{Event}
 use Rattle.model_history.specs.declared.event.Event.TheVariants as event
 use Rattle.page_layers.specs.declared.moves.Move.{Move}

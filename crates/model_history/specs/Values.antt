@@ -1,7 +1,7 @@
 -- The five scroll values of a scroller along an axis, kept step by step.
 use Rattle.std.specs.Prelude.{ℕ, suc, List, [], ◌∷◌}
-use Rattle.model_scroll_values.specs.declared.Synced.{Synced}
-use Rattle.model_scroll_values.specs.Table as table
+use Rattle.model_states.specs.declared.Synced.{Synced}
+use Rattle.model_states.specs.Table as table
 use Rattle.model_history.specs.declared.event.Event.{Event}
 use Rattle.model_history.specs.declared.event.Event.TheVariants as event
 use Rattle.model_history.specs.declared.history.Entry.{Entry}

@@ -3,7 +3,7 @@
 ghost use Rattle.std.specs.Prelude.{◌≡◌, ◌-ℤ◌, not, ◌||◌, OnOk};
 ghost use Rattle.std.specs.List.{list_any};
 ghost use Rattle.std.specs.Ordering.{int_eq};
-ghost use Rattle.model_scroll_values.specs.Bounds.{IsBoundedNumber};
+ghost use Rattle.model_states.specs.Bounds.{IsBoundedNumber};
 ghost use Rattle.page_layers.specs.Effects.{scrolled_by, page_after_pulls};
 ghost use Rattle.page_layers.specs.Axes.{named_in};
 ghost use Rattle.model_history.specs.Ended.{AreBounded, TookCommands, TookFrame, StandsBefore, TookScriptFrame, Tells};

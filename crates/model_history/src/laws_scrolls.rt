@@ -3,8 +3,8 @@
 //! past is a legal past, so what is said of a past holds after each entry of a history.
 
 ghost use Rattle.std.specs.Prelude.{◌≡◌, ℕ, ℤ, pos, ◌+ℤ◌, Bool, true, false, not, List, ◌∷◌, Option, Some, None};
-ghost use Rattle.model_scroll_values.specs.Bounds.{IsBounded};
-ghost use Rattle.model_scroll_values.specs.Table.{active_value, pending_value, pull_answer};
+ghost use Rattle.model_states.specs.Bounds.{IsBounded};
+ghost use Rattle.model_states.specs.Table.{active_value, pending_value, pull_answer};
 ghost use Rattle.page_layers.specs.Scrolls.{IsInRange};
 ghost use Rattle.model_history.specs.Scripts.{ScriptModel};
 ghost use Rattle.model_history.specs.declared.event.Event.TheVariants as event;

@@ -1,6 +1,6 @@
 -- The table of the kinds of events: in which states each may come, and what state it leaves.
 use Rattle.std.specs.Prelude.{Bool, true, false, ◌&&◌, not}
-use Rattle.model_states.specs.declared.Sched.{Sched}
+use Rattle.model_states.specs.declared.sched.Sched.{Sched}
 use Rattle.model_states.specs.declared.kind.Kind.{Kind}
 use Rattle.model_states.specs.declared.kind.Kind.TheVariants as kind
 use Rattle.model_states.specs.declared.states.ImplState.{ImplState}

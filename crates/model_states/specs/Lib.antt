@@ -1,1 +1,4 @@
+pub mod Bounds
 pub mod Kinds
+pub mod Laws
+pub mod Table

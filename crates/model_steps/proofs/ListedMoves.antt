@@ -1,6 +1,6 @@
 -- What a send and an activation list, by the five values.
 use Rattle.std.proofs.Common.{◌≡◌, ℕ, ℤ, pos, cond, List, None, sym, ◌∙◌, ap}
-use Rattle.model_scroll_values.specs.Table.{pull_answer}
+use Rattle.model_states.specs.Table.{pull_answer}
 use Rattle.page_layers.specs.declared.moves.Move.{Move}
 use Rattle.page_layers.specs.Axes.{Axis, amount_in}
 use Rattle.page_layers.specs.Scrollers.{has_scroller}

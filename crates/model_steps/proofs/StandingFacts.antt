@@ -1,7 +1,7 @@
 -- Where the scrollers of both trees stand, by the five values.
 use Rattle.std.proofs.Common.{◌≡◌, ℕ, ℤ, ◌-ℤ◌, true, false, cond, List, refl, sym, ◌∙◌, ap}
-use Rattle.model_scroll_values.specs.declared.Synced.{Synced}
-use Rattle.model_scroll_values.specs.Table.{pending_value}
+use Rattle.model_states.specs.declared.Synced.{Synced}
+use Rattle.model_states.specs.Table.{pending_value}
 use Rattle.page_layers.specs.Scrolls.{clamp_to, origin}
 use Rattle.page_layers.specs.Pages.{Page}
 use Rattle.page_layers.specs.Axes.{Axis, across, down}

@@ -1,7 +1,7 @@
 -- Where the scrollers of the active and of the pending page stand, by the five values of each along each axis.
 use Rattle.std.specs.Prelude.{ℕ, ℤ, ◌-ℤ◌, Bool, cond}
-use Rattle.model_scroll_values.specs.declared.Synced.{Synced}
-use Rattle.model_scroll_values.specs.Table.{active_value, pending_value}
+use Rattle.model_states.specs.declared.Synced.{Synced}
+use Rattle.model_states.specs.Table.{active_value, pending_value}
 use Rattle.page_layers.specs.Scrolls.{clamp_to}
 use Rattle.page_layers.specs.Pages.{Page}
 use Rattle.page_layers.specs.Axes.{Axis}

@@ -3,7 +3,7 @@
 //! entry first.
 
 ghost use Rattle.std.specs.Prelude.{◌≡◌, ℕ, ℤ, pos, cond, List, None};
-ghost use Rattle.model_scroll_values.specs.Table.{pull_answer};
+ghost use Rattle.model_states.specs.Table.{pull_answer};
 ghost use Rattle.page_layers.specs.declared.moves.Move.{Move};
 ghost use Rattle.page_layers.specs.Axes.{Axis, amount_in};
 ghost use Rattle.page_layers.specs.Scrollers.{has_scroller, offsets_in, amount_taken};

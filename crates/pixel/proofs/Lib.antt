@@ -1,7 +1,8 @@
-pub mod Steps
-pub mod Fills
-pub mod Parts
-pub mod LaneWise
-pub mod LaneTests
+mod Areas
 pub mod Blends
+pub mod Fills
 pub mod FourPixels
+pub mod LaneTests
+pub mod LaneWise
+pub mod Parts
+pub mod Steps

@@ -1,5 +1,6 @@
 pub mod Colours
-pub mod Rows
-pub mod Surfaces
 pub mod LaneBytes
 pub mod Laws
+pub mod Rows
+pub mod Surfaces
+pub mod inner

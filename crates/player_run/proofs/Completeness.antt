@@ -6,8 +6,8 @@ use Rattle.model_history.specs.Scripts.{ScriptModel}
 use Rattle.script_json.proofs.ScriptLaws.{one_script}
 use Rattle.player_uses.specs.declared.outcome.Outcome.{Outcome}
 use Rattle.player_uses.specs.declared.outcome.Outcome.TheVariants.{Done, Usage, Json, Shape, Script, ReadFault, WriteFault, TooLong, BadRecording, No, Memory, NoPicture}
-use Rattle.player_words.specs.declared.words.Use.{Use}
-use Rattle.player_words.specs.declared.words.Use.TheVariants.{Step, Play, Gen, Demo, Film, Shot, Frames, Check, Serve}
+use Rattle.player_uses.specs.declared.words.Use.{Use}
+use Rattle.player_uses.specs.declared.words.Use.TheVariants.{Step, Play, Gen, Demo, Film, Shot, Frames, Check, Serve}
 use Rattle.player_lockstep.specs.Films.{IsLastImage}
 use Rattle.player_uses.specs.Shots.{with_shot}
 use Rattle.player_uses.specs.Answers.{TellsMisfit, IsUnread}

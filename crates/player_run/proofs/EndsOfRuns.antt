@@ -3,10 +3,10 @@ use Rattle.std.proofs.Common.{◌≡◌, inl, inr, ℕ, Bool, true, false, List,
 use Rattle.std.specs.Io.KnownBytes.{Appends}
 use Rattle.byte_io.specs.Counts.{Rose}
 use Rattle.byte_io.specs.Pieces.{GainsPrefix}
-use Rattle.thread_ring.specs.Ring.{whole}
-use Rattle.thread_ring.specs.Answers.{Gained, FaultRose}
-use Rattle.thread_ring.specs.declared.ends.Presented.{Presented}
-use Rattle.thread_ring.specs.declared.ends.Presented.TheVariants as presented
+use Rattle.thread_pieces.specs.Ring.{whole}
+use Rattle.thread_pieces.specs.Answers.{Gained, FaultRose}
+use Rattle.thread_pieces.specs.declared.ends.Presented.{Presented}
+use Rattle.thread_pieces.specs.declared.ends.Presented.TheVariants as presented
 use Rattle.model_history.specs.declared.event.Event.{Event}
 use Rattle.model_history.specs.declared.history.Entry.{Entry}
 use Rattle.impl_log.specs.Runs.{Run}

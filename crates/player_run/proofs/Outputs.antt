@@ -4,8 +4,8 @@ use Rattle.std.specs.Prelude.{Option}
 use Rattle.std.specs.Io.KnownBytes.{Appends}
 use Rattle.player_uses.specs.declared.outcome.Outcome.{Outcome}
 use Rattle.player_uses.specs.declared.outcome.Outcome.TheVariants.{Done, Usage, Json, Shape, Script, ReadFault, WriteFault, TooLong, BadRecording, No, Memory, NoPicture}
-use Rattle.player_words.specs.declared.words.Use.{Use}
-use Rattle.player_words.specs.declared.words.Use.TheVariants.{Step, Play, Gen, Demo, Film, Shot, Frames, Check, Serve}
+use Rattle.player_uses.specs.declared.words.Use.{Use}
+use Rattle.player_uses.specs.declared.words.Use.TheVariants.{Step, Play, Gen, Demo, Film, Shot, Frames, Check, Serve}
 use Rattle.player_uses.specs.Faults.{IsSilent}
 use Rattle.player_uses.specs.Outputs.{WritesSome}
 use Rattle.player_run.specs.Runs.{IsOutput, IsBegun, Writes}

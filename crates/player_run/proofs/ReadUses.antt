@@ -3,7 +3,7 @@ use Rattle.std.proofs.Common.{ℕ, List, None, Some}
 use Rattle.std.specs.Prelude.{Option, IfSome}
 use Rattle.player_uses.specs.declared.outcome.Outcome.{Outcome}
 use Rattle.player_uses.specs.declared.outcome.Outcome.TheVariants.{Done, Usage, Json, Shape, Script, ReadFault, WriteFault, TooLong, BadRecording, No, Memory, NoPicture}
-use Rattle.player_words.specs.declared.words.Use.TheVariants.{Frames, Check}
+use Rattle.player_uses.specs.declared.words.Use.TheVariants.{Frames, Check}
 use Rattle.player_uses.specs.Outputs.{DeliversImages}
 use Rattle.player_uses.specs.Refusals.{ExplainsImages, ExplainsJudgement}
 use Rattle.player_run.specs.Runs.{CauseOf, CauseFrom, Writes}

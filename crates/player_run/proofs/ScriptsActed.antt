@@ -7,7 +7,7 @@ use Rattle.script_json.specs.Causes.{IsScriptText}
 use Rattle.script_json.proofs.CanonicalTexts.{said}
 use Rattle.player_uses.specs.declared.outcome.Outcome.{Outcome}
 use Rattle.player_uses.specs.declared.outcome.Outcome.TheVariants.{Done, Usage, Json, Shape, Script, ReadFault, WriteFault, TooLong, BadRecording, No, Memory, NoPicture}
-use Rattle.player_words.specs.declared.words.Use.TheVariants.{Play}
+use Rattle.player_uses.specs.declared.words.Use.TheVariants.{Play}
 use Rattle.player_uses.specs.Outputs.{WritesOrBegins}
 use Rattle.player_uses.specs.Refusals.{script_limit}
 use Rattle.player_uses.specs.Answers.{TellsMisfit}

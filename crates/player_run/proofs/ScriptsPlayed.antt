@@ -8,8 +8,8 @@ use Rattle.script_json.proofs.CanonicalTexts.{said}
 use Rattle.player_lockstep.specs.Films.{IsLockstepFilm}
 use Rattle.player_uses.specs.declared.outcome.Outcome.{Outcome}
 use Rattle.player_uses.specs.declared.outcome.Outcome.TheVariants.{Done, Usage, Json, Shape, Script, ReadFault, WriteFault, TooLong, BadRecording, No, Memory, NoPicture}
-use Rattle.player_words.specs.declared.words.Use.{Use}
-use Rattle.player_words.specs.declared.words.Use.TheVariants.{Step, Film}
+use Rattle.player_uses.specs.declared.words.Use.{Use}
+use Rattle.player_uses.specs.declared.words.Use.TheVariants.{Step, Film}
 use Rattle.player_uses.specs.Outputs.{WritesSome}
 use Rattle.player_uses.specs.Refusals.{script_limit}
 use Rattle.player_run.specs.Runs.{IsRunOf, Takes, CauseOf, CauseFrom, Writes}

@@ -12,7 +12,7 @@ use Rattle.script_json.specs.Causes.{IsScriptText}
 use Rattle.script_json.proofs.CanonicalTexts.{said}
 use Rattle.player_uses.specs.declared.outcome.Outcome.{Outcome}
 use Rattle.player_uses.specs.declared.outcome.Outcome.TheVariants.{Done, Usage, Json, Shape, Script, ReadFault, WriteFault, TooLong, BadRecording, No, Memory, NoPicture}
-use Rattle.player_words.specs.declared.words.Use.TheVariants.{Step}
+use Rattle.player_uses.specs.declared.words.Use.TheVariants.{Step}
 use Rattle.player_uses.specs.Outputs.{WritesSome}
 use Rattle.player_uses.specs.Scripts.{IsNone}
 use Rattle.player_uses.specs.Refusals.{script_limit}

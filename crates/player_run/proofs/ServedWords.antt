@@ -5,9 +5,9 @@ use Rattle.std.proofs.lemmas.Bool.{false≢true}
 use Rattle.std.specs.Io.KnownBytes.{Appends}
 use Rattle.player_uses.specs.declared.outcome.Outcome.{Outcome}
 use Rattle.player_uses.specs.declared.outcome.Outcome.TheVariants.{Done, Usage, Json, Shape, Script, ReadFault, WriteFault, TooLong, BadRecording, No, Memory, NoPicture}
-use Rattle.player_words.specs.declared.words.Use.{Use}
-use Rattle.player_words.specs.declared.words.Use.TheVariants.{Step, Play, Gen, Demo, Film, Shot, Frames, Check, Serve}
-use Rattle.player_words.specs.Words.{asks_more, asks_play, asks_serve}
+use Rattle.player_uses.specs.declared.words.Use.{Use}
+use Rattle.player_uses.specs.declared.words.Use.TheVariants.{Step, Play, Gen, Demo, Film, Shot, Frames, Check, Serve}
+use Rattle.player_uses.specs.Words.{asks_more, asks_play, asks_serve}
 use Rattle.player_uses.specs.Answers.{TellsMisfit, AnswersSession, MayAnswer}
 use Rattle.player_uses.specs.Reading.{Reads, ReadToEnd}
 use Rattle.player_run.specs.Runs.{CauseFrom, Writes, IsComplete, OnServe, UnlessServe}

@@ -10,7 +10,7 @@ use Rattle.player_lockstep.specs.Films.{IsLastImage}
 use Rattle.player_lockstep.specs.Shots.{IsShot}
 use Rattle.player_uses.specs.declared.outcome.Outcome.{Outcome}
 use Rattle.player_uses.specs.declared.outcome.Outcome.TheVariants.{Done, Usage, Json, Shape, Script, ReadFault, WriteFault, TooLong, BadRecording, No, Memory, NoPicture}
-use Rattle.player_words.specs.declared.words.Use.TheVariants.{Shot}
+use Rattle.player_uses.specs.declared.words.Use.TheVariants.{Shot}
 use Rattle.player_uses.specs.Outputs.{WritesSome}
 use Rattle.player_uses.specs.Shots.{IsAskedFrom, with_shot}
 use Rattle.player_uses.specs.Refusals.{script_limit}

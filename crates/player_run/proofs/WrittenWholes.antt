@@ -11,7 +11,7 @@ use Rattle.script_json.proofs.CanonicalTexts.{one_recording_of}
 use Rattle.script_json.proofs.ScriptLaws.{parts_are_in_ranges}
 use Rattle.recording_check.specs.Verdicts.{IsLegalRecording}
 use Rattle.recording_check.proofs.WrittenRuns.{written_is_legal}
-use Rattle.player_words.specs.declared.words.Use.TheVariants.{Step, Play}
+use Rattle.player_uses.specs.declared.words.Use.TheVariants.{Step, Play}
 use Rattle.player_run.specs.Runs.{IsScriptFrom, IsPlayOf, IsOutput}
 
 -- what some JSON value says, and whose main frames the blank page takes, is accepted

@@ -1,6 +1,6 @@
 -- What is promised of the history that a run records.
 use Rattle.std.specs.Prelude.{◌≡◌, ℕ, ◌+ℤ◌, true, List, [], ◌∷◌, ◌++◌, reverse}
-use Rattle.model_scroll_values.specs.Table.{active_value}
+use Rattle.model_states.specs.Table.{active_value}
 use Rattle.page_layers.specs.Axes.{Axis}
 use Rattle.page_layers.specs.Scrollers.{most}
 use Rattle.page_layers.specs.Scrolls.{IsInRange}

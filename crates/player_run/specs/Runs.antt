@@ -22,8 +22,8 @@ use Rattle.player_uses.specs.Refusals.{script_limit, IsAcceptedText, TakesRecord
 use Rattle.player_uses.specs.Shots.{with_shot}
 use Rattle.player_run.specs.Promises.{IsSoundHistory, IsPlayed, IsPromised}
 use Rattle.player_run.specs.Shots.{HasPicture}
-use Rattle.player_words.specs.declared.words.Use.{Use}
-use Rattle.player_words.specs.declared.words.Use.TheVariants.{Step, Play, Gen, Demo, Film, Shot, Frames, Check, Serve}
+use Rattle.player_uses.specs.declared.words.Use.{Use}
+use Rattle.player_uses.specs.declared.words.Use.TheVariants.{Step, Play, Gen, Demo, Film, Shot, Frames, Check, Serve}
 
 -- they are one whose shot has a picture
 abbrev pub IsPictureText : List ℕ → Type 0

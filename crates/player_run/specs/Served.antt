@@ -5,7 +5,7 @@ use Rattle.player_uses.specs.declared.outcome.Outcome.{Outcome}
 use Rattle.player_uses.specs.declared.outcome.Outcome.TheVariants.{Done, Json, Shape, Script, ReadFault, WriteFault, TooLong, Memory}
 use Rattle.player_uses.specs.Verdicts.{verdict}
 use Rattle.player_run.specs.Runs.{CauseOf, Writes}
-use Rattle.player_words.specs.declared.words.Use.TheVariants.{Step}
+use Rattle.player_uses.specs.declared.words.Use.TheVariants.{Step}
 
 -- how a line may end: it is played, refused, or there was no memory
 abbrev pub EndsLine : Outcome → Type 0

@@ -2,8 +2,8 @@
 
 ghost use Rattle.std.specs.Prelude.{◌≡◌, ◌≤◌, ℕ, List, [], Option, Some};
 ghost use Rattle.std.specs.Thread.{IsSync};
-ghost use Rattle.thread_ring.specs.Ring.{OneRing, SameSink, bytes_taken, whole};
-ghost use Rattle.thread_ring.specs.Answers.{FaultRose};
+ghost use Rattle.thread_pieces.specs.Ring.{OneRing, SameSink, bytes_taken, whole};
+ghost use Rattle.thread_pieces.specs.Answers.{FaultRose};
 ghost use Rattle.impl_core.specs.Origins.{Origin};
 ghost use Rattle.proxy_threads.specs.Seats.{Of, OfBoth, Seat};
 ghost use Rattle.proxy_threads.specs.Writing.{FaultCause};
@@ -21,8 +21,7 @@ use std::sync::Wait;
 use std::thread::{Threads, join_mut};
 use thread_bell::Bell;
 use thread_lock::{Pass, TurnLock};
-use thread_pieces::{Painters, SceneSink};
-use thread_ring::{Presented, Presenter, RingSink, finish};
+use thread_pieces::{Painters, Presented, Presenter, RingSink, SceneSink, finish};
 
 /// What the compositor and the presenter left.
 #[derive(Drop)]

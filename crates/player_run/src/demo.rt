@@ -7,11 +7,10 @@ ghost use Rattle.player_uses.specs.Outputs.{WritesSome};
 ghost use Rattle.player_run.specs.Runs.{IsDemoOf};
 ghost use Rattle.player_run.specs.inner.Summaries.{IsDemoSummary};
 
-use byte_io::Sink;
+use byte_io::{Sink, SumSink};
 use model_history::Script;
 use player_lockstep::{Retention, record_lockstep};
 use player_uses::{Outcome, Summary, put_summary, summary_of};
-use recording_sums::SumSink;
 use script_generator::script_of_number;
 use std::alloc::Global;
 use std::sync::Arc;

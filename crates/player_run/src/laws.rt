@@ -3,7 +3,7 @@
 ghost use Rattle.std.specs.Prelude.{ℕ, ◌≤◌, List, Option};
 ghost use Rattle.recording_check.specs.Verdicts.{IsLegalRecording};
 ghost use Rattle.player_run.specs.Runs.{IsOutput};
-ghost use Rattle.player_words.specs.declared.words.Use.TheVariants.{Step, Play};
+ghost use Rattle.player_uses.specs.declared.words.Use.TheVariants.{Step, Play};
 
 /// What `step N` and `play N` write in all is the recording of a legal history, which is what `check` takes,
 /// whatever the source tells.

@@ -1,7 +1,7 @@
 //! A script of the source, played by actors on threads.
 
 ghost use Rattle.std.specs.Prelude.{◌≡◌, ◌≤◌, [], Ok, IfOk, IfSome, MatchOption};
-ghost use Rattle.thread_ring.specs.Ring.{OneRing, bytes_taken, whole};
+ghost use Rattle.thread_pieces.specs.Ring.{OneRing, bytes_taken, whole};
 ghost use Rattle.model_history.specs.Recordings.{header};
 ghost use Rattle.script_json.specs.Recordings.{script_text};
 ghost use Rattle.player_uses.specs.Answers.{TellsMisfit, MayAnswer};
@@ -15,15 +15,14 @@ use crate::step::play_lockstep;
 use crate::threads::run_crew;
 use byte_io::{Gate, Sink, Source};
 use model_history::Script;
-use player_uses::{Outcome, read_script_from};
-use player_words::Use;
+use player_uses::{Outcome, Use, read_script_from};
 use recording_writer::header_of;
 use script_json::print_script;
 use std::alloc::{AllocError, Global};
 use std::marker::Send;
 use std::sync::{Arc, Wait};
 use std::thread::Threads;
-use thread_ring::{Presenter, RingSink, ring};
+use thread_pieces::{Presenter, RingSink, ring};
 
 // A ring that has the two lines before the events of a script.
 fn ring_of(alloc: Global, script: &Script) -> Result<(RingSink, Presenter), AllocError>

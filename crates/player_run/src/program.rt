@@ -1,14 +1,14 @@
 //! The words, the input and the output of one run.
 
 ghost use Rattle.std.specs.Prelude.{◌≡◌, Ok, true, false, is_none, IfNone, IfOk, IfSome, OnErr, map, string_bytes};
-ghost use Rattle.player_words.specs.Words.{asks_more, asks_play, asks_serve, needs_more, use_of as use_in};
+ghost use Rattle.player_uses.specs.Words.{asks_more, asks_play, asks_serve, needs_more, use_of as use_in};
 ghost use Rattle.player_uses.specs.Outcomes.{line_of, Told};
 ghost use Rattle.player_uses.specs.Answers.{TellsMisfit, MayAnswer};
 ghost use Rattle.player_uses.specs.Reading.{Reads, ReadToEnd};
 ghost use Rattle.player_uses.specs.Faults.{Causes, StopsAtFault};
 ghost use Rattle.player_run.specs.Runs.{CauseFrom, Writes, IsComplete, OnServe, UnlessServe};
 ghost use Rattle.player_run.specs.Served.{Serves, ServeCause};
-ghost use Rattle.player_words.specs.Words.{IsFew};
+ghost use Rattle.player_uses.specs.Words.{IsFew};
 
 use crate::demo::run_demo;
 use crate::filmed::run_film;
@@ -18,8 +18,7 @@ use crate::shot::run_shot;
 use crate::step::run_step;
 use byte_io::{Gate, Sink, Source};
 use player_lines::{Client, Session};
-use player_uses::{Outcome, run_check, run_frames, run_gen, tell};
-use player_words::{Use, players, servers, use_of};
+use player_uses::{Outcome, Use, players, run_check, run_frames, run_gen, servers, tell, use_of};
 use std::alloc::Global;
 use std::marker::Send;
 use std::sync::Wait;

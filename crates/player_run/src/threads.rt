@@ -1,8 +1,8 @@
 //! The threads of a run.
 
 ghost use Rattle.std.specs.Prelude.{◌≡◌, ◌≤◌, [], Some, All, MatchOption, IfSome};
-ghost use Rattle.thread_ring.specs.Ring.{OneRing, bytes_taken, whole};
-ghost use Rattle.thread_ring.specs.Answers.{FaultRose};
+ghost use Rattle.thread_pieces.specs.Ring.{OneRing, bytes_taken, whole};
+ghost use Rattle.thread_pieces.specs.Answers.{FaultRose};
 ghost use Rattle.impl_core.specs.Origins.{Origin};
 ghost use Rattle.proxy_threads.specs.Seats.{Of};
 ghost use Rattle.proxy_threads.specs.MainTurns.{MainIsReady};
@@ -23,7 +23,7 @@ use std::thread;
 use std::thread::{Scope, Threads};
 use thread_bell::Bell;
 use thread_lock::{Pass, TurnLock};
-use thread_ring::{Presenter, RingSink};
+use thread_pieces::{Presenter, RingSink};
 
 // The turns of the main side.
 fn work_main<R: Wait>(rt: &R, lock: &TurnLock<Core>, bell: &Bell, main: MainActor)

@@ -4,7 +4,7 @@ use Rattle.std.specs.Prelude.{Option, IfSome}
 use Rattle.player_uses.specs.declared.images.Images.{Images}
 use Rattle.player_uses.specs.declared.outcome.Outcome.{Outcome}
 use Rattle.player_uses.specs.declared.outcome.Outcome.TheVariants.{Done, Usage, Json, Shape, Script, ReadFault, WriteFault, TooLong, BadRecording, No, Memory, NoPicture}
-use Rattle.player_words.specs.declared.words.Use.TheVariants.{Frames}
+use Rattle.player_uses.specs.declared.words.Use.TheVariants.{Frames}
 use Rattle.player_uses.specs.inner.Recordings.{HasImages, WritesImages, images_of}
 use Rattle.player_uses.specs.Answers.{TellsMisfit}
 use Rattle.player_uses.specs.Outputs.{AreImagesFrom, DeliversImages}

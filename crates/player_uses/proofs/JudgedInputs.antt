@@ -3,7 +3,7 @@ use Rattle.std.proofs.Common.{ℕ, ◌≤◌, List, length}
 use Rattle.std.specs.Prelude.{Option, Ok, IfSome}
 use Rattle.player_uses.specs.declared.outcome.Outcome.{Outcome}
 use Rattle.player_uses.specs.declared.outcome.Outcome.TheVariants.{Done, Usage, Json, Shape, Script, ReadFault, WriteFault, TooLong, BadRecording, No, Memory, NoPicture}
-use Rattle.player_words.specs.declared.words.Use.TheVariants.{Check}
+use Rattle.player_uses.specs.declared.words.Use.TheVariants.{Check}
 use Rattle.player_uses.specs.inner.Inputs.{ReadWhole}
 use Rattle.player_uses.specs.inner.Judged.{IsJudgement}
 use Rattle.player_uses.specs.Answers.{TellsMisfit}

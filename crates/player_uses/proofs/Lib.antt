@@ -1,11 +1,12 @@
-pub mod Gains
-pub mod Told
-pub mod Tallies
-pub mod Outputs
 pub mod Answered
 pub mod AskedScripts
 pub mod AskedShots
+pub mod Gains
 pub mod ImagesWritten
 pub mod JudgedInputs
 pub mod NotRefused
+pub mod Outputs
+pub mod RightWords
 pub mod SaidTexts
+pub mod Tallies
+pub mod Told

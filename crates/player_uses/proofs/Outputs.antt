@@ -3,7 +3,7 @@ use Rattle.std.proofs.Common.{ℕ, List, inl, inr, Ok}
 use Rattle.std.specs.Prelude.{Option}
 use Rattle.player_uses.specs.declared.outcome.Outcome.{Outcome}
 use Rattle.player_uses.specs.declared.outcome.Outcome.TheVariants.{Done, Usage, Json, Shape, Script, ReadFault, WriteFault, TooLong, BadRecording, No, Memory, NoPicture}
-use Rattle.player_words.specs.declared.words.Use.{Use}
+use Rattle.player_uses.specs.declared.words.Use.{Use}
 use Rattle.player_uses.specs.Answers.{TellsMisfit, IsUnread}
 use Rattle.player_uses.specs.Outputs.{WritesSome}
 

@@ -5,7 +5,7 @@ use Rattle.model_history.specs.declared.event.Event.TheVariants as event
 use Rattle.model_history.specs.declared.history.Entry.{Entry}
 use Rattle.model_history.specs.Scripts.{ScriptModel}
 use Rattle.script_json.specs.Recordings.{recording}
-use Rattle.recording_sums.specs.Sums.{byte_sum}
+use Rattle.byte_io.specs.Sums.{byte_sum}
 use Rattle.player_uses.specs.Outcomes.{joined_texts}
 
 -- how many images an event has, and how many tiles it lacks

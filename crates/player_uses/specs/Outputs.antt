@@ -3,7 +3,7 @@ use Rattle.std.specs.Prelude.{◌≡◌, ℕ, ◌⊎◌, List, Option, IfSome}
 use Rattle.std.specs.Io.KnownBytes.{Appends}
 use Rattle.byte_io.specs.Pieces.{GainsPrefix}
 use Rattle.model_history.specs.Scripts.{ScriptModel}
-use Rattle.recording_reader.specs.Pieces.{Piece, images_text}
+use Rattle.recording_text.specs.Pieces.{Piece, images_text}
 use Rattle.recording_check.specs.Recordings.{IsRecording}
 use Rattle.player_uses.specs.declared.outcome.Outcome.{Outcome}
 use Rattle.player_uses.specs.declared.outcome.Outcome.TheVariants.{Done, WriteFault, Memory}

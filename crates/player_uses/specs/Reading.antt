@@ -3,8 +3,8 @@ use Rattle.std.specs.Prelude.{◌≡◌, ℕ, ◌≤◌, ◌+◌, List, length, 
 use Rattle.std.specs.Io.KnownBytes.{Consumes, IsAtEnd}
 use Rattle.player_uses.specs.declared.outcome.Outcome.{Outcome}
 use Rattle.player_uses.specs.declared.outcome.Outcome.TheVariants.{Usage, ReadFault, TooLong, Memory}
-use Rattle.player_words.specs.declared.words.Use.{Use}
-use Rattle.player_words.specs.declared.words.Use.TheVariants.{Step, Play, Gen, Demo, Film, Shot, Frames, Check, Serve}
+use Rattle.player_uses.specs.declared.words.Use.{Use}
+use Rattle.player_uses.specs.declared.words.Use.TheVariants.{Step, Play, Gen, Demo, Film, Shot, Frames, Check, Serve}
 use Rattle.player_uses.specs.Refusals.{script_limit, recording_limit}
 
 -- at most the given number of bytes were taken of a source

@@ -9,7 +9,7 @@ use Rattle.model_history.specs.Accepted.{TakesFrames}
 use Rattle.model_history.specs.Judging.{RefusedAt}
 use Rattle.script_json.specs.Causes.{IsTextOf, IsScriptText}
 use Rattle.script_json.specs.Reading.{parts_at}
-use Rattle.recording_reader.specs.Pieces.{Piece}
+use Rattle.recording_text.specs.Pieces.{Piece}
 use Rattle.recording_check.specs.Recordings.{IsRecording, IsBadAt}
 use Rattle.recording_check.specs.Verdicts.{IsLegalRecording, IsFirstWrongEvent}
 use Rattle.player_uses.specs.declared.outcome.Outcome.{Outcome}

@@ -1,7 +1,7 @@
 -- The counts of a run and of its recording.
 use Rattle.std.specs.Prelude.{◌≡◌, ◌<◌, ◌≤◌, ◌⊎◌, ℕ, ◌%◌, ◌^◌, List, [], ◌∷◌, length, codes, decimal}
 use Rattle.model_history.specs.declared.history.Entry.{Entry}
-use Rattle.recording_sums.specs.Sums.{byte_sum}
+use Rattle.byte_io.specs.Sums.{byte_sum}
 use Rattle.player_uses.specs.Demos.{image_count, missing_count}
 use Rattle.player_uses.specs.Outcomes.{joined_texts}
 use Rattle.player_uses.specs.declared.summary.Summary.{Summary}

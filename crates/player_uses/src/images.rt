@@ -2,7 +2,7 @@
 
 ghost use Rattle.std.specs.Prelude.{◌≡◌, ◌≤◌, length, flat_map, Ok, IfSome, IfErr};
 ghost use Rattle.thread_pieces.specs.Writing.{PutsAll, WriteCause};
-ghost use Rattle.recording_reader.specs.Spans.{AreWithin, IsWithinBytes, span_bytes};
+ghost use Rattle.recording_text.specs.Spans.{AreWithin, IsWithinBytes, span_bytes};
 ghost use Rattle.player_uses.specs.Answers.{TellsMisfit, AnswersImages, MayAnswer};
 ghost use Rattle.player_uses.specs.Outputs.{DeliversImages};
 ghost use Rattle.player_uses.specs.Refusals.{ExplainsImages};
@@ -10,12 +10,12 @@ ghost use Rattle.player_uses.specs.Reading.{Reads, ReadToEnd};
 ghost use Rattle.player_uses.specs.Faults.{Causes, StopsAtFault, RefusedBy, RefusedAtFault};
 ghost use Rattle.player_uses.specs.inner.Recordings.{RecordingFrom, WritesImages, images_of};
 
+use crate::Use;
 use crate::input::{RECORDING_LIMIT, ReadStop, read_all};
 use crate::outcome::Outcome;
 use byte_io::{Sink, Source};
-use player_words::Use;
 use recording_check::{RecordingFault, read_images};
-use recording_reader::ImageSpan;
+use recording_text::ImageSpan;
 use std::alloc::Global;
 use thread_pieces::{WriteStop, put_all};
 

@@ -7,10 +7,10 @@ ghost use Rattle.player_uses.specs.Reading.{ReadToEnd, Reads};
 ghost use Rattle.player_uses.specs.Refusals.{recording_limit, ExplainsJudgement};
 ghost use Rattle.player_uses.specs.inner.Judged.{IsJudgement};
 
+use crate::Use;
 use crate::input::{RECORDING_LIMIT, ReadStop, read_all};
 use crate::outcome::Outcome;
 use byte_io::Source;
-use player_words::Use;
 use recording_check::{RecordingFault, Verdict, check};
 use std::alloc::Global;
 

@@ -5,6 +5,8 @@
 //! well ([`read_shot_from`]). [`run_gen`], [`run_check`] and [`run_frames`] do what `gen`, `check` and `frames` ask
 //! for. Of a run that somebody else played, [`summary_of`] counts what it holds, and [`put_file`] and [`put_summary`]
 //! write a file or the line of the counts.
+//!
+//! What the words of the command line ask for: which use of the program, with which number.
 #![tactic(auto)]
 
 mod draw_counts;
@@ -20,6 +22,7 @@ mod script_input;
 mod shot_input;
 mod summary;
 mod verdicts;
+mod words;
 
 pub use file::put_file;
 pub use generated::run_gen;
@@ -31,3 +34,4 @@ pub use script_input::{SCRIPT_LIMIT, read_script_from, script_in};
 pub use shot_input::read_shot_from;
 pub use summary::{Summary, put_summary, summary_of};
 pub use verdicts::put_verdict;
+pub use words::{Use, players, servers, use_of};

@@ -9,9 +9,8 @@ ghost use Rattle.player_uses.specs.inner.Fragments.{fragment_text};
 use crate::draw_counts::tally_of;
 use crate::fragments::{Fragment, put_fragments};
 use crate::outcome::Outcome;
-use byte_io::{PutFault, Sink};
+use byte_io::{PutFault, Sink, SumSink};
 use impl_log::KeptHistory;
-use recording_sums::SumSink;
 
 /// The counts of a run and of its recording.
 #[derive(Clone, Copy, Drop)]

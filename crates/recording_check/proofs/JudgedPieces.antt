@@ -7,13 +7,13 @@ use Rattle.std.proofs.lemmas.List.{reverse-append, length-drop}
 use Rattle.model_history.specs.declared.history.Entry.{Entry}
 use Rattle.model_history.specs.Scripts.{ScriptModel}
 use Rattle.impl_log.specs.Runs.{Run, past, with_entry}
-use Rattle.recording_reader.specs.declared.cursor.Cursor.{Cursor}
-use Rattle.recording_reader.specs.declared.cursor.EventSpan.{EventSpan}
-use Rattle.recording_reader.specs.BadParts.{IsBadPart, AreFront, shown_behind, StopsAt}
-use Rattle.recording_reader.specs.Bodies.{ArePiecesFrom}
-use Rattle.recording_reader.specs.Pieces.{Piece, piece_text, IsPiece, ArePieces, entry_of, entries, is_end, shown_after}
-use Rattle.recording_reader.specs.Taking.{IsImageAt, TakesPiece, TakesNext}
-use Rattle.recording_reader.specs.Views.{ViewTable, view_at}
+use Rattle.recording_text.specs.declared.cursor.Cursor.{Cursor}
+use Rattle.recording_text.specs.declared.cursor.EventSpan.{EventSpan}
+use Rattle.recording_text.specs.BadParts.{IsBadPart, AreFront, shown_behind, StopsAt}
+use Rattle.recording_text.specs.Bodies.{ArePiecesFrom}
+use Rattle.recording_text.specs.Pieces.{Piece, piece_text, IsPiece, ArePieces, entry_of, entries, is_end, shown_after}
+use Rattle.recording_text.specs.Taking.{IsImageAt, TakesPiece, TakesNext}
+use Rattle.recording_text.specs.Views.{ViewTable, view_at}
 use Rattle.recording_check.specs.Verdicts.{IsRight, AreRightPieces, IsWrongAt}
 use Rattle.recording_check.specs.inner.Judgements.{AreJudged, JudgesNext, JudgesParts, verdict_where}
 use Rattle.recording_check.specs.inner.Rightness.{Judged}

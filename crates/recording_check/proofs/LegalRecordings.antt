@@ -12,8 +12,8 @@ use Rattle.model_history.specs.Scripts.{ScriptModel}
 use Rattle.model_history.proofs.Course.{course}
 use Rattle.model_history.proofs.DueFacts.{at_activate}
 use Rattle.model_history.proofs.RangeBounds.{sent_few}
-use Rattle.recording_reader.specs.Pieces.{Piece, HasImage, IsPiece, ArePieces, entry_of, entries, is_end, shown_after}
-use Rattle.recording_reader.specs.Views.{ViewTable, view_at, views_of}
+use Rattle.recording_text.specs.Pieces.{Piece, HasImage, IsPiece, ArePieces, entry_of, entries, is_end, shown_after}
+use Rattle.recording_text.specs.Views.{ViewTable, view_at, views_of}
 use Rattle.recording_check.specs.declared.verdict.Verdict.{Verdict}
 use Rattle.recording_check.specs.declared.verdict.Verdict.TheVariants.{Good, No}
 use Rattle.recording_check.specs.Openings.{OpensWith}

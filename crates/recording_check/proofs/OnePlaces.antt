@@ -5,11 +5,11 @@ use Rattle.std.specs.List.{flat_map}
 use Rattle.model_history.specs.declared.history.Entry.{Entry}
 use Rattle.model_history.specs.Scripts.{ScriptModel}
 use Rattle.script_json.specs.Recordings.{script_text}
-use Rattle.recording_reader.specs.BadParts.{BreaksAt}
-use Rattle.recording_reader.specs.Pieces.{Piece, piece_text, entry_of, entries}
-use Rattle.recording_reader.specs.Views.{ViewTable, views_of}
-use Rattle.recording_reader.specs.inner.Parts.{body}
-use Rattle.recording_reader.proofs.BadRuns.{breaks_again}
+use Rattle.recording_text.specs.BadParts.{BreaksAt}
+use Rattle.recording_text.specs.Pieces.{Piece, piece_text, entry_of, entries}
+use Rattle.recording_text.specs.Views.{ViewTable, views_of}
+use Rattle.recording_text.specs.inner.Parts.{body}
+use Rattle.recording_text.proofs.BadRuns.{breaks_again}
 use Rattle.recording_check.specs.Openings.{OpensWith, IsBadOpening, opening_length}
 use Rattle.recording_check.specs.Recordings.{IsBadAt}
 use Rattle.recording_check.specs.Verdicts.{IsRight, AreRightPieces, IsWrongAt, IsFirstWrongEvent}

@@ -5,15 +5,15 @@ use Rattle.model_history.specs.Scripts.{ScriptModel}
 use Rattle.script_json.specs.Causes.{IsScriptText}
 use Rattle.script_json.specs.Recordings.{script_text}
 use Rattle.script_json.proofs.ScriptLaws.{one_script}
-use Rattle.recording_reader.specs.BadParts.{BreaksAt}
+use Rattle.recording_text.specs.BadParts.{BreaksAt}
 use Rattle.recording_check.specs.Openings.{IsOneLine, OpensWith, is_newline}
 use Rattle.recording_check.specs.Recordings.{IsRecording, IsBadAt}
-use Rattle.recording_reader.specs.Pieces.{Piece, piece_text, ArePieces}
-use Rattle.recording_reader.specs.Views.{views_of}
+use Rattle.recording_text.specs.Pieces.{Piece, piece_text, ArePieces}
+use Rattle.recording_text.specs.Views.{views_of}
 use Rattle.recording_check.proofs.OneLines.{script_is_one_line}
 use Rattle.recording_check.proofs.OpeningFacts.{lines_behind, header_parts}
-use Rattle.recording_reader.proofs.BadRuns.{not_broken}
-use Rattle.recording_reader.proofs.OnePieces.{one_pieces}
+use Rattle.recording_text.proofs.BadRuns.{not_broken}
+use Rattle.recording_text.proofs.OnePieces.{one_pieces}
 
 -- one line ends at the first newline
 one_line : (a b xs ys : List ℕ) → IsOneLine a → IsOneLine b → a ++ (10 ∷ xs) ≡ b ++ (10 ∷ ys) → (a ≡ b) × (xs ≡ ys)

@@ -18,11 +18,11 @@ use Rattle.script_json.specs.Recordings.{script_text, recording}
 use Rattle.recording_check.specs.Openings.{IsScriptLine}
 use Rattle.recording_check.specs.Painted.{ArePainted, IsNamed, IsOver}
 use Rattle.recording_check.specs.Recordings.{IsRecording}
-use Rattle.recording_reader.specs.Pieces.{Piece, piece_text, IsImage, HasImage, ArePieces, entries, entry_of, shown_after, is_end}
-use Rattle.recording_reader.specs.Views.{views_of, view_at}
+use Rattle.recording_text.specs.Pieces.{Piece, piece_text, IsImage, HasImage, ArePieces, entries, entry_of, shown_after, is_end}
+use Rattle.recording_text.specs.Views.{views_of, view_at}
 use Rattle.recording_check.proofs.OneReading.{one_reading}
 use Rattle.recording_check.proofs.ScriptLines.{accepted_line}
-use Rattle.recording_reader.proofs.PageViews.{IsFrame, active_view}
+use Rattle.recording_text.proofs.PageViews.{IsFrame, active_view}
 
 -- painted pieces add what the events of their entries add
 painted_text : (s : ScriptModel) (h : List Entry) (ps : List Piece) → ArePainted s h ps → flat_map piece_text ps ≡ pieces s h (entries ps)

@@ -20,8 +20,8 @@ use Rattle.model_history.specs.Scripts.{ScriptModel}
 use Rattle.impl_log.specs.Runs.{Run, past}
 use Rattle.recording_judge.specs.declared.screen_state.ScreenState.{ScreenState}
 use Rattle.recording_judge.specs.Judging.{IsShown}
-use Rattle.recording_pixels.specs.inner.Behind.{pixel_of}
-use Rattle.recording_reader.specs.Pieces.{entry_of}
+use Rattle.recording_check.specs.inner.Behind.{pixel_of}
+use Rattle.recording_text.specs.Pieces.{entry_of}
 use Rattle.recording_check.specs.inner.Rightness.{missing_in, TellsDrawn, CanHave, TellsImage, Judged}
 
 -- a draw comes only where a page is active

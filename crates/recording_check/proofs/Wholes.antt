@@ -4,13 +4,13 @@ use Rattle.std.specs.Prelude.{Result, Ok, Err}
 use Rattle.model_history.specs.Recordings.{header}
 use Rattle.model_history.specs.Scripts.{ScriptModel}
 use Rattle.script_json.specs.Recordings.{script_text}
-use Rattle.recording_reader.specs.declared.body.Body.{Body}
-use Rattle.recording_reader.specs.declared.cursor.ImageSpan.{ImageSpan}
-use Rattle.recording_reader.specs.BadParts.{StopsAt}
-use Rattle.recording_reader.specs.Bodies.{ArePiecesFrom, ReadsBody, FindsImages}
-use Rattle.recording_reader.specs.Pieces.{Piece, image_spans}
-use Rattle.recording_reader.specs.Places.{image_place_of}
-use Rattle.recording_reader.specs.Views.{ViewTable, views_of}
+use Rattle.recording_text.specs.declared.body.Body.{Body}
+use Rattle.recording_text.specs.declared.cursor.ImageSpan.{ImageSpan}
+use Rattle.recording_text.specs.BadParts.{StopsAt}
+use Rattle.recording_text.specs.Bodies.{ArePiecesFrom, ReadsBody, FindsImages}
+use Rattle.recording_text.specs.Pieces.{Piece, image_spans}
+use Rattle.recording_text.specs.Places.{image_place_of}
+use Rattle.recording_text.specs.Views.{ViewTable, views_of}
 use Rattle.recording_check.specs.declared.recording.Recording.{Recording}
 use Rattle.recording_check.specs.Answers.{ReadsRecording, ReadsImages}
 use Rattle.recording_check.specs.Openings.{OpensWith, IsBadOpening, opening_length}

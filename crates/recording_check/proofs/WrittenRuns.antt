@@ -14,7 +14,7 @@ use Rattle.model_history.proofs.Course.{course}
 use Rattle.model_history.proofs.DueFacts.{entry, at_activate}
 use Rattle.model_history.proofs.RangeBounds.{sent_few}
 use Rattle.script_json.specs.Recordings.{recording}
-use Rattle.recording_reader.specs.Pieces.{entry_of, is_end}
+use Rattle.recording_text.specs.Pieces.{entry_of, is_end}
 use Rattle.recording_check.specs.Painted.{IsNamed, IsRecorded, IsOver}
 use Rattle.recording_check.specs.Verdicts.{IsLegalRecording}
 use Rattle.recording_check.proofs.JudgedPieces.{past_on}

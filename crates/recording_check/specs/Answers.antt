@@ -1,15 +1,15 @@
 -- What reading a recording answers.
 use Rattle.std.specs.Prelude.{◌≡◌, ℕ, List, length, map, flat_map, Result, Ok, Err, ⊤}
 use Rattle.model_history.specs.Scripts.{ScriptModel}
-use Rattle.recording_reader.specs.declared.cursor.ImageSpan.{ImageSpan}
+use Rattle.recording_text.specs.declared.cursor.ImageSpan.{ImageSpan}
 use Rattle.recording_check.specs.declared.fault.RecordingFault.{RecordingFault}
 use Rattle.recording_check.specs.declared.fault.RecordingFault.TheVariants as fault
 use Rattle.recording_check.specs.declared.recording.Recording.{Recording}
 use Rattle.recording_check.specs.Openings.{opening_length}
-use Rattle.recording_reader.specs.Places.{image_place_of}
+use Rattle.recording_text.specs.Places.{image_place_of}
 use Rattle.recording_check.specs.Recordings.{IsRecording, IsBadAt}
-use Rattle.recording_reader.specs.Pieces.{Piece, entries, image_spans, images_text}
-use Rattle.recording_reader.specs.Spans.{span_bytes, AreWithin}
+use Rattle.recording_text.specs.Pieces.{Piece, entries, image_spans, images_text}
+use Rattle.recording_text.specs.Spans.{span_bytes, AreWithin}
 
 -- the bytes are the recording of the script with these events, whose images stand at these places; or the first bad part begins here; or memory ran out
 abbrev pub ReadsRecording : List ℕ → Result Recording RecordingFault → Type 0

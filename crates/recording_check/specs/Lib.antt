@@ -1,6 +1,6 @@
-pub mod Openings
-pub mod Recordings
 pub mod Answers
+pub mod Openings
 pub mod Painted
+pub mod Recordings
 pub mod Verdicts
 pub mod inner

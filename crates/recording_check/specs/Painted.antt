@@ -6,7 +6,7 @@ use Rattle.model_history.specs.declared.history.Entry.{Entry}
 use Rattle.model_history.specs.Recordings.{image_behind}
 use Rattle.model_history.specs.Scripts.{ScriptModel}
 use Rattle.recording_text.specs.Fits.{FitsEvent}
-use Rattle.recording_reader.specs.Pieces.{Piece, entry_of, is_end}
+use Rattle.recording_text.specs.Pieces.{Piece, entry_of, is_end}
 
 -- each image is what its draw shows after the events before it
 abbrev pub ArePainted : ScriptModel → List Entry → List Piece → Type 0

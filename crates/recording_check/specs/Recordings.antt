@@ -1,9 +1,9 @@
 -- Which bytes are a recording, and where the first part begins that is not of its form.
 use Rattle.std.specs.Prelude.{◌≡◌, ℕ, ◌+◌, ◌⊎◌, List, flat_map, None}
 use Rattle.model_history.specs.Scripts.{ScriptModel}
-use Rattle.recording_reader.specs.BadParts.{BreaksAt}
-use Rattle.recording_reader.specs.Pieces.{Piece, piece_text, ArePieces}
-use Rattle.recording_reader.specs.Views.{views_of}
+use Rattle.recording_text.specs.BadParts.{BreaksAt}
+use Rattle.recording_text.specs.Pieces.{Piece, piece_text, ArePieces}
+use Rattle.recording_text.specs.Views.{views_of}
 use Rattle.recording_check.specs.Openings.{OpensWith, IsBadOpening, opening_length}
 
 -- the bytes are the recording of this script and these events, with some image of the right size after each draw

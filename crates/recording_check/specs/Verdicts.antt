@@ -5,7 +5,7 @@ use Rattle.model_history.specs.Legal.{Next, IsLegal}
 use Rattle.model_history.specs.Recordings.{image_behind}
 use Rattle.model_history.specs.Scripts.{ScriptModel}
 use Rattle.script_json.specs.Recordings.{script_text, recording}
-use Rattle.recording_reader.specs.Pieces.{Piece, entry_of, entries}
+use Rattle.recording_text.specs.Pieces.{Piece, entry_of, entries}
 use Rattle.recording_check.specs.declared.fault.RecordingFault.{RecordingFault}
 use Rattle.recording_check.specs.declared.fault.RecordingFault.TheVariants as fault
 use Rattle.recording_check.specs.declared.verdict.Verdict.{Verdict}

@@ -1,2 +1,4 @@
-pub mod Rightness
+pub mod Behind
 pub mod Judgements
+pub mod Rightness
+pub mod Sheets

@@ -1,8 +1,8 @@
 //! Judging a recording without the core and what draws that made it.
 
 ghost use Rattle.std.specs.Prelude.{◌≡◌, ◌<◌, ◌≤◌, ◌^◌, [], length, IfOk};
-ghost use Rattle.recording_reader.specs.Pieces as pieces;
-ghost use Rattle.recording_reader.specs.Views.{views_of};
+ghost use Rattle.recording_text.specs.Pieces as pieces;
+ghost use Rattle.recording_text.specs.Views.{views_of};
 ghost use Rattle.recording_check.specs.Verdicts.{Judges};
 ghost use Rattle.recording_check.specs.inner.Judgements.{JudgesNext, JudgesParts, verdict_where};
 ghost use Rattle.recording_check.specs.inner.Rightness.{IsPieceIn};
@@ -13,8 +13,7 @@ use crate::right::enter_step;
 use crate::verdict::Verdict;
 use model_history::{Event, Script};
 use recording_judge::Judge;
-use recording_reader::{Cursor, EventSpan, ImageViews, take_piece};
-use recording_text::Scratch;
+use recording_text::{Cursor, EventSpan, ImageViews, Scratch, take_piece};
 use std::alloc::{AllocError, Global};
 use std::sync::Arc;
 

@@ -12,7 +12,7 @@ ghost use Rattle.recording_check.specs.Painted.{ArePainted, IsOver};
 ghost use Rattle.recording_check.specs.Recordings.{IsRecording, IsBadAt};
 ghost use Rattle.recording_check.specs.Verdicts.{IsFirstWrongEvent, IsLegalRecording};
 ghost use Rattle.recording_text.specs.Fits.{FitsEvent};
-ghost use Rattle.recording_reader.specs.Pieces.{Piece, entries};
+ghost use Rattle.recording_text.specs.Pieces.{Piece, entries};
 
 /// A recording is read in one way: bytes are that of one script, and of one list of events and images, at
 /// most.

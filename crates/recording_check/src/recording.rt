@@ -6,7 +6,7 @@ ghost use Rattle.recording_check.specs.Answers.{ReadsRecording, ReadsImages};
 use crate::fault::RecordingFault;
 use crate::opening::read_opening;
 use model_history::{History, Script};
-use recording_reader::{ImagePlace, ImageSpan, ImageViews, find_images, read_body};
+use recording_text::{ImagePlace, ImageSpan, ImageViews, find_images, read_body};
 use std::alloc::Global;
 
 /// What stands in a recording.

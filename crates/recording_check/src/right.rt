@@ -2,15 +2,15 @@
 
 ghost use Rattle.std.specs.Prelude.{◌≡◌, ℕ, List, IfOk, option_copied};
 ghost use Rattle.impl_log.specs.Runs.{past};
-ghost use Rattle.recording_reader.specs.Pieces as pieces;
-ghost use Rattle.recording_reader.specs.Taking.{IsImageAt};
+ghost use Rattle.recording_text.specs.Pieces as pieces;
+ghost use Rattle.recording_text.specs.Taking.{IsImageAt};
 ghost use Rattle.recording_check.specs.inner.Rightness.{Arrives, CanHave, IsPieceIn, Judged, TellsDrawn, TellsImage, missing_in};
 
+use crate::is_painted;
 use geom::TileKey;
 use model_history::{Entry, Event};
 use recording_judge::Judge;
-use recording_pixels::is_painted;
-use recording_reader::{EventSpan, ImageSpan, entry_of};
+use recording_text::{EventSpan, ImageSpan, entry_of};
 use std::alloc::{AllocError, Global};
 
 // The keys that a draw lists as missing; None where the event is no draw.

@@ -9,7 +9,7 @@ use Rattle.geom.specs.KeyLists.{same_key, has_key, AreDistinctKeys}
 use Rattle.geom.proofs.KeyOrders.{key_total}
 use Rattle.geom.proofs.KeyLists.{one_key, key_itself, has_key_ties}
 use Rattle.tile_priority.specs.Ordered.{IsInOrder}
-use Rattle.tile_store.specs.Stores.{is_in_flight}
+use Rattle.impl_tiles.specs.Stores.{is_in_flight}
 use Rattle.model_history.specs.declared.history.Entry.{Entry}
 use Rattle.model_history.specs.Scripts.{ScriptModel}
 use Rattle.model_history.specs.Legal.{Legal}

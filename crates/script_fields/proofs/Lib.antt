@@ -1,7 +1,10 @@
+mod Eights
+mod Turns
 pub mod Again
+pub mod Back
 pub mod Counts
 pub mod Fits
 pub mod Orders
-pub mod Back
+pub mod Progress
 pub mod Quoted
-mod Eights
+pub mod Signs

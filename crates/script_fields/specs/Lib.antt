@@ -1,7 +1,9 @@
-pub mod Faults
-pub mod Hex
-pub mod Forms
-pub mod Fields
-pub mod Values
 pub mod Canonical
+pub mod Faults
+pub mod Fields
+pub mod Forms
+pub mod Hex
+pub mod Progress
+pub mod Tokens
+pub mod Values
 pub mod inner

@@ -1,12 +1,12 @@
 //! Why the reading of a script one value at a time stopped.
 
 ghost use Rattle.std.specs.Prelude.{◌≡◌, ◌≢◌};
-ghost use Rattle.script_values.specs.declared.unread.Unread.TheVariants as unread;
+ghost use Rattle.script_fields.specs.declared.unread.Unread.TheVariants as unread;
 ghost use Rattle.script_json.specs.declared.halt.Halt.TheVariants as halt;
 
 use crate::fault::Stop;
 use json::Invalid;
-use script_values::Unread;
+use script_fields::Unread;
 use std::alloc::{AllocError, AllocFailed};
 
 /// Why the reading of a script one value at a time stopped.

@@ -5,8 +5,8 @@ use crate::fault::ProgramRowFault;
 use crate::names::Names;
 use crate::numbers::{Numbers, number};
 use crate::output::Output;
+use crate::{Gathering, SinkWait};
 use std::alloc::{AllocError, Global};
-use test_doubles::{Gathering, SinkWait};
 
 /// What goes wrong around the runs of a case. There is one run for each number.
 #[derive(Clone, Copy)]

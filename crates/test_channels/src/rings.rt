@@ -1,6 +1,6 @@
 //! Rings from end to end, over sinks in memory.
 ghost use Rattle.std.specs.Prelude.{◌<◌};
-ghost use Rattle.thread_ring.specs.Ring.{SameSink};
+ghost use Rattle.thread_pieces.specs.Ring.{SameSink};
 
 use crate::cases::Cases;
 use byte_io::{MemSink, Sink};
@@ -8,8 +8,9 @@ use std::alloc::{AllocError, Global};
 use std::sync::Wait;
 use std::thread::{Threads, join_mut};
 use test_table::LineFault;
-use thread_pieces::{Painters, ScenePainter, SceneSink};
-use thread_ring::{Presented, RingSink, finish, present_from, ring};
+use thread_pieces::{
+    Painters, Presented, RingSink, ScenePainter, SceneSink, finish, present_from, ring,
+};
 use viz_scene::Scene;
 
 /// A painter that never finds memory.

@@ -9,8 +9,7 @@ use std::sync::Wait;
 use std::sync::atomic::{AtomicU64, Ordering};
 use std::thread::{Threads, join_mut, yield_now};
 use test_table::LineFault;
-use thread_pieces::{Painters, SceneSink};
-use thread_ring::{Presented, RingSink, ring_within};
+use thread_pieces::{Painters, Presented, RingSink, SceneSink, ring_within};
 
 /// How often a wait looks before it is given up, and after how many looks it lets another thread run.
 const PATIENCE: u64 = 200_000_000;

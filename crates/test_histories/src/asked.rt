@@ -3,7 +3,7 @@
 use crate::fault::HistoryLineFault;
 use geom::TileKey;
 use impl_core::Core;
-use model_scroll_values::Synced;
+use model_states::Synced;
 use proxy_single_thread::SingleThread;
 use std::alloc::{AllocError, Global};
 

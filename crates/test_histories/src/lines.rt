@@ -2,8 +2,7 @@
 
 use crate::fault::HistoryLineFault;
 use model_history::Entry;
-use recording_reader::entry_of;
-use recording_text::read_event;
+use recording_text::{entry_of, read_event};
 use std::alloc::{AllocError, Global};
 
 /// Adds the entry of a line, by the actor whose event it is.

@@ -6,8 +6,9 @@ use player_run::{run, run_alone};
 use std::alloc::{AllocError, Global};
 use std::sync::Wait;
 use std::thread::Threads;
-use test_cases::{Call, Case, ProgramRowFault, RunOutput};
-use test_doubles::{Gathering, Meeting, MeetingGate, WaitingSink};
+use test_cases::{
+    Call, Case, Gathering, Meeting, MeetingGate, ProgramRowFault, RunOutput, WaitingSink,
+};
 
 /// Where a run reads and writes, all in memory, and where its workers pass.
 #[derive(Drop)]

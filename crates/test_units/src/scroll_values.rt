@@ -1,7 +1,7 @@
 //! Scroll values worked by hand, as active base and delta, pending base, and what of the delta the main frame in
 //! flight and the pending base contain.
 
-use model_scroll_values::Synced;
+use model_states::Synced;
 use test_table::Checks;
 
 /// An abort, and an activation, with a commit pending.

@@ -4,12 +4,12 @@ ghost use Rattle.std.specs.Prelude.{◌≡◌, true, false, IfOk};
 ghost use Rattle.geom.specs.declared.tile.TileKey.{TileKey};
 
 use geom::{Keys, Rect, TileKey};
+use impl_tiles::TileStore;
 use page_display_list::DisplayList;
 use std::alloc::{AllocError, Global};
 use std::sync::Arc;
 use test_table::{Checks, LineFault};
 use tile_raster::{Job, TileImage};
-use tile_store::TileStore;
 
 /// One tile is started, and done.
 pub fn one_tile_is_started_and_done(alloc: Global, checks: &mut Checks) -> Result<(), LineFault> {

@@ -1,3 +1,5 @@
+pub mod Dealing
 pub mod Gains
 pub mod Parts
-pub mod Dealing
+pub mod Popped
+pub mod RingGains

@@ -1,3 +1,5 @@
+pub mod Answers
+pub mod Ring
 pub mod Scenes
 pub mod Shots
 pub mod Writing

@@ -1,6 +1,8 @@
 pub mod AreaSteps
-pub mod QuadSteps
 pub mod ListSteps
-pub mod PassSteps
-pub mod SceneSteps
 pub mod MovedSteps
+pub mod Moving
+pub mod PassSteps
+pub mod QuadSteps
+pub mod SceneSteps
+pub mod Scenes

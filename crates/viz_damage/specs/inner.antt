@@ -1,3 +1,4 @@
-pub mod Areas
+pub mod Acting
 pub mod Alike
+pub mod Areas
 pub mod Moved

@@ -13,8 +13,8 @@ use Rattle.viz_canvas.specs.Buffers.{pixel_at, HasRows, EachPixelIs, AreGapsKept
 use Rattle.viz_canvas.specs.CopiedRows.{row_before}
 use Rattle.viz_canvas.proofs.MovedRows.{row_in}
 use Rattle.viz_damage.specs.Damage.{AreAlikeOutside, screen}
-use Rattle.viz_scroll_damage.specs.declared.shift.Shift.{Shift}
-use Rattle.viz_scroll_damage.specs.Moved.{IsShift, AreAlikeMoved, fall}
+use Rattle.viz_damage.specs.declared.shift.Shift.{Shift}
+use Rattle.viz_damage.specs.Moved.{IsShift, AreAlikeMoved, fall}
 use Rattle.viz_occlusion.specs.Culled.{IsCulled}
 use Rattle.viz_painter.specs.Painters.{HoldsCulled}
 use Rattle.viz_painter.specs.Redrawers.{ShowsSceneOutside, IsSceneKeptOutside}

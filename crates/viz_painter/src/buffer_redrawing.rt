@@ -2,7 +2,7 @@
 
 ghost use Rattle.std.specs.Prelude.{◌≡◌, IfSome, IfOk};
 ghost use Rattle.viz_canvas.specs.Buffers.{HasRows, EachPixelIs, AreGapsKept, ShowsScene, pixel_at};
-ghost use Rattle.viz_scroll_damage.specs.Moved.{IsShift};
+ghost use Rattle.viz_damage.specs.Moved.{IsShift};
 ghost use Rattle.viz_occlusion.specs.Culled.{IsCulled};
 ghost use Rattle.viz_painter.specs.Redrawers.{ShowsHeld, ShowsSceneOutside};
 ghost use Rattle.viz_painter.specs.inner.Helds.{culled_of};

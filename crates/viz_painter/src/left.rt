@@ -4,16 +4,15 @@ ghost use Rattle.std.specs.Prelude.{◌≡◌, ℤ, false, IfOk};
 ghost use Rattle.geom.specs.Covers.{covers};
 ghost use Rattle.region.specs.Points.{covered};
 ghost use Rattle.viz_damage.specs.Damage.{AreAlikeOutside, screen};
-ghost use Rattle.viz_scroll_damage.specs.Moved.{IsShift};
+ghost use Rattle.viz_damage.specs.Moved.{IsShift};
 ghost use Rattle.viz_painter.specs.inner.Rests.{IsLeft, CoversScreen, rest_in};
 
 use crate::worth::{may_pay, pays};
 use geom::Rect;
 use region::Region;
 use std::alloc::{AllocError, Global};
-use viz_damage::damage_of;
+use viz_damage::{Shift, damage_of, damage_of_shift, shift_of};
 use viz_scene::Scene;
-use viz_scroll_damage::{Shift, damage_of_shift, shift_of};
 
 /// What is left to draw of a scene.
 #[derive(Drop)]

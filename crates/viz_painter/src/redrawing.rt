@@ -2,7 +2,7 @@
 
 ghost use Rattle.std.specs.Prelude.{◌≡◌, IfSome, IfOk, OnOk, IsTrue};
 ghost use Rattle.viz_canvas.specs.Canvases.{IsOfSize, EachIs, canvas_pixel};
-ghost use Rattle.viz_scroll_damage.specs.Moved.{IsShift};
+ghost use Rattle.viz_damage.specs.Moved.{IsShift};
 ghost use Rattle.viz_occlusion.specs.Culled.{IsCulled};
 ghost use Rattle.viz_painter.specs.Painters.{ShowsWhole, ShowsOutside};
 ghost use Rattle.viz_painter.specs.inner.Helds.{culled_of};

@@ -1,7 +1,7 @@
 //! Whether moving rows of a canvas is worth it.
 
 use region::Region;
-use viz_scroll_damage::Shift;
+use viz_damage::Shift;
 
 /// Whether moving the rows of a shift may be worth it: moving a pixel costs half of what drawing one does.
 pub(crate) fn may_pay(shift: Shift, width: u32, damage: &Region) -> bool {

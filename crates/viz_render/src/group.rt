@@ -17,7 +17,7 @@ use crate::size::{height_of, width_of};
 use crate::surface::Surface;
 use geom::Rect;
 use page_display_list::{CoveredArea, shared_part};
-use viz_surface::faded_over;
+use pixel::faded_over;
 
 /// Lays the colours of a pass, faded to an opacity, over the pixels of an area.
 pub(crate) fn draw_group(

@@ -17,10 +17,9 @@ use crate::surface::Surface;
 use crate::tile::{equal_rows_at, row_number, taken_part};
 use geom::{Point, Rect};
 use page_display_list::{CoveredArea, shared_part};
-use pixel::{Area, Colour};
+use pixel::{Area, Colour, are_sixteen_opaque};
 use tile_raster::TileImage;
 use viz_scene::Quad;
-use viz_surface::are_sixteen_opaque;
 
 /// Marks what the opaque ones of some quads hide of an area, on blocks without a number.
 pub(crate) fn mark_quads(tops: &mut [usize], area: Rect, quads: &[Quad], passes: &[Surface])

@@ -7,8 +7,7 @@ ghost use Rattle.viz_render.specs.inner.Paints.{painted, CanPaint};
 
 use crate::group::fade_part;
 use page_display_list::CoveredArea;
-use pixel::{Colour, colour_over_area, fill_area};
-use viz_surface::rows_over_area;
+use pixel::{Colour, colour_over_area, fill_area, rows_over_area};
 
 /// What the pixels of a part of an area are given.
 #[derive(Drop)]

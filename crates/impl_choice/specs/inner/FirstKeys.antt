@@ -3,7 +3,7 @@ use Rattle.std.specs.Prelude.{◌≡◌, Bool, true, false, not, List, ◌++◌,
 use Rattle.geom.specs.declared.tile.TileKey.{TileKey}
 use Rattle.geom.specs.KeyLists.{has_key, AreDistinctKeys}
 use Rattle.tile_priority.specs.declared.rank.Side.TheVariants as side
-use Rattle.tile_store.specs.Stores.{Store, is_ready}
+use Rattle.impl_tiles.specs.Stores.{Store, is_ready}
 use Rattle.model_history.specs.Scripts.{ScriptModel}
 use Rattle.model_history.specs.Tiles.{Tree}
 use Rattle.model_history.specs.Ranking.{rank_in}

@@ -4,7 +4,7 @@ use Rattle.std.specs.List.Sorted.{IsSorted}
 use Rattle.geom.specs.declared.tile.TileKey.{TileKey}
 use Rattle.geom.specs.KeyLists.{has_key, AreDistinctKeys}
 use Rattle.geom.specs.KeyOrder.{key_cmp}
-use Rattle.tile_store.specs.Stores.{Store, is_in_flight}
+use Rattle.impl_tiles.specs.Stores.{Store, is_in_flight}
 use Rattle.model_history.specs.declared.history.Entry.{Entry}
 use Rattle.model_history.specs.Scripts.{ScriptModel}
 use Rattle.model_history.specs.Legal.{Legal}

@@ -7,7 +7,7 @@ use Rattle.tile_priority.specs.declared.rank.Rank.{Rank}
 use Rattle.tile_priority.specs.Choice.{Choice}
 use Rattle.model_states.specs.declared.states.MainState.{MainState}
 use Rattle.model_states.specs.Kinds.{is_sent, is_ready_to_commit}
-use Rattle.model_scroll_values.specs.declared.Synced.{Synced}
+use Rattle.model_states.specs.declared.Synced.{Synced}
 use Rattle.page_layers.specs.declared.moves.Move.{Move}
 use Rattle.page_layers.specs.Axes.{Axis}
 use Rattle.page_layers.specs.Pages.{Page}
@@ -28,7 +28,7 @@ use Rattle.model_history.specs.Tiles.{in_flight, ready, pinned, required, missin
 use Rattle.model_history.specs.Ranking.{choice}
 use Rattle.model_history.specs.Values.{values}
 use Rattle.impl_tiles.specs.Managers.{Managed, HoldsTiles, live_ranks}
-use Rattle.impl_drawing.specs.declared.drawing.Drawing.{Drawing}
+use Rattle.impl_core.specs.declared.drawing.Drawing.{Drawing}
 use Rattle.impl_host.specs.Hosts.{ImplHostModel, HostsAt}
 use Rattle.impl_core.specs.declared.drawn.Drawn.{Drawn}
 use Rattle.impl_core.specs.declared.needs.Needs.{Needs}

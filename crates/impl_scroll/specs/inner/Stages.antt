@@ -1,8 +1,8 @@
 -- Where the scrollers of a tree stand, and the moves that are listed of rows.
 use Rattle.std.specs.Prelude.{ℕ, ℤ, pos, cond, List, [], ◌∷◌}
 use Rattle.geom.specs.declared.rect.Point.{Point}
-use Rattle.model_scroll_values.specs.declared.Synced.{Synced}
-use Rattle.model_scroll_values.specs.Table.{pull_answer, active_value}
+use Rattle.model_states.specs.declared.Synced.{Synced}
+use Rattle.model_states.specs.Table.{pull_answer, active_value}
 use Rattle.page_layers.specs.Pages.{Page}
 use Rattle.page_layers.specs.declared.moves.Move.{Move}
 use Rattle.page_layers.specs.Axes.{Axis, across, down, is_still}

@@ -1,8 +1,8 @@
 -- What a step does to the rows, and rows that are added.
 use Rattle.std.specs.Prelude.{◌≡◌, ℕ, ◌<◌, ◌==◌, nat_lt, pos, true, cond, List, [], ◌∷◌, map}
-use Rattle.model_scroll_values.specs.declared.Synced.{Synced}
-use Rattle.model_scroll_values.specs.Table as table
-use Rattle.model_scroll_values.specs.Bounds.{IsBoundedNumber, IsBounded}
+use Rattle.model_states.specs.declared.Synced.{Synced}
+use Rattle.model_states.specs.Table as table
+use Rattle.model_states.specs.Bounds.{IsBoundedNumber, IsBounded}
 use Rattle.page_layers.specs.Axes.{Axis, across, down, amount_in}
 use Rattle.page_layers.specs.Scrollers.{main_value}
 use Rattle.impl_scroll.specs.declared.row.Row.{Row}

@@ -2,7 +2,7 @@
 use Rattle.std.specs.Prelude.{◌≡◌, ◌⊎◌, ℕ, ◌-ℤ◌, Bool, not, ◌||◌, List, Result, Ok, Err, ⊤}
 use Rattle.std.specs.Ordering.{int_eq}
 use Rattle.region.specs.Lists.{Changed}
-use Rattle.model_scroll_values.specs.Bounds.{IsBoundedNumber}
+use Rattle.model_states.specs.Bounds.{IsBoundedNumber}
 use Rattle.page_layers.specs.declared.command.Command.{Command}
 use Rattle.page_layers.specs.declared.fault.EditError.{EditError}
 use Rattle.page_layers.specs.declared.fault.EditError.TheVariants as error

@@ -3,10 +3,10 @@ use Rattle.std.specs.Prelude.{◌≡◌, ℕ, Bool, true, false, ◌&&◌, cond,
 use Rattle.std.specs.Io.KnownBytes.{Appends}
 use Rattle.atomic_table.specs.Seated.{TableId}
 use Rattle.byte_io.specs.Pieces.{GainsPrefix}
-use Rattle.thread_ring.specs.Ring.{OneRing, bytes_taken, whole}
-use Rattle.thread_ring.specs.Answers.{Gained}
-use Rattle.thread_ring.specs.declared.ends.Presented.{Presented}
-use Rattle.thread_ring.specs.declared.ends.Presented.TheVariants as presented
+use Rattle.thread_pieces.specs.Ring.{OneRing, bytes_taken, whole}
+use Rattle.thread_pieces.specs.Answers.{Gained}
+use Rattle.thread_pieces.specs.declared.ends.Presented.{Presented}
+use Rattle.thread_pieces.specs.declared.ends.Presented.TheVariants as presented
 use Rattle.model_history.specs.Legal.{Legal}
 use Rattle.impl_log.specs.Runs.{Run, past}
 use Rattle.impl_core.specs.Origins.{Origin, origin_of}

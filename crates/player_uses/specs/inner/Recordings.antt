@@ -3,8 +3,8 @@ use Rattle.std.specs.Prelude.{◌≡◌, ℕ, ◌≤◌, List, length, flat_map,
 use Rattle.std.specs.Io.KnownBytes.{Appends, IsAtEnd}
 use Rattle.byte_io.specs.Pieces.{GainsPrefix}
 use Rattle.model_history.specs.Scripts.{ScriptModel}
-use Rattle.recording_reader.specs.Pieces.{Piece, images_text}
-use Rattle.recording_reader.specs.Spans.{span_bytes, AreWithin}
+use Rattle.recording_text.specs.Pieces.{Piece, images_text}
+use Rattle.recording_text.specs.Spans.{span_bytes, AreWithin}
 use Rattle.recording_check.specs.Recordings.{IsRecording}
 use Rattle.player_uses.specs.declared.images.Images.{Images}
 use Rattle.player_uses.specs.declared.outcome.Outcome.{Outcome}

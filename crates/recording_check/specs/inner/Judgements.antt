@@ -2,12 +2,12 @@
 use Rattle.std.specs.Prelude.{◌≡◌, ℕ, List, [], ◌∷◌, ◌++◌, length, Option, Some, None, Result, Ok, Err}
 use Rattle.model_history.specs.Scripts.{ScriptModel}
 use Rattle.impl_log.specs.Runs.{Run}
-use Rattle.recording_reader.specs.declared.cursor.EventSpan.{EventSpan}
-use Rattle.recording_reader.specs.BadParts.{StopsAt}
-use Rattle.recording_reader.specs.Bodies.{ArePiecesFrom}
-use Rattle.recording_reader.specs.Pieces.{Piece, entries}
-use Rattle.recording_reader.specs.Taking.{IsImageAt}
-use Rattle.recording_reader.specs.Views.{ViewTable}
+use Rattle.recording_text.specs.declared.cursor.EventSpan.{EventSpan}
+use Rattle.recording_text.specs.BadParts.{StopsAt}
+use Rattle.recording_text.specs.Bodies.{ArePiecesFrom}
+use Rattle.recording_text.specs.Pieces.{Piece, entries}
+use Rattle.recording_text.specs.Taking.{IsImageAt}
+use Rattle.recording_text.specs.Views.{ViewTable}
 use Rattle.recording_check.specs.declared.verdict.Verdict.{Verdict}
 use Rattle.recording_check.specs.declared.verdict.Verdict.TheVariants.{Good, No}
 use Rattle.recording_check.specs.Verdicts.{AreRightPieces, IsWrongAt}

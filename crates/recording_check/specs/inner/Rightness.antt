@@ -10,11 +10,11 @@ use Rattle.model_history.specs.Legal.{Next}
 use Rattle.model_history.specs.Recordings.{shown_image, image_behind}
 use Rattle.model_history.specs.Scripts.{ScriptModel}
 use Rattle.impl_log.specs.Runs.{Run, past, with_entry}
-use Rattle.recording_reader.specs.declared.cursor.ImageSpan.{ImageSpan}
-use Rattle.recording_reader.specs.declared.cursor.EventSpan.{EventSpan}
-use Rattle.recording_reader.specs.Pieces.{Piece, HasImage, entry_of}
-use Rattle.recording_reader.specs.Spans.{IsWithinBytes}
-use Rattle.recording_reader.specs.Taking.{IsImageAt}
+use Rattle.recording_text.specs.declared.cursor.ImageSpan.{ImageSpan}
+use Rattle.recording_text.specs.declared.cursor.EventSpan.{EventSpan}
+use Rattle.recording_text.specs.Pieces.{Piece, HasImage, entry_of}
+use Rattle.recording_text.specs.Spans.{IsWithinBytes}
+use Rattle.recording_text.specs.Taking.{IsImageAt}
 use Rattle.recording_check.specs.Verdicts.{IsRight}
 
 -- the keys that a draw lists

@@ -7,7 +7,7 @@ use Rattle.geom.specs.KeyLists.{has_key}
 use Rattle.tile_priority.specs.Choice.{Choice}
 use Rattle.tile_priority.specs.Tiles.{Tile}
 use Rattle.tile_priority.specs.Alike.{Alike, choice_after_start, finished}
-use Rattle.tile_store.specs.Stores.{Store}
+use Rattle.impl_tiles.specs.Stores.{Store}
 use Rattle.model_history.specs.declared.history.Entry.{Entry}
 use Rattle.model_history.specs.Scripts.{ScriptModel}
 use Rattle.model_history.specs.Scans.{held}

@@ -13,7 +13,7 @@ use Rattle.model_history.specs.declared.input.Input.{Input}
 use Rattle.model_history.specs.declared.input.Input.TheVariants.{Await}
 use Rattle.model_history.specs.Ranges.{are_short}
 use Rattle.model_history.specs.Scripts.{ScriptModel}
-use Rattle.script_values.specs.Tokens.{first_value}
+use Rattle.script_fields.specs.Tokens.{first_value}
 use Rattle.script_json.specs.declared.head.Head.{Head}
 use Rattle.script_json.specs.declared.read.stream.top.Found.{Found}
 use Rattle.script_json.specs.CommandReading.{frames_at}

@@ -1,7 +1,7 @@
 //! What is asked of main frames.
 
 ghost use Rattle.std.specs.Prelude.{IfOk};
-ghost use Rattle.model_scroll_values.specs.Bounds.{IsBoundedNumber};
+ghost use Rattle.model_states.specs.Bounds.{IsBoundedNumber};
 ghost use Rattle.model_history.specs.Ended.{AreBounded};
 
 use crate::calls::changes::{say_changes, say_point};

@@ -1,7 +1,7 @@
 //! Moves and pulls as the table writes them.
 
 ghost use Rattle.std.specs.Prelude.{IsTrue, IfOk};
-ghost use Rattle.model_scroll_values.specs.Bounds.{IsBoundedNumber};
+ghost use Rattle.model_states.specs.Bounds.{IsBoundedNumber};
 
 use page_layers::Move;
 use test_table::{LineFault, numbers, whole};

@@ -4,7 +4,7 @@ ghost use Rattle.geom.specs.Sides.{IsLayerSide};
 ghost use Rattle.geom.specs.Covers.{IsSound};
 
 use geom::{Rect, TileKey};
-use impl_trees::TreeState;
+use impl_host::TreeState;
 use page_layers::Layer;
 use std::alloc::{AllocError, Global};
 use test_table::{LineFault, keys_text};

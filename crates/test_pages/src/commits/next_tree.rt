@@ -1,6 +1,6 @@
 //! Trees that can be pushed.
 
-use impl_trees::TreeState;
+use impl_host::TreeState;
 use model_history::Commit;
 use page_layers::LayerTree;
 use region::Changes;

@@ -1,12 +1,12 @@
 //! The trees of one script.
 
 ghost use Rattle.std.specs.Prelude.{◌≡◌, None, IfOk, IsSome};
-ghost use Rattle.impl_trees.specs.Trees.{MayFollow};
+ghost use Rattle.impl_host.specs.Trees.{MayFollow};
 
 use crate::commits::frames;
 use crate::commits::next_tree::NextTree;
 use crate::frames::Frames;
-use impl_trees::{TreeState, Trees, may_push};
+use impl_host::{TreeState, Trees, may_push};
 use model_history::Script;
 use std::alloc::{AllocError, Global};
 use test_table::LineFault;

@@ -9,7 +9,7 @@ use Rattle.viz_scene.specs.Pixels.{scene_pixel}
 use Rattle.viz_canvas.specs.Canvases.{CanvasView, canvas_pixel}
 use Rattle.viz_canvas.specs.CopiedRows.{row_before}
 use Rattle.viz_damage.specs.Damage.{screen, AreAlikeOutside}
-use Rattle.viz_scroll_damage.specs.Moved.{IsShift}
+use Rattle.viz_damage.specs.Moved.{IsShift}
 use Rattle.viz_painter.specs.declared.left.MovedRows.{MovedRows}
 
 -- a canvas of any size has the pixels of a scene but for those of a region

@@ -2,7 +2,7 @@ use Rattle.std.proofs.Common.{Some, sym, subst}
 use Rattle.std.specs.Prelude.{option_copied}
 use Rattle.page_properties.specs.OffsetMap.{offset_at}
 use Rattle.impl_ranks.specs.SeenTrees.{PlacedModel, IsPlaced}
-use Rattle.impl_trees.specs.Trees.{TreeModel}
+use Rattle.impl_host.specs.Trees.{TreeModel}
 use Rattle.impl_host.specs.Hosts.{IsTreeAt}
 use Rattle.impl_host.specs.inner.LivePages.{tree_at}
 use Rattle.impl_host.proofs.TreesAt.{is_tiled}

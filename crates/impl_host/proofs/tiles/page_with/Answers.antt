@@ -1,7 +1,7 @@
 use Rattle.std.proofs.Common.{Some, sym, ◌∙◌, subst}
 use Rattle.std.specs.Prelude.{option_copied}
 use Rattle.impl_ranks.specs.SeenTrees.{IsPlacedWhere}
-use Rattle.impl_trees.specs.Trees.{TreeModel}
+use Rattle.impl_host.specs.Trees.{TreeModel}
 use Rattle.impl_host.specs.Hosts.{IsTreeAt}
 use Rattle.impl_host.specs.inner.LivePages.{tree_at}
 use Rattle.impl_host.proofs.TreesAt.{none_placed, none_had, page_at_frame}

@@ -2,9 +2,9 @@ use Rattle.std.proofs.Common.{ℤ, ◌-ℤ◌, sym, subst, rules}
 use Rattle.std.proofs.lemmas.Int.{to_z-of_z}
 use Rattle.std.specs.Int.RustNames.{FitsSigned}
 use mir.Syntax.{w64}
-use Rattle.model_scroll_values.specs.declared.Synced.{Synced}
-use Rattle.model_scroll_values.specs.Table.{pending_value}
-use Rattle.model_scroll_values.specs.Bounds.{IsBounded}
+use Rattle.model_states.specs.declared.Synced.{Synced}
+use Rattle.model_states.specs.Table.{pending_value}
+use Rattle.model_states.specs.Bounds.{IsBounded}
 use Rattle.model_steps.specs.Standing.{brought_to}
 use Rattle.impl_scroll.proofs.Brought.{gap_fits}
 use Rattle.impl_scroll.proofs.listing.clamp_along.Goals as goal

@@ -1,6 +1,6 @@
 -- One row more is listed.
 use Rattle.std.proofs.Common.{get_or, subst, rules}
-use Rattle.model_scroll_values.specs.Bounds.{IsBounded}
+use Rattle.model_states.specs.Bounds.{IsBounded}
 use Rattle.page_layers.specs.Axes.{across, down}
 use Rattle.impl_scroll.specs.inner.Stages.{clamp_at}
 use Rattle.impl_scroll.proofs.RowFacts.{value_at}

@@ -1,7 +1,7 @@
 -- One offset more is set.
 use Rattle.std.proofs.Common.{◌==◌, List, get_or, ap, ◌∙◌, subst, rules}
-use Rattle.model_scroll_values.specs.declared.Synced.{Synced}
-use Rattle.model_scroll_values.specs.Bounds.{IsBounded}
+use Rattle.model_states.specs.declared.Synced.{Synced}
+use Rattle.model_states.specs.Bounds.{IsBounded}
 use Rattle.page_properties.specs.OffsetMap.{offset_at}
 use Rattle.page_layers.specs.Axes.{across, down}
 use Rattle.page_layers.specs.Scrolls.{IsInRange}

@@ -1,7 +1,7 @@
 -- All keys so far have an image.
 use Rattle.std.proofs.Common.{◌≡◌, true, take}
 use Rattle.std.specs.List.{list_all}
-use Rattle.tile_store.specs.Stores.{is_ready}
+use Rattle.impl_tiles.specs.Stores.{is_ready}
 use Rattle.impl_tiles.proofs.manager.each_ready.Given as goal
 
 abbrev pub invariant-loop-key : goal.invariant-loop-key

@@ -3,7 +3,7 @@ use Rattle.std.proofs.Common.{◌≡◌, true, false, sym, ◌∙◌, subst}
 use Rattle.geom.specs.declared.tile.TileKey.{TileKey}
 use Rattle.tile_priority.specs.Ordered.{In}
 use Rattle.tile_queue.proofs.Places.{in_at}
-use Rattle.tile_store.proofs.KeyOrders.{one_by_fields}
+use Rattle.impl_tiles.proofs.StoreKeyOrders.{one_by_fields}
 use Rattle.geom.proofs.KeyOrders.{key_ties}
 use Rattle.impl_tiles.proofs.KeyOrders.{same_fields}
 use Rattle.model_history.proofs.KeyFacts.{has_in}

@@ -1,7 +1,7 @@
 -- A rank that is seen at the place is there.
 use Rattle.std.proofs.Common.{sym, ◌∙◌, ap}
 use Rattle.tile_priority.specs.declared.rank.Rank.{Rank}
-use Rattle.tile_store.proofs.KeyOrders.{one_by_fields}
+use Rattle.impl_tiles.proofs.StoreKeyOrders.{one_by_fields}
 use Rattle.impl_tiles.proofs.picks.is_at.Goals as goal
 
 pub returns-in-Some : goal.returns-in-Some

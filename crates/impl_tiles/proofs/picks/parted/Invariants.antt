@@ -1,7 +1,7 @@
 -- The ranks so far were parted.
 use Rattle.std.proofs.Common.{◌≡◌, not, ◌&&◌, filter, take}
 use Rattle.geom.specs.KeyLists.{has_key}
-use Rattle.tile_store.specs.Stores.{is_in_flight}
+use Rattle.impl_tiles.specs.Stores.{is_in_flight}
 use Rattle.impl_tiles.proofs.picks.parted.Given as goal
 
 abbrev pub invariant-loop-rank : goal.invariant-loop-rank

@@ -1,7 +1,7 @@
 -- As many as the map has.
 use Rattle.std.proofs.Common.{◌≡◌, ◌+◌, ◌∷◌, [], length, refl, ap, arith}
 use Rattle.std.specs.FinMap as fin
-use Rattle.impl_tiles.proofs.ReadyKeys.{keys_count}
+use Rattle.impl_tiles.proofs.ReadyKeyLists.{keys_count}
 use Rattle.impl_tiles.proofs.stays.ready_count.Goals as goal
 
 pub overflow_add-count : goal.overflow_add-count

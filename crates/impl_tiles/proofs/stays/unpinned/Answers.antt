@@ -4,7 +4,7 @@ use Rattle.std.specs.FinMap as fin
 use Rattle.geom.specs.declared.tile.TileKey.{TileKey}
 use Rattle.geom.specs.KeyLists.{has_key}
 use Rattle.tile_queue.proofs.Halves.{few_pass}
-use Rattle.impl_tiles.proofs.ReadyKeys.{keys_count}
+use Rattle.impl_tiles.proofs.ReadyKeyLists.{keys_count}
 use Rattle.impl_tiles.proofs.stays.unpinned.Goals as goal
 
 pub overflow_add-count : goal.overflow_add-count

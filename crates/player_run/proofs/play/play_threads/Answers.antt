@@ -1,6 +1,6 @@
 -- What the actors wrote is the recording of the script, or a prefix of one.
 use Rattle.std.proofs.Common.{◌≡◌, ◌∙◌, ap, subst, rules}
-use Rattle.thread_ring.specs.Ring.{whole}
+use Rattle.thread_pieces.specs.Ring.{whole}
 use Rattle.model_history.specs.Accepted.{IsAccepted}
 use Rattle.model_history.specs.Recordings.{header}
 use Rattle.model_history.specs.Scripts.{ScriptModel}

@@ -1,7 +1,7 @@
 -- What a use takes is done.
 use Rattle.std.proofs.Common.{map}
 use Rattle.std.specs.Prelude.{string_bytes}
-use Rattle.player_words.specs.Words.{use_of}
+use Rattle.player_uses.specs.Words.{use_of}
 use Rattle.player_run.proofs.Completeness.{complete}
 use Rattle.player_run.proofs.program.run_alone.Goals as goal
 

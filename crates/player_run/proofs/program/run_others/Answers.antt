@@ -1,7 +1,7 @@
 -- Where the words are `play N`, source and sink are as they were before.
 use Rattle.std.proofs.Common.{map}
 use Rattle.std.specs.Prelude.{string_bytes}
-use Rattle.player_words.specs.Words.{use_of}
+use Rattle.player_uses.specs.Words.{use_of}
 use Rattle.player_run.proofs.Completeness.{complete}
 use Rattle.player_run.proofs.program.run_others.Goals as goal
 

@@ -1,5 +1,5 @@
 -- How the run ended, and what was put.
-use Rattle.thread_ring.specs.Ring.{whole}
+use Rattle.thread_pieces.specs.Ring.{whole}
 use Rattle.player_run.proofs.threads.run_crew.Goals as goal
 
 pub returns-clause-ends : goal.returns-clause-ends

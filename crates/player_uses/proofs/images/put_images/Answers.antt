@@ -1,7 +1,7 @@
 -- The images before, the current image and those left are all.
 use Rattle.std.proofs.Common.{◌++◌, length, subst, arith}
 use Rattle.std.specs.List.{flat_map}
-use Rattle.recording_reader.specs.Spans.{span_bytes, AreWithin}
+use Rattle.recording_text.specs.Spans.{span_bytes, AreWithin}
 use Rattle.thread_pieces.proofs.Gains.{gains_both, gains_front}
 use Rattle.player_uses.proofs.Gains.{piece_moves}
 use Rattle.player_uses.proofs.images.put_images.Goals as goal

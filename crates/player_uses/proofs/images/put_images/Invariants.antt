@@ -2,7 +2,7 @@
 use Rattle.std.proofs.Common.{◌≡◌, ℕ, ◌≤◌, List, ◌++◌, length}
 use Rattle.std.specs.List.{flat_map}
 use Rattle.std.specs.Io.KnownBytes.{Appends}
-use Rattle.recording_reader.specs.Spans.{span_bytes, AreWithin}
+use Rattle.recording_text.specs.Spans.{span_bytes, AreWithin}
 use Rattle.player_uses.proofs.images.put_images.Given as goal
 
 abbrev pub invariant-loop-span : goal.invariant-loop-span

@@ -1,7 +1,7 @@
 -- What is said of the parts is said of the whole.
 use Rattle.std.proofs.Common.{ℕ, subst}
 use Rattle.std.specs.Prelude.{Result}
-use Rattle.recording_reader.specs.Views.{views_of}
+use Rattle.recording_text.specs.Views.{views_of}
 use Rattle.recording_check.specs.declared.verdict.Verdict.{Verdict}
 use Rattle.recording_check.specs.inner.Judgements.{JudgesParts}
 use Rattle.recording_check.proofs.LegalRecordings.{judged_whole}

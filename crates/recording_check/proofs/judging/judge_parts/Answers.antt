@@ -1,8 +1,8 @@
 -- The step is judged after the pieces before it.
 use Rattle.std.proofs.Common.{ℕ, [], ◌∷◌, ◌++◌, sym, ◌∙◌, subst, Ok, Err}
 use Rattle.std.specs.Prelude.{Result}
-use Rattle.recording_reader.specs.declared.cursor.EventSpan.{EventSpan}
-use Rattle.recording_reader.specs.Taking.{TakesPiece, TakesNext, Advances}
+use Rattle.recording_text.specs.declared.cursor.EventSpan.{EventSpan}
+use Rattle.recording_text.specs.Taking.{TakesPiece, TakesNext, Advances}
 use Rattle.recording_check.specs.declared.verdict.Verdict.{Verdict}
 use Rattle.recording_check.specs.inner.Judgements.{AreJudged, JudgesParts}
 use Rattle.recording_check.proofs.JudgedPieces.{moves_on, ends_here, stops_here, told, piece_in}

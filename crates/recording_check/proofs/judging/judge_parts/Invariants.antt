@@ -1,7 +1,7 @@
 -- The pieces so far are judged, and what is left stands after them.
 use Rattle.std.proofs.Common.{◌≡◌, ◌-◌, List, length}
-use Rattle.recording_reader.specs.Pieces.{Piece}
-use Rattle.recording_reader.specs.Taking.{IsAmong}
+use Rattle.recording_text.specs.Pieces.{Piece}
+use Rattle.recording_text.specs.Taking.{IsAmong}
 use Rattle.recording_check.specs.inner.Judgements.{AreJudged}
 use Rattle.recording_check.proofs.JudgedPieces.{StandsBehind}
 use Rattle.recording_check.proofs.judging.judge_parts.Given as goal

@@ -1,8 +1,8 @@
 -- The first bad part of the whole is that of what stands after the two lines.
 use Rattle.std.proofs.Common.{ℕ, Err, subst}
 use Rattle.std.specs.Prelude.{Result}
-use Rattle.recording_reader.specs.declared.body.Body.{Body}
-use Rattle.recording_reader.specs.Bodies.{ReadsBody}
+use Rattle.recording_text.specs.declared.body.Body.{Body}
+use Rattle.recording_text.specs.Bodies.{ReadsBody}
 use Rattle.recording_check.proofs.Wholes.{bad_read}
 use Rattle.recording_check.proofs.recording.read_recording.Goals as goal
 

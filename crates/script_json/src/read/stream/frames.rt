@@ -4,7 +4,7 @@ ghost use Rattle.std.specs.Prelude.{◌≡◌, ◌≢◌, ◌∷◌, ◌<◌, �
 ghost use Rattle.json.specs.Token.{begin_array};
 ghost use Rattle.serde_json.specs.Data.{Data, Items, array};
 ghost use Rattle.model_history.specs.Ranges.{are_short};
-ghost use Rattle.script_values.specs.Tokens.{first_value};
+ghost use Rattle.script_fields.specs.Tokens.{first_value};
 ghost use Rattle.script_json.specs.Faults.{placed};
 ghost use Rattle.script_json.specs.CommandReading.{command_at, frame_at, frames_at};
 
@@ -13,7 +13,7 @@ use crate::limits::MOST_FRAMES;
 use crate::read::commands::placed_command;
 use json::{Reader, Token};
 use page_layers::Command;
-use script_values::read_value;
+use script_fields::read_value;
 use std::alloc::Global;
 
 /// Takes the opening bracket of an array.

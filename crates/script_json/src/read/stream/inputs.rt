@@ -2,7 +2,7 @@
 
 ghost use Rattle.std.specs.Prelude.{◌≡◌, ◌<◌, ◌≤◌, length, Some, None, Ok, Err, IfOk, OnOk};
 ghost use Rattle.serde_json.specs.Data.{Data, Items, array};
-ghost use Rattle.script_values.specs.Tokens.{first_value};
+ghost use Rattle.script_fields.specs.Tokens.{first_value};
 ghost use Rattle.script_json.specs.Faults.{placed};
 ghost use Rattle.script_json.specs.InputReading.{input_at, inputs_at};
 
@@ -12,7 +12,7 @@ use crate::limits::MOST_INPUTS;
 use crate::read::inputs::{draws_after, placed_input};
 use json::Reader;
 use model_history::Input;
-use script_values::read_value;
+use script_fields::read_value;
 use std::alloc::Global;
 
 // The input that stands next, at a place of the list, after the given number of draws.

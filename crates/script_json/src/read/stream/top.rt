@@ -7,7 +7,7 @@ ghost use Rattle.serde_json.specs.Read.{read as read_text};
 ghost use Rattle.serde_json.specs.View.{members_view};
 ghost use Rattle.model_history.specs.Ranges.{are_short};
 ghost use Rattle.model_history.specs.Scripts.{script_of};
-ghost use Rattle.script_values.specs.Tokens.{first_value, first_members};
+ghost use Rattle.script_fields.specs.Tokens.{first_value, first_members};
 ghost use Rattle.script_fields.specs.Fields.{no_more_members};
 ghost use Rattle.script_json.specs.Causes.{IsScriptText};
 ghost use Rattle.script_json.specs.Reading.{head_at, parts_at};
@@ -22,8 +22,7 @@ use crate::read::parts::head_of;
 use json::{Reader, Scratch, Token};
 use model_history::{Input, ScriptParts};
 use page_layers::Command;
-use script_fields::fields;
-use script_values::read_value;
+use script_fields::{fields, read_value};
 use serde_json::{Map, Value};
 use std::alloc::Global;
 

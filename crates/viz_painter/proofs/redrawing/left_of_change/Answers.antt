@@ -1,7 +1,7 @@
 -- The canvas shows the scene outside of what is left, whether its rows were moved or not.
 use Rattle.std.proofs.Common.{ℕ, subst, sym, ◌∙◌}
 use Rattle.std.specs.Prelude.{IfSome}
-use Rattle.viz_scroll_damage.specs.Moved.{IsShift}
+use Rattle.viz_damage.specs.Moved.{IsShift}
 use Rattle.viz_painter.proofs.Redrawn.{shown_outside, moved_outside, had_outside}
 use Rattle.viz_painter.proofs.redrawing.left_of_change.Goals as goal
 

@@ -28,7 +28,7 @@ use Rattle.std.proofs.alloc.Global.TheLaws as GL
 use Rattle.std.specs.contracts.impls.GlobalAllocator.TheImpl as GI
 use Rattle.cc_c.specs.contracts.held.Held as B
 use Rattle.cc_c.specs.contracts.handle.Handle as Ha
-use Rattle.cc_handle.proofs.Values.{both, loose_good, loose_in}
+use Rattle.cc_c.proofs.Values.{both, loose_good, loose_in}
 use Rattle.cc_c.specs.contracts.handle.Handle.opened as f
 use Rattle.cc_c.proofs.handle.Handle.opened.Statement.{statement}
 use Rattle.cc_c.proofs.handle.Handle.opened.Code as code

@@ -6,7 +6,7 @@ use Rattle.model_history.specs.Scrolls.{scrolls_to, clobbers}
 use Rattle.impl_scroll.specs.Rows.{has_number}
 use Rattle.model_steps.specs.Events.{commit}
 use Rattle.impl_scroll.specs.Standings.{StandsForPast}
-use Rattle.impl_trees.specs.Trees.{TreeModel, MayFollow}
+use Rattle.impl_host.specs.Trees.{TreeModel, MayFollow}
 use Rattle.impl_host.specs.Hosts.{ImplHostModel, Hosts}
 use Rattle.impl_host.proofs.TreesAt.{page_there}
 use Rattle.impl_host.proofs.Commits.{none_before, tree_missing, may_follow}

@@ -1,6 +1,6 @@
 use Rattle.std.proofs.Common.{◌≡◌, ℕ, ℤ, pos, false, List, ap, sym, ◌∙◌, subst}
-use Rattle.model_scroll_values.specs.declared.Synced.{Synced}
-use Rattle.model_scroll_values.specs.Table.{zero, added}
+use Rattle.model_states.specs.declared.Synced.{Synced}
+use Rattle.model_states.specs.Table.{zero, added}
 use Rattle.page_layers.specs.Axes.{amount_in, named_in}
 use Rattle.model_history.proofs.BoolFacts.{not_both, is_false}
 use Rattle.impl_scroll.specs.declared.row.Row.{Row}

@@ -1,5 +1,5 @@
 use Rattle.std.proofs.Common.{List, refl, ap, sym, ◌∙◌, subst}
-use Rattle.model_scroll_values.specs.Table.{pulled}
+use Rattle.model_states.specs.Table.{pulled}
 use Rattle.impl_scroll.specs.declared.row.Row.{Row}
 use Rattle.impl_scroll.specs.declared.steps.ValueStep.TheVariants as step
 use Rattle.impl_scroll.specs.Rows.{row_value}

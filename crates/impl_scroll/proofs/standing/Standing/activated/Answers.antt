@@ -1,7 +1,7 @@
 -- The pending bases become the active ones, the moves are added, and nothing is pending then.
 use Rattle.std.proofs.Common.{◌∷◌, refl, sym, ◌∙◌, ap, subst}
-use Rattle.model_scroll_values.specs.Table as table
-use Rattle.model_scroll_values.specs.Bounds.{IsBounded}
+use Rattle.model_states.specs.Table as table
+use Rattle.model_states.specs.Bounds.{IsBounded}
 use Rattle.page_layers.proofs.KeptPages.{weaken}
 use Rattle.model_steps.specs.Events.{activate}
 use Rattle.impl_scroll.proofs.Activated.{activated_bounded}

@@ -1,6 +1,6 @@
 -- The store takes the image, and the outlook the tile.
 use Rattle.std.proofs.Common.{◌∷◌, ◌∙◌, ap, sym, subst}
-use Rattle.tile_store.specs.Stores.{done_with}
+use Rattle.impl_tiles.specs.Stores.{done_with}
 use Rattle.model_steps.specs.Events.{done}
 use Rattle.impl_tiles.specs.Managers.{Managed, Manages}
 use Rattle.impl_tiles.proofs.DoneTiles.{is_flying, may_finish, done_holds}

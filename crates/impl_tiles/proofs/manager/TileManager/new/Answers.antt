@@ -1,6 +1,6 @@
 -- No tile is there, and nothing is wanted.
 use Rattle.std.proofs.Common.{◌≡◌, [], sym, subst}
-use Rattle.tile_store.specs.Stores.{empty_store}
+use Rattle.impl_tiles.specs.Stores.{empty_store}
 use Rattle.impl_tiles.specs.declared.outlook.Outlook.TheVariants as outlook
 use Rattle.impl_tiles.specs.Managers.{Managed, Manages}
 use Rattle.impl_tiles.proofs.OtherTiles.{begins_empty}

@@ -3,10 +3,10 @@ use Rattle.std.proofs.Common.{sym, subst, ap, ◌∙◌}
 use Rattle.geom.specs.KeyOrder.{key_cmp}
 use Rattle.geom.specs.KeyLists.{has_key, AreDistinctKeys}
 use Rattle.tile_priority.specs.Ordered.{IsInOrder}
-use Rattle.tile_store.specs.Stores.{is_ready}
+use Rattle.impl_tiles.specs.Stores.{is_ready}
 use Rattle.impl_tiles.specs.Managers.{Managed}
 use Rattle.impl_tiles.proofs.Bools.{of_answer}
-use Rattle.impl_tiles.proofs.ReadyKeys.{keys_in_order, keys_once, keys_ready}
+use Rattle.impl_tiles.proofs.ReadyKeyLists.{keys_in_order, keys_once, keys_ready}
 use Rattle.impl_tiles.proofs.manager.TileManager.ready_keys.Goals as goal
 
 pub returns-clause-order : goal.returns-clause-order

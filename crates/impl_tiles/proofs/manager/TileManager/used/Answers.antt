@@ -1,7 +1,7 @@
 -- The store counts its keys.
 use Rattle.std.proofs.Common.{◌∙◌, sym, subst}
 use Rattle.impl_tiles.specs.Managers.{Managed, Manages}
-use Rattle.impl_tiles.proofs.ReadyKeys.{used_is}
+use Rattle.impl_tiles.proofs.ReadyKeyLists.{used_is}
 use Rattle.impl_tiles.proofs.manager.TileManager.used.Goals as goal
 
 pub returns : goal.returns

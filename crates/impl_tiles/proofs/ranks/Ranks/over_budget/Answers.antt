@@ -4,7 +4,7 @@ use Rattle.std.specs.FinMap as fin
 use Rattle.std.proofs.lemmas.List.{length-map}
 use Rattle.tile_priority.specs.Choice.{used}
 use Rattle.impl_tiles.specs.Choices.{Ranked, tile_among, choice_among}
-use Rattle.impl_tiles.proofs.ReadyKeys.{keys_count}
+use Rattle.impl_tiles.proofs.ReadyKeyLists.{keys_count}
 use Rattle.impl_tiles.proofs.ranks.Ranks.over_budget.Goals as goal
 
 pub returns : goal.returns

@@ -12,7 +12,7 @@ use Rattle.impl_tiles.specs.Choices.{tile_among, choice_among}
 use Rattle.impl_tiles.proofs.AmongRanks.{missing_ranks, missing_by, each_key_once, none_flies}
 use Rattle.impl_tiles.proofs.KeyOrders.{in_order_sorted}
 use Rattle.impl_tiles.proofs.RankedKeys.{ordered_members}
-use Rattle.impl_tiles.proofs.ReadyKeys.{keys_in_order, keys_count}
+use Rattle.impl_tiles.proofs.ReadyKeyLists.{keys_in_order, keys_count}
 use Rattle.impl_tiles.proofs.ReadyRanks.{ranks_of, ranks_of_once, tiles_of}
 use Rattle.impl_tiles.proofs.ranks.Ranks.queue.Goals as goal
 

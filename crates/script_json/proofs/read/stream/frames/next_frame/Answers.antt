@@ -2,8 +2,8 @@ use Rattle.std.proofs.Common.{◌≡◌, ◌∷◌, length, None, ap, arith}
 use Rattle.json.specs.Json.{after_end_array}
 use Rattle.json.specs.Token.{begin_array}
 use Rattle.serde_json.specs.Data.{array, Items, no_items, item}
-use Rattle.script_values.specs.Tokens.{first_value}
-use Rattle.script_values.proofs.Progress.{items_begin, items_more, array_over, array_broken}
+use Rattle.script_fields.specs.Tokens.{first_value}
+use Rattle.script_fields.proofs.Progress.{items_begin, items_more, array_over, array_broken}
 use Rattle.script_json.specs.CommandReading.{frame_at}
 use Rattle.script_json.proofs.Streams.{longer, commands_begin, commands_more, behind_all}
 use Rattle.script_json.proofs.read.stream.frames.next_frame.Goals as goal

@@ -6,8 +6,8 @@ use Rattle.json.specs.Json.{after_end_array}
 use Rattle.json.specs.Token.{begin_array}
 use Rattle.page_layers.specs.declared.command.Command.{Command}
 use Rattle.serde_json.specs.Data.{Items, no_items, item}
-use Rattle.script_values.specs.Tokens.{first_value}
-use Rattle.script_values.proofs.Progress.{items_begin, items_more, array_over, array_broken}
+use Rattle.script_fields.specs.Tokens.{first_value}
+use Rattle.script_fields.proofs.Progress.{items_begin, items_more, array_over, array_broken}
 use Rattle.script_json.proofs.Streams.{longer, frames_begin, frames_more, behind_all}
 use Rattle.script_json.proofs.read.stream.frames.next_frames.Goals as goal
 

@@ -1,7 +1,7 @@
 use Rattle.std.proofs.Common.{◌≡◌, ◌+◌, ◌≤◌, length, map, true}
 use Rattle.serde_json.specs.Data.{Items}
 use Rattle.model_history.specs.Ranges.{are_short}
-use Rattle.script_values.specs.Progress.{ItemsUpTo}
+use Rattle.script_fields.specs.Progress.{ItemsUpTo}
 use Rattle.script_json.proofs.Streams.{FramesTo}
 use Rattle.script_json.proofs.read.stream.frames.next_frames.Given as goal
 

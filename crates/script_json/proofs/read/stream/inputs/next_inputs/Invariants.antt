@@ -1,6 +1,6 @@
 use Rattle.std.proofs.Common.{◌≡◌, ◌≤◌, length}
 use Rattle.serde_json.specs.Data.{Items}
-use Rattle.script_values.specs.Progress.{ItemsUpTo}
+use Rattle.script_fields.specs.Progress.{ItemsUpTo}
 use Rattle.script_json.proofs.Streams.{InputsTo}
 use Rattle.script_json.proofs.read.stream.inputs.next_inputs.Given as goal
 

@@ -1,7 +1,7 @@
 use Rattle.std.proofs.Common.{◌≡◌, ◌∷◌, ap, ◌∙◌, arith}
 use Rattle.json.specs.Token.{begin_object}
-use Rattle.script_values.specs.Tokens.{first_value}
-use Rattle.script_values.proofs.Progress.{object_read, object_refused}
+use Rattle.script_fields.specs.Tokens.{first_value}
+use Rattle.script_fields.proofs.Progress.{object_read, object_refused}
 use Rattle.script_json.proofs.Streams.{ok_also}
 use Rattle.script_json.proofs.read.stream.top.next_top.Goals as goal
 

@@ -5,8 +5,8 @@ use Rattle.json.specs.Reads.{token_of}
 use Rattle.json.specs.Token.{Token}
 use Rattle.json.specs.declared.token.Token.{Token as Read}
 use Rattle.serde_json.specs.Data.{object}
-use Rattle.script_values.specs.Tokens.{first_value}
-use Rattle.script_values.proofs.Progress.{text_refused, text_and_more}
+use Rattle.script_fields.specs.Tokens.{first_value}
+use Rattle.script_fields.proofs.Progress.{text_refused, text_and_more}
 use Rattle.script_json.proofs.read.stream.top.parts_in.Goals as goal
 
 pub returns-in_err-found-clause-refused : goal.returns-in_err-found-clause-refused

@@ -2,7 +2,7 @@ use Rattle.std.proofs.Common.{◌≡◌, Some, None, ap, arith}
 use Rattle.json.specs.Json.{read_key}
 use Rattle.serde_json.specs.Data.{no_members, put}
 use Rattle.serde_json.specs.View.{members_view}
-use Rattle.script_values.proofs.Progress.{members_begin, members_more, members_end, members_refused, names_refused}
+use Rattle.script_fields.proofs.Progress.{members_begin, members_more, members_end, members_refused, names_refused}
 use Rattle.script_json.proofs.read.stream.top.take_members.Goals as goal
 
 pub members-init : goal.members-init

@@ -1,6 +1,6 @@
 use Rattle.std.proofs.Common.{length}
 use Rattle.serde_json.specs.Data.{Members}
-use Rattle.script_values.specs.Progress.{MembersUpTo}
+use Rattle.script_fields.specs.Progress.{MembersUpTo}
 use Rattle.script_json.specs.inner.Streamed.{Holds}
 use Rattle.script_json.proofs.read.stream.top.take_members.Given as goal
 

@@ -1,0 +1,4 @@
+pub mod CopiedRows
+pub mod Lanes
+pub mod Values
+pub mod WrittenRects

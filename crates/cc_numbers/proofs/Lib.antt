@@ -1,3 +1,0 @@
-pub mod CopiedRows
-pub mod Lanes
-pub mod WrittenRects

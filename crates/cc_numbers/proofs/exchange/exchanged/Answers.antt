@@ -1,5 +1,0 @@
-use Rattle.cc_numbers.proofs.Lanes.{four_exchanged}
-use Rattle.cc_numbers.proofs.exchange.exchanged.Goals as goal
-
-pub returns-clause-pixels : goal.returns-clause-pixels
-returns-clause-pixels c = four_exchanged c.args.v c.requires

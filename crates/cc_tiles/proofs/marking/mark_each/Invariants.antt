@@ -1,8 +1,0 @@
--- The tiles so far are marked.
-use Rattle.std.proofs.Common.{◌≡◌}
-use Rattle.cc_tiles.specs.inner.Marks.{marked}
-use Rattle.cc_tiles.proofs.Marked.{half}
-use Rattle.cc_tiles.proofs.marking.mark_each.Given as goal
-
-abbrev pub invariant-loop-i : goal.invariant-loop-i
-invariant-loop-i l = l.kept.items ≡ half (marked l.tree l.changes) l.i l.fn.kept.items

@@ -1,2 +1,0 @@
-pub mod KeptTiles
-pub mod inner

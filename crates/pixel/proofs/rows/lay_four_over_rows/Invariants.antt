@@ -1,0 +1,11 @@
+use Rattle.std.proofs.Common.{◌-◌}
+use Rattle.pixel.specs.Colours.{blend}
+use Rattle.pixel.specs.Rows.{pixel, ArePremultiplied}
+use Rattle.pixel.specs.Surfaces.{EachPixel, within_rows}
+use Rattle.pixel.proofs.rows.lay_four_over_rows.Given as given
+
+abbrev pub invariant-loop-row : given.invariant-loop-row
+invariant-loop-row l = record {
+  pixels : EachPixel l.width l.height (within_rows l.at l.row (λ x y below. blend below (pixel l.pixels (x - l.at.x)))) l.initial.surface l.surface;
+  premultiplied : ArePremultiplied l.initial.surface → ArePremultiplied l.surface;
+}

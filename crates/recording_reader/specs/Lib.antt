@@ -1,8 +1,0 @@
-pub mod Views
-pub mod Pieces
-pub mod Places
-pub mod Spans
-pub mod BadParts
-pub mod Bodies
-pub mod Taking
-pub mod inner

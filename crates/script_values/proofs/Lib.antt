@@ -1,3 +1,0 @@
-mod Turns
-pub mod Signs
-pub mod Progress

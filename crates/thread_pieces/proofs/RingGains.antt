@@ -1,0 +1,94 @@
+-- Fronts and appends one after the other.
+use Rattle.std.proofs.Common.{◌≡◌, inl, inr, arith, ◌≤◌, ℕ, List, [], ◌++◌, take, drop, Option, Some, None, Result, Ok, Err, refl, ap, sym, subst, ◌∙◌, append_assoc, true, false, Bool}
+use Rattle.std.specs.Io.KnownBytes.{Appends}
+use Rattle.std.specs.Global.{Vec}
+use Rattle.std.proofs.lemmas.List.{take-append-drop}
+use Rattle.std.proofs.lemmas.Grind.{flat_map-append}
+use Rattle.byte_io.specs.Counts.{Rose}
+use Rattle.byte_io.specs.Pieces.{GainsPrefix, NotFailed, PutAppends}
+use Rattle.byte_io.specs.declared.writing.PutFault.{PutFault}
+use Rattle.byte_io.specs.declared.writing.PutFault.TheVariants as put_fault
+use Rattle.thread_pieces.specs.declared.writing.WriteStop.{WriteStop}
+use Rattle.thread_pieces.specs.declared.writing.WriteStop.TheVariants as stop
+use Rattle.thread_pieces.specs.Ring.{joined}
+use Rattle.thread_pieces.specs.Writing.{PutsAll, WriteCause}
+use Rattle.thread_pieces.specs.Answers.{AddsBytes, Blames, Gained, Filled, Served, Takes, answer_for_all, told_of}
+use Rattle.thread_pieces.specs.declared.ends.Presented.{Presented}
+use Rattle.thread_pieces.specs.declared.ends.Presented.TheVariants.{Written, Fault, Memory}
+
+-- a prefix of the bytes is a prefix of the bytes and more
+pub front_more : (old new : Option (List ℕ)) (done more : List ℕ) → GainsPrefix old new done → GainsPrefix old new (done ++ more)
+front_more old new done more gains = (gains.0, gains.1 ++ more, sym (append_assoc gains.0 gains.1 more) ∙ ap (λ bytes. bytes ++ more) gains.2, gains.3)
+
+-- two appends are one
+pub appends_then : (first old new : Option (List ℕ)) (done more : List ℕ) → Appends first old done → Appends old new more → Appends first new (done ++ more)
+appends_then None old new done more a b = tt
+appends_then (Some xs) None new done more a b = absurd a
+appends_then (Some xs) (Some ys) None done more a b = absurd b
+appends_then (Some xs) (Some ys) (Some zs) done more a b = b ∙ ap (λ bytes. bytes ++ more) a ∙ append_assoc xs done more
+
+-- all that was, then a prefix of the piece
+pub front_after : (first old new : Option (List ℕ)) (done piece : List ℕ) → Appends first old done → GainsPrefix old new piece → GainsPrefix first new (done ++ piece)
+front_after first old new done piece a gains = (done ++ gains.0, gains.1, append_assoc done gains.0 gains.1 ∙ ap (λ bytes. done ++ bytes) gains.2, appends_then first old new done gains.0 a gains.3)
+
+-- a prefix of the same bytes
+pub front_same : (first new : Option (List ℕ)) (held bytes : List ℕ) → held ≡ bytes → GainsPrefix first new held → GainsPrefix first new bytes
+front_same first new held bytes same gains = (gains.0, gains.1, gains.2 ∙ same, gains.3)
+
+-- an append of the same bytes
+pub appends_same : (first new : Option (List ℕ)) (held bytes : List ℕ) → held ≡ bytes → Appends first new held → Appends first new bytes
+appends_same first new held bytes same gained = let P : List ℕ → Type 0 = λ all. Appends first new all in subst P same gained
+
+-- what was gained of the bytes that were put is, by the answer for all, gained of all bytes
+pub gained_of_all : (finished : Presented) (put : Bool) (first new : Option (List ℕ)) (held bytes : List ℕ) → Gained finished first new held → Filled put [] held bytes → Gained (answer_for_all finished put) first new bytes
+gained_of_all Written true first new held bytes gained filled = appends_same first new held bytes filled gained
+gained_of_all Written false first new held bytes gained filled = (filled.0, filled.1, filled.2, appends_same first new held filled.0 filled.3 gained)
+gained_of_all Fault true first new held bytes gained filled = front_same first new held bytes filled gained
+gained_of_all Fault false first new held bytes gained filled = front_same first new (filled.0 ++ filled.1) bytes filled.2 (front_more first new filled.0 filled.1 (front_same first new held filled.0 filled.3 gained))
+gained_of_all Memory true first new held bytes gained filled = front_same first new held bytes filled gained
+gained_of_all Memory false first new held bytes gained filled = front_same first new (filled.0 ++ filled.1) bytes filled.2 (front_more first new filled.0 filled.1 (front_same first new held filled.0 filled.3 gained))
+
+-- a refusal for lack of memory left the bytes as they were
+pub refusal_keeps : (e : PutFault) (old new piece : List ℕ) → PutAppends {X = Unit {0}} (Some old) (Some new) piece (Err e) → NotFailed {X = Unit {0}} (Err e) → new ≡ old
+refusal_keeps put_fault.Failed old new piece appends answers = absurd answers
+refusal_keeps (put_fault.Memory _) old new piece appends answers = appends
+
+-- the first n pieces and the rest are all
+pub joined_parts : (n : ℕ) (pieces : List (Vec ℕ)) → joined (take n pieces) ++ joined (drop n pieces) ≡ joined pieces
+joined_parts n pieces = sym (flat_map-append (λ piece. piece.items) (take n pieces) (drop n pieces)) ∙ ap (λ all. joined all) (take-append-drop n pieces)
+
+-- the first n pieces are a prefix of all
+pub filled_first : (n : ℕ) (pieces : List (Vec ℕ)) (old new : List ℕ) → new ≡ old ++ joined (take n pieces) → Filled false old new (joined pieces)
+filled_first n pieces old new grown = (joined (take n pieces), joined (drop n pieces), joined_parts n pieces, grown)
+
+-- what was put is added, or a prefix of it
+pub puts_add : (put : Result (Unit {0}) WriteStop) (old new : Option (List ℕ)) (bytes : List ℕ) → PutsAll old new bytes put → AddsBytes Written (told_of put) old new bytes
+puts_add (Ok x) old new bytes put = λ first done given. appends_then first old new done bytes given put
+puts_add (Err stop.Fault) old new bytes put = λ first done given. front_after first old new done bytes given put
+puts_add (Err stop.Memory) old new bytes put = λ first done given. front_after first old new done bytes given put
+
+-- a count that rose has risen from any earlier one
+rose_from : (count old new : ℕ) → count ≤ old → Rose old new → Rose count new
+rose_from count old new few (inl less) = inl (omega (arith, few, less))
+rose_from count old new few (inr last) = inr last
+
+-- a fault of a put has its cause
+pub put_blames : (put : Result (Unit {0}) WriteStop) (old new : ℕ) → old ≤ new → WriteCause old new put → Blames Written (told_of put) old new
+put_blames (Ok x) old new grows cause = λ count few rose. tt
+put_blames (Err stop.Fault) old new grows cause = λ count few rose. rose_from count old new few cause
+put_blames (Err stop.Memory) old new grows cause = λ count few rose. tt
+
+-- where memory runs out, what was gained before is a prefix
+pub wants : (state : Presented) (old : Option (List ℕ)) (bytes : List ℕ) (first : Option (List ℕ)) (done : List ℕ) → Gained state first old done → GainsPrefix first old (done ++ bytes)
+wants Written old bytes first done given = (done, bytes, refl, given)
+wants Fault old bytes first done given = front_more first old done bytes given
+wants Memory old bytes first done given = front_more first old done bytes given
+
+-- what was served, and then what was taken more
+pub served_on : (state answer : Presented) (old mid new : Option (List ℕ)) (before between after : List ℕ) → Served state old mid before between → Takes state answer mid new between after → Served answer old new before after
+served_on state answer old mid new before between after served takes =
+    (served.0 ++ takes.0, takes.1 ∙ ap (λ bytes. bytes ++ takes.0) served.1 ∙ append_assoc before served.0 takes.0, takes.2 old served.0 served.2)
+
+-- a piece that was taken and is lost after a batch
+pub taken_and_lost : (before batch mid piece after : List ℕ) → mid ≡ before ++ batch → after ≡ mid ++ piece → (more : List ℕ) × (after ≡ before ++ more)
+taken_and_lost before batch mid piece after taken more = (batch ++ piece, more ∙ ap (λ bytes. bytes ++ piece) taken ∙ append_assoc before batch piece)

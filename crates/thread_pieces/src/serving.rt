@@ -1,0 +1,194 @@
+//! Handing the pieces of a ring on.
+ghost use Rattle.std.specs.Prelude.{◌≡◌, ◌≤◌, ℕ, ◌++◌, List, [], IfNone, IsFalse, MatchOption};
+ghost use Rattle.thread_pieces.specs.Shots.{all_shown, shown};
+ghost use Rattle.thread_pieces.specs.Ring.{EmptyBatch, SamePresenter, TakesBatch, bytes_taken, seen};
+ghost use Rattle.thread_pieces.specs.Answers.{AddsBytes, Blames, FaultRose, Served, Stops, Takes, told_of};
+
+use crate::ends::{Presented, Presenter};
+use crate::shared::byte_count;
+use crate::{Painters, ScenePainter, Shot, WriteStop};
+use byte_io::Sink;
+use std::alloc::AllocError;
+use std::marker::Sync;
+use std::sync::Wait;
+use std::thread::Threads;
+
+// How many pieces are taken at a time for each painter, at most.
+const RUN: usize = 4;
+
+// How many bytes of pieces are taken at a time, at most, and one piece.
+const MOST_TAKEN: u64 = 48 * 1024 * 1024;
+
+// What became of pieces that were put.
+pub(crate) fn told(put: Result<(), WriteStop>) -> Presented
+    ensures { result ≡ told_of put }
+{
+    match put {
+        Ok(()) => Presented::Written,
+        Err(WriteStop::Fault) => Presented::Fault,
+        Err(WriteStop::Memory) => Presented::Memory,
+    }
+}
+
+/// Paints and puts pieces, unless an earlier one was refused, and answers for both.
+#[tactic(auto, using(crate::proofs::RingGains::puts_add, crate::proofs::RingGains::put_blames, crate::proofs::RingGains::wants))]
+pub(crate) fn present<R: Threads + Sync, K: Sink, P: ScenePainter>(
+    rt: &R,
+    state: Presented,
+    pieces: Vec<Shot>,
+    painters: &mut Painters<P>,
+    out: &mut K,
+) -> Presented
+    ensures adds { AddsBytes state result (K.held out.old) (K.held out.new) (all_shown pieces.items) }
+    ensures faults { K.faults out.old ≤ K.faults out.new }
+    ensures refusals { K.refusals out.old ≤ K.refusals out.new }
+    ensures stops { Stops state result out.old out.new }
+    ensures cause { Blames state result (K.faults out.old) (K.faults out.new) }
+    ensures place { K.place out.new ≡ K.place out.old }
+{
+    match state {
+        Presented::Written => told(painters.put(rt, pieces, out)),
+        Presented::Fault => Presented::Fault,
+        Presented::Memory => Presented::Memory,
+    }
+}
+
+/// Memory ran out, unless an earlier piece was refused.
+#[tactic(auto, using(crate::proofs::RingGains::wants))]
+pub(crate) fn without_memory<K: Sink>(state: Presented, out: &mut K) -> Presented
+    ensures adds { (bytes : List ℕ) → AddsBytes state result (K.held out.old) (K.held out.new) bytes }
+    ensures same { out.new ≡ out.old }
+    ensures stops { Stops state result out.old out.new }
+    ensures cause { Blames state result (K.faults out.old) (K.faults out.new) }
+{
+    match state {
+        Presented::Written => Presented::Memory,
+        Presented::Fault => Presented::Fault,
+        Presented::Memory => Presented::Memory,
+    }
+}
+
+impl Presenter {
+    // Takes the next piece out of the ring, if there is one.
+    #[tactic(auto, using(crate::proofs::Parts::one_more))]
+    fn take_one(&mut self) -> Option<Shot>
+        ensures ring { SamePresenter self.old self.new }
+        ensures bytes { MatchOption result (bytes_taken self.new ≡ bytes_taken self.old) (λ piece. bytes_taken self.new ≡ bytes_taken self.old ++ shown piece) }
+        ensures none { IfNone result (seen self.new ≡ []) }
+    {
+        match self.consumer.pop() {
+            Ok(piece) => {
+                self.taken = self.taken.saturating_add(byte_count(&piece));
+                Some(piece)
+            }
+            Err(_) => None,
+        }
+    }
+
+    // Takes pieces out of the ring, at least one where there is any, and at most the given number, until there is none
+    // or they are large. An error means out of memory, and the piece that was taken last is lost.
+    #[tactic(auto, using(crate::proofs::RingGains::taken_and_lost, crate::proofs::Parts::one_more))]
+    fn take_batch(&mut self, most: usize) -> Result<Vec<Shot>, AllocError>
+        requires { 1 ≤ most }
+        ensures ring { SamePresenter self.old self.new }
+        ensures bytes { TakesBatch (bytes_taken self.old) (bytes_taken self.new) result }
+        ensures empty { EmptyBatch (seen self.new) result }
+    {
+        let mut batch = Vec::new(self.alloc);
+        while batch.len() < most {
+            if self.taken >= MOST_TAKEN && !batch.is_empty() {
+                return Ok(batch);
+            }
+            let Some(piece) = self.take_one() else {
+                return Ok(batch);
+            };
+            if let Err(_) = batch.push(piece) {
+                return Err(AllocError);
+            }
+        }
+        Ok(batch)
+    }
+
+    // What was taken is written, or is not going to be.
+    fn let_go(&mut self)
+        ensures ring { SamePresenter self.old self.new }
+        ensures taken { bytes_taken self.new ≡ bytes_taken self.old }
+        ensures seen { seen self.new ≡ seen self.old }
+    {
+        self.shared.remove(self.taken);
+        self.taken = 0;
+    }
+
+    // Takes pieces out of the ring, at most the given number, and puts them, unless an earlier one was refused;
+    // answers whether there were any, and for all pieces.
+    fn step<R: Threads + Sync, K: Sink, P: ScenePainter>(
+        &mut self,
+        rt: &R,
+        state: Presented,
+        most: usize,
+        painters: &mut Painters<P>,
+        out: &mut K,
+    ) -> (bool, Presented)
+        requires { 1 ≤ most }
+        ensures ring { SamePresenter self.old self.new }
+        ensures none { IsFalse result.0 → seen self.new ≡ [] }
+        ensures bytes { Takes state result.1 (K.held out.old) (K.held out.new) (bytes_taken self.old) (bytes_taken self.new) }
+        ensures faults { K.faults out.old ≤ K.faults out.new }
+        ensures refusals { K.refusals out.old ≤ K.refusals out.new }
+        ensures cause { Blames state result.1 (K.faults out.old) (K.faults out.new) }
+        ensures place { K.place out.new ≡ K.place out.old }
+    {
+        match self.take_batch(most) {
+            Ok(batch) => {
+                let any = !batch.is_empty();
+                (any, present(rt, state, batch, painters, out))
+            }
+            Err(_) => (true, without_memory(state, out)),
+        }
+    }
+
+    /// Takes pieces out of the ring, paints their scenes, several at once where several wait, and puts all into
+    /// `out` in order, until it has seen the end mark raised and after that found the ring empty. While there is no
+    /// piece it sleeps. After a refused put it takes the later pieces and drops them, so that nobody waits for it.
+    ///
+    /// `Written`: `out` gained exactly the pieces that were taken, in order. `Fault` comes only where
+    /// the count of faults of `out` rose in this call, or stands at its last value; `Memory` where
+    /// `out` or a painter found none. In both `out` gained a prefix of the pieces that were taken. With each answer no
+    /// piece is left that was seen in the ring.
+    #[tactic(auto, using(crate::proofs::RingGains::served_on))]
+    pub fn serve<R: Threads + Wait + Sync, K: Sink, P: ScenePainter>(
+        &mut self,
+        rt: &R,
+        painters: &mut Painters<P>,
+        out: &mut K,
+    ) -> Presented
+        ensures ring { SamePresenter self.old self.new }
+        ensures bytes { Served result (K.held out.old) (K.held out.new) (bytes_taken self.old) (bytes_taken self.new) }
+        ensures none { seen self.new ≡ [] }
+        ensures faults { K.faults out.old ≤ K.faults out.new }
+        ensures refusals { K.refusals out.old ≤ K.refusals out.new }
+        ensures cause { FaultRose result (K.faults out.old) (K.faults out.new) }
+        ensures place { K.place out.new ≡ K.place out.old }
+    {
+        let most = painters.most().saturating_mul(RUN).max(1);
+        let mut state = Presented::Written;
+        self.shared.serve(true);
+        for _ in rt.forever() {
+            // Both are read before the ring is looked at: a piece that comes later rings again, and what was
+            // put before the mark is then found.
+            let pushed = self.shared.pushed();
+            let ended = self.shared.is_closed();
+            let (any, answer) = self.step(rt, state, most, painters, out);
+            state = answer;
+            self.let_go();
+            if !any {
+                if ended {
+                    self.shared.serve(false);
+                    return state;
+                }
+                self.shared.wait_for_pieces(rt, pushed);
+            }
+        }
+        unreachable!()
+    }
+}

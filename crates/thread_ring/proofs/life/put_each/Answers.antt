@@ -1,7 +1,0 @@
-use Rattle.std.proofs.Common.{◌∙◌}
-use Rattle.thread_ring.specs.Ring.{whole}
-use Rattle.thread_ring.proofs.Gains.{filled_first, refusal_keeps}
-use Rattle.thread_ring.proofs.life.put_each.Goals as goal
-
-pub returns-in-Err-clause-bytes : goal.returns-in-Err-clause-bytes
-returns-in-Err-clause-bytes c = filled_first c.loop-piece.piece-index c.args.pieces.now (whole c.args.sink.now) (whole c.put.new.self) (refusal_keeps c.in-Err.field-0 (whole c.loop-piece.sink) (whole c.put.new.self) _ c.in-Err.ensures.bytes c.in-Err.ensures.answers ∙ c.loop-piece.invariant.bytes)
