@@ -1,12 +1,12 @@
 #!/usr/bin/env python3
-"""Checks docs/TUTORIAL.md and docs/BLOG.md against the program: scripts, pictures, and what the texts quote of them.
+"""Checks docs/TUTORIAL.md and docs/PAGE.md against the program: scripts, pictures, and what the texts quote of them.
 
 usage: tools/check_tutorial.py [PROGRAM] [--store]
 
 PROGRAM (crates/cc_player/out/cc_player, which the gate builds) must play each script of docs/tutorial/. Each picture
 that the text shows must be what the program draws: stepN-K.png is picture K of stepN.json, from 0, and stepN.png the
 film of all its pictures. In the section of step N the lines of a json block must stand in stepN.json and those of a
-text block in the events of its recording, one right after the other; a line `..` leaves lines out. The same of BLOG.md
+text block in the events of its recording, one right after the other; a line `..` leaves lines out. The same of PAGE.md
 and examples/blog.json, whose film is docs/blog.png; its page blocks stand in examples/blog.page and its draws block is
 what `recording.py draws` tells. --store writes the pictures anew, to be looked at before they are committed.
 """
@@ -27,7 +27,7 @@ ROOT = pathlib.Path(__file__).resolve().parent.parent
 TEXT, FOLDER = ROOT / "docs" / "TUTORIAL.md", ROOT / "docs" / "tutorial"
 SECTION, LINK = re.compile(r"^## (\d+)\. ", re.M), re.compile(r"\]\(tutorial/(step(\d+)(?:-(\d+))?\.png)\)")
 BLOCK = re.compile(r"^```(json|text|page|draws)\n(.*?)^```$", re.M | re.S)
-BLOG, BLOG_FILM, BLOG_SCRIPT = ROOT / "docs" / "BLOG.md", ROOT / "docs" / "blog.png", ROOT / "examples" / "blog.json"
+PAGE, PAGE_FILM, PAGE_SCRIPT = ROOT / "docs" / "PAGE.md", ROOT / "docs" / "blog.png", ROOT / "examples" / "blog.json"
 
 
 def played(program, script):
@@ -95,14 +95,14 @@ def wrong_blocks(text, script, step):
 
 
 def wrong_blog(program, is_stored):
-    """What BLOG.md quotes or shows and is not so."""
-    step = played(program, BLOG_SCRIPT)
-    yield from (f"BLOG.md: {told}" for told in wrong_blocks(BLOG.read_text(), BLOG_SCRIPT, step))
+    """What PAGE.md quotes or shows and is not so."""
+    step = played(program, PAGE_SCRIPT)
+    yield from (f"PAGE.md: {told}" for told in wrong_blocks(PAGE.read_text(), PAGE_SCRIPT, step))
     film = picture_of(step, None, 700)
     if is_stored:
-        BLOG_FILM.write_bytes(film)
-    elif content(BLOG_FILM.read_bytes()) != content(film):
-        yield f"{BLOG_FILM.name} is not what the program draws"
+        PAGE_FILM.write_bytes(film)
+    elif content(PAGE_FILM.read_bytes()) != content(film):
+        yield f"{PAGE_FILM.name} is not what the program draws"
 
 
 def wrong_pictures(text, steps, is_stored):

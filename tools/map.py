@@ -7,12 +7,13 @@ crates.txt lists the crates in families, each below a heading `# FAMILY: what it
 crates/README.md between the marker comments are made anew: the drawing of the families, and for each family a table
 of its crates with the first sentence of their README.md and the crates of this repository that they stand on.
 
-Without a flag nothing is written. It fails, with a line for each fault, where one of these parts is not what --write
-would make; where crates.txt, the folders of crates/ and their README.md do not belong together; where a README.md
-does not begin with its crate's name, has more than 60 lines, or links to a file that is missing; where the
-dependencies have a cycle, or a chain of more than 14 crates; where a crate uses one of a family that comes later in
-the list, since the families are floors and nothing goes upstairs; and where a crate's sources name a library that its
-line of crates.txt lacks, or name nothing of one that it lists. Both ways it prints the longest chain.
+Without a flag nothing is written. It fails, with a line for each fault, if one of these parts is not what --write
+would make; if crates.txt, the folders of crates/ and their README.md do not belong together; if a README.md does not
+begin with its crate's name, has more than 60 lines, or lacks one of the sections that the map promises; if its section
+"Who uses it" does not name, in backquotes, exactly the crates that use it, one by one or those of a family together
+(`viz_*`); if the dependencies have a cycle, or a chain of more than 14 crates; if a crate uses one of a family that
+comes later in the list, since the families are floors and nothing goes upstairs; and if a crate's sources name a
+library that its line of crates.txt lacks, or name nothing of one that it lists. Both ways it prints the longest chain.
 """
 import argparse
 import re
@@ -24,9 +25,15 @@ from crate_list import CRATES, ROOT, CrateList
 MAP = CRATES / "README.md"
 MOST_LINES, MOST_CHAIN = 60, 14
 
+# The sections of each crate's README.md. A crate of the last family has rows that try something, and the last one alone.
+USERS = "Who uses it"
+SECTIONS = ["What its calls promise", "What it does not know", USERS]
+
 MARKED = re.compile(r"(<!-- map: (\w+) -->\n).*?(<!-- end of \2 -->)", re.S)
 SENTENCE = re.compile(r".*?[.?!](?=\s|$)", re.S)
-LINK = re.compile(r"\]\(([^)\s]+)\)")
+SECTION = re.compile(r"^## ([^\n]+)\n(.*?)(?=^## |\Z)", re.M | re.S)
+# A crate, or all crates of a family together.
+NAMED = re.compile(r"`(\w+\*?)`")
 COMMENT = {".rt": re.compile(r"//.*"), ".antt": re.compile(r"--.*")}
 # A path of Rust that begins with a crate, and a path of the logic that begins with one.
 PATH, LOGIC = re.compile(r"(?<![\w:.])(\w+)::"), re.compile(r"\bRattle\.(\w+)")
@@ -165,25 +172,44 @@ def faults_of_folders(crates):
 
 
 def faults_of_readmes():
-    """READMEs without their heading, too long ones, and links that lead nowhere."""
-    for readme in sorted([*CRATES.glob("*/README.md"), MAP]):
+    """READMEs without their heading, and too long ones."""
+    for readme in sorted(CRATES.glob("*/README.md")):
         at, lines = readme.relative_to(ROOT), readme.read_text().splitlines()
-        if readme != MAP:
-            if lines[:1] != [f"# {readme.parent.name}"]:
-                yield f"{at}: the first line is not '# {readme.parent.name}'"
-            if len(lines) > MOST_LINES:
-                yield f"{at}: {len(lines)} lines, more than {MOST_LINES}"
-            if not first_sentence(readme.parent.name):
-                yield f"{at}: no sentence below the heading"
-        for link in LINK.findall("\n".join(lines)):
-            path = link.partition("#")[0]
-            if path and "://" not in link and not (readme.parent / path).exists():
-                yield f"{at}: {link} leads nowhere"
+        if lines[:1] != [f"# {readme.parent.name}"]:
+            yield f"{at}: the first line is not '# {readme.parent.name}'"
+        if len(lines) > MOST_LINES:
+            yield f"{at}: {len(lines)} lines, more than {MOST_LINES}"
+        if not first_sentence(readme.parent.name):
+            yield f"{at}: no sentence below the heading"
+
+
+def faults_of_sections(crates):
+    """READMEs that lack a section that the map promises."""
+    for name, family in crates.family.items():
+        readme = CRATES / name / "README.md"
+        found = dict(SECTION.findall(readme.read_text())) if readme.is_file() else {}
+        for it in SECTIONS[-1:] if family == list(crates.families)[-1] else SECTIONS:
+            if not found.get(it, "").strip():
+                yield f"crates/{name}/README.md: no section '## {it}'"
+        yield from faults_of_users(crates, name, set(NAMED.findall(found.get(USERS, ""))))
+
+
+def faults_of_users(crates, name, named):
+    """Crates that use this one and are not named, and crates that are named and do not use it."""
+    users = {it for it in crates.uses if name in crates.own(it)}
+    groups = {f"{family}_*": users & set(names) for family, names in crates.families.items()}
+    told = named & (set(crates.uses) | set(groups))
+    for it in sorted(told - users - {it for it in groups if groups[it]}):
+        yield f"crates/{name}/README.md: {USERS}: `{it}` does not use it"
+    covered = told.union(*(groups.get(it, set()) for it in told))
+    for it in sorted(users - covered):
+        yield f"crates/{name}/README.md: {USERS}: lacks `{it}`"
 
 
 def all_faults(crates, chain, cycle):
     """All that does not agree, but the marked parts of the map."""
-    faults = [*crates.faults, *misplaced(crates), *upstairs(crates), *faults_of_folders(crates), *faults_of_readmes()]
+    faults = [*crates.faults, *misplaced(crates), *upstairs(crates), *faults_of_folders(crates), *faults_of_readmes(),
+              *faults_of_sections(crates)]
     if cycle:
         faults.append(f"crates.txt: a cycle: {cycle}")
     if len(chain) > MOST_CHAIN:

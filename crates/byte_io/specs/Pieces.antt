@@ -1,4 +1,4 @@
--- What a put of a piece does to the bytes that a sink holds, where those are known.
+-- What a put of a piece does to the bytes that a sink holds, if those are known.
 use Rattle.std.specs.Prelude.{◌≡◌, ℕ, List, ◌++◌, ⊤, Option, Result, Ok, Err}
 use Rattle.std.specs.Io.KnownBytes.{Appends, Keeps}
 use Rattle.byte_io.specs.Counts.{Rose}
@@ -9,13 +9,13 @@ use Rattle.byte_io.specs.declared.writing.PutFault.TheVariants.{Failed, Memory}
 abbrev pub GainsPrefix : Option (List ℕ) → Option (List ℕ) → List ℕ → Type 0
 GainsPrefix old new whole = (front : List ℕ) × (rest : List ℕ) × (front ++ rest ≡ whole) × Appends old new front
 
--- a put appended the piece, or a prefix of it where the sink failed, or nothing where memory ran out
+-- a put appended the piece, or a prefix of it if the sink failed, or nothing if memory ran out
 abbrev pub PutAppends : {X : Type 0} → Option (List ℕ) → Option (List ℕ) → List ℕ → Result X PutFault → Type 0
 PutAppends old new piece (Ok _) = Appends old new piece
 PutAppends old new piece (Err Failed) = GainsPrefix old new piece
 PutAppends old new piece (Err (Memory _)) = Keeps old new
 
--- a put answers `Failed` only where the count of faults rose, and `Memory` only where that of refusals rose
+-- a put answers `Failed` only if the count of faults rose, and `Memory` only if that of refusals rose
 abbrev pub PutCause : {X : Type 0} → ℕ → ℕ → ℕ → ℕ → Result X PutFault → Type 0
 PutCause faults_old faults_new refusals_old refusals_new (Ok _) = ⊤
 PutCause faults_old faults_new refusals_old refusals_new (Err Failed) = Rose faults_old faults_new

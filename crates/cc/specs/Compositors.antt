@@ -60,7 +60,7 @@ Applied old c new (Err (error.Memory e)) = new ≡ old
 abbrev pub moved : List Move → CompositorView → CompositorView
 moved ms c = record c { main = page_after_pulls ms c.main; active = page_after_pulls ms c.active }
 
--- how far a scroller of a page moves where this much is asked
+-- how far a scroller of a page moves if this much is asked
 abbrev pub amount_scrolled : Page → ℕ → ℤ → ℤ → Point
 amount_scrolled p id dx dy = minus (main_point (scrolled_by p id dx dy) id) (main_point p id)
 

@@ -7,15 +7,10 @@
 //!
 //! There are no threads, no queue and no clock here: each call ends what it begins, and a draw shows the whole page.
 //!
-//! The images of tiles that are kept from one draw to the next.
-//!
-//! A cache is kept for two pages: the active one, which is drawn, and the main one, which commands change. Each
-//! of its images is what the active page shows in the place of its tile. One that is not stale is also what the
-//! main page shows there, so it stays when that page becomes the active one.
-//!
-//! In: the pages, and what a command changed. Out: the tiles that the active page shows, each with its image,
-//! kept or made. Commands mark tiles, a commit drops the marked ones and looks at no pixel, and a draw makes what
-//! is missing and drops what was not used for longest, down to a budget in bytes.
+//! A [`TileCache`] keeps images of tiles from one draw to the next. Each is what the active page shows in the place of
+//! its tile; one that is not stale is also what the main page shows there, so it stays when that page becomes the
+//! active one. Commands mark tiles, a commit drops the marked ones and looks at no pixel, and a draw makes what is
+//! missing and drops what was not used for longest, down to a budget in bytes.
 #![tactic(auto)]
 
 mod cache;

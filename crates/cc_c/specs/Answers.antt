@@ -84,7 +84,7 @@ pub record TellsChanged (old : CompositorView) (answer : ℕ) : Type 0 where
   pub shown : answer ≡ 0 → ShowsPage 4 rgba old.active (offsets old) old.background old.frame
   pub answers : (answer ≡ 0) ⊎ (answer ≡ 1)
 
--- 0: the buffer has the rows, as red, green, blue and alpha where the order is 0, else with red and blue exchanged, and its other bytes are what they were; 4: the frame lacks one of them, or the buffer has no room for them, and it is as it was
+-- 0: the buffer has the rows, as red, green, blue and alpha if the order is 0, else with red and blue exchanged, and its other bytes are what they were; 4: the frame lacks one of them, or the buffer has no room for them, and it is as it was
 pub record TellsCopy (f : CanvasView) (order top bottom stride : ℕ) (old new : List ℕ) (status : ℕ) : Type 0 where
   pub done : status ≡ 0 → HoldsRows f (not (order == 0)) top bottom stride new
   pub between : status ≡ 0 → KeepsBetween (4 * f.w) top bottom stride old new

@@ -31,7 +31,7 @@ pub record IsRowCopied (bgra : Bool) (n at : ℕ) (row old new : List ℕ) : Typ
   pub before : (i : ℕ) → i < at → slice_index new i ≡ slice_index old i
   pub after : (i : ℕ) → at + 4 * n ≤ i → slice_index new i ≡ slice_index old i
 
--- a frame has rows `top` to `bottom`, and a buffer of `len` bytes has room for them, where each begins `stride` bytes after the one before
+-- a frame has rows `top` to `bottom`, and a buffer of `len` bytes has room for them, each `stride` bytes after the one before
 pub record HasRoom (f : CanvasView) (top bottom stride len : ℕ) : Type 0 where
   pub there : bottom ≤ f.h
   pub apart : 4 * f.w ≤ stride

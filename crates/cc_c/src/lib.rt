@@ -1,7 +1,8 @@
 //! The compositor as a library for C. Its header is `include/cc.h`.
 //!
 //! C keeps a handle, which is a pointer, and gives it to one call at a time. Each call takes the handle and gives it
-//! back in `out`: the same pointer. What a call did is told by a status.
+//! back in `out`: the same pointer. What a call did is told by a status. While C has the pointer, `box_parts` says
+//! what it owns; commands come as numbers and bytes, and `commands` says what they mean.
 #![tactic(auto)]
 
 mod box_parts;

@@ -27,17 +27,17 @@ usage: cc_player step N < SCRIPT > RECORDING
                and writes its recording to standard output: every event, and after each draw the
                picture as a raw portable pixmap (P6); the recording is the same for every N
   play N       plays it by threads, N raster workers (1 to 16) among them, so that the recording is
-               one of many, each legal; where threads cannot be started it does as step N
-  film N       reads a script, plays it as step N does and writes its pictures alone, one behind
-               the other, each a raw portable pixmap (P6): as step N | frames, for runs of any length
+               one of many, each legal; if threads cannot be started it does as step N
+  film N       reads a script, plays it as step N does and writes its pictures alone, one after
+               another, each a raw portable pixmap (P6): as step N | frames, for runs of any length
   shot N       reads a script, plays it as step N does and writes the picture of its last draw as a PNG
                file; a script without inputs is played to the picture of its last main frame
   serve N      reads scripts, one a line, and answers each before it reads more: its recording in
                pieces, each after a line data B with the number of its bytes, then a line ok K for
                line K, counted from 0; or no K S: with the status S, and why
   frames       reads a recording from standard input and writes its pictures to standard output,
-               one behind the other, each a raw portable pixmap (P6)
-  check        reads a recording from standard input and judges it without the engine: whether its
+               one after another, each a raw portable pixmap (P6)
+  check        reads a recording from standard input and judges it without the core: whether its
                history is legal, and each picture the painting; it writes nothing
   gen NUMBER   writes the script of a number (0 to 18446744073709551615)
   demo NUMBER  plays the script of a number and writes one line: how many events, pictures, missing

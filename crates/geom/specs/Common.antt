@@ -23,7 +23,7 @@ pub record IsCommon (at len : ℤ) (s : Span) : Type 0 where
 abbrev pub empty_rect : Rect
 empty_rect = record { x = pos 0; y = pos 0; w = pos 0; h = pos 0 }
 
--- the rect of two spans, and `empty_rect` where one is missing
+-- the rect of two spans, and `empty_rect` if one is missing
 abbrev pub rect_of_spans : Option Span → Option Span → Rect
 rect_of_spans (Some s) (Some t) = record { x = s.at; y = t.at; w = s.len; h = t.len }
 rect_of_spans (Some s) None = empty_rect
@@ -33,7 +33,7 @@ rect_of_spans None t = empty_rect
 abbrev pub common : Rect → Rect → Rect
 common r s = rect_of_spans (common_span r.x r.w s.x s.w) (common_span r.y r.h s.y s.h)
 
--- two spans share a number where the later start lies before the earlier end
+-- two spans share a number if the later start lies before the earlier end
 unfoldable pub spans_meet : ℤ → ℤ → ℤ → ℤ → Bool
 spans_meet a m b n = int_lt (int_max a b) (int_min (a +ℤ m) (b +ℤ n))
 
@@ -41,6 +41,6 @@ spans_meet a m b n = int_lt (int_max a b) (int_min (a +ℤ m) (b +ℤ n))
 abbrev pub meets : Rect → Rect → Bool
 meets r s = spans_meet r.x r.w s.x s.w && spans_meet r.y r.h s.y s.h
 
--- two rects share a point
+-- two rects share a point: there is one that both cover
 abbrev pub Meet : Rect → Rect → Type 0
 Meet r s = (x : ℤ) × (y : ℤ) × (covers r x y ≡ true) × (covers s x y ≡ true)

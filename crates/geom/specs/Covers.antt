@@ -17,7 +17,7 @@ pub record IsSpan (at len : ℤ) : Type 0 where
   pub length_low : pos 0 ≤ℤ len
   pub length_high : len ≤ℤ pos (2 ^ 29)
 
--- a rect whose sums all fit 32 bits
+-- a rect whose sums all fit 32 bits: x and y at most 2^29 from 0, w and h from 0 to 2^29
 pub record IsSound (r : Rect) : Type 0 where
   pub across : IsSpan r.x r.w
   pub down : IsSpan r.y r.h

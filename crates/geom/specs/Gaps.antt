@@ -8,7 +8,7 @@ use Rattle.geom.specs.declared.rect.Rect.{Rect}
 abbrev pub shifted : Rect → Point → Rect
 shifted r by = record { x = r.x +ℤ by.x; y = r.y +ℤ by.y; w = r.w; h = r.h }
 
--- how many numbers lie between two spans: from the end of the one to the start of the other, 0 where neither starts after the other's end
+-- how many numbers lie between two spans: from the end of the one to the start of the other, 0 if neither starts after the other's end
 unfoldable pub span_gap : ℤ → ℤ → ℤ → ℤ → ℕ
 span_gap a m b n = max (int_gap (a +ℤ m) b) (int_gap (b +ℤ n) a)
 

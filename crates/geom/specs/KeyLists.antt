@@ -3,7 +3,7 @@ use Rattle.std.specs.Prelude.{◌≡◌, ◌==◌, Bool, false, ◌&&◌, List, 
 use Rattle.std.specs.List.{list_any}
 use Rattle.geom.specs.declared.tile.TileKey.{TileKey}
 
--- whether two keys are one
+-- whether two keys are one: all four numbers are the same
 abbrev pub same_key : TileKey → TileKey → Bool
 same_key k q = (k.layer == q.layer) && (k.x == q.x) && (k.y == q.y) && (k.stamp == q.stamp)
 

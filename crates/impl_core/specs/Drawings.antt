@@ -16,7 +16,7 @@ use Rattle.impl_tiles.specs.Managers.{Managed, Manages}
 abbrev pub held_tile : Store → TileKey → PageTile
 held_tile store q = record { key = q; image = image_of store q }
 
--- the manager represents a run whose active page is this one, at these offsets of its scrollers, where it shows the tiles of these keys
+-- the manager represents a run whose active page is this one, at these offsets of its scrollers, and shows the tiles of these keys
 pub record DrawsNow (m : Managed) (p : Page) (offset : ℕ → Point) (shown : List TileKey) : Type 0 where
   pub script : ScriptModel
   pub past : List Entry

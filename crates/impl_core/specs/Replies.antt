@@ -53,7 +53,7 @@ is_played [] = false
 is_played (e ∷ []) = is_end e.event
 is_played (e ∷ f ∷ es) = is_played (f ∷ es)
 
--- the key that starts next: none where the run has ended, or where none may start
+-- the key that starts next: none if the run has ended, or if none may start
 abbrev pub next_key : Run → Option TileKey
 next_key r = cond (has_ended (past r)) None (option_map rank_key (rank_to_start r.script (past r)))
 
@@ -84,7 +84,7 @@ pub record DrawsScene (old new : Run) (scene : SceneView) : Type 0 where
   pub entered : Entered old kind.Draw 0 new
   pub picture : IsPicture old.script (past old) scene
 
--- the answer is the scene of the draw that was entered; where there is none, none might come, and nothing has changed
+-- the answer is the scene of the draw that was entered; if there is none, none might come, and nothing has changed
 abbrev pub Draws : Run → Run → Option SceneView → Type 0
 Draws old new None = (now old kind.Draw 0 ≡ None) × (new ≡ old)
 Draws old new (Some scene) = DrawsScene old new scene

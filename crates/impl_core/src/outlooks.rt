@@ -1,4 +1,46 @@
-//! What there is to choose from, which is looked for once it is asked.
+//! What there is to choose from, looked for when somebody asks.
+//!
+//! # What
+//!
+//! The next tile is chosen among the ranks of all tiles near the viewports of both trees. A start and its end change
+//! one rank each, which the raster queue does in place. A scroll, a wheel, an abort, a commit and an activation move or
+//! exchange a tree: then every rank may be another. So these events leave the tile manager without ranks, and the two
+//! calls here give it an outlook again, from the trees of the host, when a question comes:
+//!
+//! - [`look`] gives the ranks of all tiles. Whatever may be asked of the manager may be asked then.
+//! - [`look_for_next`] gives as much as tells which tile starts next, and no more.
+//!
+//! Neither enters an event or changes which tiles are ready, in flight or pinned: after an error, which means out of
+//! memory, the manager stands for the past that it stood for.
+//!
+//! # How
+//!
+//! ```text
+//!             over the budget                         a visible tile is missing, or
+//!   unseen -------------------> visible tiles alone   none else may start
+//!      |                             |         +------------------------------------> told
+//!      | within the budget           | else
+//!      v                             v
+//!   ranks of all tiles near the viewports ------------------------------------------> told
+//! ```
+//!
+//! A visible tile may always start, and starts before all others. So while one is missing, the visible tiles alone tell
+//! what comes next, and the ready tiles that are not visible what is evicted for it: no other tile need be looked at.
+//! That is tried first only if more tiles are there than the budget has room for. Then all were evicted that could be,
+//! few ready tiles are not visible, and it is likely that no other tile may start.
+//!
+//! # Cost
+//!
+//! Most scrolls are followed by another before anybody asks, and cost nothing here. `look` walks the layers of both
+//! trees and makes a rank for each tile that lies within the eventually border of the viewport; the size of the layers
+//! does not count. `look_for_next`, over the budget, walks the visible tiles and the ready ones. Either is paid once:
+//! until a tree moves again, the queue steps with each start and each end.
+//!
+//! # Limits
+//!
+//! No clause says how much is looked at: the contracts say that the manager still stands for the past, and that it then
+//! tells what was asked for. Both calls need the host as it stands for the same past (`LooksNow`), so they come after
+//! an event was entered and the host was stepped by it, never between the two.
 
 ghost use Rattle.std.specs.Prelude.{◌≡◌, ℕ, true, List, OnOk, OnErr};
 ghost use Rattle.model_history.specs.declared.history.Entry.{Entry};

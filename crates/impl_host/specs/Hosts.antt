@@ -23,7 +23,7 @@ pub record IsTree (s : ScriptModel) (ps : ℕ → List Move) (n : ℕ) (t : Tree
   pub page : t.page ≡ page s ps n
   pub stamps : AreStamped t (commits_to s ps n)
 
--- the tree of the commit of a frame; no tree where there is no frame
+-- the tree of the commit of a frame; no tree if there is no frame
 abbrev pub IsTreeAt : ScriptModel → (ℕ → List Move) → Option ℕ → Option TreeModel → Type 0
 IsTreeAt s ps None None = Unit {0}
 IsTreeAt s ps None (Some t) = ⊥
@@ -36,7 +36,7 @@ pub record ImplHostModel : Type 0 where
   pub standing : StandingModel
   pub outright : List ℕ
 
--- the same trees, where the scrollers stand elsewhere
+-- the same trees, with the scrollers elsewhere
 abbrev pub with_standing : ImplHostModel → StandingModel → ImplHostModel
 with_standing m st = record { trees = m.trees; standing = st; outright = m.outright }
 

@@ -15,7 +15,7 @@ use Rattle.model_history.specs.Ranking.{place_named}
 abbrev pub made_by : Job → Image
 made_by job = record { key = job.key; rect = job.rect; list = job.list.value }
 
--- the rect of the place that a key names in a layer, where the layer has that place
+-- the rect of the place that a key names in a layer, if the layer has that place
 abbrev pub key_rect_in : Page → TileKey → PageLayer → Option Rect
 key_rect_in p q l = cond (has (grid_of p l) (place_named q)) (Some (rect_of_place (grid_of p l) (place_named q))) None
 
@@ -28,6 +28,6 @@ abbrev pub picture_on : Page → TileKey → Option PageLayer → Option Image
 picture_on p q None = None
 picture_on p q (Some l) = picture_in p q l
 
--- what makes the tile of a key in a page: its layer's list on the rect of its place; none where the page has no such place
+-- what makes the tile of a key in a page: its layer's list on the rect of its place; none if the page has no such place
 abbrev pub job_in : Page → TileKey → Option Image
 job_in p q = picture_on p q (find (has_id q.layer) p.layers)

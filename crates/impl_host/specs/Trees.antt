@@ -38,16 +38,16 @@ pub record AreCut (p : Page) (tilings : List Tiled) : Type 0 where
 abbrev pub AreStamped : TreeModel → List Commit → Type 0
 AreStamped t cs = Paired (λ l tiling. IsStamped tiling (grid_of t.page l) l.id cs) t.page.layers t.tilings
 
--- the same, where there is a tree
+-- the same, if there is a tree
 abbrev pub AreStampedIn : Option TreeModel → List Commit → Type 0
 AreStampedIn last cs = IfSome last (λ t. AreStamped t cs)
 
--- the size of a layer in the last pushed tree; None where there is no such tree or no such layer
+-- the size of a layer in the last pushed tree; None if there is no such tree or no such layer
 abbrev pub last_size : Option TreeModel → ℕ → Option (ℕ × ℕ)
 last_size None id = None
 last_size (Some t) id = size_of t.page id
 
--- a commit may follow the last pushed tree: a layer that it does not list as changed whole stands there with its size, so all layers of the first commit are listed so; and where it does not retile, the tile size is the one there
+-- a commit may follow the last pushed tree: a layer that it does not list as changed whole stands there with its size, so all layers of the first commit are listed so; and if it does not retile, the tile size is the one there
 pub record MayFollow (last : Option TreeModel) (p : Page) (d : Changed) : Type 0 where
   pub sizes : (id : ℕ) → has_layer id p.layers ≡ true → is_listed_whole d.list id ≡ false → last_size last id ≡ size_of p id
   pub tile : d.retiled ≡ false → IfSome last (λ t. t.page.view.tile ≡ p.view.tile)

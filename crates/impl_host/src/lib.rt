@@ -9,16 +9,10 @@
 //! place; what steps the host after the entry takes none. A push is the exception: it steps the host before
 //! its entry, and [`ImplHost::take_back`] undoes it.
 //!
-//! The name is that of Chromium's `cc/trees/layer_tree_host_impl.h`.
-//!
-//! The trees of the compositor side: the pending, the active and the recycled one, each with the tilings of
-//! its layers.
-//!
-//! A commit brings a page and what changed in it. The pending tree takes the page as it comes, and the stamps
-//! of its tiles are those of the last pushed tree, stepped by the commit. The tilings of the recycled tree are
-//! used again for this: they lack one commit more, which is carried first. So a push costs what the last two
-//! commits changed and a word a layer, not the places of the page. A layer that the recycled tree lacks, or
-//! has in another size, gets a copy of its tiling in the active tree; one that changed whole is cut anew.
+//! Its [`Trees`] are the pending, the active and the recycled one, each with the tilings of its layers. The pending
+//! tree takes the page of a commit as it comes; the stamps of its tiles are those of the last pushed tree, stepped
+//! by the commit. For that the tilings of the recycled tree are used again: they lack one commit more, which is
+//! carried first. So a push costs what the last two commits changed and a word a layer, not the places of the page.
 //!
 //! ```text
 //!            push                activate
@@ -28,8 +22,10 @@
 //!     +-----------------+-----------------------+
 //! ```
 //!
-//! A push asks that its commit may follow the active tree. Whoever plays a legal history knows that; a program
-//! that takes commits from elsewhere tests it first.
+//! A push asks that its commit may follow the active tree. A legal history guarantees that; a program that takes
+//! commits from elsewhere tests it first.
+//!
+//! The name is that of Chromium's `cc/trees/layer_tree_host_impl.h`.
 #![tactic(auto)]
 
 mod events;

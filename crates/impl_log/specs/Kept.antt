@@ -9,12 +9,12 @@ pub record KeptEntries : Type 0 where
   pub first : ℕ
   pub spare : ℕ
 
--- where the newest event of a past uses an input, what came before it, and else what came before an earlier one
+-- if the newest event of a past uses an input, what came before it, and else what came before an earlier one
 abbrev pub before_use : Option ℕ → List Entry → List Entry → List Entry
 before_use None h earlier = earlier
 before_use (Some i) h earlier = h
 
--- what came before the newest event of a past that uses an input; nothing where none does
+-- what came before the newest event of a past that uses an input; nothing if none does
 abbrev pub before_input : List Entry → List Entry
 before_input [] = []
 before_input (e ∷ h) = before_use (uses e.event) h (before_input h)

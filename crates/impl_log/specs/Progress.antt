@@ -23,7 +23,7 @@ progress h = record {
   in_flight = length (in_flight h);
 }
 
--- of the given number of frames that were sent the last is in flight, where the main side is not idle
+-- of the given number of frames that were sent the last is in flight, if the main side is not idle
 abbrev pub ended_of : Bool → ℕ → ℕ
 ended_of true sent = sent
 ended_of false sent = sent - 1

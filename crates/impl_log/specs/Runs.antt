@@ -36,7 +36,7 @@ pub record Entered (old : Run) (k : Kind) (a : ℕ) (new : Run) : Type 0 where
   pub is_now : now old k a ≡ Some event
   pub is_entered : new ≡ with_entry old a event
 
--- the answer tells whether it was; where it was not, none might come, and nothing has changed
+-- the answer tells whether it was; if it was not, none might come, and nothing has changed
 abbrev pub Plays : Run → Kind → ℕ → Run → Bool → Type 0
 Plays old k a new true = Entered old k a new
 Plays old k a new false = (now old k a ≡ None) × (new ≡ old)

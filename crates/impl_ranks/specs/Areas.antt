@@ -9,7 +9,7 @@ use Rattle.tile_priority.specs.declared.tile.Seen.{Seen}
 abbrev pub inflated : ℕ → Rect → Rect
 inflated n r = record { x = r.x -ℤ pos n; y = r.y -ℤ pos n; w = r.w +ℤ pos (n + n); h = r.h +ℤ pos (n + n) }
 
--- the viewport, and what lies up to the eventually border around it
+-- the viewport, made larger by the eventually border and one pixel on each side
 abbrev pub area_near : Borders → Rect
 area_near b = inflated (b.eventually + 1) b.viewport
 

@@ -66,7 +66,7 @@ pub record IsSeenTree (t : Tree) (r : SeenTreeModel) : Type 0 where
   pub page : r.page ≡ t.page
   pub layers : AreLayersOf t t.page.layers r.layers
 
--- it is a tree; where there is none, the tree has no layer
+-- it is a tree; if there is none, the tree has no layer
 abbrev pub IsSeenWhere : Tree → Option SeenTreeModel → Type 0
 IsSeenWhere t None = t.page.layers ≡ []
 IsSeenWhere t (Some r) = IsSeenTree t r
@@ -90,7 +90,7 @@ pub record PlacedModel : Type 0 where
 abbrev pub IsPlaced : Tree → PlacedModel → Type 0
 IsPlaced t m = IsTiled t m.page (offset_at m.offsets) m.tilings
 
--- it is a tree; where there is none, the tree has no layer
+-- it is a tree; if there is none, the tree has no layer
 abbrev pub IsPlacedWhere : Tree → Option PlacedModel → Type 0
 IsPlacedWhere t None = t.page.layers ≡ []
 IsPlacedWhere t (Some m) = IsPlaced t m

@@ -11,12 +11,12 @@ abbrev pub value_along : Axis → Row → Synced
 value_along across r = r.x
 value_along down r = r.y
 
--- the values of a scroller along an axis; all are 0 where it has no row
+-- the values of a scroller along an axis; all are 0 if it has no row
 abbrev pub row_value : List Row → ℕ → Axis → Synced
 row_value [] sc ax = zero
 row_value (r ∷ rs) sc ax = cond (r.scroller == sc) (value_along ax r) (row_value rs sc ax)
 
--- the row of a scroller, of zeros where it has none
+-- the row of a scroller, of zeros if it has none
 abbrev pub row_at : List Row → ℕ → Row
 row_at rs sc = record { scroller = sc; x = row_value rs sc across; y = row_value rs sc down }
 

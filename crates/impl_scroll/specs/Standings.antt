@@ -33,7 +33,7 @@ pub record HasScrollState (st : StandingModel) (value : ℕ → Axis → Synced)
 abbrev pub StandsForPast : ScriptModel → List Entry → StandingModel → Type 0
 StandsForPast s h st = HasScrollState st (λ sc ax. values s sc ax h) (active_offsets s h) (pending_offsets s h)
 
--- the page of the commit of a frame; none where there is no frame
+-- the page of the commit of a frame; none if there is no frame
 abbrev pub page_at : ScriptModel → List Entry → Option ℕ → Option Page
 page_at s h o = option_map (λ k. page s (pulls_of h) (suc k)) o
 

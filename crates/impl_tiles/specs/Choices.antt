@@ -16,7 +16,7 @@ pub record Ranked : Type 0 where
   pub ranks : List Rank
   pub budget : ℕ
 
--- the rank of a key among ranks, where one of them is of it
+-- the rank of a key among ranks, if one of them is of it
 abbrev pub rank_among : List Rank → TileKey → Option Rank
 rank_among rs q = find (is_of q) rs
 
@@ -28,7 +28,7 @@ store_lacks store q = not (is_ready store q) && not (is_in_flight store q)
 abbrev pub tile_among : List Rank → List TileKey → TileKey → Tile
 tile_among rs pins q = record { key = q; rank = rank_among rs q; pinned = has_key pins q }
 
--- what there is to choose from where these are the ranks of all keys that have one, and these keys are pinned: the ranks of the missing keys are wanted, and what the store has is ready
+-- what there is to choose from if these are the ranks of all keys that have one, and these keys are pinned: the ranks of the missing keys are wanted, and what the store has is ready
 abbrev pub choice_among : Store → List TileKey → Ranked → Choice
 choice_among store pins r = record {
   wanted = filter (λ k. store_lacks store k.key) r.ranks;

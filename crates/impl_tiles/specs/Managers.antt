@@ -80,7 +80,7 @@ TellsNext (outlook.Visible queue) = TellsFirst queue
 TellsNext (outlook.Ranks ranks) = ⊤
 TellsNext outlook.Unseen = ⊥
 
--- the queue is for this choice or for its visible tiles, or a queue is to be made of these ranks; nothing is told where it was not looked
+-- the queue is for this choice or for its visible tiles, or a queue is to be made of these ranks; nothing is told if it was not looked
 abbrev pub Foresees : Outlook → Choice → List Rank → Type 0
 Foresees (outlook.Queue queue) c live = Alike queue c
 Foresees (outlook.Visible queue) c live = Shows queue c
@@ -98,7 +98,7 @@ foreseen store pins (outlook.Visible queue) = queue
 foreseen store pins (outlook.Ranks ranks) = choice_among store pins ranks
 foreseen store pins outlook.Unseen = empty_choice
 
--- the manager has an image that shows it for each of the ready keys, these keys in flight and pinned, and a queue for this choice or for its visible tiles, or the ranks of the live keys of which one is to be made, where it was looked
+-- the manager has an image that shows it for each of the ready keys, these keys in flight and pinned, and a queue for this choice or for its visible tiles, or the ranks of the live keys of which one is to be made, if it was looked
 pub record HoldsTiles (s : ScriptModel) (m : Managed) (made flying pins : List TileKey) (c : Choice) (live : List Rank) : Type 0 where
   pub ready : (q : TileKey) → is_ready m.store q ≡ has_key made q
   pub in_flight : (q : TileKey) → is_in_flight m.store q ≡ has_key flying q
@@ -127,7 +127,7 @@ pub record StartsNow (m : Managed) (q : TileKey) (evicted : List TileKey) : Type
   pub manages : Manages script past m
   pub legal : Legal script workers (start actor worker q evicted ∷ past)
 
--- the tile of a key that a worker has made: none where the key is no longer live
+-- the tile of a key that a worker has made: none if the key is no longer live
 abbrev pub tile_made : ScriptModel → List Entry → TileKey → Option Tile
 tile_made s h q = cond (has_key (live_keys s h) q) (Some (ready_tile s h q)) None
 

@@ -8,7 +8,7 @@ use Rattle.geom.specs.KeyOrder.{key_cmp}
 use Rattle.geom.specs.KeyLists.{has_key}
 use Rattle.tile_raster.specs.Images.{Image}
 
--- what a tile store holds
+-- what a tile store holds: the ready keys with their images, in key order; the keys in flight; and for how many more tiles there is room
 pub record Store : Type 0 where
   -- the ready keys, each with its image
   pub ready : map.FinMap key_cmp Image
@@ -45,7 +45,7 @@ store_used s = map.len s.ready + set.len s.in_flight
 abbrev pub empty_store : ℕ → Store
 empty_store spare = record { ready = map.empty; in_flight = set.empty; spare = spare }
 
--- the key may start where these keys are evicted for it
+-- a tile may start: there is room, its key is neither ready nor in flight, and the keys that are evicted for it are ready
 pub record MayStart (s : Store) (key : TileKey) (evicted : List TileKey) : Type 0 where
   pub room : 1 ≤ s.spare
   pub not_ready : is_ready s key ≡ false
@@ -57,7 +57,7 @@ abbrev pub started : Store → TileKey → List TileKey → ℕ → Store
 started s key evicted spare =
     record s { ready = map.retain_keys s.ready (λ k. not (has_key evicted k)); in_flight = set.insert s.in_flight key; spare = spare }
 
--- the image's key is no longer in flight, and it is ready with this image exactly where it is live
+-- the image's key is no longer in flight, and it is ready with this image exactly if it is live
 abbrev pub done_with : Store → Image → Bool → ℕ → Store
 done_with s image live spare =
     record s { ready = (if live then map.insert s.ready image.key image else s.ready); in_flight = set.remove s.in_flight image.key; spare = spare }

@@ -289,8 +289,8 @@ impl TileManager {
         Ok(())
     }
 
-    /// Forgets the ranks, for a past after which the same keys are ready, in flight and pinned: they are to be
-    /// given by `rerank` before the next question for a key. Takes no memory.
+    /// Forgets the ranks, for a past after which the same keys are ready, in flight and pinned. `rerank` or `foresee`
+    /// gives new ones before the next question for a key. Takes no memory.
     pub fn forget(&mut self)
         ensures { (s : ScriptModel) (h g : List Entry) → Manages s h self.old → HaveSameTiles s h g → Manages s g self.new }
     {

@@ -1,4 +1,4 @@
--- What is due: the one event of a kind and an actor that may come after a past, where its further condition holds.
+-- What is due: the one event of a kind and an actor that may come after a past, if its further condition holds.
 use Rattle.std.specs.Prelude.{ℕ, ◌-◌, ◌==◌, nat_le, pos, Bool, true, false, cond, not, ◌&&◌, List, length, slice_get, is_some, Option, Some, None}
 use Rattle.geom.specs.declared.tile.TileKey.{TileKey}
 use Rattle.tile_priority.specs.declared.rank.Rank.{Rank}
@@ -20,7 +20,7 @@ use Rattle.model_history.specs.Tiles.{required, are_ready, in_flight, missing_vi
 use Rattle.model_history.specs.Ranking.{rank_to_start, evicted_for}
 use Rattle.page_layers.specs.Wheels.{wheel_parts, wheel_rest}
 
--- the event where the condition holds
+-- the event if the condition holds
 abbrev pub on_if : Bool → Event → Option Event
 on_if b e = cond b (Some e) None
 
@@ -36,7 +36,7 @@ abbrev pub asks_draw : Option Input → Bool
 asks_draw (Some input.Draw) = true
 asks_draw _ = false
 
--- the frame that was sent last is ready where it changes something, and else is aborted
+-- the frame that was sent last is ready if it changes something, and else is aborted
 abbrev pub due_ready : ScriptModel → List Entry → Option ℕ → Option Event
 due_ready s h None = None
 due_ready s h (Some k) = on_if (changes s (pulls_of h) k) (event.Ready k)
@@ -50,7 +50,7 @@ abbrev pub due_commit : Option ℕ → Option Event
 due_commit None = None
 due_commit (Some k) = Some (event.Commit k)
 
--- the pending commit is activated where all that it needs is ready
+-- the pending commit is activated if all that it needs is ready
 abbrev pub due_activate : ScriptModel → List Entry → Option ℕ → Option Event
 due_activate s h None = None
 due_activate s h (Some k) = on_if (are_ready s h (required s h)) (event.Activate k (next_clamps s h))
@@ -80,7 +80,7 @@ abbrev pub due_done : ℕ → Option TileKey → Option Event
 due_done w None = None
 due_done w (Some q) = Some (event.DoneTile w q)
 
--- the draw for which the impl frame was begun draws the active tree, or is skipped where there is none
+-- the draw for which the impl frame was begun draws the active tree, or is skipped if there is none
 abbrev pub due_draw : ScriptModel → List Entry → Option ℕ → Option Event
 due_draw s h None = None
 due_draw s h (Some i) = on_if (is_some (active h)) (event.Draw i (missing_visible s h))
@@ -94,7 +94,7 @@ abbrev pub is_pending_to : ℕ → Option ℕ → Bool
 is_pending_to f None = false
 is_pending_to f (Some k) = nat_le k f
 
--- an await is over where its frame has ended and no commit up to it is pending
+-- an await is over if its frame has ended and no commit up to it is pending
 abbrev pub due_await : List Entry → ℕ → Option Input → Option Event
 due_await h i (Some (input.Await f)) = on_if (has_frame_ended h f && not (is_pending_to f (pending h))) (event.Await i)
 due_await h i _ = None
@@ -103,7 +103,7 @@ due_await h i _ = None
 abbrev pub is_settled : ScriptModel → List Entry → Bool
 is_settled s h = is_empty (in_flight h) && not (is_some (rank_to_start s h))
 
--- a settle is over where no tile is left to make
+-- a settle is over if no tile is left to make
 abbrev pub due_settle : ScriptModel → List Entry → ℕ → Option Input → Option Event
 due_settle s h i (Some input.Settle) = on_if (is_settled s h) (event.Settle i)
 due_settle s h i _ = None
@@ -112,7 +112,7 @@ due_settle s h i _ = None
 abbrev pub is_over : ScriptModel → List Entry → Bool
 is_over s h = (next_input h == length s.inputs) && not (is_left s h) && is_empty (in_flight h)
 
--- the event of a kind and an actor that is due, by the table of the kinds: its fields, where its further condition holds
+-- the event of a kind and an actor that is due, by the table of the kinds: its fields, if its further condition holds
 abbrev pub due : ScriptModel → List Entry → Kind → ℕ → Option Event
 due s h kind.BeginDraw a = on_if (asks_draw (input_now s h)) (event.Begin (next_input h))
 due s h kind.BeginPlain a = on_if (not (asks_draw (input_now s h)) && is_left s h) event.BeginPlain

@@ -49,6 +49,6 @@ abbrev pub TookScriptFrame : ScriptModel → ℕ → List Move → Page → Page
 TookScriptFrame s k ms p q (Ok done) = EndsFrame s k ms p q done
 TookScriptFrame s k ms p q (Err e) = (n : ℕ) × HasTaken (page_after_pulls ms p) (commands_of s k) n q
 
--- the answer tells whether this frame changes something, where these are the pages before and after it
+-- the answer tells whether this frame changes something, if these are the pages before and after it
 abbrev pub Tells : ScriptModel → ℕ → List Move → Page → Page → Bool → Type 0
 Tells s k ms p q answer = (ps : ℕ → List Move) → ps k ≡ ms → p ≡ page s ps k → q ≡ page s ps (suc k) → answer ≡ changes s ps k

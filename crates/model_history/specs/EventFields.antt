@@ -77,7 +77,7 @@ abbrev pub begins : Event → Option ℕ
 begins (event.Begin i) = Some i
 begins _ = None
 
--- the input that it uses
+-- the input that it uses: at a begin for a draw, a scroll, a wheel, an await or a settle
 abbrev pub uses : Event → Option ℕ
 uses (event.Begin i) = Some i
 uses (event.Scroll i dx dy) = Some i
@@ -91,7 +91,7 @@ abbrev pub scroll_move : Option Input → ℤ → ℤ → List Move
 scroll_move (Some (input.Scroll sc asked_x asked_y)) dx dy = record { scroller = sc; dx = dx; dy = dy } ∷ []
 scroll_move _ dx dy = []
 
--- the moves that it accepts: a scroll's, those of a wheel, and those that an activation lists
+-- the moves that it accepts: a scroll's, of the scroller that its input names; the parts of a wheel; and what an activation lists
 abbrev pub moves : ScriptModel → Event → List Move
 moves s (event.Activate k clamps) = clamps
 moves s (event.Scroll i dx dy) = scroll_move (slice_get s.inputs i) dx dy

@@ -29,7 +29,7 @@ blank s = record {
 abbrev pub commands_of : ScriptModel → ℕ → List Command
 commands_of s k = slice_index_or s.main k []
 
--- the page after the first n frames, where `ps k` are the pulls of frame k: a frame takes its pulls, then its commands
+-- the page after the first n frames, where `ps k` are the pulls of frame k; page 0 has the script's view and nothing in it. A frame takes its pulls, each added to the main value of its scroller and clamped, then its commands
 abbrev pub page : ScriptModel → (ℕ → List Move) → ℕ → Page
 page s ps zero = blank s
 page s ps (suc k) = commanded (commands_of s k) (page_after_pulls (ps k) (page s ps k))
@@ -46,6 +46,7 @@ main_move s ps k sc ax = (main_value (page s ps (suc k)) sc ax -ℤ main_value (
 abbrev pub moves_main : ScriptModel → (ℕ → List Move) → ℕ → ℕ → Bool
 moves_main s ps k sc = not (int_eq (main_move s ps k sc across) (pos 0) && int_eq (main_move s ps k sc down) (pos 0))
 
+-- whether a list has no element
 abbrev pub is_empty : {A : Type 0} → List A → Bool
 is_empty [] = true
 is_empty (x ∷ xs) = false
@@ -75,11 +76,12 @@ has_frame_ended h k = was_named commits h k || was_named aborts h k
 abbrev pub active : List Entry → Option ℕ
 active h = newest activates h
 
+-- a frame, unless it was activated
 abbrev pub unless_activated : List Entry → Option ℕ → Option ℕ
 unless_activated h None = None
 unless_activated h (Some k) = cond (was_named activates h k) None (Some k)
 
--- the frame that was committed last, where it was not activated
+-- the frame that was committed last, if it was not activated
 abbrev pub pending : List Entry → Option ℕ
 pending h = unless_activated h (newest commits h)
 
@@ -88,7 +90,7 @@ abbrev pub up_to : Option ℕ → ℕ
 up_to None = zero
 up_to (Some k) = suc k
 
--- the page of the active commit, and that of the pending one; the blank page where there is none
+-- the page of the active commit, and that of the pending one; the blank page if there is none
 abbrev pub active_page : ScriptModel → List Entry → Page
 active_page s h = page s (pulls_of h) (up_to (active h))
 

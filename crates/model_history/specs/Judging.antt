@@ -1,4 +1,4 @@
--- Which command of a script is refused first, where its commands are applied in order from the blank page on, without pulls.
+-- Which command of a script is refused first, when its commands are applied in order from the blank page on, without pulls.
 use Rattle.std.specs.Prelude.{◌≡◌, ℕ, zero, suc, List, [], ◌∷◌, Result, Ok, Err, ⊤}
 use Rattle.page_layers.specs.declared.command.Command.{Command}
 use Rattle.page_layers.specs.declared.fault.EditFault.{EditFault}
@@ -23,7 +23,7 @@ RefusedAt p [] k n fault = ⊥
 RefusedAt p (f ∷ fs) zero n fault = RefusedIn p f n fault
 RefusedAt p (f ∷ fs) (suc k) n fault = TakesAll p f × RefusedAt (commanded f p) fs k n fault
 
--- the page after these main frames
+-- the page after these main frames, none of which is told a scroll of the compositor side
 abbrev pub framed : List (List Command) → Page → Page
 framed [] p = p
 framed (f ∷ fs) p = framed fs (commanded f p)

@@ -10,7 +10,7 @@ use Rattle.model_history.specs.EventFields.{kind_of, actor_of}
 use Rattle.model_history.specs.Scans.{has_ended}
 use Rattle.model_history.specs.Due.{due}
 
--- the state of the scheduler after a past
+-- the state of the scheduler after a past: the table of `model_states`, folded over it
 abbrev pub sched : List Entry → Sched
 sched [] = start_state
 sched (e ∷ h) = sched_after (sched h) (kind_of e.event)
@@ -23,7 +23,7 @@ is_open h k = not (has_ended h) && may (sched h) k
 abbrev pub can : ScriptModel → List Entry → Kind → ℕ → Option Event
 can s h k a = cond (is_open h k) (due s h k a) None
 
--- the entry may come after this past, in a run with the given number of workers
+-- the entry may come next after this past, in a run with the given number of workers
 pub record Next (s : ScriptModel) (workers : ℕ) (h : List Entry) (e : Entry) : Type 0 where
   -- no end and no stop stands
   pub going : has_ended h ≡ false

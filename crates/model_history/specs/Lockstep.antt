@@ -29,11 +29,11 @@ Stays h g = g ≡ h
 abbrev pub Then : Step → Step → Step
 Then P Q h g = (m : List Entry) × P h m × Q m g
 
--- P where the test holds of the past, else Q
+-- P if the test holds of the past, else Q
 abbrev pub Where : (List Entry → Bool) → Step → Step → Step
 Where test P Q h g = MatchBool (test h) (P h g) (Q h g)
 
--- P n times, each where the test holds, until it does not
+-- P n times, each time with the test holding, and then it holds no more
 abbrev pub Times : (List Entry → Bool) → Step → ℕ → Step
 Times test P zero h g = (test h ≡ false) × (g ≡ h)
 Times test P (suc n) h g = (test h ≡ true) × (m : List Entry) × P h m × Times test P n m g
@@ -63,11 +63,11 @@ has_first s h = is_some (rank_to_start s h)
 abbrev pub is_possible : ScriptModel → Kind → ℕ → List Entry → Bool
 is_possible s k a h = is_some (can s h k a)
 
--- the first tile is started and made
+-- worker 0 starts the first tile, and is done with it
 abbrev pub Pair : ScriptModel → Step
 Pair s = Then (Enters s kind.Start 2) (Enters s kind.Done 2)
 
--- a main frame is sent, and is aborted, or is ready and committed
+-- a send; then its abort if that may come, else its ready and its commit
 abbrev pub MainPart : ScriptModel → Step
 MainPart s = Then (Enters s kind.Send 0)
     (Where (is_possible s kind.Abort 1) (Enters s kind.Abort 1) (Then (Enters s kind.Ready 1) (Enters s kind.Commit 0)))
@@ -76,7 +76,7 @@ MainPart s = Then (Enters s kind.Send 0)
 abbrev pub ActivateNow : ScriptModel → Step
 ActivateNow s = Then (While (λ h. not (is_possible s kind.Activate 0 h)) (Pair s)) (Enters s kind.Activate 0)
 
--- an impl frame for a main frame alone: its commit, if it makes one, is activated
+-- an impl frame for a main frame alone: a begin, a main part, the activation of its commit if it made one, a no-draw and the finish
 abbrev pub PlainFrame : ScriptModel → Step
 PlainFrame s = Then (Enters s kind.BeginPlain 0) (Then (MainPart s)
     (Then (Where waits (ActivateNow s) Stays) (Then (Enters s kind.NoDraw 0) (Enters s kind.Finish 0))))
@@ -85,14 +85,14 @@ PlainFrame s = Then (Enters s kind.BeginPlain 0) (Then (MainPart s)
 abbrev pub Round : ScriptModel → Step
 Round s = Where waits (ActivateNow s) (PlainFrame s)
 
--- a draw: an impl frame that sends a main frame where it may, makes some tiles, activates where it may, and draws or skips
+-- an impl frame for a draw: a begin, a main part if a send may come, at most `raster_per_frame` tiles, an activation if it may come, the draw or a skip, and the finish
 abbrev pub DrawFrame : ScriptModel → Step
 DrawFrame s = Then (Enters s kind.BeginDraw 0) (Then (Where (may_send s) (MainPart s) Stays)
     (Then (AtMost s.raster_per_frame (has_first s) (Pair s))
     (Then (Where (is_possible s kind.Activate 0) (Enters s kind.Activate 0) Stays)
     (Then (Where (λ h. is_some (active h)) (Enters s kind.Draw 0) (Enters s kind.Skip 0)) (Enters s kind.Finish 0)))))
 
--- what an input brings
+-- what an input brings: a scroll and a wheel enter; a draw is a draw frame; an await is rounds until it may come; a settle is the activation of a pending commit, if there is one, and then tiles as long as one may start
 abbrev pub InputStep : ScriptModel → Input → Step
 InputStep s (input.Scroll sc dx dy) = Enters s kind.Scroll 0
 InputStep s (input.Wheel x y dx dy) = Enters s kind.Wheel 0

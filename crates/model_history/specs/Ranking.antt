@@ -19,7 +19,7 @@ use Rattle.tile_visible.specs.Visible.{viewport, seen}
 use Rattle.geom.specs.KeyLists.{has_key}
 use Rattle.model_history.specs.Tiles.{Tree, active_tree, pending_tree, keys_of, live_keys, ready, in_flight, pinned}
 
--- by what the tiles of a page are ranked
+-- by what the tiles of a page are ranked: its viewport, and the distances and the tree priority of the script
 abbrev pub borders : ScriptModel → Page → Borders
 borders s p = record { viewport = viewport p; soon = s.soon; eventually = s.eventually; priority = s.priority }
 
@@ -27,11 +27,12 @@ borders s p = record { viewport = viewport p; soon = s.soon; eventually = s.even
 abbrev pub place_named : TileKey → Place
 place_named q = record { x = q.x; y = q.y }
 
+-- the rank of a place of a page, if its tile has a bin
 abbrev pub rank_on : ScriptModel → Side → Tree → TileKey → Option PageLayer → Option Rank
 rank_on s side t q None = None
 rank_on s side t q (Some l) = rank_of (borders s t.page) side (seen t.page t.offset l (place_named q)) q
 
--- the rank of a key in a tree; none where the tree lacks the key, or its tile has no bin
+-- the rank of a key in a tree; none if the tree lacks the key, or its tile has no bin
 unfoldable pub rank_in : ScriptModel → Side → Tree → TileKey → Option Rank
 rank_in s side t q = cond (has_key (keys_of t) q) (rank_on s side t q (find (has_id q.layer) t.page.layers)) None
 
@@ -51,11 +52,11 @@ wanted s h = filter_map (rank s h) (filter (is_unmade s h) (live_keys s h))
 abbrev pub ready_tile : ScriptModel → List Entry → TileKey → Tile
 ready_tile s h q = record { key = q; rank = rank s h q; pinned = has_key (pinned s h) q }
 
--- what the choice is made from
+-- what the choice is made from: the wanted ranks, the ready tiles, how many are in flight, and the budget
 abbrev pub choice : ScriptModel → List Entry → Choice
 choice s h = record { wanted = wanted s h; ready = map (ready_tile s h) (ready s h); in_flight = length (in_flight h); budget = s.budget }
 
--- the rank of the key that starts first, where one may start
+-- the rank of the key that starts first, if one may start
 abbrev pub rank_to_start : ScriptModel → List Entry → Option Rank
 rank_to_start s h = choosing.first (choice s h)
 

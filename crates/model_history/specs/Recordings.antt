@@ -28,11 +28,11 @@ rgb c = c.r ∷ c.g ∷ c.b ∷ []
 unfoldable pub image_row : (ℕ → ℕ → Parts) → ℕ → ℕ → List ℕ
 image_row pixel w y = joined_to w (λ x. rgb (pixel x y))
 
--- a picture of w by h whose pixel at column x and row y is `pixel x y`, rows from the top
+-- a picture of w by h whose pixel at column x and row y is `pixel x y`: a head with the size, and then the pixels, rows from the top
 unfoldable pub image : (ℕ → ℕ → Parts) → ℕ → ℕ → List ℕ
 image pixel w h = image_head w h ++ joined_to h (image_row pixel w)
 
--- what the screen shows at column x and row y after a past, where these tiles are missing: the painting of the active page at the offsets of its scrollers
+-- what the screen shows at column x and row y after a past, with these tiles missing: the painting of the active page at the offsets of its scrollers
 abbrev pub screen_colour : ScriptModel → List Entry → List TileKey → ℕ → ℕ → Parts
 screen_colour s h missing x y = paint (active_page s h) (active_offsets s h) missing s.background (pos x) (pos y)
 
@@ -58,6 +58,6 @@ pieces s h (e ∷ es) = piece s h e.event ++ pieces s (e ∷ h) es
 unfoldable pub header : List ℕ → List ℕ
 header script = (codes "cc1\n" ++ script) ++ codes "\n"
 
--- the recording of a script and a history, where the script's line is this text
+-- the recording of a script and a history, if the script's line is this text: the format's name, that line, and then what each entry adds
 unfoldable pub recorded : List ℕ → ScriptModel → List Entry → List ℕ
 recorded line s history = header line ++ pieces s [] history

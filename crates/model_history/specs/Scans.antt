@@ -23,7 +23,7 @@ abbrev pub newest : (Event → Option ℕ) → List Entry → Option ℕ
 newest f [] = None
 newest f (e ∷ h) = option_or (f e.event) (newest f h)
 
--- a count, one higher where something is named
+-- a count, one higher if something is named
 abbrev pub one_more : Option ℕ → ℕ → ℕ
 one_more None n = n
 one_more (Some m) n = suc n

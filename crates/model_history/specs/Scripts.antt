@@ -6,7 +6,7 @@ use Rattle.page_layers.specs.declared.command.Command.{Command}
 use Rattle.model_history.specs.declared.input.Input.{Input}
 use Rattle.model_history.specs.declared.script_parts.ScriptParts.{ScriptParts}
 
--- all that a script says: the commands of each main frame, the inputs, and what holds for the whole run
+-- all that a script says, without addresses: the commands of each main frame, the inputs, and what holds for the whole run
 pub record ScriptModel : Type 0 where
   pub version : ℕ
   pub viewport_w : ℕ

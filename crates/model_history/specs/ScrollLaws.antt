@@ -20,7 +20,7 @@ unless_ended h (Some k) = cond (has_frame_ended h k) None (Some k)
 abbrev pub frame_in_flight : List Entry → Option ℕ
 frame_in_flight h = unless_ended h (newest sends h)
 
--- the sum of the moves that the send of this frame carries; 0 where there is no frame
+-- the sum of the moves that the send of this frame carries; 0 if there is no frame
 abbrev pub carried_by : ScriptModel → List Entry → Option ℕ → ℕ → Axis → ℤ
 carried_by s h None sc ax = pos 0
 carried_by s h (Some k) sc ax = carried s h k sc ax

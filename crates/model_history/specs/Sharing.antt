@@ -19,7 +19,7 @@ use Rattle.model_history.specs.Ranking.{place_named}
 abbrev pub has_page_key : ScriptModel → (ℕ → List Move) → ℕ → TileKey → Bool
 has_page_key s ps n q = has_key (page_keys (page s ps n) (stamp_in s ps n)) q
 
--- the rect of a key's place in its layer; it covers nothing where the page lacks the layer
+-- the rect of a key's place in its layer; it covers nothing if the page lacks the layer
 abbrev pub key_rect : Page → TileKey → Rect
 key_rect p q = place_rect p (place_named q) (find (has_id q.layer) p.layers)
 

@@ -88,6 +88,6 @@ fields (event.Stop actor) = spaced actor
 unfoldable pub event_text : Event → List ℕ
 event_text e = word e ++ fields_text (fields e)
 
--- the line of an event
+-- the line of an event: its word, its fields and a newline
 unfoldable pub event_line : Event → List ℕ
 event_line e = event_text e ++ 10 ∷ []

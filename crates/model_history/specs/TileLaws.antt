@@ -24,7 +24,7 @@ abbrev pub lacking : Event → List TileKey
 lacking (event.Draw i missing) = missing
 lacking _ = []
 
--- whether the tree stands as it was activated, where it did so before the event
+-- whether the tree stands as it was activated, if it did so before the event
 abbrev pub rests_after : Event → Bool → Bool
 rests_after (event.Activate k clamps) before = true
 rests_after (event.Scroll i dx dy) before = false

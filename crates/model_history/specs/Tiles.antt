@@ -21,7 +21,7 @@ pub record Tree : Type 0 where
   pub offset : ℕ → Point
   pub stamp : ℕ → Place → ℕ
 
--- the active tree, and the pending one; a blank page where there is none
+-- the active tree, and the pending one; a blank page if there is none
 abbrev pub active_tree : ScriptModel → List Entry → Tree
 active_tree s h = record { page = active_page s h; offset = active_offsets s h; stamp = stamp_in s (pulls_of h) (up_to (active h)) }
 
@@ -39,12 +39,12 @@ keys_of t = page_keys t.page t.stamp
 abbrev pub visible_in : Tree → List TileKey
 visible_in t = visible_keys t.page t.offset t.stamp
 
--- keys of which some are taken away; where there are none to take away, all stay
+-- keys of which some are taken away; if there are none to take away, all stay
 abbrev pub without_keys : List TileKey → List TileKey → List TileKey
 without_keys ks [] = ks
 without_keys ks (q ∷ qs) = filter (λ k. not (has_key (q ∷ qs) k)) ks
 
--- the keys of the active and of the pending tree
+-- the live keys: those of the active and of the pending tree
 abbrev pub live_keys : ScriptModel → List Entry → List TileKey
 live_keys s h = keys_of (active_tree s h) ++ keys_of (pending_tree s h)
 
@@ -70,6 +70,7 @@ tiles_used s h = length (ready s h) + length (in_flight h)
 abbrev pub required : ScriptModel → List Entry → List TileKey
 required s h = visible_in (pending_tree s h)
 
+-- what an activation of this past needed
 abbrev pub pinned_by : Option ℕ → List TileKey → List TileKey → List TileKey
 pinned_by None now before = before
 pinned_by (Some k) now before = now

@@ -11,7 +11,7 @@ use Rattle.page_layers.specs.Axes.{Axis, amount_in}
 use Rattle.page_layers.specs.Scrollers.{main_value}
 use Rattle.model_history.specs.Frames.{page, pulls_of}
 
--- the values after an event: each step of the table at its event, and each accepted move added
+-- the values after an event, by its step of the table: a send pulls; a commit pushes the main value of the page after its frame; an activation activates and then adds the move that it lists; an abort aborts; a scroll and a wheel add their moves
 abbrev pub value_step : ScriptModel → ℕ → Axis → List Entry → Event → Synced → Synced
 value_step s sc ax h (event.Send k pulls) v = table.pulled v
 value_step s sc ax h (event.Commit k) v = table.pushed (main_value (page s (pulls_of h) (suc k)) sc ax) v
@@ -21,7 +21,7 @@ value_step s sc ax h (event.Scroll i dx dy) v = table.added (amount_in sc ax (mo
 value_step s sc ax h (event.Wheel i target rest_x rest_y parts) v = table.added (amount_in sc ax parts) v
 value_step s sc ax h _ v = v
 
--- the values after a past
+-- the five numbers of `model_states` for a scroller along an axis, after a past, kept step by step
 abbrev pub values : ScriptModel → ℕ → Axis → List Entry → Synced
 values s sc ax [] = table.zero
 values s sc ax (e ∷ h) = value_step s sc ax h e.event (values s sc ax h)

@@ -27,7 +27,7 @@ is_to_make s h b q = not (has_key (ready s h) q) && is_of_bin b (rank s h q)
 unfoldable pub to_make : ScriptModel → List Entry → Bin → ℕ
 to_make s h b = length (filter (is_to_make s h b) (live_keys s h))
 
--- three counts as the digits of one number, where the first weighs most
+-- three counts as the digits of one number, the first of which weighs most
 abbrev pub weighed : ℕ → ℕ → ℕ → ℕ → ℕ
 weighed base now soon eventually = (now * base + soon) * base + eventually
 

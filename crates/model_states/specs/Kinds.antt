@@ -63,7 +63,7 @@ pub record Row : Type 0 where
 abbrev pub begun_for : Begun → Sched → Sched
 begun_for b s = record s { impl_state = impl.InsideBeginFrame; begun = b; sent_in_frame = false }
 
--- the table; what a row does not name stays
+-- the table: for each kind the states in which it may come, and what it makes of the state; what a row does not name stays
 abbrev pub row : Kind → Row
 row kind.BeginDraw = record {
   states = λ s. is_idle s.impl_state;

@@ -23,7 +23,7 @@ lacks_key ready in_flight q = not (has_key ready q) && not (has_key in_flight q)
 abbrev pub tile_in_both : ScriptModel → Tree → Tree → List TileKey → TileKey → Tile
 tile_in_both s a p pinned q = record { key = q; rank = rank_in_both s a p q; pinned = has_key pinned q }
 
--- what the choice is made from, where these trees are active and pending, and these keys ready, in flight and pinned
+-- what the choice is made from, if these trees are active and pending, and these keys ready, in flight and pinned
 abbrev pub choice_of : ScriptModel → Tree → Tree → List TileKey → List TileKey → List TileKey → Choice
 choice_of s a p ready in_flight pinned = record {
   wanted = filter_map (rank_in_both s a p) (filter (lacks_key ready in_flight) (keys_of a ++ keys_of p));

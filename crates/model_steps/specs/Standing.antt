@@ -11,7 +11,7 @@ use Rattle.page_layers.specs.Scrollers.{most}
 abbrev pub active_at : (ℕ → Axis → Synced) → ℕ → Axis → ℤ
 active_at value sc ax = active_value (value sc ax)
 
--- where a scroller with these values stands in a pending page: at its pending base where the commit sets it outright, else at its pending value, clamped to its range
+-- where a scroller with these values stands in a pending page: at its pending base if the commit sets it outright, else at its pending value, clamped to its range
 abbrev pub brought_to : Bool → ℕ → Synced → ℤ
 brought_to clobbered end v = cond clobbered v.pending_base (clamp_to end (pending_value v))
 

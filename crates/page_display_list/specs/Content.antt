@@ -18,7 +18,7 @@ abbrev pub colour_of : Item → ℤ → ℤ → Parts
 colour_of (kind.Rect rect colour) x y = colour
 colour_of (kind.Bitmap picture) x y = bitmap_pixel picture x y
 
--- an item laid over a colour at a point: nothing where its rect does not cover the point
+-- an item laid over a colour at a point: nothing if its rect does not cover the point
 abbrev pub painted : ℤ → ℤ → Parts → Item → Parts
 painted x y below item = cond (covers (rect_of_item item) x y) (blend below (colour_of item x y)) below
 

@@ -31,7 +31,7 @@ pub record IsAtEnd (p : Page) (offset : ℕ → Point) (sc : ℕ) (ax : Axis) (a
   pub forwards : pos 0 <ℤ asked → along ax (offset sc) +ℤ by ≡ pos (most p sc ax)
   pub backwards : asked <ℤ pos 0 → along ax (offset sc) +ℤ by ≡ pos 0
 
--- where a scroller after these takes anything, each of these is then at the end of its range in the direction of what is asked
+-- if a scroller after these takes anything, each of these is then at the end of its range in the direction of what is asked
 abbrev pub TakeInTurn : Page → (ℕ → Point) → Axis → Type 0
 TakeInTurn p offset ax =
     (before : List ℕ) (b : ℕ) (between : List ℕ) (sc : ℕ) (asked : ℤ)

@@ -24,12 +24,12 @@ part_move p = record { scroller = p.scroller; dx = p.by.x; dy = p.by.y }
 abbrev pub AreWithinRanges : Page → (ℕ → Point) → Type 0
 AreWithinRanges p offset = (sc : ℕ) (ax : Axis) → IsInRange (most p sc ax) (along ax (offset sc))
 
--- what may be asked along an axis
+-- what may be asked along an axis: at most 1048576 in either direction
 pub record IsAmount (z : ℤ) : Type 0 where
   pub least : neg_ℤ (pos max_scroll) ≤ℤ z
   pub greatest : z ≤ℤ pos max_scroll
 
--- what a wheel of this much at a point does
+-- what a wheel of this much at a point does: its target, the parts and the rest
 pub record IsWheel (p : Page) (offset : ℕ → Point) (x y dx dy : ℤ) (w : Wheel) : Type 0 where
   pub hits : w.target ≡ target p offset x y
   pub parts : map part_move w.parts ≡ wheel_parts p offset x y dx dy

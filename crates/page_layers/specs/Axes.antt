@@ -19,7 +19,7 @@ abbrev pub amount : Axis → Move → ℤ
 amount across m = m.dx
 amount down m = m.dy
 
--- what a list of moves has for a scroller, which it names once at most; 0 where it does not
+-- what a list of moves has for a scroller, which it names once at most; 0 if it does not
 abbrev pub amount_in : ℕ → Axis → List Move → ℤ
 amount_in sc ax [] = pos 0
 amount_in sc ax (m ∷ ms) = cond (m.scroller == sc) (amount ax m) (amount_in sc ax ms)
@@ -28,7 +28,7 @@ amount_in sc ax (m ∷ ms) = cond (m.scroller == sc) (amount ax m) (amount_in sc
 abbrev pub move_of : (ℕ → Axis → ℤ) → ℕ → Move
 move_of f sc = record { scroller = sc; dx = f sc across; dy = f sc down }
 
--- a move of (0, 0)
+-- a move of (0, 0), which lists leave out
 abbrev pub is_still : Move → Bool
 is_still m = int_eq m.dx (pos 0) && int_eq m.dy (pos 0)
 

@@ -17,11 +17,12 @@ covers_point p offset x y l =
     && lies_at p offset x y l
     && draws p.props.effects l.effect
 
--- the last layer of the list that covers the point; 0 where none does
+-- the last layer of the list that covers the point; 0 if none does
 abbrev pub last_covering : (PageLayer → Bool) → List PageLayer → ℕ
 last_covering p [] = 0
 last_covering p (l ∷ ls) = cond (last_covering p ls == 0) (cond (p l) l.id 0) (last_covering p ls)
 
+-- the layer that a scroll at a point is for: the topmost that covers it, whatever it shows there; 0 if none does
 unfoldable pub target : Page → (ℕ → Point) → ℤ → ℤ → ℕ
 target p offset x y = last_covering (covers_point p offset x y) p.layers
 
@@ -31,7 +32,7 @@ IsTopmost p layers id =
     ((id ≡ 0) × (find p layers ≡ None))
     ⊎ ((below : List PageLayer) × (l : PageLayer) × (above : List PageLayer) × (below ++ l ∷ above ≡ layers) × (l.id ≡ id) × (p l ≡ true) × (find p above ≡ None))
 
--- the scroller of the nearest transform that names one, from this one up to the root; 0 where none does
+-- the scroller of the nearest transform that names one, from this one up to the root; 0 if none does
 abbrev pub nearest_scroller : List (ℕ × TransformNode) → ℕ → ℕ
 nearest_scroller nodes id = gathered (λ n. n.parent) 0 (λ e above. cond (e.1.scroller == 0) above e.1.scroller) nodes id
 
@@ -39,6 +40,6 @@ nearest_scroller nodes id = gathered (λ n. n.parent) 0 (λ e above. cond (e.1.s
 abbrev pub scrollers_from : List (ℕ × ScrollNode) → ℕ → List ℕ
 scrollers_from nodes id = gathered (λ n. n.parent) [] (λ e above. e.0 ∷ above) nodes id
 
--- the scrollers that take a scroll of a layer, the nearest first
+-- the chain of a layer, the scrollers that take a scroll over it, the nearest first: the one that the nearest transform names, from the layer's up to the root, then its parents; empty if no transform names one
 unfoldable pub chain : Page → PageLayer → List ℕ
 chain p l = scrollers_from p.props.scrollers (nearest_scroller p.props.transforms l.transform)

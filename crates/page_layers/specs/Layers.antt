@@ -5,7 +5,7 @@ use Rattle.page_display_list.specs.declared.item.Item.{Item}
 use Rattle.page_layers.specs.declared.layer.Layer.{Layer}
 use Rattle.page_layers.specs.Lists.{without_first}
 
--- a layer: its id, the nodes that it names, its size, its background colour and the items of its display list
+-- a layer: its id, the nodes that it names, its size, its background colour, which stands for missing tiles, and the items of its display list
 pub record PageLayer : Type 0 where
   pub id : ℕ
   pub transform : ℕ

@@ -32,11 +32,11 @@ pub record ListsChange (change : Option Change) (tiles : Bool) (c : Changed) : T
   pub holds : HoldsOnly change c.list
   pub retiled : c.retiled ≡ tiles
 
--- the layers of each effect, with those of the effects below it, stand together
+-- the layers of each effect, with those of the effects below it, stand together: no other layer stands between two of them
 abbrev pub StandTogether : Page → Type 0
 StandTogether p = AreNested p.props.effects (map (λ l. l.effect) p.layers)
 
--- a page takes a command
+-- a page takes a command: it passes its tests, and the layers stand together after it
 pub record Accepts (p : Page) (c : Command) : Type 0 where
   pub passes : test_of p c ≡ Ok tt
   pub together : StandTogether (page_after_command p c)

@@ -6,7 +6,7 @@ use Rattle.page_properties.specs.Trees.{Trees as Props}
 use Rattle.page_layers.specs.declared.view.View.{View}
 use Rattle.page_layers.specs.Layers.{PageLayer}
 
--- a view in its ranges: sides of 1 to 2048, tiles of 16 to 256
+-- a view in its ranges: the viewport's width and height 1 to 2048, the side of a tile 16 to 256
 pub record IsView (v : View) : Type 0 where
   pub w_low : 1 ≤ v.w
   pub w_high : v.w ≤ max_viewport

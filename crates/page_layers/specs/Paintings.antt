@@ -48,7 +48,7 @@ colour_there tile l q = cond (has_place l.missing (place_at tile q)) l.colour (c
 unfoldable pub placed_colour : ℕ → ℤ → ℤ → Placed → Parts
 placed_colour tile x y l = cond (covers l.area x y) (colour_there tile l (minus (record { x = x; y = y }) l.by)) clear
 
--- what is ready shows this page at these offsets, where the tiles of these keys are missing: the same colours, groups and opacities of the layers
+-- what is ready shows this page at these offsets, with the tiles of these keys missing: the same colours, groups and opacities of the layers
 pub record ReadyShows (p : Page) (offset : ℕ → Point) (missing : List TileKey) (r : Ready) : Type 0 where
   pub colours : (x y : ℤ) → map (placed_colour r.tile x y) r.layers ≡ map (layer_colour_at p offset missing x y) p.layers
   pub groups : map (λ gs. map (λ g. g.effect) gs) r.groups ≡ map (λ l. groups_in p.props.effects l.effect) p.layers

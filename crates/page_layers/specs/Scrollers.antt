@@ -16,13 +16,13 @@ scrollers p = rising (ids p.props.scrollers)
 abbrev pub has_scroller : Page → ℕ → Bool
 has_scroller p sc = knows sc p.props.scrollers
 
--- the end of a range along an axis; 0 where there is none
+-- the end of a range along an axis; 0 if there is none
 abbrev pub end_of : Option ScrollNode → Axis → ℕ
 end_of None ax = 0
 end_of (Some n) across = n.max_x
 end_of (Some n) down = n.max_y
 
--- the end of a scroller's range along an axis; 0 where the page lacks it
+-- the end of a scroller's range along an axis; 0 if the page lacks it
 abbrev pub most : Page → ℕ → Axis → ℕ
 most p sc ax = end_of (find sc p.props.scrollers) ax
 
@@ -34,6 +34,6 @@ main_value p sc ax = along ax (main_point p sc)
 abbrev pub offsets_in : Page → (ℕ → Axis → ℤ) → ℕ → Point
 offsets_in p at sc = cond (has_scroller p sc) (record { x = at sc across; y = at sc down }) origin
 
--- how far a scroller of the page at this number moves where this much is asked: as far as its range allows
+-- how far a scroller of the page that stands at this number moves if this much is asked: to the place asked for, clamped to its range; not at all if the page lacks it
 abbrev pub amount_taken : Page → (ℕ → Axis → ℤ) → ℕ → Axis → ℤ → ℤ
 amount_taken p at sc ax asked = cond (has_scroller p sc) (clamp_to (most p sc ax) (at sc ax +ℤ asked) -ℤ at sc ax) (pos 0)

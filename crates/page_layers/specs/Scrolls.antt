@@ -17,7 +17,7 @@ clamped node x y = record { x = clamp_to node.max_x x; y = clamp_to node.max_y y
 abbrev pub origin : Point
 origin = record { x = pos 0; y = pos 0 }
 
--- the value of a scroller; (0, 0) where it has none
+-- the value of a scroller; (0, 0) if it has none
 abbrev pub or_origin : Option Point → Point
 or_origin None = origin
 or_origin (Some p) = p

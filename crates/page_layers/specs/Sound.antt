@@ -15,7 +15,7 @@ use Rattle.page_properties.specs.Nesting.{AreNested}
 abbrev pub is_used : ℕ → List ℕ → Bool
 is_used id used = list_any (λ u. u == id) used
 
--- a layer of a page: the nodes that it names are there, its id is used, and its id and its size are in range
+-- a layer of a page: each node that it names is there or 0, its id from 1 to 65535 is a used one, and its sides are 1 to 16384
 pub record IsLayer (props : Props) (used : List ℕ) (l : PageLayer) : Type 0 where
   pub transform : is_known l.transform props.transforms ≡ true
   pub clip : is_known l.clip props.clips ≡ true

@@ -5,17 +5,17 @@ use Rattle.page_layers.specs.declared.fault.EditFault.{EditFault}
 use Rattle.page_layers.specs.declared.fault.EditFault.TheVariants as fault
 
 infixl 10 ◌>>=◌
--- the second test where the first passes, else the fault of the first
+-- the second test if the first passes, else the fault of the first
 abbrev pub ◌>>=◌ : {A B : Type 0} → Result A EditFault → (A → Result B EditFault) → Result B EditFault
 (Ok x) >>= f = f x
 (Err e) >>= f = Err e
 
--- passes where the condition holds
+-- passes if the condition holds
 abbrev pub require : Bool → EditFault → Result ⊤ EditFault
 require true fault = Ok tt
 require false fault = Err fault
 
--- passes where the value lies in the range; else it is out of range, with the end that it passes
+-- passes if the value lies in the range; else it is out of range, with the end that it passes
 unfoldable pub check_range : ℤ → ℤ → ℤ → Result ⊤ EditFault
 check_range value low high = cond (int_lt value low) (Err (fault.OutOfRange value low)) (cond (int_lt high value) (Err (fault.OutOfRange value high)) (Ok tt))
 

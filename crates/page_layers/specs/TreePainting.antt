@@ -50,11 +50,11 @@ abbrev pub lacks_tile_at : List TileKey → ℕ → Place → Bool
 lacks_tile_at [] layer place = false
 lacks_tile_at (k ∷ ks) layer place = ((k.layer == layer) && (k.x == place.x) && (k.y == place.y)) || lacks_tile_at ks layer place
 
--- a layer's colour at one of its points: its background colour where the tile is missing, else what its display list shows
+-- a layer's colour at one of its points: its background colour if the tile is missing, else what its display list shows
 abbrev pub colour_inside : ℕ → List TileKey → PageLayer → Point → Parts
 colour_inside tile missing l q = cond (lacks_tile_at missing l.id (place_at tile q)) l.colour (content l.items q.x q.y)
 
--- a layer's colour at a screen point: transparent where the layer does not lie
+-- a layer's colour at a screen point: transparent if the layer does not lie there
 abbrev pub layer_colour_at : Page → (ℕ → Point) → List TileKey → ℤ → ℤ → PageLayer → Parts
 layer_colour_at p offset missing x y l = cond (lies_at p offset x y l) (colour_inside p.view.tile missing l (point_in p offset l x y)) clear
 

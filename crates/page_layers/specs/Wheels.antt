@@ -19,19 +19,20 @@ abbrev pub chain_rest : (ℕ → Axis → ℤ → ℤ) → Axis → List ℕ →
 chain_rest takes ax [] asked = asked
 chain_rest takes ax (sc ∷ scs) asked = chain_rest takes ax scs (asked -ℤ takes sc ax asked)
 
+-- the chain of a layer; none if there is no layer
 abbrev pub chain_or_none : Page → Option PageLayer → List ℕ
 chain_or_none p None = []
 chain_or_none p (Some l) = chain p l
 
--- the scrollers that take a wheel over a layer, the nearest first; none where there is no layer
+-- the scrollers that take a wheel over a layer, the nearest first; none if there is no layer
 abbrev pub chain_at : Page → ℕ → List ℕ
 chain_at p layer = chain_or_none p (find (has_id layer) p.layers)
 
--- how much of an amount a scroller takes in a page at these offsets
+-- how much of an amount a scroller takes in a page at these offsets: as much as its range allows
 abbrev pub takes_at : Page → (ℕ → Point) → ℕ → Axis → ℤ → ℤ
 takes_at p offset = amount_taken p (λ sc ax. along ax (offset sc))
 
--- what the scrollers under a point take of a wheel, in the order of the chain
+-- what the scrollers under a point take of a wheel, in the order of the chain, without those that take (0, 0)
 abbrev pub wheel_parts : Page → (ℕ → Point) → ℤ → ℤ → ℤ → ℤ → List Move
 wheel_parts p offset x y dx dy = chain_parts (takes_at p offset) (chain_at p (target p offset x y)) dx dy
 

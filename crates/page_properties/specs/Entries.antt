@@ -14,7 +14,7 @@ abbrev pub rising : List ℕ → List ℕ
 rising [] = []
 rising (id ∷ older) = put_id id (rising older)
 
--- the node of an id, where it has one
+-- the node of an id in a family, if it has one; and whether it has one
 abbrev pub find : {N : Type 0} → ℕ → List (ℕ × N) → Option N
 find id [] = None
 find id (e ∷ older) = cond (e.0 == id) (Some e.1) (find id older)

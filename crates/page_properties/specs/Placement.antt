@@ -10,13 +10,14 @@ use Rattle.page_properties.specs.declared.nodes.EffectNode.{EffectNode}
 use Rattle.page_properties.specs.Entries.{gathered}
 use Rattle.page_properties.specs.OffsetMap.{origin}
 
+-- points added, and taken from each other
 abbrev pub plus : Point → Point → Point
 plus p q = record { x = p.x +ℤ q.x; y = p.y +ℤ q.y }
 
 abbrev pub minus : Point → Point → Point
 minus p q = record { x = p.x -ℤ q.x; y = p.y -ℤ q.y }
 
--- how far a scroller has moved what it scrolls: not at all where none is named
+-- how far a scroller has moved what it scrolls: not at all if none is named
 abbrev pub scrolled : (ℕ → Point) → ℕ → Point
 scrolled offset scroller = cond (scroller == 0) origin (offset scroller)
 
@@ -35,7 +36,7 @@ pub record IsWithin (most : ℕ) (p : Point) : Type 0 where
   pub upper : neg_ℤ (pos most) ≤ℤ p.y
   pub lower : p.y ≤ℤ pos most
 
--- two restrictions at once, where None restricts nothing
+-- two restrictions at once; None restricts nothing
 abbrev pub both : Option Rect → Option Rect → Option Rect
 both None s = s
 both (Some r) None = Some r
@@ -49,6 +50,6 @@ placed_rect offset transforms n = shifted n.rect (translation offset transforms 
 unfoldable pub clip_of : (ℕ → Point) → List (ℕ × TransformNode) → List (ℕ × ClipNode) → ℕ → Option Rect
 clip_of offset transforms nodes id = gathered (λ n. n.parent) None (λ e above. both above (Some (placed_rect offset transforms e.1))) nodes id
 
--- an effect is drawn where neither it nor one above it has opacity 0
+-- an effect is drawn if neither it nor one above it has opacity 0
 unfoldable pub draws : List (ℕ × EffectNode) → ℕ → Bool
 draws nodes id = gathered (λ n. n.parent) true (λ e above. not (e.1.opacity == 0) && above) nodes id

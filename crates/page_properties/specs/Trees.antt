@@ -46,7 +46,7 @@ pub record IsRange (n : ScrollNode) : Type 0 where
   pub across : n.max_x ≤ 2 ^ 20
   pub down : n.max_y ≤ 2 ^ 20
 
--- the four families
+-- what an adder asks for, by its family
 abbrev pub MayJoinTransforms : ℕ → TransformNode → List (ℕ × TransformNode) → Type 0
 MayJoinTransforms = MayJoin (λ n. n.parent) IsTransform
 

@@ -2,11 +2,11 @@
 use Rattle.std.specs.Prelude.{◌≡◌}
 use Rattle.pixel.specs.Colours.{Parts, blend, clear}
 
--- an opaque source hides what lies below it
+-- a source of alpha 255 hides what lies below it: laid over any colour it is the source
 abbrev pub OpaqueHides : Type 0
 OpaqueHides = (below source : Parts) → source.a ≡ 255 → blend below source ≡ source
 
--- the transparent colour shows what lies below it
+-- the transparent colour, laid over another, leaves it
 abbrev pub ClearShows : Type 0
 ClearShows = (below : Parts) → blend below clear ≡ below
 

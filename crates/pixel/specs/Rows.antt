@@ -2,7 +2,7 @@
 use Rattle.std.specs.Prelude.{ℕ, ◌+◌, ◌*◌, ◌/◌, ◌<◌, ◌≤◌, ◌≡◌, true, false, cond, ◌==◌, ◌%◌, List, length, slice_index}
 use Rattle.pixel.specs.Colours.{Parts, above, is_colour, times_255}
 
--- pixel `k` of a row
+-- pixel `k` of a row: the colour of its bytes `4k` to `4k + 3`
 abbrev pub pixel : List ℕ → ℕ → Parts
 pixel row k = record {
   r = slice_index row (4 * k);

@@ -6,6 +6,7 @@ use Rattle.byte_io.specs.Counts.{Rose}
 abbrev pub data_line : ℕ → List ℕ
 data_line count = (codes "data " ++ decimal count) ++ codes "\n"
 
+-- a piece of data in its frame: the line with the number of its bytes, and the bytes
 abbrev pub frame : List ℕ → List ℕ
 frame piece = data_line (length piece) ++ piece
 
@@ -56,6 +57,7 @@ abbrev pub cut_from : Cut → List ℕ → Cut
 cut_from c [] = c
 cut_from c (b ∷ bytes) = cut_from (cut_byte c b) bytes
 
+-- the lines that bytes hold whole, and what stands after the last of them
 abbrev pub cut : List ℕ → Cut
 cut bytes = cut_from (record { whole = []; rest = [] }) bytes
 
@@ -64,6 +66,7 @@ abbrev pub with_last : List ℕ → List (List ℕ) → List (List ℕ)
 with_last [] whole = whole
 with_last (b ∷ rest) whole = (b ∷ rest) ∷ whole
 
+-- all lines of a whole input, a last one without its newline too
 abbrev pub lines_of : List ℕ → List (List ℕ)
 lines_of bytes = with_last (cut bytes).rest (cut bytes).whole
 

@@ -23,7 +23,7 @@ abbrev pub image_or : ScriptModel → List Entry → Event → Option (List ℕ)
 image_or s h (event.Draw input missing) before = Some (shown_image s h missing)
 image_or s h _ before = before
 
--- the last image of a past whose newest entry stands first; None where nothing was drawn
+-- the last image of a past whose newest entry stands first; None if nothing was drawn
 abbrev pub last_image : ScriptModel → List Entry → Option (List ℕ)
 last_image s [] = None
 last_image s (e ∷ h) = image_or s h e.event (last_image s h)
@@ -32,7 +32,7 @@ last_image s (e ∷ h) = image_or s h e.event (last_image s h)
 abbrev pub IsLockstepFilm : ScriptModel → List ℕ → Type 0
 IsLockstepFilm s whole = (history : List Entry) × IsLockstep s history × (whole ≡ film s history)
 
--- the sink gained the images of the script's run, or where writing stopped, a prefix of them
+-- the sink gained the images of the script's run, or if writing stopped, a prefix of them
 abbrev pub Films : {X : Type 0} → ScriptModel → Option (List ℕ) → Option (List ℕ) → Result X WriteStop → Type 0
 Films s old new result = (whole : List ℕ) × IsLockstepFilm s whole × PutsAll old new whole result
 

@@ -11,6 +11,6 @@ use Rattle.thread_pieces.specs.Writing.{PutsAll}
 abbrev pub IsLockstepRecording : ScriptModel → List ℕ → Type 0
 IsLockstepRecording s whole = (history : List Entry) × IsLockstep s history × (whole ≡ recording s history)
 
--- the sink gained the recording of the script, or where writing stopped, a prefix of it
+-- the sink gained the recording of the script, or if writing stopped, a prefix of it
 abbrev pub Records : {X : Type 0} → ScriptModel → Option (List ℕ) → Option (List ℕ) → Result X WriteStop → Type 0
 Records s old new result = (whole : List ℕ) × IsLockstepRecording s whole × PutsAll old new whole result

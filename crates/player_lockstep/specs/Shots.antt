@@ -4,7 +4,7 @@ use Rattle.model_history.specs.Scripts.{ScriptModel}
 use Rattle.recording_writer.specs.Files.{IsFileOf}
 use Rattle.player_lockstep.specs.Films.{IsLastImage}
 
--- there is a file exactly where there is an image, and it is of that one
+-- there is a file exactly if there is an image, and it is of that one
 abbrev pub FilesImage : Option (List ℕ) → Option (List ℕ) → Type 0
 FilesImage None None = ⊤
 FilesImage None (Some file) = ⊥

@@ -1,4 +1,43 @@
 //! Scripts, played in lockstep batch by batch, while others paint the batch before.
+//!
+//! # What
+//!
+//! [`record_batches`] plays the whole run of a script and writes its recording, for `step N` with N above 1. The
+//! history is the lockstep history, that of `step 1`: painting and putting are shared, playing is not. The sink gained
+//! the rest of the recording after the lines that were put before; if writing stopped, a prefix of it.
+//!
+//! # How
+//!
+//! ```text
+//!    playing    batch 1 |  batch 2        |  batch 3        |  ..  the end
+//!    painting           |  paint and put  |  paint and put  |      paint and put
+//!                       |  batch 1        |  batch 2        |      the last batch
+//!                       +---- join -------+---- join -------+
+//! ```
+//!
+//! A batch has the pieces of some inputs: the lines of what was entered, and after the line of a draw its scene.
+//! Playing fills the next batch while N painters paint and put the one before (`join_mut`). The next batch begins when
+//! both sides are done, so each waits for the slower one and for nothing else. Putting is the second closure, which
+//! runs on the calling thread: a sink need not go to another thread. When all is played, the last batch is painted and
+//! put.
+//!
+//! A batch is full with four pieces for each painter, or with fewer, as many for each, if images are large: it has at
+//! most 48 MiB, judged by the size of the last piece. Lines that no image follows become a piece of their own from 64
+//! KiB on. What one input brings stands in one batch.
+//!
+//! # Cost
+//!
+//! The images of one batch are held, and the scenes of the next, which share the images of tiles with the core. Images
+//! of the first painter are put from where they were painted, most others are copied once (`hands` of `thread_pieces`).
+//! One thread is started and joined for each batch, beside those of the painters.
+//!
+//! # Limits
+//!
+//! The slower side sets the pace: a script with few draws gains little. A single image above 48 MiB is a batch of its
+//! own, and is painted in parts. An input that brings many main frames is one batch, however long its lines become. A
+//! put that was refused is told when the playing of the next batch ends. If memory runs out while a batch is played,
+//! the batch before it may have been put, and what was played is not. That anything happens side by side, or is faster,
+//! is not claimed: the clauses speak of the bytes and of the history alone.
 
 ghost use Rattle.std.specs.Prelude.{◌≡◌, ◌≤◌, ◌<◌, ◌++◌, ℕ, List, [], Option, length, reverse, IfOk, OnErr, OnOk};
 ghost use Rattle.std.specs.Thread.{IsSync};

@@ -22,7 +22,7 @@ use Rattle.model_history.specs.Values.{values}
 abbrev pub HasEnded : List Entry → Type 0
 HasEnded history = (before : List Entry) × (history ≡ before ++ record { actor = 0; event = event.End } ∷ [])
 
--- where a scroller stands after a past
+-- a scroller stands right after a past, along an axis
 pub record StandsRight (s : ScriptModel) (h : List Entry) (sc : ℕ) (ax : Axis) : Type 0 where
   -- at the sum of the main moves of the committed frames up to the active one and of all accepted moves
   pub sum : offset s h sc ax ≡ main_moves s (pulls_of h) (was_named commits h) sc ax (up_to (active h)) +ℤ all_moved s h sc ax
@@ -42,12 +42,12 @@ pub record IsSoundHistory (s : ScriptModel) (workers : ℕ) (history : List Entr
   -- after each prefix of it every scroller stands right, along both axes
   pub offsets : (before after : List Entry) → before ++ after ≡ history → (sc : ℕ) (ax : Axis) → StandsRight s (reverse before) sc ax
 
--- the history of a script that is played with the given number of raster workers
+-- what is promised of the history that `play N` records: it is sound, and its last entry is the end
 pub record IsPlayed (s : ScriptModel) (workers : ℕ) (history : List Entry) : Type 0 where
   pub sound : IsSoundHistory s workers history
   pub ends : HasEnded history
 
--- the same in lockstep
+-- what is promised of the history that `step N` records: there is one such history, and it is played
 pub record IsPromised (s : ScriptModel) (workers : ℕ) (history : List Entry) : Type 0 where
   -- it is the script's lockstep history
   pub lockstep : IsLockstep s history

@@ -17,7 +17,7 @@ EndsLine (TooLong limit) = ⊤
 EndsLine Memory = ⊤
 EndsLine _ = ⊥
 
--- an answer to the line of a number: what `step N` writes where its source has this line, in frames, and its outcome
+-- an answer to the line of a number: what `step N` writes if its source has this line, in frames, and its outcome
 abbrev pub IsLineAnswer : ℕ → ℕ → List ℕ → List ℕ → Type 0
 IsLineAnswer workers number line text =
     (result : Outcome) × (pieces : List (List ℕ))
@@ -25,7 +25,7 @@ IsLineAnswer workers number line text =
     × Writes (Step workers) (Some line) (Some []) (Some (flat_map (λ piece. piece) pieces)) result
     × (text ≡ flat_map frame pieces ++ verdict number result)
 
--- what was answered where a session ended so: all lines; all that came whole, where the client could not be read; some first ones, the last of them maybe in part, where it took no more
+-- what was answered, by how a session ended: all lines; all that came whole, if the client could not be read; some first ones, the last of them maybe in part, if it took no more
 abbrev pub AnsweredTo : ℕ → Outcome → List Act → Type 0
 AnsweredTo workers Done h = IsEnded (IsLineAnswer workers) h
 AnsweredTo workers ReadFault h = IsAnswered (IsLineAnswer workers) h
@@ -33,11 +33,11 @@ AnsweredTo workers WriteFault h = IsBegun (IsLineAnswer workers) h
 AnsweredTo workers Memory h = IsBegun (IsLineAnswer workers) h
 AnsweredTo workers _ h = ⊥
 
--- a session with a client with which nothing had passed before: whenever bytes were asked for, all lines that had come were answered
+-- a session with a client with which nothing had passed before: whenever bytes were asked for, all lines that had come were answered; and at the end what its outcome says was answered
 abbrev pub Serves : ℕ → Option (List Act) → Option (List Act) → Outcome → Type 0
 Serves workers old new result = IsNew old → Has (λ h. AtOnce (IsLineAnswer workers) h × AnsweredTo workers result h) new
 
--- a fault of the client is answered only where a call of it failed
+-- a fault of the client is answered only if a call of it failed
 abbrev pub ServeCause : ℕ → ℕ → Bool → Outcome → Type 0
 ServeCause old new torn ReadFault = HasFailed old new torn
 ServeCause old new torn WriteFault = HasFailed old new torn

@@ -6,7 +6,7 @@ use Rattle.player_uses.specs.declared.words.Use.{Use}
 use Rattle.player_uses.specs.declared.words.Use.TheVariants.{Step, Play, Gen, Demo, Film, Shot, Frames, Check, Serve}
 use Rattle.player_uses.specs.Refusals.{script_limit, recording_limit}
 
--- the answer is Usage exactly where some word does not fit, and tells which
+-- the answer is Usage exactly if some word does not fit, and tells which
 abbrev pub TellsMisfit : Result Use ℕ → Outcome → Type 0
 TellsMisfit (Err word) result = result ≡ Usage word
 TellsMisfit (Ok wanted) (Usage word) = ⊥

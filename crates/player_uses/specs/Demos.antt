@@ -36,6 +36,6 @@ demo_texts history whole =
     ∷ codes " sum " ∷ decimal (byte_sum whole % 2 ^ 64)
     ∷ codes "\n" ∷ []
 
--- the line of a script and a history
+-- the line that sums up a history and its recording: the events, the images (one a draw), the tiles that the draws lack, the bytes, and the sum of the bytes modulo 2^64
 abbrev pub demo_line : ScriptModel → List Entry → List ℕ
 demo_line s history = joined_texts (demo_texts history (recording s history))

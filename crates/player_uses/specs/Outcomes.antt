@@ -52,7 +52,7 @@ refused_text frame command why =
 abbrev pub shape_text : ShapeFault → List (List ℕ)
 shape_text f = codes "cc: shape: list " ∷ decimal f.list ∷ codes " index " ∷ decimal f.index ∷ codes " field " ∷ decimal f.field ∷ codes "\n" ∷ []
 
--- the line that tells of an outcome; none where all was done
+-- the line that tells of an outcome; none if all was done
 abbrev pub line_of : Outcome → List ℕ
 line_of Done = []
 line_of (Usage word) = joined_texts (codes "cc: usage: word " ∷ decimal word ∷ codes "\n" ∷ [])

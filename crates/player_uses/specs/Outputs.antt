@@ -8,7 +8,7 @@ use Rattle.recording_check.specs.Recordings.{IsRecording}
 use Rattle.player_uses.specs.declared.outcome.Outcome.{Outcome}
 use Rattle.player_uses.specs.declared.outcome.Outcome.TheVariants.{Done, WriteFault, Memory}
 
--- the images of a recording, in order, and the source had that recording, where it tells its bytes
+-- the images of a recording, in order, and the source had that recording, if it tells its bytes
 abbrev pub AreImagesFrom : Option (List ℕ) → List ℕ → Type 0
 AreImagesFrom source whole =
     (bytes : List ℕ) × IfSome source (λ had. had ≡ bytes) × (s : ScriptModel) × (ps : List Piece) × IsRecording bytes s ps × (whole ≡ images_text ps)

@@ -23,7 +23,7 @@ Reads Frames old new = TakenAtMost (recording_limit + 1) old new
 Reads Check old new = TakenAtMost (recording_limit + 1) old new
 Reads (Serve workers) old new = new ≡ old
 
--- bytes are judged only where the source was read to its end
+-- bytes are judged only if the source was read to its end
 abbrev pub IsJudgedWhole : Option (List ℕ) → Outcome → Type 0
 IsJudgedWhole left (Usage word) = ⊤
 IsJudgedWhole left ReadFault = ⊤
@@ -31,7 +31,7 @@ IsJudgedWhole left (TooLong limit) = ⊤
 IsJudgedWhole left Memory = ⊤
 IsJudgedWhole left _ = IsAtEnd left
 
--- where a use reads its source to the end
+-- the source was read to its end, by the answer of a use that reads
 abbrev pub ReadToEnd : Use → Option (List ℕ) → Outcome → Type 0
 ReadToEnd (Step workers) left result = IsJudgedWhole left result
 ReadToEnd (Play workers) left result = IsJudgedWhole left result

@@ -16,7 +16,7 @@ abbrev pub picture_inputs : ℕ → List Input
 picture_inputs zero = Settle ∷ Draw ∷ []
 picture_inputs (suc last) = Await last ∷ Settle ∷ Draw ∷ []
 
--- a script's own inputs; where it has none, those that ask for its picture
+-- a script's own inputs; if it has none, those that ask for its picture
 abbrev pub shot_inputs : ℕ → List Input → List Input
 shot_inputs frames [] = picture_inputs frames
 shot_inputs frames (i ∷ is) = i ∷ is
@@ -38,7 +38,7 @@ with_inputs inputs s = record {
   inputs = inputs;
 }
 
--- the script that `shot` plays: the same, but where it has no inputs it is asked for its picture
+-- the script that `shot` plays: the given one, but if that has no inputs, it is asked for its picture
 abbrev pub with_shot : ScriptModel → ScriptModel
 with_shot s = with_inputs (shot_inputs (length s.main) s.inputs) s
 

@@ -22,7 +22,7 @@ pub record SingleModel : Type 0 where
 abbrev pub walk_of : SingleModel → walks.WalkState
 walk_of m = record { script = m.run.script; past = past m.run; written = m.written }
 
--- the actor has events of this kind, where there are that many workers: the main side, a worker, anybody, or the compositor
+-- the actor has events of this kind, if there are that many workers: the main side, a worker, anybody, or the compositor
 abbrev pub HasKind : ℕ → Kind → ℕ → Type 0
 HasKind n kind.Ready a = a ≡ 1
 HasKind n kind.Abort a = a ≡ 1
@@ -45,7 +45,7 @@ pub record EndsWith (s : ScriptModel) (h : List Entry) (rest : List SceneView �
   pub picture : IsPicture s h scene
   pub earlier : rest front
 
--- an event adds the picture of the past before it where it is a draw, and else nothing
+-- an event adds the picture of the past before it if it is a draw, and else nothing
 abbrev pub AddsScene : ScriptModel → List Entry → Event → (List SceneView → Type 0) → List SceneView → Type 0
 AddsScene s h (event.Draw i missing) rest scenes = EndsWith s h rest scenes
 AddsScene s h _ rest scenes = rest scenes

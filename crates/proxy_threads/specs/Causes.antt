@@ -47,7 +47,7 @@ CompCause p q r turned.Ended = (q.mine ≡ p.mine) × (has_ended (past r) ≡ tr
 CompCause p q r turned.Memory = has_ended (past r) ≡ true
 CompCause p q r turned.WriteFault = has_ended (past r) ≡ true
 
--- the same of the main side, which has ended too where all main frames have ended, and writes nothing
+-- the same of the main side, which has ended too if all main frames have ended, and writes nothing
 abbrev pub MainCause : Seat → Seat → Run → Turned → Type 0
 MainCause p q r turned.Went = EnteredLast q
 MainCause p q r turned.Blocked = HasWaited p q r × (have_frames_ended r.script (past r) ≡ false)

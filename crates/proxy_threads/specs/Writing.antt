@@ -25,7 +25,7 @@ pub record HasWritten (p : Seat) (written : ℕ) : Type 0 where
   pub few : written ≤ length p.seen
   pub own : entries_by 0 (take written p.seen) ≡ p.mine
 
--- the sink gained the whole, or where the actor gave up, a prefix of it
+-- the sink gained the whole, or if the actor gave up, a prefix of it
 abbrev pub Wrote : Option (List ℕ) → Option (List ℕ) → List ℕ → Turned → Type 0
 Wrote old new whole turned.Went = Appends old new whole
 Wrote old new whole turned.Blocked = Appends old new whole
@@ -39,7 +39,7 @@ HasWrittenAll q written turned.Memory = ⊤
 HasWrittenAll q written turned.WriteFault = ⊤
 HasWrittenAll q written _ = HasWritten q written × (written ≡ length q.seen)
 
--- a turn answers that the sink failed only where the count of faults rose
+-- a turn answers that the sink failed only if the count of faults rose
 abbrev pub FaultCause : ℕ → ℕ → Turned → Type 0
 FaultCause old new turned.WriteFault = Rose old new
 FaultCause old new _ = ⊤
@@ -53,7 +53,7 @@ pub record CompTurn (p q : Seat) (written after : ℕ) (old new : Option (List �
   pub wrote : Wrote old new (part run.script (take written p.seen) (drop written q.seen)) t
   pub all : HasWrittenAll q after t
 
--- the same where the pass is there before and after
+-- the same if the pass is there before and after
 abbrev pub CompTurns : Option Seat → Option Seat → ℕ → ℕ → Option (List ℕ) → Option (List ℕ) → Turned → Type 0
 CompTurns (Some p) (Some q) written after old new t = CompTurn p q written after old new t
 CompTurns _ _ written after old new t = ⊥
@@ -77,7 +77,7 @@ KnowsEnd (Some q) over turned.Memory = ⊤
 KnowsEnd (Some q) over turned.WriteFault = ⊤
 KnowsEnd (Some q) over t = over ≡ is_played (entries_of q.seen)
 
--- turns of the compositor up to one that answers so: the run has ended, and the sink gained the part for all that the pass has seen, or where the compositor gave up, a prefix of it
+-- turns of the compositor up to one that answers so: the run has ended, and the sink gained the part for all that the pass has seen, or if the compositor gave up, a prefix of it
 pub record Driven (p q : Seat) (written : ℕ) (old new : Option (List ℕ)) (t : Turned) : Type 0 where
   pub same : SamePass p q
   pub run : Run
@@ -86,7 +86,7 @@ pub record Driven (p q : Seat) (written : ℕ) (old new : Option (List ℕ)) (t 
   pub ended : has_ended (past run) ≡ true
   pub wrote : Wrote old new (part run.script (take written p.seen) (drop written q.seen)) t
 
--- the same where the pass is there before and after
+-- the same if the pass is there before and after
 abbrev pub Drives : Option Seat → Option Seat → ℕ → Option (List ℕ) → Option (List ℕ) → Turned → Type 0
 Drives (Some p) (Some q) written old new t = Driven p q written old new t
 Drives _ _ written old new t = ⊥

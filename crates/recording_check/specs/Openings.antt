@@ -34,7 +34,7 @@ abbrev pub ScriptOf : List ℕ → Option ScriptModel → Type 0
 ScriptOf line (Some s) = IsScriptLine line s
 ScriptOf line None = (s : ScriptModel) → IsScriptLine line s → ⊥
 
--- the bytes begin with the two lines of a script's recording, and after them stand these
+-- the bytes begin with the two lines of a recording, `cc1` and the canonical text of an accepted script, and after them stand these
 pub record OpensWith (bytes : List ℕ) (s : ScriptModel) (rest : List ℕ) : Type 0 where
   pub script : IsScriptLine (script_text s) s
   pub text : bytes ≡ header (script_text s) ++ rest

@@ -25,7 +25,7 @@ pub record IsRecorded (s : ScriptModel) (e : Entry) : Type 0 where
   pub named : IsNamed s e.event
   pub actor : e ≡ entry_of e.event
 
--- a history that is over: the end stands last and nowhere else
+-- a history that can stand in a recording: each entry's numbers fit, its actor is the one whose event it is, each activation names a frame of the script, and the end stands last and nowhere else
 abbrev pub IsOver : ScriptModel → List Entry → Type 0
 IsOver s [] = ⊥
 IsOver s (e ∷ es) = IsRecorded s e × MatchBool (is_end e.event) (es ≡ []) (IsOver s es)

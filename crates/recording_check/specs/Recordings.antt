@@ -11,7 +11,7 @@ pub record IsRecording (bytes : List ℕ) (s : ScriptModel) (ps : List Piece) : 
   pub opening : OpensWith bytes s (flat_map piece_text ps)
   pub pieces : ArePieces (views_of s) None ps
 
--- the first part that is not of its form begins here: one of the first two lines, or a part after them
+-- the first part that is not of its form begins here: at 0 if `cc1` and its newline are not there; at 4 if no script's line follows; else after these two lines and the pieces of their form
 abbrev pub IsBadAt : List ℕ → ℕ → Type 0
 IsBadAt bytes place =
     IsBadOpening bytes place ⊎ ((s : ScriptModel) × (rest : List ℕ) × OpensWith bytes s rest × (n : ℕ) × BreaksAt (views_of s) None rest n × (place ≡ opening_length s + n))

@@ -1,13 +1,11 @@
 //! Recordings, read and looked through without the core that made them, or anything that draws.
 //!
 //! A recording begins with the name of the format and the script's line (`opening`); after them stand
-//! the parts that recording_reader reads. `recording` joins both. `judging` judges them one after another, by the
+//! the parts that `recording_text` reads. `recording` joins both. `judging` judges them one after another, by the
 //! state of the model (`right`).
 //!
-//! Whether an image in a recording is the painting.
-//!
-//! The image is looked through in place, row by row from the top, beside the rows of the page, each painted when
-//! it is looked at. Nothing of the image is copied.
+//! `picture` tells whether an image is the painting. It looks through the image in place, row by row from the top,
+//! beside the rows of the page, each painted when it is looked at. Nothing of the image is copied.
 #![tactic(auto)]
 
 mod fault;

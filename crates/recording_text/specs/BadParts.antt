@@ -31,7 +31,7 @@ IsBadDraw v xs place =
 abbrev pub IsBadEnd : List ℕ → ℕ → Type 0
 IsBadEnd xs place = (c : ℕ) × (rest : List ℕ) × (xs ≡ event_line event.End ++ (c ∷ rest)) × (place ≡ length (event_line event.End))
 
--- what is not of its form begins after the given number of these bytes, where images have the size of this view: an event's line; the image after that of a draw; or what stands after that of the end
+-- what is not of its form begins after the given number of these bytes, if images have the size of this view: an event's line; the image after that of a draw; or what stands after that of the end
 abbrev pub IsBadPart : View → List ℕ → ℕ → Type 0
 IsBadPart v xs place = ((place ≡ 0) × LacksEvent xs) ⊎ (IsBadDraw v xs place ⊎ IsBadEnd xs place)
 

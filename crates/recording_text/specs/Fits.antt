@@ -22,7 +22,7 @@ abbrev pub FitMoves : List Move → Type 0
 FitMoves [] = Unit {0}
 FitMoves (m ∷ ms) = FitsMove m × FitMoves ms
 
--- an event
+-- the numbers of an event fit their fields' types, as those of a program's events do
 abbrev pub FitsEvent : Event → Type 0
 FitsEvent (event.Begin input) = input < 2 ^ 32
 FitsEvent event.BeginPlain = Unit {0}

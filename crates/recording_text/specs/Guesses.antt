@@ -156,7 +156,7 @@ plain_of word.Settle n = Some (event.Settle n)
 plain_of word.Stop n = Some (event.Stop n)
 plain_of _ n = None
 
--- the same where there is one number
+-- the same for one number
 abbrev pub single_of : Word → List ℤ → Option Event
 single_of w ns = do
   n ← number_of ns

@@ -30,7 +30,7 @@ behind_head w h xs = do
   height ← after_front (decimal h) space
   after_front (codes "\n255\n") height
 
--- the first bytes of a list, where it has that many
+-- the first bytes of a list, if it has that many
 unfoldable pub first_bytes : ℕ → List ℕ → Option (List ℕ)
 first_bytes n xs = if nat_le n (length xs) then Some (take n xs) else None
 

@@ -7,16 +7,16 @@ use Rattle.recording_text.specs.Fits.{FitsEvent}
 use Rattle.recording_text.specs.Numbers.{◌>>=◌}
 use Rattle.recording_text.specs.Guesses.{guess}
 
--- the event, where the bytes begin with its line
+-- the event, if the bytes begin with its line
 unfoldable pub checked : List ℕ → Event → Option Event
 checked xs e = if starts_with nat_eq xs (event_line e) then Some e else None
 
--- the event whose line these bytes begin with: the one that it can be, if the line is that one's
+-- the event whose line these bytes begin with: the one that it can be, if the line is that one's; what it means are the laws `lines_read_back` and `a_line_has_one_event`
 unfoldable pub event_at : List ℕ → Option Event
 event_at xs = do
   e ← guess xs
   checked xs e
 
--- the line is read: it is that of the event that comes back, whose numbers fit; and where it is the line of such an event, that one comes back
+-- the line is read: it is that of the event that comes back, whose numbers fit; and if it is the line of such an event, that one comes back
 abbrev pub ReadsLine : List ℕ → Option Event → Type 0
 ReadsLine line read = IfSome read (λ e. FitsEvent e × (line ≡ event_line e)) × ((e : Event) → FitsEvent e → line ≡ event_line e → read ≡ Some e)

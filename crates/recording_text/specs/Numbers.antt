@@ -4,7 +4,7 @@ use Rattle.std.specs.Char.{is_ascii_digit}
 use Rattle.geom.specs.declared.tile.TileKey.{TileKey}
 use Rattle.page_layers.specs.declared.moves.Move.{Move}
 
--- the next step, where there is a value
+-- the next step, if there is a value
 infixl 10 ◌>>=◌
 abbrev pub ◌>>=◌ : {A B : Type 0} → Option A → (A → Option B) → Option B
 (Some x) >>= f = f x
@@ -16,13 +16,13 @@ before (Some x) (Some xs) = Some (x ∷ xs)
 before (Some x) None = None
 before None all = None
 
--- a sign and a size as a signed number of 64 bits, where they are one
+-- a sign and a size as a signed number of 64 bits, if they are one
 abbrev pub signed : Bool → ℕ → Option ℤ
 signed false n = if nat_lt n 9223372036854775808 then Some (pos n) else None
 signed true zero = Some (pos zero)
 signed true (suc n) = if nat_lt n 9223372036854775808 then Some (negsuc n) else None
 
--- the numbers of a line, up to its newline, where one with this sign and these digits has begun; any byte but a digit and `-` ends a number
+-- the numbers of a line, up to its newline, if one with this sign and these digits has begun; any byte but a digit and `-` ends a number
 unfoldable pub numbers : Bool → ℕ → List ℕ → Option (List ℤ)
 numbers negative n [] = None
 numbers negative n (c ∷ r) =

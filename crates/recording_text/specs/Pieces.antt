@@ -52,7 +52,7 @@ pub record IsPiece (v : View) (p : Piece) : Type 0 where
   pub fits : FitsEvent p.event
   pub image : HasImage v p.event p.image
 
--- pieces of a recording with these views, where this frame was activated last: each image has the size of the view at its place, and the end stands last and nowhere else
+-- pieces of a recording with these views, if this frame was activated last: each event's numbers fit their fields; after a draw stands an image of the size of the view at its place, after another event nothing; no event is a stop; the end stands last and nowhere else
 abbrev pub ArePieces : ViewTable → Option ℕ → List Piece → Type 0
 ArePieces t shown [] = ⊥
 ArePieces t shown (p ∷ ps) = IsPiece (view_at t shown) p × MatchBool (is_end p.event) (ps ≡ []) (ArePieces t (shown_after shown p.event) ps)

@@ -3,11 +3,9 @@
 //! A line is read by guess: its word and its numbers tell the one event that it can be, and the line of
 //! that event is printed and compared. So no line but an event's own is taken for it.
 //!
-//! The parts of a recording after its first two lines: event lines, with an image after that of each
-//! draw.
-//!
-//! The modules stand in the order in which one needs the other: the views that say how large an image
-//! is, one part, the cursor that goes from part to part, and the body, which is all parts.
+//! After its first two lines a recording is event lines, with an image after that of each draw. The modules that read
+//! them stand in the order in which one needs the other: the views that say how large an image is, one part, the
+//! cursor that goes from part to part, and the body, which is all parts.
 #![tactic(auto)]
 
 mod body;

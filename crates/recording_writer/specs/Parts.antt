@@ -7,7 +7,7 @@ use Rattle.byte_io.specs.Pieces.{GainsPrefix}
 abbrev pub Half : Option (List ℕ) → Option (List ℕ) → List ℕ → List ℕ → Type 0
 Half old new whole held = (gained : List ℕ) × (gained ++ held ≡ whole) × Appends old new gained
 
--- the same, or where writing stopped, the sink gained a prefix of the whole
+-- the same, or if writing stopped, the sink gained a prefix of the whole
 abbrev pub WritesPart : {X E : Type 0} → Option (List ℕ) → Option (List ℕ) → List ℕ → List ℕ → Result X E → Type 0
 WritesPart old new whole held (Ok _) = Half old new whole held
 WritesPart old new whole held (Err _) = GainsPrefix old new whole

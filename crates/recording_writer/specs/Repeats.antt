@@ -28,7 +28,7 @@ pub record HaveSameMissing (drawn again : Event) : Type 0 where
   pub first : missing_in drawn ≡ Some missing
   pub second : missing_in again ≡ Some missing
 
--- where the entry after a past is quiet, the screen shows the same after it, whichever tiles are missing
+-- if the entry after a past is quiet, the screen shows the same after it, whichever tiles are missing
 abbrev pub StaysShown : ScriptModel → List Entry → Entry → Type 0
 StaysShown s h e = is_quiet e.event ≡ true → (missing : List TileKey) → shown_image s (e ∷ h) missing ≡ shown_image s h missing
 
@@ -38,7 +38,7 @@ pub record KeepsAt (s : ScriptModel) (h entries : List Entry) (picture : CanvasV
   pub there : slice_get entries place ≡ Some drawn
   pub image : (missing : List TileKey) → missing_in drawn.event ≡ Some missing → image_of picture ≡ shown_image s h missing
 
--- the same where there is a place at all
+-- the same if there is a place at all
 abbrev pub KeepsFrom : ScriptModel → List Entry → List Entry → CanvasView → Option ℕ → Type 0
 KeepsFrom s h entries picture None = ⊤
 KeepsFrom s h entries picture (Some place) = KeepsAt s h entries picture place

@@ -23,7 +23,7 @@ abbrev pub others : List SceneView → List SceneView
 others [] = []
 others (scene ∷ scenes) = scenes
 
--- the scene of an event, where it is a draw; and the scenes that are left after it
+-- the scene of an event, if it is a draw; and the scenes that are left after it
 abbrev pub scene_of : Event → List SceneView → Option SceneView
 scene_of e scenes = cond (is_draw e) (first_of scenes) None
 

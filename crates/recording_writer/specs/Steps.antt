@@ -11,7 +11,7 @@ pub record DrawsOn (s : ScriptModel) (h entries : List Entry) (whole : List ℕ)
   pub text : new.lines.items ++ new.last.painter.canvas.bytes ≡ whole
   pub keeps : Keeps s h entries new.last
 
--- the sink gained the whole but for what the recorder holds back, or where writing stopped, a prefix of it; where it did not, the picture is kept after this past
+-- the sink gained the whole but for what the recorder holds back, or if writing stopped, a prefix of it; if it did not, the picture is kept after this past
 pub record WritesOn {X E : Type 0} (s : ScriptModel) (h entries : List Entry) (before after : Option (List ℕ)) (whole : List ℕ) (new : Recorder) (result : Result X E) : Type 0 where
   pub bytes : WritesPart before after whole new.lines.items result
   pub keeps : OnOk result (Keeps s h entries new.last)

@@ -5,7 +5,7 @@ use Rattle.region.specs.declared.change.LayerChange.{LayerChange}
 use Rattle.region.specs.Points.{covered, touched, Touch}
 use Rattle.region.specs.Lists.{IsRising, change_of}
 
--- a region touches a rect where they share a point, so regions that cover the same points touch the same rects
+-- a region touches a rect if they share a point, so regions that cover the same points touch the same rects
 pub record PointsDecide : Type 0 where
   pub shared : (rs : List Rect) (r : Rect) → touched rs r ≡ true → Touch rs r
   pub touches : (rs : List Rect) (r : Rect) → Touch rs r → touched rs r ≡ true

@@ -34,7 +34,7 @@ IsAboveLast [] n = Unit {0}
 IsAboveLast (c ∷ []) n = c.layer < n
 IsAboveLast (c ∷ d ∷ ds) n = IsAboveLast (d ∷ ds) n
 
--- the change of a layer, where it is listed
+-- the change of a layer, if it is listed
 abbrev pub change_of : List LayerChange → ℕ → Option LayerChange
 change_of [] n = None
 change_of (c ∷ cs) n = if nat_eq c.layer n then Some c else change_of cs n
@@ -60,7 +60,7 @@ pub record IsJoined (before later after : LayerChange) : Type 0 where
   pub whole : after.whole ≡ (before.whole || later.whole)
   pub points : (x y : ℤ) → covered after.region x y ≡ (covered before.region x y || covered later.region x y)
 
--- what is changed is what was changed before or later
+-- what is changed after is what was changed before or later: the same layers are listed, whole, and changed at a point
 pub record AreJoined (before later after : List LayerChange) : Type 0 where
   pub listed : (n : ℕ) → is_listed after n ≡ (is_listed before n || is_listed later n)
   pub whole : (n : ℕ) → is_listed_whole after n ≡ (is_listed_whole before n || is_listed_whole later n)

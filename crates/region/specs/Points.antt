@@ -5,7 +5,7 @@ use Rattle.geom.specs.declared.rect.Rect.{Rect}
 use Rattle.geom.specs.Covers.{covers}
 use Rattle.geom.specs.Common.{meets}
 
--- a region covers a point where one of its rects does
+-- a region covers a point if one of its rects does
 abbrev pub covered : List Rect → ℤ → ℤ → Bool
 covered rs x y = list_any (λ r. covers r x y) rs
 

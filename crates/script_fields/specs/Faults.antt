@@ -14,7 +14,7 @@ abbrev pub ◌>>=◌ : {A B E : Type 0} → Result A E → (A → Result B E) �
 abbrev pub fault : ℕ → FieldFault
 fault field = record { field = field }
 
--- the value, or a fault of the field where there is none
+-- the value, or a fault of the field if there is none
 abbrev pub or_fault : {A : Type 0} → ℕ → Option A → Result A FieldFault
 or_fault field (Some x) = Ok x
 or_fault field None = Err (fault field)

@@ -60,10 +60,10 @@ member_count None = 0
 member_count (Some ms) = members_len ms
 
 -- after the given number of fields were found, a further member is a fault of field 99: an object has each name once, so it has no
--- other members exactly where it has no more than were found
+-- other members exactly if it has no more than were found
 unfoldable pub no_more_members : ℕ → Data → Result ⊤ FieldFault
 no_more_members fields d = if nat_le (member_count (as_object d)) fields then Ok tt else Err (fault 99)
 
--- what was read of an object in which the given number of fields were found, where it has no further member
+-- what was read of an object in which the given number of fields were found, if it has no further member
 abbrev pub if_no_more : {A : Type 0} → ℕ → Data → A → Result A FieldFault
 if_no_more fields d x = no_more_members fields d >>= λ u. Ok x

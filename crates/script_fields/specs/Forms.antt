@@ -28,7 +28,7 @@ colour_form d = option_and_then colour_of_eight (as_str d)
 unfoldable pub bytes_form : Data → Option (List ℕ)
 bytes_form d = option_and_then bytes_of (as_str d)
 
--- the element of a list at a place, where it is a whole number of 32 bits with a sign
+-- the element of a list at a place, if it is a whole number of 32 bits with a sign
 unfoldable pub corner_at : ℕ → Data → Option ℤ
 corner_at i d = option_and_then (int_form (negsuc 2147483647) (pos 2147483647)) (at i d)
 
@@ -41,7 +41,7 @@ corners_of d = option_and_then (λ x. option_and_then (λ y. option_and_then (λ
 unfoldable pub rect_form : Data → Option Rect
 rect_form d = option_and_then (λ ds. if items_len ds == 4 then corners_of d else None) (as_array d)
 
--- the element of a list at a place, where it is a whole number from 1 to `most`
+-- the element of a list at a place, if it is a whole number from 1 to `most`
 unfoldable pub side_at : ℕ → ℕ → Data → Option ℕ
 side_at i most d = option_and_then (number_form 1 most) (at i d)
 

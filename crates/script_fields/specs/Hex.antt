@@ -11,7 +11,7 @@ digit_value c = if nat_le 48 c && nat_le c 57 then Some (c - 48) else (if nat_le
 unfoldable pub byte_of : ℕ → ℕ → Option ℕ
 byte_of high low = option_and_then (λ h. option_map (λ l. 16 * h + l) (digit_value low)) (digit_value high)
 
--- the bytes of a text of digits, two digits a byte; none where a character is no digit or the last one stands alone
+-- the bytes of a text of digits, two digits a byte; none if a character is no digit or the last one stands alone
 abbrev pub bytes_of : List ℕ → Option (List ℕ)
 bytes_of [] = Some []
 bytes_of (x ∷ []) = None

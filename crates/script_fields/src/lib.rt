@@ -1,4 +1,7 @@
-//! JSON values of a text, one at a time: what `serde_json` defines, out of the tokens of `json`.
+//! JSON objects by their fields: values of a form, the first field at fault, and the texts that print them.
+//!
+//! [`read_value`] takes one value of a text at a time, as `serde_json` defines it, out of the tokens of `json`;
+//! [`fields`] then asks an object for the field at a key, and [`forms`] whether a value has a form. [`texts`] prints.
 #![tactic(auto)]
 
 mod digits;

@@ -15,7 +15,7 @@ use Rattle.script_json.specs.declared.text_fault.TextFault.{TextFault}
 use Rattle.script_json.specs.declared.text_fault.TextFault.TheVariants as text
 use Rattle.script_json.specs.Reading.{parts_at}
 
--- the bytes are a JSON text of this value
+-- the bytes are UTF-8, and `serde_json`'s definition reads them as this value
 abbrev pub IsTextOf : List ℕ → Data → Type 0
 IsTextOf bytes d = IsUtf8 bytes × (read bytes ≡ Some d)
 
@@ -49,7 +49,7 @@ ScriptCause bytes (Err (text.Script frame command fault)) =
     (s : ScriptModel) × IsScriptText bytes s × RefusedAt (blank s) s.main frame command fault
 ScriptCause bytes (Err (text.Memory e)) = ⊤
 
--- an answer that is not out of memory
+-- an answer that is not out of memory; bytes have one such answer
 abbrev pub IsTold : Result ScriptModel TextFault → Type 0
 IsTold (Err (text.Memory e)) = ⊥
 IsTold (Err text.Json) = ⊤

@@ -23,7 +23,7 @@ input_named s =
     (if bytes_eq s (codes "await") then Some op.Await else
     (if bytes_eq s (codes "settle") then Some op.Settle else None))))
 
--- the input that a member `op` names; a fault of field 0 where there is none
+-- the input that a member `op` names; a fault of field 0 if there is none
 unfoldable pub input_op_at : Data → Result InputOp FieldFault
 input_op_at d = or_fault 0 (option_and_then input_named (option_and_then as_str (get (codes "op") d)))
 
@@ -57,7 +57,7 @@ input_fields_at frames draws op.Await d = do
   if_no_more 2 d (Await frame)
 input_fields_at frames draws op.Settle d = if_no_more 1 d Settle
 
--- an input: an object, its name, its fields
+-- an input: an object, its name, its fields; in a script of the given number of main frames, after the given number of draws
 unfoldable pub input_at : ℕ → ℕ → Data → Result Input FieldFault
 input_at frames draws d = do
   _ ← object_at d

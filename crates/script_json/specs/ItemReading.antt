@@ -18,7 +18,7 @@ if_picture rect bytes = if is_picture rect bytes then Some (item.Bitmap (record 
 unfoldable pub pixels_form : Rect → Data → Option Item
 pixels_form rect d = option_and_then (if_picture rect) (bytes_form d)
 
--- what is painted: either a colour or pixels, and not both
+-- what is painted: a colour or pixels, and not both; pixels are right for the rect
 abbrev pub paint_of : Rect → Option Data → Option Data → Option Item
 paint_of rect (Some colour) None = option_map (item.Rect rect) (colour_form colour)
 paint_of rect None (Some pixels) = pixels_form rect pixels

@@ -49,7 +49,7 @@ abbrev pub is_of_version : ℕ → Op → Bool
 is_of_version version SetView = version == 2
 is_of_version version _ = true
 
--- the command that a member `op` names; a fault of field 0 where the version has no such
+-- the command that a member `op` names; a fault of field 0 if the version has no such
 unfoldable pub op_at : ℕ → Data → Result Op FieldFault
 op_at version d =
     or_fault 0 (option_and_then (λ o. if is_of_version version o then Some o else None) (option_and_then op_named (option_and_then as_str (get (codes "op") d))))

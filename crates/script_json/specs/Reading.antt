@@ -74,7 +74,7 @@ with_lists head main inputs = record {
   inputs = inputs;
 }
 
--- a script; its first fault is in the top object, else in a main frame, else in an input
+-- a script, whose commands are not looked at yet; its first fault is in the top object, else in a main frame, else in an input
 unfoldable pub parts_at : Data → Result ScriptModel ShapeFault
 parts_at d = do
   head ← placed 0 0 (head_at d)

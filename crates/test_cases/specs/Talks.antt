@@ -20,6 +20,6 @@ acts_after h (p ∷ ps) = acts_after (act_of p ∷ h) ps
 abbrev pub acts : List Passed → List Act
 acts ps = acts_after [] ps
 
--- these acts are what happened: what came and what is left are the whole input, what went was taken, and where the client has no more nothing is left
+-- these acts are what happened: what came and what is left are the whole input, what went was taken, and if the client has no more nothing is left
 abbrev pub IsTold : List Act → List ℕ → List ℕ → List ℕ → Type 0
 IsTold h left input taken = (came h ++ left ≡ input) × (went h ≡ taken) × (HasNoMore h → left ≡ [])

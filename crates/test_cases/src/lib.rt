@@ -1,15 +1,12 @@
 //! Cases of the program, as the lines of a table say them: what a run is given, what goes wrong around it, and what it
 //! has to answer; and whether a run answered so.
 //!
-//! What stands on the other side of a run, in memory: a sink and a gate that wait for each other, and a client that tells
-//! what passed.
-//!
 //! A table of scripts and recordings alone cannot say that a slow sink holds nobody up, that workers make their tiles
-//! side by side, or that nobody holds the turn meanwhile. The sink and the gate wait for what only another thread can
-//! do, and give up where it does not come.
+//! side by side, or that nobody holds the turn meanwhile. So a sink and a gate wait for each other, for what only
+//! another thread can do, and give up if it does not come.
 //!
-//! What `serve` promises is said of a client that tells its past. Here is one: it gives the bytes of an input and takes
-//! answers, both in memory, and so a session of lines has its exact result as one clause.
+//! What `serve` promises is said of a client that tells its past. [`Talk`] is one: it gives the bytes of an input and
+//! takes answers, both in memory, and so a session of lines has its exact result as one clause.
 #![tactic(auto)]
 
 mod bytes;

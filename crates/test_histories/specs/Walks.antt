@@ -15,7 +15,7 @@ pub record WalkStopsAt (s : ScriptModel) (workers : ℕ) (history : List Entry) 
   pub legal : IsLegal s workers before
   pub stops : Next s workers (reverse before) entry → ⊥
 
--- the place of the first entry of a history that may not come; none where the history is legal
+-- the place of the first entry of a history that may not come; none if the history is legal
 abbrev pub EndsAt : ScriptModel → ℕ → List Entry → Option ℕ → Type 0
 EndsAt s workers history None = IsLegal s workers history
 EndsAt s workers history (Some place) = WalkStopsAt s workers history place

@@ -1,7 +1,7 @@
 -- Words on histories and on lists of numbers.
 use Rattle.std.specs.Prelude.{ℕ, ◌+◌, ◌==◌, Bool, true, false, List, [], ◌∷◌, length, filter, drop}
 
--- the entries of one actor, in order
+-- the entries of one actor in a history, in order
 abbrev pub entries_by : {E : Type 0} → ℕ → List (ℕ × E) → List (ℕ × E)
 entries_by n log = filter (λ e. e.0 == n) log
 

@@ -8,7 +8,7 @@ use Rattle.thread_pieces.specs.declared.writing.WriteStop.TheVariants as stop
 use Rattle.thread_pieces.specs.declared.ends.Presented.{Presented}
 use Rattle.thread_pieces.specs.declared.ends.Presented.TheVariants.{Written, Fault, Memory}
 
--- where all was written the sink gained all the bytes, else a prefix of them
+-- if all was written the sink gained all the bytes, else a prefix of them
 abbrev pub Gained : Presented → Option (List ℕ) → Option (List ℕ) → List ℕ → Type 0
 Gained Written old new bytes = Appends old new bytes
 Gained Fault old new bytes = GainsPrefix old new bytes
@@ -48,12 +48,12 @@ Stops Written after old new = ⊤
 Stops Fault after old new = (after ≡ Fault) × (new ≡ old)
 Stops Memory after old new = (after ≡ Memory) × (new ≡ old)
 
--- all the bytes were put where the test says so, else a prefix of them
+-- all the bytes were put if the test says so, else a prefix of them
 abbrev pub Filled : Bool → List ℕ → List ℕ → List ℕ → Type 0
 Filled true old new bytes = new ≡ old ++ bytes
 Filled false old new bytes = (front : List ℕ) × (rest : List ℕ) × (front ++ rest ≡ bytes) × (new ≡ old ++ front)
 
--- the answer for all pieces: memory ran out where not all of them were put
+-- the answer for all pieces: memory ran out if not all of them were put
 abbrev pub answer_for_all : Presented → Bool → Presented
 answer_for_all Written true = Written
 answer_for_all Written false = Memory

@@ -52,12 +52,12 @@ SameSink old new = ring_filled new ≡ ring_filled old
 abbrev pub SamePresenter : Presenter → Presenter → Type 0
 SamePresenter old new = ring_emptied new ≡ ring_emptied old
 
--- the bytes that were taken are those before and those of the batch, or where memory ran out, those before and some more
+-- the bytes that were taken are those before and those of the batch, or if memory ran out, those before and some more
 abbrev pub TakesBatch : {E : Type 0} → List ℕ → List ℕ → Result (Vec Shot) E → Type 0
 TakesBatch before after (Ok batch) = after ≡ before ++ all_shown batch.items
 TakesBatch before after (Err _) = (more : List ℕ) × (after ≡ before ++ more)
 
--- a batch without pieces is answered only where the presenter has seen none in the ring
+-- a batch without pieces is answered only if the presenter has seen none in the ring
 abbrev pub EmptyBatch : {E : Type 0} → List Shot → Result (Vec Shot) E → Type 0
 EmptyBatch left (Ok batch) = batch.items ≡ [] → left ≡ []
 EmptyBatch left (Err _) = ⊤

@@ -12,7 +12,7 @@ shown s = s.lines.items ++ image_if s.scene
 abbrev pub all_shown : List Shot → List ℕ
 all_shown shots = flat_map shown shots
 
--- what a hand is to paint
+-- what a hand with a run of pieces is to paint
 abbrev pub due_of : {P : Type 0} → Hand P → List ℕ
 due_of h = all_shown h.due.items
 
@@ -20,12 +20,12 @@ due_of h = all_shown h.due.items
 abbrev pub all_due : {P : Type 0} → List (Hand P) → List ℕ
 all_due hands = flat_map due_of hands
 
--- these bytes where the test says so, else none
+-- these bytes if the test says so, else none
 abbrev pub bytes_if : Bool → List ℕ → List ℕ
 bytes_if true bytes = bytes
 bytes_if false bytes = []
 
--- what a hand has made: the bytes that it has, and after them, where they are its painter's still, the rows of the last image
+-- what a hand has made: the bytes that it has, and after them, if they are its painter's still, the rows of the last image
 abbrev pub made_of : {P : Type 0} → (P → List ℕ) → Hand P → List ℕ
 made_of rows h = h.made.items ++ bytes_if h.waits (rows h.painter)
 

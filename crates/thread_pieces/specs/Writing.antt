@@ -6,12 +6,12 @@ use Rattle.byte_io.specs.Pieces.{GainsPrefix}
 use Rattle.thread_pieces.specs.declared.writing.WriteStop.{WriteStop}
 use Rattle.thread_pieces.specs.declared.writing.WriteStop.TheVariants.{Fault, Memory}
 
--- the sink gained all these bytes, or where some were refused, a prefix of them
+-- the sink gained all these bytes, or if some were refused, a prefix of them
 abbrev pub PutsAll : {X E : Type 0} → Option (List ℕ) → Option (List ℕ) → List ℕ → Result X E → Type 0
 PutsAll old new whole (Ok _) = Appends old new whole
 PutsAll old new whole (Err _) = GainsPrefix old new whole
 
--- writing stops by a fault only where the count of faults rose
+-- writing stops by a fault only if the count of faults rose
 abbrev pub WriteCause : {X : Type 0} → ℕ → ℕ → Result X WriteStop → Type 0
 WriteCause old new (Ok _) = ⊤
 WriteCause old new (Err Fault) = Rose old new

@@ -1,4 +1,43 @@
 //! Painters side by side, each with a run of pieces.
+//!
+//! # What
+//!
+//! A [`Hand`] is a painter with the pieces that it is to paint, and what it made of them. [`put_hands`] lets a row of
+//! hands work and puts what they made: the sink gained the bytes of all pieces, in the order of the hands; if it failed
+//! or memory was refused, a prefix of them. The caller deals the pieces: to each hand a run of consecutive ones, since
+//! a painter that has painted the scene before paints only what changed.
+//!
+//! # How
+//!
+//! ```text
+//!    first hand    paint, put, paint, put ..      -----+
+//!    second hand   paint all its pieces, keep     --+  |  join
+//!    third hand    paint all its pieces, keep     --+--+--->  put the second's, put the third's ..
+//! ```
+//!
+//! The first hand puts each piece as soon as it is painted, the pixels from where they were painted: nothing is copied,
+//! and the sink is busy while the others paint. Each other hand makes one row of bytes, lines and images in turn. Of
+//! its last image only the head goes into that row (`waits`): the pixels stay its painter's, and are put from there.
+//!
+//! Hands work by halves (`join_mut`), each half in a thread of its own if one can be started, else one after the other.
+//! The first hand is the second closure of its join, which runs on the calling thread, so a sink need not go to another
+//! thread. When all have painted, the rows are put in order.
+//!
+//! A scene is painted in at most `parts` parts, each in a thread of its own: the caller asks for more than one if there
+//! are fewer hands than painters, so that they share a large image.
+//!
+//! # Cost
+//!
+//! An image of the first hand is written once, by its painter. Those of the other hands are copied once more, but for
+//! the last of each. The bytes of a hand keep their memory for the next run: a thread that hands memory back to the
+//! system has every page of it fetched anew. Of n hands n - 1 are given a thread.
+//!
+//! # Limits
+//!
+//! What the other hands keep waits in memory until the first one is done: the caller bounds it, by the pieces that it
+//! deals. A slow sink holds up the first hand, and then all that is put after it. After a refused put the other hands
+//! still paint to their end; what they made is dropped. If one of them finds no memory, nothing of any of them is put.
+//! No clause speaks of threads or of time: that anything happens side by side is not claimed.
 
 ghost use Rattle.std.specs.Prelude.{◌≡◌, ◌≤◌, ◌++◌, ◌<◌, ℕ, List, [], Option, Some, length, OnOk};
 ghost use Rattle.std.specs.Io.KnownBytes.{Appends};

@@ -1,27 +1,25 @@
-//! Pieces of a recording: lines, and the image of a scene after them. Pieces are painted in runs, each run by a
+//! Pieces of a recording: lines, and the image of a scene after them. They are painted in runs, each run by a
 //! painter of its own, side by side, and put into a sink in order.
 //!
 //! In: pieces ([`Shot`]), a way to paint a scene ([`ScenePainter`]), and a sink. Out: the sink gained the bytes of
-//! all pieces, in order, or where it failed or memory was refused, a prefix of them.
+//! all pieces, in order; if it failed or memory was refused, a prefix of them.
 //!
-//! A [`SceneSink`] takes scenes beside bytes, so that whoever makes scenes need not paint them.
-//!
-//! A sink that never waits, in front of one that may be slow.
+//! Those who make scenes need not paint them: a [`SceneSink`] takes scenes beside bytes. One that never waits stands
+//! in front of a sink that may be slow:
 //!
 //! ```text
 //! compositor --put, put_scene--> [RingSink] --> ring of 64 places --> [Presenter] --paint, put--> out
 //! ```
 //!
-//! [`ring`] makes both ends. The one who makes scenes puts bytes and scenes into the [`RingSink`] and calls
-//! `end`; beside it, on another thread, [`Presenter::serve`] paints the scenes, several at once where several wait,
-//! and puts all into `out` in order. When both have returned, [`finish`] puts what is left. [`present_from`] shows
-//! the whole life for a list of pieces.
+//! [`ring`] makes both ends. The compositor puts bytes and scenes into the [`RingSink`] and calls `end`. Beside it, on
+//! another thread, [`Presenter::serve`] paints the scenes, several at once if several wait, and puts all into `out` in
+//! order. When both have returned, [`finish`] puts what is left. [`present_from`] shows the whole life for a list of
+//! pieces.
 //!
-//! What was put goes out in the order in which it came in: nothing is left out or overtaken. Bytes are gathered until
-//! a scene follows, until they are 64 KiB, or until `pass_on`, which the one who puts calls before it waits for
-//! others. Who waits for whom: the presenter waits for the next piece or for the end mark; a put waits for nobody.
-//! What the ring has no place for is kept in order in the sink; so that it does not grow without bound, the one who
-//! puts calls `wait_for_space` now and then, which waits while more than 256 MiB wait to be written.
+//! What was put goes out in the order in which it came in. Bytes are gathered until a scene follows, until they are
+//! 64 KiB, or until `pass_on`, which the compositor calls before it waits for others. What the ring has no place for
+//! is kept in order in the sink. A put waits for nobody; so that what is kept does not grow without bound, the
+//! compositor calls `wait_for_space` now and then, which waits while more than 256 MiB wait to be written.
 #![tactic(auto)]
 
 mod ends;

@@ -27,11 +27,11 @@ is_of q r = same_key r.key q
 abbrev pub is_among : List TileKey → Tile → Bool
 is_among ks t = has_key ks t.key
 
--- the tile's rank, where it has one
+-- the tile's rank, if it has one
 abbrev pub tile_rank : Tile → Option Rank
 tile_rank t = t.rank
 
--- the choice once a key is started and these keys are evicted for it: it is wanted no more, they are ready no more and wanted again where they have a rank, and one tile more is in flight
+-- the choice once a key is started and these keys are evicted for it: it is wanted no more, they are ready no more and wanted again if they have a rank, and one tile more is in flight
 abbrev pub choice_after_start : Choice → TileKey → List TileKey → Choice
 choice_after_start c q evicted = record {
   wanted = filter (λ r. not (is_of q r)) c.wanted ++ filter_map tile_rank (filter (is_among evicted) c.ready);
@@ -40,11 +40,11 @@ choice_after_start c q evicted = record {
   budget = c.budget;
 }
 
--- the tile is ready too, where there is one
+-- the tile is ready too, if there is one
 abbrev pub with_ready : Option Tile → List Tile → List Tile
 with_ready None ts = ts
 with_ready (Some t) ts = t ∷ ts
 
--- the choice once a tile in flight is made: one fewer is in flight, and the tile is ready where it is still needed
+-- the choice once a tile in flight is made: one fewer is in flight, and the tile is ready if it is still needed
 abbrev pub finished : Choice → Option Tile → Choice
 finished c tile = record { wanted = c.wanted; ready = with_ready tile c.ready; in_flight = c.in_flight - 1; budget = c.budget }

@@ -13,7 +13,7 @@ use Rattle.tile_priority.specs.declared.tree_priority.TreePriority.TheVariants a
 use Rattle.tile_priority.specs.declared.tile.Borders.{Borders}
 use Rattle.tile_priority.specs.declared.tile.Seen.{Seen}
 
--- a tile is visible where its layer draws and its screen rect and its clip have a common pixel
+-- a tile is visible if its layer draws and its screen rect and its clip have a common pixel
 abbrev pub is_visible : Seen → Bool
 is_visible s = s.draws && meets s.screen s.clip
 
@@ -21,11 +21,11 @@ is_visible s = s.draws && meets s.screen s.clip
 abbrev pub bin_at : Borders → ℕ → Option Bin
 bin_at b d = if nat_le d b.soon then Some bin.Soon else (if nat_le d b.eventually then Some bin.Eventually else None)
 
--- a visible tile is NOW, another goes by its distance to the viewport
+-- a visible tile is NOW; any other is SOON or EVENTUALLY if it is no further from the viewport than that border, whatever its clip and its opacity; else it has no bin
 abbrev pub bin_of : Borders → Seen → Option Bin
 bin_of b s = if is_visible s then Some bin.Now else bin_at b (distance s.screen b.viewport)
 
--- the tree whose tiles come first has number 0 and the other 1; both have 0 where they are alike
+-- the tree whose tiles come first has number 0 and the other 1; both have 0 if they are alike
 abbrev pub tree_number : TreePriority → Side → ℕ
 tree_number priority.Same s = 0
 tree_number priority.Smooth side.Active = 0

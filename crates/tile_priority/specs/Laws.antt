@@ -43,12 +43,12 @@ pub record EvictedAreOne : Type 0 where
 pub record EvictedGiveWay : Type 0 where
   pub ready : (c : Choice) (q : Rank) (e : Evictable) → In e (evicted c q)
       → (t : Tile) × In t c.ready × (evictable_of t ≡ e) × (gives_way q.bin t ≡ true)
-  -- so no pinned tile's key is among them, where each key stands once
+  -- so no pinned tile's key is among them, if each key stands once
   pub pinned : (c : Choice) (q : Rank) (e : Evictable) (t : Tile)
       → ((u : Tile) → In u c.ready → IsRankOfKey u.key u.rank) → NoKeyTwice c.ready
       → In e (evicted c q) → In t c.ready → t.pinned ≡ true → evictable_key e ≡ t.key → ⊥
 
--- a visible tile may always start, so where one is wanted a visible one is the first
+-- a visible tile may always start, so if one is wanted a visible one is the first
 pub record VisibleStart : Type 0 where
   pub may : (c : Choice) (q : Rank) → q.bin ≡ bin.Now → may_start c q ≡ true
   pub goes_first : (c : Choice) (q : Rank) → In q c.wanted → q.bin ≡ bin.Now
@@ -61,7 +61,7 @@ pub record OrderIsFree : Type 0 where
   pub first : (c d : Choice) → SameChoice c d → first c ≡ first d
   pub evicted : (c d : Choice) (q : Rank) → SameChoice c d → evicted c q ≡ evicted d q
 
--- a rank of a better bin has no fewer evictable tiles; so the first rank is the least wanted one, where that one may start, and else there is none
+-- a rank of a better bin has no fewer evictable tiles; so the first rank is the least wanted one, if that one may start, and else there is none
 pub record LeastIsFirst : Type 0 where
   pub no_fewer_evictables : (c : Choice) (p q : Rank) → bin_number p.bin ≤ bin_number q.bin → length (worst_first c q) ≤ length (worst_first c p)
   pub least : (c : Choice) (q : Rank) → least_of c.wanted ≡ Some q → first c ≡ cond (may_start c q) (Some q) None

@@ -27,7 +27,7 @@ at_order Less x y z = x
 at_order Equal x y z = y
 at_order Greater x y z = z
 
--- the better of two ranks, where either may be missing
+-- the better of two ranks, either of which may be missing
 abbrev pub least : Option Rank → Option Rank → Option Rank
 least (Some a) (Some b) = at_order (rank_cmp b a) (Some b) (Some a) (Some a)
 least (Some a) None = Some a

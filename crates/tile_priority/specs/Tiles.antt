@@ -3,7 +3,7 @@ use Rattle.std.specs.Prelude.{◌≡◌, Bool, Option, Some, None}
 use Rattle.geom.specs.declared.tile.TileKey.{TileKey}
 use Rattle.tile_priority.specs.declared.rank.Rank.{Rank}
 
--- a tile whose picture is there: its key, its rank where it has one, and whether it must stay
+-- a tile whose picture is there: its key, its rank if it has one, and whether it must stay
 pub record Tile : Type 0 where
   pub key : TileKey
   pub rank : Option Rank

@@ -25,7 +25,7 @@ pub record IsNew (c : Choice) (q : TileKey) : Type 0 where
   pub not_wanted : has_key (map rank_key c.wanted) q ≡ false
   pub not_ready : has_key (map tile_key c.ready) q ≡ false
 
--- these keys are evicted for the key, where it is wanted; the worst stands first
+-- these keys are evicted for the key, if it is wanted; the worst stands first
 abbrev pub AreEvictedFor : Choice → TileKey → List TileKey → Type 0
 AreEvictedFor c q ks = (r : Rank) → In r c.wanted → r.key ≡ q → ks ≡ map evictable_key (evicted c r)
 

@@ -9,13 +9,13 @@ use Rattle.page_display_list.specs.declared.Item.{Item}
 use Rattle.page_display_list.specs.Bitmaps.{near}
 use Rattle.page_display_list.specs.Content.{content}
 
--- the picture of a tile: its key, its rect, and the display list that it shows there
+-- the picture of a tile: its key, its rect, and the display list that it shows there; so pictures of one rect and one list have the same pixels
 pub record Image : Type 0 where
   pub key : TileKey
   pub rect : Rect
   pub list : List Item
 
--- the colour at column x and row y of a rect
+-- what the list shows at column x and row y of a rect
 abbrev pub list_colour : List Item → Rect → ℕ → ℕ → Parts
 list_colour list r x y = content list (r.x +ℤ pos x) (r.y +ℤ pos y)
 

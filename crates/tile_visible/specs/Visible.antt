@@ -22,7 +22,7 @@ viewport p = record { x = pos 0; y = pos 0; w = pos p.view.w; h = pos p.view.h }
 abbrev pub grid_of : Page → PageLayer → Sides
 grid_of p l = record { w = l.w; h = l.h; tile = p.view.tile }
 
--- where a tile of a layer stands on the screen
+-- where a tile of a layer stands on the screen: its rect, moved by the translation of the layer's transform
 abbrev pub screen_rect : Page → (ℕ → Point) → PageLayer → Place → Rect
 screen_rect p offset l place = shifted (rect_of_place (grid_of p l) place) (translation offset p.props.transforms l.transform)
 
@@ -31,7 +31,7 @@ abbrev pub cut_by : Rect → Option Rect → Rect
 cut_by view None = view
 cut_by view (Some clip) = common clip view
 
--- how a tile of a layer is seen
+-- how a tile of a layer is seen: its rect on the screen, the layer's clip cut by the viewport, and whether the layer draws
 abbrev pub seen : Page → (ℕ → Point) → PageLayer → Place → Seen
 seen p offset l place = record {
   screen = screen_rect p offset l place;

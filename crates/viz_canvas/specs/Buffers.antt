@@ -24,7 +24,7 @@ EachPixelIs depth across w h p bytes = (x y : ℕ) → x < w → y < h → pixel
 pub record AreGapsKept (depth across w h : ℕ) (old new : List ℕ) : Type 0 where
   pub bytes : (x y : ℕ) → w ≤ x → x < across → y < h → pixel_at depth across new x y ≡ pixel_at depth across old x y
 
--- where `on` says so, the pixels of a picture of a scene's size got the bytes of the scene's; all other bytes are kept
+-- if `on` says so, the pixels of a picture of a scene's size got the bytes of the scene's; all other bytes are kept
 pub record IsDrawnWhere (depth : ℕ) (bytes_of : Parts → List ℕ) (s : SceneView) (across : ℕ) (on : ℕ → ℕ → Bool) (old new : List ℕ) : Type 0 where
   pub pixels : EachPixelIs depth across s.w s.h (λ x y. cond (on x y) (bytes_of (scene_pixel s (pos x) (pos y))) (pixel_at depth across old x y)) new
   pub gaps : AreGapsKept depth across s.w s.h old new

@@ -14,7 +14,7 @@ pub record CanvasView : Type 0 where
   pub h : ℕ
   pub bytes : List ℕ
 
--- what each canvas keeps, where a pixel has the given number of bytes
+-- what each canvas keeps, if a pixel has the given number of bytes
 pub record IsCanvas (depth : ℕ) (c : CanvasView) : Type 0 where
   pub wide : IsSceneSide c.w
   pub tall : IsSceneSide c.h

@@ -9,11 +9,11 @@ use Rattle.page_layers.specs.TreePainting.{paint}
 use Rattle.viz_canvas.specs.Canvases.{CanvasView, IsOfSize, canvas_pixel}
 use Rattle.cc.specs.inner.Edits.{LookAlikeOutside}
 
--- where it is set, the main page is the active one
+-- if it is set, the main page is the active one
 pub record TellsCommitted (flag : Bool) (active main : Page) : Type 0 where
   pub same : flag ≡ true → active ≡ main
 
--- where they are known, the main page looks like the active one outside of these rects
+-- if they are known, the main page looks like the active one outside of these rects
 pub record TellsEdited (edited : Option (List Rect)) (active main : Page) : Type 0 where
   pub alike : IfSome edited (λ rects. LookAlikeOutside rects active main)
 
@@ -23,11 +23,11 @@ pub record ShowsPageOutside (depth : ℕ) (bytes_of : Parts → List ℕ) (rects
   pub pixels : (x y : ℕ) → x < f.w → y < f.h → covered rects (pos x) (pos y) ≡ false
       → canvas_pixel depth f x y ≡ bytes_of (paint p (main_point p) [] background (pos x) (pos y))
 
--- where they are known, the frame shows the active page outside of these rects
+-- if they are known, the frame shows the active page outside of these rects
 pub record TellsShown (depth : ℕ) (bytes_of : Parts → List ℕ) (unshown : Option (List Rect)) (active : Page) (background : Parts) (f : CanvasView) : Type 0 where
   pub shows : IfSome unshown (λ rects. ShowsPageOutside depth bytes_of rects active background f)
 
--- the damage of the last draw: the whole frame where it was refused after the frame may have changed, else that of the painter, or none where nothing was painted
+-- the damage of the last draw: the whole frame if it was refused after the frame may have changed, else that of the painter, or none if nothing was painted
 abbrev pub damage_in : Option Rect → Bool → List Rect → List Rect
 damage_in (Some whole) is_painted rects = whole ∷ []
 damage_in None true rects = rects

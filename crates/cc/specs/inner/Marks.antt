@@ -25,7 +25,7 @@ shows layer r cs = one_shows layer r (slice_get cs 0)
 abbrev pub is_touched : Page → Changed → KeptTile → Bool
 is_touched p changes k = (changes.retiled || not (has_layer k.key.layer p.layers)) || shows k.key.layer k.image.value.rect changes.list
 
--- a tile that is marked where it is touched
+-- a tile that is marked if it is touched
 abbrev pub marked : Page → Changed → KeptTile → KeptTile
 marked q changes k = record k { is_stale = k.is_stale || is_touched q changes k }
 

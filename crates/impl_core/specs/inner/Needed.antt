@@ -5,7 +5,7 @@ use Rattle.geom.specs.declared.tile.TileKey.{TileKey}
 use Rattle.geom.specs.KeyLists.{has_key}
 use Rattle.impl_core.specs.declared.needs.Needs.{Needs}
 
--- where keys are known, they are those needed, and where all are known to be ready, all needed ones are
+-- if keys are known, they are those needed, and if all are known to be ready, all needed ones are
 pub record KnowsNeeds (n : Needs) (needed ready : List TileKey) : Type 0 where
   pub keys : IfSome n.keys (λ ks. ks ≡ needed)
   pub all_ready : n.all_ready ≡ true → list_all (has_key ready) needed ≡ true

@@ -12,7 +12,7 @@ use Rattle.model_history.specs.Sharing.{has_page_key}
 use Rattle.model_history.specs.Stamps.{stamp_in}
 use Rattle.model_history.specs.Tiles.{Tree, live_keys}
 
--- the tree of the commit of a frame at these offsets; the blank page where there is no frame
+-- the tree of the commit of a frame at these offsets; the blank page if there is no frame
 abbrev pub tree_at : ScriptModel → (ℕ → List Move) → Option ℕ → (ℕ → Point) → Tree
 tree_at s ps o at = record { page = page s ps (up_to o); offset = at; stamp = stamp_in s ps (up_to o) }
 

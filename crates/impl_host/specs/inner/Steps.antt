@@ -37,7 +37,7 @@ OfLayer a id P = Paired (λ l t. l.id ≡ id → P t) a.page.layers a.tilings
 abbrev pub AreAlike : Tiled → Tiled → Type 0
 AreAlike t u = u.grid ≡ t.grid → (p : Place) → has t.grid p ≡ true → stamp_at t p ≡ stamp_at u p
 
--- the second tiling has the stamps of the first, stepped by a commit, where the two are cut alike
+-- the second tiling has the stamps of the first, stepped by a commit, if the two are cut alike
 abbrev pub IsStepped : Commit → ℕ → Tiled → Tiled → Type 0
 IsStepped c id t u = t.grid ≡ u.grid → (p : Place) → has u.grid p ≡ true → stamp_at u p ≡ (if changes_in id (rect_of_place u.grid p) c then c.frame else stamp_at t p)
 

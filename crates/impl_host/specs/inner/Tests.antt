@@ -19,7 +19,7 @@ is_kept last d l = is_listed_whole d.list l.id || has_size l (last_size last l.i
 abbrev pub are_kept : Option TreeModel → Changed → List PageLayer → Bool
 are_kept last d layers = list_all (is_kept last d) layers
 
--- whether the commit retiles, or the last pushed tree, where there is one, has the tile size of the page
+-- whether the commit retiles, or the last pushed tree, if there is one, has the tile size of the page
 abbrev pub has_tile : Option TreeModel → Page → Changed → Bool
 has_tile None p d = true
 has_tile (Some t) p d = d.retiled || (t.page.view.tile == p.view.tile)

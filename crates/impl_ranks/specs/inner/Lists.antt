@@ -48,11 +48,11 @@ seen_has vs q = has_on (layer_at q.layer vs) q
 abbrev pub tile_seen : SeenLayerModel → Place → Seen
 tile_seen v place = record { screen = shifted (rect_of_place v.grid place) v.by; clip = v.clip; draws = v.draws }
 
--- the rank of a key, where the layer has it
+-- the rank of a key, if the layer has it
 abbrev pub layer_rank : Borders → Side → SeenLayerModel → TileKey → Option Rank
 layer_rank b a v q = cond (layer_has v q) (rank_of b a (tile_seen v (place_named q)) q) None
 
--- the rank of a key, where one of the layers has it
+-- the rank of a key, if one of the layers has it
 abbrev pub rank_on_layer : Borders → Side → Option SeenLayerModel → TileKey → Option Rank
 rank_on_layer b a None q = None
 rank_on_layer b a (Some v) q = layer_rank b a v q
@@ -69,7 +69,7 @@ rank_where s a (Some r) q = seen_rank (borders s r.page) a r.layers q
 abbrev pub better_on : Borders → List SeenLayerModel → Rank → Option Rank
 better_on b vs r = least (Some r) (seen_rank b side.Pending vs r.key)
 
--- a rank, where its key has none in an active tree of these layers
+-- a rank, if its key has none in an active tree of these layers
 abbrev pub alone_on : Borders → List SeenLayerModel → Rank → Option Rank
 alone_on b vs r = cond (is_some (seen_rank b side.Active vs r.key)) None (Some r)
 
@@ -90,7 +90,7 @@ ranks_where s a (Some r) = flat_map (near_ranks (borders s r.page) a) r.layers
 abbrev pub or_better : ScriptModel → Option SeenTreeModel → Rank → Option Rank
 or_better s p r = least (Some r) (rank_where s side.Pending p r.key)
 
--- a rank, where its key has none in the active tree
+-- a rank, if its key has none in the active tree
 abbrev pub alone : ScriptModel → Option SeenTreeModel → Rank → Option Rank
 alone s a r = cond (is_some (rank_where s side.Active a r.key)) None (Some r)
 
@@ -141,7 +141,7 @@ visible_on (Some v) = visible_of v
 abbrev pub visible_at : List SeenLayerModel → PageLayer → List TileKey
 visible_at vs l = visible_on (layer_at l.id vs)
 
--- where a tree is there, its page is one
+-- if a tree is there, its page is one
 abbrev pub IsPageWhere : Option SeenTreeModel → Type 0
 IsPageWhere None = Unit {0}
 IsPageWhere (Some r) = IsPage r.page

@@ -24,7 +24,7 @@ pub record SameBorders (b c : Borders) : Type 0 where
   pub eventually : c.eventually ≡ b.eventually
   pub priority : c.priority ≡ b.priority
 
--- a layer with the borders of its tree, and the layer beside it, where there is one, with those of the other tree
+-- a layer with the borders of its tree, and the layer beside it, if there is one, with those of the other tree
 pub record Pair : Type 0 where
   pub borders : Borders
   pub layer : SeenLayerModel
@@ -46,7 +46,7 @@ better_side priority.New = side.Pending
 abbrev pub better_beside : Borders → Option SeenLayerModel → Rank → Option Rank
 better_beside c o r = least (Some r) (rank_on_layer c side.Pending o r.key)
 
--- a rank of a pending layer, where its key has none in the active layer beside it
+-- a rank of a pending layer, if its key has none in the active layer beside it
 abbrev pub alone_beside : Borders → Option SeenLayerModel → Rank → Option Rank
 alone_beside c o r = cond (is_some (rank_on_layer c side.Active o r.key)) None (Some r)
 

@@ -28,7 +28,7 @@ at_active rs p = active_at (row_value rs)
 abbrev pub at_pending : List ℕ → List Row → Places
 at_pending ids rs p = pending_at (has_number ids) p (row_value rs)
 
--- the offsets of a page; all are the origin where there is none
+-- the offsets of a page; all are the origin if there is none
 abbrev pub offsets_where : Places → Option Page → ℕ → Point
 offsets_where at None sc = origin
 offsets_where at (Some p) sc = offsets_in p (at p) sc

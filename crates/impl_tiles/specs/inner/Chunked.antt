@@ -27,7 +27,7 @@ pub record IsSpot (cs : List (List KeyedPlace)) (s : Spot) : Type 0 where
   pub chunk : s.chunk < length cs
   pub at : s.at < length (get_or cs s.chunk [])
 
--- a key may be put at the spot: into a chunk, or into the first one where there is none
+-- a key may be put at the spot: into a chunk, or into the first one if there is none
 pub record IsGap (cs : List (List KeyedPlace)) (s : Spot) : Type 0 where
   pub chunk : s.chunk ≤ length cs
   pub at : s.at ≤ length (get_or cs s.chunk [])

@@ -8,7 +8,7 @@ use Rattle.impl_tiles.specs.declared.outlook.Outlook.{Outlook}
 use Rattle.impl_tiles.specs.declared.outlook.Outlook.TheVariants as outlook
 use Rattle.impl_tiles.specs.Visible.{finished_hidden}
 
--- the key may start, where these keys are evicted for it
+-- the key may start, once these keys are evicted for it
 abbrev pub MayStartNext : Outlook → TileKey → List TileKey → Type 0
 MayStartNext (outlook.Queue c) q ks = MayStartWith c q ks
 MayStartNext (outlook.Visible c) q ks = MayStartWith c q ks
@@ -24,7 +24,7 @@ HasStarted (outlook.Visible c) q ks _ = ⊥
 HasStarted (outlook.Ranks r) q ks new = new ≡ outlook.Ranks r
 HasStarted outlook.Unseen q ks new = new ≡ outlook.Unseen
 
--- a tile in flight may be made: where it is given, its key was neither wanted nor ready
+-- a tile in flight may be made: if it is given, its key was neither wanted nor ready
 abbrev pub MayFinish : Outlook → Option Tile → Type 0
 MayFinish (outlook.Queue c) tile = (1 ≤ c.in_flight) × IfSome tile (λ t. IsNew c t.key)
 MayFinish (outlook.Visible c) tile = (1 ≤ c.in_flight) × IfSome tile (λ t. IsNew c t.key)

@@ -36,13 +36,13 @@ module _ {X : Type 0} where
   has_image (Some (Some x)) = true
   has_image _ = false
 
-  -- what is left of a key where those that are not live lose their images and what has none stays
+  -- what is left of a key if those that are not live lose their images and what has none stays
   abbrev pub if_live : Bool → Option (Option X) → Option (Option X)
   if_live true held = held
   if_live _ (Some None) = Some None
   if_live _ _ = None
 
-  -- what is left of a key where those of a list are dropped
+  -- what is left of a key if those of a list are dropped
   abbrev pub if_not_named : Bool → Option (Option X) → Option (Option X)
   if_not_named true held = None
   if_not_named _ held = held

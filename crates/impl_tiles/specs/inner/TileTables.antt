@@ -27,7 +27,7 @@ table_code key image =
     (λ p. record { held = p.0; spare = p.1 })
     (λ _. refl)
 
--- the image of a tile, where it is made
+-- the image of a tile, if it is made
 abbrev pub shown : Tile → Option Image
 shown t = option_map (λ a. a.value) t.image
 

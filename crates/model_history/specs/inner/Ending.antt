@@ -19,7 +19,7 @@ use Rattle.model_history.specs.SameChanges.{SameChanges}
 abbrev pub with_next : Page → Command → Changed → Changed
 with_next p c done = record { list = with_command p c done.list; retiled = done.retiled || retiles p c }
 
--- what a command lists was noted after what was noted before: where that was right, so is this
+-- what a command lists was noted after what was noted before: if that was right, so is this
 abbrev pub Noted : Command → Changed → Changed → Changed → Type 0
 Noted c listed old new = (p : Page) (done : Changed) → ListsChange (layer_change_of p c) (retiles p c) listed → SameChanges old done → SameChanges new (with_next p c done)
 
@@ -36,7 +36,7 @@ pub record IsPullOf (sc : ℕ) (ms : List Move) (m : Move) : Type 0 where
   pub bounded_across : IsBoundedNumber m.dx
   pub bounded_down : IsBoundedNumber m.dy
 
--- the main value of a scroller changed by more or less than its pull, where the first page became the second
+-- the main value of a scroller changed by more or less than its pull, if the first page became the second
 abbrev pub is_moved : Page → Page → List Move → ℕ → Bool
 is_moved p q ms sc =
     not (int_eq (main_value q sc across -ℤ main_value p sc across) (amount_in sc across ms))

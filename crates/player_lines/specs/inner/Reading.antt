@@ -27,7 +27,7 @@ pub record IsLeft (Answers : ℕ → List ℕ → List ℕ → Type 0) (most num
   pub once : AtOnce Answers h
   pub quiet : IsQuiet h
 
--- what holds of a known past where a session stops early
+-- what holds of a known past if a session stops early
 abbrev pub StoppedBy : (ℕ → List ℕ → List ℕ → Type 0) → Stop → List Act → Type 0
 StoppedBy Answers stop.Read h = IsAnswered Answers h
 StoppedBy Answers stop.Write h = IsBegun Answers h
@@ -38,7 +38,7 @@ abbrev pub Feeds : {X : Type 0} → (List Act → Type 0) → (ℕ → List ℕ 
 Feeds Left Answers past (Ok _) = Has Left past
 Feeds Left Answers past (Err why) = Has (λ h. AtOnce Answers h × StoppedBy Answers why h) past
 
--- what is left where the client has no more bytes
+-- what is left if the client has no more bytes
 abbrev pub LeftLast : (List Act → Type 0) → List Act → Type 0
 LeftLast Left h = Left h × HasNoMore h
 
@@ -69,7 +69,7 @@ has_begun_by [] None = false
 has_begun_by (b ∷ kept) None = true
 has_begun_by kept (Some why) = true
 
--- a fault of the client is answered only where a call of it failed
+-- a fault of the client is answered only if a call of it failed
 abbrev pub ClientCause : {X : Type 0} → ℕ → ℕ → Bool → Result X Stop → Type 0
 ClientCause old new torn (Ok _) = ⊤
 ClientCause old new torn (Err stop.Memory) = ⊤

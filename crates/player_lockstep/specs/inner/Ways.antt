@@ -36,12 +36,12 @@ pub record HasPlayed (old : Run) (news : List Entry) (new : SingleModel) (r : Re
   pub played : past new.run ≡ reverse news ++ past old
   pub written : IsWritten new r
 
--- where writing did not stop, these entries were played
+-- if writing did not stop, these entries were played
 abbrev pub PlaysAll : {X E : Type 0} → Run → List Entry → SingleModel → Recorder → Result X E → Type 0
 PlaysAll old news new r (Ok _) = HasPlayed old news new r
 PlaysAll old news new r (Err _) = ⊤
 
--- a way was played and written, but for the lines that are held back; or where writing stopped, a prefix of it was written
+-- a way was played and written, but for the lines that are held back; or if writing stopped, a prefix of it was written
 pub record WritesWay {X E : Type 0} (P : Way) (old new : SingleModel) (before after : Option (List ℕ)) (lines : List ℕ) (r : Recorder) (result : Result X E) : Type 0 where
   -- the entries that the way brings, the oldest first
   pub news : List Entry

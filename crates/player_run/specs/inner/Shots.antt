@@ -7,7 +7,7 @@ use Rattle.player_uses.specs.declared.outcome.Outcome.{Outcome}
 use Rattle.player_uses.specs.declared.outcome.Outcome.TheVariants.{NoPicture}
 use Rattle.player_uses.specs.Outputs.{WritesSome}
 
--- the file of the script's last image was written; or a prefix of it; or nothing, where there is none
+-- the file of the script's last image was written; or a prefix of it; or nothing, if there is none
 abbrev pub Shoots : ScriptModel → Option (List ℕ) → Option (List ℕ) → Outcome → Type 0
 Shoots s old new NoPicture = IsLastImage s None × (new ≡ old)
 Shoots s old new result = WritesSome (λ file. IsShot s (Some file)) old new result

@@ -34,14 +34,14 @@ StoppedAt limit old new TooLong = GaveMore limit old new
 StoppedAt limit old new Fault = ⊤
 StoppedAt limit old new Memory = ⊤
 
--- the answer `Fault` comes only where the count of faults rose
+-- the answer `Fault` comes only if the count of faults rose
 abbrev pub ReadCause : {X : Type 0} → ℕ → ℕ → Result X ReadStop → Type 0
 ReadCause old new (Ok _) = ⊤
 ReadCause old new (Err TooLong) = ⊤
 ReadCause old new (Err Fault) = Rose old new
 ReadCause old new (Err Memory) = ⊤
 
--- just one read failed where that is the answer, and it was the last call of the source; else none failed
+-- just one read failed if that is the answer, and it was the last call of the source; else none failed
 abbrev pub ReadStops : {X : Type 0} → ℕ → ℕ → Bool → Result X ReadStop → Type 0
 ReadStops old new failed (Ok _) = new ≡ old
 ReadStops old new failed (Err TooLong) = new ≡ old

@@ -29,7 +29,7 @@ pub record HasRun (s : ScriptModel) (ps : ℕ → List Move) (n : ℕ) (host : M
   pub count : length host.sends ≡ n
   pub each : (k : ℕ) → k < n → pulls_in host.sends k ≡ ps k
 
--- how frame k ends, with the pulls of the frames up to it: by its commit where it changes something, else by an abort
+-- how frame k ends, with the pulls of the frames up to it: by its commit if it changes something, else by an abort
 abbrev pub IsEndOf : ScriptModel → (ℕ → List Move) → ℕ → List (List Move) → MainEnd → Type 0
 IsEndOf s ps k lists (end.Ready c) = (changes s ps k ≡ true) × (c.frame ≡ k) × (c.script ≡ s) × (c.sends ≡ lists)
 IsEndOf s ps k lists (end.Abort frame) = (changes s ps k ≡ false) × (frame ≡ k)
@@ -67,7 +67,7 @@ IsMainOf s ps n side true = IsInFlight s ps n side side.end
 abbrev pub IsMain : Run → MainSide → Type 0
 IsMain r side = IsMainOf r.script (pulls_of (past r)) (counted sends (past r)) side (is_sent (sched (past r)).main_state)
 
--- where a frame is in flight, it was run
+-- if a frame is in flight, it was run
 abbrev pub WasRun : Run → MainSide → Type 0
 WasRun r side = is_sent (sched (past r)).main_state ≡ true → is_some side.end ≡ true
 

@@ -29,7 +29,7 @@ pub record Stops (a : ℕ) (old new : Run) : Type 0 where
   pub steps : Steps a old new
   pub ended : has_ended (past new) ≡ true
 
--- where an actor gives up, it takes the turn once more
+-- if an actor gives up, it takes the turn once more
 abbrev pub StopsIfFailed : Turned → Seat → Seat → Type 0
 StopsIfFailed turned.Memory p q = Holding p q (Stops p.actor)
 StopsIfFailed turned.WriteFault p q = Holding p q (Stops p.actor)
@@ -55,7 +55,7 @@ abbrev pub NoneNow : List Kind → Run → Type 0
 NoneNow [] r = ⊤
 NoneNow (k ∷ ks) r = (now r k 0 ≡ None) × NoneNow ks r
 
--- the same where the run goes on, and only these kinds are tried
+-- the same if the run goes on, and only these kinds are tried
 abbrev pub PlaysOf : List Kind → Run → Run → Played → Type 0
 PlaysOf ks old new played.Blocked = (new ≡ old) × NoneNow ks old
 PlaysOf ks old new played.Ended = ⊥
@@ -86,7 +86,7 @@ abbrev pub image_in : Played → List ℕ
 image_in (played.Shown scene) = scene_image scene
 image_in _ = []
 
--- the answer for what was played, where it can be written
+-- the answer for what was played, if it can be written
 abbrev pub answer_for : Played → Turned
 answer_for played.Ended = turned.Ended
 answer_for played.Blocked = turned.Blocked
@@ -107,12 +107,12 @@ GoesOrGivesUp turned.Memory = ⊤
 GoesOrGivesUp turned.WriteFault = ⊤
 GoesOrGivesUp _ = ⊥
 
--- the answer where writing has stopped
+-- the answer if writing has stopped
 abbrev pub answer_at : WriteStop → Turned
 answer_at stop.Fault = turned.WriteFault
 answer_at stop.Memory = turned.Memory
 
--- what is written of what was played: its lines, and its image; or nothing, where memory was refused
+-- what is written of what was played: its lines, and its image; or nothing, if memory was refused
 abbrev pub text_for : Played → List ℕ → List ℕ
 text_for played.Memory lines = []
 text_for x lines = lines ++ image_in x

@@ -7,7 +7,7 @@ use Rattle.page_layers.specs.Pages.{Page}
 use Rattle.page_layers.specs.TreePainting.{paint}
 use Rattle.model_history.specs.Recordings.{rgb, image_row}
 
--- what stands after a prefix; none where the bytes do not begin with it
+-- what stands after a prefix; none if the bytes do not begin with it
 abbrev pub behind : List ℕ → List ℕ → Option (List ℕ)
 behind [] xs = Some xs
 behind (c ∷ cs) [] = None

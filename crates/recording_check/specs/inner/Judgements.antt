@@ -12,7 +12,7 @@ use Rattle.recording_check.specs.declared.verdict.Verdict.{Verdict}
 use Rattle.recording_check.specs.declared.verdict.Verdict.TheVariants.{Good, No}
 use Rattle.recording_check.specs.Verdicts.{AreRightPieces, IsWrongAt}
 
--- what is said where this piece is the first that is wrong, or none is
+-- what is said if this piece is the first that is wrong, or none is
 abbrev pub verdict_where : Option ℕ → Verdict
 verdict_where None = Good
 verdict_where (Some place) = No place

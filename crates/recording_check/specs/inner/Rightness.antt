@@ -41,7 +41,7 @@ abbrev pub Judged : Run → Piece → Run → Bool → Type 0
 Judged old p new true = IsRight old.script old.workers (past old) p × (new ≡ with_entry old (entry_of p.event).actor (entry_of p.event).event)
 Judged old p new false = (IsRight old.script old.workers (past old) p → ⊥) × (new ≡ old)
 
--- an image stands within the bytes, where there is one
+-- an image stands within the bytes, if there is one
 abbrev pub Arrives : List ℕ → Option ImageSpan → Type 0
 Arrives bytes None = ⊤
 Arrives bytes (Some m) = IsWithinBytes (length bytes) m

@@ -30,7 +30,7 @@ ready tile sheets = record { tile = tile; layers = map (λ s. s.placed) sheets; 
 abbrev pub HaveOpacities : (ℕ → ℕ) → List SheetModel → Type 0
 HaveOpacities opacity sheets = All (λ s. All (λ g. opacity g.effect ≡ g.opacity) s.groups) sheets
 
--- a sheet is a layer of the page at these offsets, where the tiles of these keys are missing
+-- a sheet is a layer of the page at these offsets, with the tiles of these keys missing
 pub record IsSheetOf (p : Page) (offset : ℕ → Point) (missing : List TileKey) (l : PageLayer) (s : SheetModel) : Type 0 where
   pub colours : (x y : ℤ) → colour_in p.view.tile x y s ≡ layer_colour_at p offset missing x y l
   pub groups : effects_of s ≡ groups_in p.props.effects l.effect

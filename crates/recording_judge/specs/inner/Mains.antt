@@ -32,7 +32,7 @@ pub record IsCommitOf (s : ScriptModel) (ps : ℕ → List Move) (k : ℕ) (c : 
   pub page : c.tree ≡ page s ps (suc k)
   pub changes : SameChanges c.changes (frame_changes s ps k)
 
--- frame k ends so, with these pulls: by its commit exactly where it changes something
+-- frame k ends so, with these pulls: by its commit exactly if it changes something
 abbrev pub IsEndOf : ScriptModel → (ℕ → List Move) → ℕ → MainEnd → Type 0
 IsEndOf s ps k (end.Ready c) = (changes s ps k ≡ true) × IsCommitOf s ps k c
 IsEndOf s ps k (end.Abort frame) = (changes s ps k ≡ false) × (frame ≡ k)
@@ -48,13 +48,13 @@ IsCommitted s ps k None = ⊥
 IsCommitted s ps k (Some (end.Ready c)) = IsCommitOf s ps k c
 IsCommitted s ps k (Some (end.Abort frame)) = ⊥
 
--- the commit by which the frame ends, where it ends so
+-- the commit by which the frame ends, if it ends so
 abbrev pub commit_of : Option MainEnd → Option CommitModel
 commit_of None = None
 commit_of (Some (end.Ready c)) = Some c
 commit_of (Some (end.Abort k)) = None
 
--- the event by which the frame ends, where it ends so
+-- the event by which the frame ends, if it ends so
 abbrev pub ready_event : Option MainEnd → Option Event
 ready_event None = None
 ready_event (Some (end.Ready c)) = Some (event.Ready c.frame)
@@ -65,7 +65,7 @@ abort_event None = None
 abort_event (Some (end.Ready c)) = None
 abort_event (Some (end.Abort k)) = Some (event.Abort k)
 
--- n frames were sent and run; the last of them, where it has not ended, is to end so
+-- n frames were sent and run; the last of them, if it has not ended, is to end so
 pub record MainOf (s : ScriptModel) (ps : ℕ → List Move) (n : ℕ) (side : JudgedMain) (idle : Bool) (last : Option ℕ) : Type 0 where
   pub run : HasRun s ps n side.host
   pub ends : idle ≡ false → (k : ℕ) → last ≡ Some k → EndsSo s ps k side.end

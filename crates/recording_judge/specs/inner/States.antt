@@ -63,7 +63,7 @@ abbrev pub listed : Option Move → List Move
 listed None = []
 listed (Some m) = m ∷ []
 
--- the actor has events of this kind, where there are that many workers: the main side, a worker, anybody, or the compositor
+-- the actor has events of this kind, if there are that many workers: the main side, a worker, anybody, or the compositor
 abbrev pub HasKind : ℕ → Kind → ℕ → Type 0
 HasKind n kind.Ready a = a ≡ 1
 HasKind n kind.Abort a = a ≡ 1
@@ -78,7 +78,7 @@ needs_queue kind.Start = true
 needs_queue kind.Settle = true
 needs_queue _ = false
 
--- the parts are those of the run, which is the same, and there is a queue where the kind needs one
+-- the parts are those of the run, which is the same, and there is a queue if the kind needs one
 pub record IsReadyFor (old : State) (k : Kind) (new : State) : Type 0 where
   pub log : new.log ≡ old.log
   pub state : IsState new

@@ -20,7 +20,7 @@ use Rattle.impl_ranks.specs.SeenTrees.{SeenTreeModel, IsSeenWhere}
 use Rattle.impl_tiles.specs.Managers.{HaveSameTiles, tile_made}
 use Rattle.recording_judge.specs.declared.tile_keys.TileKeys.{TileKeys}
 
--- these keys are ready, these pinned, each of the given number of workers holds this, and the queue is for this choice, where there is one
+-- these keys are ready, these pinned, each of the given number of workers holds this, and the queue is for this choice, if there is one
 pub record HoldsKeys (n : ℕ) (t : TileKeys) (made pins : List TileKey) (holder : ℕ → Option TileKey) (c : Choice) : Type 0 where
   pub ready : (q : TileKey) → has_key t.ready q ≡ has_key made q
   pub pinned : (q : TileKey) → has_key t.pins q ≡ has_key pins q
@@ -46,7 +46,7 @@ store_of ks = record { ready = map.empty; in_flight = set.from_list ks; spare = 
 abbrev pub AreFree : ℕ → List (Option TileKey) → Type 0
 AreFree n os = (length os ≡ n) × ((w : ℕ) → slice_index_or os w None ≡ None)
 
--- the queue of a choice, where there is one, once a key has started for which these are evicted
+-- the queue of a choice, if there is one, once a key has started for which these are evicted
 abbrev pub Started : Option Choice → Option Choice → TileKey → List TileKey → Type 0
 Started None new q evicted = new ≡ None
 Started (Some c) None q evicted = ⊥

@@ -13,13 +13,13 @@ use Rattle.recording_text.specs.declared.cursor.ImageSpan.{ImageSpan}
 use Rattle.recording_text.specs.Pieces.{entry_of, is_end, shown_after}
 use Rattle.recording_text.specs.Views.{ViewTable, view_at}
 
--- the next step, where nothing is bad so far
+-- the next step, if nothing is bad so far
 infixl 10 ◌>>=◌
 abbrev pub ◌>>=◌ : {A B : Type 0} → Result A ℕ → (A → Result B ℕ) → Result B ℕ
 (Ok x) >>= f = f x
 (Err place) >>= f = Err place
 
--- the value, or a bad place where there is none
+-- the value, or a bad place if there is none
 abbrev pub or_bad : {A : Type 0} → ℕ → Option A → Result A ℕ
 or_bad place (Some x) = Ok x
 or_bad place None = Err place
@@ -53,7 +53,7 @@ part_of v xs (event.Stop actor) = Err 0
 part_of v xs event.End = at_end xs event.End
 part_of v xs e = Ok (bare e)
 
--- the part at the start of these bytes, where images are of the size of this view; or the place in it of what is bad
+-- the part at the start of these bytes, if images are of the size of this view; or the place in it of what is bad
 unfoldable pub part_at : View → List ℕ → Result RecordingPart ℕ
 part_at v xs = do
   e ← or_bad 0 (event_at xs)
@@ -87,7 +87,7 @@ led shown index at (Err place) next = Err (at + place)
 led shown index at (Ok p) next =
     behind (entry_of p.event ∷ []) (images_in index at p.size p.image) (if is_end p.event then no_more else next (shown_after shown p.event) p.size)
 
--- the parts of these bytes of a recording with these views, where this frame was activated last, the given number of events came before, and the bytes stand at `at`; the first bytes, the given number of them, belong to a part before
+-- the parts of these bytes of a recording with these views, if this frame was activated last, the given number of events came before, and the bytes stand at `at`; the first bytes, the given number of them, belong to a part before
 unfoldable pub body : List ℕ → ViewTable → Option ℕ → ℕ → ℕ → ℕ → Result Body ℕ
 body [] t shown index at skip = Err at
 body (c ∷ xs) t shown index at (suc skip) = body xs t shown index at skip

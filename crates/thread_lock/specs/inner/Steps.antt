@@ -29,7 +29,7 @@ module _ {M E T : Type 0} where
   abbrev pub Missed : Who M E T → Who M E T → Type 0
   Missed m m' = m' ≡ (record m.0 { busy = m.0.busy + 1 }, m.1)
 
-  -- an exchange takes the turn where it found it free
+  -- an exchange takes the turn if it found it free
   abbrev pub tried : (T → M) → (T → List (ℕ × E)) → Step (Option T) → Who M E T → ℕ → Who M E T → Type 0
   tried stem_of history_of st m found m' = (found ≡ 0 → Took stem_of history_of m m') × (found ≢ 0 → Missed m m')
 

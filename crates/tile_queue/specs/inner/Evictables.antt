@@ -35,12 +35,12 @@ eviction_cmp u v = worst_cmp (given u) (given v)
 abbrev pub is_worse_than : Bin → Evictable → Bool
 is_worse_than b v = is_worse (tile_of v).rank b
 
--- the ranks where an evictable tile is wanted again, if it has a rank
+-- the ranks with that of an evictable tile, which is wanted again, if it has one
 abbrev pub again : Evictable → List Rank → List Rank
 again (Unranked k) rs = rs
 again (Ranked r) rs = with_member rank_cmp r.0 rs
 
--- the ranks where these evictable tiles are wanted again, one after another
+-- the ranks with those of these evictable tiles, one after another
 abbrev pub wanted_again : List Evictable → List Rank → List Rank
 wanted_again [] rs = rs
 wanted_again (v ∷ vs) rs = wanted_again vs (again v rs)

@@ -15,7 +15,7 @@ pub record IsSplit (front rest : List Rank) : Type 0 where
   pub behind : (x y : Rank) → In x front → In y rest → rank_cmp x y ≡ Less
   pub once : (q : TileKey) → times q (map rank_key (front ++ rest)) ≤ 1
 
--- some of the best are there where there is a rank at all, and each part has room for all
+-- some of the best are there if there is a rank at all, and each part has room for all
 pub record IsParted (front rest : List Rank) (room rest_room : ℕ) : Type 0 where
   pub split : IsSplit front rest
   pub best : length front ≡ 0 → length rest ≡ 0

@@ -25,7 +25,7 @@ AreLevel list r y = All (λ item. IsLevel item r y) list
 abbrev pub IsRepeated : List Item → Rect → ℕ → Type 0
 IsRepeated list r y = AreSameRows list r y (y + 1)
 
--- a row has the place of the row above, where `level` holds of the two, or it has the next place
+-- a row has the place of the row above, if `level` holds of the two, or it has the next place
 abbrev pub IsStep : (ℕ → Type 0) → List ℕ → ℕ → Type 0
 IsStep level places y =
     ((slice_index places (y + 1) ≡ slice_index places y) × level y) ⊎ (slice_index places (y + 1) ≡ slice_index places y + 1)
@@ -53,7 +53,7 @@ kept_area at places kept =
 pub record AreKept (list : List Item) (r : Rect) (places bytes : List ℕ) : Type 0 where
   pub rows : (y : ℕ) → y < near r.h → IsRow list r y (row_bytes (near r.w) (slice_index places y) bytes)
 
--- the colour of all pixels; None where two differ
+-- the colour of all pixels; None if two differ
 abbrev pub IsSolid : List Item → Rect → Option Parts → Type 0
 IsSolid list r None = HasTwoColours list r
 IsSolid list r (Some c) = IsOneColour list r c

@@ -36,7 +36,7 @@ AllActMoved by top end [] (r ∷ rs) = ⊥
 AllActMoved by top end (p ∷ ps) [] = ⊥
 AllActMoved by top end (p ∷ ps) (r ∷ rs) = ActMoved by top end p r × AllActMoved by top end ps rs
 
--- where quads may stand in a pass of a scene that has the rows, others may stand in it
+-- if quads may stand in a pass of a scene that has the rows, others may stand in it
 abbrev pub AlsoFit : ℤ → List QuadView → List QuadView → Type 0
 AlsoFit end qs rs = (w h n : ℕ) → end ≤ℤ pos h → All (QuadFits w h n) qs → All (QuadFits w h n) rs
 
@@ -47,7 +47,7 @@ AllAlsoFit end [] (r ∷ rs) = ⊥
 AllAlsoFit end (p ∷ ps) [] = ⊥
 AllAlsoFit end (p ∷ ps) (r ∷ rs) = AlsoFit end p r × AllAlsoFit end ps rs
 
--- what of a rect that is moved `by` rows down lies in some rows; None where nothing does
+-- what of a rect that is moved `by` rows down lies in some rows; None if nothing does
 pub record IsRest (by top end : ℤ) (at r : Rect) : Type 0 where
   pub x : r.x ≡ at.x
   pub w : r.w ≡ at.w

@@ -36,7 +36,7 @@ AlikeAt passes x y qs rs = (below : Parts) → quads_over passes x y below qs �
 abbrev pub ActListsAlike : List QuadView → List QuadView → Type 0
 ActListsAlike qs rs = (passes : List Parts) (x y : ℤ) → AlikeAt passes x y qs rs
 
--- where the quads before a place of one list make the same as those before a place of another, those up to the places do
+-- if the quads before a place of one list make the same as those before a place of another, those up to the places do
 abbrev pub GoOnAlike : List QuadView → ℕ → List QuadView → ℕ → Type 0
 GoOnAlike qs i rs j =
     (passes : List Parts) (x y : ℤ) (below : Parts)
@@ -48,7 +48,7 @@ abbrev pub ClearOutside : List Rect → List Parts → ℤ → ℤ → Type 0
 ClearOutside reaches passes x y =
     (p : ℕ) → covers (slice_index_or reaches p empty_rect) x y ≡ false → slice_index_or passes p clear ≡ clear
 
--- outside the area quads change nothing, where the passes that they draw as groups have these reaches
+-- outside the area quads change nothing, if the passes that they draw as groups have these reaches
 abbrev pub ActWithin : List Rect → List Rect → List QuadView → Type 0
 ActWithin reaches area qs =
     (x y : ℤ) → covered area x y ≡ false → (passes : List Parts) → ClearOutside reaches passes x y
@@ -60,7 +60,7 @@ DifferWithin reaches area qs rs =
     (x y : ℤ) → covered area x y ≡ false → (passes : List Parts) → ClearOutside reaches passes x y
     → AlikeAt passes x y qs rs
 
--- at a point each pass makes the same of each colour as its partner, where the passes before them have these colours
+-- at a point each pass makes the same of each colour as its partner, if the passes before them have these colours
 abbrev pub PassesAlike : ℤ → ℤ → List Parts → List (List QuadView) → List (List QuadView) → Type 0
 PassesAlike x y before [] [] = Unit {0}
 PassesAlike x y before [] (q ∷ qs) = ⊥

@@ -42,7 +42,7 @@ drawn_part s place = common (screen_of s place) s.clip
 abbrev pub corner : Rect → Rect → Point
 corner part whole = record { x = part.x -ℤ whole.x; y = part.y -ℤ whole.y }
 
--- a part of an image, and the colour of the layer where there is no image
+-- a part of an image, and the colour of the layer if there is no image
 abbrev pub quad_for : Option Image → Parts → Rect → Rect → QuadView
 quad_for None colour part whole = plain part colour
 quad_for (Some image) colour part whole = tiled image part (corner part whole)

@@ -10,7 +10,7 @@ use Rattle.viz_scene.specs.Pixels.{quad_over, quads_over, passes_at}
 use Rattle.viz_render.specs.inner.Drawing.{SurfaceView, colour_of, colours}
 use Rattle.viz_render.specs.inner.Masks.{top}
 
--- the pixels of an area whose block has a number up to `n` are quads over a colour, where the passes have surfaces of their own
+-- the pixels of an area whose block has a number up to `n` are quads over a colour, if the passes have surfaces of their own
 abbrev pub ShowsSeen : ℕ → Rect → List ℕ → List SurfaceView → Parts → List QuadView → List ℕ → Type 0
 ShowsSeen n area tops passes below quads bytes =
     (x y : ℕ) → x < near area.w → y < near area.h → top tops x y ≤ n
@@ -20,7 +20,7 @@ ShowsSeen n area tops passes below quads bytes =
 abbrev pub IsSeenAt : Rect → List ℕ → ℕ → ℤ → ℤ → Type 0
 IsSeenAt area tops n x y = (covers area x y ≡ true) × (top tops (near (x -ℤ area.x)) (near (y -ℤ area.y)) ≤ n)
 
--- where a quad of this number is seen, the colours of a surface are those of a pass of these quads
+-- if a quad of this number is seen, the colours of a surface are those of a pass of these quads
 abbrev pub ShowsOpenPass : Rect → List ℕ → ℕ → List SurfaceView → List QuadView → SurfaceView → Type 0
 ShowsOpenPass area tops n passes quads surface =
     (x y : ℤ) → IsSeenAt area tops n x y → colour_of surface x y ≡ quads_over (colours passes x y) x y clear quads
