@@ -24,6 +24,7 @@ import judge
 import page
 import recording
 from built import PROVED
+from tally import Tally
 
 ROOT = pathlib.Path(__file__).resolve().parent.parent
 MESSAGES = ROOT / "docs" / "MESSAGES.md"
@@ -73,17 +74,8 @@ WRONG = [
     ("a byte order mark", None, "\ufeff" + BASE),
     ("a recording for a script", None, "cc1\n{}\nend\n"),
 ]
-FAULTS = []
-COUNT = 0
-
-
-def check(what, is_right, told=""):
-    """Notes one thing that has to hold."""
-    global COUNT
-    COUNT += 1
-    if not is_right:
-        FAULTS.append(what)
-        print(f"try_explain: {what} {told}"[:800], file=sys.stderr)
+TALLY = Tally("try_explain")
+check = TALLY.check
 
 
 def wrong_inputs():
@@ -267,8 +259,7 @@ def main():
         try_frames(program)
         try_played(program, sorted([*(ROOT / "docs" / "tutorial").glob("*.json"), *(ROOT / "examples").glob("*.json")]))
         try_scripts(program, words.scripts)
-    print(f"try_explain: {COUNT} things tried, {len(FAULTS)} wrong")
-    return 1 if FAULTS else 0
+    return TALLY.status()
 
 
 if __name__ == "__main__":

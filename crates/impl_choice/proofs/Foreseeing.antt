@@ -9,7 +9,7 @@ use Rattle.tile_priority.specs.declared.rank.Rank.{Rank}
 use Rattle.tile_priority.specs.declared.rank.Side.TheVariants as side
 use Rattle.tile_priority.specs.Tiles.{Tile, IsRankOfKey}
 use Rattle.tile_priority.specs.Ordered.{In, SameMembers}
-use Rattle.tile_priority.specs.Choice.{is_now}
+use Rattle.tile_priority.specs.Choice.{is_now, is_visible_rank}
 use Rattle.tile_priority.specs.Alike.{AsMany, Alike}
 use Rattle.tile_priority.proofs.InOrder.{in_filter, filter_in, same_filter}
 use Rattle.tile_priority.proofs.Members.{in_append, in_append_left, in_append_right, in_filter_map, filter_map_in, same_itself}
@@ -38,7 +38,7 @@ use Rattle.model_steps.specs.Choices.{rank_in_both, tile_in_both}
 use Rattle.model_steps.proofs.Picks.{filter_map_test}
 use Rattle.model_steps.proofs.SameKeys.{rebuilt_alike}
 use Rattle.impl_tiles.specs.Choices.{store_lacks}
-use Rattle.impl_tiles.specs.Visible.{is_visible, is_hidden}
+use Rattle.impl_tiles.specs.Visible.{is_hidden}
 use Rattle.impl_tiles.specs.Managers.{Managed, Manages, AreVisibleAt}
 use Rattle.impl_choice.specs.inner.FirstKeys.{is_shown_in, first_keys, AreReadyBeside}
 use Rattle.impl_choice.proofs.VisibleOnce.{once_append, shown_once}
@@ -86,15 +86,15 @@ module _ (s : ScriptModel) (a p : Tree) (da : AreDistinctLayers a.page.layers) (
   firsts = first_keys s a store (visible_in a) (visible_in p)
 
   -- a key has the rank of a visible tile where it is visible in either tree
-  shown_both : (q : TileKey) → is_visible (rank_in_both s a p q) ≡ (has_key (visible_in a) q || has_key (visible_in p) q)
+  shown_both : (q : TileKey) → is_visible_rank (rank_in_both s a p q) ≡ (has_key (visible_in a) q || has_key (visible_in p) q)
   shown_both q =
       shown_least (rank_in s side.Active a q) (rank_in s side.Pending p q)
       ∙ (λ i. shown_in_tree s side.Active a q da i || shown_in_tree s side.Pending p q dp i)
 
-  shown_active : (q : TileKey) → has_key (visible_in a) q ≡ true → is_visible (rank_in_both s a p q) ≡ true
+  shown_active : (q : TileKey) → has_key (visible_in a) q ≡ true → is_visible_rank (rank_in_both s a p q) ≡ true
   shown_active q t = shown_both q ∙ or_left (has_key (visible_in a) q) (has_key (visible_in p) q) t
 
-  shown_pending : (q : TileKey) → has_key (visible_in p) q ≡ true → is_visible (rank_in_both s a p q) ≡ true
+  shown_pending : (q : TileKey) → has_key (visible_in p) q ≡ true → is_visible_rank (rank_in_both s a p q) ≡ true
   shown_pending q t = shown_both q ∙ or_right (has_key (visible_in a) q) (has_key (visible_in p) q) t
 
   -- which keys are looked at
@@ -131,7 +131,7 @@ module _ (s : ScriptModel) (a p : Tree) (da : AreDistinctLayers a.page.layers) (
       by_or (inr u) = (right_is q u).1
 
   -- a visible key that the store lacks is looked at
-  first_there : (q : TileKey) → store_lacks store q ≡ true → is_visible (rank_in_both s a p q) ≡ true → In q firsts
+  first_there : (q : TileKey) → store_lacks store q ≡ true → is_visible_rank (rank_in_both s a p q) ≡ true → In q firsts
   first_there q lacks t = by_active (has_key (visible_in a) q) refl
     where
       lacked : (ks : List TileKey) → has_key ks q ≡ true → In q (filter (store_lacks store) ks)
@@ -145,10 +145,10 @@ module _ (s : ScriptModel) (a p : Tree) (da : AreDistinctLayers a.page.layers) (
           in_append_right q left right (filter_in (λ q. not (is_shown_in s a q)) q (filter (store_lacks store) (visible_in p)) (lacked (visible_in p) v) (ap not n))
 
   -- and nothing that is not visible
-  first_shown : (q : TileKey) → In q firsts → is_visible (rank_in_both s a p q) ≡ true
+  first_shown : (q : TileKey) → In q firsts → is_visible_rank (rank_in_both s a p q) ≡ true
   first_shown q i = by_or (in_append q left right i)
     where
-      by_or : In q left ⊎ In q right → is_visible (rank_in_both s a p q) ≡ true
+      by_or : In q left ⊎ In q right → is_visible_rank (rank_in_both s a p q) ≡ true
       by_or (inl j) = shown_active q (left_is q (has_in left q j)).0
       by_or (inr j) = shown_pending q (right_is q (has_in right q j)).0
 
@@ -202,10 +202,10 @@ module _ (s : ScriptModel) (acc : IsAccepted s) (h : List Entry) where
   pub once_at : (store : Store) (pins ks : List TileKey) (b : AreReadyBeside store (visible_in a) (visible_in p) ks) → EachKeyOnce (filter_map (rank_in_both s a p) (first_keys s a store (visible_in a) (visible_in p))) (filter is_hidden (map (tile_in_both s a p pins) ks))
   once_at store pins ks b = each_once s a p active_distinct pending_distinct store pins ks b
 
-  pub shown_at : (store : Store) (r : Rank) → In r (filter_map (rank_in_both s a p) (first_keys s a store (visible_in a) (visible_in p))) → is_visible (Some r) ≡ true
+  pub shown_at : (store : Store) (r : Rank) → In r (filter_map (rank_in_both s a p) (first_keys s a store (visible_in a) (visible_in p))) → is_visible_rank (Some r) ≡ true
   shown_at store r i =
       let (q, j, e) = in_filter_map (rank_in_both s a p) r (first_keys s a store (visible_in a) (visible_in p)) i in
-      sym (ap is_visible e) ∙ first_shown s a p active_distinct pending_distinct store [] q j
+      sym (ap is_visible_rank e) ∙ first_shown s a p active_distinct pending_distinct store [] q j
 
   module _ (n : ℕ) (legal : Legal s n h) (m : Managed) (holds : Manages s h m) (ks : List TileKey) (b : AreReadyBeside m.store (visible_in a) (visible_in p) ks) where
     abbrev ranks : List Rank
@@ -225,7 +225,7 @@ module _ (s : ScriptModel) (acc : IsAccepted s) (h : List Entry) where
     visible_first r i now =
         let (q, j, e) = in_filter_map (rank s h) r (filter (is_unmade s h) (live_keys s h)) i in
         let (l, u) = in_filter (is_unmade s h) q (live_keys s h) j in
-        let t : is_visible (rank_in_both s a p q) ≡ true = ap is_visible e ∙ ap is_now now in
+        let t : is_visible_rank (rank_in_both s a p q) ≡ true = ap is_visible_rank e ∙ ap is_now now in
         filter_map_in (rank_in_both s a p) q r (first_keys s a m.store (visible_in a) (visible_in p)) (first_there s a p active_distinct pending_distinct m.store (pinned s h) q (same_missing q ∙ u) t) e
 
     pub visible_at : AreVisibleAt s h ranks (filter is_hidden (map (tile_in_both s a p m.pinned) ks))

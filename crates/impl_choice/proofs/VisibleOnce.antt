@@ -21,8 +21,9 @@ use Rattle.tile_visible.proofs.SeenPlaces.{none_seen, touched_seen}
 use Rattle.model_history.specs.Tiles.{Tree, visible_in}
 use Rattle.model_history.proofs.BoolFacts.{is_false, and_left, or_neither}
 use Rattle.model_history.proofs.KeyFacts.{has_append, in_has}
+use Rattle.model_history.proofs.FindKeys.{any_by_id, absent_any}
 use Rattle.impl_ranks.proofs.GridPlaces.{AreApart, touching_apart}
-use Rattle.impl_choice.proofs.VisibleRanks.{shown_in, any_by_id, absent_any, key_of_layer, key_of_some}
+use Rattle.impl_choice.proofs.VisibleRanks.{shown_in, key_of_layer, key_of_some}
 
 -- ---- the visible places of one layer
 

@@ -6,6 +6,7 @@ ghost use Rattle.std.specs.Prelude.{◌≡◌, ℕ, true, ◌++◌, [], filter_m
 ghost use Rattle.std.specs.List.{cons_option};
 ghost use Rattle.tile_priority.specs.declared.rank.Rank.{Rank as Ranking};
 ghost use Rattle.tile_priority.specs.Ordered.{In};
+ghost use Rattle.tile_priority.specs.Choice.{is_visible_rank};
 ghost use Rattle.tile_queue.specs.Queues.{EachKeyOnce};
 ghost use Rattle.model_history.specs.declared.history.Entry.{Entry};
 ghost use Rattle.model_history.specs.Scripts.{ScriptModel};
@@ -14,7 +15,6 @@ ghost use Rattle.model_history.specs.Tiles.{Tree, active_tree, pending_tree};
 ghost use Rattle.model_steps.specs.Choices.{rank_in_both};
 ghost use Rattle.impl_ranks.specs.SeenTrees.{IsSeenWhere};
 ghost use Rattle.impl_tiles.specs.Managers.{Manages, AreVisibleAt};
-ghost use Rattle.impl_tiles.specs.Visible.{is_visible};
 ghost use Rattle.impl_choice.specs.Rebuilds.{RanksNow};
 ghost use Rattle.impl_choice.specs.inner.FirstKeys as spec;
 
@@ -107,7 +107,7 @@ pub fn foreseen_of(
 ) -> Result<Foreseen, AllocError>
     requires { RanksNow script.now (option_copied active) (option_copied pending) }
     ensures once { IfOk result (λ all. EachKeyOnce all.wanted.items all.hidden.items) }
-    ensures shown { IfOk result (λ all. (r : Ranking) → In r all.wanted.items → is_visible (Some r) ≡ true) }
+    ensures shown { IfOk result (λ all. (r : Ranking) → In r all.wanted.items → is_visible_rank (Some r) ≡ true) }
     ensures visible { IfOk result (λ all. (s : ScriptModel) (workers : ℕ) (h : List Entry) → script.now ≡ s → Legal s workers h → Manages s h manager.now → IsSeenWhere (active_tree s h) (option_copied active.entry) → IsSeenWhere (pending_tree s h) (option_copied pending.entry) → AreVisibleAt s h all.wanted.items all.hidden.items) }
 {
     script.is_accepted();

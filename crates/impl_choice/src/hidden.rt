@@ -4,26 +4,26 @@ ghost use Rattle.std.specs.Prelude.{◌≡◌, ◌++◌, ◌∷◌, [], Bool, tr
 ghost use Rattle.geom.specs.declared.tile.TileKey.{TileKey as Key};
 ghost use Rattle.geom.specs.KeyLists.{has_key};
 ghost use Rattle.tile_priority.specs.declared.rank.Side.TheVariants as side;
+ghost use Rattle.tile_priority.specs.Choice as choosing;
 ghost use Rattle.model_history.specs.Tiles.{Tree};
 ghost use Rattle.model_history.specs.Ranking.{rank_in};
 ghost use Rattle.model_steps.specs.Choices.{tile_in_both};
 ghost use Rattle.impl_ranks.specs.SeenTrees.{IsSeenWhere};
-ghost use Rattle.impl_tiles.specs.Visible as visible;
 ghost use Rattle.impl_tiles.specs.Visible.{is_hidden};
 
 use geom::{Keys, TileKey};
 use impl_ranks::{SeenTree, tile};
-use impl_tiles::{TileManager, is_next, is_visible};
+use impl_tiles::{TileManager, is_next};
 use model_history::Script;
 use std::alloc::{AllocError, Global};
-use tile_priority::ReadyTile;
+use tile_priority::{ReadyTile, is_visible_rank};
 
 // Whether a key is that of a visible tile of a tree, which may be missing.
 fn is_shown_in(script: &Script, tree: Option<&SeenTree<'_>>, key: TileKey) -> bool
-    ensures { (t : Tree) → IsSeenWhere t (option_copied tree.entry) → result ≡ visible.is_visible (rank_in script.now side.Active t key) }
+    ensures { (t : Tree) → IsSeenWhere t (option_copied tree.entry) → result ≡ choosing.is_visible_rank (rank_in script.now side.Active t key) }
 {
     let one = tile(script, tree, None, key, false);
-    is_visible(one.rank)
+    is_visible_rank(one.rank)
 }
 
 // Puts a key after others where it is to be put. An error means out of memory.
@@ -46,7 +46,7 @@ pub(crate) fn push_hidden_in(
     keys: &[TileKey],
     hidden: &mut Keys,
 ) -> Result<(), AllocError>
-    ensures { OnOk result ((t : Tree) → IsSeenWhere t (option_copied tree.entry) → hidden.new ≡ hidden.old ++ filter (λ q. not (visible.is_visible (rank_in script.now side.Active t q))) keys.now) }
+    ensures { OnOk result ((t : Tree) → IsSeenWhere t (option_copied tree.entry) → hidden.new ≡ hidden.old ++ filter (λ q. not (choosing.is_visible_rank (rank_in script.now side.Active t q))) keys.now) }
 {
     for key in keys {
         push_where(hidden, *key, !is_shown_in(script, tree, *key))?;
@@ -75,7 +75,7 @@ pub(crate) fn without(
 fn push_hidden(tiles: &mut Vec<ReadyTile>, tile: ReadyTile) -> Result<(), AllocError>
     ensures { OnOk result (tiles.new.items ≡ tiles.old.items ++ filter is_hidden (tile ∷ [])) }
 {
-    if !is_visible(tile.rank) {
+    if !is_visible_rank(tile.rank) {
         tiles.push(tile)?;
     }
     Ok(())

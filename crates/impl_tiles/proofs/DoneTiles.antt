@@ -10,7 +10,7 @@ use Rattle.geom.proofs.KeyLists.{one_key, same_ties}
 use Rattle.tile_priority.specs.declared.rank.Rank.{Rank}
 use Rattle.tile_priority.specs.Tiles.{Tile}
 use Rattle.tile_priority.specs.Ordered.{In}
-use Rattle.tile_priority.specs.Choice.{Choice}
+use Rattle.tile_priority.specs.Choice.{Choice, is_visible_rank}
 use Rattle.tile_priority.specs.Alike.{Alike}
 use Rattle.tile_priority.specs.Alike as alike
 use Rattle.tile_priority.proofs.InOrder.{in_map, in_filter}
@@ -36,7 +36,7 @@ use Rattle.model_steps.specs.ShownKeys.{KeyShows}
 use Rattle.model_steps.proofs.Dones.{flies, ready_done, done_live, done_dead}
 use Rattle.impl_tiles.specs.declared.outlook.Outlook.{Outlook}
 use Rattle.impl_tiles.specs.declared.outlook.Outlook.TheVariants as outlook
-use Rattle.impl_tiles.specs.Visible.{is_visible, is_hidden, without_shown, Shows, finished_hidden}
+use Rattle.impl_tiles.specs.Visible.{is_hidden, without_shown, Shows, finished_hidden}
 use Rattle.impl_tiles.specs.Managers.{Managed, Manages, Foresees, live_ranks, tile_made}
 use Rattle.impl_tiles.specs.inner.Outlooks.{MayFinish, HasFinished}
 use Rattle.impl_tiles.proofs.Bools.{some_put, taken_away, is_some_if, some_key}
@@ -99,7 +99,7 @@ module _ (s : ScriptModel) (n : ℕ) (h : List Entry) (a w : ℕ) (i : Image) (l
 
   module _ (part : Choice) (shows : Shows part (choice s h)) where
     some_take_room : 1 ≤ part.in_flight
-    some_take_room = let e : part.in_flight ≡ length (in_flight h) + length (filter (λ t. is_visible t.rank) (choice s h).ready) = shows.in_flight in let l = some_flying in omega (arith, e, l)
+    some_take_room = let e : part.in_flight ≡ length (in_flight h) + length (filter (λ t. is_visible_rank t.rank) (choice s h).ready) = shows.in_flight in let l = some_flying in omega (arith, e, l)
 
     some_tiles : (t : Tile) → In t part.ready → In t (choice s h).ready
     some_tiles t i = (in_filter is_hidden t (choice s h).ready (shows.ready.there t i)).0

@@ -9,7 +9,7 @@ use Rattle.tile_priority.specs.declared.rank.Rank.{Rank}
 use Rattle.tile_priority.specs.Ranks.{bin_number, rank_cmp}
 use Rattle.tile_priority.specs.Tiles.{Tile}
 use Rattle.tile_priority.specs.Ordered.{In, SameMembers}
-use Rattle.tile_priority.specs.Choice.{Choice, used, evictable_of, gives_way, is_worse, evictables, worst_cmp, worst_first, is_now, may_start, least_of, first, IsFirst, evicted}
+use Rattle.tile_priority.specs.Choice.{Choice, used, evictable_of, gives_way, is_worse, evictables, worst_cmp, worst_first, is_now, may_start, least_of, first, IsFirst, evicted, is_visible_rank}
 use Rattle.tile_priority.specs.Ordered.{in_order}
 use Rattle.tile_priority.specs.Alike.{Alike, is_of, is_among, tile_rank, choice_after_start, finished}
 use Rattle.tile_priority.proofs.InOrder.{in_filter, filter_in, same_filter, same_trans}
@@ -17,11 +17,11 @@ use Rattle.tile_priority.proofs.Members.{in_append, in_append_left, in_append_ri
 use Rattle.tile_priority.proofs.Choosing.{first_is_one, visible_start, order_is_free}
 use Rattle.tile_priority.proofs.StayAlike.{alike_stay, filter_both, as_many_filter, as_many_cons}
 use Rattle.model_steps.proofs.Picks.{filter_same, filter_swap}
-use Rattle.impl_tiles.specs.Visible.{is_visible, is_shown, is_hidden, without_shown, WantsVisible, Shows, TellsFirst, finished_hidden}
+use Rattle.impl_tiles.specs.Visible.{is_shown, is_hidden, without_shown, WantsVisible, Shows, TellsFirst, finished_hidden}
 
 -- ---- ready tiles that are visible are never evicted
 
-hidden_way : (o : Option Rank) (p : Bool) (b : Bin) → (not (is_visible o) && (not p && is_worse o b)) ≡ (not p && is_worse o b)
+hidden_way : (o : Option Rank) (p : Bool) (b : Bin) → (not (is_visible_rank o) && (not p && is_worse o b)) ≡ (not p && is_worse o b)
 hidden_way None p b = refl
 hidden_way (Some r) p b = by_bin r.bin p b
   where
@@ -47,12 +47,12 @@ same_evictables c q =
     (filter_both (gives_way q.bin) is_hidden c.ready
     ∙ filter_same (λ t. is_hidden t && gives_way q.bin t) (gives_way q.bin) c.ready (λ t i. hidden_way t.rank t.pinned q.bin))
 
-pub both_parts : (xs : List Tile) → length (filter is_hidden xs) + length (filter (λ t. is_visible t.rank) xs) ≡ length xs
+pub both_parts : (xs : List Tile) → length (filter is_hidden xs) + length (filter (λ t. is_visible_rank t.rank) xs) ≡ length xs
 both_parts [] = refl
-both_parts (t ∷ xs) = by_test (is_visible t.rank) (both_parts xs)
+both_parts (t ∷ xs) = by_test (is_visible_rank t.rank) (both_parts xs)
   where
-    by_test : (b : Bool) → length (filter is_hidden xs) + length (filter (λ t. is_visible t.rank) xs) ≡ length xs
-        → length (cond (not b) (t ∷ filter is_hidden xs) (filter is_hidden xs)) + length (cond b (t ∷ filter (λ t. is_visible t.rank) xs) (filter (λ t. is_visible t.rank) xs)) ≡ suc (length xs)
+    by_test : (b : Bool) → length (filter is_hidden xs) + length (filter (λ t. is_visible_rank t.rank) xs) ≡ length xs
+        → length (cond (not b) (t ∷ filter is_hidden xs) (filter is_hidden xs)) + length (cond b (t ∷ filter (λ t. is_visible_rank t.rank) xs) (filter (λ t. is_visible_rank t.rank) xs)) ≡ suc (length xs)
     by_test true e = omega (arith, e)
     by_test false e = omega (arith, e)
 
@@ -126,17 +126,17 @@ module _ (part whole : Choice) (w : WantsVisible part whole) where
         none_better = λ p i t l. let n : p.bin ≡ bin.Now = before_now p r l now in a.none_better p (w.visible p i n) (visible_start.may part p n) l;
       })
 
-  first_shown : (o : Option Rank) → first part ≡ o → is_visible o ≡ true → first part ≡ first whole
+  first_shown : (o : Option Rank) → first part ≡ o → is_visible_rank o ≡ true → first part ≡ first whole
   first_shown None e t = absurd cc
   first_shown (Some r) e t = e ∙ sym (first_visible r e (now_is r.bin t))
 
   -- a visible tile that is wanted starts first
-  shown_where : (p : Rank) → In p part.wanted → is_now p.bin ≡ true → is_visible (first part) ≡ true
+  shown_where : (p : Rank) → In p part.wanted → is_now p.bin ≡ true → is_visible_rank (first part) ≡ true
   shown_where p i t =
       let (r, e, n) = visible_start.goes_first part p i (now_is p.bin t) in
-      ap is_visible e ∙ ap is_now n
+      ap is_visible_rank e ∙ ap is_now n
 
-  none_by : (none : (q : Rank) → is_now q.bin ≡ false → may_start part q ≡ false) → is_visible (first part) ≡ false → first part ≡ first whole
+  none_by : (none : (q : Rank) → is_now q.bin ≡ false → may_start part q ≡ false) → is_visible_rank (first part) ≡ false → first part ≡ first whole
   none_by none e =
       first_is_one.none_only part (λ p i. by_bin p i (is_now p.bin) refl)
       ∙ sym (first_is_one.none_only whole (λ p i. by_bin_whole p i (is_now p.bin) refl))
@@ -151,9 +151,9 @@ module _ (part whole : Choice) (w : WantsVisible part whole) where
 
   told_first : TellsFirst part → first part ≡ first whole
   told_first (inl t) = first_shown (first part) refl t
-  told_first (inr none) = by_shown (is_visible (first part)) refl
+  told_first (inr none) = by_shown (is_visible_rank (first part)) refl
     where
-      by_shown : (b : Bool) → is_visible (first part) ≡ b → first part ≡ first whole
+      by_shown : (b : Bool) → is_visible_rank (first part) ≡ b → first part ≡ first whole
       by_shown true e = first_shown (first part) refl e
       by_shown false e = none_by none e
 
@@ -221,7 +221,7 @@ alike_whole part whole d w a = record {
 
 without_alike : (c d : Choice) → Alike c d → Alike (without_shown c) (without_shown d)
 without_alike c d a =
-    let n : length (filter (λ t. is_visible t.rank) c.ready) ≡ length (filter (λ t. is_visible t.rank) d.ready) = a.as_many (λ t. is_visible t.rank) in
+    let n : length (filter (λ t. is_visible_rank t.rank) c.ready) ≡ length (filter (λ t. is_visible_rank t.rank) d.ready) = a.as_many (λ t. is_visible_rank t.rank) in
     record {
       wanted = a.wanted;
       ready = same_filter is_hidden c.ready d.ready a.ready;
@@ -258,10 +258,10 @@ module _ (c : Choice) (q : TileKey) (ks : List TileKey) (hidden : (t : Tile) →
       filter_both (is_among ks) is_hidden c.ready
       ∙ filter_same (λ t. is_hidden t && is_among ks t) (is_among ks) c.ready (λ t i. then_true (is_hidden t) (is_among ks t) (hidden t i))
 
-  same_shown : filter (λ t. is_visible t.rank) (filter (λ t. not (is_among ks t)) c.ready) ≡ filter (λ t. is_visible t.rank) c.ready
+  same_shown : filter (λ t. is_visible_rank t.rank) (filter (λ t. not (is_among ks t)) c.ready) ≡ filter (λ t. is_visible_rank t.rank) c.ready
   same_shown =
-      filter_both (λ t. is_visible t.rank) (λ t. not (is_among ks t)) c.ready
-      ∙ filter_same (λ t. not (is_among ks t) && is_visible t.rank) (λ t. is_visible t.rank) c.ready (λ t i. other_true (is_visible t.rank) (is_among ks t) (hidden t i))
+      filter_both (λ t. is_visible_rank t.rank) (λ t. not (is_among ks t)) c.ready
+      ∙ filter_same (λ t. not (is_among ks t) && is_visible_rank t.rank) (λ t. is_visible_rank t.rank) c.ready (λ t i. other_true (is_visible_rank t.rank) (is_among ks t) (hidden t i))
 
   one_more : (n m k : ℕ) → k ≡ m → (n + m) + 1 ≡ (n + 1) + k
   one_more n m k e = omega (arith, e)
@@ -271,7 +271,7 @@ module _ (c : Choice) (q : TileKey) (ks : List TileKey) (hidden : (t : Tile) →
       let again = same_again in
       let others : filter (λ t. not (is_among ks t)) (filter is_hidden c.ready) ≡ filter is_hidden (filter (λ t. not (is_among ks t)) c.ready) = filter_swap (λ t. not (is_among ks t)) is_hidden c.ready in
       let shown = same_shown in
-      let n = one_more c.in_flight (length (filter (λ t. is_visible t.rank) c.ready)) (length (filter (λ t. is_visible t.rank) (filter (λ t. not (is_among ks t)) c.ready))) (ap length shown) in
+      let n = one_more c.in_flight (length (filter (λ t. is_visible_rank t.rank) c.ready)) (length (filter (λ t. is_visible_rank t.rank) (filter (λ t. not (is_among ks t)) c.ready))) (ap length shown) in
       λ i. record {
         wanted = filter (λ r. not (is_of q r)) c.wanted ++ filter_map tile_rank (again i);
         ready = others i;
@@ -287,25 +287,25 @@ module _ (c : Choice) (q : TileKey) (ks : List TileKey) (hidden : (t : Tile) →
 module _ (c : Choice) (flies : 1 ≤ c.in_flight) where
   without_none : without_shown (finished c None) ≡ finished (without_shown c) None
   without_none =
-      let k : ℕ = length (filter (λ t. is_visible t.rank) c.ready) in
+      let k : ℕ = length (filter (λ t. is_visible_rank t.rank) c.ready) in
       let n : (c.in_flight - 1) + k ≡ (c.in_flight + k) - 1 = omega (arith, flies) in
       λ i. record { wanted = c.wanted; ready = filter is_hidden c.ready; in_flight = n i; budget = c.budget }
 
-  without_hidden : (t : Tile) (b : Bool) → is_visible t.rank ≡ b → b ≡ false → without_shown (finished c (Some t)) ≡ finished (without_shown c) (Some t)
+  without_hidden : (t : Tile) (b : Bool) → is_visible_rank t.rank ≡ b → b ≡ false → without_shown (finished c (Some t)) ≡ finished (without_shown c) (Some t)
   without_hidden t b e f =
-      let g : is_visible t.rank ≡ false = e ∙ f in
+      let g : is_visible_rank t.rank ≡ false = e ∙ f in
       let r : filter is_hidden (t ∷ c.ready) ≡ t ∷ filter is_hidden c.ready = ap (λ x. cond (not x) (t ∷ filter is_hidden c.ready) (filter is_hidden c.ready)) g in
-      let v : length (filter (λ t. is_visible t.rank) (t ∷ c.ready)) ≡ length (filter (λ t. is_visible t.rank) c.ready) =
-      ap (λ x. length (cond x (t ∷ filter (λ t. is_visible t.rank) c.ready) (filter (λ t. is_visible t.rank) c.ready))) g in
-      let n : (c.in_flight - 1) + length (filter (λ t. is_visible t.rank) (t ∷ c.ready)) ≡ (c.in_flight + length (filter (λ t. is_visible t.rank) c.ready)) - 1 = omega (arith, flies, v) in
+      let v : length (filter (λ t. is_visible_rank t.rank) (t ∷ c.ready)) ≡ length (filter (λ t. is_visible_rank t.rank) c.ready) =
+      ap (λ x. length (cond x (t ∷ filter (λ t. is_visible_rank t.rank) c.ready) (filter (λ t. is_visible_rank t.rank) c.ready))) g in
+      let n : (c.in_flight - 1) + length (filter (λ t. is_visible_rank t.rank) (t ∷ c.ready)) ≡ (c.in_flight + length (filter (λ t. is_visible_rank t.rank) c.ready)) - 1 = omega (arith, flies, v) in
       λ i. record { wanted = c.wanted; ready = r i; in_flight = n i; budget = c.budget }
 
-  without_visible : (t : Tile) → is_visible t.rank ≡ true → without_shown (finished c (Some t)) ≡ without_shown c
+  without_visible : (t : Tile) → is_visible_rank t.rank ≡ true → without_shown (finished c (Some t)) ≡ without_shown c
   without_visible t g =
       let r : filter is_hidden (t ∷ c.ready) ≡ filter is_hidden c.ready = ap (λ x. cond (not x) (t ∷ filter is_hidden c.ready) (filter is_hidden c.ready)) g in
-      let v : length (filter (λ t. is_visible t.rank) (t ∷ c.ready)) ≡ suc (length (filter (λ t. is_visible t.rank) c.ready)) =
-      ap (λ x. length (cond x (t ∷ filter (λ t. is_visible t.rank) c.ready) (filter (λ t. is_visible t.rank) c.ready))) g in
-      let n : (c.in_flight - 1) + length (filter (λ t. is_visible t.rank) (t ∷ c.ready)) ≡ c.in_flight + length (filter (λ t. is_visible t.rank) c.ready) = omega (arith, flies, v) in
+      let v : length (filter (λ t. is_visible_rank t.rank) (t ∷ c.ready)) ≡ suc (length (filter (λ t. is_visible_rank t.rank) c.ready)) =
+      ap (λ x. length (cond x (t ∷ filter (λ t. is_visible_rank t.rank) c.ready) (filter (λ t. is_visible_rank t.rank) c.ready))) g in
+      let n : (c.in_flight - 1) + length (filter (λ t. is_visible_rank t.rank) (t ∷ c.ready)) ≡ c.in_flight + length (filter (λ t. is_visible_rank t.rank) c.ready) = omega (arith, flies, v) in
       λ i. record { wanted = c.wanted; ready = r i; in_flight = n i; budget = c.budget }
 
   shows_by : (part : Choice) (tile : Option Tile) (b : Bool) → is_shown tile ≡ b → Shows part c → Shows (cond b part (finished part tile)) (finished c tile)

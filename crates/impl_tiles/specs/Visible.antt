@@ -4,29 +4,24 @@ use Rattle.tile_priority.specs.declared.rank.Bin.TheVariants as bin
 use Rattle.tile_priority.specs.declared.rank.Rank.{Rank}
 use Rattle.tile_priority.specs.Tiles.{Tile}
 use Rattle.tile_priority.specs.Ordered.{In, SameMembers}
-use Rattle.tile_priority.specs.Choice.{Choice, is_now, may_start, first}
+use Rattle.tile_priority.specs.Choice.{Choice, is_now, is_visible_rank, may_start, first}
 use Rattle.tile_priority.specs.Alike.{AsMany, finished}
-
--- a rank of a visible tile
-abbrev pub is_visible : Option Rank → Bool
-is_visible None = false
-is_visible (Some r) = is_now r.bin
 
 -- the tile is there, and visible
 abbrev pub is_shown : Option Tile → Bool
 is_shown None = false
-is_shown (Some t) = is_visible t.rank
+is_shown (Some t) = is_visible_rank t.rank
 
 -- the ready tile is not visible
 abbrev pub is_hidden : Tile → Bool
-is_hidden t = not (is_visible t.rank)
+is_hidden t = not (is_visible_rank t.rank)
 
 -- the choice in which the ready tiles that are visible only take room, as those in flight do: they are never evicted
 abbrev pub without_shown : Choice → Choice
 without_shown c = record {
   wanted = c.wanted;
   ready = filter is_hidden c.ready;
-  in_flight = c.in_flight + length (filter (λ t. is_visible t.rank) c.ready);
+  in_flight = c.in_flight + length (filter (λ t. is_visible_rank t.rank) c.ready);
   budget = c.budget;
 }
 
@@ -45,7 +40,7 @@ Shows part whole = WantsVisible part (without_shown whole)
 
 -- it tells what starts first in the whole: a visible tile does, or no tile may start that is not visible
 abbrev pub TellsFirst : Choice → Type 0
-TellsFirst c = (is_visible (first c) ≡ true) ⊎ ((q : Rank) → is_now q.bin ≡ false → may_start c q ≡ false)
+TellsFirst c = (is_visible_rank (first c) ≡ true) ⊎ ((q : Rank) → is_now q.bin ≡ false → may_start c q ≡ false)
 
 -- it once a tile in flight is made: a visible one takes room as before
 abbrev pub finished_hidden : Choice → Option Tile → Choice

@@ -1,19 +1,18 @@
 //! The tiles of a run: their images, and which of them is made next.
 //!
 //! A [`TileManager`] has the store of tiles, the keys that are pinned, and the raster queue or the ranks of which
-//! it is to be made, and keeps them in step with the history of a run. Where a tree has moved it may be left
+//! it is to be made, and keeps them in step with the history of a run. If a tree has moved it may be left
 //! without both until the next question, and with a queue of the visible tiles alone as long as that answers all
 //! questions. Each call that represents an event takes no memory, so it may follow the entry of that event; what needs
-//! memory is taken before, by calls of their own.
-//! It knows no page: ranks, dead keys and the keys that an activation needs are handed in.
+//! memory is taken before, by calls of their own. It knows no page: ranks, dead keys and the keys that an activation
+//! needs are handed in.
 //!
-//! The name is that of Chromium's `cc/tiles/impl_tiles.h`, which schedules raster work under a budget.
+//! A [`TileStore`] has the tiles whose images are ready and those whose images are being made. Keys stand in their
+//! order, each with the place of its tile in a slab, so a look-up is a binary search. They are cut into chunks, so
+//! that one that comes or goes moves a few others and not all. `reserve` takes the memory of one later start; neither
+//! that start nor the tile's end takes any.
 //!
-//! The tiles that the compositor has: those whose images are ready, and those whose images are being made.
-//!
-//! Keys stand in their order, each with the place of its tile in a slab, so a look-up is a binary search. They are
-//! cut into chunks, so that one that comes or goes moves a few others and not all. `reserve` takes the memory of one
-//! later start; neither that start nor the tile's end takes any.
+//! The name is that of Chromium's `cc/tiles/tile_manager.h`, which schedules raster work under a budget.
 #![tactic(auto)]
 
 mod chunk;
@@ -44,4 +43,3 @@ pub use pins::Pins;
 pub use ranks::Ranks;
 pub use ready_keys::ReadyKeys;
 pub use store::TileStore;
-pub use visible::is_visible;

@@ -15,28 +15,8 @@ ghost use Rattle.impl_tiles.specs.Visible.{TellsFirst, finished_hidden};
 
 use crate::TileStore;
 use std::alloc::{AllocError, Global};
-use tile_priority::{Bin, Rank, ReadyTile};
+use tile_priority::{Bin, Rank, ReadyTile, is_visible_rank};
 use tile_queue::RasterQueue;
-
-// Whether a bin is that of visible tiles.
-fn is_now(bin: Bin) -> bool
-    ensures { result ≡ choosing.is_now bin }
-{
-    match bin {
-        Bin::Now => true,
-        Bin::Soon | Bin::Eventually => false,
-    }
-}
-
-/// Whether a rank is that of a visible tile.
-pub fn is_visible(rank: Option<Rank>) -> bool
-    ensures { result ≡ spec.is_visible rank }
-{
-    match rank {
-        None => false,
-        Some(rank) => is_now(rank.bin),
-    }
-}
 
 // Whether a tile is there, and visible.
 fn is_shown(tile: &Option<ReadyTile>) -> bool
@@ -44,7 +24,7 @@ fn is_shown(tile: &Option<ReadyTile>) -> bool
 {
     match tile {
         None => false,
-        Some(tile) => is_visible(tile.rank),
+        Some(tile) => is_visible_rank(tile.rank),
     }
 }
 
@@ -62,7 +42,7 @@ fn none_hidden_starts(queue: &RasterQueue) -> bool
 pub(crate) fn tells_first(queue: &RasterQueue) -> bool
     ensures { IsTrue result ↔ TellsFirst queue.now }
 {
-    if is_visible(queue.first_rank()) {
+    if is_visible_rank(queue.first_rank()) {
         return true;
     }
     none_hidden_starts(queue)

@@ -31,7 +31,7 @@ key_on p stamp q (Some l) = key_in p stamp q l
 -- ---- the keys of one layer
 
 -- a key of another layer is none of these
-key_elsewhere : (stamp : ℕ → Place → ℕ) (q : TileKey) (id : ℕ) (ps : List Place) → (id == q.layer) ≡ false → has_key (map (key_at stamp id) ps) q ≡ false
+pub key_elsewhere : (stamp : ℕ → Place → ℕ) (q : TileKey) (id : ℕ) (ps : List Place) → (id == q.layer) ≡ false → has_key (map (key_at stamp id) ps) q ≡ false
 key_elsewhere stamp q id [] out = refl
 key_elsewhere stamp q id (p ∷ ps) out =
     ap (λ (b : Bool). (b && (p.x == q.x) && (p.y == q.y) && (stamp id p == q.stamp)) || has_key (map (key_at stamp id) ps) q) out
@@ -63,7 +63,7 @@ key_here stamp q p =
         let same : p ≡ place_named q = ap (λ (n : ℕ). place_at n p.y) x ∙ ap (λ (n : ℕ). place_at q.x n) y in
         ap (λ (z : Place). stamp q.layer z == q.stamp) same
 
-key_among : (stamp : ℕ → Place → ℕ) (q : TileKey) (ps : List Place) → has_key (map (key_at stamp q.layer) ps) q ≡ (has_place ps (place_named q) && (stamp q.layer (place_named q) == q.stamp))
+pub key_among : (stamp : ℕ → Place → ℕ) (q : TileKey) (ps : List Place) → has_key (map (key_at stamp q.layer) ps) q ≡ (has_place ps (place_named q) && (stamp q.layer (place_named q) == q.stamp))
 key_among stamp q [] = refl
 key_among stamp q (p ∷ ps) =
     ap (λ (b : Bool). b || has_key (map (key_at stamp q.layer) ps) q) (key_here stamp q p)
@@ -106,12 +106,12 @@ any_put test l (k ∷ ks) = go (nat_lt k.id l.id) (any_put test l ks)
     go true rest = ap (λ (b : Bool). test k || b) rest ∙ swap_or (test k) (test l) (list_any test ks)
     go false rest = refl
 
-any_by_id : (test : PageLayer → Bool) (ls : List PageLayer) → list_any test (by_id ls) ≡ list_any test ls
+pub any_by_id : (test : PageLayer → Bool) (ls : List PageLayer) → list_any test (by_id ls) ≡ list_any test ls
 any_by_id test [] = refl
 any_by_id test (l ∷ ls) = any_put test l (by_id ls) ∙ ap (λ (b : Bool). test l || b) (any_by_id test ls)
 
 -- of layers with ids of their own the one that is found decides
-absent_any : (id : ℕ) (u : PageLayer → Bool) (ls : List PageLayer) → has_layer id ls ≡ false → list_any (λ l. (l.id == id) && u l) ls ≡ false
+pub absent_any : (id : ℕ) (u : PageLayer → Bool) (ls : List PageLayer) → has_layer id ls ≡ false → list_any (λ l. (l.id == id) && u l) ls ≡ false
 absent_any id u [] none = refl
 absent_any id u (l ∷ ls) none = go (l.id == id) none (absent_any id u ls)
   where
@@ -119,7 +119,7 @@ absent_any id u (l ∷ ls) none = go (l.id == id) none (absent_any id u ls)
     go true e rest = absurd (cc)
     go false e rest = rest e
 
-or_nothing : (b c : Bool) → c ≡ false → (b || c) ≡ b
+pub or_nothing : (b c : Bool) → c ≡ false → (b || c) ≡ b
 or_nothing true c e = refl
 or_nothing false c e = e
 

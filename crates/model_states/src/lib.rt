@@ -1,4 +1,4 @@
-//! The states of the scheduler, and the kinds of events that may come in them.
+//! The states of the scheduler with the kinds of events that may come in them, and the scroll values of one scroller.
 //!
 //! The compositor goes through impl frames: each begins, may send a main frame, draws or does not, and
 //! finishes. The main thread has one main frame in flight at most, which ends ready to commit or as an
@@ -8,8 +8,7 @@
 //! The names of the states are those of Chromium's `cc/scheduler/scheduler_state_machine.h`, narrowed to
 //! the states that this project has. The table of kinds is this project's own.
 //!
-//! Beside them the scroll values: where a scroller stands along one axis, of which the two sides hear at different
-//! times (`synced`).
+//! [`Synced`] is where a scroller stands along one axis, of which the two sides hear at different times.
 #![tactic(auto)]
 
 mod kind;
@@ -20,6 +19,6 @@ mod synced;
 
 pub use kind::Kind;
 pub use laws::{activation_takes_pending_value, move_adds_to_both, starts_at_zero, values_survive};
-pub use sched::{Sched, starts_idle};
+pub use sched::Sched;
 pub use states::{Begun, ImplState, MainState};
 pub use synced::Synced;

@@ -1,7 +1,7 @@
 //! The state of the scheduler, and how it changes with each kind of event.
 
 ghost use Rattle.std.specs.Prelude.{◌≡◌, IsTrue};
-ghost use Rattle.model_states.specs.Kinds.{may, sched_after, begun_for, start_state};
+ghost use Rattle.model_states.specs.Kinds.{may, sched_after, begun_for};
 
 use crate::kind::Kind;
 use crate::states::{Begun, ImplState, MainState};
@@ -123,8 +123,3 @@ impl Sched {
         }
     }
 }
-
-/// The constant is the state before the first event.
-pub fn starts_idle()
-    ensures { Sched.START ≡ start_state }
-{}

@@ -140,11 +140,15 @@ impl DisplayList {
         fill_row(bytes, Colour::CLEAR);
         draw_items(self.items.as_slice(), bytes, area);
     }
+}
 
-    /// A copy of the list, on the same allocator, which shares the pixels of its bitmaps.
-    pub fn copy(&self) -> Result<DisplayList, AllocError>
-        ensures { IfOk result (λ list. list ≡ self.now) }
-    {
+/// A clone is on the same allocator, and shares the pixels of the bitmaps.
+impl Clone for DisplayList {
+    ghost use Rattle.std.specs.Prelude.{◌≡◌};
+
+    ghost is_clone = { λ list clone. clone ≡ list };
+
+    fn clone(&self) -> Result<DisplayList, AllocError> {
         let mut items = Vec::with_capacity(*self.items.allocator(), self.items.len())?;
         for item in self.items.iter() {
             items.push(item.copy()?)?;

@@ -18,6 +18,7 @@ use Rattle.page_properties.specs.Placement.{plus, minus, own_translation, scroll
 use Rattle.page_properties.specs.Trees.{Trees, IsTrees, IsTransform, IsClip, IsEffect, AreTransforms}
 use Rattle.page_properties.proofs.Chains.{follow_the_parent}
 use Rattle.page_properties.proofs.Families.{family_few}
+use Rattle.page_properties.proofs.Walks.{own_offset}
 use Rattle.page_layers.specs.TreePainting.{lets_through}
 use Rattle.page_hit_test.specs.inner.Found.{IsTable, is_open_at}
 use Rattle.page_hit_test.proofs.ChainWalks.{gathered_none}
@@ -27,14 +28,6 @@ pub table_of : {V : Type 0} (f : ℕ → V) (v : V) → f 0 ≡ v → IsTable f 
 table_of {V} f v h =
     let root : ℕ × V = (0, v) in
     record { room = length-replicate 256 root; known = All-replicate (λ (e : ℕ × V). e.1 ≡ f e.0) 256 root (sym h) }
-
--- how far a transform's own translation goes
-own_offset : (offset : ℕ → Point) → AreOffsets offset → (scroller : ℕ) → IsOffset (scrolled offset scroller)
-own_offset offset a scroller = go (scroller == 0)
-  where
-    go : (b : Bool) → IsOffset (cond b origin (offset scroller))
-    go true = record { left = omega (arith, ints); right = omega (arith, ints); upper = omega (arith, ints); lower = omega (arith, ints) }
-    go false = a scroller
 
 within_more : (m : ℕ) (p o : Point) (n : TransformNode) → IsWithin m p → IsTransform n → IsOffset o → IsWithin (m + 1114112) (plus p (minus (record { x = n.x; y = n.y }) o))
 within_more m p o n w r i = record {
@@ -70,17 +63,12 @@ near offset a t j id =
     let few = family_few (λ (n : TransformNode). n.parent) IsTransform t.transforms j.transforms in
     within_wider (length t.transforms * 1114112) _ _ (omega (arith, few)) (near_nodes offset a t.transforms j.transforms id)
 
-same_point : (p q : Point) → p.x ≡ q.x → p.y ≡ q.y → p ≡ q
-same_point p q h k = ap (λ (z : ℤ). record { x = z; y = p.y }) h ∙ ap (λ (z : ℤ). record { x = q.x; y = z }) k
-
 -- the translation of a transform, by its parent's
 pub place_more : (offset : ℕ → Point) (t : Trees) → IsTrees t → (id : ℕ) (n : TransformNode) → find id t.transforms ≡ Some n
-    → (above o r : Point) → above ≡ translation offset t.transforms n.parent → o ≡ scrolled offset n.scroller
-    → r.x ≡ above.x +ℤ (n.x -ℤ o.x) → r.y ≡ above.y +ℤ (n.y -ℤ o.y) → r ≡ translation offset t.transforms id
-place_more offset t j id n h above o r ea eo ex ey =
-    same_point r (plus above (minus (record { x = n.x; y = n.y }) o)) ex ey
-    ∙ (λ i. plus (ea i) (minus (record { x = n.x; y = n.y }) (eo i)))
-    ∙ sym (follow_the_parent.translation_of offset t j id n h)
+    → (above r : Point) → above ≡ translation offset t.transforms n.parent → r ≡ plus above (own_translation offset n)
+    → r ≡ translation offset t.transforms id
+place_more offset t j id n h above r ea er =
+    er ∙ (λ i. plus (ea i) (own_translation offset n)) ∙ sym (follow_the_parent.translation_of offset t j id n h)
 
 pub place_none : (offset : ℕ → Point) (t : Trees) (id : ℕ) → find id t.transforms ≡ None → origin ≡ translation offset t.transforms id
 unfolding translation

@@ -2,54 +2,18 @@
 //! an effect is drawn. Each call looks a node up once, unless its table tells of it, so that the layers of a page
 //! ask for each node once.
 
-ghost use Rattle.std.specs.Prelude.{◌≡◌, ◌==◌, ◌&&◌, not, ◌*◌, ◌+ℤ◌, ◌-ℤ◌, FitsSigned};
-ghost use mir.Syntax.{w32};
+ghost use Rattle.std.specs.Prelude.{◌≡◌, ◌==◌, ◌&&◌, not, ◌*◌};
 ghost use Rattle.geom.specs.Covers.{covers};
 ghost use Rattle.geom.specs.Gaps.{shifted};
-ghost use Rattle.page_properties.specs.OffsetMap.{offset_at, AreOffsets, IsOffset};
+ghost use Rattle.page_properties.specs.OffsetMap.{offset_at, AreOffsets};
 ghost use Rattle.page_properties.specs.Placement as placement;
-ghost use Rattle.page_properties.specs.Placement.{scrolled, IsWithin};
-ghost use Rattle.page_properties.specs.Trees.{IsTrees, IsClip, IsTransform};
+ghost use Rattle.page_properties.specs.Placement.{IsWithin};
+ghost use Rattle.page_properties.specs.Trees.{IsTrees, IsClip};
 ghost use Rattle.page_hit_test.specs.inner.Found.{IsTable, is_open_at};
 
 use crate::found::{found, keep};
 use geom::Point;
-use page_properties::{ClipNode, EffectNode, Offsets, PropertyTrees, TransformNode};
-
-// The offset of a scroller that a transform names; (0, 0) where it names none.
-fn scroll_offset(offsets: &Offsets, scroller: u32) -> Point
-    requires { AreOffsets (offset_at offsets.now) }
-    ensures value { result ≡ scrolled (offset_at offsets.now) scroller }
-    ensures in_range { IsOffset result }
-{
-    if scroller == 0 {
-        Point { x: 0, y: 0 }
-    } else {
-        offsets.get(scroller)
-    }
-}
-
-// A coordinate of what stands in something, after an offset.
-fn added(above: i32, at: i32, offset: i32) -> i32
-    requires own { FitsSigned w32 (at -ℤ offset) }
-    requires all { FitsSigned w32 (above +ℤ (at -ℤ offset)) }
-    ensures { result ≡ above +ℤ (at -ℤ offset) }
-{
-    above + (at - offset)
-}
-
-// A transform's own translation, added to that of its parent.
-fn placed(above: Point, node: &TransformNode, offset: Point) -> Point
-    requires near { IsWithin (256 * 1114112) above }
-    requires in_range { IsTransform node.now }
-    requires offset { IsOffset offset }
-    ensures across { result.x ≡ above.x +ℤ (node.now.x -ℤ offset.x) }
-    ensures down { result.y ≡ above.y +ℤ (node.now.y -ℤ offset.y) }
-{
-    let x = added(above.x, node.x, offset.x);
-    let y = added(above.y, node.y, offset.y);
-    Point { x, y }
-}
+use page_properties::{ClipNode, EffectNode, Offsets, PropertyTrees};
 
 /// The translation of a transform.
 pub(crate) fn translation(
@@ -71,7 +35,7 @@ pub(crate) fn translation(
         return Point { x: 0, y: 0 };
     };
     let above = translation(props, offsets, places, node.parent);
-    let place = placed(above, node, scroll_offset(offsets, node.scroller));
+    let place = node.added_to(above, offsets);
     keep(places, transform, place);
     place
 }

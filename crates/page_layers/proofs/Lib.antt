@@ -3,6 +3,7 @@ pub mod SampleSteps
 pub mod ListEdits
 pub mod LayerPlaces
 pub mod ItemContent
+pub mod KeyRows
 pub mod LayerKeeps
 pub mod NodeKeeps
 pub mod Nested

@@ -1,6 +1,6 @@
 //! Changing the display list of a layer.
 //!
-//! Trees share display lists. A list that is shared is copied before it is changed, so that the other
+//! Trees share display lists. A list that is shared is cloned before it is changed (`Arc::make_mut`), so that the other
 //! trees keep theirs.
 
 ghost use Rattle.std.specs.Prelude.{◌≡◌, ◌≤◌, ◌<◌, length, map, insert, remove, slice_set, OnOk, OnErr, IfSome, find, Option, Some};
@@ -16,7 +16,7 @@ use crate::layer::Layer;
 use crate::layers::place_of;
 use geom::Rect;
 use page_display_list::{DisplayList, Item};
-use std::alloc::{AllocError, Global};
+use std::alloc::AllocError;
 use std::sync::Arc;
 
 // How many items a layer has.
@@ -67,77 +67,41 @@ pub(crate) fn rect_at(layers: &[Layer], id: u32, at: usize) -> Option<Rect>
     }
 }
 
-// Inserts an item into a display list. A list that is shared is copied, so that the others keep theirs.
-fn insert_in(
-    alloc: Global,
-    list: &mut Arc<DisplayList>,
-    at: usize,
-    item: Item,
-) -> Result<(), AllocError>
+// Inserts an item into a display list.
+fn insert_in(list: &mut Arc<DisplayList>, at: usize, item: Item) -> Result<(), AllocError>
     requires place { at ≤ length list.old.value }
     requires room { length list.old.value < 256 }
     requires sound { IsSoundItem item }
     ensures ok { OnOk result (list.new.value ≡ insert list.old.value at item) }
     ensures err { OnErr result (list.new.value ≡ list.old.value) }
 {
-    if let Some(own) = Arc::get_mut(list) {
-        return insert_own(own, at, item);
-    }
-    let mut copy = list.copy()?;
-    insert_own(&mut copy, at, item)?;
-    *list = Arc::new(alloc, copy)?;
-    Ok(())
-}
-
-// Inserts an item into a display list.
-fn insert_own(list: &mut DisplayList, at: usize, item: Item) -> Result<(), AllocError>
-    requires place { at ≤ length list.old }
-    requires room { length list.old < 256 }
-    requires sound { IsSoundItem item }
-    ensures ok { OnOk result (list.new ≡ insert list.old at item) }
-    ensures err { OnErr result (list.new ≡ list.old) }
-{
-    match list.insert(at, item) {
+    let own = Arc::make_mut(list)?;
+    match own.insert(at, item) {
         Ok(()) => Ok(()),
         Err((refused, _)) => Err(refused),
     }
 }
 
-// Removes an item of a display list. A list that is shared is copied, so that the others keep theirs.
-fn remove_in(alloc: Global, list: &mut Arc<DisplayList>, at: usize) -> Result<(), AllocError>
+// Removes an item of a display list.
+fn remove_in(list: &mut Arc<DisplayList>, at: usize) -> Result<(), AllocError>
     requires { at < length list.old.value }
     ensures ok { OnOk result (list.new.value ≡ remove list.old.value at) }
     ensures err { OnErr result (list.new.value ≡ list.old.value) }
 {
-    if let Some(own) = Arc::get_mut(list) {
-        own.remove(at);
-        return Ok(());
-    }
-    let mut copy = list.copy()?;
-    copy.remove(at);
-    *list = Arc::new(alloc, copy)?;
+    let own = Arc::make_mut(list)?;
+    own.remove(at);
     Ok(())
 }
 
-// Replaces an item of a display list. A list that is shared is copied, so that the others keep theirs.
-fn replace_in(
-    alloc: Global,
-    list: &mut Arc<DisplayList>,
-    at: usize,
-    item: Item,
-) -> Result<(), AllocError>
+// Replaces an item of a display list.
+fn replace_in(list: &mut Arc<DisplayList>, at: usize, item: Item) -> Result<(), AllocError>
     requires place { at < length list.old.value }
     requires sound { IsSoundItem item }
     ensures ok { OnOk result (list.new.value ≡ slice_set list.old.value at item) }
     ensures err { OnErr result (list.new.value ≡ list.old.value) }
 {
-    if let Some(own) = Arc::get_mut(list) {
-        own.replace(at, item);
-        return Ok(());
-    }
-    let mut copy = list.copy()?;
-    copy.replace(at, item);
-    *list = Arc::new(alloc, copy)?;
+    let own = Arc::make_mut(list)?;
+    own.replace(at, item);
     Ok(())
 }
 
@@ -155,11 +119,10 @@ pub(crate) fn insert(
     ensures ok { OnOk result (map parts_of layers.new.items ≡ with_first_changed (has_id id) (with_items (λ items. insert items at item)) (map parts_of layers.old.items)) }
     ensures err { OnErr result (map parts_of layers.new.items ≡ map parts_of layers.old.items) }
 {
-    let alloc = *layers.allocator();
     match place_of(layers, id) {
         Some(place) => {
             let layer = &mut layers[place];
-            insert_in(alloc, &mut layer.list, at, item)
+            insert_in(&mut layer.list, at, item)
         }
         None => Ok(()),
     }
@@ -173,11 +136,10 @@ pub(crate) fn remove(layers: &mut Vec<Layer>, id: u32, at: usize) -> Result<(), 
     ensures ok { OnOk result (map parts_of layers.new.items ≡ with_first_changed (has_id id) (with_items (λ items. remove items at)) (map parts_of layers.old.items)) }
     ensures err { OnErr result (map parts_of layers.new.items ≡ map parts_of layers.old.items) }
 {
-    let alloc = *layers.allocator();
     match place_of(layers, id) {
         Some(place) => {
             let layer = &mut layers[place];
-            remove_in(alloc, &mut layer.list, at)
+            remove_in(&mut layer.list, at)
         }
         None => Ok(()),
     }
@@ -197,11 +159,10 @@ pub(crate) fn replace(
     ensures ok { OnOk result (map parts_of layers.new.items ≡ with_first_changed (has_id id) (with_items (λ items. slice_set items at item)) (map parts_of layers.old.items)) }
     ensures err { OnErr result (map parts_of layers.new.items ≡ map parts_of layers.old.items) }
 {
-    let alloc = *layers.allocator();
     match place_of(layers, id) {
         Some(place) => {
             let layer = &mut layers[place];
-            replace_in(alloc, &mut layer.list, at, item)
+            replace_in(&mut layer.list, at, item)
         }
         None => Ok(()),
     }

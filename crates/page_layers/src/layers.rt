@@ -11,8 +11,8 @@ use crate::layer::Layer;
 use pixel::Colour;
 use std::alloc::AllocError;
 
-// The first place at which a layer has this id.
-fn first_place(layers: &[Layer], id: u32) -> Option<usize>
+/// The first place in a list of layers at which one has this id; None if none has it.
+pub fn first_place(layers: &[Layer], id: u32) -> Option<usize>
     ensures { result ≡ position (λ l. has_id id (parts_of l)) layers.now }
 {
     layers.iter().position(|layer| layer.id == id)

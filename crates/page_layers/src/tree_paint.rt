@@ -18,7 +18,7 @@ ghost use Rattle.page_layers.specs.Paintings.{IsScreenPoint, ReadyShows, placed_
 use crate::groups;
 use crate::layer::Layer;
 use crate::paint::{LayerSample, paint_from};
-use crate::placed::{PlacedLayer, placed};
+use crate::placed_layer::{PlacedLayer, placed};
 use crate::tree::LayerTree;
 use geom::TileKey;
 use page_properties::{Offsets, PropertyTrees};

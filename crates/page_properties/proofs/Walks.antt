@@ -1,5 +1,5 @@
 -- The way up a chain: what is left of it, and what was gathered.
-use Rattle.std.proofs.Common.{◌≡◌, ℕ, ◌+◌, ◌-◌, ◌*◌, ◌<◌, ◌≤◌, ℤ, ◌+ℤ◌, ◌-ℤ◌, List, length, Option, Some, None, IfSome, arith, refl, sym, ◌∙◌, ap}
+use Rattle.std.proofs.Common.{◌≡◌, ℕ, ◌+◌, ◌-◌, ◌*◌, ◌<◌, ◌≤◌, ◌==◌, ℤ, ◌+ℤ◌, ◌-ℤ◌, Bool, true, false, cond, List, length, Option, Some, None, IfSome, arith, refl, sym, ◌∙◌, ap}
 use Rattle.std.proofs.lemmas.Int.{ints}
 use Rattle.geom.specs.declared.rect.Point.{Point}
 use Rattle.geom.specs.declared.rect.Rect.{Rect}
@@ -8,8 +8,8 @@ use Rattle.geom.specs.Gaps.{shifted}
 use Rattle.page_properties.specs.declared.nodes.TransformNode.{TransformNode}
 use Rattle.page_properties.specs.declared.nodes.ClipNode.{ClipNode}
 use Rattle.page_properties.specs.Entries.{find}
-use Rattle.page_properties.specs.OffsetMap.{origin, IsOffset}
-use Rattle.page_properties.specs.Placement.{plus, minus, scrolled, translation, both, clip_of, IsWithin}
+use Rattle.page_properties.specs.OffsetMap.{origin, IsOffset, AreOffsets}
+use Rattle.page_properties.specs.Placement.{plus, minus, own_translation, scrolled, translation, both, clip_of, IsWithin}
 use Rattle.page_properties.specs.Trees.{AreClips, AreTransforms, IsClipRect, IsTransform}
 use Rattle.page_properties.proofs.Chains.{height, height_few, parent_below, fits_found, translation_law, translation_unknown, clip_law, clip_unknown}
 use Rattle.page_properties.proofs.Families.{family_few}
@@ -17,6 +17,14 @@ use Rattle.page_properties.proofs.Clips.{both_assoc}
 
 same_point : (p q : Point) → p.x ≡ q.x → p.y ≡ q.y → p ≡ q
 same_point p q h k = ap (λ (z : ℤ). record { x = z; y = p.y }) h ∙ ap (λ (z : ℤ). record { x = q.x; y = z }) k
+
+-- how far a scroller has moved what it scrolls
+pub own_offset : (offset : ℕ → Point) → AreOffsets offset → (scroller : ℕ) → IsOffset (scrolled offset scroller)
+own_offset offset a scroller = go (scroller == 0)
+  where
+    go : (b : Bool) → IsOffset (cond b origin (offset scroller))
+    go true = record { left = omega (arith, ints); right = omega (arith, ints); upper = omega (arith, ints); lower = omega (arith, ints) }
+    go false = a scroller
 
 within_none : IsWithin 0 origin
 within_none = record { left = omega (arith, ints); right = omega (arith, ints); upper = omega (arith, ints); lower = omega (arith, ints) }
@@ -67,21 +75,21 @@ module _ (offset : ℕ → Point) (nodes : List (ℕ × TransformNode)) (start i
       below : height n.parent nodes < height id nodes
       below = parent_below (λ (m : TransformNode). m.parent) IsTransform nodes j id n h
 
-      pub climbed_room : IsWithin (255 * 1114112) sum
-      climbed_room = let few = family_few (λ (m : TransformNode). m.parent) IsTransform nodes j in within_more _ _ sum (omega (arith, few, below)) w.near
-
       -- a node of the chain adds its own translation
-      pub climbed_step : (o sum' : Point) → o ≡ scrolled offset n.scroller → IsOffset o
-          → sum'.x ≡ sum.x +ℤ (n.x -ℤ o.x) → sum'.y ≡ sum.y +ℤ (n.y -ℤ o.y) → Climbed offset nodes start n.parent sum'
-      climbed_step o sum' f i across down =
+      pub climbed_step : (sum' : Point) → AreOffsets offset → sum' ≡ plus sum (own_translation offset n) → Climbed offset nodes start n.parent sum'
+      climbed_step sum' a e =
           let r = fits_found (λ (m : TransformNode). m.parent) IsTransform nodes j id n h in
           let few = height_few id nodes in
+          let o : Point = scrolled offset n.scroller in
+          let across : sum'.x ≡ sum.x +ℤ (n.x -ℤ o.x) = ap (λ (p : Point). p.x) e in
+          let down : sum'.y ≡ sum.y +ℤ (n.y -ℤ o.y) = ap (λ (p : Point). p.y) e in
           record {
-            near = within_more ((length nodes - height id nodes) * 1114112 + 1114112) _ sum' (omega (arith, below, few)) (within_step _ sum sum' n o w.near r i across down);
+            near =
+                within_more ((length nodes - height id nodes) * 1114112 + 1114112) _ sum' (omega (arith, below, few))
+                (within_step _ sum sum' n o w.near r (own_offset offset a n.scroller) across down);
             value =
                 carry (translation offset nodes n.parent) (record { x = n.x; y = n.y }) o sum sum' across down
-                ∙ (ap (λ (q : Point). plus (plus (translation offset nodes n.parent) (minus (record { x = n.x; y = n.y }) q)) sum) f
-                ∙ (ap (λ (p : Point). plus p sum) (sym (translation_law offset nodes j id n h)) ∙ w.value));
+                ∙ (ap (λ (p : Point). plus p sum) (sym (translation_law offset nodes j id n h)) ∙ w.value);
           }
 
 -- on the way up from `start` a clip has come to `id`, with the common part of those below

@@ -6,7 +6,7 @@ ghost use Rattle.std.specs.Prelude.{◌≡◌, ◌*◌, ◌+ℤ◌, ◌-ℤ◌, 
 ghost use Rattle.geom.specs.Covers.{IsSound};
 ghost use Rattle.geom.specs.Gaps.{shifted};
 ghost use Rattle.page_properties.specs.OffsetMap.{offset_at, AreOffsets, IsOffset};
-ghost use Rattle.page_properties.specs.Placement.{both, clip_of, draws, scrolled, translation, IsWithin};
+ghost use Rattle.page_properties.specs.Placement.{both, clip_of, draws, own_translation, plus, scrolled, translation, IsWithin};
 ghost use Rattle.page_properties.specs.Trees.{AreClips, AreEffects, AreTransforms, IsClip, IsTransform};
 ghost use mir.Syntax.{w32};
 
@@ -24,13 +24,28 @@ pub fn translation_in(nodes: &Family<TransformNode>, mut transform: u32, offsets
 {
     let mut sum = Point { x: 0, y: 0 };
     while let Some(node) = nodes.get(transform) {
-        sum = placed(sum, node, scroll_offset(offsets, node.scroller));
+        sum = node.added_to(sum, offsets);
         transform = node.parent;
     }
     sum
 }
 
-/// The offset of a scroller that a transform names; (0, 0) where it names none.
+impl TransformNode {
+    /// A translation, with this transform's own added to it: its place, minus the offset of the scroller that it names.
+    pub fn added_to(&self, sum: Point, offsets: &Offsets) -> Point
+        requires near { IsWithin (256 * 1114112) sum }
+        requires in_range { IsTransform self.now }
+        requires offsets { AreOffsets (offset_at offsets.now) }
+        ensures { result ≡ plus sum (own_translation (offset_at offsets.now) self.now) }
+    {
+        let offset = scroll_offset(offsets, self.scroller);
+        let x = added(sum.x, self.x, offset.x);
+        let y = added(sum.y, self.y, offset.y);
+        Point { x, y }
+    }
+}
+
+// The offset of a scroller that a transform names; (0, 0) if it names none.
 fn scroll_offset(offsets: &Offsets, scroller: u32) -> Point
     requires { AreOffsets (offset_at offsets.now) }
     ensures value { result ≡ scrolled (offset_at offsets.now) scroller }
@@ -43,26 +58,13 @@ fn scroll_offset(offsets: &Offsets, scroller: u32) -> Point
     }
 }
 
-/// A transform's own translation, added to that of the nodes below it.
-fn placed(below: Point, node: &TransformNode, offset: Point) -> Point
-    requires near { IsWithin (255 * 1114112) below }
-    requires in_range { IsTransform node.now }
-    requires offset { IsOffset offset }
-    ensures across { result.x ≡ below.x +ℤ (node.now.x -ℤ offset.x) }
-    ensures down { result.y ≡ below.y +ℤ (node.now.y -ℤ offset.y) }
-{
-    let x = added(below.x, node.x, offset.x);
-    let y = added(below.y, node.y, offset.y);
-    Point { x, y }
-}
-
-/// The same on one axis.
-fn added(below: i32, at: i32, offset: i32) -> i32
+// A coordinate of a sum, with that of a place after an offset added.
+fn added(sum: i32, at: i32, offset: i32) -> i32
     requires own { FitsSigned w32 (at -ℤ offset) }
-    requires all { FitsSigned w32 (below +ℤ (at -ℤ offset)) }
-    ensures { result ≡ below +ℤ (at -ℤ offset) }
+    requires all { FitsSigned w32 (sum +ℤ (at -ℤ offset)) }
+    ensures { result ≡ sum +ℤ (at -ℤ offset) }
 {
-    below + (at - offset)
+    sum + (at - offset)
 }
 
 /// The clip of a clip node; None where `clip` is the root.

@@ -72,7 +72,7 @@ pub fn one_red_pixel(alloc: Global, checks: &mut Checks) -> Result<(), LineFault
     let bytes = list.raster(area)?;
     let row = [0xff, 0, 0, 0xff, 0, 0, 0, 0];
     checks.same("its row", &bytes.as_slice(), &row.as_slice());
-    let copy = list.copy()?;
+    let copy = list.clone()?;
     checks.same("of one item", &copy.len(), &1);
     checks.same("the copy's pixel", &copy.pixel_at(0, 0), &red);
     Ok(())

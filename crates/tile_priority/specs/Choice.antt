@@ -11,7 +11,7 @@ use Rattle.tile_priority.specs.Ranks.{bin_number, rank_cmp, least}
 use Rattle.tile_priority.specs.Tiles.{Tile}
 use Rattle.tile_priority.specs.Ordered.{In, SameMembers, IsInOrder, in_order}
 
--- what the choice is made from
+-- what the choice is made from: the wanted ranks, the ready tiles, how many are in flight, and the budget
 pub record Choice : Type 0 where
   -- the ranks of the keys that have one and are neither ready nor in flight
   pub wanted : List Rank
@@ -26,7 +26,7 @@ pub record Choice : Type 0 where
 abbrev pub used : Choice → ℕ
 used c = length c.ready + c.in_flight
 
--- a ready tile that may be evicted, by what orders it: its key where it has no rank, else its rank
+-- a ready tile that may be evicted, by what orders it: its key if it has no rank, else its rank
 pub data Evictable : Type 0 where
   unranked : TileKey → Evictable
   ranked : Rank → Evictable
@@ -69,7 +69,7 @@ pub record IsWorstFirst (c : Choice) (q : Rank) (vs : List Evictable) : Type 0 w
   pub order : IsInOrder worst_cmp vs
   pub members : SameMembers vs (evictables c q)
 
--- that list
+-- that list, computed; laws say that it is the one list that is worst first
 unfoldable pub worst_first : Choice → Rank → List Evictable
 worst_first c q = in_order worst_cmp (evictables c q)
 
@@ -80,6 +80,11 @@ is_enough c n = nat_le ((used c + 1) - n) c.budget
 abbrev pub is_now : Bin → Bool
 is_now bin.Now = true
 is_now _ = false
+
+-- the rank of a visible tile
+abbrev pub is_visible_rank : Option Rank → Bool
+is_visible_rank None = false
+is_visible_rank (Some r) = is_now r.bin
 
 -- a wanted tile may start: it is visible, or evicting all that it may makes room
 unfoldable pub may_start : Choice → Rank → Bool
@@ -100,12 +105,12 @@ abbrev pub least_of : List Rank → Option Rank
 least_of [] = None
 least_of (r ∷ rs) = least (Some r) (least_of rs)
 
--- the rank that starts first, where there is one
+-- the rank that starts first, if there is one
 unfoldable pub first : Choice → Option Rank
 first c = least_of (filter (may_start c) c.wanted)
 
 -- what is evicted for q: the shortest prefix of the worst-first list that is enough, or the whole list
--- where no prefix is enough
+-- if no prefix is enough
 pub record IsEvicted (c : Choice) (q : Rank) (es : List Evictable) : Type 0 where
   pub rest : List Evictable
   pub front : es ++ rest ≡ worst_first c q

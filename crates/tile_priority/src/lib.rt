@@ -20,7 +20,7 @@ pub use laws::{
     orders_are_total, pinned_tiles_stay, the_least_wanted_is_first, visible_tiles_always_start,
     worst_first_is_one_list,
 };
-pub use rank::{Bin, Rank, Side, least};
+pub use rank::{Bin, Rank, Side, is_visible_rank, least};
 pub use ready_tile::ReadyTile;
 pub use tile::{Borders, Seen, is_visible, rank_in};
 pub use tree_priority::TreePriority;

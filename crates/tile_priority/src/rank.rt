@@ -3,6 +3,7 @@
 ghost use Rattle.std.specs.Prelude.{◌≡◌, ◌↔◌, IsNone};
 ghost use Rattle.tile_priority.specs.Ranks.{bin_number};
 ghost use Rattle.tile_priority.specs.Ranks as ranks;
+ghost use Rattle.tile_priority.specs.Choice as choosing;
 
 use geom::TileKey;
 use std::cmp::Ordering;
@@ -27,6 +28,16 @@ impl Bin {
             Bin::Now => 0,
             Bin::Soon => 1,
             Bin::Eventually => 2,
+        }
+    }
+
+    /// Whether it is the bin of visible tiles.
+    pub fn is_now(self) -> bool
+        ensures { result ≡ choosing.is_now self }
+    {
+        match self {
+            Bin::Now => true,
+            Bin::Soon | Bin::Eventually => false,
         }
     }
 }
@@ -137,5 +148,15 @@ pub fn least(a: Option<Rank>, b: Option<Rank>) -> Option<Rank>
         (Some(a), Some(b)) => Some(if b < a { b } else { a }),
         (Some(a), None) => Some(a),
         (None, b) => b,
+    }
+}
+
+/// Whether a tile of this rank is visible. One that has no rank is not.
+pub fn is_visible_rank(rank: Option<Rank>) -> bool
+    ensures { result ≡ choosing.is_visible_rank rank }
+{
+    match rank {
+        None => false,
+        Some(rank) => rank.bin.is_now(),
     }
 }

@@ -13,7 +13,7 @@ use Rattle.tile_priority.specs.declared.rank.Rank.{Rank}
 use Rattle.tile_priority.specs.Ranks.{bin_number, rank_cmp}
 use Rattle.tile_priority.specs.Tiles.{Tile}
 use Rattle.tile_priority.specs.Ordered.{SameMembers, BeforeAll, IsInOrder}
-use Rattle.tile_priority.specs.Choice.{Choice, used, evictable_of, evictable_key, gives_way, is_worse, is_enough, is_now, worst_cmp, worst_first, evictables, may_start, first, NoneStarts, evicted}
+use Rattle.tile_priority.specs.Choice.{Choice, used, evictable_of, evictable_key, gives_way, is_worse, is_enough, is_now, is_visible_rank, worst_cmp, worst_first, evictables, may_start, first, NoneStarts, evicted}
 use Rattle.tile_priority.specs.Choice as choosing
 use Rattle.tile_priority.proofs.Members.{same_itself}
 use Rattle.tile_priority.proofs.Choosing.{worst_first_is_one, first_is_one}
@@ -21,7 +21,7 @@ use Rattle.tile_priority.proofs.LeastFirst.{least_is_first}
 use Rattle.tile_queue.specs.declared.evictable.Evictable.{Evictable}
 use Rattle.tile_queue.specs.declared.evictable.Evictable.TheVariants.{Unranked, Ranked}
 use Rattle.tile_queue.specs.Queues.{tile_key}
-use Rattle.tile_queue.specs.inner.Orders.{is_visible, stays, choice_of}
+use Rattle.tile_queue.specs.inner.Orders.{stays, choice_of}
 use Rattle.tile_queue.specs.inner.Evictables.{given, tile_of, key_of, eviction_cmp, is_worse_than}
 use Rattle.tile_queue.proofs.Places.{order_filter, least_is_head}
 
@@ -79,7 +79,7 @@ staying_are_no_evictables b (t ∷ ts) h = by_pin t.pinned t.rank h (staying_are
         by_test true e = absurd (grind (arith, nat_tests))
         by_test false e = refl
 
-    by_pin : (p : Bool) (r : Option Rank) → (p || is_visible r) && list_all stays ts ≡ true → (list_all stays ts ≡ true → filter (gives_way b) ts ≡ [])
+    by_pin : (p : Bool) (r : Option Rank) → (p || is_visible_rank r) && list_all stays ts ≡ true → (list_all stays ts ≡ true → filter (gives_way b) ts ≡ [])
         → cond (not p && is_worse r b) (t ∷ filter (gives_way b) ts) (filter (gives_way b) ts) ≡ []
     by_pin true r h f = f h
     by_pin false None h f = absurd cc

@@ -3,16 +3,16 @@ use Rattle.std.specs.Prelude.{◌≡◌, Bool, true, false, not, List, ◌++◌,
 use Rattle.geom.specs.declared.tile.TileKey.{TileKey}
 use Rattle.geom.specs.KeyLists.{has_key, AreDistinctKeys}
 use Rattle.tile_priority.specs.declared.rank.Side.TheVariants as side
+use Rattle.tile_priority.specs.Choice.{is_visible_rank}
 use Rattle.impl_tiles.specs.Stores.{Store, is_ready}
 use Rattle.model_history.specs.Scripts.{ScriptModel}
 use Rattle.model_history.specs.Tiles.{Tree}
 use Rattle.model_history.specs.Ranking.{rank_in}
 use Rattle.impl_tiles.specs.Choices.{store_lacks}
-use Rattle.impl_tiles.specs.Visible.{is_visible}
 
 -- the key is that of a visible tile of the active tree
 abbrev pub is_shown_in : ScriptModel → Tree → TileKey → Bool
-is_shown_in s a q = is_visible (rank_in s side.Active a q)
+is_shown_in s a q = is_visible_rank (rank_in s side.Active a q)
 
 -- those of the active tree's visible keys that the store lacks, and after them those of the pending tree's that are not visible in the active tree
 abbrev pub first_keys : ScriptModel → Tree → Store → List TileKey → List TileKey → List TileKey

@@ -1,5 +1,5 @@
 -- What holds of the lists of a queue.
-use Rattle.std.specs.Prelude.{◌≡◌, ℕ, ◌+◌, ◌<◌, ◌≤◌, ◌^◌, Bool, true, false, ◌||◌, Option, Some, None, List, map, length, filter, ◌++◌}
+use Rattle.std.specs.Prelude.{◌≡◌, ℕ, ◌+◌, ◌<◌, ◌≤◌, ◌^◌, Bool, true, ◌||◌, List, map, length, filter, ◌++◌}
 use Rattle.std.specs.List.{list_all}
 use Rattle.geom.specs.declared.tile.TileKey.{TileKey}
 use Rattle.geom.specs.KeyLists.{same_key}
@@ -7,7 +7,7 @@ use Rattle.tile_priority.specs.declared.rank.Rank.{Rank}
 use Rattle.tile_priority.specs.Ranks.{rank_cmp}
 use Rattle.tile_priority.specs.Tiles.{Tile}
 use Rattle.tile_priority.specs.Ordered.{IsInOrder}
-use Rattle.tile_priority.specs.Choice.{Choice, is_now}
+use Rattle.tile_priority.specs.Choice.{Choice, is_visible_rank}
 use Rattle.tile_queue.specs.declared.evictable.Evictable.{Evictable}
 use Rattle.tile_queue.specs.Queues.{rank_key, tile_key}
 use Rattle.tile_queue.specs.inner.Evictables.{tile_of, key_of, eviction_cmp}
@@ -24,14 +24,9 @@ standing q wanted staying evictables = times q (map rank_key wanted) + (times q 
 abbrev pub keys : List Rank → List Tile → List Evictable → ℕ → ℕ
 keys wanted staying evictables in_flight = length wanted + (length staying + (length evictables + in_flight))
 
--- a rank of a visible tile
-abbrev pub is_visible : Option Rank → Bool
-is_visible None = false
-is_visible (Some r) = is_now r.bin
-
 -- the tile is never evicted: it is pinned, or visible, and so of the best bin
 abbrev pub stays : Tile → Bool
-stays t = t.pinned || is_visible t.rank
+stays t = t.pinned || is_visible_rank t.rank
 
 -- the ranks stand with the best first and the evictable tiles with the worst first, all other ready tiles stay, no key stands twice, and each list has room for all keys
 pub record IsQueue (wanted : List Rank) (staying : List Tile) (evictables : List Evictable) (in_flight : ℕ) (ranks_room kept_room evictables_room : ℕ) : Type 0 where

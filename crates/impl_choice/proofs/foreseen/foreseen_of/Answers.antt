@@ -4,6 +4,7 @@ use Rattle.std.specs.Prelude.{option_copied}
 use Rattle.tile_priority.specs.declared.rank.Rank.{Rank}
 use Rattle.tile_priority.specs.Tiles.{Tile}
 use Rattle.tile_priority.specs.Ordered.{In}
+use Rattle.tile_priority.specs.Choice.{is_visible_rank}
 use Rattle.tile_queue.specs.Queues.{EachKeyOnce}
 use Rattle.model_history.specs.Scripts.{ScriptModel}
 use Rattle.model_history.specs.Legal.{Legal}
@@ -11,7 +12,6 @@ use Rattle.model_history.specs.Tiles.{active_tree, pending_tree, visible_in}
 use Rattle.model_steps.specs.Choices.{rank_in_both}
 use Rattle.impl_ranks.specs.SeenTrees.{IsSeenWhere}
 use Rattle.impl_tiles.specs.Managers.{Manages, AreVisibleAt}
-use Rattle.impl_tiles.specs.Visible.{is_visible}
 use Rattle.impl_choice.specs.inner.FirstKeys.{first_keys}
 use Rattle.impl_choice.proofs.Foreseeing.{once_at, shown_at, visible_at, ranks_of_visible, beside_visible}
 use Rattle.impl_choice.proofs.foreseen.foreseen_of.Goals as goal
@@ -42,7 +42,7 @@ returns-clause-shown c =
     let shown = c.in_ok-shown.ensures a n.seen_active in
     let needed = c.in_ok-needed.ensures p n.seen_pending in
     let wanted = ranks_of_visible s a p m.store _ _ shown needed _ _ (c.as_slice.ensures ∙ c.in_ok-first.ensures a n.seen_active) (c.in_ok-wanted.ensures a p n.seen_active n.seen_pending) in
-    subst (λ (rs : List Rank). (r : Rank) → In r rs → is_visible (Some r) ≡ true) (sym wanted) (shown_at s c.is_accepted.ensures.accepted n.past m.store)
+    subst (λ (rs : List Rank). (r : Rank) → In r rs → is_visible_rank (Some r) ≡ true) (sym wanted) (shown_at s c.is_accepted.ensures.accepted n.past m.store)
 
 pub returns-clause-visible : goal.returns-clause-visible
 returns-clause-visible c = λ s workers h is legal holds seen_active seen_pending.

@@ -26,12 +26,12 @@ translation-above-requires t c =
       (c.requires.trees, (c.requires.offsets, c.requires.places)),
     )
 
-pub placed-place-requires-clause-near : goal.placed-place-requires-clause-near
-placed-place-requires-clause-near t c =
+pub added_to-place-requires-clause-near : goal.added_to-place-requires-clause-near
+added_to-place-requires-clause-near t c =
     subst (IsWithin (256 * 1114112)) (sym c.translation-above.ensures.value) (near (offset_at c.args.offsets.now) c.requires.offsets c.args.props.now c.requires.trees c.in-Some-transform.node.now.parent)
 
-pub placed-place-requires-clause-in_range : goal.placed-place-requires-clause-in_range
-placed-place-requires-clause-in_range t c =
+pub added_to-place-requires-clause-in_range : goal.added_to-place-requires-clause-in_range
+added_to-place-requires-clause-in_range t c =
     let n = c.in-Some-transform.node.now in
     let node : find c.args.transform c.args.props.now.transforms ≡ Some n = search rules in
     fits_found (λ (m : TransformNode). m.parent) IsTransform c.args.props.now.transforms c.requires.trees.transforms c.args.transform n node
@@ -40,13 +40,13 @@ pub returns-clause-value : goal.returns-clause-value
 returns-clause-value t c =
     let n = c.in-Some-transform.node.now in
     let node : find c.args.transform c.args.props.now.transforms ≡ Some n = search rules in
-    place_more (offset_at c.args.offsets.now) c.args.props.now c.requires.trees c.args.transform n node c.translation-above.result c.scroll_offset.result c.placed-place.result
-    c.translation-above.ensures.value c.scroll_offset.ensures.value c.placed-place.ensures.across c.placed-place.ensures.down
+    place_more (offset_at c.args.offsets.now) c.args.props.now c.requires.trees c.args.transform n node c.translation-above.result c.added_to-place.result
+    c.translation-above.ensures.value c.added_to-place.ensures
 
 pub returns-clause-places : goal.returns-clause-places
 returns-clause-places t c =
     let n = c.in-Some-transform.node.now in
     let node : find c.args.transform c.args.props.now.transforms ≡ Some n = search rules in
     c.keep.ensures (translation (offset_at c.args.offsets.now) c.args.props.now.transforms) c.translation-above.ensures.places
-    (place_more (offset_at c.args.offsets.now) c.args.props.now c.requires.trees c.args.transform n node c.translation-above.result c.scroll_offset.result c.placed-place.result
-    c.translation-above.ensures.value c.scroll_offset.ensures.value c.placed-place.ensures.across c.placed-place.ensures.down)
+    (place_more (offset_at c.args.offsets.now) c.args.props.now c.requires.trees c.args.transform n node c.translation-above.result c.added_to-place.result
+    c.translation-above.ensures.value c.added_to-place.ensures)

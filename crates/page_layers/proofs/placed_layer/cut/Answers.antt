@@ -3,7 +3,7 @@ use Rattle.std.proofs.Common.{◌&&◌, Option, ap, sym, ◌∙◌}
 use Rattle.geom.specs.declared.Rect.{Rect}
 use Rattle.geom.specs.Covers.{covers}
 use Rattle.page_layers.specs.TreePainting.{lets_through}
-use Rattle.page_layers.proofs.placed.cut.Goals as goal
+use Rattle.page_layers.proofs.placed_layer.cut.Goals as goal
 
 pub returns-in-None-clause-points : goal.returns-in-None-clause-points
 returns-in-None-clause-points c = λ x y. ap (λ (o : Option Rect). lets_through o x y && covers c.args.rect x y) (sym c.in-None.is)

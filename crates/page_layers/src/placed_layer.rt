@@ -9,11 +9,12 @@ ghost use Rattle.page_properties.specs.OffsetMap.{offset_at, AreOffsets};
 ghost use Rattle.page_properties.specs.Placement.{IsWithin};
 ghost use Rattle.page_layers.specs.Layers.{parts_of};
 ghost use Rattle.page_layers.specs.TreePainting as painting;
-ghost use Rattle.page_layers.specs.Paintings.{IsScreenPoint, has_place, colour_there, placed_colour};
+ghost use Rattle.page_layers.specs.Paintings.{IsScreenPoint, colour_there, placed_colour};
 
 use crate::layer::Layer;
+use crate::missing::{in_row, is_among, place_at, rows_of};
 use crate::tree::LayerTree;
-use geom::{Place, Point, Rect, TileKey};
+use geom::{Point, Rect, TileKey};
 use page_display_list::DisplayList;
 use page_properties::Offsets;
 use pixel::Colour;
@@ -22,8 +23,7 @@ use std::marker::Model;
 use std::sync::Arc;
 
 /// A layer in its place on the screen.
-#[derive(Drop)]
-pub(crate) struct PlacedLayer {
+pub struct PlacedLayer {
     // the part of the screen where it lies: its bounds, moved, inside its clip
     area: Rect,
     // how far it is moved
@@ -31,12 +31,13 @@ pub(crate) struct PlacedLayer {
     // what is drawn where a tile is missing
     colour: Colour,
     list: Arc<DisplayList>,
-    // the keys of its missing tiles
+    // the keys of its missing tiles, by rising row
     missing: Vec<TileKey>,
 }
 
 impl Model for PlacedLayer {
     ghost use Rattle.std.specs.Prelude.{◌*◌};
+    ghost use Rattle.std.specs.List.Sorted.{IsNonDecreasingBy};
     ghost use Rattle.geom.specs.Covers.{IsSound};
     ghost use Rattle.page_properties.specs.Placement.{IsWithin};
     ghost use Rattle.page_layers.specs.Paintings.{Placed};
@@ -45,7 +46,20 @@ impl Model for PlacedLayer {
 
     ghost view = { λ l. record { area = l.area; by = l.by; colour = l.colour; items = l.list.value; missing = l.missing.items } };
 
-    ghost invariant = { λ l. IsSound l.area × IsWithin (256 * 1114112) l.by };
+    ghost invariant = { λ l. IsSound l.area × IsWithin (256 * 1114112) l.by × IsNonDecreasingBy (λ k. k.y) l.missing.items };
+}
+
+// Written out, since a derived drop is proved anew, field by field, in each function that lets one go.
+impl Drop for PlacedLayer {
+    fn drop(self) {
+        let PlacedLayer {
+            area: _,
+            by: _,
+            colour: _,
+            list: _,
+            missing: _,
+        } = self;
+    }
 }
 
 // A coordinate, moved back.
@@ -54,34 +68,6 @@ fn back(at: i32, by: i32) -> i32
     ensures { result ≡ at -ℤ by }
 {
     at - by
-}
-
-// The place of a point of a layer, in tiles of this size.
-fn place_of(tile: u32, x: i32, y: i32) -> Place
-    requires { 1 ≤ tile }
-    ensures { result ≡ painting.place_at tile (record { x = x; y = y }) }
-{
-    Place {
-        x: x.unsigned_abs() / tile,
-        y: y.unsigned_abs() / tile,
-    }
-}
-
-// Whether one of the keys names this place.
-fn is_among(keys: &[TileKey], place: Place) -> bool
-    ensures { result ≡ has_place keys.now place }
-{
-    keys.iter().any(|key| key.x == place.x && key.y == place.y)
-}
-
-// The keys of a layer.
-fn keys_of(alloc: Global, keys: &[TileKey], layer: u32) -> Result<Vec<TileKey>, AllocError>
-    ensures { IfOk result (λ own. own.items ≡ filter (λ k. k.layer == layer) keys.now) }
-{
-    keys.iter()
-        .filter(|key| key.layer == layer)
-        .copied()
-        .collect(alloc)
 }
 
 // The bounds of a layer of this size, moved.
@@ -114,9 +100,9 @@ fn cut(rect: Rect, clip: Option<Rect>) -> Rect
     }
 }
 
-/// A layer of a tree in its place at these offsets. The layer's sides are 1 to 16384. An error means out of
-/// memory.
-pub(crate) fn placed(
+/// A layer of a tree in its place at these offsets, with the tiles of these keys missing, whatever their stamps. The
+/// layer's sides are 1 to 16384. Each offset is from 0 to 1048576 on both axes. An error means out of memory.
+pub fn placed(
     alloc: Global,
     tree: &LayerTree,
     offsets: &Offsets,
@@ -132,7 +118,7 @@ pub(crate) fn placed(
     let by = props.translation(layer.transform, offsets);
     let clip = props.clip_of(layer.clip, offsets);
     let area = cut(moved_bounds(layer.w, layer.h, by), clip);
-    let own = keys_of(alloc, missing, layer.id)?;
+    let own = rows_of(alloc, missing, layer.id)?;
     let list = Arc::try_clone(&layer.list)?;
     Ok(PlacedLayer {
         area,
@@ -144,13 +130,50 @@ pub(crate) fn placed(
 }
 
 impl PlacedLayer {
+    /// The part of the screen where the layer lies.
+    pub fn area(&self) -> Rect
+        ensures value { result ≡ self.now.area }
+        ensures sound { IsSound result }
+    {
+        self.area
+    }
+
+    /// How far the layer is moved.
+    pub fn by(&self) -> Point
+        ensures value { result ≡ self.now.by }
+        ensures near { IsWithin (256 * 1114112) result }
+    {
+        self.by
+    }
+
+    /// What is drawn where a tile is missing.
+    pub fn colour(&self) -> Colour
+        ensures { result ≡ self.now.colour }
+    {
+        self.colour
+    }
+
+    /// What the layer shows.
+    pub fn list(&self) -> &DisplayList
+        ensures { result.now ≡ self.now.items }
+    {
+        &self.list
+    }
+
+    /// The keys of its missing tiles of this row: two searches among all of them.
+    pub fn missing_in(&self, row: u32) -> &[TileKey]
+        ensures { result.now ≡ filter (λ k. k.y == row) self.now.missing }
+    {
+        in_row(self.missing.as_slice(), row)
+    }
+
     // The colour at a point of the layer.
     #[tactic(auto, unfolding(crate::specs::Paintings::colour_there))]
     fn colour_there(&self, tile: u32, x: i32, y: i32) -> Colour
         requires { 1 ≤ tile }
         ensures { result ≡ colour_there tile self.now (record { x = x; y = y }) }
     {
-        let place = place_of(tile, x, y);
+        let place = place_at(tile, Point { x, y });
         if is_among(self.missing.as_slice(), place) {
             self.colour
         } else {

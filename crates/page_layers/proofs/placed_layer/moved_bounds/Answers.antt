@@ -2,7 +2,7 @@
 use Rattle.std.proofs.Common.{sym, subst, rules}
 use Rattle.geom.specs.Covers.{IsSound}
 use Rattle.page_layers.proofs.Placing.{bounds_sound}
-use Rattle.page_layers.proofs.placed.moved_bounds.Goals as goal
+use Rattle.page_layers.proofs.placed_layer.moved_bounds.Goals as goal
 
 pub returns-clause-value : goal.returns-clause-value
 returns-clause-value c = search rules
