@@ -4,8 +4,10 @@ PLAYER := build/cc_player
 FILM := list
 # How many crates `make audit` and how many programs `make test` take side by side; `make test` sees for itself.
 JOBS :=
-# `make test ONLY=WORD` runs the cases whose titles have the word, `make audit ONLY="CRATE .."` tries these crates.
+# `make test ONLY=WORD` runs the rows whose titles have the word, `make audit ONLY="CRATE .."` tries these crates.
 ONLY :=
+# `make test CRATE=NAME` runs the tests of one crate, and its rows in the tables.
+CRATE :=
 VIEWER := file://$(CURDIR)/tools/viewer.html
 # Where `make install` puts program, manual page and completions; DESTDIR stands before it where a package is made.
 PREFIX := /usr/local
@@ -27,14 +29,14 @@ build: $(PLAYER)
 help:
 	@echo 'make           the program, $(PLAYER): as `make check` built it, or else proved and built (about half an hour)'
 	@echo 'make demo      plays examples/first.json without the proofs, and leaves its picture in build/ (a minute)'
-	@echo 'make test      runs all rows and tests without the proofs (minutes); ONLY=scroll: cases with this word in their titles'
+	@echo 'make test      runs all rows and tests without the proofs (minutes); ONLY=scroll: the rows with this word in their titles; CRATE=tile_queue: the rows of this crate'
 	@echo 'make pictures  plays every script in examples/ and leaves each picture in build/ as .ppm and .png'
 	@echo 'make film      plays an example (FILM=list) into build/ as an animated PNG, and names the viewer'"'"'s address'
 	@echo 'make view      opens the viewer in a browser'
 	@echo 'make lib       the library for C: build/libcc.a, build/libcc.so, build/cc.pc (proved first, minutes)'
 	@echo 'make embed     tries the library: its callers in C, C++, Python and Rust, sanitizers, refused memory, random pages'
 	@echo 'make bench     times step 1 on large pages'
-	@echo 'make check     the gate: all proofs, edits, tests and programs, and our own checks (37 to 58 minutes at first, by the machine, then what changed)'
+	@echo 'make check     the gate: all proofs, edits, tests and programs, and our own checks (37 to 58 minutes at first, by the machine, then what changed): docs/GATE.md'
 	@echo 'make audit     tries all must-fail edits, also those that the gate leaves out (an hour or more); ONLY="geom pixel": of these crates; JOBS=4'
 	@echo 'make install   puts program, manual page and completions below DESTDIR and PREFIX (/usr/local)'
 	@echo 'make install-lib  the library for C, its header and cc.pc, in the same place'
@@ -90,7 +92,7 @@ embed: lib $(PLAYER)
 	@python3 tools/try_embed.py --program $(PLAYER)
 
 test: kit python
-	@python3 tools/test.py $(if $(JOBS),--jobs $(JOBS)) $(if $(ONLY),'$(ONLY)')
+	@python3 tools/test.py $(if $(JOBS),--jobs $(JOBS)) $(if $(CRATE),--crate $(CRATE)) $(if $(ONLY),'$(ONLY)')
 
 audit: kit python
 	@python3 tools/audit.py $(if $(JOBS),--jobs $(JOBS)) $(ONLY)

@@ -1,5 +1,5 @@
 -- Turns of the compositor, one after another.
-use Rattle.std.proofs.Common.{◌≡◌, inl, inr, ℕ, zero, suc, min, ◌≤◌, true, List, [], ◌∷◌, ◌++◌, length, take, drop, Option, Some, None, refl, sym, ◌∙◌, ap, subst, arith, append_assoc, append-nil}
+use Rattle.std.proofs.Common.{◌≡◌, ℕ, zero, suc, min, ◌≤◌, true, List, [], ◌∷◌, ◌++◌, length, take, drop, Option, Some, None, refl, sym, ◌∙◌, ap, subst, arith, append_assoc, append-nil}
 use Rattle.std.specs.Io.KnownBytes.{Appends}
 use Rattle.std.proofs.lemmas.List.{take-append-drop, length-take}
 use Rattle.atomic_table.specs.Seated.{TableId}
@@ -14,7 +14,7 @@ use Rattle.proxy_threads.specs.declared.turned.Turned.TheVariants as turned
 use Rattle.proxy_threads.specs.Seats.{Seat, Of}
 use Rattle.proxy_threads.specs.Causes.{CompCause}
 use Rattle.proxy_threads.specs.Writing.{part, HasWritten, Wrote, CompTurn, CompTurns, MayTurn, IsLast, Driven, Drives}
-use Rattle.proxy_threads.specs.inner.Goings.{Going, Goes, GoesOrEnds}
+use Rattle.proxy_threads.specs.inner.Goings.{Going, Goes}
 use Rattle.proxy_threads.proofs.Holds.{drop_front, some_same}
 use Rattle.proxy_threads.proofs.Parts.{part_more}
 use Rattle.proxy_threads.proofs.Gained.{wrote_behind}
@@ -151,8 +151,3 @@ goes_last id (Some p) (Some q) None w v u old mid new t last going turn = absurd
 goes_last id (Some p) None y w v u old mid new t last going turn = absurd going
 goes_last id None None y w v u old mid new t last going turn = absurd going
 goes_last id None (Some q) y w v u old mid new t last going turn = absurd going
-
--- a turn that is not the last
-pub goes_none : (id : TableId) (o x y : Option Seat) (w v u : ℕ) (old mid new : Option (List ℕ)) → Goes id o x w v old mid → GoesOrEnds x y v u mid new None → Goes id o y w u old new
-goes_none id o x y w v u old mid new going (inl turn) = goes_went id o x y w v u old mid new going turn
-goes_none id o x y w v u old mid new going (inr turn) = goes_blocked id o x y w v u old mid new going turn

@@ -22,7 +22,7 @@ mod wakes;
 mod writing;
 
 pub use compositor::CompActor;
-pub use driving::{drive, drive_compositor, drive_main, drive_worker};
+pub use driving::{drive_compositor, drive_main, drive_worker};
 pub use main_actor::MainActor;
 pub use raster_actor::RasterActor;
 pub use turned::Turned;

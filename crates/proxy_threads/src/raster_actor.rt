@@ -14,6 +14,7 @@ use byte_io::Gate;
 use impl_core::Core;
 use std::alloc::Global;
 use std::sync::{Arc, Wait};
+use thread_bell::{Bell, Post};
 use thread_lock::{Pass, TurnLock};
 use tile_raster::{Job, TileImage};
 
@@ -139,7 +140,13 @@ impl<'g, G: Gate> RasterActor<'g, G> {
     }
 
     // One turn.
-    fn work<R: Wait>(&self, rt: &R, lock: &TurnLock<Core>, pass: Pass<Core>) -> (Pass<Core>, Turned)
+    fn work<R: Wait>(
+        &self,
+        rt: &R,
+        lock: &TurnLock<Core>,
+        bell: &Bell,
+        pass: Pass<Core>,
+    ) -> (Pass<Core>, Turned)
         requires { WorkIsReady lock.now.id self.now.worker pass }
         ensures { WorkTurns self.now.worker pass result.0 result.1 }
     {
@@ -148,6 +155,7 @@ impl<'g, G: Gate> RasterActor<'g, G> {
             Started::Ended => (pass, Turned::Ended),
             Started::Waits => (pass, Turned::Blocked),
             Started::Making(job) => {
+                bell.ring(Post::Compositor);
                 let key = job.key;
                 self.gate.between(self.worker, key.layer, key.x, key.y);
                 make(rt, lock, pass, self.worker, self.alloc, job)
@@ -157,8 +165,9 @@ impl<'g, G: Gate> RasterActor<'g, G> {
     }
 
     /// One turn: starts the next tile, makes it outside of any turn, after the gate, and is done with it. It
-    /// waits while another actor holds the turn.
-    pub fn turn<R: Wait>(&mut self, rt: &R, lock: &TurnLock<Core>) -> Turned
+    /// waits while another actor holds the turn. It rings for the compositor after the start, whose line that writes
+    /// while the tile is made; the caller rings after the turn.
+    pub fn turn<R: Wait>(&mut self, rt: &R, lock: &TurnLock<Core>, bell: &Bell) -> Turned
         requires { Of self.old.pass (WorkIsReady lock.now.id self.old.worker) }
         ensures turn { OfBoth self.old.pass self.new.pass (λ p q. WorkTurn p q result) }
         ensures ready { Of self.new.pass (WorkIsReady lock.now.id self.new.worker) }
@@ -166,7 +175,7 @@ impl<'g, G: Gate> RasterActor<'g, G> {
         let Some(pass) = self.pass.take() else {
             unreachable!()
         };
-        let (pass, answer) = self.work(rt, lock, pass);
+        let (pass, answer) = self.work(rt, lock, bell, pass);
         self.pass = Some(pass);
         answer
     }

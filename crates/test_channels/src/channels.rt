@@ -23,9 +23,9 @@ fn try_locks<R: Threads + Wait + Sync>(
 /// Tries the cases about bells.
 fn try_bells<R: Threads + Wait + Sync>(rt: &R, cases: &mut Cases) {
     bells::ring_before_a_sleep(rt, cases);
-    bells::short_sleep_ends(rt, cases);
     bells::each_post_has_its_count(rt, cases);
     bells::sleeper_hears_the_close(rt, cases);
+    bells::two_threads_ring_in_turn(rt, cases);
 }
 
 /// Tries the cases about rings.

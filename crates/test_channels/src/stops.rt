@@ -17,6 +17,7 @@ use proxy_threads::{CompActor, MainActor, RasterActor, Turned};
 use std::alloc::{AllocError, Global};
 use std::sync::{Arc, Wait};
 use test_table::LineFault;
+use thread_bell::Bell;
 use thread_lock::{HeldTurn, Pass, TurnLock};
 use thread_pieces::SceneSink;
 
@@ -90,7 +91,7 @@ fn work_turn<R: Wait>(
     ensures { IsStill pass result.0 }
 {
     let mut worker = RasterActor::new(alloc, pass, 0, &OpenGate);
-    let answer = worker.turn(rt, lock);
+    let answer = worker.turn(rt, lock, &Bell::new());
     (worker.pass(), answer)
 }
 

@@ -1,47 +1,47 @@
 //! A bell, by which threads that have nothing to do hear that there may be something.
 //!
-//! One who finds nothing to do sleeps at the bell until it is rung; one who has changed something rings. No
-//! wake-up is lost where both keep the order: the sleeper reads [`Bell::rung`] before it looks for work, and
-//! then [`Bell::wait`]s with that number; the other changes, and then [`Bell::ring`]s. A change before the look
-//! was seen by it. A change after the look is rung after the number was read, so the count has moved on, and
-//! the wait returns at once, or the ring finds the sleeper and wakes it.
+//! A bell has four places to sleep, one for each kind of actor ([`Post`]), and is rung at one of them, so that nobody
+//! wakes up who could do nothing. An actor sleeps by three steps: it reads how often its post was rung
+//! ([`Bell::rung`]), looks for work, and if it finds none, waits with what it read ([`Bell::wait`]). An actor that has
+//! changed something rings after it ([`Bell::ring`]). So no ring is lost: a change before the look was seen by it, and a
+//! change after the look is rung after the count was read, so the wait returns.
 //!
-//! A ring calls the system only where somebody sleeps. A sleeper counts itself before the system compares the count of
-//! rings with its number, and a ring is counted before it looks for sleepers: so where the look finds none, whoever
-//! comes later finds the new count, and does not sleep.
+//! An actor that rings can also say whether there is work at all ([`Bell::tell_work`]), for those to whom a look for
+//! work costs more than this question. A bell that is closed stays closed: there will be nothing to do again.
 //!
-//! A bell has three posts at which threads sleep ([`Post`]), and is rung at one of them, so that nobody wakes up who
-//! could do nothing. Where all sleep at the first post, the plain calls are enough.
-//!
-//! Who rings can also say whether there is work at all ([`Bell::tell_work`]). Then whoever comes back from one piece of
-//! work need not look for the next in vain, where a look costs more than this question.
-//!
-//! A bell that is closed stays so: there will be nothing to do again.
-//!
-//! No clause says anything of a bell. What its waits are for holds however they return; that they return is
-//! tested.
+//! docs/BELL.md has the protocol: who rings whom in a run, and why nobody sleeps over a ring.
 #![tactic(auto)]
+
+ghost use Rattle.std.specs.Prelude.{◌≡◌, ◌≢◌};
 
 use std::sync::Wait;
 use std::sync::atomic::{AtomicBool, AtomicU64, Ordering};
-use std::time::Duration;
 
-/// Where threads sleep at a bell. Those at one post wake up together.
+/// Who sleeps at a post. A ring at it wakes all who sleep there.
 #[derive(Clone, Copy, Debug, Drop, PartialEq)]
 pub enum Post {
-    /// That of the plain calls.
-    First,
-    /// Another.
-    Second,
-    /// A third.
-    Third,
+    /// The compositor: while it may enter nothing, and while too much that it has put waits to be written.
+    Compositor,
+    /// The main side: while no main frame is in flight.
+    MainSide,
+    /// All raster workers: while no tile may start.
+    Workers,
+    /// The presenter: while no piece is in its ring.
+    Presenter,
+}
+
+/// How often a bell was rung at a post, modulo 2^32, when this was read.
+#[derive(Clone, Copy, Debug, Drop, PartialEq)]
+pub struct Rung {
+    post: Post,
+    count: u32,
 }
 
 // What is counted at a post.
 #[derive(Drop)]
 struct Counts {
     rings: AtomicU64,
-    // how many threads sleep there, or are about to
+    // How many threads sleep there, or are about to.
     sleepers: AtomicU64,
 }
 
@@ -54,7 +54,7 @@ impl Counts {
         }
     }
 
-    // Counts a ring, and wakes all who sleep there.
+    // Counts a ring, and wakes all who sleep there. The system is called only if somebody does.
     fn ring(&self) {
         self.rings.fetch_add(1, Ordering::SeqCst);
         if self.sleepers.load(Ordering::SeqCst) > 0 {
@@ -62,17 +62,15 @@ impl Counts {
         }
     }
 
-    // Sleeps while the count of rings is this one, modulo 2^32.
-    fn wait<R: Wait>(&self, rt: &R, rung: u32) {
-        self.sleepers.fetch_add(1, Ordering::SeqCst);
-        self.rings.park(rt, rung);
-        self.sleepers.fetch_sub(1, Ordering::SeqCst);
+    // The count of rings, modulo 2^32.
+    fn count(&self) -> u32 {
+        (self.rings.load(Ordering::SeqCst) % (1 << 32)) as u32
     }
 
-    // The same, for this long at most.
-    fn wait_at_most<R: Wait>(&self, rt: &R, rung: u32, longest: Duration) {
+    // Sleeps while the count of rings is this one, or returns for no reason.
+    fn sleep<R: Wait>(&self, rt: &R, count: u32) {
         self.sleepers.fetch_add(1, Ordering::SeqCst);
-        self.rings.park_timeout(rt, rung, longest);
+        self.rings.park(rt, count);
         self.sleepers.fetch_sub(1, Ordering::SeqCst);
     }
 }
@@ -80,9 +78,10 @@ impl Counts {
 /// Counts for each post, at which threads sleep.
 #[derive(Drop)]
 pub struct Bell {
-    first: Counts,
-    second: Counts,
-    third: Counts,
+    compositor: Counts,
+    main_side: Counts,
+    workers: Counts,
+    presenter: Counts,
     work: AtomicBool,
     closed: AtomicBool,
 }
@@ -91,9 +90,10 @@ impl Bell {
     /// A bell that was not rung, and is open. It tells of no work.
     pub fn new() -> Bell {
         Bell {
-            first: Counts::new(),
-            second: Counts::new(),
-            third: Counts::new(),
+            compositor: Counts::new(),
+            main_side: Counts::new(),
+            workers: Counts::new(),
+            presenter: Counts::new(),
             work: AtomicBool::new(false),
             closed: AtomicBool::new(false),
         }
@@ -102,50 +102,45 @@ impl Bell {
     // What is counted at a post.
     fn counts(&self, post: Post) -> &Counts {
         match post {
-            Post::First => &self.first,
-            Post::Second => &self.second,
-            Post::Third => &self.third,
+            Post::Compositor => &self.compositor,
+            Post::MainSide => &self.main_side,
+            Post::Workers => &self.workers,
+            Post::Presenter => &self.presenter,
         }
     }
 
-    /// How often the bell was rung at the first post, modulo 2^32. It is read before one looks for work.
-    pub fn rung(&self) -> u32 {
-        self.rung_at(Post::First)
+    /// How often this post was rung. It is read before the look for work.
+    pub fn rung(&self, post: Post) -> Rung
+        ensures { result.post ≡ post }
+    {
+        Rung {
+            post,
+            count: self.counts(post).count(),
+        }
     }
 
-    /// The same at any post.
-    pub fn rung_at(&self, post: Post) -> u32 {
-        (self.counts(post).rings.load(Ordering::SeqCst) % (1 << 32)) as u32
-    }
-
-    /// Rings at the first post: all who wait there wake up.
-    pub fn ring(&self) {
-        self.ring_at(Post::First);
-    }
-
-    /// The same at any post.
-    pub fn ring_at(&self, post: Post) {
+    /// Rings at this post, after what was changed: all who sleep there wake up.
+    pub fn ring(&self, post: Post) {
         self.counts(post).ring();
     }
 
-    /// Sleeps at the first post while the bell has been rung there so often. It may also return for no reason; it
-    /// does not where just 2^32 rings came since the number was read, which nobody's look for work lasts.
-    pub fn wait<R: Wait>(&self, rt: &R, rung: u32) {
-        self.wait_at(rt, Post::First, rung);
+    /// Sleeps until the post of `rung` was rung since that was read, and answers how often it was rung then. Just 2^32
+    /// rings since then would be slept over, but no look for work takes that long.
+    pub fn wait<R: Wait>(&self, rt: &R, rung: Rung) -> Rung
+        ensures post { result.post ≡ rung.post }
+        ensures moved { result.count ≢ rung.count }
+    {
+        for _ in rt.forever() {
+            let now = self.rung(rung.post);
+            if now.count != rung.count {
+                return now;
+            }
+            self.counts(rung.post).sleep(rt, rung.count);
+        }
+        unreachable!()
     }
 
-    /// The same at any post.
-    pub fn wait_at<R: Wait>(&self, rt: &R, post: Post, rung: u32) {
-        self.counts(post).wait(rt, rung);
-    }
-
-    /// Sleeps at the first post as `wait` does, for as long at most: for one who has to look for what nobody
-    /// rings for.
-    pub fn wait_at_most<R: Wait>(&self, rt: &R, rung: u32, longest: Duration) {
-        self.first.wait_at_most(rt, rung, longest);
-    }
-
-    /// Says whether there is work to look for. Where there is, ring after it.
+    /// Says whether there is work to look for. If there is, ring after it.
     pub fn tell_work(&self, there: bool) {
         self.work.store(there, Ordering::SeqCst);
     }
@@ -157,9 +152,10 @@ impl Bell {
 
     /// Rings at each post.
     pub fn ring_all(&self) {
-        self.ring_at(Post::First);
-        self.ring_at(Post::Second);
-        self.ring_at(Post::Third);
+        self.ring(Post::Compositor);
+        self.ring(Post::MainSide);
+        self.ring(Post::Workers);
+        self.ring(Post::Presenter);
     }
 
     /// Closes the bell, and rings at each post.
@@ -168,7 +164,7 @@ impl Bell {
         self.ring_all();
     }
 
-    /// Whether the bell was closed. What was done before it was closed is seen by whoever has found it so.
+    /// Whether the bell was closed. An actor that has found it closed sees what was done before.
     pub fn is_closed(&self) -> bool {
         self.closed.load(Ordering::SeqCst)
     }

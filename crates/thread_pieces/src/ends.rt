@@ -9,6 +9,7 @@ use rtrb::{Consumer, Producer, RingBuffer};
 use std::alloc::{AllocError, Global};
 use std::collections::VecDeque;
 use std::sync::Arc;
+use thread_bell::Bell;
 
 /// How many pieces the ring has place for.
 const PLACES: usize = 64;
@@ -41,6 +42,14 @@ pub struct RingSink {
     pub(crate) most_waiting: u64,
     /// How many puts were refused for lack of memory.
     pub(crate) refused: u64,
+}
+
+impl RingSink {
+    /// The bell at which the one who puts sleeps at [`Post::Compositor`](thread_bell::Post), while too much waits, and at
+    /// which it may wait for others too: the presenter rings there after it has written.
+    pub fn bell(&self) -> Result<Arc<Bell, Global>, AllocError> {
+        self.shared.bell()
+    }
 }
 
 /// The end of a ring that hands the pieces on.
@@ -78,7 +87,8 @@ pub fn ring_within(alloc: Global, most_waiting: u64) -> Result<(RingSink, Presen
     ensures places { IfOk result (λ r. (producer_capacity r.0.producer ≡ 64) × (r.0.refused ≡ 0)) }
 {
     let (producer, consumer) = RingBuffer::new(alloc, PLACES)?;
-    let shared = Arc::new(alloc, Shared::new())?;
+    let bell = Arc::new(alloc, Bell::new())?;
+    let shared = Arc::new(alloc, Shared::new(bell))?;
     let sink = RingSink {
         producer,
         kept: VecDeque::new(alloc),

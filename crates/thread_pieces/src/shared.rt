@@ -1,18 +1,17 @@
 //! What the two ends of a ring share.
 
 use crate::Shot;
-use std::sync::Wait;
+use std::alloc::{AllocError, Global};
 use std::sync::atomic::{AtomicBool, AtomicU64, Ordering};
-use thread_bell::{Bell, Post};
-
-// Where the sink's end sleeps at the bell; the presenter sleeps at the first post.
-const SPACE: Post = Post::Second;
+use std::sync::{Arc, Wait};
+use thread_bell::{Bell, Post, Rung};
 
 /// The bell of a ring, and what its ends tell each other of the pieces that wait. No clause says anything of it.
 #[derive(Drop)]
 pub(crate) struct Shared {
-    /// rung where there is a piece to take, and where pieces were written; closed as the end mark
-    bell: Bell,
+    /// Rung for the presenter after a piece was pushed, and for the compositor, which puts, after pieces were written.
+    /// It is closed as the end mark.
+    bell: Arc<Bell, Global>,
     /// how many bytes the pieces are that were put and not written yet, with an image for each scene
     waiting: AtomicU64,
     /// whether the presenter is taking pieces
@@ -30,12 +29,17 @@ pub(crate) fn byte_count(shot: &Shot) -> u64 {
 
 impl Shared {
     /// Nothing waits, nobody serves, and the end mark is not raised.
-    pub(crate) fn new() -> Shared {
+    pub(crate) fn new(bell: Arc<Bell, Global>) -> Shared {
         Shared {
-            bell: Bell::new(),
+            bell,
             waiting: AtomicU64::new(0),
             serving: AtomicBool::new(false),
         }
+    }
+
+    /// The bell, for those that ring it or sleep at it too.
+    pub(crate) fn bell(&self) -> Result<Arc<Bell, Global>, AllocError> {
+        Arc::try_clone(&self.bell)
     }
 
     /// This many bytes of pieces wait more.
@@ -45,13 +49,14 @@ impl Shared {
 
     /// A piece was pushed: the presenter wakes up.
     pub(crate) fn ring(&self) {
-        self.bell.ring();
+        self.bell.ring(Post::Presenter);
     }
 
-    /// This many bytes of pieces were written, or are not going to be: whoever waits for space wakes up.
+    /// This many bytes of pieces were written, or are not going to be. The one who puts wakes up: there is space, and the
+    /// ring has places for what is kept.
     pub(crate) fn remove(&self, bytes: u64) {
         self.waiting.fetch_sub(bytes, Ordering::SeqCst);
-        self.bell.ring_at(SPACE);
+        self.bell.ring(Post::Compositor);
     }
 
     /// How many bytes of pieces wait.
@@ -62,7 +67,7 @@ impl Shared {
     /// The presenter begins to take pieces, or has ended.
     pub(crate) fn serve(&self, serving: bool) {
         self.serving.store(serving, Ordering::SeqCst);
-        self.bell.ring_at(SPACE);
+        self.bell.ring(Post::Compositor);
     }
 
     /// Whether the presenter is taking pieces. Where it is not, nobody would make space.
@@ -80,23 +85,24 @@ impl Shared {
         self.bell.is_closed()
     }
 
-    /// The count that the presenter reads before it looks for pieces.
-    pub(crate) fn pushed(&self) -> u32 {
-        self.bell.rung()
+    /// What the presenter reads before it looks for pieces.
+    pub(crate) fn pushed(&self) -> Rung {
+        self.bell.rung(Post::Presenter)
     }
 
-    /// Sleeps until a piece is pushed, unless one was since the count was read.
-    pub(crate) fn wait_for_pieces<R: Wait>(&self, rt: &R, pushed: u32) {
+    /// Sleeps until a piece is pushed, unless one was since `pushed` was read.
+    pub(crate) fn wait_for_pieces<R: Wait>(&self, rt: &R, pushed: Rung) {
         self.bell.wait(rt, pushed);
     }
 
-    /// The count that the sink's end reads before it looks for space.
-    pub(crate) fn written(&self) -> u32 {
-        self.bell.rung_at(SPACE)
+    /// What the sink's end reads before it looks for space.
+    pub(crate) fn written(&self) -> Rung {
+        self.bell.rung(Post::Compositor)
     }
 
-    /// Sleeps until pieces are written, unless some were since the count was read.
-    pub(crate) fn wait_for_space<R: Wait>(&self, rt: &R, written: u32) {
-        self.bell.wait_at(rt, SPACE, written);
+    /// Sleeps until pieces are written, or another rings for the one who puts, unless somebody did since `written` was
+    /// read.
+    pub(crate) fn wait_for_space<R: Wait>(&self, rt: &R, written: Rung) {
+        self.bell.wait(rt, written);
     }
 }

@@ -1,14 +1,12 @@
 -- Turns of the compositor that went on so far.
-use Rattle.std.specs.Prelude.{◌≡◌, ◌⊎◌, ◌≤◌, ℕ, List, ◌++◌, length, take, Option, Some, None, ⊤}
+use Rattle.std.specs.Prelude.{◌≡◌, ◌≤◌, ℕ, List, ◌++◌, length, take, Option, Some}
 use Rattle.std.specs.Io.KnownBytes.{Appends}
 use mathlib.Core.List.{IsPrefix}
 use Rattle.atomic_table.specs.Seated.{TableId}
 use Rattle.model_history.specs.declared.event.Event.{Event}
 use Rattle.impl_core.specs.Origins.{Origin}
 use Rattle.proxy_threads.specs.Seats.{Seat}
-use Rattle.proxy_threads.specs.declared.turned.Turned.{Turned}
-use Rattle.proxy_threads.specs.declared.turned.Turned.TheVariants as turned
-use Rattle.proxy_threads.specs.Writing.{MayTurn, CompTurns, FaultCause, IsLast, part}
+use Rattle.proxy_threads.specs.Writing.{MayTurn, part}
 
 -- it is the same pass, which has seen no less, and the sink gained the part for what was written since
 pub record Going (id : TableId) (p q : Seat) (written after : ℕ) (old new : Option (List ℕ)) : Type 0 where
@@ -24,16 +22,7 @@ pub record Going (id : TableId) (p q : Seat) (written after : ℕ) (old new : Op
   pub split : take written p.seen ++ gained ≡ take after q.seen
   pub wrote : (o : Origin) → q.stem ≡ Some o → Appends old new (part o.script (take written p.seen) gained)
 
--- the same where the pass is there before and after
+-- the same if the pass is there before and after
 abbrev pub Goes : TableId → Option Seat → Option Seat → ℕ → ℕ → Option (List ℕ) → Option (List ℕ) → Type 0
 Goes id (Some p) (Some q) written after old new = Going id p q written after old new
 Goes id _ _ written after old new = ⊥
-
--- a turn of the compositor went on or was blocked, or answered this and is the last
-abbrev pub GoesOrEnds : Option Seat → Option Seat → ℕ → ℕ → Option (List ℕ) → Option (List ℕ) → Option Turned → Type 0
-GoesOrEnds x y written after old new None = CompTurns x y written after old new turned.Went ⊎ CompTurns x y written after old new turned.Blocked
-GoesOrEnds x y written after old new (Some t) = IsLast t × CompTurns x y written after old new t
-
-abbrev pub FaultCauseIf : ℕ → ℕ → Option Turned → Type 0
-FaultCauseIf old new None = ⊤
-FaultCauseIf old new (Some t) = FaultCause old new t
