@@ -1,221 +1,39 @@
 #!/usr/bin/env python3
-"""Lists the definitions that the contract of `run` rests on: what a reader has to believe.
+"""Lists the definitions that the contract of `run` rests on, what a reader has to believe, and makes the page of them.
 
-usage: tools/believed.py [--words] [--of CRATE/FILE:FUNCTION] [--word WORD | --table]
+usage: tools/believed.py [--words] [--of CRATE/FILE:FUNCTION] [--word WORD | --table | --write]
 
 It begins with the names in the `ensures` clauses of the function (player_run/program.rt:run if none is named) and
 follows each to its definition, by the `ghost use` lines of the source and the `use` lines of the specs, and so on
 through the names in those definitions. It prints each file of specs/ with the lines of it that count, and the whole
 in lines and in pages of 50 lines; with --words each word too. With --word step (play, gen, demo, film, shot, serve,
-frames, check) it leaves out the cases of the program's other words; --table writes a row for each of them. It fails
-where a word that the clauses themselves name does not stand in docs/DEFINITIONS.md, where the files that `step` rests
-on are not those of its table, where README.md tells another number of lines for a word, or where a name leads nowhere.
+frames, check) it leaves out the cases of the program's other words; --table writes a row for each of them.
+
+With --write the parts of docs/DEFINITIONS.md between the marker comments are made anew from the comments of the
+definitions: those that the theorem rests on, and those that the public contracts of crates name beside them; and so
+are the numbers of lines in README.md. Without a flag nothing is written, and it fails if one of these is stale, if the
+hand-written part of the page has more than 300 lines, if a definition that the theorem rests on has no comment, nor any
+above it in its file, or if a name leads nowhere.
 """
 import argparse
-import collections
-import pathlib
 import re
 import sys
 
-ROOT = pathlib.Path(__file__).resolve().parent.parent
-CRATES, DEFINITIONS, README = ROOT / "crates", ROOT / "docs" / "DEFINITIONS.md", ROOT / "README.md"
-PAGE = 50
+sys.dont_write_bytecode = True
+import definitions_page
+from crate_list import CRATES, ROOT
+from spec_words import WORDS, World, clauses_of, public_words, told_words
+
+DEFINITIONS, README = ROOT / "docs" / "DEFINITIONS.md", ROOT / "README.md"
+PAGE, MOST_BY_HAND = 50, 300
 # The call whose contract is the theorem.
 RUN = "player_run/program.rt:run"
-# The words of the program, as cases of the type `Use` name them.
-WORDS = ("Step", "Play", "Gen", "Demo", "Film", "Shot", "Serve", "Frames", "Check")
 
 # What a clause says `OnServe`: of the words `serve N` alone.
 OF_SESSIONS = re.compile(r"(\{ OnServe \(.*?\)) \(λ.*\}")
 
 # README's table of lines: its words and their numbers.
 TOLD_LINES = re.compile(r"^(\| `step` \|.*)\n\|[-|]+\n(\|.*)$", re.M)
-
-USE = re.compile(r"^(?:ghost )?(?:pub )?use Rattle\.(\w+)\.(\w+)\.([\w.]+?)(?:\.\{([^}]*)\}| as (\w+))?;?$")
-HEAD = re.compile(r"^(?:(?:abbrev|unfoldable|unfolding|irreducible|strict|pub|priv)\s+)*(?:(record|data)\s+)?(?:pub\s+)?([^\s:(){}]+)\s*(?=[:(\s{])")
-TOKEN = re.compile(r"[^\s(),{};\[\]λ]+")
-
-Item = collections.namedtuple("Item", "crate module name first last text")
-
-
-class Module:
-    """A file of specs/: its definitions by name, what it brings in, and the short names of whole modules."""
-
-    def __init__(self, crate, path):
-        self.crate, self.path, self.items, self.names, self.short, self.cases = crate, path, {}, {}, {}, {}
-        self.name = ".".join(path.relative_to(CRATES / crate / "specs").with_suffix("").parts)
-        lines = path.read_text().split("\n")
-        self.read_uses(lines)
-        self.read_items(list(outdented(lines)))
-
-    def holds(self, name):
-        """The definition of this name, or of the data type that has this case."""
-        return self.items.get(self.cases.get(name, name))
-
-    def read_uses(self, lines):
-        """The names that the file's `use` lines bring in."""
-        for found in uses_in(lines):
-            note_use(found, self.names, self.short)
-
-    def read_items(self, lines):
-        """The definitions: each runs from its head to the next one's comment."""
-        heads = [(at, name_of(line)) for at, line in enumerate(lines) if name_of(line)]
-        starts = [at for at, (_, name) in enumerate(heads) if at == 0 or heads[at - 1][1] != name]
-        for k, at in enumerate(starts):
-            first, name = heads[at]
-            last = heads[starts[k + 1]][0] if k + 1 < len(starts) else len(lines)
-            while last > first + 1 and (not lines[last - 1].strip() or lines[last - 1].startswith(("--", "infix", "use ", "module "))):
-                last -= 1
-            own = first
-            while own > 0 and lines[own - 1].startswith("--"):
-                own -= 1
-            self.items[name] = Item(self.crate, self.name, name, own, last, "\n".join(lines[first:last]))
-            if lines[first].startswith("pub data "):
-                self.cases.update({line.split(":")[0].strip(): name for line in lines[first + 1:last] if ":" in line})
-
-
-def joined(lines):
-    """Lines, where a `use` that goes on over several is one."""
-    whole = ""
-    for line in lines:
-        whole = f"{whole} {line.strip()}" if whole else line
-        if whole.startswith(("use ", "ghost use ", "pub use ")) and whole.count("{") > whole.count("}"):
-            continue
-        yield re.sub(r"\s+", " ", whole).strip()
-        whole = ""
-
-
-def uses_in(lines):
-    """The `use` lines of a file that name something of a crate's specs."""
-    return filter(None, map(USE.match, joined(lines)))
-
-
-def outdented(lines):
-    """The lines, where those of a module inside a file, or of definitions that need each other, stand as far left as the others."""
-    is_inside = False
-    for line in lines:
-        if line.startswith("module ") or line == "abbrev mutual":
-            is_inside = True
-        elif line and line[0] not in " -":
-            is_inside = False
-        yield line[2:] if is_inside and line.startswith("  ") else line
-
-
-def note_use(found, names, short):
-    """Notes one `use` line: where each name of it stands."""
-    crate, part, path, listed, alias = found.groups()
-    place = (crate, part, path)
-    if alias:
-        short[alias] = place
-    elif listed is not None:
-        for name in filter(None, (it.strip() for it in listed.split(","))):
-            names[name.split(" as ")[-1]] = (place, name.split(" as ")[0])
-
-
-def name_of(line):
-    """The name that a line begins to define or goes on to define, if it does: a definition's lines begin with it."""
-    if not line or line[0] in " -})" or line.startswith(("use ", "mod ", "pub mod ", "module ", "where", "infix", "syntax", "ruleset", "abbrev mutual")):
-        return None
-    found = HEAD.match(line)
-    return found.group(2) if found else None
-
-
-def variants_of(name):
-    """How a name may stand in a text: an infix one by its middle."""
-    middle = name.strip("◌")
-    return {name, *(middle.split("◌") if "◌" in name else ())} - {""}
-
-
-class World:
-    """All definitions of the repository."""
-
-    def __init__(self, word=None):
-        self.word, self.modules = word, {}
-        for path in sorted(CRATES.glob("*/specs/**/*.antt")):
-            if path.name != "Lib.antt":
-                crate = path.relative_to(CRATES).parts[0]
-                module = Module(crate, path)
-                self.modules[crate, module.name] = module
-        self.found, self.lost, self.kit, self.types = {}, set(), set(), set()
-
-    def lead(self, place, name):
-        """Goes to the definition of a name that was brought in from a place."""
-        crate, part, path = place
-        if not (CRATES / crate).is_dir():
-            self.kit.add((crate, name))
-        elif part != "specs" or path.startswith("declared"):
-            self.types.add((crate, path.removeprefix("declared.").split(".TheVariants")[0]))
-        elif (crate, path) in self.modules and self.modules[crate, path].holds(name):
-            self.follow(self.modules[crate, path].holds(name))
-        else:
-            self.lost.add((crate, path, name))
-
-    def names_in(self, text, names, short, own):
-        """Follows each name in a text."""
-        tokens = set(TOKEN.findall(text))
-        parts = {part for token in tokens for part in token.split(".")} | tokens
-        for name, (place, real) in names.items():
-            if variants_of(name) & parts:
-                self.lead(place, real)
-        for alias, place in short.items():
-            for token in tokens:
-                if token.startswith(alias + "."):
-                    self.lead(place, token.split(".")[1])
-        for name, item in own.items():
-            if variants_of(name) & parts:
-                self.follow(item)
-
-    def cases_of(self, item, module):
-        """The text of a definition, without the cases of the program's other words. What a session answers is told by those of `step`."""
-        kept = (self.word, "Step") if self.word == "Serve" else (self.word,)
-        others = [it for it in WORDS if it not in kept and module.names.get(it, ((0, 0, ""), 0))[0][2].endswith("words.Use.TheVariants")]
-        if not self.word or not others:
-            return item.text
-        head = re.compile(rf"{re.escape(item.name)} (\S+ )*?\(?({'|'.join(others)})\b")
-        lines, is_other = [], False
-        for line in item.text.split("\n"):
-            is_other = bool(head.match(line.partition(" = ")[0] + " ")) or (is_other and line.startswith(" "))
-            lines += [line] * (not is_other)
-        return "\n".join(lines)
-
-    def by_file(self):
-        """The definitions that were found, by the file of specs/ that they stand in."""
-        found = collections.defaultdict(list)
-        for item in self.found.values():
-            found[f"crates/{item.crate}/specs/{item.module.replace('.', '/')}.antt"].append(item)
-        return found
-
-    def follow(self, item):
-        """Takes in a definition and those that it names."""
-        if (item.crate, item.module, item.name) in self.found:
-            return
-        self.found[item.crate, item.module, item.name] = item
-        module = self.modules[item.crate, item.module]
-        text = self.cases_of(item, module)
-        left_out = item.text.count("\n") - text.count("\n")
-        self.found[item.crate, item.module, item.name] = item._replace(last=item.last - left_out)
-        text = re.sub(r"--.*", "", text)
-        self.names_in(text, module.names, module.short, module.items)
-
-
-def clauses_of(path, function):
-    """The `ensures` and `requires` clauses of a function, and the names that its file's `ghost use` lines bring in."""
-    lines = path.read_text().split("\n")
-    names, short = {}, {}
-    for found in uses_in(lines):
-        note_use(found, names, short)
-    first = next((at for at, line in enumerate(lines) if re.match(rf"\s*pub fn {function}\b", line)), None)
-    if first is None:
-        sys.exit(f"believed: {path} has no public function {function}")
-    last = next((at for at in range(first, len(lines)) if lines[at].strip() == "{" or lines[at].rstrip().endswith(("{}", ") {"))), first)
-    text = "\n".join(line for line in lines[first:last + 1] if re.match(r"\s*(ensures|requires)", line))
-    return text, names, short
-
-
-def told_words(text, names):
-    """The names of this repository that the clauses themselves have."""
-    parts = {part for token in TOKEN.findall(text) for part in token.split(".")}
-    return sorted(name for name, (place, _) in names.items() if variants_of(name) & parts and (CRATES / place[0]).is_dir())
 
 
 def lines_of(items):
@@ -231,22 +49,43 @@ def world_of(word, text, names, short):
     return world
 
 
-def files_told(page):
-    """The files of the table of DEFINITIONS, as (crate, name)."""
-    table = page.partition("| Crate | Files that `step` rests on |")[2].partition("\n\n")[0]
-    rows = (re.findall(r"`(\w+)`", line) for line in table.splitlines())
-    return {(row[0], name) for row in rows if row for name in row[1:]}
-
-
 def worlds(text, names, short):
     """The definitions that each word of the program rests on, and those of all."""
     return {word.lower() if word else "all": world_of(word, text, names, short) for word in (*WORDS, None)}
 
 
-def lines_told():
-    """How many lines README says that each word rests on."""
-    words, numbers = (re.findall(r"[\w,]+", it) for it in TOLD_LINES.search(README.read_text()).groups())
-    return {word: int(number.replace(",", "")) for word, number in zip(words, numbers)}
+def readme_made(text, of_words):
+    """The text of README with the numbers of lines that its words rest on."""
+    def row(found):
+        numbers = (f"{lines_of(of_words[it].found.values()):,}" for it in re.findall(r"\w+", found[1]))
+        return found[0].removesuffix(found[2]) + "| " + " | ".join(numbers) + " |"
+    return TOLD_LINES.sub(row, text)
+
+
+def untold(world):
+    """Definitions without a comment, nor any above it in their file."""
+    for module in world.modules.values():
+        wanted = {name for crate, file, name in world.found if (crate, file) == (module.crate, module.name)}
+        for words, items in definitions_page.groups_of(module, wanted):
+            if not words:
+                yield from (f"{module.crate}/{module.name}: `{it.name}` has no comment" for it in items)
+
+
+def stale_pages(of_words, write):
+    """What is wrong with the pages that tell of these definitions; with `write` they are made anew first."""
+    text, readme = DEFINITIONS.read_text(), README.read_text()
+    page, lacking = definitions_page.made(text, of_words, public_words(of_words["all"]))
+    numbers = readme_made(readme, of_words)
+    if write:
+        DEFINITIONS.write_text(page)
+        README.write_text(numbers)
+    yield from (f"docs/DEFINITIONS.md: no part '<!-- believed: {it} -->'" for it in lacking)
+    if not write:
+        yield from ("docs/DEFINITIONS.md is stale; run tools/believed.py --write" for _ in range(page != text))
+        yield from ("README.md tells other numbers of lines; run tools/believed.py --write" for _ in range(numbers != readme))
+    hand = definitions_page.by_hand(page)
+    if hand > MOST_BY_HAND:
+        yield f"docs/DEFINITIONS.md has {hand} lines by hand, more than {MOST_BY_HAND}"
 
 
 def print_table(text, names, short):
@@ -264,6 +103,7 @@ def main():
     words.add_argument("--words", action="store_true", help="each word too")
     words.add_argument("--word", choices=[it.lower() for it in WORDS], help="what the answers of one word rest on")
     words.add_argument("--table", action="store_true", help="a row for each word of the program")
+    words.add_argument("--write", action="store_true", help="make docs/DEFINITIONS.md and the numbers of README.md anew")
     words.add_argument("--of", default=RUN, help="CRATE/FILE:FUNCTION, the file below src/")
     words = words.parse_args()
     file, function = words.of.rsplit(":", 1)
@@ -282,14 +122,9 @@ def main():
     print(f"believed: {len(told)} words in the clauses of `{function}`, {len(world.found)} definitions in {len(by_file)} files, "
           f"{whole} lines, {-(-whole // PAGE)} pages; beside them {len(world.types)} types of the sources")
     wrong = [f"a name that leads nowhere: {'.'.join(it)}" for it in sorted(world.lost)]
-    page = DEFINITIONS.read_text()
-    wrong += [f"docs/DEFINITIONS.md lacks `{name}`" for name in told if not re.search(rf"`(?:\w+\.)*{re.escape(name)}[`( ]", page)]
     if words.of == RUN:
         of_words = worlds(text, names, short)
-        of_step = {(pathlib.Path(it).parts[1], pathlib.Path(it).stem) for it in of_words["step"].by_file()}
-        wrong += [f"docs/DEFINITIONS.md: the files of `step` differ at {'/'.join(it)}" for it in sorted(of_step ^ files_told(page))]
-        found = {word: lines_of(it.found.values()) for word, it in of_words.items()}
-        wrong += [f"README.md tells {lines} lines for {word}, which rests on {found[word]}" for word, lines in lines_told().items() if lines != found[word]]
+        wrong += [*untold(of_words["all"]), *stale_pages(of_words, words.write)]
     for line in wrong:
         print(f"believed: {line}", file=sys.stderr)
     return 1 if wrong else 0

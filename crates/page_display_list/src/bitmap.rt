@@ -6,7 +6,7 @@ ghost use Rattle.page_display_list.specs.Bitmaps.{BitmapModel, IsBitmap, bitmap_
 ghost use Rattle.page_display_list.specs.Causes.{IsBitmapCause};
 
 use geom::Rect;
-use pixel::{Colour, colour_at, first_wrong};
+use pixel::{Colour, Pixels, Size, colour_at, first_wrong};
 use std::alloc::AllocError;
 use std::marker::Model;
 use std::sync::Arc;
@@ -144,18 +144,29 @@ impl Bitmap {
         self.pixels.as_slice()
     }
 
-    /// How many pixels a row of the bitmap has.
+    /// The pixels, with their size.
+    pub fn as_pixels(&self) -> Pixels<'_>
+        ensures { result ≡ record { bytes = self.now.pixels; size = record { width = near self.now.rect.w; height = near self.now.rect.h } } }
+    {
+        let size = Size {
+            width: self.width(),
+            height: self.height(),
+        };
+        Pixels::new(self.pixels(), size)
+    }
+
+    // How many pixels a row of the bitmap has.
     #[tactic(auto, unfolding(crate::specs::Bitmaps::has_sides))]
-    pub(crate) fn width(&self) -> usize
+    fn width(&self) -> usize
         ensures { result ≡ near self.now.rect.w }
     {
         let side = self.rect.w;
         side as usize
     }
 
-    /// How many rows the bitmap has.
+    // How many rows the bitmap has.
     #[tactic(auto, unfolding(crate::specs::Bitmaps::has_sides))]
-    pub(crate) fn height(&self) -> usize
+    fn height(&self) -> usize
         ensures { result ≡ near self.now.rect.h }
     {
         let side = self.rect.h;

@@ -12,10 +12,10 @@ use crate::bitmap::Bitmap;
 use crate::covered_area::{CoveredArea, shared_part};
 use crate::item::Item;
 use geom::Rect;
-use pixel::{Colour, colour_over_area, fill_area, image_over_area};
+use pixel::{Colour, Size, colour_over_area, fill_area, image_over_area};
 use std::alloc::{AllocError, Global};
 
-/// How many pixels the side of a sound rect is long.
+// How many pixels the side of a sound rect is long.
 fn side(n: i32) -> usize
     requires { pos 0 ≤ℤ n }
     ensures { result ≡ near n }
@@ -49,46 +49,37 @@ pub(crate) fn clear_pixels(alloc: Global, count: usize) -> Result<Vec<u8>, Alloc
     vec![in alloc; 0u8; 4 * count]
 }
 
-/// Draws one colour into a part of an area's pixels.
-fn draw_colour(surface: &mut [u8], width: usize, height: usize, part: CoveredArea, colour: Colour)
-    requires size { length surface.old ≡ 4 * (width * height) }
-    requires inside { IsInside part.at width height }
-    ensures pixels { EachPixel width height (within_rows part.at part.at.h (λ x y below. blend below colour)) surface.old surface.new }
+// Draws one colour into a part of an area's pixels.
+fn draw_colour(surface: &mut [u8], size: Size, part: CoveredArea, colour: Colour)
+    requires size { length surface.old ≡ 4 * (size.width * size.height) }
+    requires inside { IsInside part.at size.width size.height }
+    ensures pixels { EachPixel size.width size.height (within_rows part.at part.at.h (λ x y below. blend below colour)) surface.old surface.new }
     ensures premultiplied { ArePremultiplied surface.old → ArePremultiplied surface.new }
 {
     if colour.a() == 255 {
-        fill_area(surface, width, height, part.at, colour);
+        fill_area(surface, size, part.at, colour);
     } else {
-        colour_over_area(surface, width, height, part.at, colour);
+        colour_over_area(surface, size, part.at, colour);
     }
 }
 
-/// Draws a bitmap into the part of an area's pixels that it covers.
-fn draw_bitmap(surface: &mut [u8], width: usize, height: usize, part: CoveredArea, bitmap: &Bitmap)
-    requires size { length surface.old ≡ 4 * (width * height) }
-    requires inside { IsInside part.at width height }
+// Draws a bitmap into the part of an area's pixels that it covers.
+fn draw_bitmap(surface: &mut [u8], size: Size, part: CoveredArea, bitmap: &Bitmap)
+    requires size { length surface.old ≡ 4 * (size.width * size.height) }
+    requires inside { IsInside part.at size.width size.height }
     requires columns { part.left + part.at.w ≤ near bitmap.now.rect.w }
     requires rows { part.above + part.at.h ≤ near bitmap.now.rect.h }
-    ensures pixels { EachPixel width height
+    ensures pixels { EachPixel size.width size.height
         (within_rows part.at part.at.h (λ x y below. blend below
         (pixel bitmap.now.pixels ((y - part.at.y + part.above) * near bitmap.now.rect.w + (x - part.at.x + part.left)))))
         surface.old surface.new }
     ensures premultiplied { ArePremultiplied surface.old → ArePremultiplied surface.new }
 {
-    image_over_area(
-        surface,
-        width,
-        height,
-        part.at,
-        bitmap.pixels(),
-        bitmap.width(),
-        bitmap.height(),
-        part.left,
-        part.above,
-    );
+    let pixels = bitmap.as_pixels();
+    image_over_area(surface, size, part.at, &pixels, part.left, part.above);
 }
 
-/// Draws an item into the pixels of an area.
+// Draws an item into the pixels of an area.
 fn draw(item: &Item, surface: &mut [u8], area: Rect)
     requires item { IsSoundItem item.now }
     requires area { IsSound area }
@@ -101,9 +92,10 @@ fn draw(item: &Item, surface: &mut [u8], area: Rect)
     };
     let width = width_of(area);
     let height = height_of(area);
+    let size = Size { width, height };
     match item {
-        Item::Rect { colour, .. } => draw_colour(surface, width, height, part, *colour),
-        Item::Bitmap(bitmap) => draw_bitmap(surface, width, height, part, bitmap),
+        Item::Rect { colour, .. } => draw_colour(surface, size, part, *colour),
+        Item::Bitmap(bitmap) => draw_bitmap(surface, size, part, bitmap),
     }
 }
 

@@ -10,7 +10,7 @@ use std::simd::prelude::*;
 /// How many bytes are taken at a time.
 pub(crate) const BLOCK: usize = 64;
 
-/// The lesser of the two bytes in each lane.
+// The lesser of the two bytes in each lane.
 #[inline(always)]
 fn lesser(a: u8x16, b: u8x16) -> u8x16
     requires a { length a ≡ 16 }
@@ -21,7 +21,7 @@ fn lesser(a: u8x16, b: u8x16) -> u8x16
     a.simd_min(b)
 }
 
-/// The greater of the two bytes in each lane.
+// The greater of the two bytes in each lane.
 #[inline(always)]
 fn greater(a: u8x16, b: u8x16) -> u8x16
     requires a { length a ≡ 16 }
@@ -32,7 +32,7 @@ fn greater(a: u8x16, b: u8x16) -> u8x16
     a.simd_max(b)
 }
 
-/// Of the four bytes in each lane's column of sixty-four bytes of a row, the least.
+// Of the four bytes in each lane's column of sixty-four bytes of a row, the least.
 #[inline(always)]
 fn least(row: &[u8], at: usize) -> u8x16
     requires { at + 64 ≤ length row.now }
@@ -46,7 +46,7 @@ fn least(row: &[u8], at: usize) -> u8x16
     lesser(lesser(first, second), lesser(third, fourth))
 }
 
-/// Of the four bytes in each lane's column of sixty-four bytes of a row, the greatest.
+// Of the four bytes in each lane's column of sixty-four bytes of a row, the greatest.
 #[inline(always)]
 fn greatest(row: &[u8], at: usize) -> u8x16
     requires { at + 64 ≤ length row.now }
@@ -79,7 +79,7 @@ pub fn is_clear(row: &[u8], at: usize) -> bool
     are_clear(greatest(row, at))
 }
 
-/// Copies the sixty-four bytes of `src`, whose pixels are opaque.
+// Copies the sixty-four bytes of `src`, whose pixels are opaque.
 #[inline(always)]
 fn copy_block(dst: &mut [u8], src: &[u8], at: usize)
     requires same { length dst.old ≡ length src.now }
@@ -94,7 +94,7 @@ fn copy_block(dst: &mut [u8], src: &[u8], at: usize)
     copy_lanes(dst, src, at + 48);
 }
 
-/// Lays the sixty-four bytes of `src` over those of `dst`.
+// Lays the sixty-four bytes of `src` over those of `dst`.
 #[inline(always)]
 fn blend_block(dst: &mut [u8], src: &[u8], at: usize)
     requires same { length dst.old ≡ length src.now }

@@ -35,7 +35,7 @@ pub fn faded_over(surface: &mut [u8], pass: &[u8], opacity: u8)
     }
 }
 
-// lays sixteen pixels of a pass, from pixel `k` on, faded over those of a surface; clear ones are left out
+// Lays sixteen pixels of a pass, from pixel `k` on, faded over those of a surface; clear ones are left out.
 #[inline(always)]
 fn faded_over_sixteen(surface: &mut [u8], k: usize, pass: &[u8], opacity: u8)
     requires inside { 4 * (k + 16) ≤ length surface.old }
@@ -52,7 +52,7 @@ fn faded_over_sixteen(surface: &mut [u8], k: usize, pass: &[u8], opacity: u8)
     }
 }
 
-// lays sixteen pixels of a pass faded over sixteen others
+// Lays sixteen pixels of a pass faded over sixteen others.
 #[inline(always)]
 fn faded_over_block(surface: &mut [u8], pass: &[u8], opacity: u8)
     requires there { length surface.old ≡ 64 }
@@ -67,7 +67,7 @@ fn faded_over_block(surface: &mut [u8], pass: &[u8], opacity: u8)
     faded_over_four(surface, 12, pass, opacity);
 }
 
-// lays four pixels of a pass, from pixel `k` on, faded over those of a surface
+// Lays four pixels of a pass, from pixel `k` on, faded over those of a surface.
 #[inline(always)]
 fn faded_over_four(surface: &mut [u8], k: usize, pass: &[u8], opacity: u8)
     requires inside { 4 * (k + 4) ≤ length surface.old }

@@ -11,7 +11,7 @@ use std::simd::prelude::*;
 /// How many bytes are taken at a time.
 pub(crate) const LANES: usize = 16;
 
-/// The bytes at even places.
+// The bytes at even places.
 #[inline(always)]
 fn low_bytes(v: u8x16) -> u16x8
     requires { IsBytes v }
@@ -21,7 +21,7 @@ fn low_bytes(v: u8x16) -> u16x8
     u16x8::from_le_bytes(v) & u16x8::splat(255)
 }
 
-/// The bytes at odd places.
+// The bytes at odd places.
 #[inline(always)]
 fn high_bytes(v: u8x16) -> u16x8
     requires { IsBytes v }
@@ -31,7 +31,7 @@ fn high_bytes(v: u8x16) -> u16x8
     u16x8::from_le_bytes(v) >> u16x8::splat(8)
 }
 
-/// How much of what stands below each lane's pixel shows through: 255 minus its alpha.
+// How much of what stands below each lane's pixel shows through: 255 minus its alpha.
 #[inline(always)]
 fn kept(v: u8x16) -> u16x8
     requires { IsBytes v }
@@ -41,7 +41,7 @@ fn kept(v: u8x16) -> u16x8
     u16x8::splat(255) - high_bytes(v).swizzle([1, 1, 3, 3, 5, 5, 7, 7])
 }
 
-/// The upper sixteen bits of the products of the lanes by 257. A processor has one instruction for it.
+// The upper sixteen bits of the products of the lanes by 257. A processor has one instruction for it.
 #[inline(always)]
 fn upper_halves(v: u16x8) -> u16x8
     requires { length v ≡ 8 }
@@ -52,7 +52,7 @@ fn upper_halves(v: u16x8) -> u16x8
     (products >> u32x8::splat(16)).cast::<u16>()
 }
 
-/// The products of two parts of 255 as parts of 255.
+// The products of two parts of 255 as parts of 255.
 #[inline(always)]
 fn products(x: u16x8, y: u16x8) -> u16x8
     requires x { AreParts x }
@@ -63,7 +63,7 @@ fn products(x: u16x8, y: u16x8) -> u16x8
     upper_halves(x * y + u16x8::splat(128))
 }
 
-/// The bytes of the lanes, those of `low` at even places and those of `high` at odd places.
+// The bytes of the lanes, those of `low` at even places and those of `high` at odd places.
 #[inline(always)]
 fn bytes_of(low: u16x8, high: u16x8) -> u8x16
     requires low { AreParts low }

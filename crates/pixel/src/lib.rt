@@ -1,10 +1,11 @@
-//! Premultiplied colours: one of a pixel, and rows of them as bytes.
+//! Premultiplied colours: one of a pixel, rows of them as bytes, and areas of a surface.
 //!
-//! Drawing onto surfaces: rows of premultiplied pixels as bytes, one under another.
+//! A pixel is four bytes: red, green, blue, alpha, none of the first three above the last. A surface is a slice of
+//! pixels, one row after another, with its size. What is drawn changes exactly the pixels of an area: a colour, an
+//! image, one row laid over many, or a pass faded over another surface. What is read is `Pixels`, whose bytes are
+//! enough for its size by its type.
 //!
-//! A surface is a slice with the number of pixels from one of its rows to the next; what is drawn changes
-//! exactly the pixels of an area. One row is laid over many, a colour over an area, and a pass faded over
-//! another surface, each sixteen bytes at a time and without rows made for it.
+//! Loops take sixteen bytes at a time, and make no row for it.
 #![tactic(auto)]
 
 pub mod blocks;
@@ -13,13 +14,13 @@ mod fade;
 pub mod four;
 pub mod lanes;
 mod laws;
-mod place;
 mod plain;
 mod row;
 mod rows;
 mod sixteen;
 mod surface;
 pub mod vectors;
+mod view;
 
 pub use colour::{Colour, mul255};
 pub use fade::faded_over;
@@ -29,3 +30,4 @@ pub use row::{colour_at, fill_row, first_wrong, over_row, scale_row};
 pub use rows::rows_over_area;
 pub use sixteen::are_sixteen_opaque;
 pub use surface::{Area, colour_over_area, fill_area, image_over_area};
+pub use view::{Pixels, Size};

@@ -19,7 +19,7 @@ pub fn colour_at(row: &[u8], i: usize) -> Colour
     Colour::of_parts(row[at], row[at + 1], row[at + 2], row[at + 3])
 }
 
-/// Whether red, green and blue are at most alpha.
+// Whether red, green and blue are at most alpha.
 fn is_premultiplied(r: u8, g: u8, b: u8, a: u8) -> bool
     ensures { result ≡ is_colour (record { r = r; g = g; b = b; a = a }) }
 {
@@ -42,7 +42,7 @@ pub fn first_wrong(row: &[u8]) -> Option<usize>
     None
 }
 
-/// Gives the pixel that begins at a byte a colour.
+// Gives the pixel that begins at a byte a colour.
 fn put_pixel(row: &mut [u8], at: usize, colour: Colour)
     requires inside { at + 4 ≤ length row.old }
     requires whole { at % 4 ≡ 0 }

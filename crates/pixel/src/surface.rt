@@ -4,10 +4,12 @@ ghost use Rattle.std.specs.Prelude.{◌≡◌, ◌+◌, ◌-◌, ◌*◌, ◌<�
 ghost use Rattle.pixel.specs.Colours.{blend};
 ghost use Rattle.pixel.specs.Rows.{pixel, ArePremultiplied};
 ghost use Rattle.pixel.specs.Surfaces.{IsPart, IsInside, EachPixel, within_rows};
+ghost use Rattle.pixel.specs.Views.{pixel_in};
 
 use crate::colour::Colour;
 use crate::four::{four_of, lay_four, lay_one};
 use crate::row::{fill_row, over_row};
+use crate::view::{Pixels, Size};
 
 /// A rect of the pixels of a surface, counted from the surface's top left corner.
 #[derive(Clone, Copy, Debug, PartialEq, Eq)]
@@ -22,18 +24,7 @@ pub struct Area {
     pub h: usize,
 }
 
-/// The place of a run of `run` pixels, from column `x` of row `y` on, in a surface of `width` by `height`.
-fn place_of(width: usize, height: usize, x: usize, y: usize, run: usize) -> usize
-    requires across { x + run ≤ width }
-    requires down { y < height }
-    requires small { 4 * (width * height) < 2 ^ 64 }
-    ensures value { result ≡ y * width + x }
-    ensures inside { result + run ≤ width * height }
-{
-    y * width + x
-}
-
-/// Gives `n` pixels from pixel `k` on one colour.
+// Gives `n` pixels from pixel `k` on one colour.
 fn fill_part(surface: &mut [u8], k: usize, n: usize, colour: Colour)
     requires { 4 * (k + n) ≤ length surface.old }
     ensures { IsPart k n (λ j below. colour) surface.old surface.new }
@@ -41,7 +32,7 @@ fn fill_part(surface: &mut [u8], k: usize, n: usize, colour: Colour)
     fill_row(&mut surface[4 * k..4 * (k + n)], colour);
 }
 
-/// Lays one colour over `n` pixels from pixel `k` on.
+// Lays one colour over `n` pixels from pixel `k` on.
 fn colour_over_part(surface: &mut [u8], k: usize, n: usize, colour: Colour)
     requires { 4 * (k + n) ≤ length surface.old }
     ensures { IsPart k n (λ j below. blend below colour) surface.old surface.new }
@@ -58,7 +49,7 @@ fn colour_over_part(surface: &mut [u8], k: usize, n: usize, colour: Colour)
     }
 }
 
-/// Lays `n` pixels of an image, from its pixel `from` on, over those from pixel `k` on.
+// Lays `n` pixels of an image, from its pixel `from` on, over those from pixel `k` on.
 fn image_over_part(surface: &mut [u8], k: usize, n: usize, image: &[u8], from: usize)
     requires there { 4 * (k + n) ≤ length surface.old }
     requires given { 4 * (from + n) ≤ length image.now }
@@ -71,61 +62,55 @@ fn image_over_part(surface: &mut [u8], k: usize, n: usize, image: &[u8], from: u
     );
 }
 
-/// Gives each pixel of an area of a surface one colour.
-
-pub fn fill_area(surface: &mut [u8], width: usize, height: usize, at: Area, colour: Colour)
-    requires size { length surface.old ≡ 4 * (width * height) }
-    requires inside { IsInside at width height }
-    ensures pixels { EachPixel width height (within_rows at at.h (λ x y below. colour)) surface.old surface.new }
+/// Gives each pixel of an area of a surface of this size one colour.
+pub fn fill_area(surface: &mut [u8], size: Size, at: Area, colour: Colour)
+    requires size { length surface.old ≡ 4 * (size.width * size.height) }
+    requires inside { IsInside at size.width size.height }
+    ensures pixels { EachPixel size.width size.height (within_rows at at.h (λ x y below. colour)) surface.old surface.new }
     ensures premultiplied { ArePremultiplied surface.old → ArePremultiplied surface.new }
 {
     for row in 0..at.h {
-        let place = place_of(width, height, at.x, at.y + row, at.w);
+        let place = size.place_of(at.x, at.y + row, at.w);
         fill_part(surface, place, at.w, colour);
     }
 }
 
-/// Lays one colour over each pixel of an area of a surface.
-pub fn colour_over_area(surface: &mut [u8], width: usize, height: usize, at: Area, colour: Colour)
-    requires size { length surface.old ≡ 4 * (width * height) }
-    requires inside { IsInside at width height }
-    ensures pixels { EachPixel width height (within_rows at at.h (λ x y below. blend below colour)) surface.old surface.new }
+/// Lays one colour over each pixel of an area of a surface of this size.
+pub fn colour_over_area(surface: &mut [u8], size: Size, at: Area, colour: Colour)
+    requires size { length surface.old ≡ 4 * (size.width * size.height) }
+    requires inside { IsInside at size.width size.height }
+    ensures pixels { EachPixel size.width size.height (within_rows at at.h (λ x y below. blend below colour)) surface.old surface.new }
     ensures premultiplied { ArePremultiplied surface.old → ArePremultiplied surface.new }
 {
     for row in 0..at.h {
-        let place = place_of(width, height, at.x, at.y + row, at.w);
+        let place = size.place_of(at.x, at.y + row, at.w);
         colour_over_part(surface, place, at.w, colour);
     }
 }
 
-/// Lays the pixels of an image over an area of a surface: those of the image from column `from_x`
-/// and row `from_y` on. The image's rows are `image_width` pixels long, and there are `image_height`.
-
+/// Lays the pixels of an image over an area of a surface of this size: those from column `from_x` and row `from_y` of
+/// the image on.
 pub fn image_over_area(
     surface: &mut [u8],
-    width: usize,
-    height: usize,
+    size: Size,
     at: Area,
-    image: &[u8],
-    image_width: usize,
-    image_height: usize,
+    image: &Pixels<'_>,
     from_x: usize,
     from_y: usize,
 )
-    requires size { length surface.old ≡ 4 * (width * height) }
-    requires inside { IsInside at width height }
-    requires image_size { length image.now ≡ 4 * (image_width * image_height) }
-    requires columns { from_x + at.w ≤ image_width }
-    requires rows { from_y + at.h ≤ image_height }
-    requires premultiplied { ArePremultiplied image.now }
-    ensures pixels { EachPixel width height
-        (within_rows at at.h (λ x y below. blend below (pixel image.now ((y - at.y + from_y) * image_width + (x - at.x + from_x)))))
+    requires size { length surface.old ≡ 4 * (size.width * size.height) }
+    requires inside { IsInside at size.width size.height }
+    requires columns { from_x + at.w ≤ image.now.size.width }
+    requires rows { from_y + at.h ≤ image.now.size.height }
+    ensures pixels { EachPixel size.width size.height
+        (within_rows at at.h (λ x y below. blend below (pixel_in image.now (x - at.x + from_x) (y - at.y + from_y))))
         surface.old surface.new }
     ensures premultiplied { ArePremultiplied surface.old → ArePremultiplied surface.new }
 {
+    let pixels = image.bytes();
     for row in 0..at.h {
-        let place = place_of(width, height, at.x, at.y + row, at.w);
-        let from = place_of(image_width, image_height, from_x, from_y + row, at.w);
-        image_over_part(surface, place, at.w, image, from);
+        let place = size.place_of(at.x, at.y + row, at.w);
+        let from = image.size().place_of(from_x, from_y + row, at.w);
+        image_over_part(surface, place, at.w, pixels, from);
     }
 }

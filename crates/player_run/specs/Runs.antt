@@ -29,7 +29,7 @@ use Rattle.player_uses.specs.declared.words.Use.TheVariants.{Step, Play, Gen, De
 abbrev pub IsPictureText : List ℕ → Type 0
 IsPictureText bytes = (s : ScriptModel) × IsScriptText bytes s × TakesFrames (blank s) s.main × HasPicture (with_shot s)
 
--- what a use takes: the text of an accepted script, for `shot` of one that has a picture; a recording; that of a history that is legal for 16 workers; and where it reads nothing, any bytes
+-- what a use takes: `step`, `play` and `film` the text of an accepted script, at most 16,777,216 bytes; `shot` such a text of a script that has a picture; `frames` a recording, at most 268,435,456 bytes; `check` that of a history that is legal for 16 workers; any other use reads nothing
 abbrev pub Takes : Use → List ℕ → Type 0
 Takes (Step workers) bytes = (length bytes ≤ script_limit) × IsAcceptedText bytes
 Takes (Play workers) bytes = (length bytes ≤ script_limit) × IsAcceptedText bytes
@@ -47,7 +47,7 @@ RefusedShot bytes NoPicture =
     (length bytes ≤ script_limit) × (s : ScriptModel) × IsScriptText bytes s × TakesFrames (blank s) s.main × IsLastImage (with_shot s) None
 RefusedShot bytes result = RefusedScript bytes result
 
--- why a use refuses bytes
+-- why the bytes are not what a use takes, by its answer
 abbrev pub Refused : Use → List ℕ → Outcome → Type 0
 Refused (Step workers) bytes result = RefusedScript bytes result
 Refused (Play workers) bytes result = RefusedScript bytes result
@@ -59,7 +59,7 @@ Refused Frames bytes result = RefusedRecording bytes result
 Refused Check bytes result = RefusedHistory bytes result
 Refused (Serve workers) bytes result = ⊥
 
--- why this is the answer of a use where the source has these bytes
+-- why this is the answer of a use if the source has these bytes: after Done and after a write fault they are what the use takes; after a refusal they are refused for that cause; after a read fault and out of memory nothing is said of them
 abbrev pub CauseOf : Use → List ℕ → Outcome → Type 0
 CauseOf wanted bytes Done = Takes wanted bytes
 CauseOf wanted bytes WriteFault = Takes wanted bytes
@@ -68,14 +68,14 @@ CauseOf wanted bytes ReadFault = ⊤
 CauseOf wanted bytes Memory = ⊤
 CauseOf wanted bytes result = Refused wanted bytes result
 
--- why this is the answer of a use: for a use that reads, where the source tells its bytes
+-- why this is the answer of a use: one that reads, by the bytes that its source tells; one that reads nothing is done, meets a write fault, or runs out of memory
 abbrev pub CauseFrom : Use → Option (List ℕ) → Outcome → Type 0
 CauseFrom (Gen number) source result = IsUnread result
 CauseFrom (Demo number) source result = IsUnread result
 CauseFrom (Serve workers) source result = AnswersSession result
 CauseFrom wanted source result = IfSome source (λ bytes. CauseOf wanted bytes result)
 
--- a script that is accepted, as some JSON value says it and the blank page takes its main frames, and that the source had, where it tells its bytes
+-- a script that is accepted, as some JSON value says it and the blank page takes its main frames, and that the source had, if it tells its bytes
 abbrev pub IsScriptFrom : Option (List ℕ) → ScriptModel → Type 0
 IsScriptFrom source s = IsSaid s × TakesFrames (blank s) s.main × IfSome source (λ bytes. IsScriptText bytes s)
 
@@ -87,7 +87,7 @@ IsRunOf workers s whole = (history : List Entry) × IsPromised s workers history
 abbrev pub IsPlayOf : ℕ → ScriptModel → List ℕ → Type 0
 IsPlayOf workers s whole = (history : List Entry) × IsPlayed s workers history × IsRecordingOf s history whole
 
--- the same where the run may have been given up
+-- the same if the run may have been given up
 abbrev pub IsPlayUpTo : ℕ → ScriptModel → List ℕ → Type 0
 IsPlayUpTo workers s whole = (history : List Entry) × IsSoundHistory s workers history × IsRecordingOf s history whole
 
@@ -107,24 +107,24 @@ IsOutput Frames source whole = AreImagesFrom source whole
 IsOutput Check source whole = whole ≡ []
 IsOutput (Serve workers) source whole = whole ≡ []
 
--- what a use was writing where it stopped: all that it writes; but actors may have given a run up before its end
+-- what a use was writing when it stopped: all that it writes; but actors may have given a run up before its end
 abbrev pub IsBegun : Use → Option (List ℕ) → List ℕ → Type 0
 IsBegun (Play workers) source whole = (s : ScriptModel) × IsScriptFrom source s × IsPlayUpTo workers s whole
 IsBegun wanted source whole = IsOutput wanted source whole
 
--- what the sink gained: all that the use writes; a prefix of what it was writing; or nothing
+-- what the sink gained: after Done all that the use writes; after a write fault a prefix of what it was writing; after out of memory such a prefix or nothing; after every other answer nothing
 abbrev pub Writes : Use → Option (List ℕ) → Option (List ℕ) → Option (List ℕ) → Outcome → Type 0
 Writes wanted source old new Done = (whole : List ℕ) × IsOutput wanted source whole × Appends old new whole
 Writes wanted source old new WriteFault = (whole : List ℕ) × IsBegun wanted source whole × GainsPrefix old new whole
 Writes wanted source old new Memory = (new ≡ old) ⊎ ((whole : List ℕ) × IsBegun wanted source whole × GainsPrefix old new whole)
 Writes wanted source old new _ = new ≡ old
 
--- where neither count of faults rose, all is done or there was no memory
+-- if neither count of faults rose, all is done or there was no memory
 abbrev pub IsDoneIfCalm : ℕ → ℕ → ℕ → ℕ → Outcome → Type 0
 IsDoneIfCalm source_old source_new out_old out_new result =
     (Rose source_old source_new → ⊥) → (Rose out_old out_new → ⊥) → (result ≡ Done) ⊎ (result ≡ Memory)
 
--- so it is where a use has what it takes
+-- if the bytes are what a use takes and neither count of faults rose, the answer is Done or Memory
 abbrev pub IsComplete : Use → Option (List ℕ) → ℕ → ℕ → ℕ → ℕ → Outcome → Type 0
 IsComplete (Gen number) source source_old source_new out_old out_new result = IsDoneIfCalm source_old source_new out_old out_new result
 IsComplete (Demo number) source source_old source_new out_old out_new result = IsDoneIfCalm source_old source_new out_old out_new result
@@ -132,12 +132,12 @@ IsComplete (Serve workers) source source_old source_new out_old out_new result =
 IsComplete wanted source source_old source_new out_old out_new result =
     IfSome source (λ bytes. Takes wanted bytes → IsDoneIfCalm source_old source_new out_old out_new result)
 
--- what is said of source and sink, where the words are others than `serve N`: a session has a client
+-- what is said of source and sink, unless the words are `serve N`: a session has a client
 abbrev pub UnlessServe : Result Use ℕ → Type 0 → Type 0
 UnlessServe (Ok (Serve workers)) Said = ⊤
 UnlessServe _ Said = Said
 
--- what is said of a session, where the words are `serve N`
+-- what is said of a session, if the words are `serve N`
 abbrev pub OnServe : Result Use ℕ → (ℕ → Type 0) → Type 0
 OnServe (Ok (Serve workers)) Said = Said workers
 OnServe _ Said = ⊤

@@ -105,7 +105,8 @@ fn run_started<'s, E, R: Threads + Wait + Sync, G: Gate + Sync, K: Sink + Send>(
     Some(ran)
 }
 
-// Runs the actors on threads. An answer of None is that a thread could not be started, and nothing was written.
+// Runs the actors on threads, which sleep at the bell of the ring. An answer of None is that a thread could not be
+// started or memory was refused, and nothing was written.
 fn run_scope<'g, R: Threads + Wait + Sync, G: Gate + Sync, K: Sink + Send>(
     rt: &R,
     alloc: Global,
@@ -125,8 +126,10 @@ fn run_scope<'g, R: Threads + Wait + Sync, G: Gate + Sync, K: Sink + Send>(
     ensures grows { K.faults out.old ≤ K.faults out.new }
     ensures cause { IfSome result (λ ran. FaultRose ran.served (K.faults out.old) (K.faults out.new)) }
 {
-    let bell = Bell::new();
-    let bell = &bell;
+    let Ok(bell) = ends.0.bell() else {
+        return None;
+    };
+    let bell = &*bell;
     let (out, ran) = thread::scope(
         thread::scope_env(),
         rt,

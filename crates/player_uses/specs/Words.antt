@@ -4,7 +4,7 @@ use Rattle.std.specs.Str.{bytes_eq}
 use Rattle.player_uses.specs.declared.words.Use.{Use}
 use Rattle.player_uses.specs.declared.words.Use.TheVariants.{Step, Play, Gen, Demo, Film, Shot, Frames, Check, Serve}
 
--- what the digits of a word say, where those before them say n
+-- what the digits of a word say, if those before them say n
 abbrev pub digits_value : ℕ → List ℕ → ℕ
 digits_value n [] = n
 digits_value n (c ∷ cs) = digits_value (n * 10 + (c - 48)) cs
@@ -18,12 +18,12 @@ number_in w =
 abbrev pub workers_in : List ℕ → Option ℕ
 workers_in w = option_and_then (λ n. if nat_le 1 n && nat_le n 16 then Some n else None) (number_in w)
 
--- the use, where no word stands after its own; else the index of the next word
+-- the use, if no word stands after its own; else the index of the next word
 abbrev pub no_more_words : Use → ℕ → List (List ℕ) → Result Use ℕ
 no_more_words wanted index [] = Ok wanted
 no_more_words wanted index (w ∷ ws) = Err index
 
--- the use of a number, which is word 1, where there is one
+-- the use of a number, which is word 1, if there is one
 abbrev pub numbered : Option ℕ → (ℕ → Use) → List (List ℕ) → Result Use ℕ
 numbered None wanted ws = Err 1
 numbered (Some n) wanted ws = no_more_words (wanted n) 2 ws
@@ -46,7 +46,7 @@ after_other w ws =
     else (if bytes_eq w (codes "serve") then with_number workers_in Serve ws else Err 0)))))))
 
 -- what the words ask for; or the index of the first word that, with those before it, begins no use, and
--- where there is no such word and more words are needed, their count
+-- if there is no such word and more words are needed, their count
 abbrev pub use_of : List (List ℕ) → Result Use ℕ
 use_of [] = Err 0
 use_of (w ∷ ws) = if bytes_eq w (codes "step") then with_number workers_in Step ws else after_other w ws
@@ -56,7 +56,7 @@ abbrev pub is_play : Use → Bool
 is_play (Play workers) = true
 is_play _ = false
 
--- the words are those of `play N`
+-- the words are those of `play N`, the use that may wait
 abbrev pub asks_play : Result Use ℕ → Bool
 asks_play (Ok wanted) = is_play wanted
 asks_play (Err word) = false
@@ -82,7 +82,7 @@ abbrev pub asks_more : Result Use ℕ → Bool
 asks_more (Ok wanted) = needs_more wanted
 asks_more (Err word) = false
 
--- where it has raster workers, they are 1 to 16
+-- if it has raster workers, they are 1 to 16
 abbrev pub IsFew : Use → Type 0
 IsFew (Step workers) = (1 ≤ workers) × (workers ≤ 16)
 IsFew (Play workers) = (1 ≤ workers) × (workers ≤ 16)

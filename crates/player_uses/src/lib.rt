@@ -1,12 +1,11 @@
-//! What the program's words end with, what they read, and those of them that play nothing.
+//! What the program's words ask for, what they read and end with, and those of them that play nothing.
 //!
-//! An [`Outcome`] says how a run ended, with its status, and has a line for the notes ([`tell`]) and one for a session
-//! ([`put_verdict`]). A script is read from a source to its end ([`read_script_from`]), or asked for its picture as
-//! well ([`read_shot_from`]). [`run_gen`], [`run_check`] and [`run_frames`] do what `gen`, `check` and `frames` ask
-//! for. Of a run that somebody else played, [`summary_of`] counts what it holds, and [`put_file`] and [`put_summary`]
-//! write a file or the line of the counts.
-//!
-//! What the words of the command line ask for: which use of the program, with which number.
+//! [`use_of`] tells which use of the program the words of the command line ask for. An [`Outcome`] says how a run
+//! ended, with its status, and has a line for the notes ([`tell`]) and one for a session ([`put_verdict`]). A script is
+//! read from a source to its end ([`read_script_from`]), or asked for its picture as well ([`read_shot_from`]).
+//! [`run_gen`], [`run_check`] and [`run_frames`] do what `gen`, `check` and `frames` ask for. Of a run that somebody
+//! else played, [`summary_of`] counts what it holds, and [`put_file`] and [`put_summary`] write a file or the line of
+//! the counts.
 #![tactic(auto)]
 
 mod draw_counts;

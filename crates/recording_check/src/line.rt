@@ -13,7 +13,7 @@ use crate::missing::draw_missing;
 use crate::sheet::Sheet;
 use geom::{Point, Rect};
 use page_display_list::{CoveredArea, shared_part};
-use pixel::image_over_area;
+use pixel::{Pixels, Size, image_over_area};
 
 // One row of points, from a point on.
 fn row_from(from: Point, width: usize) -> Rect
@@ -104,7 +104,13 @@ fn lay_part(
     let from = point_at(part.at.x, y, sheet.by());
     let columns = &mut line[..4 * part.at.w];
     draw_row(sheet, tile, from, part.at.w, columns);
-    image_over_area(row, width, 1, part.at, columns, part.at.w, 1, 0, 0);
+    let size = Size { width, height: 1 };
+    let run = Size {
+        width: part.at.w,
+        height: 1,
+    };
+    let pixels = Pixels::new(columns, run);
+    image_over_area(row, size, part.at, &pixels, 0, 0);
 }
 
 /// Lays a layer over row `y` of the screen, whose tiles have this side: over as many pixels as `width`

@@ -11,7 +11,7 @@ ghost use Rattle.recording_check.specs.inner.Sheets.{patched};
 
 use crate::sheet::Sheet;
 use geom::{Place, Point, TileKey};
-use pixel::{Area, Colour, fill_area};
+use pixel::{Area, Colour, Size, fill_area};
 
 // Whether one of the keys stands in this column of tiles.
 fn has_column(keys: &[TileKey], column: u32) -> bool
@@ -61,7 +61,7 @@ fn fill_run(row: &mut [u8], width: usize, k: usize, n: usize, colour: Colour)
         w: n,
         h: 1,
     };
-    fill_area(row, width, 1, at, colour);
+    fill_area(row, Size { width, height: 1 }, at, colour);
 }
 
 // Gives pixels k to k + n of a row a colour where one of the keys stands in this column of tiles.

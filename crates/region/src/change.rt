@@ -18,7 +18,7 @@ pub struct LayerChange {
 }
 
 impl LayerChange {
-    // the same change
+    // The same change.
     pub(crate) fn copy(&self) -> Result<LayerChange, AllocError>
         ensures { IfOk result (λ c. c ≡ self.now) }
     {
@@ -30,7 +30,7 @@ impl LayerChange {
         })
     }
 
-    // adds what changed later in the same layer; running out of memory leaves the change as it was
+    // Adds what changed later in the same layer; running out of memory leaves the change as it was.
     pub(crate) fn join(&mut self, later: &LayerChange) -> Result<(), AllocError>
         requires { self.old.layer ≡ later.now.layer }
         ensures ok { OnOk result (IsJoined self.old later.now self.new) }

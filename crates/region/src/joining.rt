@@ -36,7 +36,7 @@ pub(crate) fn join_lists(
     Ok(())
 }
 
-// adds each change in turn; running out of memory leaves a list that is no longer wanted
+// Adds each change in turn; running out of memory leaves a list that is no longer wanted.
 fn join_each(list: &mut Vec<LayerChange>, later: &[LayerChange]) -> Result<(), AllocError>
     requires { IsRising list.old.items }
     ensures ok { OnOk result (AreJoined list.old.items later.now list.new.items) }
@@ -48,7 +48,7 @@ fn join_each(list: &mut Vec<LayerChange>, later: &[LayerChange]) -> Result<(), A
     Ok(())
 }
 
-// adds one change; running out of memory leaves the list as it was
+// Adds one change; running out of memory leaves the list as it was.
 fn join_one(list: &mut Vec<LayerChange>, change: &LayerChange) -> Result<(), AllocError>
     requires { IsRising list.old.items }
     ensures ok { OnOk result (AreJoined list.old.items (change.now ∷ []) list.new.items) }
@@ -61,7 +61,7 @@ fn join_one(list: &mut Vec<LayerChange>, change: &LayerChange) -> Result<(), All
     }
 }
 
-// adds the change to the element of its layer
+// Adds the change to the element of its layer.
 fn join_at(
     list: &mut Vec<LayerChange>,
     place: usize,
@@ -77,7 +77,7 @@ fn join_at(
     list[place].join(change)
 }
 
-// puts a copy of the change between the elements below and above its layer
+// Puts a copy of the change between the elements below and above its layer.
 fn insert_at(
     list: &mut Vec<LayerChange>,
     place: usize,
@@ -96,7 +96,7 @@ fn insert_at(
     Ok(())
 }
 
-// the place of the layer, or where it is not listed the place at which it would be
+// The place of the layer, or where it is not listed the place at which it would be.
 fn place_of(list: &[LayerChange], layer: u32) -> Result<usize, usize>
     ensures found { IfOk result (λ i. (i < length list.now) × IfSome (slice_get list.now i) (λ c. c.layer ≡ layer)) }
     ensures within { IfErr result (λ i. i ≤ length list.now) }

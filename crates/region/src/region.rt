@@ -94,7 +94,7 @@ impl Region {
         &self.rects
     }
 
-    // the same region
+    // The same region.
     pub(crate) fn copy(&self) -> Result<Region, AllocError>
         ensures { IfOk result (λ r. r ≡ self.now) }
     {
@@ -103,7 +103,7 @@ impl Region {
     }
 }
 
-// whether some rect of the list covers the point
+// Whether some rect of the list covers the point.
 fn any_covers(rects: &[Rect], p: Point) -> bool
     requires { All IsSound rects.now }
     ensures { result ≡ covered rects.now p.x p.y }
@@ -111,7 +111,7 @@ fn any_covers(rects: &[Rect], p: Point) -> bool
     rects.iter().any(|r| r.contains(p))
 }
 
-// whether some rect of the list has a point in common with `r`
+// Whether some rect of the list has a point in common with `r`.
 fn any_touches(rects: &[Rect], r: Rect) -> bool
     requires sound { All IsSound rects.now }
     requires other { IsSound r }
@@ -120,7 +120,7 @@ fn any_touches(rects: &[Rect], r: Rect) -> bool
     rects.iter().any(|rect| rect.touches(r))
 }
 
-// whether some rect of the list holds `r` whole
+// Whether some rect of the list holds `r` whole.
 fn any_holds(rects: &[Rect], r: Rect) -> bool
     requires sound { All IsSound rects.now }
     requires other { IsSound r }
@@ -129,7 +129,7 @@ fn any_holds(rects: &[Rect], r: Rect) -> bool
     rects.iter().any(|rect| holds(*rect, r))
 }
 
-// whether `rect` holds `r` whole
+// Whether `rect` holds `r` whole.
 fn holds(rect: Rect, r: Rect) -> bool
     requires sound { IsSound rect }
     requires other { IsSound r }
@@ -140,7 +140,7 @@ fn holds(rect: Rect, r: Rect) -> bool
     across && down
 }
 
-// whether the one span holds the other whole
+// Whether the one span holds the other whole.
 #[tactic(auto, unfolding(crate::specs::inner::Holding::span_holds))]
 fn span_holds(at: i32, len: i32, other_at: i32, other_len: i32) -> bool
     requires span { IsSpan at len }
@@ -152,7 +152,7 @@ fn span_holds(at: i32, len: i32, other_at: i32, other_len: i32) -> bool
     at <= other_at && other_end <= end
 }
 
-// cuts each rect to what it has in common with `r`
+// Cuts each rect to what it has in common with `r`.
 fn clip_rects(rects: &mut Vec<Rect>, r: Rect)
     requires sound { All IsSound rects.old.items }
     requires other { IsSound r }
@@ -165,7 +165,7 @@ fn clip_rects(rects: &mut Vec<Rect>, r: Rect)
     }
 }
 
-// the list with `r` at its end, or the list where a rect of it holds `r` whole
+// The list with `r` at its end, or the list where a rect of it holds `r` whole.
 #[tactic(auto, using(crate::proofs::Covering::any_held))]
 fn add_rect(rects: &mut Vec<Rect>, r: &Rect) -> Result<(), AllocError>
     requires sound { All IsSound rects.old.items }
@@ -181,7 +181,7 @@ fn add_rect(rects: &mut Vec<Rect>, r: &Rect) -> Result<(), AllocError>
     Ok(())
 }
 
-// the list with the rects of `others` that it does not hold; running out of memory leaves the list as it was
+// The list with the rects of `others` that it does not hold; running out of memory leaves the list as it was.
 fn add_rects(rects: &mut Vec<Rect>, others: &[Rect]) -> Result<(), AllocError>
     requires sound { All IsSound rects.old.items }
     requires others_sound { All IsSound others.now }

@@ -29,7 +29,7 @@ pub(crate) fn changing_rows(
     Ok(rows)
 }
 
-// marks the rows at which an item of the list begins, ends, or has pixels of its own
+// Marks the rows at which an item of the list begins, ends, or has pixels of its own.
 fn mark_items(rows: &mut [bool], list: &DisplayList, rect: Rect)
     requires rect { IsSound rect }
     requires count { length rows.old ≡ near rect.h }
@@ -40,7 +40,7 @@ fn mark_items(rows: &mut [bool], list: &DisplayList, rect: Rect)
     }
 }
 
-// marks the rows at which an item begins, ends, or has pixels of its own
+// Marks the rows at which an item begins, ends, or has pixels of its own.
 fn mark_item(rows: &mut [bool], item: &Item, rect: Rect)
     requires item { IsSoundItem item.now }
     requires rect { IsSound rect }
@@ -76,7 +76,7 @@ pub(crate) fn changing_patches(
     Ok(rows)
 }
 
-// marks the rows at which a patch begins or ends
+// Marks the rows at which a patch begins or ends.
 fn mark_patches(rows: &mut [bool], patches: &[Patch])
     ensures { (y : ℕ) → slice_index_or rows.new (y + 1) true ≡ false → AreLevelPatches patches.now y }
 {
@@ -85,7 +85,7 @@ fn mark_patches(rows: &mut [bool], patches: &[Patch])
     }
 }
 
-// marks the rows at which a patch begins or ends
+// Marks the rows at which a patch begins or ends.
 fn mark_patch(rows: &mut [bool], patch: &Patch)
     ensures kept { (y : ℕ) → slice_index_or rows.new y true ≡ false → slice_index_or rows.old y true ≡ false }
     ensures level { (y : ℕ) → slice_index_or rows.new (y + 1) true ≡ false
@@ -95,7 +95,7 @@ fn mark_patch(rows: &mut [bool], patch: &Patch)
     mark_row(rows, patch.bottom);
 }
 
-// marks a row, where there is such a row
+// Marks a row, where there is such a row.
 fn mark_row(rows: &mut [bool], y: usize)
     ensures { (k : ℕ) → slice_index_or rows.new k true ≡ false → (slice_index_or rows.old k true ≡ false) × (k ≢ y) }
 {
@@ -104,7 +104,7 @@ fn mark_row(rows: &mut [bool], y: usize)
     }
 }
 
-// marks the rows from `from` up to but without `to`, as far as there are such rows
+// Marks the rows from `from` up to but without `to`, as far as there are such rows.
 fn mark_rows(rows: &mut [bool], from: usize, to: usize)
     ensures { (y : ℕ) → slice_index_or rows.new y true ≡ false → (slice_index_or rows.old y true ≡ false) × ((y < from) ⊎ (to ≤ y)) }
 {

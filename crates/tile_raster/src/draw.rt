@@ -5,14 +5,14 @@ ghost use Rattle.geom.specs.Covers.{IsSound};
 ghost use Rattle.pixel.specs.Colours.{blend, clear};
 ghost use Rattle.pixel.specs.Rows.{pixel, ArePremultiplied};
 ghost use Rattle.pixel.specs.Surfaces.{IsInside, EachPixel, within_rows};
-ghost use Rattle.page_display_list.specs.Bitmaps.{near, has_sides};
+ghost use Rattle.page_display_list.specs.Bitmaps.{near};
 ghost use Rattle.page_display_list.specs.Content.{painted, IsSoundItem};
 ghost use Rattle.tile_raster.specs.inner.Bands.{IsLevel, AreLevel, AreSteps, AreKept, IsCount, place_of, kept_area};
 
 use crate::pixels::width_of;
 use geom::Rect;
 use page_display_list::{Bitmap, CoveredArea, DisplayList, Item, shared_part};
-use pixel::{Area, Colour, colour_over_area, fill_area, image_over_area};
+use pixel::{Area, Colour, Size, colour_over_area, fill_area, image_over_area};
 
 /// Draws what the list shows on the rect into the rows that are kept, which are transparent before.
 pub(crate) fn draw_items(
@@ -35,7 +35,7 @@ pub(crate) fn draw_items(
     }
 }
 
-// draws an item into the rows that are kept
+// Draws an item into the rows that are kept.
 fn draw_item(item: &Item, rect: Rect, places: &[u32], kept: usize, bytes: &mut [u8])
     requires item { IsSoundItem item.now }
     requires rect { IsSound rect }
@@ -51,78 +51,48 @@ fn draw_item(item: &Item, rect: Rect, places: &[u32], kept: usize, bytes: &mut [
         return;
     };
     let width = width_of(rect);
+    let size = Size {
+        width,
+        height: kept,
+    };
     let at = kept_part(part.at, places, kept);
     match item {
-        Item::Rect { colour, .. } => draw_colour(bytes, width, kept, at, *colour),
-        Item::Bitmap(bitmap) => draw_bitmap(bytes, width, kept, at, bitmap, part),
+        Item::Rect { colour, .. } => draw_colour(bytes, size, at, *colour),
+        Item::Bitmap(bitmap) => draw_bitmap(bytes, size, at, bitmap, part),
     }
 }
 
-// lays one colour over an area of rows
-fn draw_colour(bytes: &mut [u8], width: usize, kept: usize, at: Area, colour: Colour)
-    requires size { length bytes.old ≡ 4 * (width * kept) }
-    requires inside { IsInside at width kept }
-    ensures pixels { EachPixel width kept (within_rows at at.h (λ x y below. blend below colour)) bytes.old bytes.new }
+// Lays one colour over an area of rows.
+fn draw_colour(bytes: &mut [u8], size: Size, at: Area, colour: Colour)
+    requires size { length bytes.old ≡ 4 * (size.width * size.height) }
+    requires inside { IsInside at size.width size.height }
+    ensures pixels { EachPixel size.width size.height (within_rows at at.h (λ x y below. blend below colour)) bytes.old bytes.new }
     ensures premultiplied { ArePremultiplied bytes.old → ArePremultiplied bytes.new }
 {
     if colour.a() == 255 {
-        fill_area(bytes, width, kept, at, colour);
+        fill_area(bytes, size, at, colour);
     } else {
-        colour_over_area(bytes, width, kept, at, colour);
+        colour_over_area(bytes, size, at, colour);
     }
 }
 
-// lays the part of a bitmap that the picture shows over an area of rows
-fn draw_bitmap(
-    bytes: &mut [u8],
-    width: usize,
-    kept: usize,
-    at: Area,
-    bitmap: &Bitmap,
-    part: CoveredArea,
-)
-    requires size { length bytes.old ≡ 4 * (width * kept) }
-    requires inside { IsInside at width kept }
+// Lays the part of a bitmap that the picture shows over an area of rows.
+fn draw_bitmap(bytes: &mut [u8], size: Size, at: Area, bitmap: &Bitmap, part: CoveredArea)
+    requires size { length bytes.old ≡ 4 * (size.width * size.height) }
+    requires inside { IsInside at size.width size.height }
     requires columns { part.left + at.w ≤ near bitmap.now.rect.w }
     requires rows { part.above + at.h ≤ near bitmap.now.rect.h }
-    ensures pixels { EachPixel width kept
+    ensures pixels { EachPixel size.width size.height
         (within_rows at at.h (λ x y below. blend below
         (pixel bitmap.now.pixels ((y - at.y + part.above) * near bitmap.now.rect.w + (x - at.x + part.left)))))
         bytes.old bytes.new }
     ensures premultiplied { ArePremultiplied bytes.old → ArePremultiplied bytes.new }
 {
-    image_over_area(
-        bytes,
-        width,
-        kept,
-        at,
-        bitmap.pixels(),
-        columns_of(bitmap),
-        rows_of(bitmap),
-        part.left,
-        part.above,
-    );
+    let pixels = bitmap.as_pixels();
+    image_over_area(bytes, size, at, &pixels, part.left, part.above);
 }
 
-// how many columns a bitmap has
-#[tactic(auto, unfolding(page_display_list::specs::Bitmaps::has_sides))]
-fn columns_of(bitmap: &Bitmap) -> usize
-    ensures { result ≡ near bitmap.now.rect.w }
-{
-    let side = bitmap.rect().w;
-    side as usize
-}
-
-// how many rows a bitmap has
-#[tactic(auto, unfolding(page_display_list::specs::Bitmaps::has_sides))]
-fn rows_of(bitmap: &Bitmap) -> usize
-    ensures { result ≡ near bitmap.now.rect.h }
-{
-    let side = bitmap.rect().h;
-    side as usize
-}
-
-// an area of the picture as an area of the rows that are kept
+// An area of the picture as an area of the rows that are kept.
 fn kept_part(at: Area, places: &[u32], kept: usize) -> Area
     requires inside { at.y + at.h ≤ length places.now }
     requires rises { place_of places.now kept at.y ≤ place_of places.now kept (at.y + at.h) }
@@ -138,7 +108,7 @@ fn kept_part(at: Area, places: &[u32], kept: usize) -> Area
     }
 }
 
-// the place of a row; after the last row, how many are kept
+// The place of a row; after the last row, how many are kept.
 fn place_at(places: &[u32], kept: usize, y: usize) -> usize
     ensures { result ≡ place_of places.now kept y }
 {

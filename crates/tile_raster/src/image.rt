@@ -21,12 +21,12 @@ pub struct TileImage {
     // The fields keep this order in memory: what a draw reads stands first, beside the count of the `Arc` that holds
     // the picture, so that a small tile costs a draw one cache miss.
     //
-    // the colour of all pixels, where they have one
+    // The colour of all pixels, where they have one.
     solid: Option<Colour>,
-    // whether all pixels are opaque
+    // Whether all pixels are opaque.
     is_opaque: bool,
     rect: Rect,
-    // the rows, of which equal ones that follow one another are kept once
+    // The rows, of which equal ones that follow one another are kept once.
     rows: PictureRows,
     key: TileKey,
     list: Arc<DisplayList>,
@@ -60,7 +60,7 @@ impl Drop for TileImage {
 }
 
 impl TileImage {
-    // the picture of this list on this rect
+    // The picture of this list on this rect.
     pub(crate) fn of_list(
         alloc: Global,
         key: TileKey,

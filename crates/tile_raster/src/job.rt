@@ -33,7 +33,7 @@ impl Job {
         }
     }
 
-    // the picture, which shares the job's list
+    // The picture, which shares the job's list.
     pub(crate) fn image(&self, alloc: Global) -> Result<Arc<TileImage>, AllocError>
         requires { IsSound self.now.rect }
         ensures { IfOk result (λ image. image.value ≡ record { key = self.now.key; rect = self.now.rect; list = self.now.list.value }) }

@@ -29,7 +29,7 @@ pub(crate) fn are_all_opaque(list: &DisplayList, rect: Rect, rows: &PictureRows)
     true
 }
 
-// whether all pixels of a row are opaque
+// Whether all pixels of a row are opaque.
 fn is_opaque_row(row: &[u8]) -> bool
     ensures yes { IsTrue result → (k : ℕ) → k < length row.now / 4 → (pixel row.now k).a ≡ 255 }
     ensures no { result ≡ false → HasTranslucentIn row.now }
@@ -37,7 +37,7 @@ fn is_opaque_row(row: &[u8]) -> bool
     least_alpha(row) == 255
 }
 
-// the least alpha of a row; 255 where there is no pixel
+// The least alpha of a row; 255 where there is no pixel.
 fn least_alpha(row: &[u8]) -> u8
     ensures least { (k : ℕ) → k < length row.now / 4 → (result ≤ (pixel row.now k).a) × ((pixel row.now k).a ≤ 255) }
     ensures there { (result ≡ 255) ⊎ IsAlphaIn row.now result }

@@ -12,7 +12,7 @@ use crate::pixels::{height_of, width_of};
 use crate::spans::{Span, draw_spans};
 use geom::Rect;
 use page_display_list::{DisplayList, Item, shared_part};
-use pixel::{Area, Colour};
+use pixel::{Area, Colour, Size};
 use std::alloc::{AllocError, Global};
 
 /// The part of a picture that an item of one colour covers.
@@ -44,7 +44,7 @@ pub(crate) fn patches_of(
     Ok(Some(patches))
 }
 
-// adds the part of a picture that an item covers, where it covers one; false where a bitmap does
+// Adds the part of a picture that an item covers, where it covers one; false where a bitmap does.
 fn put_patch(patches: &mut Vec<Patch>, item: &Item, rect: Rect) -> Result<bool, AllocError>
     requires item { IsSoundItem item.now }
     requires rect { IsSound rect }
@@ -64,7 +64,7 @@ fn put_patch(patches: &mut Vec<Patch>, item: &Item, rect: Rect) -> Result<bool, 
     }
 }
 
-// the patch of an area of a picture
+// The patch of an area of a picture.
 fn patch_of(at: Area, colour: Colour, _rect: Rect) -> Patch
     requires rect { IsSound _rect }
     requires across { at.x + at.w ≤ near _rect.w }
@@ -107,7 +107,7 @@ pub(crate) fn draw_patches(
     Ok(())
 }
 
-// draws row y of a picture, of which the rows above are drawn: nothing where it has the place of the row above it
+// Draws row y of a picture, of which the rows above are drawn: nothing where it has the place of the row above it.
 fn draw_row(
     _list: &DisplayList,
     rect: Rect,
@@ -134,7 +134,7 @@ fn draw_row(
     Ok(())
 }
 
-// draws row y of a picture, which is the first of its place
+// Draws row y of a picture, which is the first of its place.
 fn draw_first(
     _list: &DisplayList,
     rect: Rect,
@@ -158,11 +158,15 @@ fn draw_first(
 {
     put_spans(spans, patches, y)?;
     let place = places[y] as usize;
-    draw_spans(bytes, width_of(rect), kept, place, spans.as_slice());
+    let size = Size {
+        width: width_of(rect),
+        height: kept,
+    };
+    draw_spans(bytes, size, place, spans.as_slice());
     Ok(())
 }
 
-// whether a row of a picture is the first of its place
+// Whether a row of a picture is the first of its place.
 fn is_first(places: &[u32], y: usize) -> bool
     requires { y < length places.now }
     ensures yes { IsTrue result → 0 < y → slice_index places.now (y - 1) ≡ slice_index places.now y → ⊥ }
@@ -174,7 +178,7 @@ fn is_first(places: &[u32], y: usize) -> bool
     places[y - 1] != places[y]
 }
 
-// puts the spans of the patches that have a row in place of others
+// Puts the spans of the patches that have a row in place of others.
 fn put_spans(spans: &mut Vec<Span>, patches: &[Patch], y: usize) -> Result<(), AllocError>
     ensures { OnOk result ((x : ℕ) → spans_show spans.new.items x ≡ patches_show patches.now x y) }
 {
@@ -185,7 +189,7 @@ fn put_spans(spans: &mut Vec<Span>, patches: &[Patch], y: usize) -> Result<(), A
     Ok(())
 }
 
-// adds the span of a patch, where the patch has row y
+// Adds the span of a patch, where the patch has row y.
 fn put_span(spans: &mut Vec<Span>, patch: &Patch, y: usize) -> Result<(), AllocError>
     ensures { OnOk result ((x : ℕ) → spans_show spans.new.items x ≡ patched x y (spans_show spans.old.items x) patch.now) }
 {

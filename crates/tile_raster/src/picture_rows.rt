@@ -1,4 +1,47 @@
 //! The rows that a picture keeps: of equal rows that follow one another only the first.
+//!
+//! # What
+//!
+//! A picture is what a display list shows on the rect of a tile. [`PictureRows`] has the bytes of the rows that are
+//! kept, and for each row of the rect its place among them: row y shows the kept row `places[y]`. `ends[y]` is the row
+//! after the last that has the same place, so that copying and blending take a whole band at a time. A picture whose
+//! rows are all equal, as one of a single colour is, keeps one row, and no places or ends.
+//!
+//! ```text
+//!    row    place    end                 kept
+//!     0       0       3      +------>   0  ..........
+//!     1       0       3      |          1  ..####....
+//!     2       0       3   ---+          2  ..####.##.
+//!     3       1       4
+//!     4       2       6
+//!     5       2       6
+//! ```
+//!
+//! # How
+//!
+//! 1. A row may differ from the row above only where an item begins or ends, or has pixels of its own (`changes.rt`).
+//!    Each other row takes the place of the row above.
+//! 2. If no item on the rect is a bitmap, the items are patches: parts of the picture of one colour (`patches.rt`).
+//!    Each kept row is then drawn run by run: from a column on, the topmost opaque patch and those above it tell the
+//!    colour, and how many columns have it (`spans.rt`). Each pixel is written once, and what is hidden is never
+//!    blended.
+//! 3. Otherwise the kept rows are drawn item by item, from the lowest on, each over what is there (`draw.rt`).
+//! 4. The ends follow from the places.
+//!
+//! # Cost
+//!
+//! Memory: four bytes for each pixel of a kept row, and eight for each row of the rect if more than one is kept. A tile
+//! of flat rects keeps a few rows, however tall it is; under a bitmap each row is kept. Time: the items once for the
+//! marks; then for patches the pixels of the kept rows, each once; item by item the pixels of each item in each kept
+//! row. Memory is taken for the marks, the patches, the places and ends, and the rows; an error means that it ran out.
+//!
+//! # Limits
+//!
+//! Only neighbours are found equal: of two equal rows with another between them both are kept. Rows are told equal by
+//! where items begin and end, not by their pixels: an item that begins below an opaque one makes a row that is kept,
+//! though it shows the same. One bitmap anywhere on the rect has all of it drawn item by item. The contracts say that
+//! each row has the bytes of what the list shows there (`AreKept`), and that an end is the first row with another place
+//! (`AreEnds`); that few rows are kept is not claimed.
 
 ghost use Rattle.std.specs.Prelude.{◌≡◌, ℕ, ◌+◌, ◌*◌, ◌<◌, ◌≤◌, ◌^◌, length, true, false, cond, slice_index, slice_index_or, IsTrue, IfOk, ⊤};
 ghost use Rattle.geom.specs.Covers.{IsSound};
@@ -44,7 +87,7 @@ pub(crate) fn kept_rows(
     }
 }
 
-// the rows of what the list shows on the rect, where patches show it
+// The rows of what the list shows on the rect, where patches show it.
 fn rows_of_patches(
     alloc: Global,
     list: &DisplayList,
@@ -62,7 +105,7 @@ fn rows_of_patches(
     with_ends(alloc, list, rect, places, bytes)
 }
 
-// the rows of what the list shows on the rect, drawn item by item
+// The rows of what the list shows on the rect, drawn item by item.
 fn rows_of_items(alloc: Global, list: &DisplayList, rect: Rect) -> Result<PictureRows, AllocError>
     requires { IsSound rect }
     ensures kept { IfOk result (λ rows. AreKept list.now rect rows.places.items rows.bytes.items) }
@@ -74,7 +117,7 @@ fn rows_of_items(alloc: Global, list: &DisplayList, rect: Rect) -> Result<Pictur
     with_ends(alloc, list, rect, places, bytes)
 }
 
-// the rows of a picture with these places and bytes; where one row is kept for all, it needs no places
+// The rows of a picture with these places and bytes; where one row is kept for all, it needs no places.
 fn with_ends(
     alloc: Global,
     _list: &DisplayList,
@@ -103,7 +146,7 @@ fn with_ends(
     })
 }
 
-// the place of each row: that of the row above where the row is not marked, else the next
+// The place of each row: that of the row above where the row is not marked, else the next.
 fn places_of(alloc: Global, changes: &[bool]) -> Result<Vec<u32>, AllocError>
     requires { length changes.now ≤ 2 ^ 29 }
     ensures { IfOk result (λ places. AreSteps (λ y. slice_index_or changes.now (y + 1) true ≡ false) (length changes.now) places.items) }
@@ -116,7 +159,7 @@ fn places_of(alloc: Global, changes: &[bool]) -> Result<Vec<u32>, AllocError>
     Ok(places)
 }
 
-// the place of the row after those that have one
+// The place of the row after those that have one.
 fn next_place(places: &[u32], changes: &[bool]) -> u32
     requires small { (k : ℕ) → k < length places.now → slice_index places.now k ≤ k }
     requires left { length places.now < length changes.now }
@@ -132,7 +175,7 @@ fn next_place(places: &[u32], changes: &[bool]) -> u32
     }
 }
 
-// the end of each row: rows that have one place have one end
+// The end of each row: rows that have one place have one end.
 fn ends_of(alloc: Global, places: &[u32]) -> Result<Vec<u32>, AllocError>
     requires { length places.now ≤ 2 ^ 29 }
     ensures { IfOk result (λ ends. AreEnds (length places.now) places.now ends.items) }
@@ -146,7 +189,7 @@ fn ends_of(alloc: Global, places: &[u32]) -> Result<Vec<u32>, AllocError>
     Ok(ends)
 }
 
-// how many rows from row y on have the place of row y
+// How many rows from row y on have the place of row y.
 fn equal_places_at(places: &[u32], y: usize) -> usize
     requires { y < length places.now }
     ensures some { 1 ≤ result }
@@ -161,7 +204,7 @@ fn equal_places_at(places: &[u32], y: usize) -> usize
     rows
 }
 
-// the bytes of the rows that are kept, each pixel drawn once
+// The bytes of the rows that are kept, each pixel drawn once.
 fn drawn_patches(
     alloc: Global,
     list: &DisplayList,
@@ -188,7 +231,7 @@ fn drawn_patches(
     Ok(bytes)
 }
 
-// the bytes of the rows that are kept, drawn item by item
+// The bytes of the rows that are kept, drawn item by item.
 fn drawn_items(
     alloc: Global,
     list: &DisplayList,
@@ -205,7 +248,7 @@ fn drawn_items(
     Ok(bytes)
 }
 
-// how many rows are kept
+// How many rows are kept.
 fn kept_count(places: &[u32]) -> usize
     requires { (k : ℕ) → k < length places.now → slice_index places.now k ≤ k }
     ensures last { IsCount places.now result }
@@ -217,7 +260,7 @@ fn kept_count(places: &[u32]) -> usize
     }
 }
 
-// the given number of rows of transparent pixels
+// The given number of rows of transparent pixels.
 fn clear_rows(alloc: Global, width: usize, rows: usize) -> Result<Vec<u8>, AllocError>
     requires width { width ≤ 2 ^ 29 }
     requires rows { rows ≤ 2 ^ 29 }

@@ -59,7 +59,7 @@ pub(crate) fn row_of<'a>(
     row_at(&rows.bytes, width_of(rect), place_of(rows, y))
 }
 
-// the first pixel of a row that has another colour
+// The first pixel of a row that has another colour.
 fn first_other(row: &[u8], colour: Colour) -> Option<usize>
     requires { ArePremultiplied row.now }
     ensures { MatchOption result
@@ -97,7 +97,7 @@ pub(crate) fn height_of(rect: Rect) -> usize
     count(rect.h)
 }
 
-// a length as a count
+// A length as a count.
 fn count(n: i32) -> usize
     requires { pos 0 ≤ℤ n }
     ensures { result ≡ near n }

@@ -8,7 +8,7 @@ ghost use Rattle.pixel.specs.Colours.{clear};
 ghost use Rattle.pixel.specs.Rows.{pixel, ArePremultiplied};
 ghost use Rattle.tile_raster.specs.inner.Patches.{has_column, spanned, spans_show};
 
-use pixel::{Area, Colour, fill_area};
+use pixel::{Area, Colour, Size, fill_area};
 
 /// The columns of a row that an item of one colour covers.
 #[derive(Clone, Copy)]
@@ -31,23 +31,23 @@ pub(crate) struct Run {
 }
 
 /// Draws the row at a place among those that are kept of a picture: what the spans show in each of its columns.
-pub(crate) fn draw_spans(bytes: &mut [u8], width: usize, kept: usize, place: usize, spans: &[Span])
-    requires size { length bytes.old ≡ 4 * (width * kept) }
-    requires place { place < kept }
-    ensures drawn { (x : ℕ) → x < width → pixel bytes.new (place * width + x) ≡ spans_show spans.now x }
-    ensures others { (x y : ℕ) → x < width → y < kept → (y ≡ place → ⊥) → pixel bytes.new (y * width + x) ≡ pixel bytes.old (y * width + x) }
+pub(crate) fn draw_spans(bytes: &mut [u8], size: Size, place: usize, spans: &[Span])
+    requires size { length bytes.old ≡ 4 * (size.width * size.height) }
+    requires place { place < size.height }
+    ensures drawn { (x : ℕ) → x < size.width → pixel bytes.new (place * size.width + x) ≡ spans_show spans.now x }
+    ensures others { (x y : ℕ) → x < size.width → y < size.height → (y ≡ place → ⊥) → pixel bytes.new (y * size.width + x) ≡ pixel bytes.old (y * size.width + x) }
     ensures premultiplied { ArePremultiplied bytes.old → ArePremultiplied bytes.new }
 {
     let mut x = 0;
-    while x < width {
-        let run = run_at(spans, x, width);
+    while x < size.width {
+        let run = run_at(spans, x, size.width);
         let colour = colour_at(&spans[run.first..], x);
-        fill_area(bytes, width, kept, area_of(x, run.end, place), colour);
+        fill_area(bytes, size, area_of(x, run.end, place), colour);
         x = run.end;
     }
 }
 
-// the area of some columns of one row
+// The area of some columns of one row.
 fn area_of(left: usize, right: usize, y: usize) -> Area
     requires { left ≤ right }
     ensures { result ≡ record { x = left; y = y; w = right - left; h = 1 } }
@@ -60,7 +60,7 @@ fn area_of(left: usize, right: usize, y: usize) -> Area
     }
 }
 
-// the columns from column x on that have the colour of column x, and the first of the spans that tell it
+// The columns from column x on that have the colour of column x, and the first of the spans that tell it.
 fn run_at(spans: &[Span], x: usize, width: usize) -> Run
     requires { x < width }
     ensures first { result.first ≤ length spans.now }
@@ -81,7 +81,7 @@ fn run_at(spans: &[Span], x: usize, width: usize) -> Run
     Run { first: 0, end }
 }
 
-// up to which column, at most `end`, a span has the columns from column x on, or has none of them
+// Up to which column, at most `end`, a span has the columns from column x on, or has none of them.
 fn alike_until(span: &Span, x: usize, end: usize) -> usize
     requires { x < end }
     ensures some { x < result }
@@ -97,7 +97,7 @@ fn alike_until(span: &Span, x: usize, end: usize) -> usize
     }
 }
 
-// whether a span hides in column x what is below it
+// Whether a span hides in column x what is below it.
 fn is_hiding(span: &Span, x: usize) -> bool
     ensures column { IsTrue result → has_column span.now x ≡ true }
     ensures opaque { IsTrue result → span.now.colour.a ≡ 255 }
@@ -106,7 +106,7 @@ fn is_hiding(span: &Span, x: usize) -> bool
     has_column && span.colour.a() == 255
 }
 
-// what some spans show in column x
+// What some spans show in column x.
 fn colour_at(spans: &[Span], x: usize) -> Colour
     ensures { result ≡ fold (spanned x) clear spans.now }
 {
@@ -117,7 +117,7 @@ fn colour_at(spans: &[Span], x: usize) -> Colour
     colour
 }
 
-// a span laid over a colour in column x
+// A span laid over a colour in column x.
 fn laid(span: &Span, x: usize, below: Colour) -> Colour
     ensures { result ≡ spanned x below span.now }
 {

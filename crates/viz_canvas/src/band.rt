@@ -2,6 +2,7 @@
 
 ghost use Rattle.std.specs.Prelude.{◌≡◌, ◌≤◌};
 
+use pixel::Area;
 use viz_scene::Scene;
 
 /// Whole rows of a picture, one under another.
@@ -13,6 +14,13 @@ pub(crate) struct Band {
     pub(crate) rows: usize,
     /// How many pixels there are from the start of a row to that of the next: the picture's width, or more.
     pub(crate) across: usize,
+}
+
+/// Where a part is drawn: in a band, and in which area of it.
+#[derive(Clone, Copy)]
+pub(crate) struct BandArea {
+    pub(crate) band: Band,
+    pub(crate) at: Area,
 }
 
 /// All rows of the picture of a scene, with `across` pixels from one to the next.

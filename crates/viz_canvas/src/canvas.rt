@@ -11,8 +11,8 @@ ghost use Rattle.viz_canvas.specs.Formats.{bytes_at};
 use crate::drawing::{draw_rects, draw_rects_in_parts, prepare, screen_of};
 use crate::format::PixelFormat;
 use crate::moving::move_rows;
-use crate::runs::{place_of, write_run};
-use pixel::{Colour, fill_row};
+use crate::runs::write_run;
+use pixel::{Colour, Size, fill_row};
 use region::Region;
 use std::alloc::{AllocError, Global};
 use std::marker::{Model, PhantomData, Sync};
@@ -25,7 +25,7 @@ pub struct Canvas<F: PixelFormat> {
     w: u32,
     h: u32,
     bytes: Vec<u8>,
-    // kept from one scene to the next
+    // Kept from one scene to the next.
     surfaces: Vec<Surfaces>,
     format: PhantomData<F>,
 }
@@ -177,7 +177,7 @@ impl<F: PixelFormat + Sync> Canvas<F> {
     }
 }
 
-// the bytes of a black picture
+// The bytes of a black picture.
 fn black_picture<F: PixelFormat>(
     alloc: Global,
     width: usize,
@@ -191,25 +191,26 @@ fn black_picture<F: PixelFormat>(
     let mut row = vec![in alloc; 0u8; 4 * width]?;
     fill_row(row.as_mut_slice(), black());
     let mut bytes = vec![in alloc; 0u8; F::DEPTH * (width * height)]?;
-    fill_rows::<F>(bytes.as_mut_slice(), width, height, row.as_slice());
+    let size = Size { width, height };
+    fill_rows::<F>(bytes.as_mut_slice(), size, row.as_slice());
     Ok(bytes)
 }
 
-// gives all rows of a picture the pixels of one
-fn fill_rows<F: PixelFormat>(bytes: &mut [u8], width: usize, height: usize, row: &[u8])
-    requires size { length bytes.old ≡ F.DEPTH * (width * height) }
-    requires row { length row.now ≡ 4 * width }
-    requires small { width * height < 2 ^ 64 }
-    requires black { (k : ℕ) → k < width → pixel row.now k ≡ Canvases.black }
-    ensures { (k : ℕ) → k < width * height → bytes_at F.DEPTH bytes.new k ≡ F.bytes_of Canvases.black }
+// Gives all rows of a picture of this size the pixels of one.
+fn fill_rows<F: PixelFormat>(bytes: &mut [u8], size: Size, row: &[u8])
+    requires size { length bytes.old ≡ F.DEPTH * (size.width * size.height) }
+    requires row { length row.now ≡ 4 * size.width }
+    requires small { size.width * size.height < 2 ^ 64 }
+    requires black { (k : ℕ) → k < size.width → pixel row.now k ≡ Canvases.black }
+    ensures { (k : ℕ) → k < size.width * size.height → bytes_at F.DEPTH bytes.new k ≡ F.bytes_of Canvases.black }
 {
-    for y in 0..height {
-        let place = place_of(width, height, 0, y, width);
-        write_run::<F>(bytes, place, width, row, 0);
+    for y in 0..size.height {
+        let place = size.place_of(0, y, size.width);
+        write_run::<F>(bytes, place, size.width, row, 0);
     }
 }
 
-// the opaque black
+// The opaque black.
 fn black() -> Colour
     ensures { result ≡ Canvases.black }
 {

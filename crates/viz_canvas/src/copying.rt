@@ -18,7 +18,7 @@ pub(crate) fn copy_bytes(bytes: &mut [u8], from: usize, to: usize, len: usize)
     }
 }
 
-// copies bytes to before where they stand, the first block first
+// Copies bytes to before where they stand, the first block first.
 fn copy_to_before(bytes: &mut [u8], from: usize, to: usize, len: usize)
     requires given { from + len ≤ length bytes.old }
     requires order { to < from }
@@ -34,7 +34,7 @@ fn copy_to_before(bytes: &mut [u8], from: usize, to: usize, len: usize)
     }
 }
 
-// copies bytes to after where they stand, the last block first
+// Copies bytes to after where they stand, the last block first.
 fn copy_to_after(bytes: &mut [u8], from: usize, to: usize, len: usize)
     requires there { to + len ≤ length bytes.old }
     requires order { from < to }
@@ -50,7 +50,7 @@ fn copy_to_after(bytes: &mut [u8], from: usize, to: usize, len: usize)
     }
 }
 
-// copies bytes to before where they stand, which do not overlap with those there
+// Copies bytes to before where they stand, which do not overlap with those there.
 fn copy_block_to_before(bytes: &mut [u8], from: usize, to: usize, len: usize)
     requires given { from + len ≤ length bytes.old }
     requires apart { to + len ≤ from }
@@ -61,7 +61,7 @@ fn copy_block_to_before(bytes: &mut [u8], from: usize, to: usize, len: usize)
     above[to..to + len].copy_from_slice(&below[..len]);
 }
 
-// copies bytes to after where they stand, which do not overlap with those there
+// Copies bytes to after where they stand, which do not overlap with those there.
 fn copy_block_to_after(bytes: &mut [u8], from: usize, to: usize, len: usize)
     requires there { to + len ≤ length bytes.old }
     requires apart { from + len ≤ to }

@@ -6,9 +6,9 @@ ghost use Rattle.viz_render.specs.Surfaces.{AreReady};
 ghost use Rattle.viz_canvas.specs.Buffers.{HasRows, IsDrawnIn};
 ghost use Rattle.viz_canvas.specs.inner.Bands.{AreAllReady, IsRectDrawn};
 
-use crate::band::band_of;
+use crate::band::{BandArea, band_of};
 use crate::format::PixelFormat;
-use crate::parts::{BandArea, draw_parts, parts_of, pixels_of};
+use crate::parts::{draw_parts, parts_of, pixels_of};
 use crate::pieces::draw_area;
 use geom::Rect;
 use page_display_list::shared_part;
@@ -40,14 +40,14 @@ pub(crate) fn prepare(
     Ok(())
 }
 
-// whether all surfaces have room for strips of a scene
+// Whether all surfaces have room for strips of a scene.
 fn are_all_ready(surfaces: &[Surfaces], scene: &Scene) -> bool
     ensures { IsTrue result → All (AreReady scene.now) surfaces.now }
 {
     surfaces.iter().all(|each| each.are_ready(scene))
 }
 
-// takes the given number of surfaces
+// Takes the given number of surfaces.
 fn take_surfaces(
     alloc: Global,
     scene: &Scene,
@@ -64,7 +64,7 @@ fn take_surfaces(
     Ok(())
 }
 
-// looks for each of some surfaces in which passes of a scene a mask pays
+// Looks for each of some surfaces in which passes of a scene a mask pays.
 fn measure_all(surfaces: &mut [Surfaces], scene: &Scene)
     ensures { surfaces.new ≡ surfaces.old }
 {
@@ -73,7 +73,7 @@ fn measure_all(surfaces: &mut [Surfaces], scene: &Scene)
     }
 }
 
-// how many pixels of a scene the largest of some rects has
+// How many pixels of a scene the largest of some rects has.
 fn most_pixels(scene: &Scene, rects: &[Rect]) -> usize
     requires { All IsSound rects.now }
 {
@@ -84,7 +84,7 @@ fn most_pixels(scene: &Scene, rects: &[Rect]) -> usize
     most
 }
 
-// how many pixels of a scene a rect has
+// How many pixels of a scene a rect has.
 fn pixel_count(scene: &Scene, rect: Rect) -> usize
     requires { IsSound rect }
 {
@@ -94,8 +94,8 @@ fn pixel_count(scene: &Scene, rect: Rect) -> usize
     }
 }
 
-/// Draws the pixels of a scene that some of the rects cover into its picture, which lies in a buffer with `across` pixels
-/// from row to row; all other bytes stay.
+/// Draws the pixels of a scene that some of the rects cover into its picture, which lies in a buffer with `across`
+/// pixels from row to row; all other bytes stay.
 pub(crate) fn draw_rects<F: PixelFormat>(
     scene: &Scene,
     bytes: &mut [u8],
@@ -113,7 +113,7 @@ pub(crate) fn draw_rects<F: PixelFormat>(
     }
 }
 
-// draws the pixels of a scene that a rect covers
+// Draws the pixels of a scene that a rect covers.
 fn draw_rect<F: PixelFormat>(
     scene: &Scene,
     bytes: &mut [u8],
@@ -152,7 +152,7 @@ pub(crate) fn draw_rects_in_parts<R: Threads + Sync, F: PixelFormat + Sync>(
     }
 }
 
-// draws the pixels of a scene that a rect covers, in at most as many parts as there are surfaces
+// Draws the pixels of a scene that a rect covers, in at most as many parts as there are surfaces.
 fn draw_rect_in_parts<R: Threads + Sync, F: PixelFormat + Sync>(
     rt: &R,
     scene: &Scene,

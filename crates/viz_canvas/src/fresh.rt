@@ -33,7 +33,7 @@ pub(crate) fn mark_all(fresh: &mut [u8])
     fresh.fill(1);
 }
 
-// marks where the quads of some passes change
+// Marks where the quads of some passes change.
 fn mark_passes(fresh: &mut [u8], passes: &[RenderPass], area: Rect)
     requires area { IsSound area }
     requires room { near area.h ≤ length fresh.old }
@@ -46,7 +46,7 @@ fn mark_passes(fresh: &mut [u8], passes: &[RenderPass], area: Rect)
     }
 }
 
-// marks where some quads change
+// Marks where some quads change.
 fn mark_quads(fresh: &mut [u8], quads: &[Quad], area: Rect)
     requires area { IsSound area }
     requires room { near area.h ≤ length fresh.old }
@@ -60,7 +60,7 @@ fn mark_quads(fresh: &mut [u8], quads: &[Quad], area: Rect)
     }
 }
 
-// marks where one quad changes
+// Marks where one quad changes.
 fn mark_quad(fresh: &mut [u8], quad: &Quad, area: Rect)
     requires area { IsSound area }
     requires room { near area.h ≤ length fresh.old }
@@ -76,7 +76,7 @@ fn mark_quad(fresh: &mut [u8], quad: &Quad, area: Rect)
     }
 }
 
-// marks where a rect begins and ends
+// Marks where a rect begins and ends.
 fn mark_solid(fresh: &mut [u8], at: Rect, area: Rect)
     requires area { IsSound area }
     requires at { IsSound at }
@@ -90,7 +90,7 @@ fn mark_solid(fresh: &mut [u8], at: Rect, area: Rect)
     }
 }
 
-// marks the first of some rows and the one after the last
+// Marks the first of some rows and the one after the last.
 fn mark_ends(fresh: &mut [u8], first: usize, rows: usize)
     requires { first + rows < 2 ^ 64 }
     ensures size { length fresh.new ≡ length fresh.old }
@@ -102,7 +102,7 @@ fn mark_ends(fresh: &mut [u8], first: usize, rows: usize)
     mark_row(fresh, first + rows);
 }
 
-// marks a row, if it is there
+// Marks a row, if it is there.
 fn mark_row(fresh: &mut [u8], row: usize)
     ensures size { length fresh.new ≡ length fresh.old }
     ensures there { row < length fresh.old → slice_index fresh.new row ≡ 0 → ⊥ }
@@ -113,7 +113,7 @@ fn mark_row(fresh: &mut [u8], row: usize)
     }
 }
 
-// marks where a tile begins and ends, and where its rows change
+// Marks where a tile begins and ends, and where its rows change.
 fn mark_tile(fresh: &mut [u8], image: &TileImage, at: Rect, from: Point, area: Rect)
     requires area { IsSound area }
     requires at { IsSound at }
@@ -145,7 +145,7 @@ pub(crate) fn row_of(from: Point) -> usize
     count(from.y)
 }
 
-// a number that is not negative as a count
+// A number that is not negative as a count.
 fn count(n: i32) -> usize
     requires { pos 0 ≤ℤ n }
     ensures { result ≡ near n }
@@ -153,7 +153,7 @@ fn count(n: i32) -> usize
     n as usize
 }
 
-// marks where the rows of a part of an image change, which takes what is `down` rows lower
+// Marks where the rows of a part of an image change, which takes what is `down` rows lower.
 fn mark_bands(fresh: &mut [u8], image: &TileImage, part: CoveredArea, down: usize)
     requires rows { part.above + down + part.at.h ≤ near image.now.rect.h }
     requires down { part.at.y + part.at.h ≤ length fresh.old }
@@ -170,7 +170,7 @@ fn mark_bands(fresh: &mut [u8], image: &TileImage, part: CoveredArea, down: usiz
     }
 }
 
-// how many rows of an image, from a row on, are equal
+// How many rows of an image, from a row on, are equal.
 fn same_rows(image: &TileImage, row: usize) -> usize
     requires { row < near image.now.rect.h }
     ensures some { 1 ≤ result }

@@ -9,7 +9,7 @@ use std::simd::prelude::*;
 /// How many bytes are taken at a time, and written.
 pub(crate) const LANES: usize = 16;
 
-/// Red, green and blue of four pixels, and after them their alphas.
+// Red, green and blue of four pixels, and after them their alphas.
 #[inline(always)]
 fn colours_first(v: u8x16) -> u8x16
     requires { length v ≡ 16 }
@@ -49,7 +49,7 @@ pub(crate) fn pack_sixteen(packed: &mut [u8], row: &[u8], place: usize)
     );
 }
 
-/// Packs a row of sixteen pixels.
+// Packs a row of sixteen pixels.
 #[inline(always)]
 fn pack_block(packed: &mut [u8], row: &[u8])
     requires given { length row.now ≡ 64 }

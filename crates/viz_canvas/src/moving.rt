@@ -10,8 +10,8 @@ ghost use Rattle.viz_canvas.specs.inner.Parts.{PartOf};
 
 use crate::band::{Band, band_of};
 use crate::format::PixelFormat;
-use crate::runs::{copy_run, place_of};
-use pixel::Area;
+use crate::runs::copy_run;
+use pixel::{Area, Size};
 use viz_scene::Scene;
 
 /// Gives `count` rows from row `to` on of a picture of a scene's size the pixels that as many rows from row `from` on
@@ -40,7 +40,7 @@ pub fn copy_rows<F: PixelFormat>(
     move_area::<F>(bytes, band, rows_of(scene, place, rows), first);
 }
 
-// the given number of rows of the picture of a scene from row `first` on
+// The given number of rows of the picture of a scene from row `first` on.
 fn rows_of(scene: &Scene, first: usize, rows: usize) -> Area
     ensures { result ≡ record { x = 0; y = first; w = scene.now.w; h = rows } }
 {
@@ -73,7 +73,7 @@ pub(crate) fn move_rows<F: PixelFormat>(
     copy_run::<F>(bytes, first, place, pixels);
 }
 
-// how many pixels stand before a row, after which the given number of rows follow
+// How many pixels stand before a row, after which the given number of rows follow.
 fn start_of(across: usize, height: usize, row: usize, count: usize) -> usize
     requires small { across * height < 2 ^ 64 }
     requires rows { row + count ≤ height }
@@ -83,7 +83,7 @@ fn start_of(across: usize, height: usize, row: usize, count: usize) -> usize
     row * across
 }
 
-// how many pixels the given number of rows have
+// How many pixels the given number of rows have.
 fn pixels_of(across: usize, height: usize, count: usize) -> usize
     requires small { across * height < 2 ^ 64 }
     requires rows { count ≤ height }
@@ -92,7 +92,7 @@ fn pixels_of(across: usize, height: usize, count: usize) -> usize
     count * across
 }
 
-// gives the rows of an area the pixels of the same columns in as many rows from row `from` on; all other pixels stay
+// Gives the rows of an area the pixels of the same columns in as many rows from row `from` on; all other pixels stay.
 fn move_area<F: PixelFormat>(bytes: &mut [u8], band: Band, at: Area, from: usize)
     requires size { length bytes.old ≡ F.DEPTH * (band.across * band.rows) }
     requires inside { IsInside at band.across band.rows }
@@ -106,7 +106,7 @@ fn move_area<F: PixelFormat>(bytes: &mut [u8], band: Band, at: Area, from: usize
     }
 }
 
-// does so where the rows go up or stay, the first row first
+// Does so where the rows go up or stay, the first row first.
 fn move_up<F: PixelFormat>(bytes: &mut [u8], band: Band, at: Area, from: usize)
     requires size { length bytes.old ≡ F.DEPTH * (band.across * band.rows) }
     requires inside { IsInside at band.across band.rows }
@@ -119,7 +119,7 @@ fn move_up<F: PixelFormat>(bytes: &mut [u8], band: Band, at: Area, from: usize)
     }
 }
 
-// does so where the rows go down, the last row first
+// Does so where the rows go down, the last row first.
 fn move_down<F: PixelFormat>(bytes: &mut [u8], band: Band, at: Area, from: usize)
     requires size { length bytes.old ≡ F.DEPTH * (band.across * band.rows) }
     requires inside { IsInside at band.across band.rows }
@@ -148,7 +148,11 @@ pub(crate) fn copy_row<F: PixelFormat>(
     requires source { source < band.rows }
     ensures { PartOf (bytes_at F.DEPTH) ((at.y + row) * band.across + at.x) at.w (λ j below. bytes_at F.DEPTH bytes.old (source * band.across + (at.x + j))) bytes.old bytes.new }
 {
-    let place = place_of(band.across, band.rows, at.x, at.y + row, at.w);
-    let given = place_of(band.across, band.rows, at.x, source, at.w);
+    let size = Size {
+        width: band.across,
+        height: band.rows,
+    };
+    let place = size.place_of(at.x, at.y + row, at.w);
+    let given = size.place_of(at.x, source, at.w);
     copy_run::<F>(bytes, given, place, at.w);
 }

@@ -5,7 +5,7 @@ ghost use Rattle.std.specs.Thread.{IsSync};
 ghost use Rattle.viz_canvas.specs.inner.Bands.{IsInBand, IsBandDrawn, AreAllReady};
 ghost use Rattle.viz_canvas.specs.inner.Halves.{upper_place, lower_place};
 
-use crate::band::Band;
+use crate::band::{Band, BandArea};
 use crate::format::PixelFormat;
 use crate::pieces::draw_area;
 use pixel::Area;
@@ -17,7 +17,8 @@ use viz_scene::Scene;
 /// The least pixels of a part, counted once for each pass: fewer are drawn before a thread has started.
 const LEAST_PIXELS: usize = 196608;
 
-/// In how many parts an area of the given number of pixels of a scene is drawn, at most the given number and at least one.
+/// In how many parts an area of the given number of pixels of a scene is drawn, at most the given number and at least
+/// one.
 pub(crate) fn parts_of(scene: &Scene, pixels: usize, most: usize) -> usize
     ensures { 1 ≤ result }
 {
@@ -29,12 +30,12 @@ pub(crate) fn pixels_of(at: Area) -> usize {
     at.w.saturating_mul(at.h)
 }
 
-// how many parts are worth a thread each where the given number of pixels of a scene are drawn
+// How many parts are worth a thread each where the given number of pixels of a scene are drawn.
 fn parts_worth(scene: &Scene, pixels: usize) -> usize {
     pixels.saturating_mul(scene.passes().len()) / LEAST_PIXELS
 }
 
-// how many of some rows the first of the given number of parts have
+// How many of some rows the first of the given number of parts have.
 fn share_of(rows: usize, parts: usize, first: usize) -> usize
     requires some { 1 ≤ parts }
     requires first { first ≤ parts }
@@ -43,7 +44,7 @@ fn share_of(rows: usize, parts: usize, first: usize) -> usize
     rows / parts * first
 }
 
-// where a row of some begins
+// Where a row of some begins.
 fn start_of<F: PixelFormat>(across: usize, row: usize, rows: usize) -> usize
     requires there { row ≤ rows }
     requires small { F.DEPTH * (across * rows) < 2 ^ 64 }
@@ -53,14 +54,7 @@ fn start_of<F: PixelFormat>(across: usize, row: usize, rows: usize) -> usize
     F::DEPTH * (across * row)
 }
 
-/// Where a part is drawn: in a band, and in which area of it.
-#[derive(Clone, Copy)]
-pub(crate) struct BandArea {
-    pub(crate) band: Band,
-    pub(crate) at: Area,
-}
-
-// the first rows of an area, in a band that ends with them
+// The first rows of an area, in a band that ends with them.
 fn upper_of(band: Band, at: Area, rows: usize) -> BandArea
     requires { at.y + rows ≤ 2048 }
     ensures { result ≡ upper_place band at rows }
@@ -80,7 +74,7 @@ fn upper_of(band: Band, at: Area, rows: usize) -> BandArea
     }
 }
 
-// the rows of an area after the first, in a band that begins with them
+// The rows of an area after the first, in a band that begins with them.
 fn lower_of(band: Band, at: Area, rows: usize) -> BandArea
     requires end { band.top + band.rows ≤ 2048 }
     requires inside { at.y + at.h ≤ band.rows }
@@ -103,8 +97,8 @@ fn lower_of(band: Band, at: Area, rows: usize) -> BandArea
     }
 }
 
-/// Draws the pixels of a scene in an area of the bytes of a band, in at most as many parts as there are surfaces, each by
-/// a thread of its own where it can be started; the other pixels stay.
+/// Draws the pixels of a scene in an area of the bytes of a band, in at most as many parts as there are surfaces, each
+/// by a thread of its own where it can be started; the other pixels stay.
 #[cycle(halves)]
 pub(crate) fn draw_parts<R: Threads + Sync, F: PixelFormat + Sync>(
     rt: &R,
@@ -133,7 +127,7 @@ pub(crate) fn draw_parts<R: Threads + Sync, F: PixelFormat + Sync>(
     draw_halves::<R, F>(rt, scene, upper, above, first, lower, below, second);
 }
 
-// draws two parts side by side
+// Draws two parts side by side.
 #[cycle(halves)]
 fn draw_halves<R: Threads + Sync, F: PixelFormat + Sync>(
     rt: &R,

@@ -14,14 +14,14 @@ ghost use Rattle.viz_canvas.specs.inner.Bands.{IsInBand, IsBandDrawn, rect_in_ba
 ghost use Rattle.viz_canvas.specs.inner.Fresh.{IsPlaced};
 ghost use Rattle.viz_canvas.specs.inner.Pieces.{ShowsOnly, ShowAlike, IsReached, IsTop, IsTopTile, IsImageWritten};
 
-use crate::band::Band;
+use crate::band::{Band, BandArea};
 use crate::format::PixelFormat;
 use crate::fresh::{column_of, row_of};
-use crate::runs::{place_of, write_run};
+use crate::runs::write_run;
 use crate::strip::{draw_strips, rect_of, strip_of};
 use geom::{Point, Rect};
 use page_display_list::{CoveredArea, shared_part};
-use pixel::Area;
+use pixel::{Area, Size};
 use tile_raster::TileImage;
 use viz_render::Surfaces;
 use viz_scene::{Quad, Scene};
@@ -55,7 +55,7 @@ pub(crate) fn draw_area<F: PixelFormat>(
     }
 }
 
-// draws an area in which a scene shows these quads of its root alone
+// Draws an area in which a scene shows these quads of its root alone.
 #[cycle(pieces)]
 fn draw_below<F: PixelFormat>(
     scene: &Scene,
@@ -89,71 +89,86 @@ fn draw_below<F: PixelFormat>(
         draw_strips::<F>(scene, bytes, band, at, surfaces);
         return;
     };
-    draw_pieces::<F>(scene, top, below, part, bytes, band, at, surfaces);
+    let top = Topmost {
+        quad: top,
+        part,
+        below,
+    };
+    draw_pieces::<F>(scene, top, bytes, BandArea { band, at }, surfaces);
 }
 
-// draws the part of an area that the topmost of its quads covers, and the rows above and below that part
+/// The topmost of the quads that may draw in an area.
+#[derive(Clone, Copy)]
+pub(crate) struct Topmost<'a> {
+    pub(crate) quad: &'a Quad,
+    /// The part of the area that it covers.
+    pub(crate) part: CoveredArea,
+    /// The quads below it, which are drawn where it does not cover them.
+    pub(crate) below: &'a [Quad],
+}
+
+// Draws the part of an area that the topmost of its quads covers, and the rows above and below that part.
 #[cycle(pieces)]
 fn draw_pieces<F: PixelFormat>(
     scene: &Scene,
-    top: &Quad,
-    below: &[Quad],
-    part: CoveredArea,
+    top: Topmost<'_>,
     bytes: &mut [u8],
-    band: Band,
-    at: Area,
+    place: BandArea,
     surfaces: &mut Surfaces,
 )
-    requires place { IsInBand F.DEPTH scene.now band at bytes.old }
+    requires place { IsInBand F.DEPTH scene.now place.band place.at bytes.old }
     requires ready { AreReady scene.now surfaces.old }
-    requires top { IsPlaced (quad_view top.now) }
-    requires below { All IsPlaced (quads_view below.now) }
-    requires part { IsReached (quad_view top.now) (rect_in_band band at) part }
-    requires shown { ShowsOnly scene.now band at (quads_view below.now ++ quad_view top.now ∷ []) }
-    ensures drawn { IsBandDrawn F.DEPTH F.bytes_of scene.now band at bytes.old bytes.new }
+    requires top { IsPlaced (quad_view top.quad.now) }
+    requires below { All IsPlaced (quads_view top.below.now) }
+    requires part { IsReached (quad_view top.quad.now) (rect_in_band place.band place.at) top.part }
+    requires shown { ShowsOnly scene.now place.band place.at (quads_view top.below.now ++ quad_view top.quad.now ∷ []) }
+    ensures drawn { IsBandDrawn F.DEPTH F.bytes_of scene.now place.band place.at bytes.old bytes.new }
     ensures ready { AreReady scene.now surfaces.new }
 {
+    let BandArea { band, at } = place;
+    let Topmost { part, below, .. } = top;
     let end = part.at.y + part.at.h;
     let above = strip_of(at, 0, part.at.y);
     let beside = strip_of(at, part.at.y, part.at.h);
     let under = strip_of(at, end, at.h - end);
     draw_below::<F>(scene, below, bytes, band, above, surfaces);
-    draw_beside::<F>(scene, top, below, part, bytes, band, beside, surfaces);
+    let rows = BandArea { band, at: beside };
+    draw_beside::<F>(scene, top, bytes, rows, surfaces);
     draw_below::<F>(scene, below, bytes, band, under, surfaces);
 }
 
-// draws the rows of an area that the part has that the topmost of its quads covers
+// Draws the rows of an area that the part has that the topmost of its quads covers.
 #[cycle(pieces)]
 fn draw_beside<F: PixelFormat>(
     scene: &Scene,
-    top: &Quad,
-    below: &[Quad],
-    part: CoveredArea,
+    top: Topmost<'_>,
     bytes: &mut [u8],
-    band: Band,
-    at: Area,
+    place: BandArea,
     surfaces: &mut Surfaces,
 )
-    requires place { IsInBand F.DEPTH scene.now band at bytes.old }
+    requires place { IsInBand F.DEPTH scene.now place.band place.at bytes.old }
     requires ready { AreReady scene.now surfaces.old }
-    requires below { All IsPlaced (quads_view below.now) }
-    requires inside { part.at.x + part.at.w ≤ at.w }
-    requires here { IsTop scene.now band (columns_from at part.at.x part.at.w) part (quad_view top.now) }
-    requires left { ShowsOnly scene.now band (columns_from at 0 part.at.x) (quads_view below.now) }
-    requires right { ShowsOnly scene.now band (columns_from at (part.at.x + part.at.w) (at.w - (part.at.x + part.at.w))) (quads_view below.now) }
-    ensures drawn { IsBandDrawn F.DEPTH F.bytes_of scene.now band at bytes.old bytes.new }
+    requires below { All IsPlaced (quads_view top.below.now) }
+    requires inside { top.part.at.x + top.part.at.w ≤ place.at.w }
+    requires here { IsTop scene.now place.band (columns_from place.at top.part.at.x top.part.at.w) top.part (quad_view top.quad.now) }
+    requires left { ShowsOnly scene.now place.band (columns_from place.at 0 top.part.at.x) (quads_view top.below.now) }
+    requires right { ShowsOnly scene.now place.band (columns_from place.at (top.part.at.x + top.part.at.w) (place.at.w - (top.part.at.x + top.part.at.w))) (quads_view top.below.now) }
+    ensures drawn { IsBandDrawn F.DEPTH F.bytes_of scene.now place.band place.at bytes.old bytes.new }
     ensures ready { AreReady scene.now surfaces.new }
 {
+    let BandArea { band, at } = place;
+    let Topmost { quad, part, below } = top;
     let end = part.at.x + part.at.w;
     let left = columns_of(at, 0, part.at.x);
     let here = columns_of(at, part.at.x, part.at.w);
     let right = columns_of(at, end, at.w - end);
     draw_below::<F>(scene, below, bytes, band, left, surfaces);
-    draw_top::<F>(scene, top, part, bytes, band, here, surfaces);
+    let covered = BandArea { band, at: here };
+    draw_top::<F>(scene, quad, part, bytes, covered, surfaces);
     draw_below::<F>(scene, below, bytes, band, right, surfaces);
 }
 
-// the given number of columns of an area from column `first` on
+// The given number of columns of an area from column `first` on.
 fn columns_of(at: Area, first: usize, columns: usize) -> Area
     requires { at.x + first < 2 ^ 64 }
     ensures { result ≡ columns_from at first columns }
@@ -166,7 +181,7 @@ fn columns_of(at: Area, first: usize, columns: usize) -> Area
     }
 }
 
-// whether some of the quads are tiles whose images are written
+// Whether some of the quads are tiles whose images are written.
 fn some_are_written(quads: &[Quad]) -> bool {
     for quad in quads {
         if let Quad::Tile { image, at, .. } = quad {
@@ -178,7 +193,7 @@ fn some_are_written(quads: &[Quad]) -> bool {
     false
 }
 
-// whether an image is written where it is seen: it is opaque, and keeps all of its rows, as those of bitmaps do. Rows
+// Whether an image is written where it is seen: it is opaque, and keeps all of its rows, as those of bitmaps do. Rows
 // that are equal to the one above are copied in the picture in less time.
 fn is_written(image: &TileImage) -> bool
     ensures { IsTrue result → AreAllOpaque image.now.list image.now.rect }
@@ -186,14 +201,14 @@ fn is_written(image: &TileImage) -> bool
     image.is_opaque() && image.kept_bytes() / 4 >= pixels_of(image.rect())
 }
 
-// how many pixels a rect has
+// How many pixels a rect has.
 fn pixels_of(rect: Rect) -> usize {
     let width = rect.w.max(0) as usize;
     let height = rect.h.max(0) as usize;
     width.saturating_mul(height)
 }
 
-// the quads up to the last that may draw in an area
+// The quads up to the last that may draw in an area.
 fn seen_quads(quads: &[Quad], area: Rect) -> &[Quad]
     requires area { IsSound area }
     requires placed { All IsPlaced (quads_view quads.now) }
@@ -211,7 +226,7 @@ fn seen_quads(quads: &[Quad], area: Rect) -> &[Quad]
     rest
 }
 
-// whether a tile or a solid lies on no pixel of an area
+// Whether a tile or a solid lies on no pixel of an area.
 fn misses(quad: &Quad, area: Rect) -> bool
     requires area { IsSound area }
     requires quad { IsPlaced (quad_view quad.now) }
@@ -224,7 +239,7 @@ fn misses(quad: &Quad, area: Rect) -> bool
     }
 }
 
-// whether a rect covers no pixel of an area
+// Whether a rect covers no pixel of an area.
 fn is_outside(rect: Rect, area: Rect) -> bool
     requires area { IsSound area }
     requires rect { IsSound rect }
@@ -236,7 +251,7 @@ fn is_outside(rect: Rect, area: Rect) -> bool
     }
 }
 
-// the part of an area that a tile or a solid covers, where it is worth a piece of its own
+// The part of an area that a tile or a solid covers, where it is worth a piece of its own.
 fn large_part(quad: &Quad, area: Rect, quads: usize) -> Option<CoveredArea>
     requires area { IsSound area }
     requires quad { IsPlaced (quad_view quad.now) }
@@ -250,7 +265,7 @@ fn large_part(quad: &Quad, area: Rect, quads: usize) -> Option<CoveredArea>
     Some(part)
 }
 
-// the part of an area that a tile or a solid covers
+// The part of an area that a tile or a solid covers.
 fn covered_part(quad: &Quad, area: Rect) -> Option<CoveredArea>
     requires area { IsSound area }
     requires quad { IsPlaced (quad_view quad.now) }
@@ -263,50 +278,61 @@ fn covered_part(quad: &Quad, area: Rect) -> Option<CoveredArea>
     }
 }
 
-// draws an area that the topmost of its quads covers
+// Draws an area that the topmost of its quads covers.
 fn draw_top<F: PixelFormat>(
     scene: &Scene,
     top: &Quad,
     part: CoveredArea,
     bytes: &mut [u8],
-    band: Band,
-    at: Area,
+    place: BandArea,
     surfaces: &mut Surfaces,
 )
-    requires place { IsInBand F.DEPTH scene.now band at bytes.old }
+    requires place { IsInBand F.DEPTH scene.now place.band place.at bytes.old }
     requires ready { AreReady scene.now surfaces.old }
-    requires top { IsTop scene.now band at part (quad_view top.now) }
-    ensures drawn { IsBandDrawn F.DEPTH F.bytes_of scene.now band at bytes.old bytes.new }
+    requires top { IsTop scene.now place.band place.at part (quad_view top.now) }
+    ensures drawn { IsBandDrawn F.DEPTH F.bytes_of scene.now place.band place.at bytes.old bytes.new }
     ensures ready { AreReady scene.now surfaces.new }
 {
     match top {
         Quad::Tile { image, from, .. } => {
-            draw_top_tile::<F>(scene, image, part, *from, bytes, band, at, surfaces);
+            let tile = TopTile {
+                image,
+                part,
+                from: *from,
+            };
+            draw_top_tile::<F>(scene, tile, bytes, place, surfaces);
         }
-        Quad::Solid { .. } => draw_strips::<F>(scene, bytes, band, at, surfaces),
-        Quad::Group { .. } => draw_strips::<F>(scene, bytes, band, at, surfaces),
+        Quad::Solid { .. } => draw_strips::<F>(scene, bytes, place.band, place.at, surfaces),
+        Quad::Group { .. } => draw_strips::<F>(scene, bytes, place.band, place.at, surfaces),
     }
 }
 
-// draws an area that a tile covers, with no quad over it
+/// A tile with no quad over it: which part of its rect is an area, and from where on the rect takes its image.
+#[derive(Clone, Copy)]
+pub(crate) struct TopTile<'a> {
+    pub(crate) image: &'a TileImage,
+    pub(crate) part: CoveredArea,
+    pub(crate) from: Point,
+}
+
+// Draws an area that a tile covers, with no quad over it.
 fn draw_top_tile<F: PixelFormat>(
     scene: &Scene,
-    image: &TileImage,
-    part: CoveredArea,
-    from: Point,
+    tile: TopTile<'_>,
     bytes: &mut [u8],
-    band: Band,
-    at: Area,
+    place: BandArea,
     surfaces: &mut Surfaces,
 )
-    requires place { IsInBand F.DEPTH scene.now band at bytes.old }
+    requires place { IsInBand F.DEPTH scene.now place.band place.at bytes.old }
     requires ready { AreReady scene.now surfaces.old }
-    requires left { pos 0 ≤ℤ from.x }
-    requires top { pos 0 ≤ℤ from.y }
-    requires tile { IsTopTile scene.now band at (part.left + near from.x) (part.above + near from.y) image.now }
-    ensures drawn { IsBandDrawn F.DEPTH F.bytes_of scene.now band at bytes.old bytes.new }
+    requires left { pos 0 ≤ℤ tile.from.x }
+    requires top { pos 0 ≤ℤ tile.from.y }
+    requires tile { IsTopTile scene.now place.band place.at (tile.part.left + near tile.from.x) (tile.part.above + near tile.from.y) tile.image.now }
+    ensures drawn { IsBandDrawn F.DEPTH F.bytes_of scene.now place.band place.at bytes.old bytes.new }
     ensures ready { AreReady scene.now surfaces.new }
 {
+    let BandArea { band, at } = place;
+    let TopTile { image, part, from } = tile;
     if !is_written(image) {
         draw_strips::<F>(scene, bytes, band, at, surfaces);
         return;
@@ -318,7 +344,7 @@ fn draw_top_tile<F: PixelFormat>(
     write_image::<F>(image, left, above, bytes, band, at);
 }
 
-// writes the pixels of an image from its column `left` and its row `above` on over those of an area
+// Writes the pixels of an image from its column `left` and its row `above` on over those of an area.
 fn write_image<F: PixelFormat>(
     image: &TileImage,
     left: usize,
@@ -333,14 +359,18 @@ fn write_image<F: PixelFormat>(
     requires rows { above + at.h ≤ near image.now.rect.h }
     ensures { IsImageWritten F.DEPTH F.bytes_of image.now left above band at bytes.old bytes.new }
 {
+    let size = Size {
+        width: band.across,
+        height: band.rows,
+    };
     for row in 0..at.h {
-        let place = place_of(band.across, band.rows, at.x, at.y + row, at.w);
+        let place = size.place_of(at.x, at.y + row, at.w);
         let pixels = image_row(image, above, row);
         write_run::<F>(bytes, place, at.w, pixels, left);
     }
 }
 
-// the bytes of a row of an image, which is `row` rows below another
+// The bytes of a row of an image, which is `row` rows below another.
 fn image_row(image: &TileImage, above: usize, row: usize) -> &[u8]
     requires { above + row < near image.now.rect.h }
     ensures { IsRow image.now.list image.now.rect (above + row) result.now }

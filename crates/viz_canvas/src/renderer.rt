@@ -17,7 +17,7 @@ use viz_scene::Scene;
 /// Such a picture has the size of a scene. Its buffer has a row of `across` pixels for each row of the scene: those of
 /// the picture, and after them a gap, which may be empty.
 pub struct Renderer {
-    // for scenes of the size and number of passes of the last one
+    // For scenes of the size and number of passes of the last one.
     surfaces: Vec<Surfaces>,
 }
 

@@ -6,7 +6,7 @@ ghost use Rattle.viz_canvas.specs.inner.Packing.{IsRgb, ArePacked};
 
 use crate::lanes::{BLOCK, LANES, ROOM, pack_four, pack_sixteen};
 
-/// Packs one pixel of a row.
+// Packs one pixel of a row.
 fn pack_pixel(packed: &mut [u8], row: &[u8], place: usize)
     requires given { 4 * place + 4 ≤ length row.now }
     requires room { 3 * place + 3 ≤ length packed.old }

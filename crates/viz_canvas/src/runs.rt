@@ -1,6 +1,6 @@
 //! Runs of pixels in a picture.
 
-ghost use Rattle.std.specs.Prelude.{◌≡◌, ◌+◌, ◌*◌, ◌<◌, ◌≤◌, ◌^◌, length};
+ghost use Rattle.std.specs.Prelude.{◌+◌, ◌*◌, ◌≤◌, length};
 ghost use Rattle.pixel.specs.Rows.{pixel};
 ghost use Rattle.viz_canvas.specs.Formats.{bytes_at};
 ghost use Rattle.viz_canvas.specs.inner.Parts.{PartOf};
@@ -35,16 +35,4 @@ pub(crate) fn copy_run<F: PixelFormat>(bytes: &mut [u8], from: usize, to: usize,
 {
     let depth = F::DEPTH;
     copy_bytes(bytes, depth * from, depth * to, depth * n);
-}
-
-/// The place of a run of `run` pixels, from column `x` of row `y` on, in a picture of `height` rows with `across` pixels
-/// from one to the next.
-pub(crate) fn place_of(across: usize, height: usize, x: usize, y: usize, run: usize) -> usize
-    requires across { x + run ≤ across }
-    requires down { y < height }
-    requires small { across * height < 2 ^ 64 }
-    ensures value { result ≡ y * across + x }
-    ensures inside { result + run ≤ across * height }
-{
-    y * across + x
 }

@@ -9,13 +9,13 @@ ghost use Rattle.viz_canvas.specs.inner.Bands.{IsInBand, IsBandDrawn, rect_in_ba
 ghost use Rattle.viz_canvas.specs.inner.Fresh.{ShowsRowsAbove};
 ghost use Rattle.viz_canvas.specs.inner.Parts.{PartOf, EachOf, only_in};
 
-use crate::band::Band;
+use crate::band::{Band, BandArea};
 use crate::format::PixelFormat;
 use crate::fresh::{mark_all, mark_fresh};
 use crate::moving::copy_row;
-use crate::runs::{place_of, write_run};
+use crate::runs::write_run;
 use geom::Rect;
-use pixel::Area;
+use pixel::{Area, Size};
 use viz_render::Surfaces;
 use viz_scene::Scene;
 
@@ -46,10 +46,11 @@ pub(crate) fn draw_strips<F: PixelFormat>(
     let copies = copies_worth(scene, surfaces, at.w);
     let mut fresh = [0u8; MOST_ROWS];
     mark_rows(&mut fresh, scene, band, at, copies);
-    draw_rows::<F>(scene, bytes, band, at, surfaces, &fresh, copies);
+    let place = BandArea { band, at };
+    draw_rows::<F>(scene, bytes, place, surfaces, &fresh, copies);
 }
 
-// how many rows that are copied are worth a strip that ends above them; where strips are to be high, none are
+// How many rows that are copied are worth a strip that ends above them; where strips are to be high, none are.
 fn copies_worth(scene: &Scene, surfaces: &Surfaces, width: usize) -> usize {
     if surfaces.are_masked() {
         return MOST_ROWS;
@@ -62,7 +63,7 @@ fn copies_worth(scene: &Scene, surfaces: &Surfaces, width: usize) -> usize {
     visits.saturating_add(LEAST_COPIES)
 }
 
-// marks the rows of an area that may differ from the row above; all where they are too few for a copy
+// Marks the rows of an area that may differ from the row above; all where they are too few for a copy.
 fn mark_rows(fresh: &mut [u8], scene: &Scene, band: Band, at: Area, copies: usize)
     requires inside { IsInside at scene.now.w band.rows }
     requires end { band.top + band.rows ≤ 2048 }
@@ -77,23 +78,23 @@ fn mark_rows(fresh: &mut [u8], scene: &Scene, band: Band, at: Area, copies: usiz
     mark_fresh(fresh, scene, rect_of(band, at, scene));
 }
 
-// draws the rows of an area, and copies those without a mark where the given number or more of them follow one another
+// Draws the rows of an area, and copies those without a mark where the given number or more of them follow one another.
 fn draw_rows<F: PixelFormat>(
     scene: &Scene,
     bytes: &mut [u8],
-    band: Band,
-    at: Area,
+    place: BandArea,
     surfaces: &mut Surfaces,
     fresh: &[u8],
     copies: usize,
 )
-    requires place { IsInBand F.DEPTH scene.now band at bytes.old }
+    requires place { IsInBand F.DEPTH scene.now place.band place.at bytes.old }
     requires ready { AreReady scene.now surfaces.old }
     requires room { length fresh.now ≡ 2048 }
-    requires alike { ShowsRowsAbove scene.now (rect_in_band band at) fresh.now }
-    ensures drawn { IsBandDrawn F.DEPTH F.bytes_of scene.now band at bytes.old bytes.new }
+    requires alike { ShowsRowsAbove scene.now (rect_in_band place.band place.at) fresh.now }
+    ensures drawn { IsBandDrawn F.DEPTH F.bytes_of scene.now place.band place.at bytes.old bytes.new }
     ensures ready { AreReady scene.now surfaces.new }
 {
+    let BandArea { band, at } = place;
     let mut done = 0;
     while done < at.h {
         if done > 0 && fresh[done] == 0 {
@@ -108,8 +109,8 @@ fn draw_rows<F: PixelFormat>(
     }
 }
 
-// how many rows from row `from` on are drawn in one strip, at most the given number: up to where so many have no mark
-// that they are copied
+// How many rows from row `from` on are drawn in one strip, at most the given number: up to where so many have no mark
+// that they are copied.
 fn rows_to_draw(fresh: &[u8], from: usize, most: usize, copies: usize) -> usize
     requires some { 1 ≤ most }
     requires there { from + most ≤ length fresh.now }
@@ -142,7 +143,7 @@ pub(crate) fn strip_of(at: Area, first: usize, rows: usize) -> Area
     }
 }
 
-// gives the columns of an area in its row `row` the pixels of the row above
+// Gives the columns of an area in its row `row` the pixels of the row above.
 fn copy_down<F: PixelFormat>(bytes: &mut [u8], band: Band, at: Area, row: usize)
     requires size { length bytes.old ≡ F.DEPTH * (band.across * band.rows) }
     requires inside { IsInside at band.across band.rows }
@@ -153,7 +154,7 @@ fn copy_down<F: PixelFormat>(bytes: &mut [u8], band: Band, at: Area, row: usize)
     copy_row::<F>(bytes, band, at, row, at.y + row - 1);
 }
 
-// draws the pixels of a scene in one strip of its picture
+// Draws the pixels of a scene in one strip of its picture.
 fn draw_strip<F: PixelFormat>(
     scene: &Scene,
     bytes: &mut [u8],
@@ -168,7 +169,11 @@ fn draw_strip<F: PixelFormat>(
     ensures ready { AreReady scene.now surfaces.new }
 {
     surfaces.draw(scene, rect_of(band, at, scene));
-    write_area::<F>(bytes, band.across, band.rows, at, surfaces.drawn());
+    let size = Size {
+        width: band.across,
+        height: band.rows,
+    };
+    write_area::<F>(bytes, size, at, surfaces.drawn());
 }
 
 /// The rect of the screen that an area of a band is.
@@ -188,22 +193,20 @@ pub(crate) fn rect_of(band: Band, at: Area, scene: &Scene) -> Rect
     }
 }
 
-/// Writes the pixels of an area of a picture, row by row from the top.
-pub(crate) fn write_area<F: PixelFormat>(
-    bytes: &mut [u8],
-    across: usize,
-    height: usize,
-    at: Area,
-    drawn: &[u8],
-)
-    requires size { length bytes.old ≡ F.DEPTH * (across * height) }
-    requires inside { IsInside at across height }
+/// Writes the pixels of an area of a picture of this size, row by row from the top.
+pub(crate) fn write_area<F: PixelFormat>(bytes: &mut [u8], size: Size, at: Area, drawn: &[u8])
+    requires size { length bytes.old ≡ F.DEPTH * (size.width * size.height) }
+    requires inside { IsInside at size.width size.height }
     requires given { 4 * (at.w * at.h) ≤ length drawn.now }
-    ensures { EachOf (bytes_at F.DEPTH) across height (only_in at at.h (λ x y below. F.bytes_of (pixel drawn.now ((y - at.y) * at.w + (x - at.x))))) bytes.old bytes.new }
+    ensures { EachOf (bytes_at F.DEPTH) size.width size.height (only_in at at.h (λ x y below. F.bytes_of (pixel drawn.now ((y - at.y) * at.w + (x - at.x))))) bytes.old bytes.new }
 {
+    let strip = Size {
+        width: at.w,
+        height: at.h,
+    };
     for row in 0..at.h {
-        let place = place_of(across, height, at.x, at.y + row, at.w);
-        let from = place_of(at.w, at.h, 0, row, at.w);
+        let place = size.place_of(at.x, at.y + row, at.w);
+        let from = strip.place_of(0, row, at.w);
         write_run::<F>(bytes, place, at.w, drawn, from);
     }
 }

@@ -8,10 +8,10 @@ use geom::Rect;
 use std::alloc::AllocError;
 use viz_scene::{hull, is_empty};
 
-// how many rects damage is kept as at most
+// How many rects damage is kept as at most.
 const MOST_RECTS: usize = 16;
 
-// the same where rows of tiles are added
+// The same where rows of tiles are added.
 const MOST_ROWS: usize = 64;
 
 /// Adds an area to damage, unless a rect of it holds the area. It is joined with what it costs least to join
@@ -34,8 +34,8 @@ pub(crate) fn add_area(damage: &mut Vec<Rect>, area: Rect) -> Result<(), AllocEr
     Ok(())
 }
 
-/// Adds some rows to damage: to the rect that stands left of them on the same rows, else as a rect of its own, as long as
-/// there are few. `hint` is where that rect is looked for first, and then the place after it: the rows of a tile are
+/// Adds some rows to damage: to the rect that stands left of them on the same rows, else as a rect of its own, as long
+/// as there are few. `hint` is where that rect is looked for first, and then the place after it: the rows of a tile are
 /// added in the order in which those of the tile left of it were.
 pub(crate) fn add_rows(
     damage: &mut Vec<Rect>,
@@ -62,7 +62,7 @@ pub(crate) fn add_rows(
     add_area(damage, rows)
 }
 
-// which rect of the same rows ends where some rows begin; looked for at a place first
+// Which rect of the same rows ends where some rows begin; looked for at a place first.
 fn place_beside(damage: &[Rect], hint: usize, rows: Rect) -> Option<usize>
     ensures { IfSome result (λ place. place < length damage.now) }
 {
@@ -77,12 +77,12 @@ fn place_beside(damage: &[Rect], hint: usize, rows: Rect) -> Option<usize>
     None
 }
 
-// whether some rows begin where a rect of the same rows ends
+// Whether some rows begin where a rect of the same rows ends.
 fn is_beside(rect: Rect, rows: Rect) -> bool {
     rect.y == rows.y && rect.h == rows.h && rect.x.saturating_add(rect.w) == rows.x
 }
 
-// whether one of some rects holds an area
+// Whether one of some rects holds an area.
 fn is_held(rects: &[Rect], area: Rect) -> bool
     requires rects { All IsOnScreen rects.now }
     requires area { IsOnScreen area }
@@ -96,7 +96,7 @@ fn is_held(rects: &[Rect], area: Rect) -> bool
     false
 }
 
-// whether a rect holds an area
+// Whether a rect holds an area.
 fn holds(rect: Rect, area: Rect) -> bool
     requires rect { IsOnScreen rect }
     requires area { IsOnScreen area }
@@ -107,7 +107,7 @@ fn holds(rect: Rect, area: Rect) -> bool
     across && down
 }
 
-// whether a span has all numbers of another
+// Whether a span has all numbers of another.
 fn has_span(at: i32, len: i32, other_at: i32, other_len: i32) -> bool
     requires start { pos 0 ≤ℤ at }
     requires end { (at +ℤ len) ≤ℤ pos 2048 }
@@ -123,7 +123,7 @@ fn has_span(at: i32, len: i32, other_at: i32, other_len: i32) -> bool
     at <= other_at && other_end <= end
 }
 
-// the rect that an area is to be joined with
+// The rect that an area is to be joined with.
 fn partner_of(rects: &[Rect], area: Rect) -> Option<usize>
     ensures { IfSome result (λ place. place < length rects.now) }
 {
@@ -143,7 +143,7 @@ fn partner_of(rects: &[Rect], area: Rect) -> Option<usize>
     }
 }
 
-// how many more pixels the rect of both has than they have one by one; both lie on the screen, so that nothing wraps
+// How many more pixels the rect of both has than they have one by one; both lie on the screen, so that nothing wraps.
 fn waste_of(a: Rect, b: Rect) -> i32 {
     let across = span_of_both(a.x, a.w, b.x, b.w);
     let down = span_of_both(a.y, a.h, b.y, b.h);
@@ -153,7 +153,7 @@ fn waste_of(a: Rect, b: Rect) -> i32 {
         .wrapping_sub(b.w.wrapping_mul(b.h))
 }
 
-// how far it is from the begin of the first of two spans to the end of the last
+// How far it is from the begin of the first of two spans to the end of the last.
 fn span_of_both(at: i32, len: i32, other_at: i32, other_len: i32) -> i32 {
     let end = at.wrapping_add(len);
     let other_end = other_at.wrapping_add(other_len);

@@ -35,7 +35,7 @@ pub fn damage_of(alloc: Global, old: &Scene, new: &Scene) -> Result<Region, Allo
     Ok(region)
 }
 
-// whether two scenes have one background, and as many passes
+// Whether two scenes have one background, and as many passes.
 fn can_be_compared(old: &Scene, new: &Scene) -> bool
     ensures background { IsTrue result → old.now.background ≡ new.now.background }
     ensures passes { IsTrue result → length old.now.passes ≡ length new.now.passes }
@@ -43,15 +43,15 @@ fn can_be_compared(old: &Scene, new: &Scene) -> bool
     is_same_colour(old.background(), new.background()) && pass_count(old) == pass_count(new)
 }
 
-// how many passes a scene has
+// How many passes a scene has.
 fn pass_count(scene: &Scene) -> usize
     ensures { result ≡ length scene.now.passes }
 {
     scene.passes().len()
 }
 
-// the region of all points of the screen
-fn whole_screen(alloc: Global, scene: &Scene) -> Result<Region, AllocError>
+/// The region of all points of the screen of a scene. An error means out of memory.
+pub fn whole_screen(alloc: Global, scene: &Scene) -> Result<Region, AllocError>
     ensures { IfOk result (λ region. (x y : ℤ) → covered region x y ≡ false → covers (screen scene.now) x y ≡ false) }
 {
     let mut region = Region::new(alloc);
@@ -64,7 +64,7 @@ fn whole_screen(alloc: Global, scene: &Scene) -> Result<Region, AllocError>
     Ok(region)
 }
 
-// the region of some rects
+// The region of some rects.
 fn region_of(alloc: Global, rects: &[Rect]) -> Result<Region, AllocError>
     requires { All IsOnScreen rects.now }
     ensures { IfOk result (λ region. (x y : ℤ) → covered region x y ≡ covered rects.now x y) }
@@ -76,7 +76,7 @@ fn region_of(alloc: Global, rects: &[Rect]) -> Result<Region, AllocError>
     Ok(region)
 }
 
-// the rects where as many passes differ from their successors
+// The rects where as many passes differ from their successors.
 fn changed_rects(
     alloc: Global,
     old: &[RenderPass],

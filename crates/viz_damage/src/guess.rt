@@ -9,10 +9,10 @@ use page_display_list::Item;
 use tile_raster::TileImage;
 use viz_scene::{Quad, RenderPass, Scene};
 
-// how many tiles of a pass are looked for in the other scene
+// How many tiles of a pass are looked for in the other scene.
 const PROBES: usize = 16;
 
-// the most quads of a scene of which rows are moved: of more, comparing them costs what drawing them does
+// The most quads of a scene of which rows are moved: of more, comparing them costs what drawing them does.
 const MOST_QUADS: usize = 2048;
 
 /// The rows of a scene that seem to stand in another scene of the same height, higher or lower; None where none do.
@@ -32,7 +32,7 @@ pub fn shift_of(old: &Scene, new: &Scene) -> Option<Shift>
     shift_by(old, new, by, height)
 }
 
-// how many quads some passes have
+// How many quads some passes have.
 fn count_of_quads(passes: &[RenderPass]) -> usize {
     let mut count = 0usize;
     for pass in passes {
@@ -41,7 +41,7 @@ fn count_of_quads(passes: &[RenderPass]) -> usize {
     count
 }
 
-// whether the layers of tiles have bitmaps, whose bytes would be compared
+// Whether the layers of tiles have bitmaps, whose bytes would be compared.
 fn show_bitmaps(passes: &[RenderPass]) -> bool {
     let mut last = None;
     for pass in passes {
@@ -58,7 +58,7 @@ fn show_bitmaps(passes: &[RenderPass]) -> bool {
     false
 }
 
-// whether the display list of a tile has a bitmap
+// Whether the display list of a tile has a bitmap.
 fn has_bitmap(image: &TileImage) -> bool {
     for item in image.list().items() {
         if let Item::Bitmap(_) = item {
@@ -68,7 +68,7 @@ fn has_bitmap(image: &TileImage) -> bool {
     false
 }
 
-// the rows that stand this much lower in another scene
+// The rows that stand this much lower in another scene.
 fn shift_by(old: &Scene, new: &Scene, by: i32, height: u32) -> Option<Shift>
     requires { height ≤ 2048 }
     ensures { IfSome result (λ shift. IsShift height shift) }
@@ -82,7 +82,7 @@ fn shift_by(old: &Scene, new: &Scene, by: i32, height: u32) -> Option<Shift>
     shift_within(from, to, count_of(end.saturating_sub(top)), height)
 }
 
-// the given number of rows, from a row on and to a row; None where there are none or they are not a screen's
+// The given number of rows, from a row on and to a row; None where there are none or they are not a screen's.
 fn shift_within(from: u32, to: u32, count: u32, height: u32) -> Option<Shift>
     ensures { IfSome result (λ shift. IsShift height shift) }
 {
@@ -95,12 +95,12 @@ fn shift_within(from: u32, to: u32, count: u32, height: u32) -> Option<Shift>
     Some(Shift { from, to, count })
 }
 
-// a number as a count; 0 where it is negative
+// A number as a count; 0 where it is negative.
 fn count_of(n: i32) -> u32 {
     n.max(0) as u32
 }
 
-// how many rows lower a tile stands in the passes of another scene; None where none does
+// How many rows lower a tile stands in the passes of another scene; None where none does.
 fn distance_of(old: &[RenderPass], new: &[RenderPass]) -> Option<i32> {
     for pass in 0..old.len().min(new.len()) {
         let by = distance_in(old[pass].quads.as_slice(), new[pass].quads.as_slice());
@@ -111,7 +111,7 @@ fn distance_of(old: &[RenderPass], new: &[RenderPass]) -> Option<i32> {
     None
 }
 
-// how many rows lower a tile stands in another pass; 0 where none stands lower or higher
+// How many rows lower a tile stands in another pass; 0 where none stands lower or higher.
 fn distance_in(old: &[Quad], new: &[Quad]) -> i32 {
     for probe in 0..PROBES {
         let place = old.len() * probe / PROBES;
@@ -125,7 +125,7 @@ fn distance_in(old: &[Quad], new: &[Quad]) -> i32 {
     0
 }
 
-// how many rows lower a tile stands in another pass; 0 where it is not there
+// How many rows lower a tile stands in another pass; 0 where it is not there.
 fn distance_from(quad: &Quad, place: usize, new: &[Quad]) -> i32 {
     match quad {
         Quad::Tile { image, at, from } => {
@@ -145,7 +145,7 @@ fn distance_from(quad: &Quad, place: usize, new: &[Quad]) -> i32 {
     }
 }
 
-// how many rows lower another quad is, if it is a tile of the same place of a layer in the same column
+// How many rows lower another quad is, if it is a tile of the same place of a layer in the same column.
 fn distance_to(image: &TileImage, at: Rect, from: Point, other: &Quad) -> Option<i32> {
     match other {
         Quad::Tile {
@@ -169,15 +169,15 @@ fn distance_to(image: &TileImage, at: Rect, from: Point, other: &Quad) -> Option
     }
 }
 
-// the rows that what is scrolled is cut to
+// The rows that what is scrolled is cut to.
 #[derive(Clone, Copy)]
 struct Port {
     top: i32,
     end: i32,
 }
 
-// the rows between the highest cut through the top of a tile and the lowest through the bottom of one; the screen's
-// where no tile is cut
+// The rows between the highest cut through the top of a tile and the lowest through the bottom of one; the screen's
+// where no tile is cut.
 fn port_of(passes: &[RenderPass], h: i32) -> Port {
     let mut top = h;
     let mut end = 0;

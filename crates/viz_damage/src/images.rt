@@ -30,12 +30,12 @@ pub(crate) fn are_same_images(a: &TileImage, b: &TileImage) -> bool
     show_alike(a.list(), b.list(), rect)
 }
 
-// whether the rows of an image are compared sooner than the items of its list
+// Whether the rows of an image are compared sooner than the items of its list.
 fn has_few_bytes(image: &TileImage) -> bool {
     image.solid().is_some() || image.kept_bytes() / BYTES_OF_ITEM <= image.list().items().len()
 }
 
-// whether two lists show the same on a rect
+// Whether two lists show the same on a rect.
 fn show_alike(a: &DisplayList, b: &DisplayList, rect: Rect) -> bool
     requires { IsSound rect }
     ensures { IsTrue result → ShowAlike rect a.now b.now }
@@ -53,7 +53,7 @@ fn show_alike(a: &DisplayList, b: &DisplayList, rect: Rect) -> bool
     true
 }
 
-// whether two items paint the same on a rect
+// Whether two items paint the same on a rect.
 fn paint_alike(a: &Item, b: &Item, rect: Rect) -> bool
     requires sound { IsSoundItem a.now }
     requires other_sound { IsSoundItem b.now }
@@ -70,7 +70,7 @@ fn paint_alike(a: &Item, b: &Item, rect: Rect) -> bool
     are_one_bitmap(a, b)
 }
 
-// whether an item has no point of a rect
+// Whether an item has no point of a rect.
 fn lies_outside(item: &Item, rect: Rect) -> bool
     requires sound { IsSoundItem item.now }
     requires rect { IsSound rect }
@@ -86,7 +86,7 @@ pub(crate) fn is_same_item(a: &Item, b: &Item) -> bool
     are_one_fill(a, b) || are_one_bitmap(a, b)
 }
 
-// whether two items are one rect of one colour
+// Whether two items are one rect of one colour.
 fn are_one_fill(a: &Item, b: &Item) -> bool
     ensures { IsTrue result → a.now ≡ b.now }
 {
@@ -102,7 +102,7 @@ fn are_one_fill(a: &Item, b: &Item) -> bool
     }
 }
 
-// whether two items are one bitmap
+// Whether two items are one bitmap.
 fn are_one_bitmap(a: &Item, b: &Item) -> bool
     ensures { IsTrue result → a.now ≡ b.now }
 {
@@ -112,14 +112,14 @@ fn are_one_bitmap(a: &Item, b: &Item) -> bool
     }
 }
 
-// whether two bitmaps are one
+// Whether two bitmaps are one.
 fn is_same_bitmap(a: &Bitmap, b: &Bitmap) -> bool
     ensures { IsTrue result → a.now ≡ b.now }
 {
     is_same_rect(a.rect(), b.rect()) && are_same_bytes(a.pixels(), b.pixels())
 }
 
-// whether two texts of bytes are one
+// Whether two texts of bytes are one.
 fn are_same_bytes(a: &[u8], b: &[u8]) -> bool
     ensures { IsTrue result → a.now ≡ b.now }
 {

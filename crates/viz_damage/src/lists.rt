@@ -14,10 +14,10 @@ use geom::Rect;
 use std::alloc::AllocError;
 use viz_scene::Quad;
 
-// how far ahead a quad is looked for that stands in both lists
+// How far ahead a quad is looked for that stands in both lists.
 const MOST_AHEAD: usize = 64;
 
-// the same where both quads are rects of one colour: once they have moved, none represents another
+// The same where both quads are rects of one colour: once they have moved, none represents another.
 const FEW_AHEAD: usize = 4;
 
 /// Adds to damage where two lists of quads differ, where the passes before them have these reaches.
@@ -42,7 +42,7 @@ pub(crate) fn add_changes(
     Ok(())
 }
 
-// how many quads at the end of two lists act alike
+// How many quads at the end of two lists act alike.
 fn common_end(old: &[Quad], new: &[Quad], passes: usize) -> usize
     requires old { All (QuadFits 2048 2048 passes) (quads_view old.now) }
     requires new { All (QuadFits 2048 2048 passes) (quads_view new.now) }
@@ -62,7 +62,7 @@ fn common_end(old: &[Quad], new: &[Quad], passes: usize) -> usize
     end
 }
 
-// adds to damage where two lists of quads differ, from their first quads on
+// Adds to damage where two lists of quads differ, from their first quads on.
 fn add_front_changes(
     old: &[Quad],
     new: &[Quad],
@@ -89,14 +89,14 @@ fn add_front_changes(
     Ok(())
 }
 
-// a place in each of two lists
+// A place in each of two lists.
 #[derive(Clone, Copy)]
 struct Places {
     old: usize,
     new: usize,
 }
 
-// adds what changes from a place in each list to the next places at which they may go on alike
+// Adds what changes from a place in each list to the next places at which they may go on alike.
 fn add_step(
     old: &[Quad],
     i: usize,
@@ -142,19 +142,19 @@ fn add_step(
     })
 }
 
-// how two lists go on from a place in each
+// How two lists go on from a place in each.
 #[derive(Clone, Copy)]
 struct ListStep {
-    // the quads there act alike
+    // The quads there act alike.
     act_alike: bool,
-    // how many quads of the old list are gone
+    // How many quads of the old list are gone.
     gone: usize,
-    // how many quads of the new list have come
+    // How many quads of the new list have come.
     come: usize,
 }
 
-// how two lists go on: by one quad in each that acts alike, or by what has to go and to come until two quads
-// represent one thing
+// How two lists go on: by one quad in each that acts alike, or by what has to go and to come until two quads
+// represent one thing.
 fn step_at(old: &[Quad], i: usize, new: &[Quad], j: usize, passes: usize) -> ListStep
     requires old { All (QuadFits 2048 2048 passes) (quads_view old.now) }
     requires i { i < length old.now }
@@ -174,7 +174,7 @@ fn step_at(old: &[Quad], i: usize, new: &[Quad], j: usize, passes: usize) -> Lis
     step_over(old, i, new, j)
 }
 
-// how far ahead is looked for a quad that represents one of these two
+// How far ahead is looked for a quad that represents one of these two.
 fn most_ahead(a: &Quad, b: &Quad) -> usize {
     match (a, b) {
         (Quad::Solid { .. }, Quad::Solid { .. }) => FEW_AHEAD,
@@ -182,7 +182,7 @@ fn most_ahead(a: &Quad, b: &Quad) -> usize {
     }
 }
 
-// how many quads have to go and to come until two quads represent one thing
+// How many quads have to go and to come until two quads represent one thing.
 fn step_over(old: &[Quad], i: usize, new: &[Quad], j: usize) -> ListStep
     requires i { i < length old.now }
     requires j { j < length new.now }
@@ -219,7 +219,7 @@ fn step_over(old: &[Quad], i: usize, new: &[Quad], j: usize) -> ListStep
     changed
 }
 
-// adds the areas that the given number of quads from a place on act on
+// Adds the areas that the given number of quads from a place on act on.
 fn add_areas(
     quads: &[Quad],
     start: usize,

@@ -20,7 +20,7 @@ use std::alloc::AllocError;
 use tile_raster::TileImage;
 use viz_scene::Quad;
 
-// the least width and height of an image whose rows are looked at
+// The least width and height of an image whose rows are looked at.
 const LEAST_SIDE: i32 = 64;
 
 /// Adds to damage where a quad differs from the one in whose place it stands, where the passes before them have these
@@ -69,15 +69,15 @@ pub(crate) fn add_change(
     Ok(())
 }
 
-// a part of an image on the screen: where, and from which pixel of the image on
+// A part of an image on the screen: where, and from which pixel of the image on.
 #[derive(Clone, Copy)]
 struct Part {
     at: Rect,
     from: Point,
 }
 
-// whether two parts of an image have rows of the screen in common, and the image is large and has at most a quarter as
-// many rows that differ from those before them
+// Whether two parts of an image have rows of the screen in common, and the image is large and has at most a quarter as
+// many rows that differ from those before them.
 fn may_share_rows(image: &TileImage, a: Part, b: Part) -> bool {
     let rect = image.rect();
     if rect.w < LEAST_SIDE || rect.h < LEAST_SIDE {
@@ -87,7 +87,7 @@ fn may_share_rows(image: &TileImage, a: Part, b: Part) -> bool {
     meet && image.kept_bytes() as u64 <= (rect.w as u64).saturating_mul(rect.h as u64)
 }
 
-// whether two parts show the same columns at one place
+// Whether two parts show the same columns at one place.
 fn share_columns(a: Part, b: Part) -> bool
     ensures at { IsTrue result → a.at.x ≡ b.at.x }
     ensures width { IsTrue result → a.at.w ≡ b.at.w }
@@ -99,7 +99,7 @@ fn share_columns(a: Part, b: Part) -> bool
     is_same_number(a.from.x, b.from.x)
 }
 
-// adds the rows where two parts of one image differ
+// Adds the rows where two parts of one image differ.
 fn add_moved(
     image: &TileImage,
     old: Part,
@@ -128,20 +128,20 @@ fn add_moved(
     Ok(())
 }
 
-// rows of the screen that two areas have
+// Rows of the screen that two areas have.
 #[derive(Clone, Copy)]
 struct CommonRows {
-    // the first row that one of them has
+    // The first row that one of them has.
     first: i32,
-    // the first row that both have
+    // The first row that both have.
     top: i32,
-    // the row after the last one that both have
+    // The row after the last one that both have.
     end: i32,
-    // the row after the last one that one of them has
+    // The row after the last one that one of them has.
     last: i32,
 }
 
-// the rows that two areas have, one of them or both; where they have none in common, `top` and `end` are one row
+// The rows that two areas have, one of them or both; where they have none in common, `top` and `end` are one row.
 fn common_rows(a: Rect, b: Rect) -> CommonRows
     requires one { IsOnScreen a }
     requires other { IsOnScreen b }
@@ -160,21 +160,21 @@ fn common_rows(a: Rect, b: Rect) -> CommonRows
     }
 }
 
-// the lower of two numbers
+// The lower of two numbers.
 fn lower(a: i32, b: i32) -> i32
     ensures { result ≡ int_min a b }
 {
     a.min(b)
 }
 
-// the upper of two numbers
+// The upper of two numbers.
 fn upper(a: i32, b: i32) -> i32
     ensures { result ≡ int_max a b }
 {
     a.max(b)
 }
 
-// the row after the last one of an area
+// The row after the last one of an area.
 fn end_of(at: Rect) -> i32
     requires { IsOnScreen at }
     ensures { result ≡ at.y +ℤ at.h }
@@ -182,20 +182,20 @@ fn end_of(at: Rect) -> i32
     at.y + at.h
 }
 
-// rows that both parts of an image have
+// Rows that both parts of an image have.
 #[derive(Clone, Copy)]
 struct SharedRows {
-    // the row of the screen that is the first of them
+    // The row of the screen that is the first of them.
     top: i32,
-    // how many
+    // How many.
     count: u32,
-    // the row of the image that the old part has in the first of them
+    // The row of the image that the old part has in the first of them.
     before: u32,
-    // the row of the image that the new part has there
+    // The row of the image that the new part has there.
     after: u32,
 }
 
-// adds those of the rows that both parts of an image have where they differ
+// Adds those of the rows that both parts of an image have where they differ.
 fn add_common(
     image: &TileImage,
     old: Part,
@@ -230,7 +230,7 @@ fn add_common(
     Ok(())
 }
 
-// how many rows of a screen there are from one on and before another
+// How many rows of a screen there are from one on and before another.
 fn count_between(top: i32, end: i32) -> u32
     requires low { pos 0 ≤ℤ top }
     requires order { top ≤ℤ end }
@@ -240,7 +240,7 @@ fn count_between(top: i32, end: i32) -> u32
     (end - top) as u32
 }
 
-// the row of its image that a part shows in a row of the screen
+// The row of its image that a part shows in a row of the screen.
 fn row_at(part: Part, y: i32) -> u32
     requires at { IsOnScreen part.at }
     requires from { pos 0 ≤ℤ part.from.y }
@@ -252,7 +252,7 @@ fn row_at(part: Part, y: i32) -> u32
     (part.from.y + (y - part.at.y)) as u32
 }
 
-// adds those of some rows that both parts of an image have where they differ
+// Adds those of some rows that both parts of an image have where they differ.
 fn add_bands(
     image: &TileImage,
     old: Part,
@@ -291,7 +291,7 @@ fn add_bands(
     Ok(())
 }
 
-// the row after the given number of rows from a row on, or the end where that comes first
+// The row after the given number of rows from a row on, or the end where that comes first.
 fn row_after(done: u32, rows: u32, end: u32) -> u32
     requires inside { done < end }
     requires some { 1 ≤ rows }
@@ -302,16 +302,16 @@ fn row_after(done: u32, rows: u32, end: u32) -> u32
     if rows < end - done { done + rows } else { end }
 }
 
-// some rows of an image, from each of two rows on
+// Some rows of an image, from each of two rows on.
 #[derive(Clone, Copy)]
 struct RowStep {
-    // how many
+    // How many.
     rows: u32,
-    // each is equal to its partner
+    // Each is equal to its partner.
     are_same: bool,
 }
 
-// how an image goes on from two of its rows: by rows that are equal, or by rows that may differ
+// How an image goes on from two of its rows: by rows that are equal, or by rows that may differ.
 fn step_of(image: &TileImage, a: u32, b: u32) -> RowStep
     requires one { a < near image.now.rect.h }
     requires other { b < near image.now.rect.h }
@@ -324,7 +324,7 @@ fn step_of(image: &TileImage, a: u32, b: u32) -> RowStep
     step_from(image, b, a - b)
 }
 
-// the same from a row, and from one some rows lower
+// The same from a row, and from one some rows lower.
 fn step_from(image: &TileImage, row: u32, apart: u32) -> RowStep
     requires { row < near image.now.rect.h }
     ensures some { 1 ≤ result.rows }
@@ -344,7 +344,7 @@ fn step_from(image: &TileImage, row: u32, apart: u32) -> RowStep
     }
 }
 
-// some rows of an area of the screen, counted from a row of the screen on: from one on and before another
+// Some rows of an area of the screen, counted from a row of the screen on: from one on and before another.
 fn rows_of(at: Rect, top: i32, from: u32, to: u32) -> Rect
     requires at { IsOnScreen at }
     requires low { pos 0 ≤ℤ top }
@@ -364,7 +364,7 @@ fn rows_of(at: Rect, top: i32, from: u32, to: u32) -> Rect
     }
 }
 
-// the rows of an area of the screen from one on and before another
+// The rows of an area of the screen from one on and before another.
 fn rows_between(at: Rect, top: i32, end: i32) -> Rect
     requires at { IsOnScreen at }
     requires low { pos 0 ≤ℤ top }

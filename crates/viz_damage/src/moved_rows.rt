@@ -57,7 +57,7 @@ pub(crate) fn moved_quad(quad: &Quad, cut: MovedRows) -> Result<Option<Quad>, Al
     }
 }
 
-// the pixel of an image that lies at the top left corner of what is left
+// The pixel of an image that lies at the top left corner of what is left.
 fn start_of(from: Point, at: Rect, cut: MovedRows, place: Rect, whole: Rect) -> Point
     requires from_low { pos 0 ≤ℤ from.y }
     requires from_high { from.y ≤ℤ whole.h }
@@ -77,7 +77,7 @@ fn start_of(from: Point, at: Rect, cut: MovedRows, place: Rect, whole: Rect) -> 
     }
 }
 
-// the row of an image that lies at a row, where row `from` lies at row `at`, moved `by` rows down
+// The row of an image that lies at a row, where row `from` lies at row `at`, moved `by` rows down.
 fn start_row(from: i32, at: i32, by: i32, row: i32) -> i32
     requires from_low { pos 0 ≤ℤ from }
     requires from_high { from ≤ℤ pos 536870912 }
@@ -92,7 +92,7 @@ fn start_row(from: i32, at: i32, by: i32, row: i32) -> i32
     from + (row - (at + by))
 }
 
-// what of a rect lies between the rows once it is moved; None where nothing does
+// What of a rect lies between the rows once it is moved; None where nothing does.
 fn rest_of(at: Rect, cut: MovedRows) -> Option<Rect>
     requires cut { IsCut cut.by cut.top cut.end }
     requires at { IsOnScreen at }
@@ -107,7 +107,7 @@ fn rest_of(at: Rect, cut: MovedRows) -> Option<Rect>
     }
 }
 
-// the rect with these rows
+// The rect with these rows.
 fn rect_of(at: Rect, start: i32, stop: i32) -> Rect
     requires start { pos 0 ≤ℤ start }
     requires stop { start ≤ℤ stop }
@@ -125,7 +125,7 @@ fn rect_of(at: Rect, start: i32, stop: i32) -> Rect
     }
 }
 
-// the first row of a span that is moved and cut
+// The first row of a span that is moved and cut.
 fn first_row(at: i32, by: i32, top: i32) -> i32
     requires low { pos 0 ≤ℤ at }
     requires high { at ≤ℤ pos 2048 }
@@ -136,7 +136,7 @@ fn first_row(at: i32, by: i32, top: i32) -> i32
     (at + by).max(top)
 }
 
-// the row after the last of a span that is moved and cut
+// The row after the last of a span that is moved and cut.
 fn last_row(at: i32, len: i32, by: i32, end: i32) -> i32
     requires low { pos 0 ≤ℤ at }
     requires len { pos 0 ≤ℤ len }

@@ -26,6 +26,16 @@ pub(crate) fn act_alike(a: &Quad, b: &Quad, passes: usize) -> bool
                 from: start,
             },
         ) => is_same_rect(*at, *place) && show_one_part(image, *from, other, *start),
+        _ => are_one_untiled(a, b),
+    }
+}
+
+/// Whether two quads are one, and no tiles: solids on one rect and of one colour, or groups of one pass with one
+/// opacity.
+pub(crate) fn are_one_untiled(a: &Quad, b: &Quad) -> bool
+    ensures { IsTrue result → quad_view a.now ≡ quad_view b.now }
+{
+    match (a, b) {
         (
             Quad::Solid { at, colour },
             Quad::Solid {
@@ -44,7 +54,7 @@ pub(crate) fn act_alike(a: &Quad, b: &Quad, passes: usize) -> bool
     }
 }
 
-// whether two images are the same, and shown from the same pixel on
+// Whether two images are the same, and shown from the same pixel on.
 fn show_one_part(image: &TileImage, from: Point, other: &TileImage, start: Point) -> bool
     ensures from { IsTrue result → from ≡ start }
     ensures images { IsTrue result → AreSameImages image.now other.now }
@@ -95,7 +105,7 @@ pub(crate) fn reach_of(quads: &[Quad], reaches: &[Rect]) -> Rect
     reach
 }
 
-// the rect without points
+// The rect without points.
 fn nowhere() -> Rect
     ensures { IsOnScreen result }
 {

@@ -4,6 +4,7 @@ ghost use Rattle.std.specs.Prelude.{◌≡◌, IsTrue};
 ghost use Rattle.viz_scene.specs.Views.{tiled, quad_view, quads_view, passes_view};
 
 use crate::images::{is_same_colour, is_same_item, is_same_point, is_same_rect};
+use crate::quads::are_one_untiled;
 use geom::{Point, Rect, TileKey};
 use page_display_list::Item;
 use tile_raster::TileImage;
@@ -22,7 +23,7 @@ pub fn are_one(a: &Scene, b: &Scene) -> bool
     are_one_passes(a.passes(), b.passes())
 }
 
-// whether two scenes have the same sides and the same background
+// Whether two scenes have the same sides and the same background.
 fn have_one_screen(a: &Scene, b: &Scene) -> bool
     ensures wide { IsTrue result → a.now.w ≡ b.now.w }
     ensures tall { IsTrue result → a.now.h ≡ b.now.h }
@@ -32,7 +33,7 @@ fn have_one_screen(a: &Scene, b: &Scene) -> bool
     sides && is_same_colour(a.background(), b.background())
 }
 
-// whether two lists of passes are one as far as the rects of their quads and the stamps of tiles tell
+// Whether two lists of passes are one as far as the rects of their quads and the stamps of tiles tell.
 fn look_alike(a: &[RenderPass], b: &[RenderPass]) -> bool {
     if a.len() != b.len() {
         return false;
@@ -45,7 +46,7 @@ fn look_alike(a: &[RenderPass], b: &[RenderPass]) -> bool {
     true
 }
 
-// whether two lists of quads are one as far as their rects and the stamps of tiles tell
+// Whether two lists of quads are one as far as their rects and the stamps of tiles tell.
 fn quads_look_alike(a: &[Quad], b: &[Quad]) -> bool {
     if a.len() != b.len() {
         return false;
@@ -58,7 +59,7 @@ fn quads_look_alike(a: &[Quad], b: &[Quad]) -> bool {
     true
 }
 
-// whether two quads are one as far as their rects and the stamps of tiles tell
+// Whether two quads are one as far as their rects and the stamps of tiles tell.
 fn looks_alike(a: &Quad, b: &Quad) -> bool {
     match (a, b) {
         (
@@ -75,7 +76,7 @@ fn looks_alike(a: &Quad, b: &Quad) -> bool {
     }
 }
 
-// whether two lists of passes are one
+// Whether two lists of passes are one.
 fn are_one_passes(a: &[RenderPass], b: &[RenderPass]) -> bool
     ensures { IsTrue result → passes_view a.now ≡ passes_view b.now }
 {
@@ -90,14 +91,14 @@ fn are_one_passes(a: &[RenderPass], b: &[RenderPass]) -> bool
     true
 }
 
-// whether two passes are one
+// Whether two passes are one.
 fn are_one_pass(a: &RenderPass, b: &RenderPass) -> bool
     ensures { IsTrue result → quads_view a.now.quads.items ≡ quads_view b.now.quads.items }
 {
     are_one_list(a.quads.as_slice(), b.quads.as_slice())
 }
 
-// whether two lists of quads are one
+// Whether two lists of quads are one.
 fn are_one_list(a: &[Quad], b: &[Quad]) -> bool
     ensures { IsTrue result → quads_view a.now ≡ quads_view b.now }
 {
@@ -112,7 +113,7 @@ fn are_one_list(a: &[Quad], b: &[Quad]) -> bool
     true
 }
 
-// whether two quads are one
+// Whether two quads are one.
 fn is_one_quad(a: &Quad, b: &Quad) -> bool
     ensures { IsTrue result → quad_view a.now ≡ quad_view b.now }
 {
@@ -125,25 +126,11 @@ fn is_one_quad(a: &Quad, b: &Quad) -> bool
                 from: start,
             },
         ) => is_one_tile(image, *at, *from, other, *place, *start),
-        (
-            Quad::Solid { at, colour },
-            Quad::Solid {
-                at: place,
-                colour: other,
-            },
-        ) => is_same_rect(*at, *place) && is_same_colour(*colour, *other),
-        (
-            Quad::Group { pass, opacity },
-            Quad::Group {
-                pass: other,
-                opacity: second,
-            },
-        ) => *pass == *other && *opacity == *second,
-        _ => false,
+        _ => are_one_untiled(a, b),
     }
 }
 
-// whether two parts of images are one
+// Whether two parts of images are one.
 #[tactic(auto, using(crate::proofs::SceneSteps::one_tile))]
 fn is_one_tile(
     image: &TileImage,
@@ -161,7 +148,7 @@ fn is_one_tile(
     is_one_image(image, other)
 }
 
-// whether two images are one
+// Whether two images are one.
 #[tactic(auto, using(crate::proofs::SceneSteps::one_image))]
 fn is_one_image(a: &TileImage, b: &TileImage) -> bool
     ensures { IsTrue result → a.now ≡ b.now }
@@ -172,7 +159,7 @@ fn is_one_image(a: &TileImage, b: &TileImage) -> bool
     are_one_items(a.list().items(), b.list().items())
 }
 
-// whether two keys are one
+// Whether two keys are one.
 #[tactic(auto, using(crate::proofs::SceneSteps::one_key))]
 fn is_one_key(a: TileKey, b: TileKey) -> bool
     ensures { IsTrue result → a ≡ b }
@@ -183,7 +170,7 @@ fn is_one_key(a: TileKey, b: TileKey) -> bool
     a.x == b.x && a.y == b.y
 }
 
-// whether two lists of items are one
+// Whether two lists of items are one.
 fn are_one_items(a: &[Item], b: &[Item]) -> bool
     ensures { IsTrue result → a.now ≡ b.now }
 {

@@ -24,7 +24,7 @@ pub(crate) fn moved(alloc: Global, scene: &Scene, cut: MovedRows) -> Result<Scen
     Ok(after)
 }
 
-// the passes, moved and cut
+// The passes, moved and cut.
 fn moved_passes(
     alloc: Global,
     passes: &[RenderPass],
@@ -43,7 +43,7 @@ fn moved_passes(
     Ok(after)
 }
 
-// the quads of a pass, moved and cut
+// The quads of a pass, moved and cut.
 fn moved_quads(alloc: Global, quads: &[Quad], cut: MovedRows) -> Result<Vec<Quad>, AllocError>
     requires cut { IsCut cut.by cut.top cut.end }
     requires shown { All IsShown (quads_view quads.now) }
@@ -57,7 +57,7 @@ fn moved_quads(alloc: Global, quads: &[Quad], cut: MovedRows) -> Result<Vec<Quad
     Ok(after)
 }
 
-// adds a quad that is moved and cut after others
+// Adds a quad that is moved and cut after others.
 fn add_moved(quad: &Quad, cut: MovedRows, after: &mut Vec<Quad>) -> Result<(), AllocError>
     requires cut { IsCut cut.by cut.top cut.end }
     requires shown { IsShown (quad_view quad.now) }

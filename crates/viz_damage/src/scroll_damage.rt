@@ -38,7 +38,7 @@ pub fn damage_of_shift(
     Ok(region)
 }
 
-// how many rows lower a row is now
+// How many rows lower a row is now.
 fn fall_of(from: u32, to: u32) -> i32
     requires from { from ≤ 2048 }
     requires to { to ≤ 2048 }
@@ -47,7 +47,7 @@ fn fall_of(from: u32, to: u32) -> i32
     to as i32 - from as i32
 }
 
-// a row of a screen, or its width
+// A row of a screen, or its width.
 fn row_of(n: u32) -> i32
     requires { n ≤ 2048 }
     ensures { result ≡ pos n }
@@ -55,7 +55,7 @@ fn row_of(n: u32) -> i32
     n as i32
 }
 
-// the rect of some rows of this width
+// The rect of some rows of this width.
 fn rows_of(width: i32, top: i32, end: i32) -> Rect
     requires low { pos 0 ≤ℤ top }
     requires rows { top ≤ℤ end }

@@ -35,7 +35,7 @@ pub(crate) struct Joint {
     pub(crate) union: Rect,
 }
 
-// the first rect of a list that makes one rect with another
+// The first rect of a list that makes one rect with another.
 fn joint_of(cover: &[Rect], rect: Rect) -> Option<Joint>
     requires cover { All IsOnScreen cover.now }
     requires rect { IsOnScreen rect }
@@ -61,7 +61,7 @@ pub(crate) fn is_covered(area: Rect, cover: &[Rect]) -> bool
     are_rows_covered(area.x, right, area.y, bottom, cover)
 }
 
-// the number after a span
+// The number after a span.
 fn end_of(at: i32, len: i32) -> i32
     requires start { pos 0 ≤ℤ at }
     requires end { (at +ℤ len) ≤ℤ pos 2048 }
@@ -71,7 +71,7 @@ fn end_of(at: i32, len: i32) -> i32
     at + len
 }
 
-// whether rects cover each point of some columns and rows
+// Whether rects cover each point of some columns and rows.
 fn are_rows_covered(left: i32, right: i32, top: i32, bottom: i32, cover: &[Rect]) -> bool
     requires { All IsOnScreen cover.now }
     ensures yes { IsTrue result → IsBlock cover.now left right top bottom }
@@ -87,7 +87,7 @@ fn are_rows_covered(left: i32, right: i32, top: i32, bottom: i32, cover: &[Rect]
     true
 }
 
-// a row up to which the columns are covered from a row on; None where a point of that row is not covered
+// A row up to which the columns are covered from a row on; None where a point of that row is not covered.
 fn covered_until(left: i32, right: i32, y: i32, bottom: i32, cover: &[Rect]) -> Option<i32>
     requires some { y <ℤ bottom }
     requires cover { All IsOnScreen cover.now }
@@ -105,7 +105,7 @@ fn covered_until(left: i32, right: i32, y: i32, bottom: i32, cover: &[Rect]) -> 
     Some(end)
 }
 
-// a rect that covers a point
+// A rect that covers a point.
 fn rect_at(x: i32, y: i32, cover: &[Rect]) -> Option<Rect>
     requires { All IsOnScreen cover.now }
     ensures { MatchOption result (covered cover.now x y ≡ false) (λ rect. IsRectAt cover.now x y rect) }
@@ -118,8 +118,8 @@ fn rect_at(x: i32, y: i32, cover: &[Rect]) -> Option<Rect>
     None
 }
 
-// whether a rect covers a point; its row is looked at first, as most rects of a list lie below: quads are gone through
-// from the last to the first
+// Whether a rect covers a point; its row is looked at first, as most rects of a list lie below: quads are gone through
+// from the last to the first.
 #[inline(always)]
 #[tactic(auto, unfolding(geom::specs::Covers::within))]
 fn has_point(rect: Rect, x: i32, y: i32) -> bool

@@ -28,7 +28,7 @@ pub fn cull(alloc: Global, scene: &Scene) -> Result<Scene, AllocError>
     Ok(culled)
 }
 
-// the passes without hidden quads
+// The passes without hidden quads.
 fn kept_passes(alloc: Global, passes: &[RenderPass]) -> Result<Vec<RenderPass>, AllocError>
     requires { All (All IsFit) (passes_view passes.now) }
     ensures { IfOk result (λ kept. AreAllKept (passes_view passes.now) (passes_view kept.items)) }
@@ -41,7 +41,7 @@ fn kept_passes(alloc: Global, passes: &[RenderPass]) -> Result<Vec<RenderPass>, 
     Ok(kept)
 }
 
-// the quads that later ones do not hide
+// The quads that later ones do not hide.
 fn kept_quads(alloc: Global, quads: &[Quad]) -> Result<Vec<Quad>, AllocError>
     requires { All IsFit (quads_view quads.now) }
     ensures { IfOk result (λ kept. AreKept (quads_view quads.now) (quads_view kept.items)) }
@@ -57,7 +57,7 @@ fn kept_quads(alloc: Global, quads: &[Quad]) -> Result<Vec<Quad>, AllocError>
     Ok(kept)
 }
 
-// keeps a quad after those that were kept, unless the area hides it, and adds what it hides
+// Keeps a quad after those that were kept, unless the area hides it, and adds what it hides.
 fn keep_quad(quad: &Quad, cover: &mut Vec<Rect>, kept: &mut Vec<Quad>) -> Result<(), AllocError>
     requires fits { IsFit (quad_view quad.now) }
     requires cover { All IsOnScreen cover.old.items }
@@ -72,7 +72,7 @@ fn keep_quad(quad: &Quad, cover: &mut Vec<Rect>, kept: &mut Vec<Quad>) -> Result
     Ok(())
 }
 
-// whether an area hides a quad
+// Whether an area hides a quad.
 fn is_hidden(quad: &Quad, cover: &[Rect]) -> bool
     requires fits { IsFit (quad_view quad.now) }
     requires cover { All IsOnScreen cover.now }
@@ -86,7 +86,7 @@ fn is_hidden(quad: &Quad, cover: &[Rect]) -> bool
     }
 }
 
-// what a quad is kept as
+// What a quad is kept as.
 fn kept_as(quad: &Quad) -> Result<Quad, AllocError>
     ensures { IfOk result (λ kept. IsKeptAs (quad_view quad.now) (quad_view kept)) }
 {
@@ -109,7 +109,7 @@ fn kept_as(quad: &Quad) -> Result<Quad, AllocError>
     }
 }
 
-// adds what a quad hides
+// Adds what a quad hides.
 fn add_cover(cover: &mut Vec<Rect>, quad: &Quad) -> Result<(), AllocError>
     requires fits { IsFit (quad_view quad.now) }
     requires cover { All IsOnScreen cover.old.items }

@@ -27,14 +27,14 @@ pub(crate) fn is_opaque(quad: &Quad) -> bool
     }
 }
 
-// whether a colour hides what lies below it
+// Whether a colour hides what lies below it.
 fn is_opaque_colour(colour: Colour) -> bool
     ensures { IsTrue result ↔ (colour.a ≡ 255) }
 {
     colour.a() == 255
 }
 
-// whether the part of an image that lies on a rect is opaque
+// Whether the part of an image that lies on a rect is opaque.
 fn is_opaque_tile(image: &TileImage, at: Rect, from: Point) -> bool
     requires at { IsOnScreen at }
     requires taken { IsTaken image.now at from }
@@ -56,7 +56,7 @@ pub(crate) struct ImagePart {
     pub(crate) h: usize,
 }
 
-// the part of an image as large as a rect, from a pixel on
+// The part of an image as large as a rect, from a pixel on.
 fn part_of(at: Rect, from: Point) -> ImagePart
     requires at { IsOnScreen at }
     requires left { pos 0 ≤ℤ from.x }
@@ -74,7 +74,7 @@ fn part_of(at: Rect, from: Point) -> ImagePart
     }
 }
 
-// a number that is not negative as a count
+// A number that is not negative as a count.
 fn count(n: i32) -> usize
     requires { pos 0 ≤ℤ n }
     ensures { result ≡ near n }
@@ -82,7 +82,7 @@ fn count(n: i32) -> usize
     n as usize
 }
 
-// whether a part of an image is opaque
+// Whether a part of an image is opaque.
 fn is_opaque_part(image: &TileImage, part: ImagePart) -> bool
     requires across { part.left + part.w ≤ near image.now.rect.w }
     requires down { part.top + part.h ≤ near image.now.rect.h }
@@ -105,7 +105,7 @@ fn is_opaque_part(image: &TileImage, part: ImagePart) -> bool
     true
 }
 
-// the first pixel of some columns of a row whose alpha is not 255
+// The first pixel of some columns of a row whose alpha is not 255.
 fn first_other(row: &[u8], left: usize, right: usize) -> Option<usize>
     requires order { left ≤ right }
     requires inside { 4 * right ≤ length row.now }
@@ -121,7 +121,7 @@ fn first_other(row: &[u8], left: usize, right: usize) -> Option<usize>
     None
 }
 
-// a column from `left` on before which the pixels of a row are opaque, found by sixteens
+// A column from `left` on before which the pixels of a row are opaque, found by sixteens.
 #[inline(always)]
 fn opaque_until(row: &[u8], left: usize, right: usize) -> usize
     requires order { left ≤ right }

@@ -29,13 +29,13 @@ use viz_scene::Quad;
 /// Where a layer lies on the screen.
 #[derive(Drop)]
 pub(crate) struct LayerSpot {
-    // its tiles
+    // Its tiles.
     grid: Grid,
-    // how far it is moved
+    // How far it is moved.
     by: Point,
-    // the part of the viewport that its clip lets through
+    // The part of the viewport that its clip lets through.
     clip: Rect,
-    // what is drawn where a tile is missing
+    // What is drawn where a tile is missing.
     colour: Colour,
 }
 

@@ -30,9 +30,9 @@ painted_rows : (p : Paint) (part : CoveredArea) (r n x y : ℕ) (below : Parts) 
 painted_rows (paint.Fill colour) part r n x y below le = refl
 painted_rows (paint.Colour colour) part r n x y below le = refl
 painted_rows (paint.Row row) part r n x y below le = refl
-painted_rows (paint.Pass bytes width height opacity) part r n x y below le =
+painted_rows (paint.Pass pixels opacity) part r n x y below le =
     let row : y - (part.at.y + r) + (part.above + r) ≡ y - part.at.y + part.above = omega arith in
-    ap (λ (k : ℕ). blend below (scaled (pixel bytes.now (k * width + (x - part.at.x + part.left))) opacity)) row
+    ap (λ (k : ℕ). blend below (scaled (pixel pixels.bytes (k * pixels.size.width + (x - part.at.x + part.left))) opacity)) row
 
 -- and in some columns
 painted_columns : (p : Paint) (part : CoveredArea) (c n x y : ℕ) (below : Parts) → part.at.x + c ≤ x
@@ -42,9 +42,9 @@ painted_columns (paint.Colour colour) part c n x y below le = refl
 painted_columns (paint.Row row) part c n x y below le =
     let column : x - (part.at.x + c) + (part.left + c) ≡ x - part.at.x + part.left = omega arith in
     ap (λ (k : ℕ). blend below (pixel row.now k)) column
-painted_columns (paint.Pass bytes width height opacity) part c n x y below le =
+painted_columns (paint.Pass pixels opacity) part c n x y below le =
     let column : x - (part.at.x + c) + (part.left + c) ≡ x - part.at.x + part.left = omega arith in
-    ap (λ (k : ℕ). blend below (scaled (pixel bytes.now ((y - part.at.y + part.above) * width + k)) opacity)) column
+    ap (λ (k : ℕ). blend below (scaled (pixel pixels.bytes ((y - part.at.y + part.above) * pixels.size.width + k)) opacity)) column
 
 row_low : (at : Area) (rows x y : ℕ) → in_rows at rows x y ≡ true → at.y ≤ y
 row_low at rows x y h = grind (arith, nat_tests)

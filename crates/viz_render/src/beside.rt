@@ -26,7 +26,7 @@ pub(crate) fn lies_beside(quad: &Quad, area: Rect, passes: usize) -> bool
     }
 }
 
-// whether two spans have no number in common
+// Whether two spans have no number in common.
 #[inline(always)]
 fn are_apart(at: i32, len: i32, from: i32, count: i32) -> bool
     requires span { IsSpan at len }

@@ -4,14 +4,14 @@ ghost use Rattle.std.specs.Prelude.{◌≡◌, ℕ, ◌*◌, ◌<◌, ◌≤◌,
 ghost use Rattle.pixel.specs.Rows.{pixel, ArePremultiplied};
 ghost use Rattle.viz_render.specs.inner.Masks.{EachOpen};
 
-use crate::mask::Mask;
+use crate::mask::{Mask, QuadMask};
 use crate::open::paint_open;
 use crate::paint::Paint;
 use page_display_list::CoveredArea;
-use pixel::{Area, Colour, fill_row};
+use pixel::{Area, Colour, Size, fill_row};
 
-/// Gives each pixel one colour; byte by byte where its four bytes are equal, as those of transparent pixels and of
-/// white are.
+// Gives each pixel one colour; byte by byte if its four bytes are equal, as those of transparent pixels and of white
+// are.
 fn fill(surface: &mut [u8], colour: Colour)
     requires { length surface.old % 4 ≡ 0 }
     ensures size { length surface.new ≡ length surface.old }
@@ -27,18 +27,12 @@ fn fill(surface: &mut [u8], colour: Colour)
 }
 
 /// Gives each pixel of a surface that has to be drawn one colour.
-pub(crate) fn fill_open(
-    surface: &mut [u8],
-    width: usize,
-    height: usize,
-    colour: Colour,
-    mask: &Mask,
-)
-    requires size { length surface.old ≡ 4 * (width * height) }
-    requires wide { width ≤ 2048 }
-    requires low { height ≤ 64 }
+pub(crate) fn fill_open(surface: &mut [u8], size: Size, colour: Colour, mask: &Mask)
+    requires size { length surface.old ≡ 4 * (size.width * size.height) }
+    requires wide { size.width ≤ 2048 }
+    requires low { size.height ≤ 64 }
     ensures size { length surface.new ≡ length surface.old }
-    ensures pixels { EachOpen width height mask.now.tops 0 (λ x y below. colour) surface.old surface.new }
+    ensures pixels { EachOpen size.width size.height mask.now.tops 0 (λ x y below. colour) surface.old surface.new }
     ensures premultiplied { ArePremultiplied surface.old → ArePremultiplied surface.new }
 {
     if mask.highest() == 0 {
@@ -47,19 +41,20 @@ pub(crate) fn fill_open(
         let at = Area {
             x: 0,
             y: 0,
-            w: width,
-            h: height,
+            w: size.width,
+            h: size.height,
         };
         let whole = CoveredArea {
             at,
             left: 0,
             above: 0,
         };
-        paint_open(surface, width, height, whole, &Paint::Fill(colour), mask, 0);
+        let background = QuadMask { mask, number: 0 };
+        paint_open(surface, size, whole, &Paint::Fill(colour), background);
     }
 }
 
-// whether four bytes are equal
+// Whether four bytes are equal.
 fn are_equal(r: u8, g: u8, b: u8, a: u8) -> bool
     ensures r { IsTrue result → r ≡ a }
     ensures g { IsTrue result → g ≡ a }

@@ -50,7 +50,7 @@ pub(crate) fn hull_of(quads: &[Quad], area: Rect, passes: &[Surface]) -> Rect
     rect_in(area, hull)
 }
 
-// the hull that takes in what a quad draws too
+// The hull that takes in what a quad draws too.
 #[inline(always)]
 fn with_quad(hull: Hull, quad: &Quad, area: Rect, passes: &[Surface]) -> Hull
     requires area { IsSound area }
@@ -70,7 +70,7 @@ fn with_quad(hull: Hull, quad: &Quad, area: Rect, passes: &[Surface]) -> Hull
     }
 }
 
-// a rect outside of which a quad leaves transparent pixels transparent
+// A rect outside of which a quad leaves transparent pixels transparent.
 pub(crate) fn quad_rect(quad: &Quad, passes: &[Surface]) -> Rect
     requires { CanBeDrawn (length passes.now) (quad_view quad.now) }
     ensures sound { IsSound result }
@@ -86,7 +86,7 @@ pub(crate) fn quad_rect(quad: &Quad, passes: &[Surface]) -> Rect
     }
 }
 
-// the hull that takes in an area too
+// The hull that takes in an area too.
 fn joined(hull: Hull, at: Area) -> Hull
     requires across { at.x + at.w < 2 ^ 64 }
     requires down { at.y + at.h < 2 ^ 64 }
@@ -106,7 +106,7 @@ fn joined(hull: Hull, at: Area) -> Hull
     }
 }
 
-// the columns and rows of an area as a rect
+// The columns and rows of an area as a rect.
 fn rect_in(area: Rect, hull: Hull) -> Rect
     requires area { IsIn 2048 2048 area }
     requires hull { IsHullIn area hull }
@@ -122,7 +122,7 @@ fn rect_in(area: Rect, hull: Hull) -> Rect
     Rect { x, y, w, h }
 }
 
-// where the part of a span from its place `start` to before its place `end` begins
+// Where the part of a span from its place `start` to before its place `end` begins.
 fn start_in(at: i32, start: usize, end: usize) -> i32
     requires low { pos 0 ≤ℤ at }
     requires high { at ≤ℤ pos 2048 }
@@ -135,7 +135,7 @@ fn start_in(at: i32, start: usize, end: usize) -> i32
     moved(at, first)
 }
 
-// a number this much further on
+// A number this much further on.
 fn moved(at: i32, by: usize) -> i32
     requires low { pos 0 ≤ℤ at }
     requires high { at ≤ℤ pos 2048 }
@@ -145,7 +145,7 @@ fn moved(at: i32, by: usize) -> i32
     at + by as i32
 }
 
-// how many numbers there are from `start` to before `end`
+// How many numbers there are from `start` to before `end`.
 fn len_of(start: usize, end: usize) -> i32
     requires { end ≤ 2048 }
     ensures { result ≡ pos (end - start) }

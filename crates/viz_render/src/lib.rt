@@ -22,7 +22,6 @@ mod open;
 mod paint;
 mod pass_surfaces;
 mod passes;
-mod place;
 mod quads;
 mod shown;
 mod size;

@@ -1,4 +1,39 @@
 //! Marking the blocks of an area on which a quad is opaque.
+//!
+//! # What
+//!
+//! A mask divides an area of at most 2048 by 64 pixels into blocks of sixteen columns and eight rows. For each block it
+//! has a number: that of the topmost quad that hides all below it on the whole block, counted from 1 as the quads are
+//! drawn, or 0. A quad is not drawn on blocks with a higher number (`open.rt`), so that of a stack of opaque layers
+//! only the topmost is drawn. The numbers stand row by row of blocks: in each row 128 of blocks and one that is of no
+//! block, so 129; eight rows make the `block_count` of 1032.
+//!
+//! # How
+//!
+//! `mark_quads` goes from the topmost quad down. A block that has a number keeps it, so each block gets the number of
+//! the topmost quad that hides it, and the work on lower quads shrinks: a tile whose blocks all have a number is left
+//! at once (`are_marked`). A quad can mark only the blocks that its rect has whole.
+//!
+//! - A solid marks them all if its alpha is 255 (`mark_solid`), and so does a tile of one colour.
+//! - A tile is looked at band by band (`mark_bands`): a band is the rows of its image that are equal to one another,
+//!   so one row of pixels tells of all of them. For each sixteen pixels of that row that are opaque the blocks that lie
+//!   in the band whole are marked.
+//! - What is left are the blocks that a band's edge crosses (`mark_joints`). Of these each band is asked by itself
+//!   (`is_opaque_block`), until one is not opaque.
+//! - A group marks nothing: whether its pass is opaque is not known before it is drawn.
+//!
+//! # What is proved
+//!
+//! `Marks` says of each step that a block has the number that it had, or the quad's, and then the quad hides what is
+//! below it at each pixel of the block. So a mask may have too few marks, never a wrong one: `are_marked` and
+//! `is_marked`, which only save work, have no clause. That a mask finds each hidden block is not proved, and not so: a
+//! block that two quads hide together, each a half, has no number.
+//!
+//! # Cost
+//!
+//! A solid costs a store for each block, at most 1024. A tile costs one look at each pixel of one row of each band,
+//! sixteen at a time, and of a bitmap, whose rows all differ, one at each pixel of the blocks that are still open. So a
+//! mask pays if quads lie three deep on average (`DEPTH` in `mask.rt`); for a pass that is less deep none is made.
 
 ghost use Rattle.std.specs.Prelude.{◌≡◌, ℕ, ◌+◌, ◌-◌, ◌*◌, ◌/◌, ◌<◌, ◌≤◌, ◌⊎◌, ◌≢◌, true, pos, ◌+ℤ◌, All, length, slice_index, IsTrue};
 ghost use Rattle.geom.specs.Covers.{IsSound};
@@ -8,8 +43,8 @@ ghost use Rattle.page_display_list.specs.Bitmaps.{near};
 ghost use Rattle.viz_scene.specs.Views.{quad_view, quads_view, plain, tiled};
 ghost use Rattle.viz_scene.specs.Sound.{IsTaken};
 ghost use Rattle.tile_raster.specs.Images.{AreSameRows};
-ghost use Rattle.viz_render.specs.inner.Drawing.{CanBeDrawn, part_pixel};
-ghost use Rattle.viz_render.specs.inner.Masks.{Hides, HidesIn, IsOfBlock, Marks, AreMarked, HaveNumbers};
+ghost use Rattle.viz_render.specs.inner.Drawing.{IsStrip, IsImagePart, CanBeDrawn, part_pixel};
+ghost use Rattle.viz_render.specs.inner.Masks.{block_count, Hides, HidesIn, IsOfBlock, Marks, AreMarked, HaveNumbers};
 
 use crate::beside::lies_beside;
 use crate::mask::are_above;
@@ -23,13 +58,11 @@ use viz_scene::Quad;
 
 /// Marks what the opaque ones of some quads hide of an area, on blocks without a number.
 pub(crate) fn mark_quads(tops: &mut [usize], area: Rect, quads: &[Quad], passes: &[Surface])
-    requires tops { length tops.old ≡ 1032 }
-    requires area { IsSound area }
-    requires wide { near area.w ≤ 2048 }
-    requires low { near area.h ≤ 64 }
+    requires tops { length tops.old ≡ block_count }
+    requires area { IsStrip area }
     requires quads { All (CanBeDrawn (length passes.now)) (quads_view quads.now) }
     requires marked { AreMarked area quads.now tops.old }
-    ensures size { length tops.new ≡ 1032 }
+    ensures size { length tops.new ≡ block_count }
     ensures marked { AreMarked area quads.now tops.new }
     ensures numbers { HaveNumbers (length quads.now) tops.old tops.new }
 {
@@ -40,15 +73,13 @@ pub(crate) fn mark_quads(tops: &mut [usize], area: Rect, quads: &[Quad], passes:
     }
 }
 
-// marks where one quad is opaque
+// Marks where one quad is opaque.
 #[inline(always)]
 fn mark_quad(tops: &mut [usize], area: Rect, quad: &Quad, passes: &[Surface], number: usize)
-    requires tops { length tops.old ≡ 1032 }
-    requires area { IsSound area }
-    requires wide { near area.w ≤ 2048 }
-    requires low { near area.h ≤ 64 }
+    requires tops { length tops.old ≡ block_count }
+    requires area { IsStrip area }
     requires quad { CanBeDrawn (length passes.now) (quad_view quad.now) }
-    ensures size { length tops.new ≡ 1032 }
+    ensures size { length tops.new ≡ block_count }
     ensures marks { Marks number (λ x y. x < near area.w → y < near area.h → Hides (quad_view quad.now) (area.x +ℤ pos x) (area.y +ℤ pos y)) tops.old tops.new }
 {
     if lies_beside(quad, area, passes.len()) {
@@ -61,7 +92,7 @@ fn mark_quad(tops: &mut [usize], area: Rect, quad: &Quad, passes: &[Surface], nu
     }
 }
 
-// marks where a tile is opaque
+// Marks where a tile is opaque.
 fn mark_tile(
     tops: &mut [usize],
     area: Rect,
@@ -70,13 +101,11 @@ fn mark_tile(
     from: Point,
     number: usize,
 )
-    requires tops { length tops.old ≡ 1032 }
-    requires area { IsSound area }
+    requires tops { length tops.old ≡ block_count }
+    requires area { IsStrip area }
     requires at { IsSound at }
     requires taken { IsTaken image.now at from }
-    requires wide { near area.w ≤ 2048 }
-    requires low { near area.h ≤ 64 }
-    ensures size { length tops.new ≡ 1032 }
+    ensures size { length tops.new ≡ block_count }
     ensures marks { Marks number (λ x y. x < near area.w → y < near area.h → Hides (tiled image.now at from) (area.x +ℤ pos x) (area.y +ℤ pos y)) tops.old tops.new }
 {
     let Some(part) = shared_part(at, area) else {
@@ -93,9 +122,9 @@ fn mark_tile(
     mark_part(tops, image, part, number);
 }
 
-// whether all blocks that an area has whole are marked
+// Whether all blocks that an area has whole are marked.
 fn are_marked(tops: &[usize], at: Area) -> bool
-    requires tops { length tops.now ≡ 1032 }
+    requires tops { length tops.now ≡ block_count }
     requires wide { at.x + at.w ≤ 2048 }
     requires low { at.y + at.h ≤ 64 }
 {
@@ -108,28 +137,22 @@ fn are_marked(tops: &[usize], at: Area) -> bool
     true
 }
 
-// marks where a part of an image is opaque
+// Marks where a part of an image is opaque.
 fn mark_part(tops: &mut [usize], image: &TileImage, part: CoveredArea, number: usize)
-    requires tops { length tops.old ≡ 1032 }
-    requires wide { part.at.x + part.at.w ≤ 2048 }
-    requires low { part.at.y + part.at.h ≤ 64 }
-    requires columns { part.left + part.at.w ≤ near image.now.rect.w }
-    requires rows { part.above + part.at.h ≤ near image.now.rect.h }
-    ensures size { length tops.new ≡ 1032 }
+    requires tops { length tops.old ≡ block_count }
+    requires part { IsImagePart image.now part }
+    ensures size { length tops.new ≡ block_count }
     ensures marks { Marks number (HidesIn part.at (part_pixel image.now part)) tops.old tops.new }
 {
     mark_bands(tops, image, part, number);
     mark_joints(tops, image, part, number);
 }
 
-// marks where the rows of a part of an image are opaque, those that are equal at a time
+// Marks where the rows of a part of an image are opaque, those that are equal at a time.
 fn mark_bands(tops: &mut [usize], image: &TileImage, part: CoveredArea, number: usize)
-    requires tops { length tops.old ≡ 1032 }
-    requires wide { part.at.x + part.at.w ≤ 2048 }
-    requires low { part.at.y + part.at.h ≤ 64 }
-    requires columns { part.left + part.at.w ≤ near image.now.rect.w }
-    requires rows { part.above + part.at.h ≤ near image.now.rect.h }
-    ensures size { length tops.new ≡ 1032 }
+    requires tops { length tops.old ≡ block_count }
+    requires part { IsImagePart image.now part }
+    ensures size { length tops.new ≡ block_count }
     ensures marks { Marks number (HidesIn part.at (part_pixel image.now part)) tops.old tops.new }
 {
     let mut done = 0;
@@ -141,14 +164,11 @@ fn mark_bands(tops: &mut [usize], image: &TileImage, part: CoveredArea, number: 
     }
 }
 
-// marks the blocks on which a part of an image is opaque, but not all of its rows are equal
+// Marks the blocks on which a part of an image is opaque, but not all of its rows are equal.
 fn mark_joints(tops: &mut [usize], image: &TileImage, part: CoveredArea, number: usize)
-    requires tops { length tops.old ≡ 1032 }
-    requires wide { part.at.x + part.at.w ≤ 2048 }
-    requires low { part.at.y + part.at.h ≤ 64 }
-    requires columns { part.left + part.at.w ≤ near image.now.rect.w }
-    requires rows { part.above + part.at.h ≤ near image.now.rect.h }
-    ensures size { length tops.new ≡ 1032 }
+    requires tops { length tops.old ≡ block_count }
+    requires part { IsImagePart image.now part }
+    ensures size { length tops.new ≡ block_count }
     ensures marks { Marks number (HidesIn part.at (part_pixel image.now part)) tops.old tops.new }
 {
     for down in (part.at.y + 7) / 8..(part.at.y + part.at.h) / 8 {
@@ -156,16 +176,13 @@ fn mark_joints(tops: &mut [usize], image: &TileImage, part: CoveredArea, number:
     }
 }
 
-// marks the same in one row of blocks
+// Marks the same in one row of blocks.
 fn mark_joint(tops: &mut [usize], image: &TileImage, part: CoveredArea, down: usize, number: usize)
-    requires tops { length tops.old ≡ 1032 }
-    requires wide { part.at.x + part.at.w ≤ 2048 }
-    requires low { part.at.y + part.at.h ≤ 64 }
+    requires tops { length tops.old ≡ block_count }
+    requires part { IsImagePart image.now part }
     requires top { (part.at.y + 7) / 8 ≤ down }
     requires bottom { down < (part.at.y + part.at.h) / 8 }
-    requires columns { part.left + part.at.w ≤ near image.now.rect.w }
-    requires rows { part.above + part.at.h ≤ near image.now.rect.h }
-    ensures size { length tops.new ≡ 1032 }
+    ensures size { length tops.new ≡ block_count }
     ensures marks { Marks number (HidesIn part.at (part_pixel image.now part)) tops.old tops.new }
 {
     let row = row_number(image, part, 8 * down - part.at.y);
@@ -177,7 +194,7 @@ fn mark_joint(tops: &mut [usize], image: &TileImage, part: CoveredArea, down: us
     }
 }
 
-// marks a block where a part of an image is opaque on it
+// Marks a block where a part of an image is opaque on it.
 fn mark_over_bands(
     tops: &mut [usize],
     image: &TileImage,
@@ -186,16 +203,13 @@ fn mark_over_bands(
     down: usize,
     number: usize,
 )
-    requires tops { length tops.old ≡ 1032 }
-    requires wide { part.at.x + part.at.w ≤ 2048 }
-    requires low { part.at.y + part.at.h ≤ 64 }
+    requires tops { length tops.old ≡ block_count }
+    requires part { IsImagePart image.now part }
     requires left { (part.at.x + 15) / 16 ≤ block }
     requires right { block < (part.at.x + part.at.w) / 16 }
     requires top { (part.at.y + 7) / 8 ≤ down }
     requires bottom { down < (part.at.y + part.at.h) / 8 }
-    requires columns { part.left + part.at.w ≤ near image.now.rect.w }
-    requires rows { part.above + part.at.h ≤ near image.now.rect.h }
-    ensures size { length tops.new ≡ 1032 }
+    ensures size { length tops.new ≡ block_count }
     ensures marks { Marks number (HidesIn part.at (part_pixel image.now part)) tops.old tops.new }
 {
     if tops[down * 129 + block] == 0 && is_opaque_block(image, part, block, down) {
@@ -203,16 +217,13 @@ fn mark_over_bands(
     }
 }
 
-// whether a part of an image is opaque on a block that it has whole
+// Whether a part of an image is opaque on a block that it has whole.
 fn is_opaque_block(image: &TileImage, part: CoveredArea, block: usize, down: usize) -> bool
-    requires wide { part.at.x + part.at.w ≤ 2048 }
-    requires low { part.at.y + part.at.h ≤ 64 }
+    requires part { IsImagePart image.now part }
     requires left { (part.at.x + 15) / 16 ≤ block }
     requires right { block < (part.at.x + part.at.w) / 16 }
     requires top { (part.at.y + 7) / 8 ≤ down }
     requires bottom { down < (part.at.y + part.at.h) / 8 }
-    requires columns { part.left + part.at.w ≤ near image.now.rect.w }
-    requires rows { part.above + part.at.h ≤ near image.now.rect.h }
     ensures { IsTrue result → (x y : ℕ) → x / 16 ≡ block → 8 * down ≤ y → y < 8 * down + 8 → HidesIn part.at (part_pixel image.now part) x y }
 {
     let first = 8 * down - part.at.y;
@@ -228,8 +239,8 @@ fn is_opaque_block(image: &TileImage, part: CoveredArea, block: usize, down: usi
     true
 }
 
-// marks where the given number of rows of a part of an image, from its row `row` on, are opaque, which are
-// all equal
+// Marks where the given number of rows of a part of an image, from its row `row` on, are opaque, which are
+// all equal.
 fn mark_band(
     tops: &mut [usize],
     image: &TileImage,
@@ -238,15 +249,12 @@ fn mark_band(
     rows: usize,
     number: usize,
 )
-    requires tops { length tops.old ≡ 1032 }
-    requires wide { part.at.x + part.at.w ≤ 2048 }
-    requires low { part.at.y + part.at.h ≤ 64 }
-    requires columns { part.left + part.at.w ≤ near image.now.rect.w }
-    requires below { part.above + part.at.h ≤ near image.now.rect.h }
+    requires tops { length tops.old ≡ block_count }
+    requires part { IsImagePart image.now part }
     requires some { 1 ≤ rows }
     requires there { row + rows ≤ part.at.h }
     requires equal { (k : ℕ) → k < rows → AreSameRows image.now.list image.now.rect (part.above + row) (part.above + row + k) }
-    ensures size { length tops.new ≡ 1032 }
+    ensures size { length tops.new ≡ block_count }
     ensures marks { Marks number (HidesIn part.at (part_pixel image.now part)) tops.old tops.new }
 {
     let at = Area {
@@ -260,14 +268,14 @@ fn mark_band(
     mark_row(tops, at, pixels, part.left, number);
 }
 
-// marks the blocks of an area on which the pixels of a row, from its pixel `from` on, are opaque
+// Marks the blocks of an area on which the pixels of a row, from its pixel `from` on, are opaque.
 fn mark_row(tops: &mut [usize], at: Area, row: &[u8], from: usize, number: usize)
-    requires tops { length tops.old ≡ 1032 }
+    requires tops { length tops.old ≡ block_count }
     requires wide { at.x + at.w ≤ 2048 }
     requires low { at.y + at.h ≤ 64 }
     requires columns { 4 * (from + at.w) ≤ length row.now }
     requires premultiplied { ArePremultiplied row.now }
-    ensures size { length tops.new ≡ 1032 }
+    ensures size { length tops.new ≡ block_count }
     ensures marks { Marks number (HidesIn at (λ x y. pixel row.now (x - at.x + from))) tops.old tops.new }
 {
     for block in (at.x + 15) / 16..(at.x + at.w) / 16 {
@@ -275,16 +283,16 @@ fn mark_row(tops: &mut [usize], at: Area, row: &[u8], from: usize, number: usize
     }
 }
 
-// marks the blocks of sixteen columns that an area has whole, where the pixels of a row are opaque
+// Marks the blocks of sixteen columns that an area has whole, where the pixels of a row are opaque.
 fn mark_opaque(tops: &mut [usize], at: Area, block: usize, row: &[u8], from: usize, number: usize)
-    requires tops { length tops.old ≡ 1032 }
+    requires tops { length tops.old ≡ block_count }
     requires wide { at.x + at.w ≤ 2048 }
     requires low { at.y + at.h ≤ 64 }
     requires left { (at.x + 15) / 16 ≤ block }
     requires right { block < (at.x + at.w) / 16 }
     requires columns { 4 * (from + at.w) ≤ length row.now }
     requires premultiplied { ArePremultiplied row.now }
-    ensures size { length tops.new ≡ 1032 }
+    ensures size { length tops.new ≡ block_count }
     ensures marks { Marks number (HidesIn at (λ x y. pixel row.now (x - at.x + from))) tops.old tops.new }
 {
     if is_marked(tops, at, block) {
@@ -295,14 +303,12 @@ fn mark_opaque(tops: &mut [usize], at: Area, block: usize, row: &[u8], from: usi
     }
 }
 
-// marks the blocks of a rect of one colour, where it is opaque
+// Marks the blocks of a rect of one colour, where it is opaque.
 fn mark_solid(tops: &mut [usize], area: Rect, at: Rect, colour: Colour, number: usize)
-    requires tops { length tops.old ≡ 1032 }
-    requires area { IsSound area }
+    requires tops { length tops.old ≡ block_count }
+    requires area { IsStrip area }
     requires at { IsSound at }
-    requires wide { near area.w ≤ 2048 }
-    requires low { near area.h ≤ 64 }
-    ensures size { length tops.new ≡ 1032 }
+    ensures size { length tops.new ≡ block_count }
     ensures marks { Marks number (λ x y. x < near area.w → y < near area.h → Hides (plain at colour) (area.x +ℤ pos x) (area.y +ℤ pos y)) tops.old tops.new }
 {
     if colour.a() != 255 {
@@ -313,12 +319,12 @@ fn mark_solid(tops: &mut [usize], area: Rect, at: Rect, colour: Colour, number: 
     }
 }
 
-// marks the blocks of an area
+// Marks the blocks of an area.
 fn mark_all(tops: &mut [usize], at: Area, number: usize)
-    requires tops { length tops.old ≡ 1032 }
+    requires tops { length tops.old ≡ block_count }
     requires wide { at.x + at.w ≤ 2048 }
     requires low { at.y + at.h ≤ 64 }
-    ensures size { length tops.new ≡ 1032 }
+    ensures size { length tops.new ≡ block_count }
     ensures marks { Marks number (λ x y. holds at x y ≡ true) tops.old tops.new }
 {
     for block in (at.x + 15) / 16..(at.x + at.w) / 16 {
@@ -326,12 +332,12 @@ fn mark_all(tops: &mut [usize], at: Area, number: usize)
     }
 }
 
-// marks the blocks of sixteen columns that an area has whole, where they have no mark
+// Marks the blocks of sixteen columns that an area has whole, where they have no mark.
 fn mark_block(tops: &mut [usize], at: Area, block: usize, number: usize)
-    requires tops { length tops.old ≡ 1032 }
+    requires tops { length tops.old ≡ block_count }
     requires block { block < 128 }
     requires low { at.y + at.h ≤ 64 }
-    ensures size { length tops.new ≡ 1032 }
+    ensures size { length tops.new ≡ block_count }
     ensures marks { Marks number (IsOfBlock at block) tops.old tops.new }
 {
     for down in (at.y + 7) / 8..(at.y + at.h) / 8 {
@@ -339,7 +345,7 @@ fn mark_block(tops: &mut [usize], at: Area, block: usize, number: usize)
     }
 }
 
-// marks one block, where it has no mark
+// Marks one block, where it has no mark.
 fn mark_one(tops: &mut [usize], place: usize, number: usize)
     requires place { place < length tops.old }
     ensures size { length tops.new ≡ length tops.old }
@@ -351,9 +357,9 @@ fn mark_one(tops: &mut [usize], place: usize, number: usize)
     }
 }
 
-// whether the blocks of sixteen columns that an area has whole seem to be marked
+// Whether the blocks of sixteen columns that an area has whole seem to be marked.
 fn is_marked(tops: &[usize], at: Area, block: usize) -> bool
-    requires tops { length tops.now ≡ 1032 }
+    requires tops { length tops.now ≡ block_count }
     requires block { block < 128 }
     requires low { at.y + at.h ≤ 64 }
 {

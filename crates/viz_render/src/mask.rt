@@ -1,11 +1,10 @@
 //! What of an area opaque quads hide.
 
 ghost use Rattle.std.specs.Prelude.{◌≡◌, ◌≢◌, ℕ, ◌<◌, ◌≤◌, ◌⊎◌, ◌+◌, All, length, slice_index, IsTrue};
-ghost use Rattle.geom.specs.Covers.{IsSound};
 ghost use Rattle.page_display_list.specs.Bitmaps.{near};
 ghost use Rattle.viz_scene.specs.Views.{quads_view};
-ghost use Rattle.viz_render.specs.inner.Drawing.{CanBeDrawn};
-ghost use Rattle.viz_render.specs.inner.Masks.{AreMarked, HaveNumbers, AreNumbers, AreOpenNumbers, AreHidden, IsHiddenIn};
+ghost use Rattle.viz_render.specs.inner.Drawing.{IsStrip, CanBeDrawn};
+ghost use Rattle.viz_render.specs.inner.Masks.{block_count, AreMarked, HaveNumbers, AreNumbers, AreOpenNumbers, AreHidden, IsHiddenIn};
 
 use crate::marks::mark_quads;
 use crate::surface::Surface;
@@ -15,7 +14,7 @@ use std::alloc::{AllocError, Global};
 use std::marker::Model;
 use viz_scene::{Quad, Scene};
 
-/// How many numbers a mask has: those of the blocks of 64 rows, 129 in each row of them.
+//// How many numbers a mask has: those of the blocks of 64 rows, 129 in each row of them.
 const COUNT: usize = 1032;
 
 /// How many pixels a block has.
@@ -29,9 +28,9 @@ const DEPTH: i32 = 3;
 #[derive(Drop)]
 pub(crate) struct Mask {
     tops: Vec<usize>,
-    // none of them exceeds it
+    // None of them exceeds it.
     highest: usize,
-    // of each pass of the scene, whether a mask pays
+    // Of each pass of the scene, whether a mask pays.
     deep: Vec<bool>,
 }
 
@@ -43,6 +42,13 @@ impl Model for Mask {
     ghost view = { λ m. record { tops = m.tops.items; highest = m.highest } };
 
     ghost invariant = { λ m. IsMask (record { tops = m.tops.items; highest = m.highest }) };
+}
+
+/// A quad of a pass, by its number in the pass's mask. It is drawn only where the mask lets it be seen.
+#[derive(Clone, Copy)]
+pub(crate) struct QuadMask<'a> {
+    pub(crate) mask: &'a Mask,
+    pub(crate) number: usize,
 }
 
 impl Mask {
@@ -73,7 +79,7 @@ impl Mask {
     /// The numbers, row by row of blocks.
     pub(crate) fn tops(&self) -> &[usize]
         ensures value { result.now ≡ self.now.tops }
-        ensures room { length result.now ≡ 1032 }
+        ensures room { length result.now ≡ block_count }
     {
         &self.tops
     }
@@ -86,7 +92,7 @@ impl Mask {
         self.highest
     }
 
-    // whether a mask pays for the pass of this number
+    // Whether a mask pays for the pass of this number.
     fn is_deep(&self, number: usize) -> bool {
         match self.deep.get(number) {
             Some(deep) => *deep,
@@ -97,9 +103,7 @@ impl Mask {
     /// Marks what the opaque ones of a pass's quads hide of an area, where that pays. The passes before it have
     /// surfaces.
     pub(crate) fn mark(&mut self, area: Rect, quads: &[Quad], passes: &[Surface])
-        requires area { IsSound area }
-        requires wide { near area.w ≤ 2048 }
-        requires low { near area.h ≤ 64 }
+        requires area { IsStrip area }
         requires quads { All (CanBeDrawn (length passes.now)) (quads_view quads.now) }
         ensures marked { AreMarked area quads.now self.new.tops }
         ensures numbers { AreNumbers (length quads.now) self.new.tops }
@@ -109,33 +113,22 @@ impl Mask {
         self.highest = marked(self.tops.as_mut_slice(), highest, deep, area, quads, passes);
     }
 
-    /// Marks the same of an area of a pass before the root. Blocks of the area on which the root's mask hides a quad of
-    /// this number have a number after those of all quads.
+    /// Marks the same of an area of a pass before the root. Blocks of the area on which the root's mask hides this quad
+    /// of the root have a number after those of all quads.
     pub(crate) fn mark_open(
         &mut self,
         area: Rect,
         quads: &[Quad],
         passes: &[Surface],
-        root: &Mask,
-        last: usize,
+        root: QuadMask<'_>,
     )
-        requires area { IsSound area }
-        requires wide { near area.w ≤ 2048 }
-        requires low { near area.h ≤ 64 }
+        requires area { IsStrip area }
         requires quads { All (CanBeDrawn (length passes.now)) (quads_view quads.now) }
         ensures marked { AreMarked area quads.now self.new.tops }
-        ensures numbers { AreOpenNumbers (length quads.now) root.now.tops last self.new.tops }
+        ensures numbers { AreOpenNumbers (length quads.now) root.entry.mask.now.tops root.entry.number self.new.tops }
     {
         let deep = self.is_deep(passes.len());
-        self.highest = open_marked(
-            self.tops.as_mut_slice(),
-            root.tops(),
-            last,
-            deep,
-            area,
-            quads,
-            passes,
-        );
+        self.highest = open_marked(self.tops.as_mut_slice(), root, deep, area, quads, passes);
     }
 
     /// Whether a quad of this number is hidden on all of a part of the area.
@@ -163,8 +156,8 @@ impl Mask {
     }
 }
 
-// the highest number of a mask after it was made for some quads of an area, or cleared where it does not pay; none
-// was above `highest` before
+// The highest number of a mask after it was made for some quads of an area, or cleared where it does not pay; none
+// was above `highest` before.
 fn marked(
     tops: &mut [usize],
     highest: usize,
@@ -173,13 +166,11 @@ fn marked(
     quads: &[Quad],
     passes: &[Surface],
 ) -> usize
-    requires tops { length tops.old ≡ 1032 }
+    requires tops { length tops.old ≡ block_count }
     requires bound { (i : ℕ) → slice_index tops.old i ≤ highest }
-    requires area { IsSound area }
-    requires wide { near area.w ≤ 2048 }
-    requires low { near area.h ≤ 64 }
+    requires area { IsStrip area }
     requires quads { All (CanBeDrawn (length passes.now)) (quads_view quads.now) }
-    ensures size { length tops.new ≡ 1032 }
+    ensures size { length tops.new ≡ block_count }
     ensures bound { (i : ℕ) → slice_index tops.new i ≤ result }
     ensures marked { AreMarked area quads.now tops.new }
     ensures numbers { AreNumbers (length quads.now) tops.new }
@@ -192,7 +183,7 @@ fn marked(
     }
 }
 
-// gives all numbers 0, of which none is above `highest`
+// Gives all numbers 0, of which none is above `highest`.
 #[tactic(auto, using(crate::proofs::MarkSteps::none_left))]
 fn clear(tops: &mut [usize], highest: usize)
     requires bound { (i : ℕ) → slice_index tops.old i ≤ highest }
@@ -204,7 +195,7 @@ fn clear(tops: &mut [usize], highest: usize)
     }
 }
 
-// gives all numbers 0
+// Gives all numbers 0.
 fn fill_zeros(tops: &mut [usize])
     ensures size { length tops.new ≡ length tops.old }
     ensures none { (i : ℕ) → slice_index tops.new i ≤ 0 }
@@ -212,12 +203,10 @@ fn fill_zeros(tops: &mut [usize])
     tops.fill(0);
 }
 
-// the highest number after the marking of what the opaque ones of some quads hide
+// The highest number after the marking of what the opaque ones of some quads hide.
 fn mark_deep(tops: &mut [usize], area: Rect, quads: &[Quad], passes: &[Surface]) -> usize
-    requires tops { length tops.old ≡ 1032 }
-    requires area { IsSound area }
-    requires wide { near area.w ≤ 2048 }
-    requires low { near area.h ≤ 64 }
+    requires tops { length tops.old ≡ block_count }
+    requires area { IsStrip area }
     requires quads { All (CanBeDrawn (length passes.now)) (quads_view quads.now) }
     requires marked { AreMarked area quads.now tops.old }
     ensures size { length tops.new ≡ length tops.old }
@@ -229,29 +218,25 @@ fn mark_deep(tops: &mut [usize], area: Rect, quads: &[Quad], passes: &[Surface])
     highest_of(tops)
 }
 
-// the highest number of a mask after it was made for some quads of an area of which the root's mask hides blocks
+// The highest number of a mask after it was made for some quads of an area of which the root's mask hides blocks.
 fn open_marked(
     tops: &mut [usize],
-    root: &[usize],
-    last: usize,
+    root: QuadMask<'_>,
     deep: bool,
     area: Rect,
     quads: &[Quad],
     passes: &[Surface],
 ) -> usize
-    requires tops { length tops.old ≡ 1032 }
-    requires root { length root.now ≡ 1032 }
-    requires area { IsSound area }
-    requires wide { near area.w ≤ 2048 }
-    requires low { near area.h ≤ 64 }
+    requires tops { length tops.old ≡ block_count }
+    requires area { IsStrip area }
     requires quads { All (CanBeDrawn (length passes.now)) (quads_view quads.now) }
-    ensures size { length tops.new ≡ 1032 }
+    ensures size { length tops.new ≡ block_count }
     ensures bound { (i : ℕ) → slice_index tops.new i ≤ result }
     ensures marked { AreMarked area quads.now tops.new }
-    ensures numbers { AreOpenNumbers (length quads.now) root.now last tops.new }
+    ensures numbers { AreOpenNumbers (length quads.now) root.entry.mask.now.tops root.entry.number tops.new }
 {
     let number = quads.len() + 1;
-    hide_blocks(tops, root, last, number);
+    hide_blocks(tops, root.mask.tops(), root.number, number);
     if deep {
         mark_deep(tops, area, quads, passes)
     } else {
@@ -259,19 +244,19 @@ fn open_marked(
     }
 }
 
-// gives the blocks on which the root's mask hides a quad of number `last` this number, and all others 0
+// Gives the blocks on which the root's mask hides a quad of number `last` this number, and all others 0.
 fn hide_blocks(tops: &mut [usize], root: &[usize], last: usize, number: usize)
-    requires tops { length tops.old ≡ 1032 }
-    requires root { length root.now ≡ 1032 }
-    ensures size { length tops.new ≡ 1032 }
-    ensures hidden { AreHidden root.now last number 1032 tops.new }
+    requires tops { length tops.old ≡ block_count }
+    requires root { length root.now ≡ block_count }
+    ensures size { length tops.new ≡ block_count }
+    ensures hidden { AreHidden root.now last number block_count tops.new }
 {
     for place in 0..COUNT {
         hide_block(tops, place, root[place], last, number);
     }
 }
 
-// gives a block this number where that of the root's mask is above `last`, else 0
+// Gives a block this number where that of the root's mask is above `last`, else 0.
 fn hide_block(tops: &mut [usize], place: usize, top: usize, last: usize, number: usize)
     requires place { place < length tops.old }
     ensures size { length tops.new ≡ length tops.old }
@@ -285,9 +270,9 @@ fn hide_block(tops: &mut [usize], place: usize, top: usize, last: usize, number:
     }
 }
 
-// whether the numbers of all blocks that an area touches are above another
+// Whether the numbers of all blocks that an area touches are above another.
 fn are_blocks_above(tops: &[usize], at: Area, number: usize) -> bool
-    requires tops { length tops.now ≡ 1032 }
+    requires tops { length tops.now ≡ block_count }
     requires wide { at.x + at.w ≤ 2048 }
     requires low { at.y + at.h ≤ 64 }
     ensures { IsTrue result → IsHiddenIn at tops.now number }
@@ -315,7 +300,7 @@ pub(crate) fn are_above(tops: &[usize], first: usize, end: usize, number: usize)
     above
 }
 
-// the highest of some numbers
+// The highest of some numbers.
 fn highest_of(tops: &[usize]) -> usize
     ensures { (i : ℕ) → slice_index tops.now i ≤ result }
 {
@@ -326,7 +311,7 @@ fn highest_of(tops: &[usize]) -> usize
     highest
 }
 
-// tells of each pass of a scene whether its tiles and rects lie above one another in many places
+// Tells of each pass of a scene whether its tiles and rects lie above one another in many places.
 fn measure_passes(deep: &mut [bool], scene: &Scene) {
     let pixels = scene.w().saturating_mul(scene.h()) as i32;
     for i in 0..deep.len() {
@@ -336,7 +321,7 @@ fn measure_passes(deep: &mut [bool], scene: &Scene) {
     }
 }
 
-// how many pixels the tiles and rects of some quads have together
+// How many pixels the tiles and rects of some quads have together.
 fn pixels_of(quads: &[Quad]) -> i32 {
     let mut sum: i32 = 0;
     for quad in quads {

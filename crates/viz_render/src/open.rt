@@ -3,92 +3,71 @@
 ghost use Rattle.std.specs.Prelude.{◌≡◌, ℕ, ◌+◌, ◌-◌, ◌*◌, ◌%◌, ◌^◌, ◌<◌, ◌≤◌, min, false, length, slice_index};
 ghost use Rattle.pixel.specs.Rows.{ArePremultiplied};
 ghost use Rattle.pixel.specs.Surfaces.{IsInside, EachPixel, within_rows};
-ghost use Rattle.viz_render.specs.inner.Masks.{is_open, EachOpen};
-ghost use Rattle.viz_render.specs.inner.Paints.{painted, CanPaint, some_rows, some_columns};
+ghost use Rattle.viz_render.specs.inner.Masks.{block_count, is_open, EachOpen};
+ghost use Rattle.viz_render.specs.inner.Paints.{painted, CanPaint, IsPaintable, some_rows, some_columns};
 
-use crate::mask::Mask;
+use crate::mask::QuadMask;
 use crate::paint::{Paint, paint_part};
 use page_display_list::CoveredArea;
-use pixel::Area;
+use pixel::{Area, Size};
 
-/// Paints a part of an area where a quad of this number is seen.
+/// Paints a part of an area where a quad is seen.
 pub(crate) fn paint_open(
     surface: &mut [u8],
-    width: usize,
-    height: usize,
+    size: Size,
     part: CoveredArea,
     paint: &Paint<'_>,
-    mask: &Mask,
-    number: usize,
+    seen: QuadMask<'_>,
 )
-    requires size { length surface.old ≡ 4 * (width * height) }
-    requires wide { width ≤ 2048 }
-    requires low { height ≤ 64 }
-    requires inside { IsInside part.at width height }
-    requires paint { CanPaint paint.now part }
-    requires left { part.left + part.at.w < 2 ^ 64 }
-    requires above { part.above + part.at.h < 2 ^ 64 }
-    ensures pixels { EachOpen width height mask.now.tops number (within_rows part.at part.at.h (painted paint.now part)) surface.old surface.new }
+    requires paint { IsPaintable size part paint.now surface.old }
+    ensures pixels { EachOpen size.width size.height seen.entry.mask.now.tops seen.entry.number (within_rows part.at part.at.h (painted paint.now part)) surface.old surface.new }
     ensures premultiplied { ArePremultiplied surface.old → ArePremultiplied surface.new }
 {
+    let QuadMask { mask, number } = seen;
     if mask.highest() <= number {
-        paint_part(surface, width, height, part, paint);
+        paint_part(surface, size, part, paint);
     } else {
-        paint_rows(surface, width, height, part, paint, mask.tops(), number);
+        paint_rows(surface, size, part, paint, mask.tops(), number);
     }
 }
 
-// paints the rows of a part, those of one row of blocks at a time
+// Paints the rows of a part, those of one row of blocks at a time.
 fn paint_rows(
     surface: &mut [u8],
-    width: usize,
-    height: usize,
+    size: Size,
     part: CoveredArea,
     paint: &Paint<'_>,
     tops: &[usize],
     number: usize,
 )
-    requires size { length surface.old ≡ 4 * (width * height) }
-    requires wide { width ≤ 2048 }
-    requires low { height ≤ 64 }
-    requires inside { IsInside part.at width height }
-    requires paint { CanPaint paint.now part }
-    requires left { part.left + part.at.w < 2 ^ 64 }
-    requires above { part.above + part.at.h < 2 ^ 64 }
-    requires tops { length tops.now ≡ 1032 }
-    ensures pixels { EachOpen width height tops.now number (within_rows part.at part.at.h (painted paint.now part)) surface.old surface.new }
+    requires paint { IsPaintable size part paint.now surface.old }
+    requires tops { length tops.now ≡ block_count }
+    ensures pixels { EachOpen size.width size.height tops.now number (within_rows part.at part.at.h (painted paint.now part)) surface.old surface.new }
     ensures premultiplied { ArePremultiplied surface.old → ArePremultiplied surface.new }
 {
     let mut done = 0;
     while done < part.at.h {
         let rows = (8 - (part.at.y + done) % 8).min(part.at.h - done);
         let band = rows_of(part, done, rows);
-        paint_columns(surface, width, height, band, paint, tops, number);
+        paint_columns(surface, size, band, paint, tops, number);
         done += rows;
     }
 }
 
-// paints the columns of a part of one row of blocks, as many as are seen together at a time
+// Paints the columns of a part of one row of blocks, as many as are seen together at a time.
 fn paint_columns(
     surface: &mut [u8],
-    width: usize,
-    height: usize,
+    size: Size,
     part: CoveredArea,
     paint: &Paint<'_>,
     tops: &[usize],
     number: usize,
 )
-    requires size { length surface.old ≡ 4 * (width * height) }
-    requires wide { width ≤ 2048 }
-    requires low { height ≤ 64 }
-    requires inside { IsInside part.at width height }
-    requires paint { CanPaint paint.now part }
-    requires left { part.left + part.at.w < 2 ^ 64 }
-    requires above { part.above + part.at.h < 2 ^ 64 }
-    requires tops { length tops.now ≡ 1032 }
+    requires paint { IsPaintable size part paint.now surface.old }
+    requires tops { length tops.now ≡ block_count }
     requires some { 1 ≤ part.at.h }
     requires one { part.at.y % 8 + part.at.h ≤ 8 }
-    ensures pixels { EachOpen width height tops.now number (within_rows part.at part.at.h (painted paint.now part)) surface.old surface.new }
+    ensures pixels { EachOpen size.width size.height tops.now number (within_rows part.at part.at.h (painted paint.now part)) surface.old surface.new }
     ensures premultiplied { ArePremultiplied surface.old → ArePremultiplied surface.new }
 {
     let mut done = 0;
@@ -96,26 +75,26 @@ fn paint_columns(
         let run = next_run(tops, part.at, done, number);
         let first = done + run.hidden;
         let columns = columns_of(part, first, run.seen);
-        paint_run(surface, width, height, columns, paint);
+        paint_run(surface, size, columns, paint);
         done = first + run.seen;
     }
 }
 
-// paints a part, which may be empty
+// Paints a part, which may be empty.
 #[inline(always)]
-fn paint_run(surface: &mut [u8], width: usize, height: usize, part: CoveredArea, paint: &Paint<'_>)
-    requires size { length surface.old ≡ 4 * (width * height) }
-    requires inside { IsInside part.at width height }
+fn paint_run(surface: &mut [u8], size: Size, part: CoveredArea, paint: &Paint<'_>)
+    requires size { length surface.old ≡ 4 * (size.width * size.height) }
+    requires inside { IsInside part.at size.width size.height }
     requires paint { CanPaint paint.now part }
-    ensures pixels { EachPixel width height (within_rows part.at part.at.h (painted paint.now part)) surface.old surface.new }
+    ensures pixels { EachPixel size.width size.height (within_rows part.at part.at.h (painted paint.now part)) surface.old surface.new }
     ensures premultiplied { ArePremultiplied surface.old → ArePremultiplied surface.new }
 {
     if part.at.w > 0 {
-        paint_part(surface, width, height, part, paint);
+        paint_part(surface, size, part, paint);
     }
 }
 
-// some rows of a part
+// Some rows of a part.
 fn rows_of(part: CoveredArea, first: usize, rows: usize) -> CoveredArea
     requires below { part.at.y + first < 2 ^ 64 }
     requires above { part.above + first < 2 ^ 64 }
@@ -134,7 +113,7 @@ fn rows_of(part: CoveredArea, first: usize, rows: usize) -> CoveredArea
     }
 }
 
-// some columns of a part
+// Some columns of a part.
 fn columns_of(part: CoveredArea, first: usize, columns: usize) -> CoveredArea
     requires right { part.at.x + first < 2 ^ 64 }
     requires left { part.left + first < 2 ^ 64 }
@@ -160,11 +139,11 @@ pub(crate) struct ColumnRun {
     pub(crate) seen: usize,
 }
 
-// the columns of an area from column `first` on in its top row of blocks, up to the end of those that are seen
-// together
+// The columns of an area from column `first` on in its top row of blocks, up to the end of those that are seen
+// together.
 #[inline(always)]
 fn next_run(tops: &[usize], at: Area, first: usize, number: usize) -> ColumnRun
-    requires tops { length tops.now ≡ 1032 }
+    requires tops { length tops.now ≡ block_count }
     requires wide { at.x + at.w ≤ 2048 }
     requires low { at.y < 64 }
     requires there { first < at.w }
@@ -185,7 +164,7 @@ fn next_run(tops: &[usize], at: Area, first: usize, number: usize) -> ColumnRun
     }
 }
 
-// how many columns from column `from` to before `end` lie before a block
+// How many columns from column `from` to before `end` lie before a block.
 #[inline(always)]
 fn columns_before(block: usize, from: usize, end: usize) -> usize
     requires { block ≤ 128 }
@@ -194,7 +173,7 @@ fn columns_before(block: usize, from: usize, end: usize) -> usize
     (16 * block).min(end).saturating_sub(from)
 }
 
-// the first place from `first` to before `end` with a number up to the given one; `end` where there is none
+// The first place from `first` to before `end` with a number up to the given one; `end` where there is none.
 #[inline(always)]
 fn hidden_until(tops: &[usize], first: usize, end: usize, number: usize) -> usize
     requires order { first ≤ end }
@@ -211,7 +190,7 @@ fn hidden_until(tops: &[usize], first: usize, end: usize, number: usize) -> usiz
     place
 }
 
-// the first place from `first` to before `end` with a number above the given one; `end` where there is none
+// The first place from `first` to before `end` with a number above the given one; `end` where there is none.
 #[inline(always)]
 fn seen_until(tops: &[usize], first: usize, end: usize, number: usize) -> usize
     requires order { first ≤ end }

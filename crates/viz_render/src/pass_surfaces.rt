@@ -9,7 +9,7 @@ ghost use Rattle.viz_render.specs.inner.Drawing.{AreRoomy, PassesCanBeDrawn};
 ghost use Rattle.viz_render.specs.inner.Rooms.{HasRoom};
 ghost use Rattle.viz_render.specs.inner.Shown.{ShowOpenPasses};
 
-use crate::mask::Mask;
+use crate::mask::{Mask, QuadMask};
 use crate::passes::{draw_pass, draw_passes};
 use crate::shown::last_group;
 use crate::surface::Surface;
@@ -19,12 +19,12 @@ use viz_scene::{RenderPass, Scene};
 
 /// A surface for each pass of a scene.
 pub(crate) struct PassSurfaces {
-    // those of the passes before the root
+    // Those of the passes before the root.
     pub(crate) passes: Vec<Surface>,
     pub(crate) root: Surface,
-    // what opaque quads hide of the current one of these passes
+    // What opaque quads hide of the current one of these passes.
     pub(crate) mask: Mask,
-    // what they hide of the root
+    // What they hide of the root.
     pub(crate) root_mask: Mask,
 }
 
@@ -60,7 +60,7 @@ impl PassSurfaces {
     }
 }
 
-// the given number of surfaces of the given number of pixels
+// The given number of surfaces of the given number of pixels.
 fn inner_surfaces(alloc: Global, count: usize, pixels: usize) -> Result<Vec<Surface>, AllocError>
     requires { pixels ≤ 2 ^ 60 }
     ensures count { IfOk result (λ surfaces. length surfaces.items ≡ count) }
@@ -73,8 +73,8 @@ fn inner_surfaces(alloc: Global, count: usize, pixels: usize) -> Result<Vec<Surf
     Ok(surfaces)
 }
 
-/// Draws the pixels of an area of the passes of a scene: those of the root, which are the scene's, and of the passes before
-/// it at least those that are seen.
+/// Draws the pixels of an area of the passes of a scene: those of the root, which are the scene's, and of the passes
+/// before it at least those that are seen.
 pub(crate) fn draw_scene(scene: &Scene, area: Rect, surfaces: &mut PassSurfaces)
     requires area { IsIn 2048 2048 area }
     requires low { near area.h ≤ 64 }
@@ -88,13 +88,16 @@ pub(crate) fn draw_scene(scene: &Scene, area: Rect, surfaces: &mut PassSurfaces)
     let quads = root.quads.as_slice();
     let last = last_group(quads, inner.len());
     surfaces.root_mask.mark(area, quads, &surfaces.passes);
+    let root_group = QuadMask {
+        mask: &surfaces.root_mask,
+        number: last,
+    };
     draw_inner(
         inner,
         area,
         &mut surfaces.passes,
         &mut surfaces.mask,
-        &surfaces.root_mask,
-        last,
+        root_group,
     );
     draw_pass(
         &mut surfaces.root,
@@ -106,24 +109,23 @@ pub(crate) fn draw_scene(scene: &Scene, area: Rect, surfaces: &mut PassSurfaces)
     );
 }
 
-// draws the pixels of an area of the passes before the root, at least where the root's mask leaves its quad of this number
-// to be seen
+// Draws the pixels of an area of the passes before the root, at least where the root's mask leaves its quad of this
+// number to be seen.
 fn draw_inner(
     passes: &[RenderPass],
     area: Rect,
     surfaces: &mut Vec<Surface>,
     mask: &mut Mask,
-    root: &Mask,
-    last: usize,
+    root: QuadMask<'_>,
 )
     requires area { IsIn 2048 2048 area }
     requires low { near area.h ≤ 64 }
     requires each { length surfaces.old.items ≡ length passes.now }
     requires quads { PassesCanBeDrawn (passes_view passes.now) }
     requires room { AreRoomy (byte_count area.w area.h) surfaces.old.items }
-    ensures pixels { ShowOpenPasses area root.now.tops last (passes_view passes.now) surfaces.new.items }
+    ensures pixels { ShowOpenPasses area root.entry.mask.now.tops root.entry.number (passes_view passes.now) surfaces.new.items }
     ensures count { length surfaces.new.items ≡ length surfaces.old.items }
     ensures room { (n : ℕ) → AreRoomy n surfaces.old.items → AreRoomy n surfaces.new.items }
 {
-    draw_passes(passes, area, surfaces.as_mut_slice(), mask, root, last);
+    draw_passes(passes, area, surfaces.as_mut_slice(), mask, root);
 }

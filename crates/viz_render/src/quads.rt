@@ -1,20 +1,19 @@
 //! Drawing quads into the pixels of an area.
 
 ghost use Rattle.std.specs.Prelude.{◌≡◌, ◌≤◌, length, All};
-ghost use Rattle.geom.specs.Covers.{IsSound};
 ghost use Rattle.pixel.specs.Rows.{ArePremultiplied};
 ghost use Rattle.page_display_list.specs.Bitmaps.{near, byte_count};
 ghost use Rattle.viz_scene.specs.Views.{quad_view, quads_view};
 ghost use Rattle.viz_scene.specs.Pixels.{quad_over};
-ghost use Rattle.viz_render.specs.inner.Drawing.{colours, CanBeDrawn};
+ghost use Rattle.viz_render.specs.inner.Drawing.{IsStrip, colours, CanBeDrawn};
 ghost use Rattle.viz_render.specs.inner.Masks.{AreMarked, EachOpenPoint};
 ghost use Rattle.viz_render.specs.inner.Shown.{ShowsSeen};
 
 use crate::beside::lies_beside;
 use crate::blank::fill_open;
 use crate::group::draw_group;
-use crate::mask::Mask;
-use crate::size::{height_of, width_of};
+use crate::mask::{Mask, QuadMask};
+use crate::size::size_of;
 use crate::solid::draw_solid;
 use crate::surface::Surface;
 use crate::tile::draw_tile;
@@ -32,9 +31,7 @@ pub(crate) fn draw_quads(
     passes: &[Surface],
     mask: &Mask,
 )
-    requires area { IsSound area }
-    requires wide { near area.w ≤ 2048 }
-    requires low { near area.h ≤ 64 }
+    requires area { IsStrip area }
     requires size { length surface.old ≡ byte_count area.w area.h }
     requires quads { All (CanBeDrawn (length passes.now)) (quads_view quads.now) }
     requires marked { AreMarked area quads.now mask.now.tops }
@@ -42,39 +39,34 @@ pub(crate) fn draw_quads(
     ensures size { length surface.new ≡ length surface.old }
     ensures premultiplied { ArePremultiplied surface.old → ArePremultiplied surface.new }
 {
-    fill_open(surface, width_of(area), height_of(area), below, mask);
+    fill_open(surface, size_of(area), below, mask);
     for (k, quad) in quads.iter().enumerate() {
-        draw_quad(surface, area, quad, passes, mask, k + 1);
+        let seen = QuadMask {
+            mask,
+            number: k + 1,
+        };
+        draw_quad(surface, area, quad, passes, seen);
     }
 }
 
-// draws one quad
+// Draws one quad.
 #[inline(always)]
-fn draw_quad(
-    surface: &mut [u8],
-    area: Rect,
-    quad: &Quad,
-    passes: &[Surface],
-    mask: &Mask,
-    number: usize,
-)
-    requires area { IsSound area }
-    requires wide { near area.w ≤ 2048 }
-    requires low { near area.h ≤ 64 }
+fn draw_quad(surface: &mut [u8], area: Rect, quad: &Quad, passes: &[Surface], seen: QuadMask<'_>)
+    requires area { IsStrip area }
     requires size { length surface.old ≡ byte_count area.w area.h }
     requires quad { CanBeDrawn (length passes.now) (quad_view quad.now) }
-    ensures pixels { EachOpenPoint area mask.now.tops number (λ x y below. quad_over (colours passes.now x y) x y below (quad_view quad.now)) surface.old surface.new }
+    ensures pixels { EachOpenPoint area seen.entry.mask.now.tops seen.entry.number (λ x y below. quad_over (colours passes.now x y) x y below (quad_view quad.now)) surface.old surface.new }
     ensures premultiplied { ArePremultiplied surface.old → ArePremultiplied surface.new }
 {
     if lies_beside(quad, area, passes.len()) {
         return;
     }
     match quad {
-        Quad::Tile { image, at, from } => draw_tile(surface, area, image, *at, *from, mask, number),
-        Quad::Solid { at, colour } => draw_solid(surface, area, *at, *colour, mask, number),
+        Quad::Tile { image, at, from } => draw_tile(surface, area, image, *at, *from, seen),
+        Quad::Solid { at, colour } => draw_solid(surface, area, *at, *colour, seen),
         Quad::Group { pass, opacity } => {
             let pass = &passes[*pass as usize];
-            draw_group(surface, area, pass, *opacity, mask, number);
+            draw_group(surface, area, pass, *opacity, seen);
         }
     }
 }

@@ -27,7 +27,7 @@ pub(crate) fn last_group(quads: &[Quad], passes: usize) -> usize
     number
 }
 
-// whether a quad is a group
+// Whether a quad is a group.
 fn is_group(quad: &Quad) -> bool
     ensures { result ≡ false → IsGroup (quad_view quad.now) → ⊥ }
 {

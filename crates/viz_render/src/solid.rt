@@ -6,14 +6,14 @@ ghost use Rattle.pixel.specs.Colours.{Parts, blend, clear};
 ghost use Rattle.pixel.specs.Rows.{ArePremultiplied};
 ghost use Rattle.page_display_list.specs.Bitmaps.{near, byte_count};
 ghost use Rattle.page_display_list.specs.declared.CoveredArea.{CoveredArea};
-ghost use Rattle.viz_render.specs.inner.Drawing.{laid_on};
+ghost use Rattle.viz_render.specs.inner.Drawing.{IsStrip, laid_on};
 ghost use Rattle.viz_render.specs.inner.Masks.{EachOpenPoint};
 ghost use Rattle.viz_render.specs.inner.Paints.{painted, CanPaint};
 
-use crate::mask::Mask;
+use crate::mask::QuadMask;
 use crate::open::paint_open;
 use crate::paint::Paint;
-use crate::size::{height_of, width_of};
+use crate::size::size_of;
 use geom::Rect;
 use page_display_list::shared_part;
 use pixel::Colour;
@@ -24,15 +24,12 @@ pub(crate) fn draw_solid(
     area: Rect,
     at: Rect,
     colour: Colour,
-    mask: &Mask,
-    number: usize,
+    seen: QuadMask<'_>,
 )
-    requires area { IsSound area }
-    requires wide { near area.w ≤ 2048 }
-    requires low { near area.h ≤ 64 }
+    requires area { IsStrip area }
     requires at { IsSound at }
     requires size { length surface.old ≡ byte_count area.w area.h }
-    ensures pixels { EachOpenPoint area mask.now.tops number (laid_on at (λ x y. colour)) surface.old surface.new }
+    ensures pixels { EachOpenPoint area seen.entry.mask.now.tops seen.entry.number (laid_on at (λ x y. colour)) surface.old surface.new }
     ensures premultiplied { ArePremultiplied surface.old → ArePremultiplied surface.new }
 {
     if is_clear(colour) {
@@ -41,20 +38,10 @@ pub(crate) fn draw_solid(
     let Some(part) = shared_part(at, area) else {
         return;
     };
-    let width = width_of(area);
-    let height = height_of(area);
-    paint_open(
-        surface,
-        width,
-        height,
-        part,
-        &paint_of(colour),
-        mask,
-        number,
-    );
+    paint_open(surface, size_of(area), part, &paint_of(colour), seen);
 }
 
-// the paint of a colour
+// The paint of a colour.
 fn paint_of(colour: Colour) -> Paint<'static>
     ensures can { (part : CoveredArea) → CanPaint result part }
     ensures value { (part : CoveredArea) (x y : ℕ) (below : Parts) → painted result part x y below ≡ blend below colour }
@@ -66,7 +53,7 @@ fn paint_of(colour: Colour) -> Paint<'static>
     }
 }
 
-// whether the colour is transparent, so that laying it over another changes nothing
+// Whether the colour is transparent, so that laying it over another changes nothing.
 fn is_clear(colour: Colour) -> bool
     ensures { IsTrue result → colour ≡ clear }
 {

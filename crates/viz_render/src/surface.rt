@@ -3,9 +3,11 @@
 ghost use Rattle.std.specs.Prelude.{◌≡◌, ◌*◌, ◌≤◌, ◌^◌, length, IfOk};
 ghost use Rattle.geom.specs.Covers.{IsSound};
 ghost use Rattle.pixel.specs.Rows.{ArePremultiplied};
-ghost use Rattle.page_display_list.specs.Bitmaps.{byte_count};
+ghost use Rattle.page_display_list.specs.Bitmaps.{near, byte_count};
 
+use crate::size::size_of;
 use geom::Rect;
+use pixel::Pixels;
 use std::alloc::{AllocError, Global};
 use std::marker::Model;
 
@@ -14,7 +16,7 @@ use std::marker::Model;
 #[derive(Drop)]
 pub(crate) struct Surface {
     pub(crate) rect: Rect,
-    // premultiplied pixels, four bytes each
+    // Premultiplied pixels, four bytes each.
     pub(crate) bytes: Vec<u8>,
 }
 
@@ -52,6 +54,13 @@ impl Surface {
         ensures sound { IsSound result }
     {
         self.rect
+    }
+
+    /// Its pixels.
+    pub(crate) fn pixels(&self) -> Pixels<'_>
+        ensures { result ≡ record { bytes = self.now.bytes; size = record { width = near self.now.rect.w; height = near self.now.rect.h } } }
+    {
+        Pixels::new(self.bytes(), size_of(self.rect()))
     }
 
     /// The bytes of its pixels, and those after them.

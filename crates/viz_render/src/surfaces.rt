@@ -24,9 +24,9 @@ const CACHED: usize = 786432;
 /// of passes, one after another.
 pub struct Surfaces {
     passes: PassSurfaces,
-    // how many pixels the rows of a strip have at most
+    // How many pixels the rows of a strip have at most.
     width: usize,
-    // the most rows of a strip
+    // The most rows of a strip.
     rows: usize,
 }
 
@@ -123,7 +123,7 @@ impl Surfaces {
     }
 }
 
-// how many rows a strip has where the given number of surfaces of this width are drawn
+// How many rows a strip has where the given number of surfaces of this width are drawn.
 fn rows_of_strip(width: usize, surfaces: usize) -> usize
     requires width { 1 ≤ width }
     requires narrow { width ≤ 2048 }

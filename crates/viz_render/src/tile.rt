@@ -9,17 +9,17 @@ ghost use Rattle.page_display_list.specs.Bitmaps.{near, byte_count};
 ghost use Rattle.viz_scene.specs.Pixels.{placed_pixel};
 ghost use Rattle.viz_scene.specs.Sound.{IsTaken};
 ghost use Rattle.tile_raster.specs.Images.{AreSameRows};
-ghost use Rattle.viz_render.specs.inner.Drawing.{rows_from, part_pixel, laid_on};
+ghost use Rattle.viz_render.specs.inner.Drawing.{IsStrip, rows_from, part_pixel, laid_on};
 ghost use Rattle.viz_render.specs.inner.Masks.{EachOpen, EachOpenPoint};
 
-use crate::mask::Mask;
+use crate::mask::QuadMask;
 use crate::open::paint_open;
 use crate::paint::Paint;
-use crate::size::{count, height_of, width_of};
+use crate::size::{count, size_of};
 use crate::solid::draw_solid;
 use geom::{Point, Rect};
 use page_display_list::{CoveredArea, shared_part};
-use pixel::Area;
+use pixel::{Area, Size};
 use tile_raster::TileImage;
 
 /// Draws the part of an image from `from` on where `at` lies in an area.
@@ -29,41 +29,30 @@ pub(crate) fn draw_tile(
     image: &TileImage,
     at: Rect,
     from: Point,
-    mask: &Mask,
-    number: usize,
+    seen: QuadMask<'_>,
 )
-    requires area { IsSound area }
-    requires wide { near area.w ≤ 2048 }
-    requires low { near area.h ≤ 64 }
+    requires area { IsStrip area }
     requires at { IsSound at }
     requires taken { IsTaken image.now at from }
     requires size { length surface.old ≡ byte_count area.w area.h }
-    ensures pixels { EachOpenPoint area mask.now.tops number (laid_on at (placed_pixel image.now at from)) surface.old surface.new }
+    ensures pixels { EachOpenPoint area seen.entry.mask.now.tops seen.entry.number (laid_on at (placed_pixel image.now at from)) surface.old surface.new }
     ensures premultiplied { ArePremultiplied surface.old → ArePremultiplied surface.new }
 {
     let Some(part) = shared_part(at, area) else {
         return;
     };
-    if mask.hides(part.at, number) {
+    if seen.mask.hides(part.at, seen.number) {
         return;
     }
     if let Some(colour) = image.solid() {
-        draw_solid(surface, area, at, colour, mask, number);
+        draw_solid(surface, area, at, colour, seen);
         return;
     }
     let part = taken_part(part, from);
-    draw_part(
-        surface,
-        width_of(area),
-        height_of(area),
-        image,
-        part,
-        mask,
-        number,
-    );
+    draw_part(surface, size_of(area), image, part, seen);
 }
 
-// the part with its columns and rows counted in the image, of which the rect takes what is from `from` on
+// The part with its columns and rows counted in the image, of which the rect takes what is from `from` on.
 pub(crate) fn taken_part(part: CoveredArea, from: Point) -> CoveredArea
     requires from_left { pos 0 ≤ℤ from.x }
     requires from_top { pos 0 ≤ℤ from.y }
@@ -78,7 +67,7 @@ pub(crate) fn taken_part(part: CoveredArea, from: Point) -> CoveredArea
     }
 }
 
-// a place this much further to the right or downwards
+// A place this much further to the right or downwards.
 fn later(place: usize, by: i32) -> usize
     requires by { pos 0 ≤ℤ by }
     requires place { place ≤ 2 ^ 29 }
@@ -87,35 +76,30 @@ fn later(place: usize, by: i32) -> usize
     place + count(by)
 }
 
-// draws a part of an image, each row that it keeps over all rows that are equal to it
+// Draws a part of an image, each row that it keeps over all rows that are equal to it.
 fn draw_part(
     surface: &mut [u8],
-    width: usize,
-    height: usize,
+    size: Size,
     image: &TileImage,
     part: CoveredArea,
-    mask: &Mask,
-    quad: usize,
+    seen: QuadMask<'_>,
 )
-    requires size { length surface.old ≡ 4 * (width * height) }
-    requires wide { width ≤ 2048 }
-    requires low { height ≤ 64 }
-    requires inside { IsInside part.at width height }
+    requires size { length surface.old ≡ 4 * (size.width * size.height) }
+    requires wide { size.width ≤ 2048 }
+    requires low { size.height ≤ 64 }
+    requires inside { IsInside part.at size.width size.height }
     requires columns { part.left + part.at.w ≤ near image.now.rect.w }
     requires rows { part.above + part.at.h ≤ near image.now.rect.h }
-    ensures pixels { EachOpen width height mask.now.tops quad (within_rows part.at part.at.h (λ x y below. blend below (part_pixel image.now part x y))) surface.old surface.new }
+    ensures pixels { EachOpen size.width size.height seen.entry.mask.now.tops seen.entry.number (within_rows part.at part.at.h (λ x y below. blend below (part_pixel image.now part x y))) surface.old surface.new }
     ensures premultiplied { ArePremultiplied surface.old → ArePremultiplied surface.new }
 {
     let mut done = 0;
     while done < part.at.h {
-        let row = row_number(image, part, done);
-        let rows = equal_rows_at(image, row, part.at.h - done);
-        draw_band(surface, width, height, image, part, done, rows, mask, quad);
-        done += rows;
+        done += draw_band(surface, size, image, part, done, seen);
     }
 }
 
-// the row of an image that belongs to a row of a part of it
+// The row of an image that belongs to a row of a part of it.
 pub(crate) fn row_number(image: &TileImage, part: CoveredArea, row: usize) -> u32
     requires rows { part.above + part.at.h ≤ near image.now.rect.h }
     requires there { row < part.at.h }
@@ -126,7 +110,7 @@ pub(crate) fn row_number(image: &TileImage, part: CoveredArea, row: usize) -> u3
     (part.above + row) as u32
 }
 
-// how many rows of an image, from a row on, are kept as that row, at most the given number
+// How many rows of an image, from a row on, are kept as that row, at most the given number.
 pub(crate) fn equal_rows_at(image: &TileImage, row: u32, most: usize) -> usize
     requires row { row < near image.now.rect.h }
     requires some { 1 ≤ most }
@@ -138,50 +122,42 @@ pub(crate) fn equal_rows_at(image: &TileImage, row: u32, most: usize) -> usize
     equal.min(most)
 }
 
-// draws the given number of rows of a part of an image, from its row `row` on, which are all equal
+// Draws the rows of a part of an image that are equal to its row `row`, from that one on, and returns how many they
+// are.
 fn draw_band(
     surface: &mut [u8],
-    width: usize,
-    height: usize,
+    size: Size,
     image: &TileImage,
     part: CoveredArea,
     row: usize,
-    rows: usize,
-    mask: &Mask,
-    quad: usize,
-)
-    requires size { length surface.old ≡ 4 * (width * height) }
-    requires wide { width ≤ 2048 }
-    requires low { height ≤ 64 }
-    requires inside { IsInside part.at width height }
+    seen: QuadMask<'_>,
+) -> usize
+    requires size { length surface.old ≡ 4 * (size.width * size.height) }
+    requires wide { size.width ≤ 2048 }
+    requires low { size.height ≤ 64 }
+    requires inside { IsInside part.at size.width size.height }
     requires columns { part.left + part.at.w ≤ near image.now.rect.w }
     requires below { part.above + part.at.h ≤ near image.now.rect.h }
-    requires some { 1 ≤ rows }
-    requires there { row + rows ≤ part.at.h }
-    requires equal { (k : ℕ) → k < rows → AreSameRows image.now.list image.now.rect (part.above + row) (part.above + row + k) }
-    ensures pixels { EachOpen width height mask.now.tops quad (within_rows (rows_from part.at row rows) rows (λ x y below. blend below (part_pixel image.now part x y))) surface.old surface.new }
+    requires there { row < part.at.h }
+    ensures some { 1 ≤ result }
+    ensures most { row + result ≤ part.at.h }
+    ensures pixels { EachOpen size.width size.height seen.entry.mask.now.tops seen.entry.number (within_rows (rows_from part.at row result) result (λ x y below. blend below (part_pixel image.now part x y))) surface.old surface.new }
     ensures premultiplied { ArePremultiplied surface.old → ArePremultiplied surface.new }
 {
+    let number = row_number(image, part, row);
+    let rows = equal_rows_at(image, number, part.at.h - row);
     let at = Area {
         x: part.at.x,
         y: part.at.y + row,
         w: part.at.w,
         h: rows,
     };
-    let number = row_number(image, part, row);
     let pixels = image.row(number);
     let band = CoveredArea {
         at,
         left: part.left,
         above: part.above + row,
     };
-    paint_open(
-        surface,
-        width,
-        height,
-        band,
-        &Paint::Row(pixels),
-        mask,
-        quad,
-    );
+    paint_open(surface, size, band, &Paint::Row(pixels), seen);
+    rows
 }

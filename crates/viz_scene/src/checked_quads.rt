@@ -9,14 +9,14 @@ use crate::Quad;
 use geom::{Point, Rect};
 use tile_raster::TileImage;
 
-// the number after a span
+// The number after a span.
 fn end_of(at: i32, len: i32) -> i64
     ensures { result ≡ at +ℤ len }
 {
     at as i64 + len as i64
 }
 
-// whether a span lies between 0 and a side
+// Whether a span lies between 0 and a side.
 #[tactic(auto, unfolding(crate::specs::inner::Tests::is_span_in))]
 fn is_span_in(at: i32, len: i32, side: u32) -> bool
     ensures { result ≡ Tests.is_span_in at len (pos side) }
@@ -26,7 +26,7 @@ fn is_span_in(at: i32, len: i32, side: u32) -> bool
     0 <= at && long
 }
 
-// whether this much from a number on lies in a length
+// Whether this much from a number on lies in a length.
 #[tactic(auto, unfolding(crate::specs::inner::Tests::is_part_of))]
 fn is_part_of(from: i32, len: i32, whole: i32) -> bool
     ensures { result ≡ Tests.is_part_of from len whole }
@@ -35,7 +35,7 @@ fn is_part_of(from: i32, len: i32, whole: i32) -> bool
     0 <= from && end <= whole as i64
 }
 
-// whether a rect lies inside a screen
+// Whether a rect lies inside a screen.
 fn is_in(at: Rect, w: u32, h: u32) -> bool
     ensures value { result ≡ (Tests.is_span_in at.x at.w (pos w) && Tests.is_span_in at.y at.h (pos h)) }
     ensures decides { IsTrue result ↔ IsIn w h at }
@@ -45,7 +45,7 @@ fn is_in(at: Rect, w: u32, h: u32) -> bool
     across && down
 }
 
-// whether the part of an image from a pixel on, as large as a rect, lies inside the image
+// Whether the part of an image from a pixel on, as large as a rect, lies inside the image.
 fn is_taken(image: &TileImage, at: Rect, from: Point) -> bool
     ensures value { result ≡ (Tests.is_part_of from.x at.w image.now.rect.w && Tests.is_part_of from.y at.h image.now.rect.h) }
     ensures decides { IsTrue result ↔ IsTaken image.now at from }

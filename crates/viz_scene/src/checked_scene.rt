@@ -8,7 +8,7 @@ use crate::checked_quads::fits;
 use crate::{Quad, RenderPass, Scene};
 use pixel::Colour;
 
-// whether each quad may stand in the pass of this number
+// Whether each quad may stand in the pass of this number.
 fn all_fit(quads: &[Quad], w: u32, h: u32, number: usize) -> bool
     ensures { IsTrue result ↔ All (QuadFits w h number) (quads_view quads.now) }
 {
@@ -22,14 +22,14 @@ fn all_fit(quads: &[Quad], w: u32, h: u32, number: usize) -> bool
     true
 }
 
-// whether each quad of a pass of this number may stand there
+// Whether each quad of a pass of this number may stand there.
 fn pass_fits(pass: &RenderPass, w: u32, h: u32, number: usize) -> bool
     ensures { IsTrue result ↔ All (QuadFits w h number) (pass_view pass.now) }
 {
     all_fit(pass.quads.as_slice(), w, h, number)
 }
 
-// whether each quad of each pass may stand there
+// Whether each quad of each pass may stand there.
 fn are_sound(passes: &[RenderPass], w: u32, h: u32) -> bool
     ensures { IsTrue result ↔ AreSound w h 0 (passes_view passes.now) }
 {
@@ -45,7 +45,7 @@ fn are_sound(passes: &[RenderPass], w: u32, h: u32) -> bool
     true
 }
 
-// whether a number of pixels may be a side
+// Whether a number of pixels may be a side.
 fn is_side(n: u32) -> bool
     ensures { IsTrue result ↔ IsSceneSide n }
 {

@@ -13,7 +13,7 @@ pub fn is_empty(r: Rect) -> bool
     lacks_numbers(r.w) || lacks_numbers(r.h)
 }
 
-// whether a span of this length has no number
+// Whether a span of this length has no number.
 fn lacks_numbers(len: i32) -> bool
     ensures yes { IsTrue result → len ≤ℤ pos 0 }
     ensures no { result ≡ false → pos 0 <ℤ len }

@@ -45,7 +45,7 @@ pub fn union_of(a: Rect, b: Rect) -> Option<Rect>
     None
 }
 
-// whether two rects have the same rows and no gap between them
+// Whether two rects have the same rows and no gap between them.
 fn lie_beside(a: Rect, b: Rect) -> bool
     requires first { IsOnScreen a }
     requires second { IsOnScreen b }
@@ -54,7 +54,7 @@ fn lie_beside(a: Rect, b: Rect) -> bool
     is_same_span(a.y, a.h, b.y, b.h) && have_no_gap(a.x, a.w, b.x, b.w)
 }
 
-// whether two rects have the same columns and no gap between them
+// Whether two rects have the same columns and no gap between them.
 fn lie_stacked(a: Rect, b: Rect) -> bool
     requires first { IsOnScreen a }
     requires second { IsOnScreen b }
@@ -63,7 +63,7 @@ fn lie_stacked(a: Rect, b: Rect) -> bool
     is_same_span(a.x, a.w, b.x, b.w) && have_no_gap(a.y, a.h, b.y, b.h)
 }
 
-// the rect from the lesser start to the greater end along each axis
+// The rect from the lesser start to the greater end along each axis.
 fn rect_of_both(a: Rect, b: Rect) -> Rect
     requires first { IsOnScreen a }
     requires second { IsOnScreen b }
@@ -80,14 +80,14 @@ fn rect_of_both(a: Rect, b: Rect) -> Rect
     }
 }
 
-// the lesser start
+// The lesser start.
 fn start_of_both(at: i32, other_at: i32) -> i32
     ensures { result ≡ int_min at other_at }
 {
     at.min(other_at)
 }
 
-// the length from the lesser start to the greater end
+// The length from the lesser start to the greater end.
 fn length_of_both(at: i32, len: i32, other_at: i32, other_len: i32) -> i32
     requires start { pos 0 ≤ℤ at }
     requires end { (at +ℤ len) ≤ℤ pos 2048 }
@@ -102,14 +102,14 @@ fn length_of_both(at: i32, len: i32, other_at: i32, other_len: i32) -> i32
     end - start
 }
 
-// whether two spans are one
+// Whether two spans are one.
 fn is_same_span(at: i32, len: i32, other_at: i32, other_len: i32) -> bool
     ensures { Decides result ((at ≡ other_at) × (len ≡ other_len)) }
 {
     at == other_at && len == other_len
 }
 
-// whether a span starts no later than another ends
+// Whether a span starts no later than another ends.
 fn starts_in_time(at: i32, other_at: i32, other_len: i32) -> bool
     requires start { pos 0 ≤ℤ other_at }
     requires end { (other_at +ℤ other_len) ≤ℤ pos 2048 }
@@ -120,7 +120,7 @@ fn starts_in_time(at: i32, other_at: i32, other_len: i32) -> bool
     at <= end
 }
 
-// whether neither of two spans starts after the end of the other
+// Whether neither of two spans starts after the end of the other.
 fn have_no_gap(at: i32, len: i32, other_at: i32, other_len: i32) -> bool
     requires start { pos 0 ≤ℤ at }
     requires end { (at +ℤ len) ≤ℤ pos 2048 }

@@ -72,7 +72,7 @@ PlayEnds o before old new WriteFault = (r : Run) × IsRunAt o r × GainsPrefix o
 PlayEnds o before old new Memory = (r : Run) × IsRunAt o r × GainsPrefix old new (before ++ part r.script [] (pairs r.entries))
 PlayEnds o before old new _ = ⊥
 
--- how the run ended, where all that the compositor wrote was put
+-- how the run ended, if all that the compositor wrote was put
 abbrev pub ended_as : Ending → Outcome
 ended_as ending = cond (is_whole ending) Done Memory
 

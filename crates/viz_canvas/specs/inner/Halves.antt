@@ -2,7 +2,7 @@
 use Rattle.std.specs.Prelude.{ℕ, ◌+◌, ◌-◌}
 use Rattle.pixel.specs.declared.surface.Area.{Area}
 use Rattle.viz_canvas.specs.declared.band.Band.{Band}
-use Rattle.viz_canvas.specs.declared.parts.BandArea.{BandArea}
+use Rattle.viz_canvas.specs.declared.band.BandArea.{BandArea}
 
 -- the first rows of an area, in a band that ends with them
 abbrev pub upper_place : Band → Area → ℕ → BandArea

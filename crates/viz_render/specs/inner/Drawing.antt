@@ -12,6 +12,19 @@ use Rattle.viz_scene.specs.Views.{QuadView, tiled, plain, grouped}
 use Rattle.viz_scene.specs.Pixels.{quads_over}
 use Rattle.viz_scene.specs.Sound.{IsTaken}
 
+-- a rect of the screen that is drawn at once: sound, with at most 2048 columns and 64 rows
+pub record IsStrip (area : Rect) : Type 0 where
+  pub sound : IsSound area
+  pub wide : near area.w ≤ 2048
+  pub low : near area.h ≤ 64
+
+-- a part of such a rect for which an image has a pixel each
+pub record IsImagePart (image : Image) (part : CoveredArea) : Type 0 where
+  pub wide : part.at.x + part.at.w ≤ 2048
+  pub low : part.at.y + part.at.h ≤ 64
+  pub columns : part.left + part.at.w ≤ near image.rect.w
+  pub rows : part.above + part.at.h ≤ near image.rect.h
+
 -- rows `r` to `r + n` of an area
 abbrev pub rows_from : Area → ℕ → ℕ → Area
 rows_from at r n = record { x = at.x; y = at.y + r; w = at.w; h = n }
@@ -24,7 +37,7 @@ columns_from at c n = record { x = at.x + c; y = at.y; w = n; h = at.h }
 abbrev pub part_pixel : Image → CoveredArea → ℕ → ℕ → Parts
 part_pixel image part x y = list_colour image.list image.rect (x - part.at.x + part.left) (y - part.at.y + part.above)
 
--- `c x y` laid over what was there where the rect covers the point
+-- `c x y` laid over what was there if the rect covers the point
 abbrev pub laid_on : Rect → (ℤ → ℤ → Parts) → ℤ → ℤ → Parts → Parts
 laid_on at c x y below = cond (covers at x y) (blend below (c x y)) below
 
@@ -39,7 +52,7 @@ pub record IsSurface (s : SurfaceView) : Type 0 where
   pub room : byte_count s.rect.w s.rect.h ≤ length s.bytes
   pub premultiplied : ArePremultiplied s.bytes
 
--- the colour of a pass at a point: transparent where it has no pixel
+-- the colour of a pass at a point: transparent if it has no pixel
 unfoldable pub colour_of : SurfaceView → ℤ → ℤ → Parts
 colour_of s x y = cond (covers s.rect x y) (pixel s.bytes (near (y -ℤ s.rect.y) * near s.rect.w + near (x -ℤ s.rect.x))) clear
 
@@ -47,7 +60,7 @@ colour_of s x y = cond (covers s.rect x y) (pixel s.bytes (near (y -ℤ s.rect.y
 abbrev pub colours : List SurfaceView → ℤ → ℤ → List Parts
 colours surfaces x y = map (λ (s : SurfaceView). colour_of s x y) surfaces
 
--- a quad that can be drawn where there are surfaces of the given number of passes
+-- a quad that can be drawn if there are surfaces of the given number of passes
 abbrev pub CanBeDrawn : ℕ → QuadView → Type 0
 CanBeDrawn n (tiled image at from) = IsSound at × IsTaken image at from
 CanBeDrawn n (plain at colour) = IsSound at
@@ -61,7 +74,7 @@ AreRoomy n surfaces = All (λ (s : SurfaceView). n ≤ length s.bytes) surfaces
 abbrev pub PassesCanBeDrawn : List (List QuadView) → Type 0
 PassesCanBeDrawn passes = (i : ℕ) → i < length passes → All (CanBeDrawn i) (slice_index_or passes i [])
 
--- the pixels of an area are quads over a colour, where the passes have surfaces of their own
+-- the pixels of an area are quads over a colour, if the passes have surfaces of their own
 abbrev pub ShowsQuads : Rect → List SurfaceView → Parts → List QuadView → List ℕ → Type 0
 ShowsQuads area passes below quads bytes =
     (x y : ℕ) → x < near area.w → y < near area.h

@@ -10,6 +10,10 @@ use Rattle.viz_scene.specs.declared.Quad.{Quad}
 use Rattle.viz_scene.specs.Views.{QuadView, quad_view}
 use Rattle.viz_scene.specs.Pixels.{quad_over}
 
+-- how many numbers a mask has: eight rows of 129
+abbrev pub block_count : ℕ
+block_count = 1032
+
 -- the numbers of the blocks of an area, row by row of blocks, and one that none of them exceeds
 pub record MaskView : Type 0 where
   pub tops : List ℕ
@@ -17,7 +21,7 @@ pub record MaskView : Type 0 where
 
 -- what each mask keeps
 pub record IsMask (m : MaskView) : Type 0 where
-  pub room : length m.tops ≡ 1032
+  pub room : length m.tops ≡ block_count
   pub bound : (i : ℕ) → slice_index m.tops i ≤ m.highest
 
 -- the number of the block that a pixel of an area is of: sixteen columns of eight rows

@@ -5,6 +5,6 @@ use Rattle.pixel.proofs.rows.copy_over_rows.Given as given
 
 abbrev pub invariant-loop-down : given.invariant-loop-down
 invariant-loop-down l = record {
-  pixels : EachPixel l.width l.height (within_rows l.at l.down (λ x y below. pixel l.row (l.from + (x - l.at.x)))) l.initial.surface l.surface;
+  pixels : EachPixel l.size.width l.size.height (within_rows l.at l.down (λ x y below. pixel l.row (l.from + (x - l.at.x)))) l.initial.surface l.surface;
   premultiplied : ArePremultiplied l.initial.surface → ArePremultiplied l.surface;
 }

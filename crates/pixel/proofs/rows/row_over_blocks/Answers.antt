@@ -13,9 +13,9 @@ returns-then-run-gt16-clause-pixels c =
     let start = c.args.from + c.args.first in
     let run = c.opaque_run-run.result in
     let each =
-    subst (λ (a : Area). EachPixel c.args.width c.args.height (within_rows a a.h (λ x y below. pixel c.args.row.now (start + (x - a.x)))) c.args.surface.now c.copy_over_rows.new.surface)
+    subst (λ (a : Area). EachPixel c.args.size.width c.args.size.height (within_rows a a.h (λ x y below. pixel c.args.row.now (start + (x - a.x)))) c.args.surface.now c.copy_over_rows.new.surface)
     c.columns-opaque.ensures c.copy_over_rows.ensures.pixels in
-    each_like c.args.width c.args.height (columns_of c.args.at c.args.first run)
+    each_like c.args.size.width c.args.size.height (columns_of c.args.at c.args.first run)
     (λ x y below. pixel c.args.row.now (start + (x - (c.args.at.x + c.args.first))))
     (λ x y below. blend below (pixel c.args.row.now (x - c.args.at.x + c.args.from))) c.args.surface.now c.copy_over_rows.new.surface each
     (λ x y below low high.

@@ -11,9 +11,9 @@ use Rattle.pixel.proofs.rows.row_over_column.Goals as goal
 pub returns-clause-pixels : goal.returns-clause-pixels
 returns-clause-pixels c =
     let each =
-    subst (λ (a : Area). EachPixel c.args.width c.args.height (within_rows a a.h (λ x y below. blend below c.colour_at-colour.result)) c.args.surface.now c.colour_over_area.new.surface)
+    subst (λ (a : Area). EachPixel c.args.size.width c.args.size.height (within_rows a a.h (λ x y below. blend below c.colour_at-colour.result)) c.args.surface.now c.colour_over_area.new.surface)
     c.columns-column.ensures c.colour_over_area.ensures.pixels in
-    each_like c.args.width c.args.height (columns_of c.args.at c.args.first 1) (λ x y below. blend below c.colour_at-colour.result)
+    each_like c.args.size.width c.args.size.height (columns_of c.args.at c.args.first 1) (λ x y below. blend below c.colour_at-colour.result)
     (λ x y below. blend below (pixel c.args.row.now (x - c.args.at.x + c.args.from))) c.args.surface.now c.colour_over_area.new.surface each
     (λ x y below low high.
     let place : c.args.from + c.args.first ≡ x - c.args.at.x + c.args.from = omega (arith, low, high) in

@@ -8,7 +8,7 @@ use Rattle.pixel.proofs.rows.row_over_columns.Given as given
 abbrev pub invariant-runs : given.invariant-runs
 invariant-runs l = record {
   inside : l.done ≤ l.at.w;
-  pixels : EachPixel l.width l.height (within_rows (columns_of l.at 0 l.done) l.at.h (λ x y below. blend below (pixel l.row (x - l.at.x + l.from)))) l.fn.surface l.surface;
+  pixels : EachPixel l.size.width l.size.height (within_rows (columns_of l.at 0 l.done) l.at.h (λ x y below. blend below (pixel l.row (x - l.at.x + l.from)))) l.fn.surface l.surface;
   premultiplied : ArePremultiplied l.fn.surface → ArePremultiplied l.surface;
 }
 
@@ -18,7 +18,7 @@ decreases-runs l = l.at.w - l.done
 abbrev pub invariant-fours : given.invariant-fours
 invariant-fours l = record {
   inside : l.done ≤ l.at.w;
-  pixels : EachPixel l.width l.height (within_rows (columns_of l.at 0 l.done) l.at.h (λ x y below. blend below (pixel l.row (x - l.at.x + l.from)))) l.fn.surface l.surface;
+  pixels : EachPixel l.size.width l.size.height (within_rows (columns_of l.at 0 l.done) l.at.h (λ x y below. blend below (pixel l.row (x - l.at.x + l.from)))) l.fn.surface l.surface;
   premultiplied : ArePremultiplied l.fn.surface → ArePremultiplied l.surface;
 }
 
@@ -28,7 +28,7 @@ decreases-fours l = l.at.w - l.done
 abbrev pub invariant-ones : given.invariant-ones
 invariant-ones l = record {
   inside : l.done ≤ l.at.w;
-  pixels : EachPixel l.width l.height (within_rows (columns_of l.at 0 l.done) l.at.h (λ x y below. blend below (pixel l.row (x - l.at.x + l.from)))) l.fn.surface l.surface;
+  pixels : EachPixel l.size.width l.size.height (within_rows (columns_of l.at 0 l.done) l.at.h (λ x y below. blend below (pixel l.row (x - l.at.x + l.from)))) l.fn.surface l.surface;
   premultiplied : ArePremultiplied l.fn.surface → ArePremultiplied l.surface;
 }
 

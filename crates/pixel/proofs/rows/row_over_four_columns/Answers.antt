@@ -11,9 +11,9 @@ use Rattle.pixel.proofs.rows.row_over_four_columns.Goals as goal
 pub returns-clause-pixels : goal.returns-clause-pixels
 returns-clause-pixels c =
     let each =
-    subst (λ (a : Area). EachPixel c.args.width c.args.height (within_rows a a.h (λ x y below. blend below (pixel c.four_at-pixels.result (x - a.x)))) c.args.surface.now c.four_over_rows.new.surface)
+    subst (λ (a : Area). EachPixel c.args.size.width c.args.size.height (within_rows a a.h (λ x y below. blend below (pixel c.four_at-pixels.result (x - a.x)))) c.args.surface.now c.four_over_rows.new.surface)
     c.columns-columns.ensures c.four_over_rows.ensures.pixels in
-    each_like c.args.width c.args.height (columns_of c.args.at c.args.first 4)
+    each_like c.args.size.width c.args.size.height (columns_of c.args.at c.args.first 4)
     (λ x y below. blend below (pixel c.four_at-pixels.result (x - (c.args.at.x + c.args.first))))
     (λ x y below. blend below (pixel c.args.row.now (x - c.args.at.x + c.args.from))) c.args.surface.now c.four_over_rows.new.surface each
     (λ x y below low high.

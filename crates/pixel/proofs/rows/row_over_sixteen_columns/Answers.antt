@@ -12,9 +12,9 @@ pub returns-then-are_sixteen_opaque-clause-pixels : goal.returns-then-are_sixtee
 returns-then-are_sixteen_opaque-clause-pixels c =
     let start = c.args.from + c.args.first in
     let each =
-    subst (λ (a : Area). EachPixel c.args.width c.args.height (within_rows a a.h (λ x y below. pixel c.args.row.now (start + (x - a.x)))) c.args.surface.now c.copy_over_rows.new.surface)
+    subst (λ (a : Area). EachPixel c.args.size.width c.args.size.height (within_rows a a.h (λ x y below. pixel c.args.row.now (start + (x - a.x)))) c.args.surface.now c.copy_over_rows.new.surface)
     c.columns-columns.ensures c.copy_over_rows.ensures.pixels in
-    each_like c.args.width c.args.height (columns_of c.args.at c.args.first 16)
+    each_like c.args.size.width c.args.size.height (columns_of c.args.at c.args.first 16)
     (λ x y below. pixel c.args.row.now (start + (x - (c.args.at.x + c.args.first))))
     (λ x y below. blend below (pixel c.args.row.now (x - c.args.at.x + c.args.from))) c.args.surface.now c.copy_over_rows.new.surface each
     (λ x y below low high.
@@ -23,7 +23,7 @@ returns-then-are_sixteen_opaque-clause-pixels c =
 
 pub returns-then-not-are_sixteen_clear-clause-pixels : goal.returns-then-not-are_sixteen_clear-clause-pixels
 returns-then-not-are_sixteen_clear-clause-pixels c =
-    four_times_four c.args.width c.args.height c.args.at c.args.first (λ x y below. blend below (pixel c.args.row.now (x - c.args.at.x + c.args.from)))
+    four_times_four c.args.size.width c.args.size.height c.args.at c.args.first (λ x y below. blend below (pixel c.args.row.now (x - c.args.at.x + c.args.from)))
     c.args.surface.now c.row_over_four_columns.new.surface c.row_over_four_columns-then-not-are_sixteen_clear.new.surface
     c.row_over_four_columns-then-not-are_sixteen_clear-2.new.surface c.row_over_four_columns-then-not-are_sixteen_clear-3.new.surface
     c.row_over_four_columns.ensures.pixels c.row_over_four_columns-then-not-are_sixteen_clear.ensures.pixels
@@ -37,7 +37,7 @@ returns-then-not-are_sixteen_clear-clause-premultiplied c = λ ready.
 
 pub returns-else-not-are_sixteen_clear-clause-pixels : goal.returns-else-not-are_sixteen_clear-clause-pixels
 returns-else-not-are_sixteen_clear-clause-pixels c =
-    each_same c.args.width c.args.height (columns_of c.args.at c.args.first 16) (λ x y below. blend below (pixel c.args.row.now (x - c.args.at.x + c.args.from))) c.args.surface.now
+    each_same c.args.size.width c.args.size.height (columns_of c.args.at c.args.first 16) (λ x y below. blend below (pixel c.args.row.now (x - c.args.at.x + c.args.from))) c.args.surface.now
     (λ x y below low high.
     clear_over (pixel c.args.row.now (x - c.args.at.x + c.args.from)) below
     (ap (pixel c.args.row.now) (sym (row_place x c.args.at.x c.args.first c.args.from 16 0 low high))

@@ -10,7 +10,7 @@ loop-row-preserved c =
     let part = subst (λ (k : ℕ). IsPart k c.args.at.w (λ j below. blend below c.args.colour) c.loop-row.surface c.colour_over_part.new.surface) c.place_of-place.ensures.value c.colour_over_part.ensures in
     record {
       pixels =
-          row_step c.args.width c.args.height c.args.at c.loop-row.row (λ x y below. blend below c.args.colour) c.args.surface.now c.loop-row.surface c.colour_over_part.new.surface
+          row_step c.args.size.width c.args.size.height c.args.at c.loop-row.row (λ x y below. blend below c.args.colour) c.args.surface.now c.loop-row.surface c.colour_over_part.new.surface
           c.requires.inside (omega arith) c.loop-row.invariant.pixels part;
       premultiplied = λ old. c.colour_over_part.ensures.premultiplied (c.loop-row.invariant.premultiplied old);
     }

@@ -9,7 +9,7 @@ loop-row-preserved c =
     let part = subst (λ (k : ℕ). IsPart k c.args.at.w (λ j below. c.args.colour) c.loop-row.surface c.fill_part.new.surface) c.place_of-place.ensures.value c.fill_part.ensures in
     record {
       pixels =
-          row_step c.args.width c.args.height c.args.at c.loop-row.row (λ x y below. c.args.colour) c.args.surface.now c.loop-row.surface c.fill_part.new.surface
+          row_step c.args.size.width c.args.size.height c.args.at c.loop-row.row (λ x y below. c.args.colour) c.args.surface.now c.loop-row.surface c.fill_part.new.surface
           c.requires.inside (omega arith) c.loop-row.invariant.pixels part;
       premultiplied = λ old. c.fill_part.ensures.premultiplied (c.loop-row.invariant.premultiplied old);
     }

@@ -4,6 +4,6 @@ use Rattle.pixel.proofs.surface.fill_area.Given as given
 
 abbrev pub invariant-loop-row : given.invariant-loop-row
 invariant-loop-row l = record {
-  pixels : EachPixel l.width l.height (within_rows l.at l.row (λ x y below. l.fn.colour)) l.initial.surface l.surface;
+  pixels : EachPixel l.size.width l.size.height (within_rows l.at l.row (λ x y below. l.fn.colour)) l.initial.surface l.surface;
   premultiplied : ArePremultiplied l.initial.surface → ArePremultiplied l.surface;
 }

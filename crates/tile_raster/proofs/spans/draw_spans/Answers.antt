@@ -16,14 +16,14 @@ loop-x-preserved c =
     record {
       inside = c.run_at-run.ensures.inside;
       drawn =
-          run_drawn c.args.width c.args.kept c.args.place x end colour c.loop-x.bytes c.fill_area.new.surface each c.args.spans.now c.requires.place
+          run_drawn c.args.size.width c.args.size.height c.args.place x end colour c.loop-x.bytes c.fill_area.new.surface each c.args.spans.now c.requires.place
           c.run_at-run.ensures.inside c.loop-x.invariant.drawn
           (λ z from to.
           c.run_at-run.ensures.alike z from to
           ∙ ap (fold (spanned x) clear) (sym (take_rest c.args.spans.now c.run_at-run.result.first))
           ∙ sym c.colour_at-colour.ensures);
       others = λ z y zw yk other.
-          others_stay c.args.width c.args.kept c.args.place x end colour c.loop-x.bytes c.fill_area.new.surface each z y zw yk other
+          others_stay c.args.size.width c.args.size.height c.args.place x end colour c.loop-x.bytes c.fill_area.new.surface each z y zw yk other
           ∙ c.loop-x.invariant.others z y zw yk other;
       premultiplied = λ old. c.fill_area.ensures.premultiplied (c.loop-x.invariant.premultiplied old);
     }

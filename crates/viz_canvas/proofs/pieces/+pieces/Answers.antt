@@ -48,20 +48,20 @@ draw_pieces-draw_below-requires g t c κs within = (
   (
     search rules,
     (
-      (let at = c.args.at in
-          let part = c.args.part in
-          let down = (reached_inside (quad_view c.args.top.now) c.args.band at part c.requires.part).down in
+      (let at = c.args.place.at in
+          let part = c.args.top.part in
+          let down = (reached_inside (quad_view c.args.top.quad.now) c.args.place.band at part c.requires.part).down in
           rw (c.strip_of-above.ensures)
-          (piece_in g.F.PixelFormat.DEPTH c.args.scene.now c.args.band at (rows_from at 0 part.at.y) c.args.bytes.now c.args.bytes.now c.requires.place refl
-          (rows_inside at c.args.scene.now.w c.args.band.rows 0 part.at.y c.requires.place.inside (omega (arith, down))))),
+          (piece_in g.F.PixelFormat.DEPTH c.args.scene.now c.args.place.band at (rows_from at 0 part.at.y) c.args.bytes.now c.args.bytes.now c.requires.place refl
+          (rows_inside at c.args.scene.now.w c.args.place.band.rows 0 part.at.y c.requires.place.inside (omega (arith, down))))),
       (
         search rules,
         (
           search rules,
           (
               (rw (c.strip_of-above.ensures)
-              (above_shows c.args.scene.now c.args.band c.args.at c.args.part (quads_view c.args.below.now) (quad_view c.args.top.now) c.requires.part
-              (reached_inside (quad_view c.args.top.now) c.args.band c.args.at c.args.part c.requires.part) c.requires.shown))
+              (above_shows c.args.scene.now c.args.place.band c.args.place.at c.args.top.part (quads_view c.args.top.below.now) (quad_view c.args.top.quad.now) c.requires.part
+              (reached_inside (quad_view c.args.top.quad.now) c.args.place.band c.args.place.at c.args.top.part c.requires.part) c.requires.shown))
               ),
         ),
       ),
@@ -75,31 +75,31 @@ draw_pieces-draw_beside-requires g t c κs within = (
   (
     search rules,
     (
-      (let at = c.args.at in
-          let part = c.args.part in
+      (let at = c.args.place.at in
+          let part = c.args.top.part in
           let same : length c.draw_below.new.bytes ≡ length c.args.bytes.now = search rules in
-          let down = (reached_inside (quad_view c.args.top.now) c.args.band at part c.requires.part).down in
+          let down = (reached_inside (quad_view c.args.top.quad.now) c.args.place.band at part c.requires.part).down in
           rw (c.strip_of-beside.ensures)
-          (piece_in g.F.PixelFormat.DEPTH c.args.scene.now c.args.band at (rows_from at part.at.y part.at.h) c.args.bytes.now c.draw_below.new.bytes c.requires.place same
-          (rows_inside at c.args.scene.now.w c.args.band.rows part.at.y part.at.h c.requires.place.inside (omega (arith, down))))),
+          (piece_in g.F.PixelFormat.DEPTH c.args.scene.now c.args.place.band at (rows_from at part.at.y part.at.h) c.args.bytes.now c.draw_below.new.bytes c.requires.place same
+          (rows_inside at c.args.scene.now.w c.args.place.band.rows part.at.y part.at.h c.requires.place.inside (omega (arith, down))))),
       (
         search rules,
         (
           search rules,
           (
-            (let across = (reached_inside (quad_view c.args.top.now) c.args.band c.args.at c.args.part c.requires.part).across in
+            (let across = (reached_inside (quad_view c.args.top.quad.now) c.args.place.band c.args.place.at c.args.top.part c.requires.part).across in
                 rw (c.strip_of-beside.ensures) across),
             (
               (rw (c.strip_of-beside.ensures)
-                  (top_here c.args.scene.now c.args.band c.args.at c.args.part (quads_view c.args.below.now) (quad_view c.args.top.now) c.requires.top c.requires.part c.requires.shown)),
+                  (top_here c.args.scene.now c.args.place.band c.args.place.at c.args.top.part (quads_view c.args.top.below.now) (quad_view c.args.top.quad.now) c.requires.top c.requires.part c.requires.shown)),
               (
                 (rw (c.strip_of-beside.ensures)
-                    (left_shows c.args.scene.now c.args.band c.args.at c.args.part (quads_view c.args.below.now) (quad_view c.args.top.now) c.requires.part
-                    (reached_inside (quad_view c.args.top.now) c.args.band c.args.at c.args.part c.requires.part) c.requires.shown)),
+                    (left_shows c.args.scene.now c.args.place.band c.args.place.at c.args.top.part (quads_view c.args.top.below.now) (quad_view c.args.top.quad.now) c.requires.part
+                    (reached_inside (quad_view c.args.top.quad.now) c.args.place.band c.args.place.at c.args.top.part c.requires.part) c.requires.shown)),
                 (
                     (rw (c.strip_of-beside.ensures)
-                    (right_shows c.args.scene.now c.args.band c.args.at c.args.part (quads_view c.args.below.now) (quad_view c.args.top.now) c.requires.part
-                    (reached_inside (quad_view c.args.top.now) c.args.band c.args.at c.args.part c.requires.part) c.requires.shown))
+                    (right_shows c.args.scene.now c.args.place.band c.args.place.at c.args.top.part (quads_view c.args.top.below.now) (quad_view c.args.top.quad.now) c.requires.part
+                    (reached_inside (quad_view c.args.top.quad.now) c.args.place.band c.args.place.at c.args.top.part c.requires.part) c.requires.shown))
                     ),
               ),
             ),
@@ -116,23 +116,23 @@ draw_pieces-draw_below-requires-2 g t c κs within = (
   (
     search rules,
     (
-      (let at = c.args.at in
-          let part = c.args.part in
+      (let at = c.args.place.at in
+          let part = c.args.top.part in
           let first : length c.draw_below.new.bytes ≡ length c.args.bytes.now = search rules in
           let second : length c.draw_beside.new.bytes ≡ length c.draw_below.new.bytes = search rules in
-          let down = (reached_inside (quad_view c.args.top.now) c.args.band at part c.requires.part).down in
+          let down = (reached_inside (quad_view c.args.top.quad.now) c.args.place.band at part c.requires.part).down in
           let end = part.at.y + part.at.h in
           rw (c.strip_of-under.ensures)
-          (piece_in g.F.PixelFormat.DEPTH c.args.scene.now c.args.band at (rows_from at end (at.h - end)) c.args.bytes.now c.draw_beside.new.bytes c.requires.place (second ∙ first)
-          (rows_inside at c.args.scene.now.w c.args.band.rows end (at.h - end) c.requires.place.inside (omega (arith, down))))),
+          (piece_in g.F.PixelFormat.DEPTH c.args.scene.now c.args.place.band at (rows_from at end (at.h - end)) c.args.bytes.now c.draw_beside.new.bytes c.requires.place (second ∙ first)
+          (rows_inside at c.args.scene.now.w c.args.place.band.rows end (at.h - end) c.requires.place.inside (omega (arith, down))))),
       (
         search rules,
         (
           search rules,
           (
               (rw (c.strip_of-under.ensures)
-              (under_shows c.args.scene.now c.args.band c.args.at c.args.part (quads_view c.args.below.now) (quad_view c.args.top.now) c.requires.part
-              (reached_inside (quad_view c.args.top.now) c.args.band c.args.at c.args.part c.requires.part) c.requires.shown))
+              (under_shows c.args.scene.now c.args.place.band c.args.place.at c.args.top.part (quads_view c.args.top.below.now) (quad_view c.args.top.quad.now) c.requires.part
+              (reached_inside (quad_view c.args.top.quad.now) c.args.place.band c.args.place.at c.args.top.part c.requires.part) c.requires.shown))
               ),
         ),
       ),
@@ -142,14 +142,14 @@ draw_pieces-draw_below-requires-2 g t c κs within = (
 
 pub draw_pieces-returns-clause-drawn : goal.draw_pieces-returns-clause-drawn
 draw_pieces-returns-clause-drawn g t c =
-    let at = c.args.at in
-    let part = c.args.part in
+    let at = c.args.place.at in
+    let part = c.args.top.part in
     let end = part.at.y + part.at.h in
-    let down = (reached_inside (quad_view c.args.top.now) c.args.band at part c.requires.part).down in
+    let down = (reached_inside (quad_view c.args.top.quad.now) c.args.place.band at part c.requires.part).down in
     let one = rw (c.strip_of-above.ensures) at c.draw_below.ensures.drawn in
     let two = rw (c.strip_of-beside.ensures) at c.draw_beside.ensures.drawn in
     let three = rw (c.strip_of-under.ensures) at c.draw_below-2.ensures.drawn in
-    three_drawn g.F.PixelFormat.DEPTH g.F.PixelFormat.bytes_of c.args.scene.now c.args.band (rows_from at 0 part.at.y) (rows_from at part.at.y part.at.h) (rows_from at end (at.h - end)) at
+    three_drawn g.F.PixelFormat.DEPTH g.F.PixelFormat.bytes_of c.args.scene.now c.args.place.band (rows_from at 0 part.at.y) (rows_from at part.at.y part.at.h) (rows_from at end (at.h - end)) at
     c.args.bytes.now c.draw_below.new.bytes c.draw_beside.new.bytes c.draw_below-2.new.bytes (λ x y. rows_cut at part.at.y part.at.h x y down) one two three
 
 -- ---- the columns beside it
@@ -160,12 +160,12 @@ draw_beside-draw_below-requires g t c κs within = (
   (
     search rules,
     (
-      (let at = c.args.at in
-          let part = c.args.part in
+      (let at = c.args.place.at in
+          let part = c.args.top.part in
           let fits = c.requires.inside in
           rw (c.columns_of-left.ensures)
-          (piece_in g.F.PixelFormat.DEPTH c.args.scene.now c.args.band at (columns_from at 0 part.at.x) c.args.bytes.now c.args.bytes.now c.requires.place refl
-          (columns_inside at c.args.scene.now.w c.args.band.rows 0 part.at.x c.requires.place.inside (omega (arith, fits))))),
+          (piece_in g.F.PixelFormat.DEPTH c.args.scene.now c.args.place.band at (columns_from at 0 part.at.x) c.args.bytes.now c.args.bytes.now c.requires.place refl
+          (columns_inside at c.args.scene.now.w c.args.place.band.rows 0 part.at.x c.requires.place.inside (omega (arith, fits))))),
       (
         search rules,
         (
@@ -181,12 +181,12 @@ draw_beside-draw_below-requires g t c κs within = (
 
 pub draw_beside-draw_top-requires-clause-place : goal.draw_beside-draw_top-requires-clause-place
 draw_beside-draw_top-requires-clause-place g t c =
-    let at = c.args.at in
-    let part = c.args.part in
+    let at = c.args.place.at in
+    let part = c.args.top.part in
     let same : length c.draw_below.new.bytes ≡ length c.args.bytes.now = search rules in
     rw (c.columns_of-here.ensures)
-    (piece_in g.F.PixelFormat.DEPTH c.args.scene.now c.args.band at (columns_from at part.at.x part.at.w) c.args.bytes.now c.draw_below.new.bytes c.requires.place same
-    (columns_inside at c.args.scene.now.w c.args.band.rows part.at.x part.at.w c.requires.place.inside c.requires.inside))
+    (piece_in g.F.PixelFormat.DEPTH c.args.scene.now c.args.place.band at (columns_from at part.at.x part.at.w) c.args.bytes.now c.draw_below.new.bytes c.requires.place same
+    (columns_inside at c.args.scene.now.w c.args.place.band.rows part.at.x part.at.w c.requires.place.inside c.requires.inside))
 
 pub draw_beside-draw_top-requires-clause-top : goal.draw_beside-draw_top-requires-clause-top
 draw_beside-draw_top-requires-clause-top g t c = rw (c.columns_of-here.ensures) (c.requires.here)
@@ -197,15 +197,15 @@ draw_beside-draw_below-requires-2 g t c κs within = (
   (
     search rules,
     (
-      (let at = c.args.at in
-          let part = c.args.part in
+      (let at = c.args.place.at in
+          let part = c.args.top.part in
           let fits = c.requires.inside in
           let end = part.at.x + part.at.w in
           let first : length c.draw_below.new.bytes ≡ length c.args.bytes.now = search rules in
           let second : length c.draw_top.new.bytes ≡ length c.draw_below.new.bytes = search rules in
           rw (c.columns_of-right.ensures)
-          (piece_in g.F.PixelFormat.DEPTH c.args.scene.now c.args.band at (columns_from at end (at.w - end)) c.args.bytes.now c.draw_top.new.bytes c.requires.place (second ∙ first)
-          (columns_inside at c.args.scene.now.w c.args.band.rows end (at.w - end) c.requires.place.inside (omega (arith, fits))))),
+          (piece_in g.F.PixelFormat.DEPTH c.args.scene.now c.args.place.band at (columns_from at end (at.w - end)) c.args.bytes.now c.draw_top.new.bytes c.requires.place (second ∙ first)
+          (columns_inside at c.args.scene.now.w c.args.place.band.rows end (at.w - end) c.requires.place.inside (omega (arith, fits))))),
       (
         search rules,
         (
@@ -221,11 +221,11 @@ draw_beside-draw_below-requires-2 g t c κs within = (
 
 pub draw_beside-returns-clause-drawn : goal.draw_beside-returns-clause-drawn
 draw_beside-returns-clause-drawn g t c =
-    let at = c.args.at in
-    let part = c.args.part in
+    let at = c.args.place.at in
+    let part = c.args.top.part in
     let end = part.at.x + part.at.w in
     let one = rw (c.columns_of-left.ensures) at c.draw_below.ensures.drawn in
     let two = rw (c.columns_of-here.ensures) at c.draw_top.ensures.drawn in
     let three = rw (c.columns_of-right.ensures) at c.draw_below-2.ensures.drawn in
-    three_drawn g.F.PixelFormat.DEPTH g.F.PixelFormat.bytes_of c.args.scene.now c.args.band (columns_from at 0 part.at.x) (columns_from at part.at.x part.at.w) (columns_from at end (at.w - end)) at
+    three_drawn g.F.PixelFormat.DEPTH g.F.PixelFormat.bytes_of c.args.scene.now c.args.place.band (columns_from at 0 part.at.x) (columns_from at part.at.x part.at.w) (columns_from at end (at.w - end)) at
     c.args.bytes.now c.draw_below.new.bytes c.draw_top.new.bytes c.draw_below-2.new.bytes (λ x y. columns_cut at part.at.x part.at.w x y c.requires.inside) one two three

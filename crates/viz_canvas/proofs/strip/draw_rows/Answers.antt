@@ -7,7 +7,7 @@ pub loop-done-preserved-then-fresh-done-eq0 : goal.loop-done-preserved-then-fres
 loop-done-preserved-then-fresh-done-eq0 g c = record {
   rows = omega arith;
   pixels =
-      row_copied g.F.PixelFormat.DEPTH g.F.PixelFormat.bytes_of c.args.scene.now c.args.band c.args.at c.loop-done.done c.args.fresh.now
+      row_copied g.F.PixelFormat.DEPTH g.F.PixelFormat.bytes_of c.args.scene.now c.args.place.band c.args.place.at c.loop-done.done c.args.fresh.now
       c.args.bytes.now c.loop-done.bytes c.copy_down.new.bytes c.requires.place.inside c.requires.place.wide (omega arith) c.loop-done-test.true
       c.if-fresh-done-eq0.true c.requires.alike c.loop-done.invariant.pixels c.copy_down.ensures;
   ready = c.loop-done.invariant.ready;

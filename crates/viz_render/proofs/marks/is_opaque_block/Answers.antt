@@ -11,7 +11,7 @@ loop-done-preserved c = record {
       joint_hides c.args.image.now c.args.part c.args.block c.args.down c.loop-done.done c.equal_rows_at-done.result (8 * c.args.down - c.args.part.at.y + c.loop-done.done) c.row-pixels.result.now
       (subst (λ (n : ℕ). IsRow c.args.image.now.list c.args.image.now.rect n c.row-pixels.result.now) c.row_number-row.ensures c.row-pixels.ensures)
       (subst (λ (n : ℕ). (k : ℕ) → k < c.equal_rows_at-done.result → AreSameRows c.args.image.now.list c.args.image.now.rect n (n + k)) c.row_number-row.ensures c.equal_rows_at-done.ensures.equal)
-      c.requires.columns (omega (arith, c.equal_rows_at-done.ensures.most)) (omega arith) c.requires.left c.requires.right (omega arith)
+      c.requires.part.columns (omega (arith, c.equal_rows_at-done.ensures.most)) (omega arith) c.requires.left c.requires.right (omega arith)
       (c.are_sixteen_opaque.ensures (search rules)) c.loop-done.invariant.opaque;
 }
 

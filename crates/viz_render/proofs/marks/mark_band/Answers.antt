@@ -13,4 +13,4 @@ returns-clause-marks c =
     (HidesIn c.args.part.at (part_pixel c.args.image.now c.args.part)) c.args.tops.now c.mark_row.new.tops c.mark_row.ensures.marks
     (band_hides c.args.image.now c.args.part c.args.row c.args.rows c.row-pixels.result.now
     (subst (λ (n : ℕ). IsRow c.args.image.now.list c.args.image.now.rect n c.row-pixels.result.now) c.row_number-number_of_row.ensures c.row-pixels.ensures)
-    c.requires.equal c.requires.columns c.requires.there)
+    c.requires.equal c.requires.part.columns c.requires.there)

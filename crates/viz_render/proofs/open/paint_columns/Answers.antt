@@ -10,7 +10,7 @@ loop-done-preserved c =
     record {
       inside = omega (arith, c.next_run-run.ensures.most);
       pixels =
-          run_step c.args.width c.args.height c.args.tops.now c.args.number c.args.paint.now c.args.part c.loop-done.done c.next_run-run.result.hidden
+          run_step c.args.size.width c.args.size.height c.args.tops.now c.args.number c.args.paint.now c.args.part c.loop-done.done c.next_run-run.result.hidden
           c.next_run-run.result.seen c.args.surface.now c.loop-done.surface c.paint_run.new.surface c.requires.one c.next_run-run.ensures.hidden
           c.loop-done.invariant.pixels drawn;
       premultiplied = λ old. c.paint_run.ensures.premultiplied (c.loop-done.invariant.premultiplied old);
@@ -18,5 +18,5 @@ loop-done-preserved c =
 
 pub returns-clause-pixels : goal.returns-clause-pixels
 returns-clause-pixels c =
-    all_columns c.args.width c.args.height c.args.tops.now c.args.number c.args.part.at (painted c.args.paint.now c.args.part) c.loop-done.done c.args.surface.now c.loop-done.surface
+    all_columns c.args.size.width c.args.size.height c.args.tops.now c.args.number c.args.part.at (painted c.args.paint.now c.args.part) c.loop-done.done c.args.surface.now c.loop-done.surface
     (omega (arith, c.loop-done.invariant.inside, c.loop-done-test.false)) c.loop-done.invariant.pixels

@@ -10,7 +10,7 @@ use Rattle.viz_render.proofs.open.paint_columns.Given as given
 abbrev pub invariant-loop-done : given.invariant-loop-done
 invariant-loop-done l = record {
   inside : l.done ≤ l.part.at.w;
-  pixels : EachOpen l.width l.height l.tops l.number (within_rows (columns_from l.part.at 0 l.done) l.part.at.h (painted l.paint l.part)) l.initial.surface l.surface;
+  pixels : EachOpen l.size.width l.size.height l.tops l.number (within_rows (columns_from l.part.at 0 l.done) l.part.at.h (painted l.paint l.part)) l.initial.surface l.surface;
   premultiplied : ArePremultiplied l.initial.surface → ArePremultiplied l.surface;
 }
 

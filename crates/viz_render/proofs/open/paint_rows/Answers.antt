@@ -10,7 +10,7 @@ loop-done-preserved c =
     record {
       inside = omega (arith, clamps);
       pixels =
-          rows_step c.args.width c.args.height c.args.tops.now c.args.number c.args.paint.now c.args.part c.loop-done.done c.min-rows.result
+          rows_step c.args.size.width c.args.size.height c.args.tops.now c.args.number c.args.paint.now c.args.part c.loop-done.done c.min-rows.result
           c.args.surface.now c.loop-done.surface c.paint_columns.new.surface c.loop-done.invariant.pixels drawn;
       premultiplied = λ old. c.paint_columns.ensures.premultiplied (c.loop-done.invariant.premultiplied old);
     }

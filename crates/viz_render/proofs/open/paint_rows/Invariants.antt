@@ -9,7 +9,7 @@ use Rattle.viz_render.proofs.open.paint_rows.Given as given
 abbrev pub invariant-loop-done : given.invariant-loop-done
 invariant-loop-done l = record {
   inside : l.done ≤ l.part.at.h;
-  pixels : EachOpen l.width l.height l.tops l.number (within_rows l.part.at l.done (painted l.paint l.part)) l.initial.surface l.surface;
+  pixels : EachOpen l.size.width l.size.height l.tops l.number (within_rows l.part.at l.done (painted l.paint l.part)) l.initial.surface l.surface;
   premultiplied : ArePremultiplied l.initial.surface → ArePremultiplied l.surface;
 }
 

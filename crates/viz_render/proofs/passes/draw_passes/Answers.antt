@@ -17,7 +17,7 @@ loop-i-preserved c =
     let drawn = rw (front, c.deref.ensures.value) at c.draw_inner_pass.ensures.pixels in
     rw joined (record {
       pixels =
-          passes_more c.args.area c.args.root.now.tops c.args.last c.args.passes.now s i c.index-passes-i.result own c.loop-i-test.true (omega arith) c.index-passes-i.is c.loop-i.invariant.pixels drawn;
+          passes_more c.args.area c.args.root.mask.now.tops c.args.root.number c.args.passes.now s i c.index-passes-i.result own c.loop-i-test.true (omega arith) c.index-passes-i.is c.loop-i.invariant.pixels drawn;
       room = λ n had.
           let room = c.loop-i.invariant.room n had in
           let behind = room_behind n s c.split_at_mut-before.result.1.now i c.index-rest-0.result room (omega arith) back in
@@ -37,6 +37,6 @@ draw_inner_pass-requires-clause-room c =
 
 pub returns : goal.returns
 returns c = record {
-  pixels = passes_all c.args.area c.args.root.now.tops c.args.last c.args.passes.now c.loop-i.surfaces c.loop-i.i c.loop-i-test.false (omega arith) c.loop-i.invariant.pixels;
+  pixels = passes_all c.args.area c.args.root.mask.now.tops c.args.root.number c.args.passes.now c.loop-i.surfaces c.loop-i.i c.loop-i-test.false (omega arith) c.loop-i.invariant.pixels;
   room = c.loop-i.invariant.room;
 }

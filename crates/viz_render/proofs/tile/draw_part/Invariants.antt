@@ -9,7 +9,7 @@ use Rattle.viz_render.proofs.tile.draw_part.Given as given
 abbrev pub invariant-loop-done : given.invariant-loop-done
 invariant-loop-done l = record {
   inside : l.done ≤ l.part.at.h;
-  pixels : EachOpen l.width l.height l.mask.tops l.quad (within_rows l.part.at l.done (λ x y below. blend below (part_pixel l.image l.part x y))) l.fn.surface l.surface;
+  pixels : EachOpen l.size.width l.size.height l.seen.mask.now.tops l.seen.number (within_rows l.part.at l.done (λ x y below. blend below (part_pixel l.image l.part x y))) l.fn.surface l.surface;
   premultiplied : ArePremultiplied l.fn.surface → ArePremultiplied l.surface;
 }
 

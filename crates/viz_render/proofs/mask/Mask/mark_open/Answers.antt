@@ -8,4 +8,4 @@ returns c =
     let new = c.open_marked-self-inside.new.tops in
     let whole : take c.self.inside.tops.len (new ++ drop (length new) c.self.inside.tops.items) ≡ new =
     take_at new (drop (length new) c.self.inside.tops.items) c.self.inside.tops.len (omega arith) in
-    rw whole (record { marked = c.open_marked-self-inside.ensures.marked; numbers = rw (c.tops.ensures.value) at c.open_marked-self-inside.ensures.numbers })
+    rw whole (record { marked = c.open_marked-self-inside.ensures.marked; numbers = c.open_marked-self-inside.ensures.numbers })
