@@ -3,9 +3,10 @@
 
 usage: tools/check_examples.py
 
-The schema must be one of its draft and have the fields that script_shape.py has, and each example must be valid by
-it. Of each of the changed scripts below it must say one fault, at the place of the change. It needs the Python package
-jsonschema (Debian's python3-jsonschema); where that is not to be had, it says so and checks nothing.
+The schema must have the commands that command_fields.py makes, be one of its draft and have the fields that
+script_shape.py has, and each example must be valid by it. Of each of the changed scripts below it must say one fault,
+at the place of the change. It needs the Python package jsonschema (Debian's python3-jsonschema); if that is not to be
+had, it says so and checks the commands alone.
 """
 import copy
 import json
@@ -13,6 +14,7 @@ import pathlib
 import sys
 
 sys.dont_write_bytecode = True
+import command_fields
 import script_shape
 
 ROOT = pathlib.Path(__file__).resolve().parent.parent
@@ -82,6 +84,8 @@ def other_fields(schema):
 
 
 def main():
+    if not command_fields.is_schema_made():
+        return 1
     try:
         import jsonschema
     except ImportError:

@@ -8,6 +8,9 @@ import dataclasses
 import re
 from collections.abc import Callable
 
+import command_fields
+from command_fields import SECOND_VERSION
+
 MOST_FRAMES, MOST_INPUTS, MOST_DRAWS = 4096, 65536, 4096
 MOST_SCROLL, MOST_ID, MOST_WHOLE, MOST_SIGNED = 2 ** 20, 65535, 2 ** 32 - 1, 2 ** 31 - 1
 MOST_PICTURE_SIDE = 256
@@ -80,30 +83,16 @@ PRIORITY = Form("word", '"same", "smooth" or "new"', lambda it: it in ("same", "
 OBJECT = Form("object", "an object", lambda it: isinstance(it, dict))
 PAINT = ("colour", "pixels")
 
-# The fields of each command after `op`, in their order. The paint of an item stands for one of two members.
-COMMANDS = {
-    "add_transform": [("id", WHOLE), ("parent", WHOLE), ("x", SIGNED), ("y", SIGNED), ("scroller", WHOLE)],
-    "set_transform": [("id", WHOLE), ("x", SIGNED), ("y", SIGNED)],
-    "add_clip": [("id", WHOLE), ("parent", WHOLE), ("transform", WHOLE), ("rect", RECT)],
-    "set_clip": [("id", WHOLE), ("rect", RECT)],
-    "add_effect": [("id", WHOLE), ("parent", WHOLE), ("opacity", WHOLE)],
-    "set_opacity": [("id", WHOLE), ("opacity", WHOLE)],
-    "add_scroller": [("id", WHOLE), ("parent", WHOLE), ("max_x", WHOLE), ("max_y", WHOLE)],
-    "set_range": [("id", WHOLE), ("max_x", WHOLE), ("max_y", WHOLE)],
-    "scroll_by": [("id", WHOLE), ("dx", SIGNED), ("dy", SIGNED)],
-    "scroll_to": [("id", WHOLE), ("x", WHOLE), ("y", WHOLE)],
-    "add_layer": [("id", WHOLE), ("at", WHOLE), ("transform", WHOLE), ("clip", WHOLE), ("effect", WHOLE), ("w", WHOLE),
-                  ("h", WHOLE), ("colour", COLOUR)],
-    "remove_layer": [("id", WHOLE)],
-    "resize_layer": [("id", WHOLE), ("w", WHOLE), ("h", WHOLE)],
-    "set_colour": [("id", WHOLE), ("colour", COLOUR)],
-    "insert_item": [("layer", WHOLE), ("at", WHOLE), ("rect", RECT), ("paint", None)],
-    "remove_item": [("layer", WHOLE), ("at", WHOLE)],
-    "replace_item": [("layer", WHOLE), ("at", WHOLE), ("rect", RECT), ("paint", None)],
-    "move_layer": [("id", WHOLE), ("at", WHOLE)],
-    "set_view": [("w", WHOLE), ("h", WHOLE), ("tile", WHOLE)],
-}
-SECOND_VERSION = {"set_view"}
+FORMS = {"whole": WHOLE, "signed": SIGNED, "rect": RECT, "colour": COLOUR}
+
+
+def fields_of(command):
+    """The fields of a command after `op`, in their order. The paint of an item stands for one of two members."""
+    for field in command.fields:
+        yield from [("rect", RECT), ("paint", None)] if field.form == "item" else [(field.name, FORMS[field.form])]
+
+
+COMMANDS = {it.name: list(fields_of(it)) for it in command_fields.read_commands()}
 INPUTS = {
     "scroll": [("scroller", whole_from(1, MOST_ID)), ("dx", AMOUNT), ("dy", AMOUNT)],
     "wheel": [("x", POINT), ("y", POINT), ("dx", AMOUNT), ("dy", AMOUNT)],

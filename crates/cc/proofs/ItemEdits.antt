@@ -133,12 +133,12 @@ items_changed p q c changes rects is ok e lists items cover =
     subst (λ (o : Page). LookAlikeOutside rects p o) (sym e) (after c ok lists items (subst (λ (o : Page). CoverFirst o changes.list rects) e cover))
   where
     after : (c : Command) → Accepts p c → ListsChange (layer_change_of p c) (retiles p c) changes → changes_items c ≡ true → CoverFirst (page_after_command p c) changes.list rects → LookAlikeOutside rects p (page_after_command p c)
-    after (command.InsertItem id at item) ok lists t cover =
-        items_stay p id (λ its. insert its at item) (rect_of_item item ∷ []) changes.list rects (λ x y before there out. (unlisted_stays p (command.InsertItem id at item) is ok).content id x y before there out) lists.holds cover
-    after (command.RemoveItem id at) ok lists t cover =
-        items_stay p id (λ its. remove its at) (rects_of (item_rect_at id at p.layers)) changes.list rects (λ x y before there out. (unlisted_stays p (command.RemoveItem id at) is ok).content id x y before there out) lists.holds cover
-    after (command.ReplaceItem id at item) ok lists t cover =
-        items_stay p id (λ its. slice_set its at item) (rect_of_item item ∷ rects_of (item_rect_at id at p.layers)) changes.list rects (λ x y before there out. (unlisted_stays p (command.ReplaceItem id at item) is ok).content id x y before there out) lists.holds cover
+    after (command.InsertItem c) ok lists t cover =
+        items_stay p c.layer (λ its. insert its c.at c.item) (rect_of_item c.item ∷ []) changes.list rects (λ x y before there out. (unlisted_stays p (command.InsertItem c) is ok).content c.layer x y before there out) lists.holds cover
+    after (command.RemoveItem c) ok lists t cover =
+        items_stay p c.layer (λ its. remove its c.at) (rects_of (item_rect_at c.layer c.at p.layers)) changes.list rects (λ x y before there out. (unlisted_stays p (command.RemoveItem c) is ok).content c.layer x y before there out) lists.holds cover
+    after (command.ReplaceItem c) ok lists t cover =
+        items_stay p c.layer (λ its. slice_set its c.at c.item) (rect_of_item c.item ∷ rects_of (item_rect_at c.layer c.at p.layers)) changes.list rects (λ x y before there out. (unlisted_stays p (command.ReplaceItem c) is ok).content c.layer x y before there out) lists.holds cover
     after _ ok lists t cover = absurd (cc)
 
 -- ---- what was noted

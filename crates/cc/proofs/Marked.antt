@@ -87,7 +87,7 @@ whole id r (Some change) (c ∷ []) holds out = quiet_whole id r change c holds 
 whole id r (Some change) (c ∷ d ∷ ds) holds out = absurd holds
 
 same_tile : (p : Page) (c : Command) → retiles p c ≡ false → (page_after_command p c).view.tile ≡ p.view.tile
-same_tile p (command.SetView w h tile) out = eqb-true tile p.view.tile (not_false (tile == p.view.tile) out)
+same_tile p (command.SetView c) out = eqb-true c.tile p.view.tile (not_false (c.tile == p.view.tile) out)
 same_tile p _ out = refl
 
 -- ---- one tile

@@ -26,9 +26,9 @@ fn changes_items(command: &Command) -> bool
     ensures { result ≡ spec.changes_items command.now }
 {
     match command {
-        Command::InsertItem { .. } => true,
-        Command::RemoveItem { .. } => true,
-        Command::ReplaceItem { .. } => true,
+        Command::InsertItem(_) => true,
+        Command::RemoveItem(_) => true,
+        Command::ReplaceItem(_) => true,
         _ => false,
     }
 }

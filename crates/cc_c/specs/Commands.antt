@@ -22,7 +22,7 @@ natural (negsuc n) = None
 abbrev pub parts_of_number : ℕ → Parts
 parts_of_number rgba = record { r = rgba / 16777216; g = (rgba / 65536) % 256; b = (rgba / 256) % 256; a = rgba % 256 }
 
--- the premultiplied colour of a number; None where red, green or blue exceeds alpha
+-- the premultiplied colour of a number; None if red, green or blue exceeds alpha
 abbrev pub colour_of : ℕ → Option Parts
 colour_of rgba = cond (is_colour (parts_of_number rgba)) (Some (parts_of_number rgba)) None
 
@@ -37,14 +37,14 @@ add_transform (id ∷ parent ∷ x ∷ y ∷ scroller ∷ []) = do
   i ← natural id
   p ← natural parent
   s ← natural scroller
-  Some (command.AddTransform i p x y s)
+  Some (command.AddTransform (record { id = i; parent = p; x = x; y = y; scroller = s }))
 add_transform fields = None
 
 -- 2: id, x, y
 unfoldable pub set_transform : List ℤ → Option Command
 set_transform (id ∷ x ∷ y ∷ []) = do
   i ← natural id
-  Some (command.SetTransform i x y)
+  Some (command.SetTransform (record { id = i; x = x; y = y }))
 set_transform fields = None
 
 -- 3: id, parent, transform, and the rect
@@ -54,7 +54,7 @@ add_clip (id ∷ parent ∷ transform ∷ rect) = do
   p ← natural parent
   t ← natural transform
   r ← rect_of rect
-  Some (command.AddClip i p t r)
+  Some (command.AddClip (record { id = i; parent = p; transform = t; rect = r }))
 add_clip fields = None
 
 -- 4: id, and the rect
@@ -62,7 +62,7 @@ unfoldable pub set_clip : List ℤ → Option Command
 set_clip (id ∷ rect) = do
   i ← natural id
   r ← rect_of rect
-  Some (command.SetClip i r)
+  Some (command.SetClip (record { id = i; rect = r }))
 set_clip fields = None
 
 -- 5: id, parent, opacity
@@ -71,7 +71,7 @@ add_effect (id ∷ parent ∷ opacity ∷ []) = do
   i ← natural id
   p ← natural parent
   o ← natural opacity
-  Some (command.AddEffect i p o)
+  Some (command.AddEffect (record { id = i; parent = p; opacity = o }))
 add_effect fields = None
 
 -- 6: id, opacity
@@ -79,7 +79,7 @@ unfoldable pub set_opacity : List ℤ → Option Command
 set_opacity (id ∷ opacity ∷ []) = do
   i ← natural id
   o ← natural opacity
-  Some (command.SetOpacity i o)
+  Some (command.SetOpacity (record { id = i; opacity = o }))
 set_opacity fields = None
 
 -- 7: id, parent, max_x, max_y
@@ -89,7 +89,7 @@ add_scroller (id ∷ parent ∷ max_x ∷ max_y ∷ []) = do
   p ← natural parent
   mx ← natural max_x
   my ← natural max_y
-  Some (command.AddScroller i p mx my)
+  Some (command.AddScroller (record { id = i; parent = p; max_x = mx; max_y = my }))
 add_scroller fields = None
 
 -- 8: id, max_x, max_y
@@ -98,14 +98,14 @@ set_range (id ∷ max_x ∷ max_y ∷ []) = do
   i ← natural id
   mx ← natural max_x
   my ← natural max_y
-  Some (command.SetRange i mx my)
+  Some (command.SetRange (record { id = i; max_x = mx; max_y = my }))
 set_range fields = None
 
 -- 9: id, dx, dy
 unfoldable pub scroll_by : List ℤ → Option Command
 scroll_by (id ∷ dx ∷ dy ∷ []) = do
   i ← natural id
-  Some (command.ScrollBy i dx dy)
+  Some (command.ScrollBy (record { id = i; dx = dx; dy = dy }))
 scroll_by fields = None
 
 -- 10: id, x, y
@@ -114,7 +114,7 @@ scroll_to (id ∷ x ∷ y ∷ []) = do
   i ← natural id
   left ← natural x
   top ← natural y
-  Some (command.ScrollTo i left top)
+  Some (command.ScrollTo (record { id = i; x = left; y = top }))
 scroll_to fields = None
 
 -- transform, clip, effect, w, h
@@ -135,14 +135,14 @@ add_layer (id ∷ at ∷ form) rgba = do
   place ← natural at
   f ← layer_form form
   colour ← colour_of rgba
-  Some (command.AddLayer i place f.transform f.clip f.effect f.w f.h colour)
+  Some (command.AddLayer (record { id = i; at = place; transform = f.transform; clip = f.clip; effect = f.effect; w = f.w; h = f.h; colour = colour }))
 add_layer fields rgba = None
 
 -- 12: id
 unfoldable pub remove_layer : List ℤ → Option Command
 remove_layer (id ∷ []) = do
   i ← natural id
-  Some (command.RemoveLayer i)
+  Some (command.RemoveLayer (record { id = i }))
 remove_layer fields = None
 
 -- 13: id, w, h
@@ -151,7 +151,7 @@ resize_layer (id ∷ w ∷ h ∷ []) = do
   i ← natural id
   wide ← natural w
   tall ← natural h
-  Some (command.ResizeLayer i wide tall)
+  Some (command.ResizeLayer (record { id = i; w = wide; h = tall }))
 resize_layer fields = None
 
 -- 14: id, and the colour
@@ -159,7 +159,7 @@ unfoldable pub set_colour : List ℤ → ℕ → Option Command
 set_colour (id ∷ []) rgba = do
   i ← natural id
   colour ← colour_of rgba
-  Some (command.SetColour i colour)
+  Some (command.SetColour (record { id = i; colour = colour }))
 set_colour fields rgba = None
 
 -- 15: id, at
@@ -167,7 +167,7 @@ unfoldable pub move_layer : List ℤ → Option Command
 move_layer (id ∷ at ∷ []) = do
   i ← natural id
   place ← natural at
-  Some (command.MoveLayer i place)
+  Some (command.MoveLayer (record { id = i; at = place }))
 move_layer fields = None
 
 -- 16: w, h, tile
@@ -176,7 +176,7 @@ set_view (w ∷ h ∷ tile ∷ []) = do
   wide ← natural w
   tall ← natural h
   side ← natural tile
-  Some (command.SetView wide tall side)
+  Some (command.SetView (record { w = wide; h = tall; tile = side }))
 set_view fields = None
 
 -- 17: layer, at
@@ -184,7 +184,7 @@ unfoldable pub remove_item : List ℤ → Option Command
 remove_item (layer ∷ at ∷ []) = do
   l ← natural layer
   place ← natural at
-  Some (command.RemoveItem l place)
+  Some (command.RemoveItem (record { layer = l; at = place }))
 remove_item fields = None
 
 -- layer, at, and the rect
@@ -201,14 +201,14 @@ unfoldable pub insert_rect : List ℤ → ℕ → Option Command
 insert_rect fields rgba = do
   q ← item_place fields
   colour ← colour_of rgba
-  Some (command.InsertItem q.layer q.at (item.Rect q.rect colour))
+  Some (command.InsertItem (record { layer = q.layer; at = q.at; item = (item.Rect q.rect colour) }))
 
 -- 19: the same
 unfoldable pub replace_rect : List ℤ → ℕ → Option Command
 replace_rect fields rgba = do
   q ← item_place fields
   colour ← colour_of rgba
-  Some (command.ReplaceItem q.layer q.at (item.Rect q.rect colour))
+  Some (command.ReplaceItem (record { layer = q.layer; at = q.at; item = (item.Rect q.rect colour) }))
 
 -- the commands 1 to 6, on transforms, clips and effects
 unfoldable pub node_command : ℕ → List ℤ → Option Command
@@ -245,7 +245,7 @@ item_command op fields rgba =
     (cond (op == 18) (insert_rect fields rgba)
     (cond (op == 19) (replace_rect fields rgba) None))
 
--- the command of a number; None where the number has none of these nineteen, or the fields are too few, too many, or below 0 where they may not be, or the colour is not premultiplied
+-- the command of a number; None if the number has none of these nineteen, or the fields are too few, too many, or below 0 though they may not be, or the colour is not premultiplied
 unfoldable pub plain_command : ℕ → List ℤ → ℕ → Option Command
 plain_command op fields rgba =
     cond (nat_lt op 7) (node_command op fields)

@@ -14,7 +14,7 @@ use Rattle.cc_c.specs.Commands.{plain_command, item_place, takes_pixels}
 
 -- 20 inserts an item, 21 replaces one
 abbrev pub put : ℕ → ItemPlace → Item → Command
-put op q i = cond (op == 20) (command.InsertItem q.layer q.at i) (command.ReplaceItem q.layer q.at i)
+put op q i = cond (op == 20) (command.InsertItem (record { layer = q.layer; at = q.at; item = i })) (command.ReplaceItem (record { layer = q.layer; at = q.at; item = i }))
 
 -- the pixels are those of a bitmap that is put in this place
 pub record PutsBitmap (op : ℕ) (fields : List ℤ) (pixels : List ℕ) (c : Command) : Type 0 where

@@ -10,7 +10,7 @@ use crate::layers::layer_command;
 use crate::nodes::node_command;
 use crate::scrollers::scroller_command;
 use page_display_list::Item;
-use page_layers::Command;
+use page_layers::{Command, InsertItem, ReplaceItem};
 use std::alloc::{AllocError, Global};
 use std::sync::Arc;
 
@@ -42,17 +42,17 @@ fn put(op: u32, place: ItemPlace, item: Item) -> Command
     ensures { result ≡ put_command op place item }
 {
     if op == 20 {
-        Command::InsertItem {
+        Command::InsertItem(InsertItem {
             layer: place.layer,
             at: place.at,
             item,
-        }
+        })
     } else {
-        Command::ReplaceItem {
+        Command::ReplaceItem(ReplaceItem {
             layer: place.layer,
             at: place.at,
             item,
-        }
+        })
     }
 }
 

@@ -6,7 +6,7 @@ ghost use Rattle.cc_c.specs.Commands as spec;
 use crate::fields::{colour_of, natural, rect_of};
 use geom::Rect;
 use page_display_list::Item;
-use page_layers::Command;
+use page_layers::{Command, InsertItem, RemoveItem, ReplaceItem};
 
 /// The place of an item.
 #[derive(Clone, Copy)]
@@ -44,11 +44,11 @@ fn insert_rect(fields: &[i32], rgba: u32) -> Option<Command>
         rect: place.rect,
         colour,
     };
-    Some(Command::InsertItem {
+    Some(Command::InsertItem(InsertItem {
         layer: place.layer,
         at: place.at,
         item,
-    })
+    }))
 }
 
 // The same.
@@ -62,11 +62,11 @@ fn replace_rect(fields: &[i32], rgba: u32) -> Option<Command>
         rect: place.rect,
         colour,
     };
-    Some(Command::ReplaceItem {
+    Some(Command::ReplaceItem(ReplaceItem {
         layer: place.layer,
         at: place.at,
         item,
-    })
+    }))
 }
 
 // Layer and at.
@@ -79,7 +79,7 @@ fn remove_item(fields: &[i32]) -> Option<Command>
     };
     let layer = natural(*layer)?;
     let at = natural(*at)?;
-    Some(Command::RemoveItem { layer, at })
+    Some(Command::RemoveItem(RemoveItem { layer, at }))
 }
 
 /// The commands 17 to 19. None where the number is none of these, or the fields do not fit.

@@ -4,7 +4,7 @@ ghost use Rattle.std.specs.Prelude.{◌≡◌};
 ghost use Rattle.cc_c.specs.Commands as spec;
 
 use crate::fields::{colour_of, natural};
-use page_layers::Command;
+use page_layers::{AddLayer, Command, MoveLayer, RemoveLayer, ResizeLayer, SetColour, SetView};
 
 /// What a layer is, beside its id, its place and its colour.
 #[derive(Clone, Copy)]
@@ -55,7 +55,7 @@ fn add_layer(fields: &[i32], rgba: u32) -> Option<Command>
     let at = natural(*at)?;
     let form = layer_form(form)?;
     let colour = colour_of(rgba)?;
-    Some(Command::AddLayer {
+    Some(Command::AddLayer(AddLayer {
         id,
         at,
         transform: form.transform,
@@ -64,7 +64,7 @@ fn add_layer(fields: &[i32], rgba: u32) -> Option<Command>
         w: form.w,
         h: form.h,
         colour,
-    })
+    }))
 }
 
 // Id.
@@ -76,7 +76,7 @@ fn remove_layer(fields: &[i32]) -> Option<Command>
         return None;
     };
     let id = natural(*id)?;
-    Some(Command::RemoveLayer { id })
+    Some(Command::RemoveLayer(RemoveLayer { id }))
 }
 
 // Id, w, h.
@@ -90,7 +90,7 @@ fn resize_layer(fields: &[i32]) -> Option<Command>
     let id = natural(*id)?;
     let w = natural(*w)?;
     let h = natural(*h)?;
-    Some(Command::ResizeLayer { id, w, h })
+    Some(Command::ResizeLayer(ResizeLayer { id, w, h }))
 }
 
 // Id, and the colour.
@@ -103,7 +103,7 @@ fn set_colour(fields: &[i32], rgba: u32) -> Option<Command>
     };
     let id = natural(*id)?;
     let colour = colour_of(rgba)?;
-    Some(Command::SetColour { id, colour })
+    Some(Command::SetColour(SetColour { id, colour }))
 }
 
 // Id, at.
@@ -116,7 +116,7 @@ fn move_layer(fields: &[i32]) -> Option<Command>
     };
     let id = natural(*id)?;
     let at = natural(*at)?;
-    Some(Command::MoveLayer { id, at })
+    Some(Command::MoveLayer(MoveLayer { id, at }))
 }
 
 // W, h, tile.
@@ -130,7 +130,7 @@ fn set_view(fields: &[i32]) -> Option<Command>
     let w = natural(*w)?;
     let h = natural(*h)?;
     let tile = natural(*tile)?;
-    Some(Command::SetView { w, h, tile })
+    Some(Command::SetView(SetView { w, h, tile }))
 }
 
 /// The commands 11 to 16. None where the number is none of these, or the fields do not fit.

@@ -4,7 +4,7 @@ ghost use Rattle.std.specs.Prelude.{◌≡◌};
 ghost use Rattle.cc_c.specs.Commands as spec;
 
 use crate::fields::{natural, rect_of};
-use page_layers::Command;
+use page_layers::{AddClip, AddEffect, AddTransform, Command, SetClip, SetOpacity, SetTransform};
 
 // Id, parent, x, y, scroller.
 #[tactic(auto, unfolding(crate::specs::Commands::add_transform))]
@@ -17,13 +17,13 @@ fn add_transform(fields: &[i32]) -> Option<Command>
     let id = natural(*id)?;
     let parent = natural(*parent)?;
     let scroller = natural(*scroller)?;
-    Some(Command::AddTransform {
+    Some(Command::AddTransform(AddTransform {
         id,
         parent,
         x: *x,
         y: *y,
         scroller,
-    })
+    }))
 }
 
 // Id, x, y.
@@ -35,7 +35,7 @@ fn set_transform(fields: &[i32]) -> Option<Command>
         return None;
     };
     let id = natural(*id)?;
-    Some(Command::SetTransform { id, x: *x, y: *y })
+    Some(Command::SetTransform(SetTransform { id, x: *x, y: *y }))
 }
 
 // Id, parent, transform, and the rect.
@@ -50,12 +50,12 @@ fn add_clip(fields: &[i32]) -> Option<Command>
     let parent = natural(*parent)?;
     let transform = natural(*transform)?;
     let rect = rect_of(rect)?;
-    Some(Command::AddClip {
+    Some(Command::AddClip(AddClip {
         id,
         parent,
         transform,
         rect,
-    })
+    }))
 }
 
 // Id, and the rect.
@@ -68,7 +68,7 @@ fn set_clip(fields: &[i32]) -> Option<Command>
     };
     let id = natural(*id)?;
     let rect = rect_of(rect)?;
-    Some(Command::SetClip { id, rect })
+    Some(Command::SetClip(SetClip { id, rect }))
 }
 
 // Id, parent, opacity.
@@ -82,11 +82,11 @@ fn add_effect(fields: &[i32]) -> Option<Command>
     let id = natural(*id)?;
     let parent = natural(*parent)?;
     let opacity = natural(*opacity)?;
-    Some(Command::AddEffect {
+    Some(Command::AddEffect(AddEffect {
         id,
         parent,
         opacity,
-    })
+    }))
 }
 
 // Id, opacity.
@@ -99,7 +99,7 @@ fn set_opacity(fields: &[i32]) -> Option<Command>
     };
     let id = natural(*id)?;
     let opacity = natural(*opacity)?;
-    Some(Command::SetOpacity { id, opacity })
+    Some(Command::SetOpacity(SetOpacity { id, opacity }))
 }
 
 /// The commands 1 to 6. None where the number is none of these, or the fields do not fit.

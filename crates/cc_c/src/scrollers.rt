@@ -4,7 +4,7 @@ ghost use Rattle.std.specs.Prelude.{◌≡◌};
 ghost use Rattle.cc_c.specs.Commands as spec;
 
 use crate::fields::natural;
-use page_layers::Command;
+use page_layers::{AddScroller, Command, ScrollBy, ScrollTo, SetRange};
 
 // Id, parent, the ends of its range.
 #[tactic(auto, unfolding(crate::specs::Commands::add_scroller))]
@@ -18,12 +18,12 @@ fn add_scroller(fields: &[i32]) -> Option<Command>
     let parent = natural(*parent)?;
     let max_x = natural(*max_x)?;
     let max_y = natural(*max_y)?;
-    Some(Command::AddScroller {
+    Some(Command::AddScroller(AddScroller {
         id,
         parent,
         max_x,
         max_y,
-    })
+    }))
 }
 
 // Id, the ends of its range.
@@ -37,7 +37,7 @@ fn set_range(fields: &[i32]) -> Option<Command>
     let id = natural(*id)?;
     let max_x = natural(*max_x)?;
     let max_y = natural(*max_y)?;
-    Some(Command::SetRange { id, max_x, max_y })
+    Some(Command::SetRange(SetRange { id, max_x, max_y }))
 }
 
 // Id, dx, dy.
@@ -49,11 +49,11 @@ fn scroll_by(fields: &[i32]) -> Option<Command>
         return None;
     };
     let id = natural(*id)?;
-    Some(Command::ScrollBy {
+    Some(Command::ScrollBy(ScrollBy {
         id,
         dx: *dx,
         dy: *dy,
-    })
+    }))
 }
 
 // Id, x, y.
@@ -67,7 +67,7 @@ fn scroll_to(fields: &[i32]) -> Option<Command>
     let id = natural(*id)?;
     let x = natural(*x)?;
     let y = natural(*y)?;
-    Some(Command::ScrollTo { id, x, y })
+    Some(Command::ScrollTo(ScrollTo { id, x, y }))
 }
 
 /// The commands 7 to 10. None where the number is none of these, or the fields do not fit.

@@ -1,6 +1,6 @@
 -- A key has the rank of a visible tile exactly where it is one of the visible keys of a tree.
-use Rattle.std.proofs.Common.{ℕ, ◌≡◌, ◌==◌, ◌&&◌, ◌||◌, Bool, true, false, cond, Option, Some, None, List, [], ◌∷◌, map, filter, flat_map, option_map, refl, ap, sym, ◌∙◌, eqb-true, eq-eqb}
-use Rattle.std.specs.Prelude.{nat_lt, nat_le, is_some, if◌then◌else◌}
+use Rattle.std.proofs.Common.{ℕ, ◌≡◌, ◌==◌, ◌&&◌, ◌||◌, Bool, true, false, cond, Option, Some, None, List, [], ◌∷◌, map, filter, flat_map, option_map, refl, ap, sym, ◌∙◌, eqb-true}
+use Rattle.std.specs.Prelude.{nat_le, if◌then◌else◌}
 use Rattle.std.specs.List.{find, list_any}
 use Rattle.std.specs.declared.cmp.Ordering.{Ordering}
 use Rattle.std.specs.declared.cmp.Ordering.TheVariants.{Less, Equal, Greater}
@@ -20,17 +20,16 @@ use Rattle.tile_priority.specs.declared.tile.Seen.{Seen}
 use Rattle.tile_priority.specs.Bins as bins
 use Rattle.tile_priority.specs.Bins.{bin_at, bin_of, rank_of, tree_number}
 use Rattle.tile_priority.specs.Ranks.{rank_cmp, at_order, least}
-use Rattle.tile_priority.specs.Choice.{is_now}
+use Rattle.tile_priority.specs.Choice.{is_now, is_visible_rank}
 use Rattle.page_layers.specs.Layers.{PageLayer, has_id}
 use Rattle.page_layers.specs.Pages.{Page}
 use Rattle.page_layers.specs.Refusals.{has_layer}
 use Rattle.page_layers.specs.Sound.{AreDistinctLayers}
-use Rattle.tile_visible.specs.Visible.{grid_of, seen, visible_places, visible_keys, put_layer, by_id, key_at}
+use Rattle.tile_visible.specs.Visible.{grid_of, seen, visible_places, visible_keys, by_id, key_at}
 use Rattle.model_history.specs.Scripts.{ScriptModel}
 use Rattle.model_history.specs.Tiles.{Tree, visible_in}
 use Rattle.model_history.specs.Ranking.{borders, place_named, rank_on, rank_in}
-use Rattle.model_history.proofs.FindKeys.{has_place, key_on, key_of_page}
-use Rattle.impl_tiles.specs.Visible.{is_visible}
+use Rattle.model_history.proofs.FindKeys.{has_place, key_elsewhere, key_among, any_by_id, absent_any, or_nothing, key_on, key_of_page}
 
 -- ---- the visible keys of a page
 
@@ -41,75 +40,6 @@ shown_in p offset stamp q l = has_place (visible_places p offset l) (place_named
 abbrev pub shown_on : Page → (ℕ → Point) → (ℕ → Place → ℕ) → TileKey → Option PageLayer → Bool
 shown_on p offset stamp q None = false
 shown_on p offset stamp q (Some l) = shown_in p offset stamp q l
-
--- a key of another layer is none of these
-key_elsewhere : (stamp : ℕ → Place → ℕ) (q : TileKey) (id : ℕ) (ps : List Place) → (id == q.layer) ≡ false → has_key (map (key_at stamp id) ps) q ≡ false
-key_elsewhere stamp q id [] out = refl
-key_elsewhere stamp q id (p ∷ ps) out =
-    ap (λ (b : Bool). (b && (p.x == q.x) && (p.y == q.y) && (stamp id p == q.stamp)) || has_key (map (key_at stamp id) ps) q) out
-    ∙ key_elsewhere stamp q id ps out
-
-spread : (a b c : Bool) → ((a && c) || (b && c)) ≡ ((a || b) && c)
-spread true true true = refl
-spread true true false = refl
-spread true false true = refl
-spread true false false = refl
-spread false b c = refl
-
-abbrev place_at : ℕ → ℕ → Place
-place_at x y = record { x = x; y = y }
-
-key_here : (stamp : ℕ → Place → ℕ) (q : TileKey) (p : Place) → same_key (key_at stamp q.layer p) q ≡ (((p.x == q.x) && (p.y == q.y)) && (stamp q.layer (place_named q) == q.stamp))
-key_here stamp q p =
-    ap (λ (b : Bool). b && (p.x == q.x) && (p.y == q.y) && (stamp q.layer p == q.stamp)) (eq-eqb q.layer q.layer refl)
-    ∙ go (p.x == q.x) refl (p.y == q.y) refl
-  where
-    go : (a : Bool) → (p.x == q.x) ≡ a → (b : Bool) → (p.y == q.y) ≡ b → (a && b && (stamp q.layer p == q.stamp)) ≡ ((a && b) && (stamp q.layer (place_named q) == q.stamp))
-    go false across b down = refl
-    go true across false down = refl
-    go true across true down =
-        let x : p.x ≡ q.x = eqb-true p.x q.x across in
-        let y : p.y ≡ q.y = eqb-true p.y q.y down in
-        let same : p ≡ place_named q = ap (λ (n : ℕ). place_at n p.y) x ∙ ap (λ (n : ℕ). place_at q.x n) y in
-        ap (λ (z : Place). stamp q.layer z == q.stamp) same
-
-key_among : (stamp : ℕ → Place → ℕ) (q : TileKey) (ps : List Place) → has_key (map (key_at stamp q.layer) ps) q ≡ (has_place ps (place_named q) && (stamp q.layer (place_named q) == q.stamp))
-key_among stamp q [] = refl
-key_among stamp q (p ∷ ps) =
-    ap (λ (b : Bool). b || has_key (map (key_at stamp q.layer) ps) q) (key_here stamp q p)
-    ∙ ap (λ (b : Bool). (((p.x == q.x) && (p.y == q.y)) && (stamp q.layer (place_named q) == q.stamp)) || b) (key_among stamp q ps)
-    ∙ spread ((p.x == q.x) && (p.y == q.y)) (has_place ps (place_named q)) (stamp q.layer (place_named q) == q.stamp)
-
--- the order of the layers does not matter
-swap_or : (a b c : Bool) → (a || (b || c)) ≡ (b || (a || c))
-swap_or true true c = refl
-swap_or true false c = refl
-swap_or false b c = refl
-
-any_put : (test : PageLayer → Bool) (l : PageLayer) (ls : List PageLayer) → list_any test (put_layer l ls) ≡ list_any test (l ∷ ls)
-any_put test l [] = refl
-any_put test l (k ∷ ks) = go (nat_lt k.id l.id) (any_put test l ks)
-  where
-    go : (b : Bool) → list_any test (put_layer l ks) ≡ list_any test (l ∷ ks) → list_any test (cond b (k ∷ put_layer l ks) (l ∷ k ∷ ks)) ≡ list_any test (l ∷ k ∷ ks)
-    go true rest = ap (λ (b : Bool). test k || b) rest ∙ swap_or (test k) (test l) (list_any test ks)
-    go false rest = refl
-
-pub any_by_id : (test : PageLayer → Bool) (ls : List PageLayer) → list_any test (by_id ls) ≡ list_any test ls
-any_by_id test [] = refl
-any_by_id test (l ∷ ls) = any_put test l (by_id ls) ∙ ap (λ (b : Bool). test l || b) (any_by_id test ls)
-
--- of layers with ids of their own the one that is found decides
-pub absent_any : (id : ℕ) (u : PageLayer → Bool) (ls : List PageLayer) → has_layer id ls ≡ false → list_any (λ l. (l.id == id) && u l) ls ≡ false
-absent_any id u [] none = refl
-absent_any id u (l ∷ ls) none = go (l.id == id) none (absent_any id u ls)
-  where
-    go : (b : Bool) → is_some (cond b (Some l) (find (has_id id) ls)) ≡ false → (has_layer id ls ≡ false → list_any (λ l. (l.id == id) && u l) ls ≡ false) → ((b && u l) || list_any (λ l. (l.id == id) && u l) ls) ≡ false
-    go true e rest = absurd cc
-    go false e rest = rest e
-
-or_nothing : (b c : Bool) → c ≡ false → (b || c) ≡ b
-or_nothing true c e = refl
-or_nothing false c e = e
 
 module _ (p : Page) (offset : ℕ → Point) (stamp : ℕ → Place → ℕ) (q : TileKey) where
   abbrev pub layer_keys : PageLayer → List TileKey
@@ -147,6 +77,9 @@ module _ (p : Page) (offset : ℕ → Point) (stamp : ℕ → Place → ℕ) (q 
       ∙ any_by_id (λ l. (l.id == q.layer) && shown_in p offset stamp q l) p.layers
       ∙ any_found p.layers d
 
+abbrev place_at : ℕ → ℕ → Place
+place_at x y = record { x = x; y = y }
+
 -- a place among those that pass a test
 same_place : (r q : Place) (b : Bool) → ((r.x == q.x) && (r.y == q.y)) ≡ b → b ≡ true → r ≡ q
 same_place r q b e t = by_x (r.x == q.x) refl (r.y == q.y) refl (e ∙ t)
@@ -179,19 +112,19 @@ passing_place f (r ∷ ps) q = at_head (f r) refl ((r.x == q.x) && (r.y == q.y))
 
 -- ---- ranks of visible tiles
 
-shown_bin : (b : Borders) (v : Seen) (f : Bin → Rank) → ((x : Bin) → (f x).bin ≡ x) → is_visible (option_map f (bin_of b v)) ≡ bins.is_visible v
+shown_bin : (b : Borders) (v : Seen) (f : Bin → Rank) → ((x : Bin) → (f x).bin ≡ x) → is_visible_rank (option_map f (bin_of b v)) ≡ bins.is_visible v
 shown_bin b v f is = by_visible (bins.is_visible v)
   where
-    later : (s e : Bool) → is_visible (option_map f (if s then Some bin.Soon else (if e then Some bin.Eventually else None))) ≡ false
+    later : (s e : Bool) → is_visible_rank (option_map f (if s then Some bin.Soon else (if e then Some bin.Eventually else None))) ≡ false
     later true e = ap is_now (is bin.Soon)
     later false true = ap is_now (is bin.Eventually)
     later false false = refl
 
-    by_visible : (t : Bool) → is_visible (option_map f (if t then Some bin.Now else bin_at b (distance v.screen b.viewport))) ≡ t
+    by_visible : (t : Bool) → is_visible_rank (option_map f (if t then Some bin.Now else bin_at b (distance v.screen b.viewport))) ≡ t
     by_visible true = ap is_now (is bin.Now)
     by_visible false = later (nat_le (distance v.screen b.viewport) b.soon) (nat_le (distance v.screen b.viewport) b.eventually)
 
-shown_rank : (b : Borders) (a : Side) (v : Seen) (q : TileKey) → is_visible (rank_of b a v q) ≡ bins.is_visible v
+shown_rank : (b : Borders) (a : Side) (v : Seen) (q : TileKey) → is_visible_rank (rank_of b a v q) ≡ bins.is_visible v
 shown_rank b a v q = shown_bin b v (λ bin. record { bin = bin; tree = tree_number b.priority a; distance = distance v.screen b.viewport; key = q }) (λ x. refl)
 
 and_true : (b : Bool) → b ≡ (b && true)
@@ -203,12 +136,12 @@ and_false true = refl
 and_false false = refl
 
 -- a rank that is there under two tests
-both_tests : (h e v : Bool) (r : Option Rank) → is_visible r ≡ v → is_visible (cond (h && e) r None) ≡ ((h && v) && e)
+both_tests : (h e v : Bool) (r : Option Rank) → is_visible_rank r ≡ v → is_visible_rank (cond (h && e) r None) ≡ ((h && v) && e)
 both_tests true true v r is = is ∙ and_true v
 both_tests true false v r is = and_false v
 both_tests false e v r is = refl
 
-shown_on_layer : (s : ScriptModel) (a : Side) (t : Tree) (q : TileKey) (o : Option PageLayer) → is_visible (cond (key_on t.page t.stamp q o) (rank_on s a t q o) None) ≡ shown_on t.page t.offset t.stamp q o
+shown_on_layer : (s : ScriptModel) (a : Side) (t : Tree) (q : TileKey) (o : Option PageLayer) → is_visible_rank (cond (key_on t.page t.stamp q o) (rank_on s a t q o) None) ≡ shown_on t.page t.offset t.stamp q o
 unfolding visible_places
 shown_on_layer s a t q None = refl
 shown_on_layer s a t q (Some l) =
@@ -217,15 +150,15 @@ shown_on_layer s a t q (Some l) =
     ∙ ap (λ (b : Bool). b && (t.stamp q.layer (place_named q) == q.stamp)) (sym (passing_place (λ place. bins.is_visible (seen t.page t.offset l place)) (places (grid_of t.page l)) (place_named q)))
 
 -- a key is visible in a tree exactly where its rank there is that of a visible tile
-pub shown_in_tree : (s : ScriptModel) (a : Side) (t : Tree) (q : TileKey) → AreDistinctLayers t.page.layers → is_visible (rank_in s a t q) ≡ has_key (visible_in t) q
+pub shown_in_tree : (s : ScriptModel) (a : Side) (t : Tree) (q : TileKey) → AreDistinctLayers t.page.layers → is_visible_rank (rank_in s a t q) ≡ has_key (visible_in t) q
 unfolding rank_in
 shown_in_tree s a t q d =
-    ap (λ (b : Bool). is_visible (cond b (rank_on s a t q (find (has_id q.layer) t.page.layers)) None)) (key_of_page t.page t.stamp q d)
+    ap (λ (b : Bool). is_visible_rank (cond b (rank_on s a t q (find (has_id q.layer) t.page.layers)) None)) (key_of_page t.page t.stamp q d)
     ∙ shown_on_layer s a t q (find (has_id q.layer) t.page.layers)
     ∙ sym (visible_by_layer t.page t.offset t.stamp q d)
 
 -- the better of two ranks is that of a visible tile where either is
-pub shown_least : (x y : Option Rank) → is_visible (least x y) ≡ (is_visible x || is_visible y)
+pub shown_least : (x y : Option Rank) → is_visible_rank (least x y) ≡ (is_visible_rank x || is_visible_rank y)
 shown_least None y = refl
 shown_least (Some a) None = or_false (is_now a.bin)
   where
@@ -234,12 +167,12 @@ shown_least (Some a) None = or_false (is_now a.bin)
     or_false false = refl
 shown_least (Some a) (Some b) = by_bins a.bin refl b.bin refl
   where
-    either : (t : Ordering) → (c : Bool) → is_now a.bin ≡ c → is_now b.bin ≡ c → is_visible (at_order t (Some b) (Some a) (Some a)) ≡ c
+    either : (t : Ordering) → (c : Bool) → is_now a.bin ≡ c → is_now b.bin ≡ c → is_visible_rank (at_order t (Some b) (Some a) (Some a)) ≡ c
     either Less c e f = f
     either Equal c e f = e
     either Greater c e f = e
 
-    by_bins : (x : Bin) → a.bin ≡ x → (y : Bin) → b.bin ≡ y → is_visible (at_order (rank_cmp b a) (Some b) (Some a) (Some a)) ≡ (is_now a.bin || is_now b.bin)
+    by_bins : (x : Bin) → a.bin ≡ x → (y : Bin) → b.bin ≡ y → is_visible_rank (at_order (rank_cmp b a) (Some b) (Some a) (Some a)) ≡ (is_now a.bin || is_now b.bin)
     by_bins bin.Now e bin.Now f = either (rank_cmp b a) true (ap is_now e) (ap is_now f) ∙ rw e refl
     by_bins bin.Now e bin.Soon f = rw (e, f) refl
     by_bins bin.Now e bin.Eventually f = rw (e, f) refl

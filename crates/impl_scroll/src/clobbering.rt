@@ -15,9 +15,9 @@ pub fn clobbered_by(alloc: Global, commands: &[Command]) -> Result<Vec<u32>, All
 {
     let mut ids = Vec::new(alloc);
     for command in commands {
-        if let Command::ScrollTo { id, .. } = command {
-            if !is_among(ids.as_slice(), *id) {
-                ids.push(*id)?;
+        if let Command::ScrollTo(fields) = command {
+            if !is_among(ids.as_slice(), fields.id) {
+                ids.push(fields.id)?;
             }
         }
     }

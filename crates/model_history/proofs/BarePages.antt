@@ -28,7 +28,7 @@ no_pulls k = []
 -- ---- pages
 
 after_bare : (p : Page) (c : Command) → bare (page_after_command p c) ≡ bare (page_after_command (bare p) c)
-after_bare p (command.AddTransform id parent x y scroller) = refl
+after_bare p (command.AddTransform c) = refl
 after_bare p _ = refl
 
 after_alike : (p q : Page) (c : Command) → bare p ≡ bare q → bare (page_after_command p c) ≡ bare (page_after_command q c)
@@ -48,7 +48,7 @@ abbrev pub with_next : Page → Command → Changed → Changed
 with_next p c done = record { list = with_command p c done.list; retiled = done.retiled || retiles p c }
 
 next_bare : (p : Page) (c : Command) (done : Changed) → with_next p c done ≡ with_next (bare p) c done
-next_bare p (command.AddTransform id parent x y scroller) done = refl
+next_bare p (command.AddTransform c) done = refl
 next_bare p _ done = refl
 
 changed_alike : (cs : List Command) (p q : Page) (done : Changed) → bare p ≡ bare q → changed_by p cs done ≡ changed_by q cs done

@@ -98,8 +98,8 @@ rising_some None ds up = up
 rising_some (Some c) ds up = rising_change c ds up
 
 pub rising_command : (p : Page) (c : Command) (ds : List LayerChange) → IsRising ds → IsRising (with_command p c ds)
-rising_command p (command.RemoveLayer id) ds up = rising_without id ds up
-rising_command p (command.AddTransform id parent x y scroller) ds up = up
+rising_command p (command.RemoveLayer c) ds up = rising_without c.id ds up
+rising_command p (command.AddTransform c) ds up = up
 rising_command p c ds up = rising_some (layer_change_of p c) ds up
 
 -- ---- what a list with one change more does not show, neither shows
@@ -190,8 +190,8 @@ still_there i id ls d there = is_false (i == id) (λ e. not_both (has_layer id (
 
 command_parts : (p : Page) (c : Command) (layer : ℕ) (r : Rect) (ds : List LayerChange) → IsPage p → IsRising ds → has_layer layer (page_after_command p c).layers ≡ true → listed_shows layer r (with_command p c ds) ≡ false
     → (listed_shows layer r ds ≡ false) × (some_shows layer r (layer_change_of p c) ≡ false)
-command_parts p (command.RemoveLayer id) layer r ds is up there h = (ap (λ (o : Option LayerChange). may_show_in o r) (sym (other_listed id layer ds (still_there id layer p.layers is.distinct there))) ∙ h, refl)
-command_parts p (command.AddTransform id parent x y scroller) layer r ds is up there h = (h, refl)
+command_parts p (command.RemoveLayer c) layer r ds is up there h = (ap (λ (o : Option LayerChange). may_show_in o r) (sym (other_listed c.id layer ds (still_there c.id layer p.layers is.distinct there))) ∙ h, refl)
+command_parts p (command.AddTransform c) layer r ds is up there h = (h, refl)
 command_parts p c layer r ds is up there h = some_parts layer r (layer_change_of p c) ds up h
 
 -- ---- what a command keeps
@@ -229,7 +229,7 @@ quiet_whole layer r (Some c) out = go (c.layer == layer) out
     go true h = or_left_false c.whole (touched c.rects r) h
 
 same_tile : (p : Page) (c : Command) → retiles p c ≡ false → (page_after_command p c).view.tile ≡ p.view.tile
-same_tile p (command.SetView w h tile) out = eqb-true tile p.view.tile (not_false (tile == p.view.tile) out)
+same_tile p (command.SetView c) out = eqb-true c.tile p.view.tile (not_false (c.tile == p.view.tile) out)
 same_tile p _ out = refl
 
 after_keeps : (p : Page) (c : Command) (layer : ℕ) (r : Rect) → IsPage p → Accepts p c → has_layer layer p.layers ≡ true → has_layer layer (page_after_command p c).layers ≡ true → some_shows layer r (layer_change_of p c) ≡ false → retiles p c ≡ false → KeepsLayer layer r p (page_after_command p c)

@@ -30,7 +30,7 @@ used_more : (id i : ℕ) (used : List ℕ) → is_used id used ≡ true → is_u
 used_more id i used h = list_any-append (λ u. u == id) used (i ∷ []) ∙ ap (λ (b : Bool). b || is_used id (i ∷ [])) h
 
 used_after : (p : Page) (c : Command) (id : ℕ) → is_used id p.used ≡ true → is_used id (page_after_command p c).used ≡ true
-used_after p (command.AddLayer i at transform clip effect w h colour) id u = used_more id i p.used u
+used_after p (command.AddLayer c) id u = used_more id c.id p.used u
 used_after p _ id u = u
 
 used_commanded : (cs : List Command) (p : Page) (id : ℕ) → is_used id p.used ≡ true → is_used id (commanded cs p).used ≡ true
@@ -83,14 +83,14 @@ there_changed i id f keeps ls = go (i == id) refl
 
 -- a layer that is gone stays gone
 none_after : (p : Page) (c : Command) (id : ℕ) → IsPage p → test_of p c ≡ Ok tt → IsGone id p → has_layer id (page_after_command p c).layers ≡ false
-none_after p (command.AddLayer i at transform clip effect w h colour) id is ok g = ap (λ (o : Option PageLayer). is_some o) (found-insert id _ p.layers at (added_other p _ at id ok g.used)) ∙ g.none
-none_after p (command.RemoveLayer i) id is ok g = absent-without id (has_id i) p.layers g.none
-none_after p (command.ResizeLayer i w h) id is ok g = there_changed i id (with_size w h) (λ l. refl) p.layers ∙ g.none
-none_after p (command.SetColour i colour) id is ok g = there_changed i id (with_colour colour) (λ l. refl) p.layers ∙ g.none
-none_after p (command.InsertItem i at item) id is ok g = there_changed i id (with_items _) (λ l. refl) p.layers ∙ g.none
-none_after p (command.RemoveItem i at) id is ok g = there_changed i id (with_items _) (λ l. refl) p.layers ∙ g.none
-none_after p (command.ReplaceItem i at item) id is ok g = there_changed i id (with_items _) (λ l. refl) p.layers ∙ g.none
-none_after p (command.MoveLayer i at) id is ok g = ap (λ (o : Option PageLayer). is_some o) (found-moved i at id p.layers is.distinct) ∙ g.none
+none_after p (command.AddLayer c) id is ok g = ap (λ (o : Option PageLayer). is_some o) (found-insert id _ p.layers c.at (added_other p _ c.at id ok g.used)) ∙ g.none
+none_after p (command.RemoveLayer c) id is ok g = absent-without id (has_id c.id) p.layers g.none
+none_after p (command.ResizeLayer c) id is ok g = there_changed c.id id (with_size c.w c.h) (λ l. refl) p.layers ∙ g.none
+none_after p (command.SetColour c) id is ok g = there_changed c.id id (with_colour c.colour) (λ l. refl) p.layers ∙ g.none
+none_after p (command.InsertItem c) id is ok g = there_changed c.layer id (with_items _) (λ l. refl) p.layers ∙ g.none
+none_after p (command.RemoveItem c) id is ok g = there_changed c.layer id (with_items _) (λ l. refl) p.layers ∙ g.none
+none_after p (command.ReplaceItem c) id is ok g = there_changed c.layer id (with_items _) (λ l. refl) p.layers ∙ g.none
+none_after p (command.MoveLayer c) id is ok g = ap (λ (o : Option PageLayer). is_some o) (found-moved c.id c.at id p.layers is.distinct) ∙ g.none
 none_after p _ id is ok g = g.none
 
 gone_after : (p : Page) (c : Command) (id : ℕ) → IsPage p → Accepts p c → IsGone id p → IsGone id (page_after_command p c)

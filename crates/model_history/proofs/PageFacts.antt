@@ -56,7 +56,7 @@ pulled_values [] p = refl
 pulled_values (m ∷ ms) p = pulled_values ms (scrolled_by p m.scroller m.dx m.dy)
 
 pub after_values : (p : Page) (vs : List (ℕ × Point)) (c : Command) → page_after_command (with_values p vs) c ≡ with_values (page_after_command p c) (page_after_command (with_values p vs) c).values
-after_values p vs (command.AddTransform id parent x y scroller) = refl
+after_values p vs (command.AddTransform c) = refl
 after_values p vs _ = refl
 
 pub commanded_values : (cs : List Command) (p : Page) (vs : List (ℕ × Point))
@@ -87,7 +87,7 @@ page_before_values s ps qs n = before_values s ps qs n (page_values s ps qs n)
 
 test_values : (p : Page) (vs : List (ℕ × Point)) (c : Command) → test_of (with_values p vs) c ≡ test_of p c
 unfolding add_transform_test set_transform_test add_clip_test set_clip_test add_effect_test set_opacity_test add_scroller_test set_range_test scroll_by_test scroll_to_test add_layer_test remove_layer_test resize_layer_test set_colour_test insert_item_test remove_item_test replace_item_test move_layer_test
-test_values p vs (command.AddTransform id parent x y scroller) = refl
+test_values p vs (command.AddTransform c) = refl
 test_values p vs _ = refl
 
 accepts_values : (p : Page) (vs : List (ℕ × Point)) (c : Command) → Accepts p c → Accepts (with_values p vs) c

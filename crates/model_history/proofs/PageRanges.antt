@@ -71,13 +71,13 @@ added_value false node n o ax r = r
 
 -- a command keeps the main values in their ranges
 after_in_range : (p : Page) (c : Command) → InRange p → InRange (page_after_command p c)
-after_in_range p (command.AddScroller id parent x y) r = λ sc ax. added_value (id == sc) (record { parent = parent; max_x = x; max_y = y }) (find sc p.props.scrollers) (find sc p.values) ax (r sc ax)
-after_in_range p (command.SetRange id x y) r =
-    let f : ScrollNode → ScrollNode = λ n. record n { max_x = x; max_y = y } in
-    set_in_range (with_props p (record p.props { scrollers = entries.with_node_changed id (λ n. record n { max_x = x; max_y = y }) p.props.scrollers })) id (main_point p id).x (main_point p id).y
-    (λ sc ax n. subst (λ (o : Option ScrollNode). Fits o (find sc p.values) ax) (sym (find_other id sc (λ n. record n { max_x = x; max_y = y }) p.props.scrollers n)) (r sc ax))
-after_in_range p (command.ScrollBy id dx dy) r = set_in_range p id ((main_point p id).x +ℤ dx) ((main_point p id).y +ℤ dy) (λ sc ax n. r sc ax)
-after_in_range p (command.ScrollTo id x y) r = set_in_range p id (pos x) (pos y) (λ sc ax n. r sc ax)
+after_in_range p (command.AddScroller c) r = λ sc ax. added_value (c.id == sc) (record { parent = c.parent; max_x = c.max_x; max_y = c.max_y }) (find sc p.props.scrollers) (find sc p.values) ax (r sc ax)
+after_in_range p (command.SetRange c) r =
+    let f : ScrollNode → ScrollNode = λ n. record n { max_x = c.max_x; max_y = c.max_y } in
+    set_in_range (with_props p (record p.props { scrollers = entries.with_node_changed c.id (λ n. record n { max_x = c.max_x; max_y = c.max_y }) p.props.scrollers })) c.id (main_point p c.id).x (main_point p c.id).y
+    (λ sc ax n. subst (λ (o : Option ScrollNode). Fits o (find sc p.values) ax) (sym (find_other c.id sc (λ n. record n { max_x = c.max_x; max_y = c.max_y }) p.props.scrollers n)) (r sc ax))
+after_in_range p (command.ScrollBy c) r = set_in_range p c.id ((main_point p c.id).x +ℤ c.dx) ((main_point p c.id).y +ℤ c.dy) (λ sc ax n. r sc ax)
+after_in_range p (command.ScrollTo c) r = set_in_range p c.id (pos c.x) (pos c.y) (λ sc ax n. r sc ax)
 after_in_range p _ r = r
 
 commanded_in_range : (cs : List Command) (p : Page) → InRange p → InRange (commanded cs p)
@@ -111,8 +111,8 @@ added_has true node n h = refl
 added_has false node n h = h
 
 after_has : (p : Page) (c : Command) (sc : ℕ) → has_scroller p sc ≡ true → has_scroller (page_after_command p c) sc ≡ true
-after_has p (command.AddScroller id parent x y) sc h = added_has (id == sc) (record { parent = parent; max_x = x; max_y = y }) (find sc p.props.scrollers) h
-after_has p (command.SetRange id x y) sc h = knows_changed id sc (λ n. record n { max_x = x; max_y = y }) p.props.scrollers ∙ h
+after_has p (command.AddScroller c) sc h = added_has (c.id == sc) (record { parent = c.parent; max_x = c.max_x; max_y = c.max_y }) (find sc p.props.scrollers) h
+after_has p (command.SetRange c) sc h = knows_changed c.id sc (λ n. record n { max_x = c.max_x; max_y = c.max_y }) p.props.scrollers ∙ h
 after_has p _ sc h = h
 
 commanded_has : (cs : List Command) (p : Page) (sc : ℕ) → has_scroller p sc ≡ true → has_scroller (commanded cs p) sc ≡ true

@@ -75,12 +75,12 @@ changed_short id sc x y nodes ax a b l = by_test (id == sc) same other
     other t = subst (λ (o : Option ScrollNode). end_of o ax ≤ 1048576) (sym (find_other id sc (λ n. record n { max_x = x; max_y = y }) nodes (other_number id sc t))) l
 
 after_short : (p : Page) (c : Command) → AreShort p → test_of p c ≡ Ok tt → AreShort (page_after_command p c)
-after_short p (command.AddScroller id parent x y) r ok =
-    let l = add_range p id parent x y ok in
-    λ sc ax. added_short (id == sc) (record { parent = parent; max_x = x; max_y = y }) (find sc p.props.scrollers) ax (short_node parent x y l.0 l.1 ax) (r sc ax)
-after_short p (command.SetRange id x y) r ok =
-    let l = set_range p id x y ok in
-    λ sc ax. changed_short id sc x y p.props.scrollers ax l.0 l.1 (r sc ax)
+after_short p (command.AddScroller c) r ok =
+    let l = add_range p c.id c.parent c.max_x c.max_y ok in
+    λ sc ax. added_short (c.id == sc) (record { parent = c.parent; max_x = c.max_x; max_y = c.max_y }) (find sc p.props.scrollers) ax (short_node c.parent c.max_x c.max_y l.0 l.1 ax) (r sc ax)
+after_short p (command.SetRange c) r ok =
+    let l = set_range p c.id c.max_x c.max_y ok in
+    λ sc ax. changed_short c.id sc c.max_x c.max_y p.props.scrollers ax l.0 l.1 (r sc ax)
 after_short p _ r ok = r
 
 commanded_short : (cs : List Command) (p : Page) → AreShort p → TakesAll p cs → AreShort (commanded cs p)

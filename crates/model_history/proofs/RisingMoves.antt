@@ -84,8 +84,8 @@ abbrev HasDistinct : Page → Type 0
 HasDistinct p = AreDistinctIds p.props.scrollers
 
 after_distinct : (p : Page) (c : Command) → HasDistinct p → test_of p c ≡ Ok tt → HasDistinct (page_after_command p c)
-after_distinct p (command.AddScroller id parent x y) d ok = (fresh_id p id parent x y ok, d)
-after_distinct p (command.SetRange id x y) d ok = distinct_changed id (λ n. record n { max_x = x; max_y = y }) p.props.scrollers d
+after_distinct p (command.AddScroller c) d ok = (fresh_id p c.id c.parent c.max_x c.max_y ok, d)
+after_distinct p (command.SetRange c) d ok = distinct_changed c.id (λ n. record n { max_x = c.max_x; max_y = c.max_y }) p.props.scrollers d
 after_distinct p _ d ok = d
 
 commanded_distinct : (cs : List Command) (p : Page) → HasDistinct p → TakesAll p cs → HasDistinct (commanded cs p)

@@ -199,9 +199,9 @@ same_list : (c d : Changed) → SameChanges c d → SameList c.list d.list
 same_list c d s = (s.listed, s.whole, s.points)
 
 -- a command that removes no layer
-listed_with : (p : Page) (c : Command) (ds : List LayerChange) → ((id : ℕ) → c ≡ command.RemoveLayer id → ⊥) → with_command p c ds ≡ with_some (layer_change_of p c) ds
-listed_with p (command.RemoveLayer id) ds out = absurd (out id refl)
-listed_with p (command.AddTransform id parent x y scroller) ds out = refl
+listed_with : (p : Page) (c : Command) (ds : List LayerChange) → ((id : ℕ) → c ≡ command.RemoveLayer (record { id = id }) → ⊥) → with_command p c ds ≡ with_some (layer_change_of p c) ds
+listed_with p (command.RemoveLayer c) ds out = absurd (out c.id refl)
+listed_with p (command.AddTransform c) ds out = refl
 listed_with p _ ds out = refl
 
 or_false : (b : Bool) → b ≡ b || false
@@ -209,7 +209,7 @@ or_false true = refl
 or_false false = refl
 
 -- what a command lists is noted
-pub noted_removal : (id : ℕ) (listed old new : Changed) → new ≡ record old { list = without_layer id old.list } → Noted (command.RemoveLayer id) listed old new
+pub noted_removal : (id : ℕ) (listed old new : Changed) → new ≡ record old { list = without_layer id old.list } → Noted (command.RemoveLayer (record { id = id })) listed old new
 noted_removal id listed old new is p done lists same =
     let list : new.list ≡ without_layer id old.list = ap (λ (c : Changed). c.list) is in
     let kept : SameList (without_layer id old.list) (without_layer id done.list) = same_without id old.list done.list (same_list old done same) in
@@ -220,7 +220,7 @@ noted_removal id listed old new is p done lists same =
       retiled = ap (λ (c : Changed). c.retiled) is ∙ (same.retiled ∙ or_false done.retiled);
     }
 
-noted_joined : (c : Command) (listed old new : Changed) → ((id : ℕ) → c ≡ command.RemoveLayer id → ⊥) → AreJoined old.list listed.list new.list → new.retiled ≡ (old.retiled || listed.retiled) → Noted c listed old new
+noted_joined : (c : Command) (listed old new : Changed) → ((id : ℕ) → c ≡ command.RemoveLayer (record { id = id }) → ⊥) → AreJoined old.list listed.list new.list → new.retiled ≡ (old.retiled || listed.retiled) → Noted c listed old new
 noted_joined c listed old new out joined tiles p done lists same =
     let list : with_command p c done.list ≡ with_some (layer_change_of p c) done.list = listed_with p c done.list out in
     let all : SameList new.list (with_some (layer_change_of p c) done.list) = same_some (layer_change_of p c) listed.list old.list new.list done.list lists.holds joined (same_list old done same) in
@@ -231,7 +231,7 @@ noted_joined c listed old new out joined tiles p done lists same =
       retiled = tiles ∙ (ap (λ b. b || listed.retiled) same.retiled ∙ ap (λ b. done.retiled || b) lists.retiled);
     }
 
-pub noted_join : (r : Result (Unit {0}) AllocError) (c : Command) (listed old new : Changed) → ((id : ℕ) → c ≡ command.RemoveLayer id → ⊥)
+pub noted_join : (r : Result (Unit {0}) AllocError) (c : Command) (listed old new : Changed) → ((id : ℕ) → c ≡ command.RemoveLayer (record { id = id }) → ⊥)
     → OnOk r (AreJoined old.list listed.list new.list) → OnOk r (new.retiled ≡ (old.retiled || listed.retiled)) → OnOk r (Noted c listed old new)
 noted_join (Ok u) c listed old new out joined tiles = noted_joined c listed old new out joined tiles
 noted_join (Err e) c listed old new out joined tiles = tt

@@ -52,26 +52,26 @@ item_in_range (item.Bitmap picture) = is_rect picture.rect && is_picture picture
 
 -- a command whose numbers fit 32 bits, of a script of this version: `set_view` is of version 2 alone
 abbrev pub command_in_range : ℕ → Command → Bool
-command_in_range version (AddTransform id parent x y scroller) = is_u32 id && is_u32 parent && is_signed x && is_signed y && is_u32 scroller
-command_in_range version (SetTransform id x y) = is_u32 id && is_signed x && is_signed y
-command_in_range version (AddClip id parent transform rect) = is_u32 id && is_u32 parent && is_u32 transform && is_rect rect
-command_in_range version (SetClip id rect) = is_u32 id && is_rect rect
-command_in_range version (AddEffect id parent opacity) = is_u32 id && is_u32 parent && is_u32 opacity
-command_in_range version (SetOpacity id opacity) = is_u32 id && is_u32 opacity
-command_in_range version (AddScroller id parent max_x max_y) = is_u32 id && is_u32 parent && is_u32 max_x && is_u32 max_y
-command_in_range version (SetRange id max_x max_y) = is_u32 id && is_u32 max_x && is_u32 max_y
-command_in_range version (ScrollBy id dx dy) = is_u32 id && is_signed dx && is_signed dy
-command_in_range version (ScrollTo id x y) = is_u32 id && is_u32 x && is_u32 y
-command_in_range version (AddLayer id place transform clip effect w h colour) =
-    is_u32 id && is_u32 place && is_u32 transform && is_u32 clip && is_u32 effect && is_u32 w && is_u32 h && is_colour colour
-command_in_range version (RemoveLayer id) = is_u32 id
-command_in_range version (ResizeLayer id w h) = is_u32 id && is_u32 w && is_u32 h
-command_in_range version (SetColour id colour) = is_u32 id && is_colour colour
-command_in_range version (InsertItem layer place item) = is_u32 layer && is_u32 place && item_in_range item
-command_in_range version (RemoveItem layer place) = is_u32 layer && is_u32 place
-command_in_range version (ReplaceItem layer place item) = is_u32 layer && is_u32 place && item_in_range item
-command_in_range version (MoveLayer id place) = is_u32 id && is_u32 place
-command_in_range version (SetView w h tile) = (version == 2) && is_u32 w && is_u32 h && is_u32 tile
+command_in_range version (AddTransform c) = is_u32 c.id && is_u32 c.parent && is_signed c.x && is_signed c.y && is_u32 c.scroller
+command_in_range version (SetTransform c) = is_u32 c.id && is_signed c.x && is_signed c.y
+command_in_range version (AddClip c) = is_u32 c.id && is_u32 c.parent && is_u32 c.transform && is_rect c.rect
+command_in_range version (SetClip c) = is_u32 c.id && is_rect c.rect
+command_in_range version (AddEffect c) = is_u32 c.id && is_u32 c.parent && is_u32 c.opacity
+command_in_range version (SetOpacity c) = is_u32 c.id && is_u32 c.opacity
+command_in_range version (AddScroller c) = is_u32 c.id && is_u32 c.parent && is_u32 c.max_x && is_u32 c.max_y
+command_in_range version (SetRange c) = is_u32 c.id && is_u32 c.max_x && is_u32 c.max_y
+command_in_range version (ScrollBy c) = is_u32 c.id && is_signed c.dx && is_signed c.dy
+command_in_range version (ScrollTo c) = is_u32 c.id && is_u32 c.x && is_u32 c.y
+command_in_range version (AddLayer c) =
+    is_u32 c.id && is_u32 c.at && is_u32 c.transform && is_u32 c.clip && is_u32 c.effect && is_u32 c.w && is_u32 c.h && is_colour c.colour
+command_in_range version (RemoveLayer c) = is_u32 c.id
+command_in_range version (ResizeLayer c) = is_u32 c.id && is_u32 c.w && is_u32 c.h
+command_in_range version (SetColour c) = is_u32 c.id && is_colour c.colour
+command_in_range version (InsertItem c) = is_u32 c.layer && is_u32 c.at && item_in_range c.item
+command_in_range version (RemoveItem c) = is_u32 c.layer && is_u32 c.at
+command_in_range version (ReplaceItem c) = is_u32 c.layer && is_u32 c.at && item_in_range c.item
+command_in_range version (MoveLayer c) = is_u32 c.id && is_u32 c.at
+command_in_range version (SetView c) = (version == 2) && is_u32 c.w && is_u32 c.h && is_u32 c.tile
 
 -- one axis of a scroll or a wheel: at most 2^20 either way
 abbrev pub is_amount : ℤ → Bool
@@ -119,7 +119,7 @@ main_in_range version main = nat_le (length main) max_frames && list_all (list_a
 abbrev pub inputs_in_range : ℕ → List Input → Bool
 inputs_in_range frames inputs = nat_le (length inputs) max_inputs && list_all (input_in_range frames) inputs && nat_le (draw_count inputs) max_draws
 
--- a script that the format can say
+-- a script that the format can say: each number in its range, the lengths of the lists, `set_view` in version 2 alone, each await of a main frame that is there, at most 4096 draws
 unfoldable pub is_in_ranges : ScriptModel → Bool
 is_in_ranges s = head_in_range s && main_in_range s.version s.main && inputs_in_range (length s.main) s.inputs
 

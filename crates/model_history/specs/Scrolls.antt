@@ -1,6 +1,6 @@
 -- Where the scrollers stand: the sums of all that has moved them.
 --
--- A move that an event accepts is carried by the first `send` after it. It is in the base where that frame was aborted, or committed and activated; else it is in the delta.
+-- A move that an event accepts is carried by the first `send` after it. It is in the base if that frame was aborted, or committed and activated; else it is in the delta.
 use Rattle.std.specs.Prelude.{ℕ, zero, suc, ℤ, pos, ◌+ℤ◌, ◌-ℤ◌, Bool, true, false, cond, not, ◌==◌, ◌||◌, List, [], ◌∷◌, Option, Some, None}
 use Rattle.std.specs.List.{list_any}
 use Rattle.std.specs.Option.{option_or}
@@ -17,12 +17,12 @@ use Rattle.page_layers.specs.Axes.{Axis, amount_in, listed, named_in, with_numbe
 use Rattle.page_layers.specs.Scrollers.{scrollers, most, offsets_in, amount_taken}
 use Rattle.model_history.specs.Frames.{commands_of, main_move, pulls_of, active, pending, up_to, active_page, pending_page}
 
--- the moves of one event added to a sum, where they count; where there are none, nothing is
+-- the moves of one event added to a sum, if they count; if there are none, nothing is
 abbrev pub plus_counted : ℕ → Axis → List Move → Bool → ℤ → ℤ
 plus_counted sc ax [] counts z = z
 plus_counted sc ax (m ∷ ms) counts z = cond counts (amount_in sc ax (m ∷ ms)) (pos 0) +ℤ z
 
--- the sum of the accepted moves whose carrier counts, where `carrier` is the frame of the first `send` after this past, if there is one
+-- the sum of the accepted moves whose carrier passes the test `counts`; `carrier` is the frame of the first `send` after this past, if there is one
 abbrev pub sum_of_moves : ScriptModel → ℕ → Axis → (Option ℕ → Bool) → Option ℕ → List Entry → ℤ
 sum_of_moves s sc ax counts carrier [] = pos 0
 sum_of_moves s sc ax counts carrier (e ∷ h) = plus_counted sc ax (moves s e.event) (counts carrier) (sum_of_moves s sc ax counts (option_or (sends e.event) carrier) h)
@@ -36,7 +36,7 @@ not_sent (Some k) = false
 abbrev pub by_send : ℕ → Option ℕ → Bool
 by_send k c = names c k
 
--- the move is in the base, where these frames were retired; else it is in the delta
+-- the move is in the base, if these frames were retired; else it is in the delta
 abbrev pub in_base : (ℕ → Bool) → Option ℕ → Bool
 in_base retired None = false
 in_base retired (Some k) = retired k
@@ -53,14 +53,14 @@ abbrev pub main_moves : ScriptModel → (ℕ → List Move) → (ℕ → Bool) �
 main_moves s ps committed sc ax zero = pos 0
 main_moves s ps committed sc ax (suc k) = main_moves s ps committed sc ax k +ℤ cond (committed k) (main_move s ps k sc ax) (pos 0)
 
--- base and delta where frame a is active and these frames were retired
+-- base and delta if frame a is active and these frames were retired
 abbrev pub base_of : ScriptModel → List Entry → Option ℕ → (ℕ → Bool) → ℕ → Axis → ℤ
 base_of s h a retired sc ax = main_moves s (pulls_of h) (was_named commits h) sc ax (up_to a) +ℤ sum_of_moves s sc ax (in_base retired) None h
 
 abbrev pub delta_of : ScriptModel → List Entry → (ℕ → Bool) → ℕ → Axis → ℤ
 delta_of s h retired sc ax = sum_of_moves s sc ax (in_delta retired) None h
 
--- the base, the delta and the offset of a scroller
+-- of a scroller the base, which is the main moves of the committed frames up to the active one and the moves whose carrier was aborted or activated; the delta, which is all other moves; and the offset, the sum of both
 abbrev pub base : ScriptModel → List Entry → ℕ → Axis → ℤ
 base s h sc ax = base_of s h (active h) (was_named retires h) sc ax
 
@@ -86,15 +86,15 @@ offset_then s h sc ax = pending_base s h sc ax +ℤ delta_of s h (retired_then h
 
 -- whether a command sets the value of a scroller outright
 abbrev pub scrolls_to : ℕ → Command → Bool
-scrolls_to sc (command.ScrollTo id x y) = id == sc
+scrolls_to sc (command.ScrollTo c) = c.id == sc
 scrolls_to sc _ = false
 
--- a commit clobbers a scroller where its main frame has a `scroll_to` of it
+-- a commit clobbers a scroller if its main frame has a `scroll_to` of it
 abbrev pub clobbers : ScriptModel → Option ℕ → ℕ → Bool
 clobbers s None sc = false
 clobbers s (Some k) sc = list_any (scrolls_to sc) (commands_of s k)
 
--- where a scroller stands in the pending commit: at the pending base where that commit clobbers it, else where it would stand if that commit were active, clamped to its range there
+-- where a scroller stands in the pending commit: at the pending base if that commit clobbers it, else where it would stand if that commit were active, clamped to its range there
 abbrev pub pending_offset : ScriptModel → List Entry → ℕ → Axis → ℤ
 pending_offset s h sc ax =
     cond (clobbers s (pending h) sc) (pending_base s h sc ax) (clamp_to (most (pending_page s h) sc ax) (offset_then s h sc ax))
@@ -116,7 +116,7 @@ abbrev pub scrollers_moved : ScriptModel → List Entry → List ℕ
 scrollers_moved s [] = []
 scrollers_moved s (e ∷ h) = with_numbers (named_in (moves s e.event)) (scrollers_moved s h)
 
--- what the next send lists: each scroller that has moved since the last send, with the sum of its moves
+-- what the next send lists: by rising id each scroller whose moves since the last send do not add up to (0, 0), with their sum
 abbrev pub next_pulls : ScriptModel → List Entry → List Move
 next_pulls s h = listed (unsent s h) (scrollers_moved s h)
 

@@ -17,7 +17,7 @@ use Rattle.model_history.specs.Scripts.{ScriptModel}
 use Rattle.tile_visible.specs.Visible.{grid_of}
 use Rattle.model_history.specs.Frames.{commands_of, page, page_before}
 
--- a change of a layer after an earlier one of the same layer: whole where one of the two is, and what the two cover
+-- a change of a layer after an earlier one of the same layer: whole if one of the two is, and what the two cover
 abbrev pub with_later : LayerChange → Change → LayerChange
 with_later before c = record { layer = before.layer; whole = before.whole || c.whole; region = before.region ++ c.rects }
 
@@ -25,7 +25,7 @@ with_later before c = record { layer = before.layer; whole = before.whole || c.w
 abbrev pub alone : Change → LayerChange
 alone c = record { layer = c.layer; whole = c.whole; region = c.rects }
 
--- a list of changes, one a layer by rising id, with one change more
+-- a list of changes, one a layer by rising id, with one change more: whole if it or the earlier one of its layer is, with the rects of both; and the same if there is a change
 abbrev pub with_change : Change → List LayerChange → List LayerChange
 with_change c [] = alone c ∷ []
 with_change c (d ∷ ds) = cond (d.layer == c.layer) (with_later d c ∷ ds) (cond (nat_lt d.layer c.layer) (d ∷ with_change c ds) (alone c ∷ d ∷ ds))
@@ -36,10 +36,10 @@ with_some (Some c) ds = with_change c ds
 
 -- the changes of some commands with those of one more, which acts on this page; a layer that it removes is no longer listed
 abbrev pub with_command : Page → Command → List LayerChange → List LayerChange
-with_command p (command.RemoveLayer id) ds = without_layer id ds
+with_command p (command.RemoveLayer c) ds = without_layer c.id ds
 with_command p c ds = with_some (layer_change_of p c) ds
 
--- the changes of these commands together, the first of which acts on this page, after those of earlier ones
+-- the changes of these commands in order, each on the page that those before it left, after earlier changes; and whether one retiled
 abbrev pub changed_by : Page → List Command → Changed → Changed
 changed_by p [] done = done
 changed_by p (c ∷ cs) done = changed_by (page_after_command p c) cs (record { list = with_command p c done.list; retiled = done.retiled || retiles p c })
@@ -57,12 +57,12 @@ abbrev pub commits_to : ScriptModel → (ℕ → List Move) → ℕ → List Com
 commits_to s ps zero = []
 commits_to s ps (suc k) = record { frame = k; changed = frame_changes s ps k } ∷ commits_to s ps k
 
--- the rect of a place of a layer, where the page has the layer
+-- the rect of a place of a layer, if the page has the layer
 abbrev pub place_rect : Page → Place → Option PageLayer → Rect
 place_rect p place None = empty_rect
 place_rect p place (Some l) = rect_of_place (grid_of p l) place
 
--- the stamp of a place of a layer in page n
+-- the stamp of a place of a layer in page n: the last of the first n frames that changed what the place shows or retiled, 0 if none did
 unfoldable pub stamp_in : ScriptModel → (ℕ → List Move) → ℕ → ℕ → Place → ℕ
 stamp_in s ps n layer place =
     unwrap_or (stamp_of layer (place_rect (page s ps n) place (find (has_id layer) (page s ps n).layers)) (commits_to s ps n)) 0

@@ -44,8 +44,8 @@ fn note(changes: &mut Changes, command: &Command, listed: &Changes) -> Result<()
     ensures { OnOk result (Noted command.now listed.now changes.old changes.new) }
 {
     match command {
-        Command::RemoveLayer { id } => {
-            changes.forget(*id);
+        Command::RemoveLayer(fields) => {
+            changes.forget(fields.id);
             Ok(())
         }
         _ => changes.join(listed),

@@ -122,14 +122,14 @@ still_there i id ls d there = is_false (i == id) (λ e. not_both (has_layer id (
 
 command_whole : (p : Page) (c : Command) (id : ℕ) (ds : List LayerChange) → IsPage p → has_layer id (page_after_command p c).layers ≡ true → is_listed_whole (with_command p c ds) id ≡ false
     → (is_listed_whole ds id ≡ false) × (is_changed_whole (layer_change_of p c) id ≡ false)
-command_whole p (command.RemoveLayer i) id ds is there h = (sym (whole_without i id ds (still_there i id p.layers is.distinct there)) ∙ h, refl)
-command_whole p (command.AddTransform i parent x y scroller) id ds is there h = (h, refl)
+command_whole p (command.RemoveLayer c) id ds is there h = (sym (whole_without c.id id ds (still_there c.id id p.layers is.distinct there)) ∙ h, refl)
+command_whole p (command.AddTransform c) id ds is there h = (h, refl)
 command_whole p c id ds is there h = some_whole (layer_change_of p c) ds id h
 
 command_listed : (p : Page) (c : Command) (id : ℕ) (ds : List LayerChange) → IsPage p → has_layer id (page_after_command p c).layers ≡ true → is_listed (with_command p c ds) id ≡ false
     → (is_listed ds id ≡ false) × (names (layer_change_of p c) id ≡ false)
-command_listed p (command.RemoveLayer i) id ds is there h = (sym (listed_without i id ds (still_there i id p.layers is.distinct there)) ∙ h, refl)
-command_listed p (command.AddTransform i parent x y scroller) id ds is there h = (h, refl)
+command_listed p (command.RemoveLayer c) id ds is there h = (sym (listed_without c.id id ds (still_there c.id id p.layers is.distinct there)) ∙ h, refl)
+command_listed p (command.AddTransform c) id ds is there h = (h, refl)
 command_listed p c id ds is there h = some_listed (layer_change_of p c) ds id h
 
 -- what is read of a layer that a command changes elsewhere
@@ -168,14 +168,14 @@ and_true_false false h = refl
 
 -- a layer that is there after a command that does not list it whole was there before
 there_before : (p : Page) (c : Command) (id : ℕ) → IsPage p → has_layer id (page_after_command p c).layers ≡ true → is_changed_whole (layer_change_of p c) id ≡ false → has_layer id p.layers ≡ true
-there_before p (command.AddLayer i at transform clip effect w h colour) id is there out = sym (ap is_some (found-insert id _ p.layers at (and_true_false (i == id) out))) ∙ there
-there_before p (command.RemoveLayer i) id is there out = not_absent (has_layer id p.layers) (λ none. not_both (has_layer id (layers.without_first (has_id i) p.layers)) there (absent-without id (has_id i) p.layers none))
-there_before p (command.ResizeLayer i w h) id is there out = sym (there_changed i id (with_size w h) (λ l. refl) p.layers) ∙ there
-there_before p (command.SetColour i colour) id is there out = sym (there_changed i id (with_colour colour) (λ l. refl) p.layers) ∙ there
-there_before p (command.InsertItem i at item) id is there out = sym (there_changed i id (with_items _) (λ l. refl) p.layers) ∙ there
-there_before p (command.RemoveItem i at) id is there out = sym (there_changed i id (with_items _) (λ l. refl) p.layers) ∙ there
-there_before p (command.ReplaceItem i at item) id is there out = sym (there_changed i id (with_items _) (λ l. refl) p.layers) ∙ there
-there_before p (command.MoveLayer i at) id is there out = sym (ap is_some (found-moved i at id p.layers is.distinct)) ∙ there
+there_before p (command.AddLayer c) id is there out = sym (ap is_some (found-insert id _ p.layers c.at (and_true_false (c.id == id) out))) ∙ there
+there_before p (command.RemoveLayer c) id is there out = not_absent (has_layer id p.layers) (λ none. not_both (has_layer id (layers.without_first (has_id c.id) p.layers)) there (absent-without id (has_id c.id) p.layers none))
+there_before p (command.ResizeLayer c) id is there out = sym (there_changed c.id id (with_size c.w c.h) (λ l. refl) p.layers) ∙ there
+there_before p (command.SetColour c) id is there out = sym (there_changed c.id id (with_colour c.colour) (λ l. refl) p.layers) ∙ there
+there_before p (command.InsertItem c) id is there out = sym (there_changed c.layer id (with_items _) (λ l. refl) p.layers) ∙ there
+there_before p (command.RemoveItem c) id is there out = sym (there_changed c.layer id (with_items _) (λ l. refl) p.layers) ∙ there
+there_before p (command.ReplaceItem c) id is there out = sym (there_changed c.layer id (with_items _) (λ l. refl) p.layers) ∙ there
+there_before p (command.MoveLayer c) id is there out = sym (ap is_some (found-moved c.id c.at id p.layers is.distinct)) ∙ there
 there_before p _ id is there out = there
 
 abbrev shown : Option PageLayer → Option (List Item)
@@ -183,18 +183,18 @@ shown o = option_map (λ l. l.items) o
 
 -- the items of a layer that a command does not list
 command_items : (p : Page) (c : Command) (id : ℕ) → IsPage p → has_layer id (page_after_command p c).layers ≡ true → names (layer_change_of p c) id ≡ false → items_of (page_after_command p c) id ≡ items_of p id
-command_items p (command.AddLayer i at transform clip effect w h colour) id is there out = ap shown (found-insert id _ p.layers at out)
-command_items p (command.RemoveLayer i) id is there out = ap shown (found-without i id p.layers (still_there i id p.layers is.distinct there))
-command_items p (command.ResizeLayer i w h) id is there out = ap shown (found-other i id (with_size w h) (λ l. refl) p.layers out)
-command_items p (command.SetColour i colour) id is there out = view_changed (λ l. l.items) i id (with_colour colour) (λ l. refl) (λ l. refl) p.layers
-command_items p (command.InsertItem i at item) id is there out = ap shown (found-other i id (with_items _) (λ l. refl) p.layers out)
-command_items p (command.RemoveItem i at) id is there out = ap shown (found-other i id (with_items _) (λ l. refl) p.layers out)
-command_items p (command.ReplaceItem i at item) id is there out = ap shown (found-other i id (with_items _) (λ l. refl) p.layers out)
-command_items p (command.MoveLayer i at) id is there out = ap shown (found-moved i at id p.layers is.distinct)
+command_items p (command.AddLayer c) id is there out = ap shown (found-insert id _ p.layers c.at out)
+command_items p (command.RemoveLayer c) id is there out = ap shown (found-without c.id id p.layers (still_there c.id id p.layers is.distinct there))
+command_items p (command.ResizeLayer c) id is there out = ap shown (found-other c.id id (with_size c.w c.h) (λ l. refl) p.layers out)
+command_items p (command.SetColour c) id is there out = view_changed (λ l. l.items) c.id id (with_colour c.colour) (λ l. refl) (λ l. refl) p.layers
+command_items p (command.InsertItem c) id is there out = ap shown (found-other c.layer id (with_items _) (λ l. refl) p.layers out)
+command_items p (command.RemoveItem c) id is there out = ap shown (found-other c.layer id (with_items _) (λ l. refl) p.layers out)
+command_items p (command.ReplaceItem c) id is there out = ap shown (found-other c.layer id (with_items _) (λ l. refl) p.layers out)
+command_items p (command.MoveLayer c) id is there out = ap shown (found-moved c.id c.at id p.layers is.distinct)
 command_items p _ id is there out = refl
 
 command_tile : (p : Page) (c : Command) → retiles p c ≡ false → (page_after_command p c).view.tile ≡ p.view.tile
-command_tile p (command.SetView w h tile) out = eqb-true tile p.view.tile (not_false (tile == p.view.tile) out)
+command_tile p (command.SetView c) out = eqb-true c.tile p.view.tile (not_false (c.tile == p.view.tile) out)
 command_tile p _ out = refl
 
 -- ---- the commands of a frame

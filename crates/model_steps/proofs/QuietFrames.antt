@@ -133,7 +133,7 @@ stamp_quiet s ps layer r m k le quiet =
 -- ---- what a frame changes does not depend on pulls
 
 next_values : (p : Page) (vs : List (ℕ × Point)) (c : Command) (done : Changed) → with_next (with_values p vs) c done ≡ with_next p c done
-next_values p vs (command.AddTransform id parent x y scroller) done = refl
+next_values p vs (command.AddTransform c) done = refl
 next_values p vs _ done = refl
 
 changed_values : (cs : List Command) (p : Page) (vs : List (ℕ × Point)) (done : Changed) → changed_by (with_values p vs) cs done ≡ changed_by p cs done

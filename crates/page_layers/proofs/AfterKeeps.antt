@@ -114,7 +114,7 @@ effects-known : (props : Props) (used : List ℕ) (ls : List PageLayer) → AllB
 effects-known props used [] all = tt
 effects-known props used (l ∷ ls) all = (all.0.effect, effects-known props used ls all.1)
 
-after-add_effect : (p : Page) (id parent opacity : ℕ) → IsPage p → test_of p (command.AddEffect id parent opacity) ≡ Ok tt → IsPage (page_after_command p (command.AddEffect id parent opacity))
+after-add_effect : (p : Page) (id parent opacity : ℕ) → IsPage p → test_of p (command.AddEffect (record { id = id; parent = parent; opacity = opacity })) ≡ Ok tt → IsPage (page_after_command p (command.AddEffect (record { id = id; parent = parent; opacity = opacity })))
 unfolding add_effect_test takes
 after-add_effect p id parent opacity h ok =
     let known = passed (require (is_known parent p.props.effects) fault.UnknownId) _ tt ok in
@@ -141,7 +141,7 @@ after-scrolled p id x y h = record {
   values = values-set id (clamped_in (find id p.props.scrollers) x y) p.props.scrollers p.values (λ n found. let old = values-in_range id n p.props.scrollers p.values h.values found in clamped_in_range id x y p.props.scrollers n old.0.bounded old.1.bounded found) h.values;
 }
 
-after-set_range : (p : Page) (id max_x max_y : ℕ) → IsPage p → test_of p (command.SetRange id max_x max_y) ≡ Ok tt → IsPage (page_after_command p (command.SetRange id max_x max_y))
+after-set_range : (p : Page) (id max_x max_y : ℕ) → IsPage p → test_of p (command.SetRange (record { id = id; max_x = max_x; max_y = max_y })) ≡ Ok tt → IsPage (page_after_command p (command.SetRange (record { id = id; max_x = max_x; max_y = max_y })))
 unfolding set_range_test
 after-set_range p id max_x max_y h ok =
     let known = passed (require (knows id p.props.scrollers) fault.UnknownId) _ tt ok in
@@ -151,7 +151,7 @@ after-set_range p id max_x max_y h ok =
     let fits = clamped_in_range id (main_point p id).x (main_point p id).y ranges (record node.0 { max_x = max_x; max_y = max_y }) size.0 size.1 (found-changed id (λ n. record n { max_x = max_x; max_y = max_y }) p.props.scrollers node.0 node.1) in
     after-scrollers p ranges _ (values-ranged id max_x max_y (clamped_in (find id ranges) (main_point p id).x (main_point p id).y) p.props.scrollers p.values fits.0 fits.1 h.values) h
 
-after-add_scroller : (p : Page) (id parent max_x max_y : ℕ) → IsPage p → test_of p (command.AddScroller id parent max_x max_y) ≡ Ok tt → IsPage (page_after_command p (command.AddScroller id parent max_x max_y))
+after-add_scroller : (p : Page) (id parent max_x max_y : ℕ) → IsPage p → test_of p (command.AddScroller (record { id = id; parent = parent; max_x = max_x; max_y = max_y })) ≡ Ok tt → IsPage (page_after_command p (command.AddScroller (record { id = id; parent = parent; max_x = max_x; max_y = max_y })))
 unfolding add_scroller_test
 after-add_scroller p id parent max_x max_y h ok =
     let known = passed (require (is_known parent p.props.scrollers) fault.UnknownId) _ tt ok in
@@ -172,7 +172,7 @@ after-layer p id f ids effects fits h = record {
   values = h.values;
 }
 
-after-resize_layer : (p : Page) (id w h : ℕ) → IsPage p → test_of p (command.ResizeLayer id w h) ≡ Ok tt → IsPage (page_after_command p (command.ResizeLayer id w h))
+after-resize_layer : (p : Page) (id w h : ℕ) → IsPage p → test_of p (command.ResizeLayer (record { id = id; w = w; h = h })) ≡ Ok tt → IsPage (page_after_command p (command.ResizeLayer (record { id = id; w = w; h = h })))
 unfolding resize_layer_test
 after-resize_layer p id w h' h ok =
     let known = passed (require (has_layer id p.layers) fault.UnknownId) _ tt ok in
@@ -182,7 +182,7 @@ after-resize_layer p id w h' h ok =
 after-shown : (p : Page) (id : ℕ) (f : PageLayer → PageLayer) → IsPage p → IsPage (with_layer_changed p id (λ l. record l { colour = (f l).colour; items = (f l).items }))
 after-shown p id f h = after-layer p id (λ l. record l { colour = (f l).colour; items = (f l).items }) (λ l. refl) (λ l. refl) (λ l k. record { transform = k.transform; clip = k.clip; effect = k.effect; id_used = k.id_used; id = k.id; size = k.size }) h
 
-after-remove_layer : (p : Page) (id : ℕ) → IsPage p → IsPage (page_after_command p (command.RemoveLayer id))
+after-remove_layer : (p : Page) (id : ℕ) → IsPage p → IsPage (page_after_command p (command.RemoveLayer (record { id = id })))
 after-remove_layer p id h = record {
   view = h.view;
   few = omega (arith, h.few, length-without (has_id id) p.layers);
@@ -192,7 +192,7 @@ after-remove_layer p id h = record {
   values = h.values;
 }
 
-after-move_layer : (p : Page) (id at : ℕ) → IsPage p → test_of p (command.MoveLayer id at) ≡ Ok tt → StandTogether (page_after_command p (command.MoveLayer id at)) → IsPage (page_after_command p (command.MoveLayer id at))
+after-move_layer : (p : Page) (id at : ℕ) → IsPage p → test_of p (command.MoveLayer (record { id = id; at = at })) ≡ Ok tt → StandTogether (page_after_command p (command.MoveLayer (record { id = id; at = at }))) → IsPage (page_after_command p (command.MoveLayer (record { id = id; at = at })))
 unfolding move_layer_test
 after-move_layer p id at h ok stand =
     let known = passed (require (has_layer id p.layers) fault.UnknownId) _ tt ok in
@@ -229,7 +229,7 @@ after-add_layer p l at h ok stand =
       values = h.values;
     }
 
-after-set_view : (p : Page) (w h tile : ℕ) → IsPage p → set_view_test w h tile ≡ Ok tt → IsPage (page_after_command p (command.SetView w h tile))
+after-set_view : (p : Page) (w h tile : ℕ) → IsPage p → set_view_test w h tile ≡ Ok tt → IsPage (page_after_command p (command.SetView (record { w = w; h = h; tile = tile })))
 after-set_view p w h tile k ok = record {
   view = view_facts w h tile ok;
   few = k.few;
@@ -241,25 +241,25 @@ after-set_view p w h tile k ok = record {
 
 -- a page stays a page
 pub after-keeps : (p : Page) (c : Command) → IsPage p → test_of p c ≡ Ok tt → (may_part c ≡ true → StandTogether (page_after_command p c)) → IsPage (page_after_command p c)
-after-keeps p (command.AddTransform id parent x y scroller) h ok stand = after-transforms p _ (λ n. is_known-more n id (record { parent = parent; x = x; y = y; scroller = scroller }) p.props.transforms) h
-after-keeps p (command.SetTransform id x y) h ok stand = after-transforms p _ (λ n. is_known-changed n id (λ t. record t { x = x; y = y }) p.props.transforms) h
-after-keeps p (command.AddClip id parent transform rect) h ok stand = after-clips p _ (λ n. is_known-more n id (record { parent = parent; transform = transform; rect = rect }) p.props.clips) h
-after-keeps p (command.SetClip id rect) h ok stand = after-clips p _ (λ n. is_known-changed n id (λ c. record c { rect = rect }) p.props.clips) h
-after-keeps p (command.AddEffect id parent opacity) h ok stand = after-add_effect p id parent opacity h ok
-after-keeps p (command.SetOpacity id opacity) h ok stand = after-effects p _ (λ n. is_known-changed n id (λ e. record e { opacity = opacity }) p.props.effects) (nested-changed id opacity p.props.effects (map (λ l. l.effect) p.layers) h.nested) h
-after-keeps p (command.AddScroller id parent max_x max_y) h ok stand = after-add_scroller p id parent max_x max_y h ok
-after-keeps p (command.SetRange id max_x max_y) h ok stand = after-set_range p id max_x max_y h ok
-after-keeps p (command.ScrollBy id dx dy) h ok stand = after-scrolled p id _ _ h
-after-keeps p (command.ScrollTo id x y) h ok stand = after-scrolled p id _ _ h
-after-keeps p (command.AddLayer id at transform clip effect w k colour) h ok stand = after-add_layer p _ at h ok (stand refl)
-after-keeps p (command.RemoveLayer id) h ok stand = after-remove_layer p id h
-after-keeps p (command.ResizeLayer id w k) h ok stand = after-resize_layer p id w k h ok
-after-keeps p (command.SetColour id colour) h ok stand = after-shown p id (with_colour colour) h
-after-keeps p (command.InsertItem layer at item) h ok stand = after-shown p layer (with_items (λ items. insert items at item)) h
-after-keeps p (command.RemoveItem layer at) h ok stand = after-shown p layer (with_items (λ items. remove items at)) h
-after-keeps p (command.ReplaceItem layer at item) h ok stand = after-shown p layer (with_items (λ items. slice_set items at item)) h
-after-keeps p (command.MoveLayer id at) h ok stand = after-move_layer p id at h ok (stand refl)
-after-keeps p (command.SetView w k tile) h ok stand = after-set_view p w k tile h ok
+after-keeps p (command.AddTransform c) h ok stand = after-transforms p _ (λ n. is_known-more n c.id (record { parent = c.parent; x = c.x; y = c.y; scroller = c.scroller }) p.props.transforms) h
+after-keeps p (command.SetTransform c) h ok stand = after-transforms p _ (λ n. is_known-changed n c.id (λ t. record t { x = c.x; y = c.y }) p.props.transforms) h
+after-keeps p (command.AddClip c) h ok stand = after-clips p _ (λ n. is_known-more n c.id (record { parent = c.parent; transform = c.transform; rect = c.rect }) p.props.clips) h
+after-keeps p (command.SetClip k) h ok stand = after-clips p _ (λ n. is_known-changed n k.id (λ c. record c { rect = k.rect }) p.props.clips) h
+after-keeps p (command.AddEffect c) h ok stand = after-add_effect p c.id c.parent c.opacity h ok
+after-keeps p (command.SetOpacity c) h ok stand = after-effects p _ (λ n. is_known-changed n c.id (λ e. record e { opacity = c.opacity }) p.props.effects) (nested-changed c.id c.opacity p.props.effects (map (λ l. l.effect) p.layers) h.nested) h
+after-keeps p (command.AddScroller c) h ok stand = after-add_scroller p c.id c.parent c.max_x c.max_y h ok
+after-keeps p (command.SetRange c) h ok stand = after-set_range p c.id c.max_x c.max_y h ok
+after-keeps p (command.ScrollBy c) h ok stand = after-scrolled p c.id _ _ h
+after-keeps p (command.ScrollTo c) h ok stand = after-scrolled p c.id _ _ h
+after-keeps p (command.AddLayer c) h ok stand = after-add_layer p _ c.at h ok (stand refl)
+after-keeps p (command.RemoveLayer c) h ok stand = after-remove_layer p c.id h
+after-keeps p (command.ResizeLayer c) h ok stand = after-resize_layer p c.id c.w c.h h ok
+after-keeps p (command.SetColour c) h ok stand = after-shown p c.id (with_colour c.colour) h
+after-keeps p (command.InsertItem c) h ok stand = after-shown p c.layer (with_items (λ items. insert items c.at c.item)) h
+after-keeps p (command.RemoveItem c) h ok stand = after-shown p c.layer (with_items (λ items. remove items c.at)) h
+after-keeps p (command.ReplaceItem c) h ok stand = after-shown p c.layer (with_items (λ items. slice_set items c.at c.item)) h
+after-keeps p (command.MoveLayer c) h ok stand = after-move_layer p c.id c.at h ok (stand refl)
+after-keeps p (command.SetView c) h ok stand = after-set_view p c.w c.h c.tile h ok
 
 -- a page without layers and scrollers
 pub empty-page : (p : Page) → IsView p.view → p.layers ≡ [] → p.values ≡ [] → p.props.scrollers ≡ [] → IsPage p

@@ -129,29 +129,29 @@ still_there i id ls d there = go (i == id) refl
 -- ---- each command
 
 -- a layer that is resized keeps its items
-resized_shows : (p : Page) (i w h id : ℕ) (x y : ℤ) → content_at (page_after_command p (command.ResizeLayer i w h)) id x y ≡ content_at p id x y
+resized_shows : (p : Page) (i w h id : ℕ) (x y : ℤ) → content_at (page_after_command p (command.ResizeLayer (record { id = i; w = w; h = h }))) id x y ≡ content_at p id x y
 resized_shows p i w h id x y = viewed (λ l. content l.items x y) i id (with_size w h) (λ l. refl) p.layers (λ e. of_every (λ l. content l.items x y) (with_size w h) (λ l. refl) (find (has_id i) p.layers))
 
 content_kept : (p : Page) (c : Command) → IsPage p → test_of p c ≡ Ok tt → (id : ℕ) (x y : ℤ) → has_layer id (page_after_command p c).layers ≡ true → shows_at (layer_change_of p c) id x y ≡ false → content_at (page_after_command p c) id x y ≡ content_at p id x y
-content_kept p (command.AddLayer i at transform clip effect w h colour) is ok id x y there out = ap (shown x y) (found-insert id _ p.layers at (first_fails (i == id) out))
-content_kept p (command.RemoveLayer i) is ok id x y there out = ap (shown x y) (found-without i id p.layers (still_there i id p.layers is.distinct there))
-content_kept p (command.ResizeLayer i w h) is ok id x y there out = resized_shows p i w h id x y
-content_kept p (command.SetColour i colour) is ok id x y there out = viewed (λ l. content l.items x y) i id (with_colour colour) (λ l. refl) p.layers (λ e. of_every (λ l. content l.items x y) (with_colour colour) (λ l. refl) (find (has_id i) p.layers))
-content_kept p (command.InsertItem i at item) is ok id x y there out = viewed (λ l. content l.items x y) i id (with_items (λ items. insert items at item)) (λ l. refl) p.layers (λ e. of_every (λ l. content l.items x y) (with_items (λ items. insert items at item)) (λ l. content-insert l.items at item x y (first_of (covers (rect_of_item item) x y) (covered [] x y) (second_fails (i == id) (covered (rect_of_item item ∷ []) x y) e out))) (find (has_id i) p.layers))
-content_kept p (command.RemoveItem i at) is ok id x y there out = viewed (λ l. content l.items x y) i id (with_items (λ items. remove items at)) (λ l. refl) p.layers (λ e. removed_view x y at (find (has_id i) p.layers) (remove_tested p i at ok) (second_fails (i == id) _ e out))
-content_kept p (command.ReplaceItem i at item) is ok id x y there out = viewed (λ l. content l.items x y) i id (with_items (λ items. slice_set items at item)) (λ l. refl) p.layers (λ e. replaced_view x y at item (find (has_id i) p.layers) (replace_tested p i at item ok) (second_fails (i == id) _ e out))
-content_kept p (command.MoveLayer i at) is ok id x y there out = ap (shown x y) (found-moved i at id p.layers is.distinct)
+content_kept p (command.AddLayer c) is ok id x y there out = ap (shown x y) (found-insert id _ p.layers c.at (first_fails (c.id == id) out))
+content_kept p (command.RemoveLayer c) is ok id x y there out = ap (shown x y) (found-without c.id id p.layers (still_there c.id id p.layers is.distinct there))
+content_kept p (command.ResizeLayer c) is ok id x y there out = resized_shows p c.id c.w c.h id x y
+content_kept p (command.SetColour c) is ok id x y there out = viewed (λ l. content l.items x y) c.id id (with_colour c.colour) (λ l. refl) p.layers (λ e. of_every (λ l. content l.items x y) (with_colour c.colour) (λ l. refl) (find (has_id c.id) p.layers))
+content_kept p (command.InsertItem c) is ok id x y there out = viewed (λ l. content l.items x y) c.layer id (with_items (λ items. insert items c.at c.item)) (λ l. refl) p.layers (λ e. of_every (λ l. content l.items x y) (with_items (λ items. insert items c.at c.item)) (λ l. content-insert l.items c.at c.item x y (first_of (covers (rect_of_item c.item) x y) (covered [] x y) (second_fails (c.layer == id) (covered (rect_of_item c.item ∷ []) x y) e out))) (find (has_id c.layer) p.layers))
+content_kept p (command.RemoveItem c) is ok id x y there out = viewed (λ l. content l.items x y) c.layer id (with_items (λ items. remove items c.at)) (λ l. refl) p.layers (λ e. removed_view x y c.at (find (has_id c.layer) p.layers) (remove_tested p c.layer c.at ok) (second_fails (c.layer == id) _ e out))
+content_kept p (command.ReplaceItem c) is ok id x y there out = viewed (λ l. content l.items x y) c.layer id (with_items (λ items. slice_set items c.at c.item)) (λ l. refl) p.layers (λ e. replaced_view x y c.at c.item (find (has_id c.layer) p.layers) (replace_tested p c.layer c.at c.item ok) (second_fails (c.layer == id) _ e out))
+content_kept p (command.MoveLayer c) is ok id x y there out = ap (shown x y) (found-moved c.id c.at id p.layers is.distinct)
 content_kept p _ is ok id x y there out = refl
 
 size_kept : (p : Page) (c : Command) → IsPage p → (id : ℕ) → has_layer id (page_after_command p c).layers ≡ true → is_changed_whole (layer_change_of p c) id ≡ false → size_of (page_after_command p c) id ≡ size_of p id
-size_kept p (command.AddLayer i at transform clip effect w h colour) is id there out = ap sized (found-insert id _ p.layers at (first_fails (i == id) out))
-size_kept p (command.RemoveLayer i) is id there out = ap sized (found-without i id p.layers (still_there i id p.layers is.distinct there))
-size_kept p (command.ResizeLayer i w h) is id there out = ap sized (found-other i id (with_size w h) (λ l. refl) p.layers (first_fails (i == id) out))
-size_kept p (command.SetColour i colour) is id there out = viewed (λ l. (l.w, l.h)) i id (with_colour colour) (λ l. refl) p.layers (λ e. of_every (λ l. (l.w, l.h)) (with_colour colour) (λ l. refl) (find (has_id i) p.layers))
-size_kept p (command.InsertItem i at item) is id there out = viewed (λ l. (l.w, l.h)) i id (with_items (λ items. insert items at item)) (λ l. refl) p.layers (λ e. of_every (λ l. (l.w, l.h)) (with_items (λ items. insert items at item)) (λ l. refl) (find (has_id i) p.layers))
-size_kept p (command.RemoveItem i at) is id there out = viewed (λ l. (l.w, l.h)) i id (with_items (λ items. remove items at)) (λ l. refl) p.layers (λ e. of_every (λ l. (l.w, l.h)) (with_items (λ items. remove items at)) (λ l. refl) (find (has_id i) p.layers))
-size_kept p (command.ReplaceItem i at item) is id there out = viewed (λ l. (l.w, l.h)) i id (with_items (λ items. slice_set items at item)) (λ l. refl) p.layers (λ e. of_every (λ l. (l.w, l.h)) (with_items (λ items. slice_set items at item)) (λ l. refl) (find (has_id i) p.layers))
-size_kept p (command.MoveLayer i at) is id there out = ap sized (found-moved i at id p.layers is.distinct)
+size_kept p (command.AddLayer c) is id there out = ap sized (found-insert id _ p.layers c.at (first_fails (c.id == id) out))
+size_kept p (command.RemoveLayer c) is id there out = ap sized (found-without c.id id p.layers (still_there c.id id p.layers is.distinct there))
+size_kept p (command.ResizeLayer c) is id there out = ap sized (found-other c.id id (with_size c.w c.h) (λ l. refl) p.layers (first_fails (c.id == id) out))
+size_kept p (command.SetColour c) is id there out = viewed (λ l. (l.w, l.h)) c.id id (with_colour c.colour) (λ l. refl) p.layers (λ e. of_every (λ l. (l.w, l.h)) (with_colour c.colour) (λ l. refl) (find (has_id c.id) p.layers))
+size_kept p (command.InsertItem c) is id there out = viewed (λ l. (l.w, l.h)) c.layer id (with_items (λ items. insert items c.at c.item)) (λ l. refl) p.layers (λ e. of_every (λ l. (l.w, l.h)) (with_items (λ items. insert items c.at c.item)) (λ l. refl) (find (has_id c.layer) p.layers))
+size_kept p (command.RemoveItem c) is id there out = viewed (λ l. (l.w, l.h)) c.layer id (with_items (λ items. remove items c.at)) (λ l. refl) p.layers (λ e. of_every (λ l. (l.w, l.h)) (with_items (λ items. remove items c.at)) (λ l. refl) (find (has_id c.layer) p.layers))
+size_kept p (command.ReplaceItem c) is id there out = viewed (λ l. (l.w, l.h)) c.layer id (with_items (λ items. slice_set items c.at c.item)) (λ l. refl) p.layers (λ e. of_every (λ l. (l.w, l.h)) (with_items (λ items. slice_set items c.at c.item)) (λ l. refl) (find (has_id c.layer) p.layers))
+size_kept p (command.MoveLayer c) is id there out = ap sized (found-moved c.id c.at id p.layers is.distinct)
 size_kept p _ is id there out = refl
 
 pub unlisted_stays : (p : Page) (c : Command) → IsPage p → Accepts p c → KeepsTheRest p c

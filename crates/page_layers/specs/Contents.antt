@@ -10,11 +10,11 @@ use Rattle.page_layers.specs.Pages.{Page}
 use Rattle.page_layers.specs.Refusals.{has_layer}
 use Rattle.page_layers.specs.Effects.{Change, page_after_command, layer_change_of}
 
--- what the layer with this id shows at one of its points; None where there is no such layer
+-- what the layer with this id shows at one of its points; None if there is no such layer
 abbrev pub content_at : Page → ℕ → ℤ → ℤ → Option Parts
 content_at p id x y = option_map (λ l. content l.items x y) (find (has_id id) p.layers)
 
--- the size of the layer with this id; None where there is no such layer
+-- the size of the layer with this id; None if there is no such layer
 abbrev pub size_of : Page → ℕ → Option (ℕ × ℕ)
 size_of p id = option_map (λ l. (l.w, l.h)) (find (has_id id) p.layers)
 
@@ -34,4 +34,4 @@ pub record KeepsTheRest (p : Page) (c : Command) : Type 0 where
       → shows_at (layer_change_of p c) id x y ≡ false → content_at (page_after_command p c) id x y ≡ content_at p id x y
   pub size : (id : ℕ) → has_layer id p.layers ≡ true → has_layer id (page_after_command p c).layers ≡ true
       → is_changed_whole (layer_change_of p c) id ≡ false → size_of (page_after_command p c) id ≡ size_of p id
-  pub resized : (id w h : ℕ) (x y : ℤ) → c ≡ command.ResizeLayer id w h → content_at (page_after_command p c) id x y ≡ content_at p id x y
+  pub resized : (id w h : ℕ) (x y : ℤ) → c ≡ command.ResizeLayer (record { id = id; w = w; h = h }) → content_at (page_after_command p c) id x y ≡ content_at p id x y

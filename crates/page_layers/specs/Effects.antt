@@ -26,7 +26,7 @@ with_layers p layers = record p { layers = layers }
 abbrev pub with_layer_changed : Page → ℕ → (PageLayer → PageLayer) → Page
 with_layer_changed p id f = with_layers p (with_first_changed (has_id id) f p.layers)
 
--- the main value of a scroller; (0, 0) where the page has no such scroller
+-- the main value of a scroller; (0, 0) if the page has no such scroller
 abbrev pub main_point : Page → ℕ → Point
 main_point p id = or_origin (entries.find id p.values)
 
@@ -43,34 +43,34 @@ scrolled_to p id x y = record p { values = entries.with_node_changed id (λ v. c
 abbrev pub scrolled_by : Page → ℕ → ℤ → ℤ → Page
 scrolled_by p id dx dy = scrolled_to p id ((main_point p id).x +ℤ dx) ((main_point p id).y +ℤ dy)
 
--- the page after a command that passed its tests
+-- the page after a command that passed its tests; what a command does not name stays
 abbrev pub page_after_command : Page → Command → Page
-page_after_command p (command.AddTransform id parent x y scroller) = with_props p (record p.props { transforms = (id, record { parent = parent; x = x; y = y; scroller = scroller }) ∷ p.props.transforms })
-page_after_command p (command.SetTransform id x y) = with_props p (record p.props { transforms = entries.with_node_changed id (λ n. record n { x = x; y = y }) p.props.transforms })
-page_after_command p (command.AddClip id parent transform rect) = with_props p (record p.props { clips = (id, record { parent = parent; transform = transform; rect = rect }) ∷ p.props.clips })
-page_after_command p (command.SetClip id rect) = with_props p (record p.props { clips = entries.with_node_changed id (λ n. record n { rect = rect }) p.props.clips })
-page_after_command p (command.AddEffect id parent opacity) = with_props p (record p.props { effects = (id, record { parent = parent; opacity = opacity }) ∷ p.props.effects })
-page_after_command p (command.SetOpacity id opacity) = with_props p (record p.props { effects = entries.with_node_changed id (λ n. record n { opacity = opacity }) p.props.effects })
-page_after_command p (command.AddScroller id parent max_x max_y) = record p { props = record p.props { scrollers = (id, record { parent = parent; max_x = max_x; max_y = max_y }) ∷ p.props.scrollers }; values = (id, origin) ∷ p.values }
-page_after_command p (command.SetRange id max_x max_y) = scrolled_to (with_props p (record p.props { scrollers = entries.with_node_changed id (λ n. record n { max_x = max_x; max_y = max_y }) p.props.scrollers })) id (main_point p id).x (main_point p id).y
-page_after_command p (command.ScrollBy id dx dy) = scrolled_by p id dx dy
-page_after_command p (command.ScrollTo id x y) = scrolled_to p id (pos x) (pos y)
-page_after_command p (command.AddLayer id at transform clip effect w h colour) = record p { layers = insert p.layers at (record { id = id; transform = transform; clip = clip; effect = effect; w = w; h = h; colour = colour; items = [] }); used = p.used ++ id ∷ [] }
-page_after_command p (command.RemoveLayer id) = with_layers p (without_first (has_id id) p.layers)
-page_after_command p (command.ResizeLayer id w h) = with_layer_changed p id (with_size w h)
-page_after_command p (command.SetColour id colour) = with_layer_changed p id (with_colour colour)
-page_after_command p (command.InsertItem layer at item) = with_layer_changed p layer (with_items (λ items. insert items at item))
-page_after_command p (command.RemoveItem layer at) = with_layer_changed p layer (with_items (λ items. remove items at))
-page_after_command p (command.ReplaceItem layer at item) = with_layer_changed p layer (with_items (λ items. slice_set items at item))
-page_after_command p (command.MoveLayer id at) = with_layers p (with_layer_moved id at p.layers)
-page_after_command p (command.SetView w h tile) = record p { view = record { w = w; h = h; tile = tile } }
+page_after_command p (command.AddTransform c) = with_props p (record p.props { transforms = (c.id, record { parent = c.parent; x = c.x; y = c.y; scroller = c.scroller }) ∷ p.props.transforms })
+page_after_command p (command.SetTransform c) = with_props p (record p.props { transforms = entries.with_node_changed c.id (λ n. record n { x = c.x; y = c.y }) p.props.transforms })
+page_after_command p (command.AddClip c) = with_props p (record p.props { clips = (c.id, record { parent = c.parent; transform = c.transform; rect = c.rect }) ∷ p.props.clips })
+page_after_command p (command.SetClip c) = with_props p (record p.props { clips = entries.with_node_changed c.id (λ n. record n { rect = c.rect }) p.props.clips })
+page_after_command p (command.AddEffect c) = with_props p (record p.props { effects = (c.id, record { parent = c.parent; opacity = c.opacity }) ∷ p.props.effects })
+page_after_command p (command.SetOpacity c) = with_props p (record p.props { effects = entries.with_node_changed c.id (λ n. record n { opacity = c.opacity }) p.props.effects })
+page_after_command p (command.AddScroller c) = record p { props = record p.props { scrollers = (c.id, record { parent = c.parent; max_x = c.max_x; max_y = c.max_y }) ∷ p.props.scrollers }; values = (c.id, origin) ∷ p.values }
+page_after_command p (command.SetRange c) = scrolled_to (with_props p (record p.props { scrollers = entries.with_node_changed c.id (λ n. record n { max_x = c.max_x; max_y = c.max_y }) p.props.scrollers })) c.id (main_point p c.id).x (main_point p c.id).y
+page_after_command p (command.ScrollBy c) = scrolled_by p c.id c.dx c.dy
+page_after_command p (command.ScrollTo c) = scrolled_to p c.id (pos c.x) (pos c.y)
+page_after_command p (command.AddLayer c) = record p { layers = insert p.layers c.at (record { id = c.id; transform = c.transform; clip = c.clip; effect = c.effect; w = c.w; h = c.h; colour = c.colour; items = [] }); used = p.used ++ c.id ∷ [] }
+page_after_command p (command.RemoveLayer c) = with_layers p (without_first (has_id c.id) p.layers)
+page_after_command p (command.ResizeLayer c) = with_layer_changed p c.id (with_size c.w c.h)
+page_after_command p (command.SetColour c) = with_layer_changed p c.id (with_colour c.colour)
+page_after_command p (command.InsertItem c) = with_layer_changed p c.layer (with_items (λ items. insert items c.at c.item))
+page_after_command p (command.RemoveItem c) = with_layer_changed p c.layer (with_items (λ items. remove items c.at))
+page_after_command p (command.ReplaceItem c) = with_layer_changed p c.layer (with_items (λ items. slice_set items c.at c.item))
+page_after_command p (command.MoveLayer c) = with_layers p (with_layer_moved c.id c.at p.layers)
+page_after_command p (command.SetView c) = record p { view = record { w = c.w; h = c.h; tile = c.tile } }
 
 -- the page after these pulls: each is added to the main value of its scroller and clamped to its range
 abbrev pub page_after_pulls : List Move → Page → Page
 page_after_pulls [] p = p
 page_after_pulls (m ∷ ms) p = page_after_pulls ms (scrolled_by p m.scroller m.dx m.dy)
 
--- the page after these commands
+-- the page after these commands, one after another
 abbrev pub commanded : List Command → Page → Page
 commanded [] p = p
 commanded (c ∷ cs) p = commanded cs (page_after_command p c)
@@ -97,14 +97,14 @@ item_rect_at layer at layers = item_rect_in at (find (has_id layer) layers)
 
 -- the layer that a command lists: a layer added or resized whole, a layer whose items changed with the old and the new rect
 abbrev pub layer_change_of : Page → Command → Option Change
-layer_change_of p (command.AddLayer id at transform clip effect w h colour) = Some (record { layer = id; whole = true; rects = [] })
-layer_change_of p (command.ResizeLayer id w h) = Some (record { layer = id; whole = true; rects = [] })
-layer_change_of p (command.InsertItem layer at item) = Some (record { layer = layer; whole = false; rects = rect_of_item item ∷ [] })
-layer_change_of p (command.RemoveItem layer at) = Some (record { layer = layer; whole = false; rects = rects_of (item_rect_at layer at p.layers) })
-layer_change_of p (command.ReplaceItem layer at item) = Some (record { layer = layer; whole = false; rects = rect_of_item item ∷ rects_of (item_rect_at layer at p.layers) })
+layer_change_of p (command.AddLayer c) = Some (record { layer = c.id; whole = true; rects = [] })
+layer_change_of p (command.ResizeLayer c) = Some (record { layer = c.id; whole = true; rects = [] })
+layer_change_of p (command.InsertItem c) = Some (record { layer = c.layer; whole = false; rects = rect_of_item c.item ∷ [] })
+layer_change_of p (command.RemoveItem c) = Some (record { layer = c.layer; whole = false; rects = rects_of (item_rect_at c.layer c.at p.layers) })
+layer_change_of p (command.ReplaceItem c) = Some (record { layer = c.layer; whole = false; rects = rect_of_item c.item ∷ rects_of (item_rect_at c.layer c.at p.layers) })
 layer_change_of p _ = None
 
 -- whether a command retiles: a view whose tile size is not the page's
 abbrev pub retiles : Page → Command → Bool
-retiles p (command.SetView w h tile) = not (tile == p.view.tile)
+retiles p (command.SetView c) = not (c.tile == p.view.tile)
 retiles p _ = false

@@ -67,6 +67,7 @@ takes id nodes = do
   _ ← require (nat_lt (length nodes) max_nodes) (fault.TooMany max_nodes)
   is_id id
 
+-- the tests of a command, each in the order of the faults' numbers: the first that fails is the answer, and those after it are not looked at
 unfoldable pub add_transform_test : Page → ℕ → ℕ → ℤ → ℤ → ℕ → Result ⊤ EditFault
 add_transform_test p id parent x y scroller = do
   _ ← require (is_known parent p.props.transforms && is_known scroller p.props.scrollers) fault.UnknownId
@@ -172,22 +173,22 @@ set_view_test w h tile = do
 
 -- the tests of a command in a page: passed, or the fault of least number
 abbrev pub test_of : Page → Command → Result ⊤ EditFault
-test_of p (command.AddTransform id parent x y scroller) = add_transform_test p id parent x y scroller
-test_of p (command.SetTransform id x y) = set_transform_test p id x y
-test_of p (command.AddClip id parent transform rect) = add_clip_test p id parent transform rect
-test_of p (command.SetClip id rect) = set_clip_test p id rect
-test_of p (command.AddEffect id parent opacity) = add_effect_test p id parent opacity
-test_of p (command.SetOpacity id opacity) = set_opacity_test p id opacity
-test_of p (command.AddScroller id parent max_x max_y) = add_scroller_test p id parent max_x max_y
-test_of p (command.SetRange id max_x max_y) = set_range_test p id max_x max_y
-test_of p (command.ScrollBy id dx dy) = scroll_by_test p id dx dy
-test_of p (command.ScrollTo id x y) = scroll_to_test p id x y
-test_of p (command.AddLayer id at transform clip effect w h colour) = add_layer_test p (record { id = id; transform = transform; clip = clip; effect = effect; w = w; h = h; colour = colour; items = [] }) at
-test_of p (command.RemoveLayer id) = remove_layer_test p id
-test_of p (command.ResizeLayer id w h) = resize_layer_test p id w h
-test_of p (command.SetColour id colour) = set_colour_test p id
-test_of p (command.InsertItem layer at item) = insert_item_test p layer at item
-test_of p (command.RemoveItem layer at) = remove_item_test p layer at
-test_of p (command.ReplaceItem layer at item) = replace_item_test p layer at item
-test_of p (command.MoveLayer id at) = move_layer_test p id at
-test_of p (command.SetView w h tile) = set_view_test w h tile
+test_of p (command.AddTransform c) = add_transform_test p c.id c.parent c.x c.y c.scroller
+test_of p (command.SetTransform c) = set_transform_test p c.id c.x c.y
+test_of p (command.AddClip c) = add_clip_test p c.id c.parent c.transform c.rect
+test_of p (command.SetClip c) = set_clip_test p c.id c.rect
+test_of p (command.AddEffect c) = add_effect_test p c.id c.parent c.opacity
+test_of p (command.SetOpacity c) = set_opacity_test p c.id c.opacity
+test_of p (command.AddScroller c) = add_scroller_test p c.id c.parent c.max_x c.max_y
+test_of p (command.SetRange c) = set_range_test p c.id c.max_x c.max_y
+test_of p (command.ScrollBy c) = scroll_by_test p c.id c.dx c.dy
+test_of p (command.ScrollTo c) = scroll_to_test p c.id c.x c.y
+test_of p (command.AddLayer c) = add_layer_test p (record { id = c.id; transform = c.transform; clip = c.clip; effect = c.effect; w = c.w; h = c.h; colour = c.colour; items = [] }) c.at
+test_of p (command.RemoveLayer c) = remove_layer_test p c.id
+test_of p (command.ResizeLayer c) = resize_layer_test p c.id c.w c.h
+test_of p (command.SetColour c) = set_colour_test p c.id
+test_of p (command.InsertItem c) = insert_item_test p c.layer c.at c.item
+test_of p (command.RemoveItem c) = remove_item_test p c.layer c.at
+test_of p (command.ReplaceItem c) = replace_item_test p c.layer c.at c.item
+test_of p (command.MoveLayer c) = move_layer_test p c.id c.at
+test_of p (command.SetView c) = set_view_test c.w c.h c.tile

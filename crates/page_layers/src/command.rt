@@ -10,178 +10,254 @@ use pixel::Colour;
 pub enum Command {
     /// Adds a transform: the translation of its parent, plus `(x, y)`, minus the offset of the
     /// scroller, where it names one.
-    AddTransform {
-        /// The new id, 1 to 65535.
-        id: u32,
-        /// The transform above it.
-        parent: u32,
-        /// To the right, in pixels, -65536 to 65536.
-        x: i32,
-        /// Downwards, in pixels, -65536 to 65536.
-        y: i32,
-        /// The scroller that moves it, or 0.
-        scroller: u32,
-    },
+    AddTransform(AddTransform),
     /// Gives a transform another `(x, y)`.
-    SetTransform {
-        /// The transform.
-        id: u32,
-        /// To the right, in pixels, -65536 to 65536.
-        x: i32,
-        /// Downwards, in pixels, -65536 to 65536.
-        y: i32,
-    },
+    SetTransform(SetTransform),
     /// Adds a clip: a rect that stands in the space of a transform, cut by the clips above it.
-    AddClip {
-        /// The new id, 1 to 65535.
-        id: u32,
-        /// The clip above it.
-        parent: u32,
-        /// The transform in whose space the rect stands.
-        transform: u32,
-        /// What stays visible: x and y -65536 to 65536, w and h 0 to 65536.
-        rect: Rect,
-    },
+    AddClip(AddClip),
     /// Gives a clip another rect.
-    SetClip {
-        /// The clip.
-        id: u32,
-        /// What stays visible: x and y -65536 to 65536, w and h 0 to 65536.
-        rect: Rect,
-    },
+    SetClip(SetClip),
     /// Adds an effect.
-    AddEffect {
-        /// The new id, 1 to 65535.
-        id: u32,
-        /// The effect above it.
-        parent: u32,
-        /// From 0, transparent, to 255.
-        opacity: u32,
-    },
+    AddEffect(AddEffect),
     /// Gives an effect another opacity.
-    SetOpacity {
-        /// The effect.
-        id: u32,
-        /// From 0, transparent, to 255.
-        opacity: u32,
-    },
+    SetOpacity(SetOpacity),
     /// Adds a scroller, whose main value is (0, 0).
-    AddScroller {
-        /// The new id, 1 to 65535.
-        id: u32,
-        /// The scroller to which it hands on what it can't take.
-        parent: u32,
-        /// How far it scrolls to the right, 0 to 1048576 pixels.
-        max_x: u32,
-        /// How far it scrolls downwards, 0 to 1048576 pixels.
-        max_y: u32,
-    },
+    AddScroller(AddScroller),
     /// Gives a scroller another range, and clamps its main value to it.
-    SetRange {
-        /// The scroller.
-        id: u32,
-        /// How far it scrolls to the right, 0 to 1048576 pixels.
-        max_x: u32,
-        /// How far it scrolls downwards, 0 to 1048576 pixels.
-        max_y: u32,
-    },
+    SetRange(SetRange),
     /// Adds to a scroller's main value, and clamps it to the range.
-    ScrollBy {
-        /// The scroller.
-        id: u32,
-        /// To the right, in pixels, -1048576 to 1048576.
-        dx: i32,
-        /// Downwards, in pixels, -1048576 to 1048576.
-        dy: i32,
-    },
+    ScrollBy(ScrollBy),
     /// Sets a scroller's main value, clamped to the range.
-    ScrollTo {
-        /// The scroller.
-        id: u32,
-        /// From the left, 0 to 1048576 pixels.
-        x: u32,
-        /// From the top, 0 to 1048576 pixels.
-        y: u32,
-    },
+    ScrollTo(ScrollTo),
     /// Adds a layer with an empty display list, so that it has this place.
-    AddLayer {
-        /// The new id, 1 to 65535, which no layer ever had.
-        id: u32,
-        /// The place in the layer list, from 0; later layers are painted over earlier ones.
-        at: u32,
-        /// The transform that places it.
-        transform: u32,
-        /// The clip that cuts it.
-        clip: u32,
-        /// The effect that it belongs to.
-        effect: u32,
-        /// The width, 1 to 16384 pixels.
-        w: u32,
-        /// The height, 1 to 16384 pixels.
-        h: u32,
-        /// What is drawn where a tile is missing.
-        colour: Colour,
-    },
+    AddLayer(AddLayer),
     /// Takes a layer out for good: no later layer has its id.
-    RemoveLayer {
-        /// The layer.
-        id: u32,
-    },
+    RemoveLayer(RemoveLayer),
     /// Gives a layer another size; its display list stays.
-    ResizeLayer {
-        /// The layer.
-        id: u32,
-        /// The width, 1 to 16384 pixels.
-        w: u32,
-        /// The height, 1 to 16384 pixels.
-        h: u32,
-    },
+    ResizeLayer(ResizeLayer),
     /// Gives a layer another background colour.
-    SetColour {
-        /// The layer.
-        id: u32,
-        /// What is drawn where a tile is missing.
-        colour: Colour,
-    },
+    SetColour(SetColour),
     /// Inserts an item into a layer's display list, so that it has this place.
-    InsertItem {
-        /// The layer.
-        layer: u32,
-        /// The place in the display list, from 0.
-        at: u32,
-        /// The item: its rect's x and y -16384 to 16384, w and h 1 to 16384.
-        item: Item,
-    },
+    InsertItem(InsertItem),
     /// Removes an item of a layer's display list.
-    RemoveItem {
-        /// The layer.
-        layer: u32,
-        /// The place in the display list.
-        at: u32,
-    },
+    RemoveItem(RemoveItem),
     /// Puts another item in the place of one of a layer's display list.
-    ReplaceItem {
-        /// The layer.
-        layer: u32,
-        /// The place in the display list.
-        at: u32,
-        /// The item: its rect's x and y -16384 to 16384, w and h 1 to 16384.
-        item: Item,
-    },
+    ReplaceItem(ReplaceItem),
     /// Takes a layer out of the list and inserts it at this place of the others.
-    MoveLayer {
-        /// The layer.
-        id: u32,
-        /// The place among the other layers, from 0.
-        at: u32,
-    },
+    MoveLayer(MoveLayer),
     /// Sets the viewport and the tile size.
-    SetView {
-        /// The viewport's width, 1 to 2048 pixels.
-        w: u32,
-        /// The viewport's height, 1 to 2048 pixels.
-        h: u32,
-        /// The side of a tile, 16 to 256 pixels.
-        tile: u32,
-    },
+    SetView(SetView),
+}
+
+/// The fields of `add_transform`.
+#[derive(Clone, Copy)]
+pub struct AddTransform {
+    /// The new id, 1 to 65535.
+    pub id: u32,
+    /// The transform above it.
+    pub parent: u32,
+    /// To the right, in pixels, -65536 to 65536.
+    pub x: i32,
+    /// Downwards, in pixels, -65536 to 65536.
+    pub y: i32,
+    /// The scroller that moves it, or 0.
+    pub scroller: u32,
+}
+
+/// The fields of `set_transform`.
+#[derive(Clone, Copy)]
+pub struct SetTransform {
+    /// The transform.
+    pub id: u32,
+    /// To the right, in pixels, -65536 to 65536.
+    pub x: i32,
+    /// Downwards, in pixels, -65536 to 65536.
+    pub y: i32,
+}
+
+/// The fields of `add_clip`.
+#[derive(Clone, Copy)]
+pub struct AddClip {
+    /// The new id, 1 to 65535.
+    pub id: u32,
+    /// The clip above it.
+    pub parent: u32,
+    /// The transform in whose space the rect stands.
+    pub transform: u32,
+    /// What stays visible: x and y -65536 to 65536, w and h 0 to 65536.
+    pub rect: Rect,
+}
+
+/// The fields of `set_clip`.
+#[derive(Clone, Copy)]
+pub struct SetClip {
+    /// The clip.
+    pub id: u32,
+    /// What stays visible: x and y -65536 to 65536, w and h 0 to 65536.
+    pub rect: Rect,
+}
+
+/// The fields of `add_effect`.
+#[derive(Clone, Copy)]
+pub struct AddEffect {
+    /// The new id, 1 to 65535.
+    pub id: u32,
+    /// The effect above it.
+    pub parent: u32,
+    /// From 0, transparent, to 255.
+    pub opacity: u32,
+}
+
+/// The fields of `set_opacity`.
+#[derive(Clone, Copy)]
+pub struct SetOpacity {
+    /// The effect.
+    pub id: u32,
+    /// From 0, transparent, to 255.
+    pub opacity: u32,
+}
+
+/// The fields of `add_scroller`.
+#[derive(Clone, Copy)]
+pub struct AddScroller {
+    /// The new id, 1 to 65535.
+    pub id: u32,
+    /// The scroller to which it hands on what it can't take.
+    pub parent: u32,
+    /// How far it scrolls to the right, 0 to 1048576 pixels.
+    pub max_x: u32,
+    /// How far it scrolls downwards, 0 to 1048576 pixels.
+    pub max_y: u32,
+}
+
+/// The fields of `set_range`.
+#[derive(Clone, Copy)]
+pub struct SetRange {
+    /// The scroller.
+    pub id: u32,
+    /// How far it scrolls to the right, 0 to 1048576 pixels.
+    pub max_x: u32,
+    /// How far it scrolls downwards, 0 to 1048576 pixels.
+    pub max_y: u32,
+}
+
+/// The fields of `scroll_by`.
+#[derive(Clone, Copy)]
+pub struct ScrollBy {
+    /// The scroller.
+    pub id: u32,
+    /// To the right, in pixels, -1048576 to 1048576.
+    pub dx: i32,
+    /// Downwards, in pixels, -1048576 to 1048576.
+    pub dy: i32,
+}
+
+/// The fields of `scroll_to`.
+#[derive(Clone, Copy)]
+pub struct ScrollTo {
+    /// The scroller.
+    pub id: u32,
+    /// From the left, 0 to 1048576 pixels.
+    pub x: u32,
+    /// From the top, 0 to 1048576 pixels.
+    pub y: u32,
+}
+
+/// The fields of `add_layer`.
+#[derive(Clone, Copy)]
+pub struct AddLayer {
+    /// The new id, 1 to 65535, which no layer ever had.
+    pub id: u32,
+    /// The place in the layer list, from 0; later layers are painted over earlier ones.
+    pub at: u32,
+    /// The transform that places it.
+    pub transform: u32,
+    /// The clip that cuts it.
+    pub clip: u32,
+    /// The effect that it belongs to.
+    pub effect: u32,
+    /// The width, 1 to 16384 pixels.
+    pub w: u32,
+    /// The height, 1 to 16384 pixels.
+    pub h: u32,
+    /// What is drawn where a tile is missing.
+    pub colour: Colour,
+}
+
+/// The fields of `remove_layer`.
+#[derive(Clone, Copy)]
+pub struct RemoveLayer {
+    /// The layer.
+    pub id: u32,
+}
+
+/// The fields of `resize_layer`.
+#[derive(Clone, Copy)]
+pub struct ResizeLayer {
+    /// The layer.
+    pub id: u32,
+    /// The width, 1 to 16384 pixels.
+    pub w: u32,
+    /// The height, 1 to 16384 pixels.
+    pub h: u32,
+}
+
+/// The fields of `set_colour`.
+#[derive(Clone, Copy)]
+pub struct SetColour {
+    /// The layer.
+    pub id: u32,
+    /// What is drawn where a tile is missing.
+    pub colour: Colour,
+}
+
+/// The fields of `insert_item`.
+#[derive(Drop)]
+pub struct InsertItem {
+    /// The layer.
+    pub layer: u32,
+    /// The place in the display list, from 0.
+    pub at: u32,
+    /// The item: its rect's x and y -16384 to 16384, w and h 1 to 16384.
+    pub item: Item,
+}
+
+/// The fields of `remove_item`.
+#[derive(Clone, Copy)]
+pub struct RemoveItem {
+    /// The layer.
+    pub layer: u32,
+    /// The place in the display list.
+    pub at: u32,
+}
+
+/// The fields of `replace_item`.
+#[derive(Drop)]
+pub struct ReplaceItem {
+    /// The layer.
+    pub layer: u32,
+    /// The place in the display list.
+    pub at: u32,
+    /// The item: its rect's x and y -16384 to 16384, w and h 1 to 16384.
+    pub item: Item,
+}
+
+/// The fields of `move_layer`.
+#[derive(Clone, Copy)]
+pub struct MoveLayer {
+    /// The layer.
+    pub id: u32,
+    /// The place among the other layers, from 0.
+    pub at: u32,
+}
+
+/// The fields of `set_view`.
+#[derive(Clone, Copy)]
+pub struct SetView {
+    /// The viewport's width, 1 to 2048 pixels.
+    pub w: u32,
+    /// The viewport's height, 1 to 2048 pixels.
+    pub h: u32,
+    /// The side of a tile, 16 to 256 pixels.
+    pub tile: u32,
 }

@@ -45,8 +45,8 @@ low_changed id f (e ∷ older) low = go (e.0 == id) (low_changed id f older low.
     go false rest = (low.0, rest)
 
 low_after : (p : Page) (c : Command) → HasLow p → test_of p c ≡ Ok tt → HasLow (page_after_command p c)
-low_after p (command.AddScroller id parent x y) low ok = ((add_scroller_facts p id parent x y ok).id_high, low)
-low_after p (command.SetRange id x y) low ok = low_changed id (λ n. record n { max_x = x; max_y = y }) p.props.scrollers low
+low_after p (command.AddScroller c) low ok = ((add_scroller_facts p c.id c.parent c.max_x c.max_y ok).id_high, low)
+low_after p (command.SetRange c) low ok = low_changed c.id (λ n. record n { max_x = c.max_x; max_y = c.max_y }) p.props.scrollers low
 low_after p _ low ok = low
 
 low_commanded : (cs : List Command) (p : Page) → HasLow p → TakesAll p cs → HasLow (commanded cs p)

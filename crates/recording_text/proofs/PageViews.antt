@@ -13,25 +13,25 @@ use Rattle.model_history.specs.Scripts.{ScriptModel}
 use Rattle.recording_text.specs.Views.{view_after, view_through, views_through, first_view, views_of, view_at}
 
 after_view : (p : Page) (c : Command) → (page_after_command p c).view ≡ view_after p.view c
-after_view p (command.AddTransform id parent x y scroller) = refl
-after_view p (command.SetTransform id x y) = refl
-after_view p (command.AddClip id parent transform rect) = refl
-after_view p (command.SetClip id rect) = refl
-after_view p (command.AddEffect id parent opacity) = refl
-after_view p (command.SetOpacity id opacity) = refl
-after_view p (command.AddScroller id parent max_x max_y) = refl
-after_view p (command.SetRange id max_x max_y) = refl
-after_view p (command.ScrollBy id dx dy) = refl
-after_view p (command.ScrollTo id x y) = refl
-after_view p (command.AddLayer id place transform clip effect w h colour) = refl
-after_view p (command.RemoveLayer id) = refl
-after_view p (command.ResizeLayer id w h) = refl
-after_view p (command.SetColour id colour) = refl
-after_view p (command.InsertItem layer place item) = refl
-after_view p (command.RemoveItem layer place) = refl
-after_view p (command.ReplaceItem layer place item) = refl
-after_view p (command.MoveLayer id place) = refl
-after_view p (command.SetView w h tile) = refl
+after_view p (command.AddTransform c) = refl
+after_view p (command.SetTransform c) = refl
+after_view p (command.AddClip c) = refl
+after_view p (command.SetClip c) = refl
+after_view p (command.AddEffect c) = refl
+after_view p (command.SetOpacity c) = refl
+after_view p (command.AddScroller c) = refl
+after_view p (command.SetRange c) = refl
+after_view p (command.ScrollBy c) = refl
+after_view p (command.ScrollTo c) = refl
+after_view p (command.AddLayer c) = refl
+after_view p (command.RemoveLayer c) = refl
+after_view p (command.ResizeLayer c) = refl
+after_view p (command.SetColour c) = refl
+after_view p (command.InsertItem c) = refl
+after_view p (command.RemoveItem c) = refl
+after_view p (command.ReplaceItem c) = refl
+after_view p (command.MoveLayer c) = refl
+after_view p (command.SetView c) = refl
 
 commanded_view : (cs : List Command) (p : Page) → (commanded cs p).view ≡ view_through p.view cs
 commanded_view [] p = refl

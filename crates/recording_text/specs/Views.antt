@@ -7,7 +7,7 @@ use Rattle.model_history.specs.Scripts.{ScriptModel}
 
 -- the view after a command: `set_view` alone changes it
 abbrev pub view_after : View → Command → View
-view_after v (command.SetView w h tile) = record { w = w; h = h; tile = tile }
+view_after v (command.SetView c) = record { w = c.w; h = c.h; tile = c.tile }
 view_after v _ = v
 
 -- the view after these commands
@@ -32,7 +32,7 @@ pub record ViewTable : Type 0 where
 unfoldable pub views_of : ScriptModel → ViewTable
 views_of s = record { first = first_view s; after = views_through (first_view s) s.main }
 
--- the view while a main frame is the one that was activated last: the one after it; before every activation, and where there is no such frame, the one that the script begins with
+-- the view while a main frame is the one that was activated last: the one after it; before every activation, and if there is no such frame, the one that the script begins with; only `set_view` changes it
 abbrev pub view_at : ViewTable → Option ℕ → View
 view_at t None = t.first
 view_at t (Some frame) = slice_index_or t.after frame t.first

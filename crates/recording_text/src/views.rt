@@ -31,10 +31,10 @@ fn view_after(view: View, command: &Command) -> View
     ensures { result ≡ spec.view_after view command.now }
 {
     match command {
-        Command::SetView { w, h, tile } => View {
-            w: *w,
-            h: *h,
-            tile: *tile,
+        Command::SetView(fields) => View {
+            w: fields.w,
+            h: fields.h,
+            tile: fields.tile,
         },
         _ => view,
     }

@@ -19,7 +19,7 @@ pub record Inserting (before now : List Command) (from kept at : ℕ) : Type 0 w
   pub items : now ++ inserts kept at (200 - at) ≡ before ++ inserts from 0 200
   pub draws : after_draws kept (7 * (200 - at)) ≡ after_draws from 1400
 
-inserts_more : (x at n : ℕ) → inserts x at (suc n) ≡ command.InsertItem 1 at (drawn_item x) ∷ inserts (after_draws x 7) (suc at) n
+inserts_more : (x at n : ℕ) → inserts x at (suc n) ≡ command.InsertItem (record { layer = 1; at = at; item = (drawn_item x) }) ∷ inserts (after_draws x 7) (suc at) n
 unfolding inserts
 inserts_more x at n = refl
 
@@ -29,26 +29,26 @@ more_draws x zero n = let e : 0 + n ≡ n = omega arith in ap (after_draws x) e
 more_draws x (suc m) n = let e : suc m + n ≡ suc (m + n) = omega arith in ap (after_draws x) e ∙ more_draws (next x) m n
 
 put_in : (before now : List Command) (from kept at : ℕ) → at < 200 → Inserting before now from kept at
-    → Inserting before (now ++ command.InsertItem 1 at (drawn_item kept) ∷ []) from (after_draws kept 7) (suc at)
+    → Inserting before (now ++ command.InsertItem (record { layer = 1; at = at; item = (drawn_item kept) }) ∷ []) from (after_draws kept 7) (suc at)
 put_in before now from kept at l i =
     let n = 200 - suc at in
     let one : 200 - at ≡ suc n = omega (arith, l) in
     let seven : 7 * (200 - at) ≡ 7 + 7 * n = omega (arith, l) in
     record {
       within = omega (arith, l);
-      items = one_more now (inserts (after_draws kept 7) (suc at) n) (command.InsertItem 1 at (drawn_item kept))
+      items = one_more now (inserts (after_draws kept 7) (suc at) n) (command.InsertItem (record { layer = 1; at = at; item = (drawn_item kept) }))
           ∙ (ap (λ (cs : List Command). now ++ cs) (sym (ap (inserts kept at) one ∙ inserts_more kept at n)) ∙ i.items);
       draws = sym (ap (after_draws kept) seven ∙ more_draws kept 7 (7 * n)) ∙ i.draws;
     }
 
 pub inserted : (before now more : List Command) (from kept after at : ℕ) (i : Item) → at < 200 → Inserting before now from kept at
-    → more ≡ now ++ command.InsertItem 1 at i ∷ [] → i ≡ drawn_item kept → after ≡ after_draws kept 7 → Inserting before more from after (at + 1)
+    → more ≡ now ++ command.InsertItem (record { layer = 1; at = at; item = i }) ∷ [] → i ≡ drawn_item kept → after ≡ after_draws kept 7 → Inserting before more from after (at + 1)
 inserted before now more from kept after at i l ins is item is_kept =
     let one : suc at ≡ at + 1 = omega arith in
-    let all : more ≡ now ++ command.InsertItem 1 at (drawn_item kept) ∷ [] = is ∙ ap (λ (x : Item). now ++ command.InsertItem 1 at x ∷ []) item in
+    let all : more ≡ now ++ command.InsertItem (record { layer = 1; at = at; item = (drawn_item kept) }) ∷ [] = is ∙ ap (λ (x : Item). now ++ command.InsertItem (record { layer = 1; at = at; item = x }) ∷ []) item in
     subst (λ (cs : List Command). Inserting before cs from after (at + 1)) (sym all)
-    (subst (λ (k : ℕ). Inserting before (now ++ command.InsertItem 1 at (drawn_item kept) ∷ []) from k (at + 1)) (sym is_kept)
-    (subst (λ (n : ℕ). Inserting before (now ++ command.InsertItem 1 at (drawn_item kept) ∷ []) from (after_draws kept 7) n) one (put_in before now from kept at l ins)))
+    (subst (λ (k : ℕ). Inserting before (now ++ command.InsertItem (record { layer = 1; at = at; item = (drawn_item kept) }) ∷ []) from k (at + 1)) (sym is_kept)
+    (subst (λ (n : ℕ). Inserting before (now ++ command.InsertItem (record { layer = 1; at = at; item = (drawn_item kept) }) ∷ []) from (after_draws kept 7) n) one (put_in before now from kept at l ins)))
 
 none_left : (x at n : ℕ) → n ≡ 0 → inserts x at n ≡ []
 unfolding inserts

@@ -94,17 +94,17 @@ item_rect x =
 needs : (b : Bool) (f : EditFault) → b ≡ true → require b f ≡ Ok tt
 needs b f p = ap (λ c. require c f) p
 
-insert_passes : (xs : List Item) (v : Point) (x at : ℕ) → length xs ≡ at → at < 256 → test_of (page_with xs v) (command.InsertItem 1 at (drawn_item x)) ≡ Ok tt
+insert_passes : (xs : List Item) (v : Point) (x at : ℕ) → length xs ≡ at → at < 256 → test_of (page_with xs v) (command.InsertItem (record { layer = 1; at = at; item = (drawn_item x) })) ≡ Ok tt
 unfolding insert_item_test
 insert_passes xs v x at e l =
     then _ _ (needs (nat_le at (length xs)) _ (is_le at (length xs) (omega (arith, e))))
     (then _ _ (needs (nat_lt (length xs) 256) _ (is_below (length xs) 256 (omega (arith, e, l)))) (item_rect x))
 
-replace_passes : (xs : List Item) (v : Point) (x at : ℕ) → length xs ≡ 200 → at < 200 → test_of (page_with xs v) (command.ReplaceItem 1 at (drawn_item x)) ≡ Ok tt
+replace_passes : (xs : List Item) (v : Point) (x at : ℕ) → length xs ≡ 200 → at < 200 → test_of (page_with xs v) (command.ReplaceItem (record { layer = 1; at = at; item = (drawn_item x) })) ≡ Ok tt
 unfolding replace_item_test
 replace_passes xs v x at e l = then _ _ (needs (nat_lt at (length xs)) _ (is_below at (length xs) (omega (arith, e, l)))) (item_rect x)
 
-scroll_passes : (xs : List Item) (v : Point) (d : ℕ) → d < 40 → test_of (page_with xs v) (command.ScrollBy 1 (pos 0) (pos d)) ≡ Ok tt
+scroll_passes : (xs : List Item) (v : Point) (d : ℕ) → d < 40 → test_of (page_with xs v) (command.ScrollBy (record { id = 1; dx = (pos 0); dy = (pos d) })) ≡ Ok tt
 unfolding scroll_by_test check_scroll check_range
 scroll_passes xs v d l = let q = not_above d 1048576 (omega (arith, l)) in λ i. cond (q i) (Err (fault.OutOfRange (pos d) (pos 1048576))) (Ok tt)
 
@@ -142,7 +142,7 @@ takes_inserts : (x at n : ℕ) (xs : List Item) (v : Point) → length xs ≡ at
 unfolding inserts
 takes_inserts x at zero xs v e l = tt
 takes_inserts x at (suc n) xs v e l = (
-  accepted (page_with xs v) (command.InsertItem 1 at (drawn_item x)) (insert_passes xs v x at e (omega (arith, l))) (omega arith),
+  accepted (page_with xs v) (command.InsertItem (record { layer = 1; at = at; item = (drawn_item x) })) (insert_passes xs v x at e (omega (arith, l))) (omega arith),
   takes_inserts (after_draws x 7) (suc at) n (insert xs at (drawn_item x)) v (put_in xs v x at e) (omega (arith, l)),
 )
 
@@ -160,15 +160,15 @@ kept_page : (k x : ℕ) (xs : List Item) (v : Point) → length xs ≡ 200
 unfolding later_frame
 kept_page k x xs v e = by_kind (is_empty_frame k) (k % 2 == 1)
   where
-    by_kind : (b c : Bool) → TakesAll (page_with xs v) (cond b [] (cond c (command.ReplaceItem 1 (drawn x 0 200) (drawn_item (after_draws x 1)) ∷ []) (command.ScrollBy 1 (pos 0) (pos (drawn x 0 40)) ∷ [])))
-        × ((ys : List Item) × (w : Point) × (commanded (cond b [] (cond c (command.ReplaceItem 1 (drawn x 0 200) (drawn_item (after_draws x 1)) ∷ []) (command.ScrollBy 1 (pos 0) (pos (drawn x 0 40)) ∷ []))) (page_with xs v) ≡ page_with ys w) × (length ys ≡ 200))
+    by_kind : (b c : Bool) → TakesAll (page_with xs v) (cond b [] (cond c (command.ReplaceItem (record { layer = 1; at = (drawn x 0 200); item = (drawn_item (after_draws x 1)) }) ∷ []) (command.ScrollBy (record { id = 1; dx = (pos 0); dy = (pos (drawn x 0 40)) }) ∷ [])))
+        × ((ys : List Item) × (w : Point) × (commanded (cond b [] (cond c (command.ReplaceItem (record { layer = 1; at = (drawn x 0 200); item = (drawn_item (after_draws x 1)) }) ∷ []) (command.ScrollBy (record { id = 1; dx = (pos 0); dy = (pos (drawn x 0 40)) }) ∷ []))) (page_with xs v) ≡ page_with ys w) × (length ys ≡ 200))
     by_kind true c = (tt, (xs, v, refl, e))
     by_kind false true = (
-      (accepted (page_with xs v) (command.ReplaceItem 1 (drawn x 0 200) (drawn_item (after_draws x 1))) (replace_passes xs v (after_draws x 1) (drawn x 0 200) e (below x 0 200 (omega arith))) (omega arith), tt),
+      (accepted (page_with xs v) (command.ReplaceItem (record { layer = 1; at = (drawn x 0 200); item = (drawn_item (after_draws x 1)) })) (replace_passes xs v (after_draws x 1) (drawn x 0 200) e (below x 0 200 (omega arith))) (omega arith), tt),
       (slice_set xs (drawn x 0 200) (drawn_item (after_draws x 1)), v, refl, length-set xs (drawn x 0 200) (drawn_item (after_draws x 1)) ∙ e),
     )
     by_kind false false = (
-      (accepted (page_with xs v) (command.ScrollBy 1 (pos 0) (pos (drawn x 0 40))) (scroll_passes xs v (drawn x 0 40) (below x 0 40 (omega arith))) (omega arith), tt),
+      (accepted (page_with xs v) (command.ScrollBy (record { id = 1; dx = (pos 0); dy = (pos (drawn x 0 40)) })) (scroll_passes xs v (drawn x 0 40) (below x 0 40 (omega arith))) (omega arith), tt),
       (xs, clamped (record { parent = 0; max_x = 0; max_y = 2000 }) (v.x +ℤ pos 0) (v.y +ℤ pos (drawn x 0 40)), refl, e),
     )
 

@@ -49,14 +49,14 @@ item_fits x =
     let t = signed (8 + drawn x 3 60) (omega (arith, d)) in
     λ i. (p i && q i && r i && t i) && (byte x 4 i && byte x 5 i && byte x 6 i && true)
 
-insert_fits : (x at : ℕ) → at ≤ 4294967295 → command_in_range 1 (command.InsertItem 1 at (drawn_item x)) ≡ true
+insert_fits : (x at : ℕ) → at ≤ 4294967295 → command_in_range 1 (command.InsertItem (record { layer = 1; at = at; item = (drawn_item x) })) ≡ true
 insert_fits x at l = let p = fits at l in let q = item_fits x in λ i. true && p i && q i
 
 inserts_fit : (x at n : ℕ) → at + n ≤ 4294967295 → list_all (command_in_range 1) (inserts x at n) ≡ true
 unfolding inserts
 inserts_fit x at zero l = refl
 inserts_fit x at (suc n) l =
-    both (command_in_range 1 (command.InsertItem 1 at (drawn_item x))) (list_all (command_in_range 1) (inserts (after_draws x 7) (suc at) n))
+    both (command_in_range 1 (command.InsertItem (record { layer = 1; at = at; item = (drawn_item x) }))) (list_all (command_in_range 1) (inserts (after_draws x 7) (suc at) n))
     (insert_fits x at (omega (arith, l))) (inserts_fit (after_draws x 7) (suc at) n (omega (arith, l)))
 
 later_fits : (k x : ℕ) → list_all (command_in_range 1) (later_frame k x) ≡ true
@@ -69,7 +69,7 @@ later_fits k x = by_kind (is_empty_frame k) (k % 2 == 1)
     by_fits : is_signed (pos (drawn x 0 40)) ≡ true
     by_fits = let l = below x 0 40 (omega arith) in signed (drawn x 0 40) (omega (arith, l))
 
-    by_kind : (b c : Bool) → list_all (command_in_range 1) (cond b [] (cond c (command.ReplaceItem 1 (drawn x 0 200) (drawn_item (after_draws x 1)) ∷ []) (command.ScrollBy 1 (pos 0) (pos (drawn x 0 40)) ∷ []))) ≡ true
+    by_kind : (b c : Bool) → list_all (command_in_range 1) (cond b [] (cond c (command.ReplaceItem (record { layer = 1; at = (drawn x 0 200); item = (drawn_item (after_draws x 1)) }) ∷ []) (command.ScrollBy (record { id = 1; dx = (pos 0); dy = (pos (drawn x 0 40)) }) ∷ []))) ≡ true
     by_kind true c = refl
     by_kind false true = let q = item_fits (after_draws x 1) in λ i. (true && at_fits i && q i) && true
     by_kind false false = λ i. (true && true && by_fits i) && true
@@ -164,7 +164,7 @@ one_short : (k x : ℕ) → is_short (later_frame k x) ≡ true
 unfolding later_frame
 one_short k x = by_kind (is_empty_frame k) (k % 2 == 1)
   where
-    by_kind : (b c : Bool) → is_short (cond b [] (cond c (command.ReplaceItem 1 (drawn x 0 200) (drawn_item (after_draws x 1)) ∷ []) (command.ScrollBy 1 (pos 0) (pos (drawn x 0 40)) ∷ []))) ≡ true
+    by_kind : (b c : Bool) → is_short (cond b [] (cond c (command.ReplaceItem (record { layer = 1; at = (drawn x 0 200); item = (drawn_item (after_draws x 1)) }) ∷ []) (command.ScrollBy (record { id = 1; dx = (pos 0); dy = (pos (drawn x 0 40)) }) ∷ []))) ≡ true
     by_kind true c = refl
     by_kind false true = refl
     by_kind false false = refl

@@ -34,25 +34,26 @@ priority_given (suc (suc n)) = tree_priority.New
 -- the nodes of the page: a scroller with its transform, a clip as large as the viewport, and a translucent effect
 abbrev pub node_commands : List Command
 node_commands =
-    command.AddScroller 1 0 0 2000
-    ∷ command.AddTransform 1 0 (pos 0) (pos 0) 1
-    ∷ command.AddClip 1 0 0 (rect 0 0 256 192)
-    ∷ command.AddEffect 1 0 200
+    command.AddScroller (record { id = 1; parent = 0; max_x = 0; max_y = 2000 })
+    ∷ command.AddTransform (record { id = 1; parent = 0; x = (pos 0); y = (pos 0); scroller = 1 })
+    ∷ command.AddClip (record { id = 1; parent = 0; transform = 0; rect = (rect 0 0 256 192) })
+    ∷ command.AddEffect (record { id = 1; parent = 0; opacity = 200 })
     ∷ []
 
 -- its layers: layer 1 scrolls, layer 2 is a header above it, of one item
 abbrev pub layer_commands : List Command
 layer_commands =
-    command.AddLayer 1 0 1 1 0 256 2192 (opaque 221 221 221)
-    ∷ command.AddLayer 2 1 0 0 1 256 24 (opaque 0 0 0)
-    ∷ command.InsertItem 2 0 (item.Rect (rect 0 0 256 24) (opaque 32 32 64))
+    command.AddLayer (record { id = 1; at = 0; transform = 1; clip = 1; effect = 0; w = 256; h = 2192; colour = (opaque 221 221 221) })
+    ∷ command.AddLayer (record { id = 2; at = 1; transform = 0; clip = 0; effect = 1; w = 256; h = 24; colour = (opaque 0 0 0) })
+    ∷ command.InsertItem (record { layer = 2; at = 0; item = (item.Rect (rect 0 0 256 24) (opaque 32 32 64)) })
     ∷ []
 
 -- the given number of drawn items, put into layer 1 one after another from this place on
 unfoldable pub inserts : ℕ → ℕ → ℕ → List Command
 inserts x at zero = []
-inserts x at (suc n) = command.InsertItem 1 at (drawn_item x) ∷ inserts (after_draws x 7) (suc at) n
+inserts x at (suc n) = command.InsertItem (record { layer = 1; at = at; item = (drawn_item x) }) ∷ inserts (after_draws x 7) (suc at) n
 
+-- the commands that make the page
 abbrev pub page_commands : List Command
 page_commands = node_commands ++ layer_commands
 
@@ -68,7 +69,7 @@ is_empty_frame k = k % 5 == 0
 unfoldable pub later_frame : ℕ → ℕ → List Command
 later_frame k x =
     cond (is_empty_frame k) []
-    (cond (k % 2 == 1) (command.ReplaceItem 1 (drawn x 0 200) (drawn_item (after_draws x 1)) ∷ []) (command.ScrollBy 1 (pos 0) (pos (drawn x 0 40)) ∷ []))
+    (cond (k % 2 == 1) (command.ReplaceItem (record { layer = 1; at = (drawn x 0 200); item = (drawn_item (after_draws x 1)) }) ∷ []) (command.ScrollBy (record { id = 1; dx = (pos 0); dy = (pos (drawn x 0 40)) }) ∷ []))
 
 -- how many draws it takes
 abbrev pub frame_draws : ℕ → ℕ
@@ -88,6 +89,7 @@ after_frames x k (suc n) = after_frames (after_draws x (frame_draws k)) (suc k) 
 unfoldable pub drawn_input : ℕ → Input
 drawn_input x = cond (drawn x 0 4 == 0) (input.Scroll 1 (pos 0) (pos (drawn x 1 401) -ℤ pos 200)) input.Draw
 
+-- how many draws an input takes of the generator
 abbrev pub input_draws : ℕ → ℕ
 input_draws x = cond (drawn x 0 4 == 0) 2 1
 
@@ -96,14 +98,14 @@ unfoldable pub drawn_inputs : ℕ → ℕ → List Input
 drawn_inputs x zero = []
 drawn_inputs x (suc n) = drawn_input x ∷ drawn_inputs (after_draws x (input_draws x)) n
 
--- the main frames, and the inputs, where the generator keeps this number
+-- the main frames, and the inputs, if the generator keeps this number
 abbrev pub frames : ℕ → List (List Command)
 frames x = first_frame x ∷ later_frames (after_draws x 1400) 1 20
 
 abbrev pub inputs : ℕ → List Input
 inputs x = input.Await 0 ∷ drawn_inputs x 200 ++ input.Settle ∷ input.Draw ∷ []
 
--- the script of this priority, where the generator keeps this number after the draw of the priority
+-- the script of this priority, if the generator keeps this number after the draw of the priority
 abbrev pub script_after : TreePriority → ℕ → ScriptModel
 script_after priority x = record {
   version = 1;

@@ -7,7 +7,10 @@ ghost use Rattle.script_generator.specs.Generated as spec;
 use crate::draws::Draws;
 use geom::Rect;
 use page_display_list::Item;
-use page_layers::Command;
+use page_layers::{
+    AddClip, AddEffect, AddLayer, AddScroller, AddTransform, Command, InsertItem, ReplaceItem,
+    ScrollBy,
+};
 use pixel::Colour;
 use std::alloc::{AllocError, Global};
 
@@ -69,20 +72,20 @@ fn push_page(commands: &mut Vec<Command>) -> Result<(), AllocError>
 fn push_nodes(commands: &mut Vec<Command>) -> Result<(), AllocError>
     ensures { OnOk result (commands.new.items ≡ commands.old.items ++ spec.node_commands) }
 {
-    commands.push(Command::AddScroller {
+    commands.push(Command::AddScroller(AddScroller {
         id: 1,
         parent: 0,
         max_x: 0,
         max_y: 2000,
-    })?;
-    commands.push(Command::AddTransform {
+    }))?;
+    commands.push(Command::AddTransform(AddTransform {
         id: 1,
         parent: 0,
         x: 0,
         y: 0,
         scroller: 1,
-    })?;
-    commands.push(Command::AddClip {
+    }))?;
+    commands.push(Command::AddClip(AddClip {
         id: 1,
         parent: 0,
         transform: 0,
@@ -92,12 +95,12 @@ fn push_nodes(commands: &mut Vec<Command>) -> Result<(), AllocError>
             w: 256,
             h: 192,
         },
-    })?;
-    commands.push(Command::AddEffect {
+    }))?;
+    commands.push(Command::AddEffect(AddEffect {
         id: 1,
         parent: 0,
         opacity: 200,
-    })?;
+    }))?;
     Ok(())
 }
 
@@ -105,7 +108,7 @@ fn push_nodes(commands: &mut Vec<Command>) -> Result<(), AllocError>
 fn push_layers(commands: &mut Vec<Command>) -> Result<(), AllocError>
     ensures { OnOk result (commands.new.items ≡ commands.old.items ++ spec.layer_commands) }
 {
-    commands.push(Command::AddLayer {
+    commands.push(Command::AddLayer(AddLayer {
         id: 1,
         at: 0,
         transform: 1,
@@ -114,8 +117,8 @@ fn push_layers(commands: &mut Vec<Command>) -> Result<(), AllocError>
         w: 256,
         h: 2192,
         colour: opaque(0xdd, 0xdd, 0xdd),
-    })?;
-    commands.push(Command::AddLayer {
+    }))?;
+    commands.push(Command::AddLayer(AddLayer {
         id: 2,
         at: 1,
         transform: 0,
@@ -124,8 +127,8 @@ fn push_layers(commands: &mut Vec<Command>) -> Result<(), AllocError>
         w: 256,
         h: 24,
         colour: opaque(0, 0, 0),
-    })?;
-    commands.push(Command::InsertItem {
+    }))?;
+    commands.push(Command::InsertItem(InsertItem {
         layer: 2,
         at: 0,
         item: Item::Rect {
@@ -137,7 +140,7 @@ fn push_layers(commands: &mut Vec<Command>) -> Result<(), AllocError>
             },
             colour: opaque(0x20, 0x20, 0x40),
         },
-    })?;
+    }))?;
     Ok(())
 }
 
@@ -148,7 +151,7 @@ fn push_items(commands: &mut Vec<Command>, draws: &mut Draws) -> Result<(), Allo
     let mut at = 0;
     while at < 200 {
         let item = drawn_item(draws);
-        commands.push(Command::InsertItem { layer: 1, at, item })?;
+        commands.push(Command::InsertItem(InsertItem { layer: 1, at, item }))?;
         at += 1;
     }
     Ok(())
@@ -174,10 +177,10 @@ fn later_command(number: u32, draws: &mut Draws) -> Command
     if number % 2 == 1 {
         let at = draws.next(200);
         let item = drawn_item(draws);
-        Command::ReplaceItem { layer: 1, at, item }
+        Command::ReplaceItem(ReplaceItem { layer: 1, at, item })
     } else {
         let dy = draws.next(40) as i32;
-        Command::ScrollBy { id: 1, dx: 0, dy }
+        Command::ScrollBy(ScrollBy { id: 1, dx: 0, dy })
     }
 }
 

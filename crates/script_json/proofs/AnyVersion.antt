@@ -59,7 +59,7 @@ abbrev views : Result Command FieldFault → Bool
 views (Ok c) = is_view c
 views (Err e) = true
 
-all_views : (w h tile : Result ℕ FieldFault) (more : Result ⊤ FieldFault) → views (w >>= λ a. h >>= λ b. tile >>= λ t. more >>= λ u. Ok (SetView a b t)) ≡ true
+all_views : (w h tile : Result ℕ FieldFault) (more : Result ⊤ FieldFault) → views (w >>= λ a. h >>= λ b. tile >>= λ t. more >>= λ u. Ok (SetView (record { w = a; h = b; tile = t }))) ≡ true
 all_views (Err e) h tile more = refl
 all_views (Ok a) (Err e) tile more = refl
 all_views (Ok a) (Ok b) (Err e) more = refl

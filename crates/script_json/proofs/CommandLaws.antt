@@ -5,6 +5,7 @@ use Rattle.serde_json.specs.Data.{Data, Items, no_items, item}
 use Rattle.serde_json.specs.Events.{items_len}
 use Rattle.serde_json.specs.Find.{as_array, as_str, get}
 use Rattle.serde_json.specs.View.{items_of}
+use Rattle.page_display_list.specs.declared.item.Item.{Item}
 use Rattle.page_display_list.specs.declared.item.Item.TheVariants as kind
 use Rattle.page_layers.specs.declared.command.Command.{Command}
 use Rattle.page_layers.specs.declared.command.Command.TheVariants.{AddTransform, SetTransform, AddClip, SetClip, AddEffect, SetOpacity, AddScroller, SetRange, ScrollBy, ScrollTo, AddLayer, RemoveLayer, ResizeLayer, SetColour, InsertItem, RemoveItem, ReplaceItem, MoveLayer, SetView}
@@ -20,6 +21,7 @@ use Rattle.script_json.specs.declared.op.Op.TheVariants as op
 use Rattle.script_json.specs.Faults.{placed, before_rest}
 use Rattle.script_json.specs.Ops.{op_at, op_named, is_of_version}
 use Rattle.script_json.specs.CommandReading.{fields_at, command_at, commands_at, frame_at, frames_at}
+use Rattle.script_json.specs.ItemValues.{item_data}
 use Rattle.script_json.specs.CommandValues.{command_data, frame_data}
 use Rattle.script_json.proofs.NodeLaws.{add_transform_again, add_transform_fits, set_transform_again, set_transform_fits, add_clip_again, add_clip_fits, set_clip_again, set_clip_fits, add_effect_again, add_effect_fits, set_opacity_again, set_opacity_fits, add_scroller_again, add_scroller_fits, set_range_again, set_range_fits, scroll_by_again, scroll_by_fits, scroll_to_again, scroll_to_fits}
 use Rattle.script_json.proofs.LayerLaws.{add_layer_again, add_layer_fits, remove_layer_again, remove_layer_fits, resize_layer_again, resize_layer_fits, set_colour_again, set_colour_fits, remove_item_again, remove_item_fits, move_layer_again, move_layer_fits, set_view_again, set_view_fits}
@@ -27,28 +29,36 @@ use Rattle.script_json.proofs.ItemLaws.{insert_rect_again, insert_bitmap_again, 
 
 -- ---- what is printed reads back
 
+insert_again : (version layer place : ℕ) (i : Item) → command_in_range version (InsertItem (record { layer = layer; at = place; item = i })) ≡ true
+    → command_at version (item_data (codes "insert_item") layer place i) ≡ Ok (InsertItem (record { layer = layer; at = place; item = i }))
+insert_again version layer place (kind.Rect rect colour) all = insert_rect_again version layer place rect colour all
+insert_again version layer place (kind.Bitmap picture) all = insert_bitmap_again version layer place picture all
+
+replace_again : (version layer place : ℕ) (i : Item) → command_in_range version (ReplaceItem (record { layer = layer; at = place; item = i })) ≡ true
+    → command_at version (item_data (codes "replace_item") layer place i) ≡ Ok (ReplaceItem (record { layer = layer; at = place; item = i }))
+replace_again version layer place (kind.Rect rect colour) all = replace_rect_again version layer place rect colour all
+replace_again version layer place (kind.Bitmap picture) all = replace_bitmap_again version layer place picture all
+
 pub command_again : (version : ℕ) (c : Command) → command_in_range version c ≡ true → command_at version (command_data c) ≡ Ok c
-command_again version (AddTransform id parent x y scroller) all = add_transform_again version id parent x y scroller all
-command_again version (SetTransform id x y) all = set_transform_again version id x y all
-command_again version (AddClip id parent transform rect) all = add_clip_again version id parent transform rect all
-command_again version (SetClip id rect) all = set_clip_again version id rect all
-command_again version (AddEffect id parent opacity) all = add_effect_again version id parent opacity all
-command_again version (SetOpacity id opacity) all = set_opacity_again version id opacity all
-command_again version (AddScroller id parent max_x max_y) all = add_scroller_again version id parent max_x max_y all
-command_again version (SetRange id max_x max_y) all = set_range_again version id max_x max_y all
-command_again version (ScrollBy id dx dy) all = scroll_by_again version id dx dy all
-command_again version (ScrollTo id x y) all = scroll_to_again version id x y all
-command_again version (AddLayer id at transform clip effect w h colour) all = add_layer_again version id at transform clip effect w h colour all
-command_again version (RemoveLayer id) all = remove_layer_again version id all
-command_again version (ResizeLayer id w h) all = resize_layer_again version id w h all
-command_again version (SetColour id colour) all = set_colour_again version id colour all
-command_again version (InsertItem layer place (kind.Rect rect colour)) all = insert_rect_again version layer place rect colour all
-command_again version (InsertItem layer place (kind.Bitmap picture)) all = insert_bitmap_again version layer place picture all
-command_again version (RemoveItem layer at) all = remove_item_again version layer at all
-command_again version (ReplaceItem layer place (kind.Rect rect colour)) all = replace_rect_again version layer place rect colour all
-command_again version (ReplaceItem layer place (kind.Bitmap picture)) all = replace_bitmap_again version layer place picture all
-command_again version (MoveLayer id at) all = move_layer_again version id at all
-command_again version (SetView w h tile) all = set_view_again version w h tile all
+command_again version (AddTransform c) all = add_transform_again version c.id c.parent c.x c.y c.scroller all
+command_again version (SetTransform c) all = set_transform_again version c.id c.x c.y all
+command_again version (AddClip c) all = add_clip_again version c.id c.parent c.transform c.rect all
+command_again version (SetClip c) all = set_clip_again version c.id c.rect all
+command_again version (AddEffect c) all = add_effect_again version c.id c.parent c.opacity all
+command_again version (SetOpacity c) all = set_opacity_again version c.id c.opacity all
+command_again version (AddScroller c) all = add_scroller_again version c.id c.parent c.max_x c.max_y all
+command_again version (SetRange c) all = set_range_again version c.id c.max_x c.max_y all
+command_again version (ScrollBy c) all = scroll_by_again version c.id c.dx c.dy all
+command_again version (ScrollTo c) all = scroll_to_again version c.id c.x c.y all
+command_again version (AddLayer c) all = add_layer_again version c.id c.at c.transform c.clip c.effect c.w c.h c.colour all
+command_again version (RemoveLayer c) all = remove_layer_again version c.id all
+command_again version (ResizeLayer c) all = resize_layer_again version c.id c.w c.h all
+command_again version (SetColour c) all = set_colour_again version c.id c.colour all
+command_again version (InsertItem c) all = insert_again version c.layer c.at c.item all
+command_again version (RemoveItem c) all = remove_item_again version c.layer c.at all
+command_again version (ReplaceItem c) all = replace_again version c.layer c.at c.item all
+command_again version (MoveLayer c) all = move_layer_again version c.id c.at all
+command_again version (SetView c) all = set_view_again version c.w c.h c.tile all
 
 commands_again : (version list index : ℕ) (cs : List Command) → list_all (command_in_range version) cs ≡ true
     → commands_at version list index (items_of (map command_data cs)) ≡ Ok cs

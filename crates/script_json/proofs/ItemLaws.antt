@@ -42,7 +42,7 @@ pixels_again rect bytes h = rw (bytes_again bytes (picture_pixels rect bytes h))
 
 insert_rect_fields : (version layer place : ℕ) (rect : Rect) (colour : Parts)
     → (is_u32 layer && is_u32 place && (is_rect rect && is_colour colour)) ≡ true
-    → fields_at op.InsertItem (rect_item_data (codes "insert_item") layer place rect colour) ≡ Ok (InsertItem layer place (item.Rect rect colour))
+    → fields_at op.InsertItem (rect_item_data (codes "insert_item") layer place rect colour) ≡ Ok (InsertItem (record { layer = layer; at = place; item = (item.Rect rect colour) }))
 unfolding fields_at rect_item_data no_more_members number_at whole_at rect_at paint_at
 insert_rect_fields version layer place rect colour all =
     let h0 = left _ _ (left _ _ all) in
@@ -57,14 +57,14 @@ insert_rect_fields version layer place rect colour all =
 
 pub insert_rect_again : (version layer place : ℕ) (rect : Rect) (colour : Parts)
     → (is_u32 layer && is_u32 place && (is_rect rect && is_colour colour)) ≡ true
-    → command_at version (rect_item_data (codes "insert_item") layer place rect colour) ≡ Ok (InsertItem layer place (item.Rect rect colour))
+    → command_at version (rect_item_data (codes "insert_item") layer place rect colour) ≡ Ok (InsertItem (record { layer = layer; at = place; item = (item.Rect rect colour) }))
 unfolding command_at object_at op_at op_named node_op_named layer_op_named rect_item_data
 insert_rect_again version layer place rect colour all =
     insert_rect_fields version layer place rect colour all
 
 insert_bitmap_fields : (version layer place : ℕ) (picture : BitmapModel)
     → (is_u32 layer && is_u32 place && (is_rect picture.rect && is_picture picture.rect picture.pixels)) ≡ true
-    → fields_at op.InsertItem (bitmap_data (codes "insert_item") layer place picture) ≡ Ok (InsertItem layer place (item.Bitmap picture))
+    → fields_at op.InsertItem (bitmap_data (codes "insert_item") layer place picture) ≡ Ok (InsertItem (record { layer = layer; at = place; item = (item.Bitmap picture) }))
 unfolding fields_at bitmap_data no_more_members number_at whole_at rect_at paint_at
 insert_bitmap_fields version layer place picture all =
     let h0 = left _ _ (left _ _ all) in
@@ -79,14 +79,14 @@ insert_bitmap_fields version layer place picture all =
 
 pub insert_bitmap_again : (version layer place : ℕ) (picture : BitmapModel)
     → (is_u32 layer && is_u32 place && (is_rect picture.rect && is_picture picture.rect picture.pixels)) ≡ true
-    → command_at version (bitmap_data (codes "insert_item") layer place picture) ≡ Ok (InsertItem layer place (item.Bitmap picture))
+    → command_at version (bitmap_data (codes "insert_item") layer place picture) ≡ Ok (InsertItem (record { layer = layer; at = place; item = (item.Bitmap picture) }))
 unfolding command_at object_at op_at op_named node_op_named layer_op_named bitmap_data
 insert_bitmap_again version layer place picture all =
     insert_bitmap_fields version layer place picture all
 
 replace_rect_fields : (version layer place : ℕ) (rect : Rect) (colour : Parts)
     → (is_u32 layer && is_u32 place && (is_rect rect && is_colour colour)) ≡ true
-    → fields_at op.ReplaceItem (rect_item_data (codes "replace_item") layer place rect colour) ≡ Ok (ReplaceItem layer place (item.Rect rect colour))
+    → fields_at op.ReplaceItem (rect_item_data (codes "replace_item") layer place rect colour) ≡ Ok (ReplaceItem (record { layer = layer; at = place; item = (item.Rect rect colour) }))
 unfolding fields_at rect_item_data no_more_members number_at whole_at rect_at paint_at
 replace_rect_fields version layer place rect colour all =
     let h0 = left _ _ (left _ _ all) in
@@ -101,14 +101,14 @@ replace_rect_fields version layer place rect colour all =
 
 pub replace_rect_again : (version layer place : ℕ) (rect : Rect) (colour : Parts)
     → (is_u32 layer && is_u32 place && (is_rect rect && is_colour colour)) ≡ true
-    → command_at version (rect_item_data (codes "replace_item") layer place rect colour) ≡ Ok (ReplaceItem layer place (item.Rect rect colour))
+    → command_at version (rect_item_data (codes "replace_item") layer place rect colour) ≡ Ok (ReplaceItem (record { layer = layer; at = place; item = (item.Rect rect colour) }))
 unfolding command_at object_at op_at op_named node_op_named layer_op_named rect_item_data
 replace_rect_again version layer place rect colour all =
     replace_rect_fields version layer place rect colour all
 
 replace_bitmap_fields : (version layer place : ℕ) (picture : BitmapModel)
     → (is_u32 layer && is_u32 place && (is_rect picture.rect && is_picture picture.rect picture.pixels)) ≡ true
-    → fields_at op.ReplaceItem (bitmap_data (codes "replace_item") layer place picture) ≡ Ok (ReplaceItem layer place (item.Bitmap picture))
+    → fields_at op.ReplaceItem (bitmap_data (codes "replace_item") layer place picture) ≡ Ok (ReplaceItem (record { layer = layer; at = place; item = (item.Bitmap picture) }))
 unfolding fields_at bitmap_data no_more_members number_at whole_at rect_at paint_at
 replace_bitmap_fields version layer place picture all =
     let h0 = left _ _ (left _ _ all) in
@@ -123,7 +123,7 @@ replace_bitmap_fields version layer place picture all =
 
 pub replace_bitmap_again : (version layer place : ℕ) (picture : BitmapModel)
     → (is_u32 layer && is_u32 place && (is_rect picture.rect && is_picture picture.rect picture.pixels)) ≡ true
-    → command_at version (bitmap_data (codes "replace_item") layer place picture) ≡ Ok (ReplaceItem layer place (item.Bitmap picture))
+    → command_at version (bitmap_data (codes "replace_item") layer place picture) ≡ Ok (ReplaceItem (record { layer = layer; at = place; item = (item.Bitmap picture) }))
 unfolding command_at object_at op_at op_named node_op_named layer_op_named bitmap_data
 replace_bitmap_again version layer place picture all =
     replace_bitmap_fields version layer place picture all

@@ -102,25 +102,25 @@ nests_item op layer place (kind.Rect rect colour) = nests_rect_item op layer pla
 nests_item op layer place (kind.Bitmap picture) = nests_bitmap op layer place picture
 
 nests_command : (c : Command) → depth (command_data c) ≤ 2
-nests_command (AddTransform id parent x y scroller) = nests_add_transform id parent x y scroller
-nests_command (SetTransform id x y) = nests_set_transform id x y
-nests_command (AddClip id parent transform rect) = nests_add_clip id parent transform rect
-nests_command (SetClip id rect) = nests_set_clip id rect
-nests_command (AddEffect id parent opacity) = nests_add_effect id parent opacity
-nests_command (SetOpacity id opacity) = nests_set_opacity id opacity
-nests_command (AddScroller id parent max_x max_y) = nests_add_scroller id parent max_x max_y
-nests_command (SetRange id max_x max_y) = nests_set_range id max_x max_y
-nests_command (ScrollBy id dx dy) = nests_scroll_by id dx dy
-nests_command (ScrollTo id x y) = nests_scroll_to id x y
-nests_command (AddLayer id at transform clip effect w h colour) = nests_add_layer id at transform clip effect w h colour
-nests_command (RemoveLayer id) = nests_remove_layer id
-nests_command (ResizeLayer id w h) = nests_resize_layer id w h
-nests_command (SetColour id colour) = nests_set_colour id colour
-nests_command (InsertItem layer place i) = nests_item (codes "insert_item") layer place i
-nests_command (RemoveItem layer at) = nests_remove_item layer at
-nests_command (ReplaceItem layer place i) = nests_item (codes "replace_item") layer place i
-nests_command (MoveLayer id at) = nests_move_layer id at
-nests_command (SetView w h tile) = nests_set_view w h tile
+nests_command (AddTransform c) = nests_add_transform c.id c.parent c.x c.y c.scroller
+nests_command (SetTransform c) = nests_set_transform c.id c.x c.y
+nests_command (AddClip c) = nests_add_clip c.id c.parent c.transform c.rect
+nests_command (SetClip c) = nests_set_clip c.id c.rect
+nests_command (AddEffect c) = nests_add_effect c.id c.parent c.opacity
+nests_command (SetOpacity c) = nests_set_opacity c.id c.opacity
+nests_command (AddScroller c) = nests_add_scroller c.id c.parent c.max_x c.max_y
+nests_command (SetRange c) = nests_set_range c.id c.max_x c.max_y
+nests_command (ScrollBy c) = nests_scroll_by c.id c.dx c.dy
+nests_command (ScrollTo c) = nests_scroll_to c.id c.x c.y
+nests_command (AddLayer c) = nests_add_layer c.id c.at c.transform c.clip c.effect c.w c.h c.colour
+nests_command (RemoveLayer c) = nests_remove_layer c.id
+nests_command (ResizeLayer c) = nests_resize_layer c.id c.w c.h
+nests_command (SetColour c) = nests_set_colour c.id c.colour
+nests_command (InsertItem c) = nests_item (codes "insert_item") c.layer c.at c.item
+nests_command (RemoveItem c) = nests_remove_item c.layer c.at
+nests_command (ReplaceItem c) = nests_item (codes "replace_item") c.layer c.at c.item
+nests_command (MoveLayer c) = nests_move_layer c.id c.at
+nests_command (SetView c) = nests_set_view c.w c.h c.tile
 
 nests_list : {X : Type 0} (f : X → Data) (n : ℕ) → ((x : X) → depth (f x) ≤ n) → (xs : List X) → items_depth (items_of (map f xs)) ≤ n
 nests_list f n h [] = omega arith

@@ -106,7 +106,7 @@ pixels_print (r ∷ g ∷ b ∷ a ∷ rest) h =
 pixels_prints : (rect : Rect) (bytes : List ℕ) → is_picture rect bytes ≡ true → IsUtf8 (bytes_digits bytes)
 pixels_prints rect bytes h = pixels_print bytes (picture_pixels rect bytes h)
 
-add_transform_prints : (version : ℕ) (id : ℕ) (parent : ℕ) (x : ℤ) (y : ℤ) (scroller : ℕ) → command_in_range version (AddTransform id parent x y scroller) ≡ true
+add_transform_prints : (version : ℕ) (id : ℕ) (parent : ℕ) (x : ℤ) (y : ℤ) (scroller : ℕ) → command_in_range version (AddTransform (record { id = id; parent = parent; x = x; y = y; scroller = scroller })) ≡ true
     → Prints (add_transform_data id parent x y scroller)
 unfolding add_transform_data number_data
 add_transform_prints version id parent x y scroller all =
@@ -118,7 +118,7 @@ add_transform_prints version id parent x y scroller all =
     members_print (member (codes "id") (number_data id) (member (codes "op") (string (codes "add_transform")) (member (codes "parent") (number_data parent) (member (codes "scroller") (number_data scroller) (member (codes "x") (int_data x) (member (codes "y") (int_data y) no_members)))))) refl refl
     (u32_prints id h0, (IsUtf8-are_ascii (codes "add_transform") refl, (u32_prints parent h1, (u32_prints scroller h4, (signed_prints x h2, (signed_prints y h3, tt))))))
 
-set_transform_prints : (version : ℕ) (id : ℕ) (x : ℤ) (y : ℤ) → command_in_range version (SetTransform id x y) ≡ true
+set_transform_prints : (version : ℕ) (id : ℕ) (x : ℤ) (y : ℤ) → command_in_range version (SetTransform (record { id = id; x = x; y = y })) ≡ true
     → Prints (set_transform_data id x y)
 unfolding set_transform_data number_data
 set_transform_prints version id x y all =
@@ -128,7 +128,7 @@ set_transform_prints version id x y all =
     members_print (member (codes "id") (number_data id) (member (codes "op") (string (codes "set_transform")) (member (codes "x") (int_data x) (member (codes "y") (int_data y) no_members)))) refl refl
     (u32_prints id h0, (IsUtf8-are_ascii (codes "set_transform") refl, (signed_prints x h1, (signed_prints y h2, tt))))
 
-add_clip_prints : (version : ℕ) (id : ℕ) (parent : ℕ) (transform : ℕ) (rect : Rect) → command_in_range version (AddClip id parent transform rect) ≡ true
+add_clip_prints : (version : ℕ) (id : ℕ) (parent : ℕ) (transform : ℕ) (rect : Rect) → command_in_range version (AddClip (record { id = id; parent = parent; transform = transform; rect = rect })) ≡ true
     → Prints (add_clip_data id parent transform rect)
 unfolding add_clip_data number_data
 add_clip_prints version id parent transform rect all =
@@ -139,7 +139,7 @@ add_clip_prints version id parent transform rect all =
     members_print (member (codes "id") (number_data id) (member (codes "op") (string (codes "add_clip")) (member (codes "parent") (number_data parent) (member (codes "rect") (rect_data rect) (member (codes "transform") (number_data transform) no_members))))) refl refl
     (u32_prints id h0, (IsUtf8-are_ascii (codes "add_clip") refl, (u32_prints parent h1, (rect_prints rect h3, (u32_prints transform h2, tt)))))
 
-set_clip_prints : (version : ℕ) (id : ℕ) (rect : Rect) → command_in_range version (SetClip id rect) ≡ true
+set_clip_prints : (version : ℕ) (id : ℕ) (rect : Rect) → command_in_range version (SetClip (record { id = id; rect = rect })) ≡ true
     → Prints (set_clip_data id rect)
 unfolding set_clip_data number_data
 set_clip_prints version id rect all =
@@ -148,7 +148,7 @@ set_clip_prints version id rect all =
     members_print (member (codes "id") (number_data id) (member (codes "op") (string (codes "set_clip")) (member (codes "rect") (rect_data rect) no_members))) refl refl
     (u32_prints id h0, (IsUtf8-are_ascii (codes "set_clip") refl, (rect_prints rect h1, tt)))
 
-add_effect_prints : (version : ℕ) (id : ℕ) (parent : ℕ) (opacity : ℕ) → command_in_range version (AddEffect id parent opacity) ≡ true
+add_effect_prints : (version : ℕ) (id : ℕ) (parent : ℕ) (opacity : ℕ) → command_in_range version (AddEffect (record { id = id; parent = parent; opacity = opacity })) ≡ true
     → Prints (add_effect_data id parent opacity)
 unfolding add_effect_data number_data
 add_effect_prints version id parent opacity all =
@@ -158,7 +158,7 @@ add_effect_prints version id parent opacity all =
     members_print (member (codes "id") (number_data id) (member (codes "op") (string (codes "add_effect")) (member (codes "opacity") (number_data opacity) (member (codes "parent") (number_data parent) no_members)))) refl refl
     (u32_prints id h0, (IsUtf8-are_ascii (codes "add_effect") refl, (u32_prints opacity h2, (u32_prints parent h1, tt))))
 
-set_opacity_prints : (version : ℕ) (id : ℕ) (opacity : ℕ) → command_in_range version (SetOpacity id opacity) ≡ true
+set_opacity_prints : (version : ℕ) (id : ℕ) (opacity : ℕ) → command_in_range version (SetOpacity (record { id = id; opacity = opacity })) ≡ true
     → Prints (set_opacity_data id opacity)
 unfolding set_opacity_data number_data
 set_opacity_prints version id opacity all =
@@ -167,7 +167,7 @@ set_opacity_prints version id opacity all =
     members_print (member (codes "id") (number_data id) (member (codes "op") (string (codes "set_opacity")) (member (codes "opacity") (number_data opacity) no_members))) refl refl
     (u32_prints id h0, (IsUtf8-are_ascii (codes "set_opacity") refl, (u32_prints opacity h1, tt)))
 
-add_scroller_prints : (version : ℕ) (id : ℕ) (parent : ℕ) (max_x : ℕ) (max_y : ℕ) → command_in_range version (AddScroller id parent max_x max_y) ≡ true
+add_scroller_prints : (version : ℕ) (id : ℕ) (parent : ℕ) (max_x : ℕ) (max_y : ℕ) → command_in_range version (AddScroller (record { id = id; parent = parent; max_x = max_x; max_y = max_y })) ≡ true
     → Prints (add_scroller_data id parent max_x max_y)
 unfolding add_scroller_data number_data
 add_scroller_prints version id parent max_x max_y all =
@@ -178,7 +178,7 @@ add_scroller_prints version id parent max_x max_y all =
     members_print (member (codes "id") (number_data id) (member (codes "max_x") (number_data max_x) (member (codes "max_y") (number_data max_y) (member (codes "op") (string (codes "add_scroller")) (member (codes "parent") (number_data parent) no_members))))) refl refl
     (u32_prints id h0, (u32_prints max_x h2, (u32_prints max_y h3, (IsUtf8-are_ascii (codes "add_scroller") refl, (u32_prints parent h1, tt)))))
 
-set_range_prints : (version : ℕ) (id : ℕ) (max_x : ℕ) (max_y : ℕ) → command_in_range version (SetRange id max_x max_y) ≡ true
+set_range_prints : (version : ℕ) (id : ℕ) (max_x : ℕ) (max_y : ℕ) → command_in_range version (SetRange (record { id = id; max_x = max_x; max_y = max_y })) ≡ true
     → Prints (set_range_data id max_x max_y)
 unfolding set_range_data number_data
 set_range_prints version id max_x max_y all =
@@ -188,7 +188,7 @@ set_range_prints version id max_x max_y all =
     members_print (member (codes "id") (number_data id) (member (codes "max_x") (number_data max_x) (member (codes "max_y") (number_data max_y) (member (codes "op") (string (codes "set_range")) no_members)))) refl refl
     (u32_prints id h0, (u32_prints max_x h1, (u32_prints max_y h2, (IsUtf8-are_ascii (codes "set_range") refl, tt))))
 
-scroll_by_prints : (version : ℕ) (id : ℕ) (dx : ℤ) (dy : ℤ) → command_in_range version (ScrollBy id dx dy) ≡ true
+scroll_by_prints : (version : ℕ) (id : ℕ) (dx : ℤ) (dy : ℤ) → command_in_range version (ScrollBy (record { id = id; dx = dx; dy = dy })) ≡ true
     → Prints (scroll_by_data id dx dy)
 unfolding scroll_by_data number_data
 scroll_by_prints version id dx dy all =
@@ -198,7 +198,7 @@ scroll_by_prints version id dx dy all =
     members_print (member (codes "dx") (int_data dx) (member (codes "dy") (int_data dy) (member (codes "id") (number_data id) (member (codes "op") (string (codes "scroll_by")) no_members)))) refl refl
     (signed_prints dx h1, (signed_prints dy h2, (u32_prints id h0, (IsUtf8-are_ascii (codes "scroll_by") refl, tt))))
 
-scroll_to_prints : (version : ℕ) (id : ℕ) (x : ℕ) (y : ℕ) → command_in_range version (ScrollTo id x y) ≡ true
+scroll_to_prints : (version : ℕ) (id : ℕ) (x : ℕ) (y : ℕ) → command_in_range version (ScrollTo (record { id = id; x = x; y = y })) ≡ true
     → Prints (scroll_to_data id x y)
 unfolding scroll_to_data number_data
 scroll_to_prints version id x y all =
@@ -208,7 +208,7 @@ scroll_to_prints version id x y all =
     members_print (member (codes "id") (number_data id) (member (codes "op") (string (codes "scroll_to")) (member (codes "x") (number_data x) (member (codes "y") (number_data y) no_members)))) refl refl
     (u32_prints id h0, (IsUtf8-are_ascii (codes "scroll_to") refl, (u32_prints x h1, (u32_prints y h2, tt))))
 
-add_layer_prints : (version : ℕ) (id : ℕ) (at : ℕ) (transform : ℕ) (clip : ℕ) (effect : ℕ) (w : ℕ) (h : ℕ) (colour : Parts) → command_in_range version (AddLayer id at transform clip effect w h colour) ≡ true
+add_layer_prints : (version : ℕ) (id : ℕ) (at : ℕ) (transform : ℕ) (clip : ℕ) (effect : ℕ) (w : ℕ) (h : ℕ) (colour : Parts) → command_in_range version (AddLayer (record { id = id; at = at; transform = transform; clip = clip; effect = effect; w = w; h = h; colour = colour })) ≡ true
     → Prints (add_layer_data id at transform clip effect w h colour)
 unfolding add_layer_data colour_data number_data
 add_layer_prints version id at transform clip effect w h colour all =
@@ -223,14 +223,14 @@ add_layer_prints version id at transform clip effect w h colour all =
     members_print (member (codes "at") (number_data at) (member (codes "clip") (number_data clip) (member (codes "colour") (colour_data colour) (member (codes "effect") (number_data effect) (member (codes "h") (number_data h) (member (codes "id") (number_data id) (member (codes "op") (string (codes "add_layer")) (member (codes "transform") (number_data transform) (member (codes "w") (number_data w) no_members))))))))) refl refl
     (u32_prints at h1, (u32_prints clip h3, (colour_prints colour h7, (u32_prints effect h4, (u32_prints h h6, (u32_prints id h0, (IsUtf8-are_ascii (codes "add_layer") refl, (u32_prints transform h2, (u32_prints w h5, tt)))))))))
 
-remove_layer_prints : (version : ℕ) (id : ℕ) → command_in_range version (RemoveLayer id) ≡ true
+remove_layer_prints : (version : ℕ) (id : ℕ) → command_in_range version (RemoveLayer (record { id = id })) ≡ true
     → Prints (remove_layer_data id)
 unfolding remove_layer_data number_data
 remove_layer_prints version id all =
     members_print (member (codes "id") (number_data id) (member (codes "op") (string (codes "remove_layer")) no_members)) refl refl
     (u32_prints id all, (IsUtf8-are_ascii (codes "remove_layer") refl, tt))
 
-resize_layer_prints : (version : ℕ) (id : ℕ) (w : ℕ) (h : ℕ) → command_in_range version (ResizeLayer id w h) ≡ true
+resize_layer_prints : (version : ℕ) (id : ℕ) (w : ℕ) (h : ℕ) → command_in_range version (ResizeLayer (record { id = id; w = w; h = h })) ≡ true
     → Prints (resize_layer_data id w h)
 unfolding resize_layer_data number_data
 resize_layer_prints version id w h all =
@@ -240,7 +240,7 @@ resize_layer_prints version id w h all =
     members_print (member (codes "h") (number_data h) (member (codes "id") (number_data id) (member (codes "op") (string (codes "resize_layer")) (member (codes "w") (number_data w) no_members)))) refl refl
     (u32_prints h h2, (u32_prints id h0, (IsUtf8-are_ascii (codes "resize_layer") refl, (u32_prints w h1, tt))))
 
-set_colour_prints : (version : ℕ) (id : ℕ) (colour : Parts) → command_in_range version (SetColour id colour) ≡ true
+set_colour_prints : (version : ℕ) (id : ℕ) (colour : Parts) → command_in_range version (SetColour (record { id = id; colour = colour })) ≡ true
     → Prints (set_colour_data id colour)
 unfolding set_colour_data colour_data number_data
 set_colour_prints version id colour all =
@@ -249,7 +249,7 @@ set_colour_prints version id colour all =
     members_print (member (codes "colour") (colour_data colour) (member (codes "id") (number_data id) (member (codes "op") (string (codes "set_colour")) no_members))) refl refl
     (colour_prints colour h1, (u32_prints id h0, (IsUtf8-are_ascii (codes "set_colour") refl, tt)))
 
-remove_item_prints : (version : ℕ) (layer : ℕ) (at : ℕ) → command_in_range version (RemoveItem layer at) ≡ true
+remove_item_prints : (version : ℕ) (layer : ℕ) (at : ℕ) → command_in_range version (RemoveItem (record { layer = layer; at = at })) ≡ true
     → Prints (remove_item_data layer at)
 unfolding remove_item_data number_data
 remove_item_prints version layer at all =
@@ -258,7 +258,7 @@ remove_item_prints version layer at all =
     members_print (member (codes "at") (number_data at) (member (codes "layer") (number_data layer) (member (codes "op") (string (codes "remove_item")) no_members))) refl refl
     (u32_prints at h1, (u32_prints layer h0, (IsUtf8-are_ascii (codes "remove_item") refl, tt)))
 
-move_layer_prints : (version : ℕ) (id : ℕ) (at : ℕ) → command_in_range version (MoveLayer id at) ≡ true
+move_layer_prints : (version : ℕ) (id : ℕ) (at : ℕ) → command_in_range version (MoveLayer (record { id = id; at = at })) ≡ true
     → Prints (move_layer_data id at)
 unfolding move_layer_data number_data
 move_layer_prints version id at all =
@@ -267,7 +267,7 @@ move_layer_prints version id at all =
     members_print (member (codes "at") (number_data at) (member (codes "id") (number_data id) (member (codes "op") (string (codes "move_layer")) no_members))) refl refl
     (u32_prints at h1, (u32_prints id h0, (IsUtf8-are_ascii (codes "move_layer") refl, tt)))
 
-set_view_prints : (version : ℕ) (w : ℕ) (h : ℕ) (tile : ℕ) → command_in_range version (SetView w h tile) ≡ true
+set_view_prints : (version : ℕ) (w : ℕ) (h : ℕ) (tile : ℕ) → command_in_range version (SetView (record { w = w; h = h; tile = tile })) ≡ true
     → Prints (set_view_data w h tile)
 unfolding set_view_data number_data
 set_view_prints version w h tile all =
@@ -304,25 +304,25 @@ item_prints op layer place (kind.Rect rect colour) text all = rect_item_prints o
 item_prints op layer place (kind.Bitmap picture) text all = bitmap_prints op layer place picture text all
 
 command_prints : (version : ℕ) (c : Command) → command_in_range version c ≡ true → Prints (command_data c)
-command_prints version (AddTransform id parent x y scroller) all = add_transform_prints version id parent x y scroller all
-command_prints version (SetTransform id x y) all = set_transform_prints version id x y all
-command_prints version (AddClip id parent transform rect) all = add_clip_prints version id parent transform rect all
-command_prints version (SetClip id rect) all = set_clip_prints version id rect all
-command_prints version (AddEffect id parent opacity) all = add_effect_prints version id parent opacity all
-command_prints version (SetOpacity id opacity) all = set_opacity_prints version id opacity all
-command_prints version (AddScroller id parent max_x max_y) all = add_scroller_prints version id parent max_x max_y all
-command_prints version (SetRange id max_x max_y) all = set_range_prints version id max_x max_y all
-command_prints version (ScrollBy id dx dy) all = scroll_by_prints version id dx dy all
-command_prints version (ScrollTo id x y) all = scroll_to_prints version id x y all
-command_prints version (AddLayer id place transform clip effect w h colour) all = add_layer_prints version id place transform clip effect w h colour all
-command_prints version (RemoveLayer id) all = remove_layer_prints version id all
-command_prints version (ResizeLayer id w h) all = resize_layer_prints version id w h all
-command_prints version (SetColour id colour) all = set_colour_prints version id colour all
-command_prints version (InsertItem layer place item) all = item_prints (codes "insert_item") layer place item (IsUtf8-are_ascii (codes "insert_item") refl) all
-command_prints version (RemoveItem layer place) all = remove_item_prints version layer place all
-command_prints version (ReplaceItem layer place item) all = item_prints (codes "replace_item") layer place item (IsUtf8-are_ascii (codes "replace_item") refl) all
-command_prints version (MoveLayer id place) all = move_layer_prints version id place all
-command_prints version (SetView w h tile) all = set_view_prints version w h tile all
+command_prints version (AddTransform c) all = add_transform_prints version c.id c.parent c.x c.y c.scroller all
+command_prints version (SetTransform c) all = set_transform_prints version c.id c.x c.y all
+command_prints version (AddClip c) all = add_clip_prints version c.id c.parent c.transform c.rect all
+command_prints version (SetClip c) all = set_clip_prints version c.id c.rect all
+command_prints version (AddEffect c) all = add_effect_prints version c.id c.parent c.opacity all
+command_prints version (SetOpacity c) all = set_opacity_prints version c.id c.opacity all
+command_prints version (AddScroller c) all = add_scroller_prints version c.id c.parent c.max_x c.max_y all
+command_prints version (SetRange c) all = set_range_prints version c.id c.max_x c.max_y all
+command_prints version (ScrollBy c) all = scroll_by_prints version c.id c.dx c.dy all
+command_prints version (ScrollTo c) all = scroll_to_prints version c.id c.x c.y all
+command_prints version (AddLayer c) all = add_layer_prints version c.id c.at c.transform c.clip c.effect c.w c.h c.colour all
+command_prints version (RemoveLayer c) all = remove_layer_prints version c.id all
+command_prints version (ResizeLayer c) all = resize_layer_prints version c.id c.w c.h all
+command_prints version (SetColour c) all = set_colour_prints version c.id c.colour all
+command_prints version (InsertItem c) all = item_prints (codes "insert_item") c.layer c.at c.item (IsUtf8-are_ascii (codes "insert_item") refl) all
+command_prints version (RemoveItem c) all = remove_item_prints version c.layer c.at all
+command_prints version (ReplaceItem c) all = item_prints (codes "replace_item") c.layer c.at c.item (IsUtf8-are_ascii (codes "replace_item") refl) all
+command_prints version (MoveLayer c) all = move_layer_prints version c.id c.at all
+command_prints version (SetView c) all = set_view_prints version c.w c.h c.tile all
 
 scroll_prints : (frames scroller : ℕ) (dx dy : ℤ) → input_in_range frames (Scroll scroller dx dy) ≡ true → Prints (scroll_data scroller dx dy)
 unfolding scroll_data number_data

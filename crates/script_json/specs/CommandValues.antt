@@ -10,25 +10,25 @@ use Rattle.script_json.specs.ItemValues.{item_data}
 
 -- a command
 abbrev pub command_data : Command → Data
-command_data (AddTransform id parent x y scroller) = add_transform_data id parent x y scroller
-command_data (SetTransform id x y) = set_transform_data id x y
-command_data (AddClip id parent transform rect) = add_clip_data id parent transform rect
-command_data (SetClip id rect) = set_clip_data id rect
-command_data (AddEffect id parent opacity) = add_effect_data id parent opacity
-command_data (SetOpacity id opacity) = set_opacity_data id opacity
-command_data (AddScroller id parent max_x max_y) = add_scroller_data id parent max_x max_y
-command_data (SetRange id max_x max_y) = set_range_data id max_x max_y
-command_data (ScrollBy id dx dy) = scroll_by_data id dx dy
-command_data (ScrollTo id x y) = scroll_to_data id x y
-command_data (AddLayer id place transform clip effect w h colour) = add_layer_data id place transform clip effect w h colour
-command_data (RemoveLayer id) = remove_layer_data id
-command_data (ResizeLayer id w h) = resize_layer_data id w h
-command_data (SetColour id colour) = set_colour_data id colour
-command_data (InsertItem layer place item) = item_data (codes "insert_item") layer place item
-command_data (RemoveItem layer place) = remove_item_data layer place
-command_data (ReplaceItem layer place item) = item_data (codes "replace_item") layer place item
-command_data (MoveLayer id place) = move_layer_data id place
-command_data (SetView w h tile) = set_view_data w h tile
+command_data (AddTransform c) = add_transform_data c.id c.parent c.x c.y c.scroller
+command_data (SetTransform c) = set_transform_data c.id c.x c.y
+command_data (AddClip c) = add_clip_data c.id c.parent c.transform c.rect
+command_data (SetClip c) = set_clip_data c.id c.rect
+command_data (AddEffect c) = add_effect_data c.id c.parent c.opacity
+command_data (SetOpacity c) = set_opacity_data c.id c.opacity
+command_data (AddScroller c) = add_scroller_data c.id c.parent c.max_x c.max_y
+command_data (SetRange c) = set_range_data c.id c.max_x c.max_y
+command_data (ScrollBy c) = scroll_by_data c.id c.dx c.dy
+command_data (ScrollTo c) = scroll_to_data c.id c.x c.y
+command_data (AddLayer c) = add_layer_data c.id c.at c.transform c.clip c.effect c.w c.h c.colour
+command_data (RemoveLayer c) = remove_layer_data c.id
+command_data (ResizeLayer c) = resize_layer_data c.id c.w c.h
+command_data (SetColour c) = set_colour_data c.id c.colour
+command_data (InsertItem c) = item_data (codes "insert_item") c.layer c.at c.item
+command_data (RemoveItem c) = remove_item_data c.layer c.at
+command_data (ReplaceItem c) = item_data (codes "replace_item") c.layer c.at c.item
+command_data (MoveLayer c) = move_layer_data c.id c.at
+command_data (SetView c) = set_view_data c.w c.h c.tile
 
 -- a main frame: the list of its commands
 unfoldable pub frame_data : List Command → Data

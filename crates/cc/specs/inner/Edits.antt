@@ -34,9 +34,9 @@ pub record IsKnownUnion (a b : Option (List Rect)) (all : List Rect) : Type 0 wh
 
 -- the command changes nothing but the items of one layer
 abbrev pub changes_items : Command → Bool
-changes_items (command.InsertItem layer at item) = true
-changes_items (command.RemoveItem layer at) = true
-changes_items (command.ReplaceItem layer at item) = true
+changes_items (command.InsertItem c) = true
+changes_items (command.RemoveItem c) = true
+changes_items (command.ReplaceItem c) = true
 changes_items _ = false
 
 -- a layer shows one of its rects at a point of the screen: the rects cover the point, moved back, and the part of the viewport that the layer's clip lets through covers it

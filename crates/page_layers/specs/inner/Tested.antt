@@ -12,8 +12,8 @@ use Rattle.page_layers.specs.Outcomes.{ListsChange}
 
 -- only these commands may part the layers of an effect
 abbrev pub may_part : Command → Bool
-may_part (command.AddLayer id at transform clip effect w h colour) = true
-may_part (command.MoveLayer id at) = true
+may_part (command.AddLayer c) = true
+may_part (command.MoveLayer c) = true
 may_part _ = false
 
 -- the same, but for layers that would not stand together: for the commands that cannot part them

@@ -6,11 +6,11 @@ ghost use Rattle.page_layers.specs.Refusals as refusals;
 ghost use Rattle.page_layers.specs.inner.Tested.{Tested};
 
 use super::LayerTree;
+use crate::command::{RemoveLayer, ResizeLayer, SetColour, SetView};
 use crate::fault::{EditError, EditFault};
 use crate::limits::{MAX_TILE, MAX_VIEWPORT, MIN_TILE, in_range, is_size, require};
 use crate::view::View;
 use crate::{layers, listing};
-use pixel::Colour;
 use region::Changes;
 
 impl LayerTree {
@@ -24,31 +24,31 @@ impl LayerTree {
         )
     }
 
-    pub(crate) fn remove_layer(&mut self, id: u32) -> Result<Changes, EditError>
-        ensures { Tested self.old (command.RemoveLayer id) self.new result }
+    pub(crate) fn remove_layer(&mut self, fields: &RemoveLayer) -> Result<Changes, EditError>
+        ensures { Tested self.old (command.RemoveLayer fields.now) self.new result }
     {
-        self.may_remove_layer(id)?;
-        layers::remove(&mut self.layers, id);
+        self.may_remove_layer(fields.id)?;
+        layers::remove(&mut self.layers, fields.id);
         Ok(self.unlisted())
     }
 
     #[tactic(auto, unfolding(crate::specs::Refusals::resize_layer_test))]
-    fn may_resize_layer(&self, id: u32, w: u32, h: u32) -> Result<(), EditFault>
-        ensures { result ≡ refusals.resize_layer_test self.now id w h }
+    fn may_resize_layer(&self, fields: &ResizeLayer) -> Result<(), EditFault>
+        ensures { result ≡ refusals.resize_layer_test self.now fields.now.id fields.now.w fields.now.h }
     {
         require(
-            layers::has_layer(self.layers.as_slice(), id),
+            layers::has_layer(self.layers.as_slice(), fields.id),
             EditFault::UnknownId,
         )?;
-        is_size(w, h)
+        is_size(fields.w, fields.h)
     }
 
-    pub(crate) fn resize_layer(&mut self, id: u32, w: u32, h: u32) -> Result<Changes, EditError>
-        ensures { Tested self.old (command.ResizeLayer id w h) self.new result }
+    pub(crate) fn resize_layer(&mut self, fields: &ResizeLayer) -> Result<Changes, EditError>
+        ensures { Tested self.old (command.ResizeLayer fields.now) self.new result }
     {
-        self.may_resize_layer(id, w, h)?;
-        let changes = listing::whole(*self.layers.allocator(), id)?;
-        layers::resize(&mut self.layers, id, w, h);
+        self.may_resize_layer(fields)?;
+        let changes = listing::whole(*self.layers.allocator(), fields.id)?;
+        layers::resize(&mut self.layers, fields.id, fields.w, fields.h);
         Ok(changes)
     }
 
@@ -62,32 +62,36 @@ impl LayerTree {
         )
     }
 
-    pub(crate) fn set_colour(&mut self, id: u32, colour: Colour) -> Result<Changes, EditError>
-        ensures { Tested self.old (command.SetColour id colour) self.new result }
+    pub(crate) fn set_colour(&mut self, fields: &SetColour) -> Result<Changes, EditError>
+        ensures { Tested self.old (command.SetColour fields.now) self.new result }
     {
-        self.may_set_colour(id)?;
-        layers::recolour(&mut self.layers, id, colour);
+        self.may_set_colour(fields.id)?;
+        layers::recolour(&mut self.layers, fields.id, fields.colour);
         Ok(self.unlisted())
     }
 
     #[tactic(auto, unfolding(crate::specs::Refusals::set_view_test))]
-    fn may_set_view(&self, w: u32, h: u32, tile: u32) -> Result<(), EditFault>
-        ensures { result ≡ refusals.set_view_test w h tile }
+    fn may_set_view(&self, fields: &SetView) -> Result<(), EditFault>
+        ensures { result ≡ refusals.set_view_test fields.now.w fields.now.h fields.now.tile }
     {
-        in_range(w as i64, 1, MAX_VIEWPORT)?;
-        in_range(h as i64, 1, MAX_VIEWPORT)?;
-        in_range(tile as i64, MIN_TILE, MAX_TILE)
+        in_range(fields.w as i64, 1, MAX_VIEWPORT)?;
+        in_range(fields.h as i64, 1, MAX_VIEWPORT)?;
+        in_range(fields.tile as i64, MIN_TILE, MAX_TILE)
     }
 
-    pub(crate) fn set_view(&mut self, w: u32, h: u32, tile: u32) -> Result<Changes, EditError>
-        ensures { Tested self.old (command.SetView w h tile) self.new result }
+    pub(crate) fn set_view(&mut self, fields: &SetView) -> Result<Changes, EditError>
+        ensures { Tested self.old (command.SetView fields.now) self.new result }
     {
-        self.may_set_view(w, h, tile)?;
+        self.may_set_view(fields)?;
         let mut changes = self.unlisted();
-        if tile != self.view.tile {
+        if fields.tile != self.view.tile {
             changes.mark_retiled();
         }
-        self.view = View { w, h, tile };
+        self.view = View {
+            w: fields.w,
+            h: fields.h,
+            tile: fields.tile,
+        };
         Ok(changes)
     }
 }

@@ -7,9 +7,9 @@ ghost use Rattle.page_layers.specs.Refusals as refusals;
 ghost use Rattle.page_layers.specs.inner.Tested.{Tested};
 
 use super::LayerTree;
+use crate::command::{AddClip, AddEffect, AddTransform, SetClip, SetOpacity, SetTransform};
 use crate::fault::{EditError, EditFault};
 use crate::limits::{MAX_NODES, in_range, is_clip_rect, is_id, is_offset, require};
-use geom::Rect;
 use page_properties::{ClipNode, EffectNode, TransformNode};
 use region::Changes;
 
@@ -55,160 +55,138 @@ impl LayerTree {
     }
 
     #[tactic(auto, unfolding(crate::specs::Refusals::add_transform_test, crate::specs::Refusals::takes))]
-    fn may_add_transform(
-        &self,
-        id: u32,
-        parent: u32,
-        x: i32,
-        y: i32,
-        scroller: u32,
-    ) -> Result<(), EditFault>
-        ensures { result ≡ refusals.add_transform_test self.now id parent x y scroller }
+    fn may_add_transform(&self, fields: &AddTransform) -> Result<(), EditFault>
+        ensures { result ≡ refusals.add_transform_test self.now fields.now.id fields.now.parent fields.now.x fields.now.y fields.now.scroller }
     {
-        let parent_known = self.is_transform(parent);
-        let scroller_known = self.is_scroller(scroller);
+        let parent_known = self.is_transform(fields.parent);
+        let scroller_known = self.is_scroller(fields.scroller);
         require(parent_known && scroller_known, EditFault::UnknownId)?;
-        require(self.props.transform(id).is_none(), EditFault::IdUsed)?;
+        require(self.props.transform(fields.id).is_none(), EditFault::IdUsed)?;
         require(
             self.props.transforms() < MAX_NODES as usize,
             EditFault::TooMany { limit: MAX_NODES },
         )?;
-        is_id(id)?;
-        is_offset(x, y)
+        is_id(fields.id)?;
+        is_offset(fields.x, fields.y)
     }
 
-    pub(crate) fn add_transform(
-        &mut self,
-        id: u32,
-        parent: u32,
-        x: i32,
-        y: i32,
-        scroller: u32,
-    ) -> Result<Changes, EditError>
-        ensures { Tested self.old (command.AddTransform id parent x y scroller) self.new result }
+    pub(crate) fn add_transform(&mut self, fields: &AddTransform) -> Result<Changes, EditError>
+        ensures { Tested self.old (command.AddTransform fields.now) self.new result }
     {
-        self.may_add_transform(id, parent, x, y, scroller)?;
-        let node = transform_node(parent, x, y, scroller);
-        self.props.add_transform(id, node)?;
+        self.may_add_transform(fields)?;
+        let node = transform_node(fields.parent, fields.x, fields.y, fields.scroller);
+        self.props.add_transform(fields.id, node)?;
         Ok(self.unlisted())
     }
 
     #[tactic(auto, unfolding(crate::specs::Refusals::set_transform_test))]
-    fn may_set_transform(&self, id: u32, x: i32, y: i32) -> Result<(), EditFault>
-        ensures { result ≡ refusals.set_transform_test self.now id x y }
+    fn may_set_transform(&self, fields: &SetTransform) -> Result<(), EditFault>
+        ensures { result ≡ refusals.set_transform_test self.now fields.now.id fields.now.x fields.now.y }
     {
-        require(self.props.transform(id).is_some(), EditFault::UnknownId)?;
-        is_offset(x, y)
+        require(
+            self.props.transform(fields.id).is_some(),
+            EditFault::UnknownId,
+        )?;
+        is_offset(fields.x, fields.y)
     }
 
-    pub(crate) fn set_transform(&mut self, id: u32, x: i32, y: i32) -> Result<Changes, EditError>
-        ensures { Tested self.old (command.SetTransform id x y) self.new result }
+    pub(crate) fn set_transform(&mut self, fields: &SetTransform) -> Result<Changes, EditError>
+        ensures { Tested self.old (command.SetTransform fields.now) self.new result }
     {
-        self.may_set_transform(id, x, y)?;
-        self.props.set_transform(id, x, y);
+        self.may_set_transform(fields)?;
+        self.props.set_transform(fields.id, fields.x, fields.y);
         Ok(self.unlisted())
     }
 
     #[tactic(auto, unfolding(crate::specs::Refusals::add_clip_test, crate::specs::Refusals::takes))]
-    fn may_add_clip(
-        &self,
-        id: u32,
-        parent: u32,
-        transform: u32,
-        rect: Rect,
-    ) -> Result<(), EditFault>
-        ensures { result ≡ refusals.add_clip_test self.now id parent transform rect }
+    fn may_add_clip(&self, fields: &AddClip) -> Result<(), EditFault>
+        ensures { result ≡ refusals.add_clip_test self.now fields.now.id fields.now.parent fields.now.transform fields.now.rect }
     {
-        let parent_known = self.is_clip(parent);
-        let transform_known = self.is_transform(transform);
+        let parent_known = self.is_clip(fields.parent);
+        let transform_known = self.is_transform(fields.transform);
         require(parent_known && transform_known, EditFault::UnknownId)?;
-        require(self.props.clip(id).is_none(), EditFault::IdUsed)?;
+        require(self.props.clip(fields.id).is_none(), EditFault::IdUsed)?;
         require(
             self.props.clips() < MAX_NODES as usize,
             EditFault::TooMany { limit: MAX_NODES },
         )?;
-        is_id(id)?;
-        is_clip_rect(rect)
+        is_id(fields.id)?;
+        is_clip_rect(fields.rect)
     }
 
-    pub(crate) fn add_clip(
-        &mut self,
-        id: u32,
-        parent: u32,
-        transform: u32,
-        rect: Rect,
-    ) -> Result<Changes, EditError>
-        ensures { Tested self.old (command.AddClip id parent transform rect) self.new result }
+    pub(crate) fn add_clip(&mut self, fields: &AddClip) -> Result<Changes, EditError>
+        ensures { Tested self.old (command.AddClip fields.now) self.new result }
     {
-        self.may_add_clip(id, parent, transform, rect)?;
+        self.may_add_clip(fields)?;
         self.props.add_clip(
-            id,
+            fields.id,
             ClipNode {
-                parent,
-                transform,
-                rect,
+                parent: fields.parent,
+                transform: fields.transform,
+                rect: fields.rect,
             },
         )?;
         Ok(self.unlisted())
     }
 
     #[tactic(auto, unfolding(crate::specs::Refusals::set_clip_test))]
-    fn may_set_clip(&self, id: u32, rect: Rect) -> Result<(), EditFault>
-        ensures { result ≡ refusals.set_clip_test self.now id rect }
+    fn may_set_clip(&self, fields: &SetClip) -> Result<(), EditFault>
+        ensures { result ≡ refusals.set_clip_test self.now fields.now.id fields.now.rect }
     {
-        require(self.props.clip(id).is_some(), EditFault::UnknownId)?;
-        is_clip_rect(rect)
+        require(self.props.clip(fields.id).is_some(), EditFault::UnknownId)?;
+        is_clip_rect(fields.rect)
     }
 
-    pub(crate) fn set_clip(&mut self, id: u32, rect: Rect) -> Result<Changes, EditError>
-        ensures { Tested self.old (command.SetClip id rect) self.new result }
+    pub(crate) fn set_clip(&mut self, fields: &SetClip) -> Result<Changes, EditError>
+        ensures { Tested self.old (command.SetClip fields.now) self.new result }
     {
-        self.may_set_clip(id, rect)?;
-        self.props.set_clip(id, rect);
+        self.may_set_clip(fields)?;
+        self.props.set_clip(fields.id, fields.rect);
         Ok(self.unlisted())
     }
 
     #[tactic(auto, unfolding(crate::specs::Refusals::add_effect_test, crate::specs::Refusals::takes))]
-    fn may_add_effect(&self, id: u32, parent: u32, opacity: u32) -> Result<(), EditFault>
-        ensures { result ≡ refusals.add_effect_test self.now id parent opacity }
+    fn may_add_effect(&self, fields: &AddEffect) -> Result<(), EditFault>
+        ensures { result ≡ refusals.add_effect_test self.now fields.now.id fields.now.parent fields.now.opacity }
     {
-        require(self.is_effect(parent), EditFault::UnknownId)?;
-        require(self.props.effect(id).is_none(), EditFault::IdUsed)?;
+        require(self.is_effect(fields.parent), EditFault::UnknownId)?;
+        require(self.props.effect(fields.id).is_none(), EditFault::IdUsed)?;
         require(
             self.props.effects() < MAX_NODES as usize,
             EditFault::TooMany { limit: MAX_NODES },
         )?;
-        is_id(id)?;
-        in_range(opacity as i64, 0, 255)
+        is_id(fields.id)?;
+        in_range(fields.opacity as i64, 0, 255)
     }
 
-    pub(crate) fn add_effect(
-        &mut self,
-        id: u32,
-        parent: u32,
-        opacity: u32,
-    ) -> Result<Changes, EditError>
-        ensures { Tested self.old (command.AddEffect id parent opacity) self.new result }
+    pub(crate) fn add_effect(&mut self, fields: &AddEffect) -> Result<Changes, EditError>
+        ensures { Tested self.old (command.AddEffect fields.now) self.new result }
     {
-        self.may_add_effect(id, parent, opacity)?;
-        let opacity = opacity as u8;
-        self.props.add_effect(id, EffectNode { parent, opacity })?;
+        self.may_add_effect(fields)?;
+        let opacity = fields.opacity as u8;
+        self.props.add_effect(
+            fields.id,
+            EffectNode {
+                parent: fields.parent,
+                opacity,
+            },
+        )?;
         Ok(self.unlisted())
     }
 
     #[tactic(auto, unfolding(crate::specs::Refusals::set_opacity_test))]
-    fn may_set_opacity(&self, id: u32, opacity: u32) -> Result<(), EditFault>
-        ensures { result ≡ refusals.set_opacity_test self.now id opacity }
+    fn may_set_opacity(&self, fields: &SetOpacity) -> Result<(), EditFault>
+        ensures { result ≡ refusals.set_opacity_test self.now fields.now.id fields.now.opacity }
     {
-        require(self.props.effect(id).is_some(), EditFault::UnknownId)?;
-        in_range(opacity as i64, 0, 255)
+        require(self.props.effect(fields.id).is_some(), EditFault::UnknownId)?;
+        in_range(fields.opacity as i64, 0, 255)
     }
 
-    pub(crate) fn set_opacity(&mut self, id: u32, opacity: u32) -> Result<Changes, EditError>
-        ensures { Tested self.old (command.SetOpacity id opacity) self.new result }
+    pub(crate) fn set_opacity(&mut self, fields: &SetOpacity) -> Result<Changes, EditError>
+        ensures { Tested self.old (command.SetOpacity fields.now) self.new result }
     {
-        self.may_set_opacity(id, opacity)?;
-        self.props.set_opacity(id, opacity as u8);
+        self.may_set_opacity(fields)?;
+        self.props.set_opacity(fields.id, fields.opacity as u8);
         Ok(self.unlisted())
     }
 }

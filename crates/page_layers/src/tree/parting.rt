@@ -12,12 +12,12 @@ ghost use Rattle.page_layers.specs.Refusals as refusals;
 ghost use Rattle.page_layers.specs.Outcomes.{StandTogether, Outcome};
 
 use super::LayerTree;
+use crate::command::{AddLayer, MoveLayer};
 use crate::fault::{EditError, EditFault};
 use crate::layer::Layer;
 use crate::limits::{MAX_LAYERS, is_id, is_size, require};
 use crate::{layers, listing};
 use page_display_list::DisplayList;
-use pixel::Colour;
 use region::Changes;
 use std::alloc::{AllocError, Global};
 use std::sync::Arc;
@@ -109,50 +109,40 @@ impl LayerTree {
     }
 
     #[tactic(auto, unfolding(crate::specs::Refusals::add_layer_test))]
-    fn may_add_layer(
-        &self,
-        id: u32,
-        at: u32,
-        transform: u32,
-        clip: u32,
-        effect: u32,
-        w: u32,
-        h: u32,
-        colour: Colour,
-    ) -> Result<(), EditFault>
-        ensures { result ≡ refusals.add_layer_test self.now (record { id = id; transform = transform; clip = clip; effect = effect; w = w; h = h; colour = colour; items = [] }) at }
+    fn may_add_layer(&self, fields: &AddLayer) -> Result<(), EditFault>
+        ensures { result ≡ refusals.add_layer_test self.now (record { id = fields.now.id; transform = fields.now.transform; clip = fields.now.clip; effect = fields.now.effect; w = fields.now.w; h = fields.now.h; colour = fields.now.colour; items = [] }) fields.now.at }
     {
-        let transform_known = self.is_transform(transform);
-        let clip_known = self.is_clip(clip);
-        let effect_known = self.is_effect(effect);
+        let transform_known = self.is_transform(fields.transform);
+        let clip_known = self.is_clip(fields.clip);
+        let effect_known = self.is_effect(fields.effect);
         let placed = transform_known && clip_known;
         require(placed && effect_known, EditFault::UnknownId)?;
-        require(!self.was_used(id), EditFault::IdUsed)?;
+        require(!self.was_used(fields.id), EditFault::IdUsed)?;
         let count = self.count();
-        require(at as usize <= count, EditFault::BadPlace)?;
+        require(fields.at as usize <= count, EditFault::BadPlace)?;
         require(
             count < MAX_LAYERS as usize,
             EditFault::TooMany { limit: MAX_LAYERS },
         )?;
-        is_id(id)?;
-        is_size(w, h)
+        is_id(fields.id)?;
+        is_size(fields.w, fields.h)
     }
 
     #[tactic(auto, unfolding(crate::specs::Refusals::move_layer_test))]
-    fn may_move_layer(&self, id: u32, at: u32) -> Result<(), EditFault>
-        ensures { result ≡ refusals.move_layer_test self.now id at }
+    fn may_move_layer(&self, fields: &MoveLayer) -> Result<(), EditFault>
+        ensures { result ≡ refusals.move_layer_test self.now fields.now.id fields.now.at }
     {
         require(
-            layers::has_layer(self.layers.as_slice(), id),
+            layers::has_layer(self.layers.as_slice(), fields.id),
             EditFault::UnknownId,
         )?;
-        require((at as usize) < self.count(), EditFault::BadPlace)
+        require((fields.at as usize) < self.count(), EditFault::BadPlace)
     }
 
     // Whether the layers would stand together with one moved.
     fn stands_moved(&self, id: u32, at: u32) -> Result<bool, AllocError>
         requires { at < length self.now.layers }
-        ensures { IfOk result (λ together. Decides together (StandTogether (page_after_command self.now (command.MoveLayer id at)))) }
+        ensures { IfOk result (λ together. Decides together (StandTogether (page_after_command self.now (command.MoveLayer (record { id = id; at = at }))))) }
     {
         let layers = self.layers.as_slice();
         let effects = effects_moved(*self.layers.allocator(), layers, id, at as usize)?;
@@ -162,13 +152,13 @@ impl LayerTree {
     }
 
     /// Moves a layer. It is taken out and put in within the memory that the list has.
-    pub(crate) fn move_layer(&mut self, id: u32, at: u32) -> Result<Changes, EditError>
-        ensures { Outcome self.old (command.MoveLayer id at) self.new result }
+    pub(crate) fn move_layer(&mut self, fields: &MoveLayer) -> Result<Changes, EditError>
+        ensures { Outcome self.old (command.MoveLayer fields.now) self.new result }
     {
-        self.may_move_layer(id, at)?;
-        let together = self.stands_moved(id, at)?;
+        self.may_move_layer(fields)?;
+        let together = self.stands_moved(fields.id, fields.at)?;
         if together {
-            layers::reorder(&mut self.layers, id, at as usize);
+            layers::reorder(&mut self.layers, fields.id, fields.at as usize);
             Ok(self.unlisted())
         } else {
             Err(EditError::Refused(EditFault::NotNested))
@@ -188,38 +178,28 @@ impl LayerTree {
     }
 
     /// Adds a layer with an empty display list.
-    pub(crate) fn add_layer(
-        &mut self,
-        id: u32,
-        at: u32,
-        transform: u32,
-        clip: u32,
-        effect: u32,
-        w: u32,
-        h: u32,
-        colour: Colour,
-    ) -> Result<Changes, EditError>
-        ensures { Outcome self.old (command.AddLayer id at transform clip effect w h colour) self.new result }
+    pub(crate) fn add_layer(&mut self, fields: &AddLayer) -> Result<Changes, EditError>
+        ensures { Outcome self.old (command.AddLayer fields.now) self.new result }
     {
-        self.may_add_layer(id, at, transform, clip, effect, w, h, colour)?;
-        let together = self.stands_with(at, effect)?;
+        self.may_add_layer(fields)?;
+        let together = self.stands_with(fields.at, fields.effect)?;
         if together {
             let alloc = *self.layers.allocator();
-            let changes = listing::whole(alloc, id)?;
+            let changes = listing::whole(alloc, fields.id)?;
             let list = empty_list(alloc)?;
             self.used.reserve(1)?;
             let layer = Layer {
-                id,
-                transform,
-                clip,
-                effect,
-                w,
-                h,
-                colour,
+                id: fields.id,
+                transform: fields.transform,
+                clip: fields.clip,
+                effect: fields.effect,
+                w: fields.w,
+                h: fields.h,
+                colour: fields.colour,
                 list,
             };
-            layers::put_in(&mut self.layers, at as usize, layer)?;
-            match self.used.push(id) {
+            layers::put_in(&mut self.layers, fields.at as usize, layer)?;
+            match self.used.push(fields.id) {
                 Ok(()) => (),
                 Err(_) => unreachable!(),
             }

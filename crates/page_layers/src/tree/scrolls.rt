@@ -11,6 +11,7 @@ ghost use Rattle.page_layers.specs.Scrolls as scrolls;
 ghost use Rattle.page_layers.specs.inner.Tested.{Tested};
 
 use super::LayerTree;
+use crate::command::{AddScroller, ScrollBy, ScrollTo, SetRange};
 use crate::fault::{EditError, EditFault};
 use crate::limits::{MAX_NODES, is_id, is_scroll, is_scroll_range, require};
 use crate::scroll::{clamp_to, set_value, value_in};
@@ -92,45 +93,33 @@ impl LayerTree {
     }
 
     #[tactic(auto, unfolding(crate::specs::Refusals::add_scroller_test, crate::specs::Refusals::takes))]
-    fn may_add_scroller(
-        &self,
-        id: u32,
-        parent: u32,
-        max_x: u32,
-        max_y: u32,
-    ) -> Result<(), EditFault>
-        ensures { result ≡ refusals.add_scroller_test self.now id parent max_x max_y }
+    fn may_add_scroller(&self, fields: &AddScroller) -> Result<(), EditFault>
+        ensures { result ≡ refusals.add_scroller_test self.now fields.now.id fields.now.parent fields.now.max_x fields.now.max_y }
     {
-        require(self.is_scroller(parent), EditFault::UnknownId)?;
-        require(self.props.scroller(id).is_none(), EditFault::IdUsed)?;
+        require(self.is_scroller(fields.parent), EditFault::UnknownId)?;
+        require(self.props.scroller(fields.id).is_none(), EditFault::IdUsed)?;
         require(
             self.props.scrollers() < MAX_NODES as usize,
             EditFault::TooMany { limit: MAX_NODES },
         )?;
-        is_id(id)?;
-        is_scroll_range(max_x, max_y)
+        is_id(fields.id)?;
+        is_scroll_range(fields.max_x, fields.max_y)
     }
 
-    pub(crate) fn add_scroller(
-        &mut self,
-        id: u32,
-        parent: u32,
-        max_x: u32,
-        max_y: u32,
-    ) -> Result<Changes, EditError>
-        ensures { Tested self.old (command.AddScroller id parent max_x max_y) self.new result }
+    pub(crate) fn add_scroller(&mut self, fields: &AddScroller) -> Result<Changes, EditError>
+        ensures { Tested self.old (command.AddScroller fields.now) self.new result }
     {
-        self.may_add_scroller(id, parent, max_x, max_y)?;
+        self.may_add_scroller(fields)?;
         self.values.reserve(1)?;
         self.props.add_scroller(
-            id,
+            fields.id,
             ScrollNode {
-                parent,
-                max_x,
-                max_y,
+                parent: fields.parent,
+                max_x: fields.max_x,
+                max_y: fields.max_y,
             },
         )?;
-        match self.values.insert(0, (id, Point { x: 0, y: 0 })) {
+        match self.values.insert(0, (fields.id, Point { x: 0, y: 0 })) {
             Ok(()) => (),
             Err(_) => unreachable!(),
         }
@@ -165,58 +154,62 @@ impl LayerTree {
     }
 
     #[tactic(auto, unfolding(crate::specs::Refusals::set_range_test))]
-    fn may_set_range(&self, id: u32, max_x: u32, max_y: u32) -> Result<(), EditFault>
-        ensures { result ≡ refusals.set_range_test self.now id max_x max_y }
+    fn may_set_range(&self, fields: &SetRange) -> Result<(), EditFault>
+        ensures { result ≡ refusals.set_range_test self.now fields.now.id fields.now.max_x fields.now.max_y }
     {
-        require(self.props.scroller(id).is_some(), EditFault::UnknownId)?;
-        is_scroll_range(max_x, max_y)
+        require(
+            self.props.scroller(fields.id).is_some(),
+            EditFault::UnknownId,
+        )?;
+        is_scroll_range(fields.max_x, fields.max_y)
     }
 
     #[tactic(auto, unfolding(crate::specs::Refusals::scroll_by_test))]
-    fn may_scroll_by(&self, id: u32, dx: i32, dy: i32) -> Result<(), EditFault>
-        ensures { result ≡ refusals.scroll_by_test self.now id dx dy }
+    fn may_scroll_by(&self, fields: &ScrollBy) -> Result<(), EditFault>
+        ensures { result ≡ refusals.scroll_by_test self.now fields.now.id fields.now.dx fields.now.dy }
     {
-        require(self.props.scroller(id).is_some(), EditFault::UnknownId)?;
-        is_scroll(dx, dy)
+        require(
+            self.props.scroller(fields.id).is_some(),
+            EditFault::UnknownId,
+        )?;
+        is_scroll(fields.dx, fields.dy)
     }
 
     #[tactic(auto, unfolding(crate::specs::Refusals::scroll_to_test))]
-    fn may_scroll_to(&self, id: u32, x: u32, y: u32) -> Result<(), EditFault>
-        ensures { result ≡ refusals.scroll_to_test self.now id x y }
+    fn may_scroll_to(&self, fields: &ScrollTo) -> Result<(), EditFault>
+        ensures { result ≡ refusals.scroll_to_test self.now fields.now.id fields.now.x fields.now.y }
     {
-        require(self.props.scroller(id).is_some(), EditFault::UnknownId)?;
-        is_scroll_range(x, y)
+        require(
+            self.props.scroller(fields.id).is_some(),
+            EditFault::UnknownId,
+        )?;
+        is_scroll_range(fields.x, fields.y)
     }
 
-    pub(crate) fn scroll_by(&mut self, id: u32, dx: i32, dy: i32) -> Result<Changes, EditError>
-        ensures { Tested self.old (command.ScrollBy id dx dy) self.new result }
+    pub(crate) fn scroll_by(&mut self, fields: &ScrollBy) -> Result<Changes, EditError>
+        ensures { Tested self.old (command.ScrollBy fields.now) self.new result }
     {
-        self.may_scroll_by(id, dx, dy)?;
-        self.scroll_more(id, dx as i64, dy as i64);
+        self.may_scroll_by(fields)?;
+        self.scroll_more(fields.id, fields.dx as i64, fields.dy as i64);
         Ok(self.unlisted())
     }
 
-    pub(crate) fn scroll_to(&mut self, id: u32, x: u32, y: u32) -> Result<Changes, EditError>
-        ensures { Tested self.old (command.ScrollTo id x y) self.new result }
+    pub(crate) fn scroll_to(&mut self, fields: &ScrollTo) -> Result<Changes, EditError>
+        ensures { Tested self.old (command.ScrollTo fields.now) self.new result }
     {
-        self.may_scroll_to(id, x, y)?;
-        self.scroll(id, x as i64, y as i64);
+        self.may_scroll_to(fields)?;
+        self.scroll(fields.id, fields.x as i64, fields.y as i64);
         Ok(self.unlisted())
     }
 
-    pub(crate) fn set_range(
-        &mut self,
-        id: u32,
-        max_x: u32,
-        max_y: u32,
-    ) -> Result<Changes, EditError>
-        ensures { Tested self.old (command.SetRange id max_x max_y) self.new result }
+    pub(crate) fn set_range(&mut self, fields: &SetRange) -> Result<Changes, EditError>
+        ensures { Tested self.old (command.SetRange fields.now) self.new result }
     {
-        self.may_set_range(id, max_x, max_y)?;
+        self.may_set_range(fields)?;
         let values = self.values.as_slice();
-        let at = value_within(values, id, max_x, max_y);
-        self.props.set_range(id, max_x, max_y);
-        set_value(&mut self.values, id, at);
+        let at = value_within(values, fields.id, fields.max_x, fields.max_y);
+        self.props.set_range(fields.id, fields.max_x, fields.max_y);
+        set_value(&mut self.values, fields.id, at);
         Ok(self.unlisted())
     }
 

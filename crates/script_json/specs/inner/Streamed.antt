@@ -22,7 +22,7 @@ use Rattle.script_json.specs.Reading.{with_lists}
 
 -- a command of version 2 alone
 abbrev pub is_view : Command → Bool
-is_view (SetView w h tile) = true
+is_view (SetView c) = true
 is_view _ = false
 
 -- an input that awaits no frame, or one of the given number

@@ -4,12 +4,12 @@ ghost use Rattle.std.specs.Prelude.{◌≡◌, IfOk};
 ghost use Rattle.serde_json.specs.View.{view};
 ghost use Rattle.script_fields.specs.Faults.{Gives};
 ghost use Rattle.script_json.specs.ItemReading.{if_picture, pixels_form, paint_at};
-ghost use Rattle.script_json.specs.declared.op.Op.TheVariants.{InsertItem, ReplaceItem};
+ghost use Rattle.script_json.specs.declared.op.Op.TheVariants as named;
 ghost use Rattle.script_json.specs.CommandReading.{fields_at};
 
 use geom::Rect;
 use page_display_list::Item;
-use page_layers::Command;
+use page_layers::{Command, InsertItem, ReplaceItem};
 use script_fields::{FieldFault, Trouble, fields, forms};
 use serde_json::Value;
 use std::alloc::{AllocError, Global};
@@ -61,25 +61,25 @@ fn paint(alloc: Global, value: &Value, rect: Rect, field: u32) -> Result<Item, T
 /// A new item.
 #[tactic(auto, unfolding(crate::specs::CommandReading::fields_at))]
 pub(crate) fn insert_item(alloc: Global, value: &Value) -> Result<Command, Trouble>
-    ensures { Gives (λ x. x) result (fields_at InsertItem (view value.now)) }
+    ensures { Gives (λ x. x) result (fields_at named.InsertItem (view value.now)) }
 {
     let layer = fields::whole(value, "layer", 1)?;
     let at = fields::whole(value, "at", 2)?;
     let rect = fields::rect(value, "rect", 3)?;
     let item = paint(alloc, value, rect, 4)?;
     fields::no_more(value, 5)?;
-    Ok(Command::InsertItem { layer, at, item })
+    Ok(Command::InsertItem(InsertItem { layer, at, item }))
 }
 
 /// An item in the place of another.
 #[tactic(auto, unfolding(crate::specs::CommandReading::fields_at))]
 pub(crate) fn replace_item(alloc: Global, value: &Value) -> Result<Command, Trouble>
-    ensures { Gives (λ x. x) result (fields_at ReplaceItem (view value.now)) }
+    ensures { Gives (λ x. x) result (fields_at named.ReplaceItem (view value.now)) }
 {
     let layer = fields::whole(value, "layer", 1)?;
     let at = fields::whole(value, "at", 2)?;
     let rect = fields::rect(value, "rect", 3)?;
     let item = paint(alloc, value, rect, 4)?;
     fields::no_more(value, 5)?;
-    Ok(Command::ReplaceItem { layer, at, item })
+    Ok(Command::ReplaceItem(ReplaceItem { layer, at, item }))
 }

@@ -10,7 +10,7 @@ use page_layers::Command;
 fn is_view(command: &Command) -> bool
     ensures { result ≡ is_view command.now }
 {
-    matches!(command, Command::SetView { .. })
+    matches!(command, Command::SetView(_))
 }
 
 fn has_no_view(frame: &[Command]) -> bool

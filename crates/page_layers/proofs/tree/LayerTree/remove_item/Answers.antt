@@ -9,10 +9,10 @@ use Rattle.page_layers.proofs.TestFacts.{remove_item_facts}
 pub remove-requires : goal.remove-requires
 remove-requires c =
     let inside : Page = record { view = c.self.inside.view; props = c.self.inside.props; layers = map parts_of c.self.inside.layers.items; used = c.self.inside.used.items; values = c.self.inside.values.items } in
-    remove_item_facts inside c.args.layer c.args.at (passed_inside inside c.args.self.now (command.RemoveItem c.args.layer c.args.at) c.self.view_is c.in_ok-may_remove_item.field-0 c.in_ok-may_remove_item.ensures)
+    remove_item_facts inside c.args.fields.now.layer c.args.fields.now.at (passed_inside inside c.args.self.now (command.RemoveItem c.args.fields.now) c.self.view_is c.in_ok-may_remove_item.field-0 c.in_ok-may_remove_item.ensures)
 
 pub invariant_of-self-2 : goal.invariant_of-self-2
 invariant_of-self-2 c =
     let inside : Page = record { view = c.self.inside.view; props = c.self.inside.props; layers = map parts_of c.self.inside.layers.items; used = c.self.inside.used.items; values = c.self.inside.values.items } in
-    kept inside c.args.self.now _ (command.RemoveItem c.args.layer c.args.at) refl c.self.view_is c.self.invariant c.in_ok-may_remove_item.field-0 c.in_ok-may_remove_item.ensures
+    kept inside c.args.self.now _ (command.RemoveItem c.args.fields.now) refl c.self.view_is c.self.invariant c.in_ok-may_remove_item.field-0 c.in_ok-may_remove_item.ensures
     (ap (λ (ls : List PageLayer). let made : Page = record { view = c.self.inside.view; props = c.self.inside.props; layers = ls; used = c.self.inside.used.items; values = c.self.inside.values.items } in made) c.in_ok-remove.ensures.ok)

@@ -8,5 +8,5 @@ use Rattle.page_layers.proofs.tree.LayerTree.remove_layer.Goals as goal
 pub invariant_of-self : goal.invariant_of-self
 invariant_of-self c =
     let inside : Page = record { view = c.self.inside.view; props = c.self.inside.props; layers = map parts_of c.self.inside.layers.items; used = c.self.inside.used.items; values = c.self.inside.values.items } in
-    kept inside c.args.self.now _ (command.RemoveLayer c.args.id) refl c.self.view_is c.self.invariant c.in_ok-may_remove_layer.field-0 c.in_ok-may_remove_layer.ensures
+    kept inside c.args.self.now _ (command.RemoveLayer c.args.fields.now) refl c.self.view_is c.self.invariant c.in_ok-may_remove_layer.field-0 c.in_ok-may_remove_layer.ensures
     (ap (λ (ls : List PageLayer). let made : Page = record { view = c.self.inside.view; props = c.self.inside.props; layers = ls; used = c.self.inside.used.items; values = c.self.inside.values.items } in made) c.remove.ensures)

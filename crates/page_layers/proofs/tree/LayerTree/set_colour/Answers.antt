@@ -8,5 +8,5 @@ use Rattle.page_layers.proofs.tree.LayerTree.set_colour.Goals as goal
 pub invariant_of-self : goal.invariant_of-self
 invariant_of-self c =
     let inside : Page = record { view = c.self.inside.view; props = c.self.inside.props; layers = map parts_of c.self.inside.layers.items; used = c.self.inside.used.items; values = c.self.inside.values.items } in
-    kept inside c.args.self.now _ (command.SetColour c.args.id c.args.colour) refl c.self.view_is c.self.invariant c.in_ok-may_set_colour.field-0 c.in_ok-may_set_colour.ensures
+    kept inside c.args.self.now _ (command.SetColour c.args.fields.now) refl c.self.view_is c.self.invariant c.in_ok-may_set_colour.field-0 c.in_ok-may_set_colour.ensures
     (ap (λ (ls : List PageLayer). let made : Page = record { view = c.self.inside.view; props = c.self.inside.props; layers = ls; used = c.self.inside.used.items; values = c.self.inside.values.items } in made) c.recolour.ensures)

@@ -14,32 +14,32 @@ use Rattle.std.proofs.lemmas.Int.{to_z-of_z}
 pub set_transform-requires-clause-known : goal.set_transform-requires-clause-known
 set_transform-requires-clause-known c =
     let inside : Page = record { view = c.self.inside.view; props = c.self.inside.props; layers = map parts_of c.self.inside.layers.items; used = c.self.inside.used.items; values = c.self.inside.values.items } in
-    let fits_x : FitsSigned w32 c.args.x = search rules in
-    let fits_y : FitsSigned w32 c.args.y = search rules in
-    let ok = simp to_z-of_z at c.in_ok-may_set_transform.ensures in
-    ((set_transform_facts inside c.args.id c.args.x c.args.y (passed_inside inside c.args.self.now (command.SetTransform c.args.id c.args.x c.args.y) c.self.view_is c.in_ok-may_set_transform.field-0 ok)).0)
+    let fits_x : FitsSigned w32 c.args.fields.now.x = search rules in
+    let fits_y : FitsSigned w32 c.args.fields.now.y = search rules in
+    let ok = c.in_ok-may_set_transform.ensures in
+    ((set_transform_facts inside c.args.fields.now.id c.args.fields.now.x c.args.fields.now.y (passed_inside inside c.args.self.now (command.SetTransform c.args.fields.now) c.self.view_is c.in_ok-may_set_transform.field-0 ok)).0)
 
 pub set_transform-requires-clause-across : goal.set_transform-requires-clause-across
 set_transform-requires-clause-across c =
     let inside : Page = record { view = c.self.inside.view; props = c.self.inside.props; layers = map parts_of c.self.inside.layers.items; used = c.self.inside.used.items; values = c.self.inside.values.items } in
-    let fits_x : FitsSigned w32 c.args.x = search rules in
-    let fits_y : FitsSigned w32 c.args.y = search rules in
-    let ok = simp to_z-of_z at c.in_ok-may_set_transform.ensures in
-    simp to_z-of_z ((set_transform_facts inside c.args.id c.args.x c.args.y (passed_inside inside c.args.self.now (command.SetTransform c.args.id c.args.x c.args.y) c.self.view_is c.in_ok-may_set_transform.field-0 ok)).1)
+    let fits_x : FitsSigned w32 c.args.fields.now.x = search rules in
+    let fits_y : FitsSigned w32 c.args.fields.now.y = search rules in
+    let ok = c.in_ok-may_set_transform.ensures in
+    simp to_z-of_z ((set_transform_facts inside c.args.fields.now.id c.args.fields.now.x c.args.fields.now.y (passed_inside inside c.args.self.now (command.SetTransform c.args.fields.now) c.self.view_is c.in_ok-may_set_transform.field-0 ok)).1)
 
 pub set_transform-requires-clause-down : goal.set_transform-requires-clause-down
 set_transform-requires-clause-down c =
     let inside : Page = record { view = c.self.inside.view; props = c.self.inside.props; layers = map parts_of c.self.inside.layers.items; used = c.self.inside.used.items; values = c.self.inside.values.items } in
-    let fits_x : FitsSigned w32 c.args.x = search rules in
-    let fits_y : FitsSigned w32 c.args.y = search rules in
-    let ok = simp to_z-of_z at c.in_ok-may_set_transform.ensures in
-    simp to_z-of_z ((set_transform_facts inside c.args.id c.args.x c.args.y (passed_inside inside c.args.self.now (command.SetTransform c.args.id c.args.x c.args.y) c.self.view_is c.in_ok-may_set_transform.field-0 ok)).2)
+    let fits_x : FitsSigned w32 c.args.fields.now.x = search rules in
+    let fits_y : FitsSigned w32 c.args.fields.now.y = search rules in
+    let ok = c.in_ok-may_set_transform.ensures in
+    simp to_z-of_z ((set_transform_facts inside c.args.fields.now.id c.args.fields.now.x c.args.fields.now.y (passed_inside inside c.args.self.now (command.SetTransform c.args.fields.now) c.self.view_is c.in_ok-may_set_transform.field-0 ok)).2)
 
 pub invariant_of-self : goal.invariant_of-self
 invariant_of-self c =
     let inside : Page = record { view = c.self.inside.view; props = c.self.inside.props; layers = map parts_of c.self.inside.layers.items; used = c.self.inside.used.items; values = c.self.inside.values.items } in
-    let fits_x : FitsSigned w32 c.args.x = search rules in
-    let fits_y : FitsSigned w32 c.args.y = search rules in
-    let ok = simp to_z-of_z at c.in_ok-may_set_transform.ensures in
-    kept inside c.args.self.now _ (command.SetTransform c.args.id c.args.x c.args.y) refl c.self.view_is c.self.invariant c.in_ok-may_set_transform.field-0 ok
+    let fits_x : FitsSigned w32 c.args.fields.now.x = search rules in
+    let fits_y : FitsSigned w32 c.args.fields.now.y = search rules in
+    let ok = c.in_ok-may_set_transform.ensures in
+    kept inside c.args.self.now _ (command.SetTransform c.args.fields.now) refl c.self.view_is c.self.invariant c.in_ok-may_set_transform.field-0 ok
     (ap (λ (t : Trees). let made : Page = record { view = c.self.inside.view; props = t; layers = map parts_of c.self.inside.layers.items; used = c.self.inside.used.items; values = c.self.inside.values.items } in made) (simp to_z-of_z at c.set_transform.ensures))

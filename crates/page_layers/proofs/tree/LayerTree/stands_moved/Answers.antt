@@ -11,6 +11,6 @@ use Rattle.page_layers.proofs.tree.LayerTree.stands_moved.Goals as goal
 pub returns : goal.returns
 returns c =
     let inside : Page = record { view = c.self.inside.view; props = c.self.inside.props; layers = map parts_of c.self.inside.layers.items; used = c.self.inside.used.items; values = c.self.inside.values.items } in
-    decided inside c.args.self.now (command.MoveLayer c.args.id c.args.at) c.is_nested-together.result c.in_ok-effects.effects.items c.self.view_is
+    decided inside c.args.self.now (command.MoveLayer (record { id = c.args.id; at = c.args.at })) c.is_nested-together.result c.in_ok-effects.effects.items c.self.view_is
     (subst (λ (es : List ℕ). IsTrue c.is_nested-together.result ↔ AreNested c.self.inside.props.effects es) c.as_slice-list.ensures.value c.is_nested-together.ensures)
     (c.in_ok-effects.ensures ∙ ap (λ (ls : List Layer). map (λ (l : PageLayer). l.effect) (with_layer_moved c.args.id c.args.at (map parts_of ls))) c.as_slice-layers.ensures.value)
