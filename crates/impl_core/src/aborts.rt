@@ -10,7 +10,6 @@ ghost use Rattle.impl_scroll.specs.Standings.{StandsForPast};
 ghost use Rattle.impl_log.specs.Runs.{past, now, with_entry};
 
 use crate::core_state::Core;
-use crate::drawn::Drawn;
 use impl_scroll::Standing;
 use model_history::Event;
 use std::alloc::AllocError;
@@ -31,21 +30,6 @@ impl Core {
         Ok(())
     }
 
-    // Enters the abort of a frame, with the ranks of what there is to choose from then.
-    fn abort_moving(&mut self, frame: u32, standing: Standing) -> Result<(), AllocError>
-        requires is_now { now self.old kind.Abort 1 ≡ Some (event.Abort frame) }
-        requires stands { StandsForPast self.old.script (abort 1 frame ∷ past self.old) standing }
-        ensures ok { OnOk result (self.new ≡ with_entry self.old 1 (event.Abort frame)) }
-        ensures err { OnErr result (self.new ≡ self.old) }
-    {
-        self.log.enter(1, Event::Abort { frame })?;
-        self.host.stand(standing);
-        self.tiles.forget();
-        self.required.forget();
-        self.drawn = Drawn::Nothing;
-        Ok(())
-    }
-
     /// The main side has ended the frame in flight, which changed nothing. An error means out of memory, and
     /// nothing was entered.
     pub fn abort(&mut self, frame: u32) -> Result<(), AllocError>
@@ -60,7 +44,7 @@ impl Core {
         if stays {
             self.abort_in_place(frame, standing)
         } else {
-            self.abort_moving(frame, standing)
+            self.enter_moving(1, Event::Abort { frame }, standing)
         }
     }
 }

@@ -1,6 +1,6 @@
 //! A commit becomes the pending tree.
 
-ghost use Rattle.std.specs.Prelude.{◌≡◌, ℕ, List, ◌∷◌, Some, option_map, IsSome, IfOk, OnOk, OnErr};
+ghost use Rattle.std.specs.Prelude.{◌≡◌, ℕ, List, ◌∷◌, Some, None, option_map, IsSome, IfOk, OnOk, OnErr};
 ghost use Rattle.model_states.specs.declared.kind.Kind.TheVariants as kind;
 ghost use Rattle.model_history.specs.declared.event.Event.TheVariants as event;
 ghost use Rattle.model_history.specs.declared.history.Entry.{Entry};
@@ -21,8 +21,8 @@ use model_history::{Commit, Event, Script};
 use model_states::Kind;
 use std::alloc::{AllocError, Global};
 
-// Pushes a copy of the commit that is prepared, and answers how the scrollers stood before. An error means
-// out of memory, and the host is as it was.
+// Pushes the commit that is prepared, whose page is shared, and answers how the scrollers stood before. An error
+// means out of memory, and the host is as it was.
 fn push_prepared(
     alloc: Global,
     host: &mut ImplHost,
@@ -40,9 +40,16 @@ fn push_prepared(
     let Some(commit) = prepared else {
         unreachable!()
     };
-    let tree = commit.tree().copy()?;
+    let tree = commit.shared_tree()?;
     let changes = commit.changes().copy()?;
     host.push(alloc, tree, changes, frame, script.commands(frame))
+}
+
+// Lets go of a commit that was entered.
+fn drop_commit(prepared: &mut Option<Commit>)
+    ensures { prepared.new ≡ None }
+{
+    *prepared = None;
 }
 
 impl Core {
@@ -73,6 +80,7 @@ impl Core {
         )?;
         match self.log.enter(0, Event::Commit { frame }) {
             Ok(()) => {
+                drop_commit(&mut self.prepared);
                 self.tiles.forget();
                 self.required.forget();
                 self.drawn = Drawn::Nothing;

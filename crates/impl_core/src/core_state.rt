@@ -39,7 +39,7 @@ pub struct Core {
     pub(crate) tiles: TileManager,
     // the pulls of the frame in flight, while it is sent
     pub(crate) told: Moves,
-    // the commit of the frame in flight, once it is ready
+    // the commit of the frame in flight, once it is ready and until it is entered
     pub(crate) prepared: Option<Commit>,
     // the visible keys of the pending tree, which an activation needs
     pub(crate) required: Needs,

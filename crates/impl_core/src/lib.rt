@@ -3,17 +3,14 @@
 //! A [`Core`] keeps what the model tells of its history: how far the run has come, the two trees and where
 //! their scrollers stand, the tiles with the raster queue, what the main side was told, the commit that it
 //! made ready, the keys that the pending tree needs, and what draws show while nothing changes. Its calls take all
-//! their memory before they enter their event, and step the rest after it, so that when memory runs out a core is as
-//! it was.
+//! their memory before they enter their event, and step the rest after it, so that a core is as it was if memory
+//! runs out.
 //!
-//! Where a tree has moved, the ranks of its tiles and the keys that it needs are looked for once somebody asks:
+//! If a tree has moved, the ranks of its tiles and the keys that it needs are looked for when somebody asks:
 //! most scrolls are followed by another before that.
 //!
-//! What a draw shows: the scene of the active page, and the tiles that it lacks.
-//!
-//! A draw takes the tiles that the page shows from the tile manager. A ready tile is drawn with its image,
-//! which is shared; a tile that is not ready is drawn in its layer's background colour, and its key is
-//! listed. The scene stays as it is, whatever becomes of the page and of the tiles.
+//! A [`Drawing`] is what a draw shows: the scene of the active page, and the keys of the tiles that it lacks. A
+//! ready tile is drawn with its image, which is shared; any other is drawn in its layer's background colour.
 #![tactic(auto)]
 
 mod aborts;
@@ -25,6 +22,7 @@ mod dones;
 mod drawing;
 mod drawn;
 mod draws;
+mod moving;
 mod needs;
 mod outlooks;
 mod plain;

@@ -2,14 +2,12 @@
 
 ghost use Rattle.std.specs.Prelude.{◌≡◌, true, Some, is_some, IfOk, OnOk, OnErr};
 ghost use Rattle.model_states.specs.declared.kind.Kind.TheVariants as kind;
-ghost use Rattle.model_history.specs.declared.event.Event.TheVariants as event;
 ghost use Rattle.model_history.specs.declared.input.Input.TheVariants as input;
 ghost use Rattle.model_history.specs.Due.{input_now};
 ghost use Rattle.model_history.specs.Legal as legal;
 ghost use Rattle.impl_log.specs.Runs.{past, now, Entered, Plays};
 
 use crate::core_state::Core;
-use crate::drawn::Drawn;
 use geom::Point;
 use model_history::{Event, Input};
 use model_states::Kind;
@@ -31,17 +29,6 @@ fn move_by(scroller: u32, by: Point) -> Move
         scroller,
         dx: wide(by.x),
         dy: wide(by.y),
-    }
-}
-
-// The event of a scroll of which this much is accepted.
-fn scroll_event(input: u32, by: Point) -> Event
-    ensures { result ≡ event.Scroll input by.x by.y }
-{
-    Event::Scroll {
-        input,
-        dx: by.x,
-        dy: by.y,
     }
 }
 
@@ -73,13 +60,7 @@ impl Core {
         let moves = [move_by(scroller, taken)];
         let standing = self.host.standing().moved(self.alloc, pages, &moves)?;
         let input = self.log.next_input();
-        let event = scroll_event(input, taken);
-        self.log.enter(0, event)?;
-        self.host.stand(standing);
-        self.tiles.forget();
-        self.required.forget();
-        self.drawn = Drawn::Nothing;
-        Ok(())
+        self.enter_moving(0, Event::scroll(input, taken), standing)
     }
 
     /// Accepts the scroll that is the next input, as far as the active range allows, where one may be

@@ -2,32 +2,16 @@
 
 ghost use Rattle.std.specs.Prelude.{◌≡◌, true, Some, is_some, IfOk, OnOk, OnErr};
 ghost use Rattle.model_states.specs.declared.kind.Kind.TheVariants as kind;
-ghost use Rattle.model_history.specs.declared.event.Event.TheVariants as event;
 ghost use Rattle.model_history.specs.declared.input.Input.TheVariants as input;
 ghost use Rattle.model_history.specs.Due.{input_now};
 ghost use Rattle.model_history.specs.Legal as legal;
 ghost use Rattle.impl_log.specs.Runs.{past, now, Entered, Plays};
 
 use crate::core_state::Core;
-use crate::drawn::Drawn;
-use geom::Point;
 use impl_scroll::moves_of;
-use model_history::{Event, Input, Moves};
+use model_history::{Event, Input};
 use model_states::Kind;
 use std::alloc::AllocError;
-
-// The event of a wheel that hits a layer, moves scrollers so, and leaves a rest.
-fn wheel_event(input: u32, target: u32, rest: Point, moves: Moves) -> Event
-    ensures { result ≡ event.Wheel input target rest.x rest.y moves }
-{
-    Event::Wheel {
-        input,
-        target,
-        rest_x: rest.x,
-        rest_y: rest.y,
-        moves,
-    }
-}
 
 impl Core {
     /// Whether a wheel may be turned now: the next input is one, and the scheduler's state allows it.
@@ -60,13 +44,8 @@ impl Core {
             .standing()
             .moved(self.alloc, pages, moves.as_slice())?;
         let input = self.log.next_input();
-        let event = wheel_event(input, wheel.target, wheel.rest, moves);
-        self.log.enter(0, event)?;
-        self.host.stand(standing);
-        self.tiles.forget();
-        self.required.forget();
-        self.drawn = Drawn::Nothing;
-        Ok(())
+        let event = Event::wheel(input, wheel.target, wheel.rest, moves);
+        self.enter_moving(0, event, standing)
     }
 
     /// Turns the wheel that is the next input, where one may be turned now, and answers whether it was. An

@@ -18,6 +18,7 @@ use page_layers::{Command, LayerTree};
 use region::Changes;
 use std::alloc::{AllocError, Global};
 use std::mem;
+use std::sync::Arc;
 
 impl ImplHost {
     /// Steps the host by the `Send` of a main frame, which tells the main side of all moves. Takes no
@@ -35,13 +36,13 @@ impl ImplHost {
     pub fn push(
         &mut self,
         alloc: Global,
-        tree: LayerTree,
+        tree: Arc<LayerTree>,
         changes: Changes,
         frame: u32,
         commands: &[Command],
     ) -> Result<Standing, AllocError>
-        requires { PushesNow self.old tree changes frame commands.now }
-        ensures hosts { OnOk result ((s : ScriptModel) (workers : ℕ) (h : List Entry) (actor : ℕ) → IsAccepted s → Legal s workers (commit actor frame ∷ h) → Hosts s h self.old → IsMadeBy s h frame tree changes commands.now → Hosts s (commit actor frame ∷ h) self.new) }
+        requires { PushesNow self.old tree.value changes frame commands.now }
+        ensures hosts { OnOk result ((s : ScriptModel) (workers : ℕ) (h : List Entry) (actor : ℕ) → IsAccepted s → Legal s workers (commit actor frame ∷ h) → Hosts s h self.old → IsMadeBy s h frame tree.value changes commands.now → Hosts s (commit actor frame ∷ h) self.new) }
         ensures before { IfOk result (λ standing. standing ≡ self.old.standing) }
         ensures active { OnOk result (self.new.trees.active ≡ self.old.trees.active) }
         ensures pending { OnOk result (IsSome self.new.trees.pending) }

@@ -6,6 +6,7 @@ ghost use Rattle.impl_host.specs.Trees.{AreCut};
 use page_layers::LayerTree;
 use region::Changes;
 use std::marker::Model;
+use std::sync::Arc;
 use tile_tiling::Tiling;
 
 /// The page of a commit, cut into tiles.
@@ -14,8 +15,8 @@ use tile_tiling::Tiling;
 pub struct TreeState {
     /// The main frame whose commit it is.
     pub frame: u32,
-    /// The page after the frame.
-    pub tree: LayerTree,
+    /// The page after the frame, which the main side shares.
+    pub tree: Arc<LayerTree>,
     /// What the frame changed.
     pub changes: Changes,
     /// The tilings of the layers, in the order of the layers.
@@ -27,9 +28,9 @@ impl Model for TreeState {
 
     ghost Value = { TreeModel };
 
-    ghost view = { λ t. record { frame = t.frame; page = t.tree; changed = t.changes; tilings = t.tilings.items } };
+    ghost view = { λ t. record { frame = t.frame; page = t.tree.value; changed = t.changes; tilings = t.tilings.items } };
 
-    ghost invariant = { λ t. AreCut t.tree t.tilings.items };
+    ghost invariant = { λ t. AreCut t.tree.value t.tilings.items };
 }
 
 // Written out, since a derived drop is proved anew, field by field, in each function that lets one go.
@@ -54,11 +55,11 @@ impl TreeState {
     }
 
     /// Its page, what its frame changed, and its tilings.
-    pub(crate) fn into_parts(self) -> (LayerTree, Changes, Vec<Tiling>)
-        ensures page { result.0 ≡ self.page }
+    pub(crate) fn into_parts(self) -> (Arc<LayerTree>, Changes, Vec<Tiling>)
+        ensures page { result.0.value ≡ self.page }
         ensures changed { result.1 ≡ self.changed }
         ensures tilings { result.2.items ≡ self.tilings }
-        ensures cut { AreCut result.0 result.2.items }
+        ensures cut { AreCut result.0.value result.2.items }
     {
         let TreeState {
             frame: _,

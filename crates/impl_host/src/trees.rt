@@ -13,6 +13,7 @@ use region::Changes;
 use std::alloc::{AllocError, Global};
 use std::marker::Model;
 use std::mem;
+use std::sync::Arc;
 
 /// The trees of the compositor side. At most one is pending; the active one is drawn meanwhile.
 pub struct Trees {
@@ -85,13 +86,13 @@ impl Trees {
     /// tree and the changes are given back, and the trees are as they were.
     pub fn push(
         &mut self,
-        tree: LayerTree,
+        tree: Arc<LayerTree>,
         changes: Changes,
         frame: u32,
-    ) -> Result<(), (AllocError, LayerTree, Changes)>
+    ) -> Result<(), (AllocError, Arc<LayerTree>, Changes)>
         requires free { self.old.pending ≡ None }
-        requires follows { MayFollow self.old.active tree changes }
-        ensures ok { OnOk result (IsPushed self.old tree changes frame self.new) }
+        requires follows { MayFollow self.old.active tree.value changes }
+        ensures ok { OnOk result (IsPushed self.old tree.value changes frame self.new) }
         ensures err { OnErr result (self.new ≡ self.old) }
         ensures given_back { IfErr result (λ e. (e.1 ≡ tree) × (e.2 ≡ changes)) }
     {

@@ -1,11 +1,11 @@
 -- The main side: which frames it has ended, and how it ends the next.
-use Rattle.std.specs.Prelude.{◌≡◌, ◌≤◌, ◌<◌, ℕ, suc, true, false, List, [], ◌∷◌, ◌++◌, length, Result, Ok, Err}
+use Rattle.std.specs.Prelude.{◌≡◌, ◌≤◌, ◌<◌, ℕ, suc, true, false, List, [], ◌∷◌, ◌++◌, length, Option, Some, None, Result, Ok, Err}
 use Rattle.std.specs.declared.alloc.AllocError.{AllocError}
 use Rattle.region.specs.Lists.{Changed}
 use Rattle.page_layers.specs.Pages.{Page}
 use Rattle.page_layers.specs.declared.moves.Move.{Move}
 use Rattle.model_history.specs.Scripts.{ScriptModel}
-use Rattle.model_history.specs.Frames.{page, pulls_in, changes}
+use Rattle.model_history.specs.Frames.{blank, page, pulls_in, changes}
 use Rattle.model_history.specs.Stamps.{frame_changes}
 use Rattle.model_history.specs.SameChanges.{SameChanges}
 use Rattle.model_history.specs.Commits.{CommitModel, IsCommit}
@@ -22,6 +22,11 @@ pub record IsHost (s : ScriptModel) (sends : List (List Move)) (p : Page) : Type
   pub few : length sends ≤ length s.main
   pub tree : p ≡ page s (pulls_in sends) (length sends)
 
+-- the page that the main side keeps; the script's first page while it keeps none
+abbrev pub page_or_blank : ScriptModel → Option Page → Page
+page_or_blank s None = blank s
+page_or_blank s (Some p) = p
+
 -- the same with one frame more, which got these pulls
 abbrev pub with_frame : MainHostModel → List Move → MainHostModel
 with_frame h ms = record { script = h.script; sends = h.sends ++ ms ∷ [] }
@@ -33,7 +38,7 @@ pub record IsCommitOf (h : MainHostModel) (k : ℕ) (c : CommitModel) : Type 0 w
   pub sends : c.sends ≡ h.sends
   pub commit : IsCommit c
 
--- how the next frame ends, with these pulls: by its commit exactly where it changes something, else by an abort
+-- how the next frame ends, with these pulls: by its commit exactly if it changes something, else by an abort
 abbrev pub IsEnd : MainHostModel → List Move → MainEnd → Type 0
 IsEnd h ms (end.Ready c) = (changes h.script (pulls_in (h.sends ++ ms ∷ [])) (length h.sends) ≡ true) × IsCommitOf (with_frame h ms) (length h.sends) c
 IsEnd h ms (end.Abort frame) = (changes h.script (pulls_in (h.sends ++ ms ∷ [])) (length h.sends) ≡ false) × (frame ≡ length h.sends)

@@ -1,13 +1,15 @@
 //! Commits: what a main frame that changed something hands to the compositor side.
 
-ghost use Rattle.std.specs.Prelude.{◌≡◌};
+ghost use Rattle.std.specs.Prelude.{◌≡◌, IfOk};
 ghost use Rattle.model_history.specs.Commits.{IsCommit};
 ghost use Rattle.model_history.specs.Accepted.{IsAccepted};
 
-use crate::moves::Sends;
+use crate::moves::Moves;
 use crate::script::Script;
+use ghost_list::GhostList;
 use page_layers::LayerTree;
 use region::Changes;
+use std::alloc::AllocError;
 use std::marker::Model;
 use std::sync::Arc;
 
@@ -21,10 +23,10 @@ pub struct Commit {
     pub script: Arc<Script>,
     /// The number of the main frame; the script has it.
     pub frame: u32,
-    /// The pulls of the frames 0 to `frame`.
-    pub sends: Sends,
-    /// The page after the frame.
-    pub tree: LayerTree,
+    /// The pulls of the frames 0 to `frame`, which clauses alone read.
+    pub sends: GhostList<Moves>,
+    /// The page after the frame, which the main side shares.
+    pub tree: Arc<LayerTree>,
     /// What the frame's commands changed. A layer is listed where a command added or resized it, or
     /// changed its items; one that a command removed is not listed for what came before.
     pub changes: Changes,
@@ -35,9 +37,9 @@ impl Model for Commit {
 
     ghost Value = { CommitModel };
 
-    ghost view = { λ c. record { script = c.script.value; frame = c.frame; sends = c.sends; tree = c.tree; changes = c.changes } };
+    ghost view = { λ c. record { script = c.script.value; frame = c.frame; sends = c.sends.items; tree = c.tree.value; changes = c.changes } };
 
-    ghost invariant = { λ c. IsCommit (record { script = c.script.value; frame = c.frame; sends = c.sends; tree = c.tree; changes = c.changes }) };
+    ghost invariant = { λ c. IsCommit (record { script = c.script.value; frame = c.frame; sends = c.sends.items; tree = c.tree.value; changes = c.changes }) };
 }
 
 impl Commit {
@@ -64,13 +66,6 @@ impl Commit {
         self.frame
     }
 
-    /// The pulls of the frames up to this one.
-    pub fn sends(&self) -> &Sends
-        ensures { result.now ≡ self.now.sends }
-    {
-        &self.sends
-    }
-
     /// The page after the frame.
     pub fn tree(&self) -> &LayerTree
         ensures { result.now ≡ self.now.tree }
@@ -78,10 +73,26 @@ impl Commit {
         &self.tree
     }
 
+    /// The page after the frame, shared once more. An error means out of memory.
+    pub fn shared_tree(&self) -> Result<Arc<LayerTree>, AllocError>
+        ensures { IfOk result (λ tree. tree.value ≡ self.now.tree) }
+    {
+        Arc::try_clone(&self.tree)
+    }
+
     /// What the frame changed.
     pub fn changes(&self) -> &Changes
         ensures { result.now ≡ self.now.changes }
     {
         &self.changes
+    }
+
+    /// The page after the frame, and what the frame changed.
+    pub fn into_page(self) -> (Arc<LayerTree>, Changes)
+        ensures tree { result.0.value ≡ self.tree }
+        ensures changes { result.1 ≡ self.changes }
+    {
+        let Commit { tree, changes, .. } = self;
+        (tree, changes)
     }
 }

@@ -1,7 +1,10 @@
 //! The atomic steps of a run.
 
+ghost use Rattle.std.specs.Prelude.{◌≡◌};
+ghost use Rattle.model_history.specs.declared.event.Event.TheVariants as event;
+
 use crate::moves::Moves;
-use geom::{Keys, TileKey};
+use geom::{Keys, Point, TileKey};
 
 /// One atomic step of a run: a transition of the scheduler, a blocking commit, a scroll, the start or
 /// the end of a tile. The names are those of Chromium's compositor thread.
@@ -114,4 +117,30 @@ pub enum Event {
         /// The actor's number.
         actor: u32,
     },
+}
+
+impl Event {
+    /// A scroll of which this much was accepted.
+    pub fn scroll(input: u32, taken: Point) -> Event
+        ensures { result ≡ event.Scroll input taken.x taken.y }
+    {
+        Event::Scroll {
+            input,
+            dx: taken.x,
+            dy: taken.y,
+        }
+    }
+
+    /// A wheel over this layer, or over none (0), which moved scrollers so and left a rest.
+    pub fn wheel(input: u32, target: u32, rest: Point, moves: Moves) -> Event
+        ensures { result ≡ event.Wheel input target rest.x rest.y moves }
+    {
+        Event::Wheel {
+            input,
+            target,
+            rest_x: rest.x,
+            rest_y: rest.y,
+            moves,
+        }
+    }
 }

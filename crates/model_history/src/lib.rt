@@ -40,7 +40,7 @@ pub use laws_scrolls::{
 };
 pub use laws_sharing::{dead_keys_stay_dead, equal_keys_show_the_same};
 pub use laws_tiles::{no_key_twice, required_stays_ready};
-pub use moves::{Moves, Sends};
+pub use moves::Moves;
 pub use script::Script;
 pub use script_error::ScriptError;
 pub use script_parts::ScriptParts;

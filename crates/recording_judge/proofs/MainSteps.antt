@@ -132,6 +132,10 @@ module _ (s : ScriptModel) (n : ℕ) (h : List Entry) (a : ℕ) (side : JudgedMa
   main_stays (event.Commit k) legal f m = record { run = m.run; ends = λ t j i. absurd cc }
   main_stays e legal f m = m
 
+  -- after its commit it is no longer known how a frame ended
+  pub main_committed : (k : ℕ) → IsMain s h side → IsMain s (entry a (event.Commit k) ∷ h) (record { host = side.host; end = None })
+  main_committed k m = record { run = m.run; ends = λ t j i. absurd cc }
+
 -- what is due
 
 module _ (s : ScriptModel) (n : ℕ) (h : List Entry) (legal : Legal s n h) (side : JudgedMain) (m : IsMain s h side) where

@@ -2,7 +2,6 @@
 
 ghost use Rattle.std.specs.Prelude.{◌≡◌, ◌+◌, ◌-◌, ◌<◌, ◌≤◌, true, is_some, option_copied, IfOk, Some, None};
 ghost use Rattle.model_states.specs.declared.kind.Kind.TheVariants as kind;
-ghost use Rattle.model_history.specs.declared.event.Event.TheVariants as event;
 ghost use Rattle.model_history.specs.declared.input.Input.TheVariants as input;
 ghost use Rattle.model_history.specs.Due as dues;
 ghost use Rattle.model_history.specs.Due.{input_now};
@@ -12,51 +11,15 @@ ghost use Rattle.model_history.specs.Scrolls.{next_clamps};
 ghost use Rattle.model_history.specs.Frames.{pending, is_empty};
 ghost use Rattle.model_history.specs.Legal.{is_open};
 ghost use Rattle.model_history.specs.Tiles.{Tree, visible_in, active_tree, pending_tree, required, are_ready, in_flight};
-ghost use Rattle.impl_ranks.specs.SeenTrees.{IsSeenWhere};
 ghost use Rattle.impl_log.specs.Runs.{past};
 ghost use Rattle.recording_judge.specs.inner.States.{IsState, IsFirstKey};
 
 use crate::state::State;
-use geom::{Keys, Point, TileKey};
-use impl_ranks::SeenTree;
+use geom::{Keys, TileKey};
+use impl_choice::visible_of;
 use impl_scroll::moves_of;
 use model_history::{Event, Input, Moves};
-use std::alloc::{AllocError, Global};
-
-// The event of a scroll of which this much is accepted.
-fn scroll_event(input: u32, by: Point) -> Event
-    ensures { result ≡ event.Scroll input by.x by.y }
-{
-    Event::Scroll {
-        input,
-        dx: by.x,
-        dy: by.y,
-    }
-}
-
-// The event of a wheel that hits a layer, moves scrollers so, and leaves a rest.
-fn wheel_event(input: u32, target: u32, rest: Point, moves: Moves) -> Event
-    ensures { result ≡ event.Wheel input target rest.x rest.y moves }
-{
-    Event::Wheel {
-        input,
-        target,
-        rest_x: rest.x,
-        rest_y: rest.y,
-        moves,
-    }
-}
-
-// The keys of the visible tiles of a tree; none where there is no tree. An error means out of memory.
-#[tactic(auto, unfolding(tile_visible::specs::Visible::visible_keys))]
-fn visible_of(alloc: Global, tree: Option<&SeenTree<'_>>) -> Result<Keys, AllocError>
-    ensures { IfOk result (λ keys. (t : Tree) → IsSeenWhere t (option_copied tree.entry) → keys ≡ visible_in t) }
-{
-    match tree {
-        None => Ok(Keys::new(alloc)),
-        Some(tree) => tree.visible(alloc),
-    }
-}
+use std::alloc::AllocError;
 
 impl State {
     // The keys of the visible tiles of the pending tree; none where nothing is pending. An error means out of
@@ -186,7 +149,7 @@ impl State {
         let active = self.host.pages().active;
         let taken = self.host.standing().accepted(active, scroller, dx, dy);
         let place = self.log.next_input();
-        scroll_event(place, taken)
+        Event::scroll(place, taken)
     }
 
     /// The `Scroll` that is due.
@@ -214,7 +177,7 @@ impl State {
             .wheel(self.alloc, active, x, y, dx, dy)?;
         let moves = moves_of(self.alloc, &wheel.parts)?;
         let place = self.log.next_input();
-        Ok(Some(wheel_event(place, wheel.target, wheel.rest, moves)))
+        Ok(Some(Event::wheel(place, wheel.target, wheel.rest, moves)))
     }
 
     /// The `Wheel` that is due. An error means out of memory.

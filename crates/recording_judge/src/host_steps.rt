@@ -1,6 +1,6 @@
 //! What events do to the host.
 
-ghost use Rattle.std.specs.Prelude.{◌≡◌, ◌∷◌, ℕ, List, true, false, option_copied, OnOk};
+ghost use Rattle.std.specs.Prelude.{◌≡◌, ◌∷◌, ℕ, List, true, false, OnOk};
 ghost use Rattle.model_history.specs.declared.history.Entry.{Entry};
 ghost use Rattle.model_history.specs.Scripts.{ScriptModel};
 ghost use Rattle.model_history.specs.Accepted.{IsAccepted};
@@ -53,8 +53,8 @@ pub(crate) fn abort_host(alloc: Global, host: &mut ImplHost) -> Result<(), Alloc
 }
 
 // The commit of a frame that ends so.
-fn commit_of(end: &Option<MainEnd>) -> Option<&Commit>
-    ensures { option_copied result ≡ mains.commit_of end.now }
+fn commit_of(end: Option<MainEnd>) -> Option<Commit>
+    ensures { result ≡ mains.commit_of end }
 {
     match end {
         Some(MainEnd::Ready(commit)) => Some(commit),
@@ -70,16 +70,15 @@ pub(crate) fn commit_to_host(
     host: &mut ImplHost,
     script: &Script,
     frame: u32,
-    end: &Option<MainEnd>,
+    end: Option<MainEnd>,
 ) -> Result<(), AllocError>
-    requires { HostCommits script.now host.old frame end.now }
-    ensures { OnOk result ((workers : ℕ) (h : List Entry) (actor : ℕ) → IsAccepted script.now → Legal script.now workers (commit actor frame ∷ h) → Hosts script.now h host.old → IsCommitted script.now (pulls_of h) frame end.now → Hosts script.now (commit actor frame ∷ h) host.new) }
+    requires { HostCommits script.now host.old frame end }
+    ensures { OnOk result ((workers : ℕ) (h : List Entry) (actor : ℕ) → IsAccepted script.now → Legal script.now workers (commit actor frame ∷ h) → Hosts script.now h host.old → IsCommitted script.now (pulls_of h) frame end → Hosts script.now (commit actor frame ∷ h) host.new) }
 {
     let Some(commit) = commit_of(end) else {
         unreachable!()
     };
-    let tree = commit.tree().copy()?;
-    let changes = commit.changes().copy()?;
+    let (tree, changes) = commit.into_page();
     host.push(alloc, tree, changes, frame, script.commands(frame))?;
     Ok(())
 }

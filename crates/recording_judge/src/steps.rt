@@ -114,8 +114,9 @@ impl State {
     {
         // The contract alone speaks of the actor.
         let _ = actor;
+        let end = self.main.end.take();
         let script = self.log.script();
-        commit_to_host(self.alloc, &mut self.host, script, frame, &self.main.end)?;
+        commit_to_host(self.alloc, &mut self.host, script, frame, end)?;
         self.tiles.forget_queue();
         Ok(())
     }

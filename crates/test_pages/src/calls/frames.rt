@@ -30,10 +30,9 @@ fn pulls_of(alloc: Global, by: Move) -> Result<Moves, AllocError>
     }
 }
 
-/// Says what a commit is: its frame, how many sends it has, where scroller 1 stands, and what it changes.
+/// Says what a commit is: its frame, where scroller 1 stands, and what it changes.
 fn say_commit(commit: &Commit, answer: &mut Answer) {
     answer.say("ready", &[i64::from(commit.frame())]);
-    answer.say_count("sends", commit.sends().len());
     say_point("at", commit.tree().value(1), answer);
     say_changes(commit.changes(), answer);
 }

@@ -1,7 +1,7 @@
 //! What is asked of lists of moves and of histories.
 
 use crate::calls::moves::move_of;
-use model_history::{Entry, Event, History, Moves, Sends};
+use model_history::{Entry, Event, History, Moves};
 use std::alloc::Global;
 use test_table::{Answer, LineFault, wholes};
 
@@ -21,15 +21,6 @@ fn add_moves(moves: &mut Moves, text: &str) -> Result<(), LineFault> {
     Ok(())
 }
 
-/// Adds a copy of these moves to the sends.
-fn add_copy(sends: &mut Sends, moves: &Moves) -> Result<(), LineFault> {
-    let copy = moves.copy()?;
-    match sends.push(copy) {
-        Ok(()) => Ok(()),
-        Err((refused, _)) => Err(LineFault::Memory(refused)),
-    }
-}
-
 /// Says whether something stands after the last.
 fn say_behind(more: bool, answer: &mut Answer) {
     answer.say(if more { "more" } else { "no more" }, &[]);
@@ -44,24 +35,12 @@ fn say_moves(moves: &Moves, answer: &mut Answer) {
     say_behind(moves.at(moves.len()).is_some(), answer);
 }
 
-/// Says how many lists a copy of these sends has, and what its first list has.
-fn say_sends(sends: &Sends, answer: &mut Answer) -> Result<(), LineFault> {
-    let copy = sends.copy()?;
-    answer.say_count("lists", copy.len());
-    if let Some(moves) = copy.at(0) {
-        say_moves(moves, answer);
-    }
-    Ok(())
-}
-
-/// Says how many moves a copy of a copied list has, the first of them, and whether there is one after the
-/// last.
+/// Says how many moves a copy of a list has, the first of them, and whether there is one after the last.
 pub fn moves(alloc: Global, text: &str, answer: &mut Answer) -> Result<(), LineFault> {
     let mut moves = Moves::new(alloc);
     add_moves(&mut moves, text)?;
-    let mut sends = Sends::new(alloc);
-    add_copy(&mut sends, &moves)?;
-    say_sends(&sends, answer)
+    say_moves(&moves.copy()?, answer);
+    Ok(())
 }
 
 /// An event of an actor, whose kind does not matter here.

@@ -5,12 +5,13 @@ use model_history::Commit;
 use page_layers::LayerTree;
 use region::Changes;
 use std::alloc::AllocError;
+use std::sync::Arc;
 
 /// The page of a commit, with what the commit changed and its main frame.
 #[derive(Drop)]
 pub struct NextTree {
     /// The page.
-    pub tree: LayerTree,
+    pub tree: Arc<LayerTree>,
     /// What the commit changed.
     pub changes: Changes,
     /// The main frame.
@@ -35,7 +36,7 @@ impl NextTree {
 
     /// The page of a tree that was pushed.
     pub fn of_pushed(pushed: &TreeState) -> Result<NextTree, AllocError> {
-        let tree = pushed.tree().copy()?;
+        let tree = Arc::try_clone(&pushed.tree)?;
         let changes = pushed.changes().copy()?;
         Ok(NextTree {
             tree,

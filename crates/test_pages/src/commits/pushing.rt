@@ -33,7 +33,7 @@ impl Drop for Pushing {
 // Makes a tree the pending one, which it may be.
 fn push(trees: &mut Trees, next: NextTree) -> Result<(), LineFault>
     requires free { trees.old.pending ≡ None }
-    requires follows { MayFollow trees.old.active next.tree next.changes }
+    requires follows { MayFollow trees.old.active next.tree.value next.changes }
 {
     match trees.push(next.tree, next.changes, next.frame) {
         Ok(()) => Ok(()),

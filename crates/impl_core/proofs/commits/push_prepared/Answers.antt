@@ -1,4 +1,4 @@
--- The copy of what is prepared is what the frame makes.
+-- What is prepared is what the frame makes.
 use Rattle.std.proofs.Common.{Result, Ok, Err, sym, ◌∙◌, subst}
 use Rattle.std.specs.Prelude.{OnOk}
 use Rattle.region.specs.Lists.{Changed}
@@ -20,7 +20,7 @@ returns-clause-hosts c =
     let is = is_there c.args.script.now (pulls_of h) c.args.frame c.args.prepared.now c.in-Some.commit prepared c.in-Some.is in
     hosts c.args.script.now workers h actor accepted legal before
     (record {
-      page_is = c.in_ok-tree.ensures ∙ c.tree.ensures ∙ is.page;
+      page_is = c.in_ok-tree.ensures ∙ is.page;
       changes = subst (λ (d : Changed). SameChanges d (frame_changes c.args.script.now (pulls_of h) c.args.frame)) (sym (c.in_ok-changes.ensures ∙ c.changes.ensures)) is.changes;
       commands_are = c.commands.ensures;
     }))

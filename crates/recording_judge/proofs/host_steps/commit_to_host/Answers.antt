@@ -1,6 +1,5 @@
--- The copy of the commit is what the frame makes.
-use Rattle.std.proofs.Common.{◌∙◌, ap, sym, subst}
-use Rattle.std.specs.Prelude.{option_copied}
+-- The commit is what the frame makes.
+use Rattle.std.proofs.Common.{◌∙◌, sym, subst}
 use Rattle.region.specs.Lists.{Changed}
 use Rattle.model_history.specs.Frames.{pulls_of}
 use Rattle.model_history.specs.Stamps.{frame_changes}
@@ -11,7 +10,7 @@ use Rattle.recording_judge.proofs.host_steps.commit_to_host.Goals as goal
 pub push-requires : goal.push-requires
 push-requires c =
     let r = c.requires in
-    let is = is_commit c.args.script.now (pulls_of r.past) c.args.frame c.args.end.now _ r.commit (sym c.commit_of.ensures ∙ ap option_copied c.in-Some.is) in
+    let is = is_commit c.args.script.now (pulls_of r.past) c.args.frame c.args.end _ r.commit (sym c.commit_of.ensures ∙ c.in-Some.is) in
     record {
       script = c.args.script.now;
       workers = r.workers;
@@ -21,18 +20,18 @@ push-requires c =
       legal = r.legal;
       hosts = r.hosts;
       made = record {
-        page_is = c.in_ok-tree.ensures ∙ c.tree.ensures ∙ is.page;
-        changes = subst (λ (d : Changed). SameChanges d (frame_changes c.args.script.now (pulls_of r.past) c.args.frame)) (sym (c.in_ok-changes.ensures ∙ c.changes.ensures)) is.changes;
+        page_is = c.into_page-tree.ensures.tree ∙ is.page;
+        changes = subst (λ (d : Changed). SameChanges d (frame_changes c.args.script.now (pulls_of r.past) c.args.frame)) (sym c.into_page-tree.ensures.changes) is.changes;
         commands_are = c.commands.ensures;
       };
     }
 
 pub returns : goal.returns
 returns c = λ n h a accepted legal hosts there.
-    let is = is_commit c.args.script.now (pulls_of h) c.args.frame c.args.end.now _ there (sym c.commit_of.ensures ∙ ap option_copied c.in-Some.is) in
+    let is = is_commit c.args.script.now (pulls_of h) c.args.frame c.args.end _ there (sym c.commit_of.ensures ∙ c.in-Some.is) in
     c.in_ok-push.ensures.hosts c.args.script.now n h a accepted legal hosts
     (record {
-      page_is = c.in_ok-tree.ensures ∙ c.tree.ensures ∙ is.page;
-      changes = subst (λ (d : Changed). SameChanges d (frame_changes c.args.script.now (pulls_of h) c.args.frame)) (sym (c.in_ok-changes.ensures ∙ c.changes.ensures)) is.changes;
+      page_is = c.into_page-tree.ensures.tree ∙ is.page;
+      changes = subst (λ (d : Changed). SameChanges d (frame_changes c.args.script.now (pulls_of h) c.args.frame)) (sym c.into_page-tree.ensures.changes) is.changes;
       commands_are = c.commands.ensures;
     })

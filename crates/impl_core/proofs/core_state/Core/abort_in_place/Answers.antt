@@ -13,7 +13,7 @@ use Rattle.impl_log.specs.Runs.{Run, past, now}
 use Rattle.impl_core.proofs.CoreSteps.{one_more, refused}
 use Rattle.impl_core.proofs.MayCome.{comes_next}
 use Rattle.impl_core.proofs.QuietAborts.{tiles_stay, needs_stay, drawing_stays}
-use Rattle.impl_core.proofs.SeenSteps.{abort_core}
+use Rattle.impl_core.proofs.SeenSteps.{moving_core}
 use Rattle.impl_core.proofs.core_state.Core.abort_in_place.Goals as goal
 
 pub enter-requires-clause-is_now : goal.enter-requires-clause-is_now
@@ -33,6 +33,6 @@ invariant_of-self-2 c =
     let none : (sc : ℕ) → clobbers r.script (pending h) sc ≡ false = subst (λ (z : Run). (sc : ℕ) → clobbers z.script (pending (past z)) sc ≡ false) (sym c.self.view_is) c.requires.none_outright in
     let hosts : Hosts r.script (abort 1 k ∷ h) c.stand.new.self = c.stand.ensures.keeps r.script h (abort 1 k) refl refl refl c.self.invariant.host stood in
     one_more (record { host = c.stand.new.self; tiles = c.self.inside.tiles; told = c.self.inside.told; prepared = c.self.inside.prepared; required = c.self.inside.required; drawn = c.self.inside.drawn }) r c.enter.new.self 1 (event.Abort k) c.in_ok-enter.ensures.ok
-    (abort_core r.script h (record { host = c.self.inside.host; tiles = c.self.inside.tiles; told = c.self.inside.told; prepared = c.self.inside.prepared; required = c.self.inside.required; drawn = c.self.inside.drawn }) c.self.invariant c.stand.new.self c.self.inside.tiles c.self.inside.required c.self.inside.drawn k hosts
+    (moving_core r.script h (record { host = c.self.inside.host; tiles = c.self.inside.tiles; told = c.self.inside.told; prepared = c.self.inside.prepared; required = c.self.inside.required; drawn = c.self.inside.drawn }) c.self.invariant c.stand.new.self c.self.inside.tiles c.self.inside.required c.self.inside.drawn 1 (event.Abort k) refl hosts
     (tiles_stay r.script r.workers h 1 k next none c.self.inside.tiles c.self.invariant.tiles) (needs_stay r.script r.workers h 1 k next none c.self.inside.required c.self.invariant.required)
     (drawing_stays r.script r.workers h 1 k next none c.self.inside.drawn c.self.invariant.drawn))

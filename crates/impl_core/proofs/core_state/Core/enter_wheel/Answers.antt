@@ -1,5 +1,6 @@
 -- A wheel moves what stands, and it is to be looked anew.
-use Rattle.std.proofs.Common.{◌≡◌, ℕ, ℤ, true, List, ◌∷◌, Some, refl, sym, ◌∙◌, subst}
+use Rattle.std.proofs.Common.{◌≡◌, ℕ, ℤ, true, List, ◌∷◌, Some, Result, Ok, Err, refl, sym, ◌∙◌, subst}
+use Rattle.std.specs.Prelude.{OnOk}
 use Rattle.std.proofs.lemmas.Int.{to_z-of_z}
 use Rattle.model_states.specs.declared.kind.Kind.TheVariants as kind
 use Rattle.page_layers.specs.declared.moves.Move.{Move}
@@ -7,22 +8,19 @@ use Rattle.model_history.specs.declared.event.Event.{Event}
 use Rattle.model_history.specs.declared.event.Event.TheVariants as event
 use Rattle.model_history.specs.declared.input.Input.TheVariants as input
 use Rattle.model_history.specs.declared.history.Entry.{Entry}
-use Rattle.model_history.specs.EventFields.{kind_of}
 use Rattle.model_history.specs.Due.{next_input, input_now}
 use Rattle.model_history.specs.Legal.{is_open}
-use Rattle.model_history.specs.Tiles.{ready, required}
 use Rattle.model_history.proofs.DueFacts.{entry}
 use Rattle.impl_scroll.specs.Standings.{StandingModel, StandsForPast}
-use Rattle.impl_choice.proofs.SameTiles.{same_tiles}
-use Rattle.impl_tiles.specs.Managers.{Manages}
-use Rattle.impl_host.specs.Hosts.{Hosts}
 use Rattle.impl_log.specs.Runs.{Run, past, now, with_entry, Entered}
-use Rattle.impl_core.specs.declared.drawn.Drawn.TheVariants as drawn
-use Rattle.impl_core.proofs.CoreSteps.{one_more, refused}
-use Rattle.impl_core.proofs.SeenSteps.{wheel_core}
+use Rattle.impl_core.specs.inner.Moving.{ComesMoving}
 use Rattle.impl_core.proofs.InputEvents.{OfWheel, of_wheel}
-use Rattle.impl_core.proofs.NeedSteps.{forgotten}
 use Rattle.impl_core.proofs.core_state.Core.enter_wheel.Goals as goal
+
+-- what holds where a value is answered
+on_ok : {X E : Type 0} {P Q : Type 0} (r : Result X E) → (P → Q) → OnOk r P → OnOk r Q
+on_ok (Ok x) f p = f p
+on_ok (Err e) f p = tt
 
 pub wheel-requires : goal.wheel-requires
 wheel-requires c =
@@ -63,8 +61,8 @@ moved-requires c =
       moves = (sym c.as_slice.ensures);
     }
 
-pub enter-requires-clause-is_now : goal.enter-requires-clause-is_now
-enter-requires-clause-is_now c =
+pub enter_moving-requires : goal.enter_moving-requires
+enter_moving-requires c =
     let r : Run = c.self.inside.log in
     let h : List Entry = past r in
     let legal = c.is_legal.ensures.legal in
@@ -81,38 +79,11 @@ enter-requires-clause-is_now c =
     let of : OfWheel r.script r.workers h i layer rest_x rest_y ms =
     of_wheel r.script r.workers h c.args.x c.args.y c.args.dx c.args.dy i layer rest_x rest_y ms legal is_open asked c.next_input-input.ensures is.hits is.rest_across is.rest_down (c.in_ok-moves.ensures ∙ is.parts) in
     let e : Event = event.Wheel i layer rest_x rest_y ms in
-    let is_event : c.wheel_event-event.result ≡ e = c.wheel_event-event.ensures in
-    subst (λ (z : Event). now r (kind_of z) 0 ≡ Some z) (sym is_event) of.may_come
-
-pub invariant_of-self : goal.invariant_of-self
-invariant_of-self c = refused (record { host = c.self.inside.host; tiles = c.self.inside.tiles; told = c.self.inside.told; prepared = c.self.inside.prepared; required = c.self.inside.required; drawn = c.self.inside.drawn }) c.self.inside.log c.enter.new.self c.in_err-enter.ensures.err c.self.invariant
-
-pub invariant_of-self-2 : goal.invariant_of-self-2
-invariant_of-self-2 c =
-    let r : Run = c.self.inside.log in
-    let h : List Entry = past r in
-    let legal = c.is_legal.ensures.legal in
-    let stands = subst (λ (st : StandingModel). StandsForPast r.script h st) (sym c.standing.ensures) c.self.invariant.host.standing in
-    let pages = c.pages-pages.ensures r.script h c.self.invariant.host in
-    let is_open = subst (λ (z : Run). is_open (past z) kind.Wheel ≡ true) (sym c.self.view_is) c.requires.is_open in
-    let asked = subst (λ (z : Run). input_now z.script (past z) ≡ Some (input.Wheel c.args.x c.args.y c.args.dx c.args.dy)) (sym c.self.view_is) c.requires.asked in
-    let is = simp (to_z-of_z, c.ranges.dx, c.ranges.dy) at (c.in_ok-wheel.ensures r.script r.workers h stands pages.active) in
-    let layer : ℕ = c.in_ok-wheel.wheel.target in
-    let rest_x : ℤ = c.in_ok-wheel.wheel.rest.x in
-    let rest_y : ℤ = c.in_ok-wheel.wheel.rest.y in
-    let ms : List Move = c.in_ok-moves.moves in
-    let i : ℕ = c.next_input-input.result in
-    let of : OfWheel r.script r.workers h i layer rest_x rest_y ms =
-    of_wheel r.script r.workers h c.args.x c.args.y c.args.dx c.args.dy i layer rest_x rest_y ms legal is_open asked c.next_input-input.ensures is.hits is.rest_across is.rest_down (c.in_ok-moves.ensures ∙ is.parts) in
-    let e : Event = event.Wheel i layer rest_x rest_y ms in
-    let is_event : c.wheel_event-event.result ≡ e = c.wheel_event-event.ensures in
     let before = subst (λ (st : StandingModel). StandsForPast r.script h st) (sym c.standing-2.ensures) c.self.invariant.host.standing in
     let moved : StandsForPast r.script (entry 0 e ∷ h) c.in_ok-standing.standing = c.in_ok-standing.ensures r.script r.workers h (entry 0 e) of.legal refl (sym c.as_slice.ensures) before pages in
-    let entered : c.enter.new.self ≡ with_entry r 0 e = subst (λ (z : Event). c.enter.new.self ≡ with_entry r 0 z) is_event c.in_ok-enter.ensures.ok in
-    let hosts : Hosts r.script (entry 0 e ∷ h) c.stand.new.self = c.stand.ensures.keeps r.script h (entry 0 e) refl refl refl c.self.invariant.host moved in
-    let holds : Manages r.script (entry 0 e ∷ h) c.forget.new.self = c.forget.ensures r.script h (entry 0 e ∷ h) c.self.invariant.tiles (same_tiles r.script h (entry 0 e) refl) in
-    one_more (record { host = c.stand.new.self; tiles = c.forget.new.self; told = c.self.inside.told; prepared = c.self.inside.prepared; required = c.forget-2.new.self; drawn = drawn.Nothing }) r c.enter.new.self 0 e entered
-    (wheel_core r.script h (record { host = c.self.inside.host; tiles = c.self.inside.tiles; told = c.self.inside.told; prepared = c.self.inside.prepared; required = c.self.inside.required; drawn = c.self.inside.drawn }) c.self.invariant c.stand.new.self c.forget.new.self c.forget-2.new.self drawn.Nothing i layer rest_x rest_y ms hosts holds (forgotten c.forget-2.new.self (required r.script (entry 0 e ∷ h)) (ready r.script (entry 0 e ∷ h)) c.forget-2.ensures) tt)
+    subst (λ (z : Run). ComesMoving z 0 c.wheel-event.result c.in_ok-standing.standing) c.self.view_is
+    (subst (λ (z : Event). ComesMoving r 0 z c.in_ok-standing.standing) (sym c.wheel-event.ensures)
+    (record { moving = refl; is_now = of.may_come; actor_is = refl; stands = moved }))
 
 pub returns-clause-ok : goal.returns-clause-ok
 returns-clause-ok c =
@@ -132,6 +103,10 @@ returns-clause-ok c =
     let of : OfWheel r.script r.workers h i layer rest_x rest_y ms =
     of_wheel r.script r.workers h c.args.x c.args.y c.args.dx c.args.dy i layer rest_x rest_y ms legal is_open asked c.next_input-input.ensures is.hits is.rest_across is.rest_down (c.in_ok-moves.ensures ∙ is.parts) in
     let e : Event = event.Wheel i layer rest_x rest_y ms in
-    let is_now : c.enter.new.self ≡ with_entry r 0 e = subst (λ (z : Event). c.enter.new.self ≡ with_entry r 0 z) c.wheel_event-event.ensures c.in_ok-enter.ensures.ok in
-    let entered : Entered r kind.Wheel 0 c.enter.new.self = record { event = e; is_now = of.may_come; is_entered = is_now } in
-    subst (λ (z : Run). Entered z kind.Wheel 0 c.enter.new.self) c.self.view_is entered
+    on_ok c.enter_moving.result
+    (λ entered. record {
+      event = e;
+      is_now = subst (λ (z : Run). now z kind.Wheel 0 ≡ Some e) c.self.view_is of.may_come;
+      is_entered = subst (λ (z : Event). c.enter_moving.new.self ≡ with_entry c.args.self.now 0 z) c.wheel-event.ensures entered;
+    })
+    c.enter_moving.ensures.ok

@@ -22,8 +22,8 @@ push-requires-clause-free c =
 pub push-requires-clause-follows : goal.push-requires-clause-follows
 push-requires-clause-follows c =
     let r = c.requires in
-    subst (λ t. MayFollow t c.args.tree c.args.changes) (sym (ap (λ (m : ImplHostModel). m.trees.active) c.self.view_is))
-    (may_follow r.script r.workers r.past r.actor c.args.frame r.legal c.args.self.now.trees.active r.hosts.active c.args.tree c.args.changes c.args.commands.now r.made r.accepted)
+    subst (λ t. MayFollow t c.args.tree.value c.args.changes) (sym (ap (λ (m : ImplHostModel). m.trees.active) c.self.view_is))
+    (may_follow r.script r.workers r.past r.actor c.args.frame r.legal c.args.self.now.trees.active r.hosts.active c.args.tree.value c.args.changes c.args.commands.now r.made r.accepted)
 
 pub returns-in-Ok-clause-hosts : goal.returns-in-Ok-clause-hosts
 returns-in-Ok-clause-hosts c = λ s workers h actor accepted legal hosts made.
@@ -33,6 +33,6 @@ returns-in-Ok-clause-hosts c = λ s workers h actor accepted legal hosts made.
     let out : (sc : ℕ) → has_number ids sc ≡ clobbers s (Some c.args.frame) sc = λ sc. c.in_ok-outright.ensures sc ∙ ap (λ cs. list_any (scrolls_to sc) cs) made.commands_are in
     let stands = c.in_ok-standing.ensures s workers h actor c.args.frame legal inside.standing
     (c.page_of-active.ensures ∙ ap (λ o. option_map (λ (t : TreeModel). t.page) o) c.active.ensures ∙ page_there s (pulls_of h) (active h) m.trees.active inside.active)
-    made.page_is (λ sc. ap (λ ns. has_number ns sc) c.as_slice.ensures.value ∙ out sc) in
-    committed s workers h actor c.args.frame legal m c.push.new.self c.replace.new.dest ids c.args.tree c.args.changes c.args.commands.now inside made c.len.ensures.rising c.in-Ok.ensures.ok
+    (c.deref.ensures ∙ made.page_is) (λ sc. ap (λ ns. has_number ns sc) c.as_slice.ensures.value ∙ out sc) in
+    committed s workers h actor c.args.frame legal m c.push.new.self c.replace.new.dest ids c.args.tree.value c.args.changes c.args.commands.now inside made c.len.ensures.rising c.in-Ok.ensures.ok
     (subst (StandsForPast s (commit actor c.args.frame ∷ h)) (sym c.replace.ensures.after) stands) out

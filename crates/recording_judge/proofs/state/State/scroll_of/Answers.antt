@@ -18,4 +18,4 @@ returns c =
     let right = simp (to_z-of_z, c.ranges.dx) at (c.accepted-taken.ensures.x r.script r.workers h legal stands pages.active) in
     let downwards = simp (to_z-of_z, c.ranges.dy) at (c.accepted-taken.ensures.y r.script r.workers h legal stands pages.active) in
     let i : ℕ = c.next_input-place.result in
-    ap Some c.scroll_event.ensures ∙ scroll_is r.script h c.args.scroller c.args.dx c.args.dy c.requires.asked i x y c.next_input-place.ensures right downwards
+    ap Some c.scroll.ensures ∙ scroll_is r.script h c.args.scroller c.args.dx c.args.dy c.requires.asked i x y c.next_input-place.ensures right downwards

@@ -1,5 +1,5 @@
 -- The commit of the main side becomes the pending tree.
-use Rattle.std.proofs.Common.{◌≡◌, ◌∷◌, ℕ, List, refl, sym, ◌∙◌, subst}
+use Rattle.std.proofs.Common.{◌≡◌, ◌∷◌, ℕ, List, Option, refl, sym, ◌∙◌, subst}
 use Rattle.model_history.specs.declared.event.Event.TheVariants as event
 use Rattle.model_history.specs.declared.history.Entry.{Entry}
 use Rattle.model_history.specs.Scripts.{ScriptModel}
@@ -9,9 +9,10 @@ use Rattle.model_history.specs.Legal.{Legal}
 use Rattle.model_steps.specs.Events.{commit}
 use Rattle.impl_host.specs.Hosts.{Hosts}
 use Rattle.impl_log.specs.Runs.{past}
-use Rattle.recording_judge.specs.inner.Mains.{IsCommitted}
+use Rattle.main_host.specs.declared.main_end.MainEnd.{MainEnd}
+use Rattle.recording_judge.specs.inner.Mains.{IsCommitted, IsMain}
 use Rattle.recording_judge.specs.inner.Hosts.{HostCommits}
-use Rattle.recording_judge.proofs.MainSteps.{main_stays, commit_there}
+use Rattle.recording_judge.proofs.MainSteps.{main_committed, commit_there}
 use Rattle.recording_judge.proofs.StateFacts.{commit_keys}
 use Rattle.recording_judge.proofs.state.State.step_commit.Goals as goal
 
@@ -22,8 +23,9 @@ commit_to_host-requires c =
     let side = c.args.self.now.main in
     let there = commit_there r.script r.workers h c.args.actor c.args.frame side c.requires.legal c.requires.state.main in
     let same : c.deref.result.now ≡ r.script = c.deref.ensures ∙ c.script-script.ensures in
-    subst (λ (z : ScriptModel). HostCommits z c.args.self.now.host c.args.frame side.end) (sym same)
-    (record { workers = r.workers; past = h; actor = c.args.actor; accepted = c.requires.accepted; legal = c.requires.legal; hosts = c.requires.state.host; commit = there })
+    subst (λ (o : Option MainEnd). HostCommits c.deref.result.now c.args.self.now.host c.args.frame o) (sym c.take-end.ensures.value)
+    (subst (λ (z : ScriptModel). HostCommits z c.args.self.now.host c.args.frame side.end) (sym same)
+    (record { workers = r.workers; past = h; actor = c.args.actor; accepted = c.requires.accepted; legal = c.requires.legal; hosts = c.requires.state.host; commit = there }))
 
 pub returns : goal.returns
 returns c =
@@ -37,13 +39,13 @@ returns c =
     let there = commit_there s n h a k side c.requires.legal c.requires.state.main in
     let same : c.deref.result.now ≡ r.script = c.deref.ensures ∙ c.script-script.ensures in
     let pushed : Hosts s (commit a k ∷ h) c.commit_to_host.new.host =
-    subst (λ (z : ScriptModel). (workers : ℕ) (past : List Entry) (actor : ℕ) → IsAccepted z → Legal z workers (commit actor k ∷ past) → Hosts z past c.args.self.now.host → IsCommitted z (pulls_of past) k side.end → Hosts z (commit actor k ∷ past) c.commit_to_host.new.host)
-    same c.in_ok-commit_to_host.ensures n h a c.requires.accepted c.requires.legal c.requires.state.host there in
+    subst (λ (z : ScriptModel). (workers : ℕ) (past : List Entry) (actor : ℕ) → IsAccepted z → Legal z workers (commit actor k ∷ past) → Hosts z past c.args.self.now.host → IsCommitted z (pulls_of past) k c.take-end.result → Hosts z (commit actor k ∷ past) c.commit_to_host.new.host)
+    same c.in_ok-commit_to_host.ensures n h a c.requires.accepted c.requires.legal c.requires.state.host (subst (λ (o : Option MainEnd). IsCommitted s (pulls_of h) k o) (sym c.take-end.ensures.value) there) in
     record {
       log = refl;
       keeps = record {
         host = pushed;
         tiles = c.forget_queue.ensures s n h (commit a k ∷ h) c.requires.state.tiles (commit_keys s n h a k c.requires.accepted c.requires.legal);
-        main = main_stays s n h a side (event.Commit k) c.requires.legal refl c.requires.state.main;
+        main = subst (λ (o : Option MainEnd). IsMain s (commit a k ∷ h) (record { host = side.host; end = o })) (sym c.take-end.ensures.after) (main_committed s n h a side k c.requires.state.main);
       };
     }

@@ -28,5 +28,5 @@ returns c =
     let rest_y : ℤ = c.in_ok-wheel.wheel.rest.y in
     let ms : List Move = c.in_ok-moves.moves in
     let i : ℕ = c.next_input-place.result in
-    ap Some c.wheel_event.ensures
+    ap Some c.wheel-2.ensures
     ∙ wheel_is r.script h c.args.x c.args.y c.args.dx c.args.dy c.requires.asked i layer rest_x rest_y ms c.next_input-place.ensures is.hits is.rest_across is.rest_down (c.in_ok-moves.ensures ∙ is.parts)
