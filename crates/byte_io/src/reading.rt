@@ -21,7 +21,7 @@ pub trait Source {
     ghost has_failed: { Self → Bool };
 
     /// Gives the next bytes into the start of `buf` and answers their number. The answer 0 for a
-    /// `buf` that is not empty is the end, and comes exactly where nothing is left. Bytes of `buf`
+    /// `buf` that is not empty is the end, and comes exactly if nothing is left. Bytes of `buf`
     /// after that number mean nothing.
     ///
     /// `Failed` raises the count of faults by one, up to its last value, and no other answer changes

@@ -68,7 +68,7 @@ impl SumSink {
         })
     }
 
-    // Takes in a piece. Where it is refused, nothing has changed.
+    // Takes in a piece. If it is refused, nothing has changed.
     fn take_in(&mut self, piece: &[u8]) -> Result<(), AllocError>
         ensures bytes { MatchResult result (λ _. self.new.held ≡ self.old.held ++ piece.now) (λ _. self.new.held ≡ self.old.held) }
         ensures refused { self.new.refused ≡ self.old.refused }
@@ -119,7 +119,7 @@ impl Sink for SumSink {
 
     ghost place = { λ _. tt };
 
-    /// Never answers `Failed`. A piece is refused where there is no memory for a copy of it, or where the
+    /// Never answers `Failed`. A piece is refused if there is no memory for a copy of it, or if the
     /// count would not fit.
     fn put(&mut self, piece: &[u8]) -> Result<(), PutFault>
         ensures bytes { PutAppends (Some self.old.held) (Some self.new.held) piece.now result }

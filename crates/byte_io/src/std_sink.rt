@@ -35,7 +35,7 @@ impl<W: Write> Sink for StdSink<W> {
 
     ghost place = { λ _. tt };
 
-    /// Writes on where the writer took a part or was interrupted. A writer that takes nothing of
+    /// Writes on if the writer took a part or was interrupted. A writer that takes nothing of
     /// what is left has failed.
     fn put(&mut self, piece: &[u8]) -> Result<(), PutFault>
         ensures bytes { PutAppends (W.contents self.old.writer) (W.contents self.new.writer) piece.now result }

@@ -37,7 +37,7 @@ impl<R: Read> Source for StdSource<R> {
 
     ghost has_failed = { λ s. s.failed };
 
-    /// Reads again where the reader was interrupted.
+    /// Reads again if the reader was interrupted.
     fn read(&mut self, buf: &mut [u8]) -> Result<usize, Failed>
         ensures bound { ReadsAtMost result buf.new }
         ensures bytes { ReadConsumes (R.remaining self.old.reader) (R.remaining self.new.reader) result buf.new }

@@ -3,12 +3,12 @@ ghost use Rattle.std.specs.Prelude.{ℕ, List, Option, None, ◌≡◌, ◌≤�
 
 use std::alloc::AllocError;
 
-/// Why a piece was refused.
+/// Why not all bytes were put. What a sink gained then is a prefix of them.
 #[derive(Clone, Copy, Debug, Drop, PartialEq)]
 pub enum PutFault {
-    /// The sink failed. A prefix of the piece was appended, maybe none of it.
+    /// The sink failed.
     Failed,
-    /// The sink found no memory for the piece. Nothing was appended.
+    /// There was no memory, for the sink or for what was to be put.
     Memory(AllocError),
 }
 
@@ -34,8 +34,8 @@ pub trait Sink {
 
     /// Appends the whole piece.
     ///
-    /// `Failed` comes only where the count of faults rose, or stands at its last value; a prefix of
-    /// the piece was appended. `Memory` comes only where the count of refusals rose, or stands at
+    /// `Failed` comes only if the count of faults rose, or stands at its last value; a prefix of
+    /// the piece was appended. `Memory` comes only if the count of refusals rose, or stands at
     /// its last value; nothing was appended.
     fn put(&mut self, piece: &[u8]) -> Result<(), PutFault>
         ensures bytes { PutAppends (held self.old) (held self.new) piece.now result }

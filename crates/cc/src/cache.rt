@@ -23,11 +23,11 @@ use viz_quads::ShownTile;
 
 /// Tiles that were made for the draws of a page, which contracts see as their list.
 pub struct TileCache {
-    // in key order
+    // In key order.
     tiles: Vec<KeptTile>,
-    // how many bytes the images may take that the last draw did not use
+    // How many bytes the images may take that the last draw did not use.
     budget: usize,
-    // how many draws there were
+    // How many draws there were.
     draws: u64,
 }
 

@@ -30,20 +30,20 @@ use viz_painter::Painter;
 pub struct Compositor<F: PixelFormat> {
     alloc: Global,
     main: LayerTree,
-    // its main values are where its scrollers stand
+    // Its main values are where its scrollers stand.
     active: LayerTree,
     background: Colour,
     painter: Painter<F>,
     cache: TileCache,
-    // the whole frame, where the last draw was refused and the frame may show anything
+    // The whole frame, if the last draw was refused and the frame may show anything.
     lost: Option<Rect>,
-    // the last draw painted, so its damage is the painter's
+    // The last draw painted, so its damage is the painter's.
     is_painted: bool,
-    // the main page is the active one
+    // The main page is the active one.
     is_committed: bool,
-    // outside of these rects the main page looks like the active one; None where that is not known
+    // Outside of these rects the main page looks like the active one; None if that is not known.
     edited: Option<Region>,
-    // outside of these rects the frame shows the active page; None where that is not known
+    // Outside of these rects the frame shows the active page; None if that is not known.
     unshown: Option<Region>,
 }
 
@@ -146,7 +146,7 @@ impl<F: PixelFormat> Compositor<F> {
         )
     }
 
-    /// Shows the main page from now on, whose scrollers stand at their main values. Where it is the active page
+    /// Shows the main page from now on, whose scrollers stand at their main values. If it is the active page
     /// already, nothing is done. An error means out of memory, and all is as it was.
     #[tactic(auto, using(crate::proofs::Pages::committed_itself, crate::proofs::Pages::committed_now, crate::proofs::Pages::edited_itself, crate::proofs::Pages::shown_committed))]
     pub fn commit(&mut self) -> Result<(), AllocError>
@@ -165,7 +165,7 @@ impl<F: PixelFormat> Compositor<F> {
         Ok(())
     }
 
-    /// Scrolls the active page as far as the scroller's range allows, and tells how far that was; None where the
+    /// Scrolls the active page as far as the scroller's range allows, and tells how far that was; None if the
     /// page has no such scroller. The main page takes the same move. It takes no memory.
     pub fn scroll(&mut self, id: u32, dx: i32, dy: i32) -> Option<Point>
         ensures { Scrolled self.old id dx dy self.new result }
@@ -197,21 +197,21 @@ impl<F: PixelFormat> Compositor<F> {
         Ok(wheel)
     }
 
-    /// Where a scroller of the active page stands; (0, 0) where there is none.
+    /// Where a scroller of the active page stands; (0, 0) if there is none.
     pub fn offset(&self, id: u32) -> Point
         ensures { result ≡ offsets self.now id }
     {
         self.active.value(id)
     }
 
-    /// The topmost layer that covers a point of the screen; 0 exactly where none does. An error means out of memory.
+    /// The topmost layer that covers a point of the screen; 0 exactly if none does. An error means out of memory.
     pub fn target(&self, at: Point) -> Result<u32, AllocError>
         ensures { IfOk result (λ id. id ≡ hits.target self.now.active (offsets self.now) at.x at.y) }
     {
         target_on(self.alloc, &self.active, at)
     }
 
-    /// Whether a draw may change the frame. Where it may not, the frame shows the active page.
+    /// Whether a draw may change the frame. If it may not, the frame shows the active page.
     pub fn is_changed(&self) -> bool
         ensures { result ≡ false → ShowsPage F.DEPTH F.bytes_of self.now.active (offsets self.now) self.now.background self.now.frame }
     {
@@ -220,7 +220,7 @@ impl<F: PixelFormat> Compositor<F> {
 
     /// Draws the active page, and tells the rows outside of which the frame's pixels are those before; `damage`
     /// then tells the rects. The frame has the view's size, and each pixel is the direct painting of the page.
-    /// Where the frame shows the page already, nothing is done. An error means out of memory: the frame may then
+    /// If the frame shows the page already, nothing is done. An error means out of memory: the frame may then
     /// show anything, and the next draw draws it whole.
     pub fn draw(&mut self) -> Result<FrameRows, AllocError>
         ensures shown { OnOk result (ShowsPage F.DEPTH F.bytes_of self.new.active (offsets self.new) self.new.background self.new.frame) }
@@ -259,7 +259,7 @@ impl<F: PixelFormat> Compositor<F> {
         self.painter.canvas()
     }
 
-    /// The rects, in pixels of the frame, outside of which the last draw left it as it was, also where that was out of
+    /// The rects, in pixels of the frame, outside of which the last draw left it as it was, even if that was out of
     /// memory. They may overlap, and some may be empty or reach beyond the frame.
     pub fn damage(&self) -> &[Rect]
         ensures { result.now ≡ self.now.damage }

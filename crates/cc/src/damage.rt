@@ -15,7 +15,7 @@ use viz_canvas::{Canvas, PixelFormat};
 use viz_painter::Painter;
 use viz_scene::Scene;
 
-/// Rows of a frame that follow one another, counted from its top; none where `bottom` is `top`.
+/// Rows of a frame that follow one another, counted from its top; none if `bottom` is `top`.
 #[derive(Clone, Copy, Debug, PartialEq, Eq)]
 pub struct FrameRows {
     /// The uppermost row.
@@ -113,7 +113,7 @@ fn whole_of<F: PixelFormat>(frame: &Canvas<F>) -> Rect
     }
 }
 
-// Draws a scene, of which the frame shows all but some rects already where these are known.
+// Draws a scene, of which the frame shows all but some rects already if these are known.
 fn draw<F: PixelFormat>(
     painter: &mut Painter<F>,
     scene: Scene,
@@ -129,7 +129,7 @@ fn draw<F: PixelFormat>(
     }
 }
 
-/// Draws a scene, of which the frame shows all but some rects already where these are known. An error means out of
+/// Draws a scene, of which the frame shows all but some rects already if these are known. An error means out of
 /// memory: `lost` is then the rect of the whole frame, which may show anything.
 #[tactic(auto, using(crate::proofs::Damages::kept_nowhere))]
 pub(crate) fn paint<F: PixelFormat>(

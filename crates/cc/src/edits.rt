@@ -54,7 +54,7 @@ fn is_near(at: i32) -> bool
     -FAR <= at && at <= FAR
 }
 
-// A rect, moved; None where it begins too far from the origin.
+// A rect, moved; None if it begins too far from the origin.
 #[tactic(auto, using(crate::proofs::ScreenRects::moved_sound))]
 fn moved_rect(rect: Rect, by: Point) -> Option<Rect>
     requires rect { IsSound rect }
@@ -71,7 +71,7 @@ fn moved_rect(rect: Rect, by: Point) -> Option<Rect>
     Some(rect.shift(by))
 }
 
-// Adds what a rect and an area both cover; None where memory is out.
+// Adds what a rect and an area both cover; None if memory is out.
 fn add_common(region: &mut Region, rect: Rect, area: Rect) -> Option<()>
     requires rect { IsSound rect }
     requires area { IsSound area }
@@ -86,7 +86,7 @@ fn add_common(region: &mut Region, rect: Rect, area: Rect) -> Option<()>
     }
 }
 
-// What rects, moved, cover of an area; None where memory is out, or a rect lies too far from the origin.
+// What rects, moved, cover of an area; None if memory is out, or a rect lies too far from the origin.
 fn moved_into(alloc: Global, rects: &[Rect], by: Point, area: Rect) -> Option<Region>
     requires rects { All IsSound rects.now }
     requires by { IsWithin (256 * 1114112) by }
@@ -101,7 +101,7 @@ fn moved_into(alloc: Global, rects: &[Rect], by: Point, area: Rect) -> Option<Re
     Some(moved)
 }
 
-// Where on the screen a layer shows some of its rects; None where that is not known.
+// Where on the screen a layer shows some of its rects; None if that is not known.
 fn rects_on_screen(alloc: Global, page: &LayerTree, layer: &Layer, rects: &[Rect]) -> Option<Region>
     requires { All IsSound rects.now }
     ensures { IfSome result (λ shown. (x y : ℤ) → covered shown x y ≡ shows_rects page.now rects.now (parts_of layer.now) x y) }
@@ -113,7 +113,7 @@ fn rects_on_screen(alloc: Global, page: &LayerTree, layer: &Layer, rects: &[Rect
     moved_into(alloc, rects, by, clip_in(page, &offsets, layer))
 }
 
-// Where on the screen a change of a layer shows; None where that is not known.
+// Where on the screen a change of a layer shows; None if that is not known.
 #[tactic(auto, using(crate::proofs::ScreenRects::change_covered))]
 fn change_on_screen(alloc: Global, page: &LayerTree, change: &LayerChange) -> Option<Region>
     ensures { IfSome result (λ shown. CoverChange page.now change.now shown) }
@@ -122,7 +122,7 @@ fn change_on_screen(alloc: Global, page: &LayerTree, change: &LayerChange) -> Op
     rects_on_screen(alloc, page, layer, change.region.rects())
 }
 
-// Where on the screen the first of some changes shows; None where that is not known.
+// Where on the screen the first of some changes shows; None if that is not known.
 #[tactic(auto, using(crate::proofs::ScreenRects::first_covered))]
 fn first_on_screen(alloc: Global, page: &LayerTree, changes: &Changes) -> Option<Region>
     ensures { IfSome result (λ shown. CoverFirst page.now changes.now.list shown) }
@@ -131,7 +131,7 @@ fn first_on_screen(alloc: Global, page: &LayerTree, changes: &Changes) -> Option
     change_on_screen(alloc, page, change)
 }
 
-// The points of two regions; None where memory is out, or these are many rects.
+// The points of two regions; None if memory is out, or these are many rects.
 #[tactic(auto, using(crate::proofs::ScreenRects::cover_both))]
 fn both_regions(first: Region, second: &Region) -> Option<Region>
     ensures { IfSome result (CoverBoth first second.now) }
@@ -144,7 +144,7 @@ fn both_regions(first: Region, second: &Region) -> Option<Region>
     Some(all)
 }
 
-/// The points of two regions; None where one is not known, memory is out, or these are many rects.
+/// The points of two regions; None if one is not known, memory is out, or these are many rects.
 #[tactic(auto, using(crate::proofs::ScreenRects::known_union_is))]
 pub(crate) fn known_union(first: Option<Region>, second: Option<Region>) -> Option<Region>
     ensures { IfSome result (IsKnownUnion first second) }
@@ -154,8 +154,8 @@ pub(crate) fn known_union(first: Option<Region>, second: Option<Region>) -> Opti
     both_regions(first, &second)
 }
 
-/// Where the main page may look otherwise than the active one after a command, where that was known before it and the
-/// command changed items alone; None where it is not known.
+/// Where the main page may look otherwise than the active one after a command, if that was known before it and the
+/// command changed items alone; None if it is not known.
 #[tactic(auto, using(crate::proofs::ScreenRects::noted_is))]
 pub(crate) fn noted(
     alloc: Global,

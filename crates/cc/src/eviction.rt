@@ -1,4 +1,4 @@
-//! Dropping tiles where they take too many bytes.
+//! Dropping tiles if they take too many bytes.
 
 ghost use Rattle.std.specs.Prelude.{◌≡◌, nat_le, filter};
 ghost use Rattle.cc.specs.KeptTiles.{AreKeptFor, AreCurrent};
@@ -6,7 +6,7 @@ ghost use Rattle.cc.specs.KeptTiles.{AreKeptFor, AreCurrent};
 use crate::kept_tile::KeptTile;
 use page_layers::LayerTree;
 
-// How many draws a tile is kept that none of them used, where others are to be dropped.
+// How many draws a tile is kept that none of them used, if others are to be dropped.
 const RECENT_DRAWS: u64 = 8;
 
 // How many bytes the rows of these tiles have.
@@ -25,7 +25,7 @@ fn drop_used_before(kept: &mut Vec<KeptTile>, oldest: u64)
     kept.retain(|one| one.used >= oldest);
 }
 
-// Drops them where all tiles take more bytes than the budget has.
+// Drops them if all tiles take more bytes than the budget has.
 fn drop_older(
     active: &LayerTree,
     main: &LayerTree,

@@ -57,7 +57,7 @@ fn is_same_place(a: TileKey, b: TileKey) -> bool
     layer && column && row
 }
 
-// The image of a kept tile, where it is of the place of this key.
+// The image of a kept tile, if it is of the place of this key.
 #[tactic(auto, using(crate::proofs::Images::same_place))]
 fn image_of(
     active: &LayerTree,
@@ -73,7 +73,7 @@ fn image_of(
     Ok(Some(Arc::try_clone(&one.image)?))
 }
 
-// The image of a place, where it is kept at this index of the list.
+// The image of a place, if it is kept at this index of the list.
 #[tactic(auto, using(crate::proofs::Images::kept_at))]
 fn image_at(
     active: &LayerTree,
@@ -156,7 +156,7 @@ fn insert_at(kept: &mut Vec<KeptTile>, at: usize, one: KeptTile) -> Result<(), A
     }
 }
 
-// Keeps a tile at this index of the list, where there is one.
+// Keeps a tile at this index of the list, if there is one.
 #[tactic(auto, using(crate::proofs::Images::same_kept, crate::proofs::Images::same_current))]
 fn keep(
     active: &LayerTree,

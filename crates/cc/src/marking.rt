@@ -61,7 +61,7 @@ fn is_touched(one: &KeptTile, tree: &LayerTree, changes: &Changes) -> bool
     shows(changes, one.key.layer, one.image.rect())
 }
 
-// Marks a tile, where it is touched.
+// Marks a tile, if it is touched.
 fn mark_one(one: &mut KeptTile, tree: &LayerTree, changes: &Changes)
     ensures { one.new ≡ spec.marked tree.now changes.now one.old }
 {

@@ -30,7 +30,7 @@ pub(crate) fn scroll_active(
     active.pull(id, dx as i64, dy as i64)
 }
 
-/// Moves a scroller of the main page as far as its range allows; nothing where the page has no such scroller. What
+/// Moves a scroller of the main page as far as its range allows; nothing if the page has no such scroller. What
 /// is current stays so.
 pub(crate) fn move_main(main: &mut LayerTree, cache: &TileCache, id: u32, dx: i32, dy: i32)
     requires { AreCurrent main.old cache.now }
@@ -40,7 +40,7 @@ pub(crate) fn move_main(main: &mut LayerTree, cache: &TileCache, id: u32, dx: i3
     move_one(main, id, dx, dy);
 }
 
-// Moves a scroller of a page as far as its range allows; nothing where the page has no such scroller.
+// Moves a scroller of a page as far as its range allows; nothing if the page has no such scroller.
 #[tactic(auto, using(crate::proofs::ScrollSteps::unknown_stays))]
 fn move_one(page: &mut LayerTree, id: u32, dx: i32, dy: i32)
     ensures { page.new ≡ page_after_pulls (record { scroller = id; dx = dx; dy = dy } ∷ []) page.old }

@@ -33,7 +33,7 @@ pub(crate) fn wheel_on(
     wheel_parts(alloc, page, &offsets, at, asked)
 }
 
-/// The topmost layer that covers a point of the screen; 0 exactly where none does.
+/// The topmost layer that covers a point of the screen; 0 exactly if none does.
 pub(crate) fn target_on(alloc: Global, page: &LayerTree, at: Point) -> Result<u32, AllocError>
     ensures { IfOk result (λ id. id ≡ hits.target page.now (main_point page.now) at.x at.y) }
 {

@@ -9,7 +9,7 @@ use page_hit_test::WheelPart;
 use region::Region;
 use std::alloc::Global;
 
-/// Whether the frame shows the active page, where it does so outside of some rects, if they are known.
+/// Whether the frame shows the active page, if it does so outside of some rects, if they are known.
 pub(crate) fn is_shown(unshown: &Option<Region>) -> bool
     ensures { IsTrue result → unshown.now ≡ Some [] }
 {

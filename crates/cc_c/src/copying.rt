@@ -92,7 +92,7 @@ fn copy_rows(frame: &Canvas<Rgba>, bgra: bool, top: u32, bottom: u32, stride: us
 }
 
 /// Copies rows of a frame to a buffer whose rows begin `stride` bytes apart, as they are or with red and blue
-/// exchanged. False where the frame lacks one of them, or the buffer has no room for them; nothing is copied then.
+/// exchanged. False if the frame lacks one of them, or the buffer has no room for them; nothing is copied then.
 #[tactic(auto, using(crate::proofs::CopiedRows::no_row, crate::proofs::CopiedRows::no_gap, crate::proofs::CopiedRows::no_end))]
 pub fn copied(
     frame: &Canvas<Rgba>,

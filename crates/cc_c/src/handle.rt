@@ -12,7 +12,7 @@ use std::marker::Model;
 #[repr(C)]
 pub struct Handle {
     at: *mut u8,
-    // it takes no bytes, so C sees the pointer alone
+    // It takes no bytes, so C sees the pointer alone.
     alloc: Global,
     ghost value: { Held },
 }

@@ -13,7 +13,7 @@ use crate::span::{Span, common_span};
 pub struct IndexRange {
     /// The least of them.
     pub first: u32,
-    /// One above the greatest; `first` where there are none.
+    /// One above the greatest; `first` if there are none.
     pub end: u32,
 }
 

@@ -58,7 +58,7 @@ impl Keys {
         self.keys.len()
     }
 
-    /// The key at place `i`, counted from 0; None exactly where `i` is not below `len`.
+    /// The key at place `i`, counted from 0; None exactly if `i` is not below `len`.
     pub fn at(&self, i: usize) -> Option<&TileKey>
         ensures { option_copied result ≡ slice_get self.now i }
     {

@@ -18,7 +18,7 @@ pub struct Point {
 
 /// The points from `(x, y)` on, `w` to the right and `h` downwards.
 ///
-/// A rect is sound where `x` and `y` are at most 2^29 in absolute value, and `w` and `h` from 0 to 2^29.
+/// A rect is sound if `x` and `y` are at most 2^29 in absolute value, and `w` and `h` from 0 to 2^29.
 #[derive(Clone, Copy, PartialEq, Eq, Debug)]
 pub struct Rect {
     /// The leftmost column.
@@ -42,7 +42,7 @@ impl Rect {
         across && down
     }
 
-    /// The rect of the points that both cover; the rect (0, 0, 0, 0) where there are none.
+    /// The rect of the points that both cover; the rect (0, 0, 0, 0) if there are none.
     pub fn intersect(self, other: Rect) -> Rect
         requires sound { IsSound self }
         requires other_sound { IsSound other }
@@ -86,7 +86,7 @@ impl Rect {
     }
 
     /// How far the rects lie apart: the larger of the gaps of the two axes, in pixels. The gap of an
-    /// axis is 0 where the spans overlap or one begins where the other ends.
+    /// axis is 0 if the spans overlap or one begins where the other ends.
     pub fn distance(self, other: Rect) -> u32
         requires sound { IsSound self }
         requires other_sound { IsSound other }

@@ -27,7 +27,7 @@ pub fn is_within(at: i32, len: i32, p: i32) -> bool
     at <= p && p < end
 }
 
-/// The numbers of both spans; None where there are none.
+/// The numbers of both spans; None if there are none.
 #[tactic(auto, unfolding(crate::specs::Common::common_span))]
 pub fn common_span(at: i32, len: i32, other_at: i32, other_len: i32) -> Option<Span>
     requires first { IsSpan at len }
@@ -47,7 +47,7 @@ pub fn common_span(at: i32, len: i32, other_at: i32, other_len: i32) -> Option<S
     }
 }
 
-/// The rect of two spans; the rect (0, 0, 0, 0) where one is missing.
+/// The rect of two spans; the rect (0, 0, 0, 0) if one is missing.
 pub fn rect_of_spans(across: Option<Span>, down: Option<Span>) -> Rect
     ensures { result ≡ Common.rect_of_spans across down }
 {

@@ -18,9 +18,9 @@ use std::alloc::{AllocError, Global};
 /// What `TileManager::activate` takes.
 #[derive(Drop)]
 pub struct Activation {
-    /// the keys that are not to be evicted then
+    /// The keys that are not to be evicted then.
     pub pins: Pins,
-    /// the ready keys that go
+    /// The ready keys that go.
     pub dead: Keys,
 }
 

@@ -30,9 +30,9 @@ use tile_priority::{Rank, ReadyTile};
 /// What `TileManager::foresee` takes.
 #[derive(Drop)]
 pub struct Foreseen {
-    /// the ranks of the visible tiles that are missing
+    /// The ranks of the visible tiles that are missing.
     pub wanted: Vec<Rank>,
-    /// the ready tiles that are not visible
+    /// The ready tiles that are not visible.
     pub hidden: Vec<ReadyTile>,
 }
 

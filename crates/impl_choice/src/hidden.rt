@@ -26,7 +26,7 @@ fn is_shown_in(script: &Script, tree: Option<&SeenTree<'_>>, key: TileKey) -> bo
     is_visible_rank(one.rank)
 }
 
-// Puts a key after others where it is to be put. An error means out of memory.
+// Puts a key after others if it is to be put. An error means out of memory.
 fn push_where(keys: &mut Keys, key: TileKey, is: bool) -> Result<(), AllocError>
     ensures { OnOk result (keys.new ≡ keys.old ++ cond is (key ∷ []) []) }
 {
@@ -71,7 +71,7 @@ pub(crate) fn without(
     Ok(left)
 }
 
-// Puts a ready tile after others where it is not visible. An error means out of memory.
+// Puts a ready tile after others if it is not visible. An error means out of memory.
 fn push_hidden(tiles: &mut Vec<ReadyTile>, tile: ReadyTile) -> Result<(), AllocError>
     ensures { OnOk result (tiles.new.items ≡ tiles.old.items ++ filter is_hidden (tile ∷ [])) }
 {

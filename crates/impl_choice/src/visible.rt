@@ -8,7 +8,7 @@ use geom::Keys;
 use impl_ranks::SeenTree;
 use std::alloc::{AllocError, Global};
 
-/// The keys of the visible tiles of a tree, in key order; none where there is no tree. An error means out of memory.
+/// The keys of the visible tiles of a tree, in key order; none if there is no tree. An error means out of memory.
 #[tactic(auto, unfolding(tile_visible::specs::Visible::visible_keys))]
 pub fn visible_of(alloc: Global, tree: Option<&SeenTree<'_>>) -> Result<Keys, AllocError>
     ensures { IfOk result (λ keys. (t : Tree) → IsSeenWhere t (option_copied tree.entry) → keys ≡ visible_in t) }

@@ -15,7 +15,7 @@ use model_history::Event;
 use std::alloc::AllocError;
 
 impl Core {
-    // Enters the abort of a frame where the pending commit sets no scroller outright, or none is pending: both
+    // Enters the abort of a frame if the pending commit sets no scroller outright, or none is pending: both
     // trees stay where they stand, and so does what there is to choose from.
     fn abort_in_place(&mut self, frame: u32, standing: Standing) -> Result<(), AllocError>
         requires is_now { now self.old kind.Abort 1 ≡ Some (event.Abort frame) }

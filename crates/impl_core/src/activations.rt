@@ -168,7 +168,7 @@ impl Core {
         Ok(())
     }
 
-    /// Activates the pending commit, where all its visible tiles are ready and the scheduler's state allows
+    /// Activates the pending commit, if all its visible tiles are ready and the scheduler's state allows
     /// it, and answers whether it was activated. An error means out of memory, and nothing was entered.
     pub fn activate(&mut self) -> Result<bool, AllocError>
         ensures plays { IfOk result (λ played. Plays self.old kind.Activate 0 self.new played) }

@@ -93,7 +93,7 @@ impl Core {
         }
     }
 
-    /// Commits the main frame that is ready, where it may be committed now, and answers whether it was. An
+    /// Commits the main frame that is ready, if it may be committed now, and answers whether it was. An
     /// error means out of memory, and nothing was entered.
     pub fn commit(&mut self) -> Result<bool, AllocError>
         ensures plays { IfOk result (λ played. Plays self.old kind.Commit 0 self.new played) }

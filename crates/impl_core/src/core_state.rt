@@ -37,13 +37,13 @@ pub struct Core {
     pub(crate) log: Log,
     pub(crate) host: ImplHost,
     pub(crate) tiles: TileManager,
-    // the pulls of the frame in flight, while it is sent
+    // The pulls of the frame in flight, while it is sent.
     pub(crate) told: Moves,
     // the commit of the frame in flight, once it is ready and until it is entered
     pub(crate) prepared: Option<Commit>,
-    // the visible keys of the pending tree, which an activation needs
+    // The visible keys of the pending tree, which an activation needs.
     pub(crate) required: Needs,
-    // what was drawn since the picture may have changed
+    // What was drawn since the picture may have changed.
     pub(crate) drawn: Drawn,
     pub(crate) alloc: Global,
 }
@@ -205,7 +205,7 @@ impl Core {
         self.tiles.used()
     }
 
-    /// The main frame that was sent and has not ended, with its pulls; None exactly where there is none.
+    /// The main frame that was sent and has not ended, with its pulls; None exactly if there is none.
     pub fn in_flight(&self) -> Option<(u32, &Moves)>
         ensures { option_map (λ f. (f.0, f.1.now)) result ≡ told_frame self.now }
     {
@@ -219,7 +219,7 @@ impl Core {
         }
     }
 
-    /// The key that starts next; None exactly where the run has ended or none may start. An error means out
+    /// The key that starts next; None exactly if the run has ended or none may start. An error means out
     /// of memory; the run stays in any case.
     pub fn next_start(&mut self) -> Result<Option<TileKey>, AllocError>
         ensures key { IfOk result (λ key. key ≡ next_key self.old) }
@@ -228,7 +228,7 @@ impl Core {
         if self.ended() { Ok(None) } else { self.first() }
     }
 
-    /// The key of the tile that is to be made first, whether or not the run has ended; None exactly where none
+    /// The key of the tile that is to be made first, whether or not the run has ended; None exactly if none
     /// is to be made or no room can be made for one. An error means out of memory; the run stays in any case.
     pub fn first(&mut self) -> Result<Option<TileKey>, AllocError>
         ensures key { IfOk result (λ key. key ≡ option_map rank_key (rank_to_start self.old.script (past self.old))) }
@@ -239,7 +239,7 @@ impl Core {
         Ok(self.tiles.next_start())
     }
 
-    /// Makes the raster queue where the ranks of all tiles are known, so that the next questions for a key cost less.
+    /// Makes the raster queue if the ranks of all tiles are known, so that the next questions for a key cost less.
     /// An error means out of memory; the run stays in any case.
     pub(crate) fn refresh(&mut self) -> Result<(), AllocError>
         ensures { self.new ≡ self.old }

@@ -5,11 +5,11 @@ use crate::Drawing;
 /// What was drawn since the active tree was moved, or one of its tiles made or evicted. Most draws come after such a
 /// change, so the first drawing is handed out and no more; of the second one a copy is kept for those after it.
 pub(crate) enum Drawn {
-    /// nothing
+    /// Nothing.
     Nothing,
-    /// one drawing
+    /// One drawing.
     Once,
-    /// more than one: this one
+    /// More than one: this one.
     Kept(Drawing),
 }
 

@@ -80,7 +80,7 @@ impl Core {
         Ok(drawing)
     }
 
-    // What a draw shows now. It is made anew only where none is kept. There is an active tree.
+    // What a draw shows now. It is made anew only if none is kept. There is an active tree.
     fn shown(&mut self) -> Result<Drawing, AllocError>
         requires { is_some (active (past self.old)) ≡ true }
         ensures missing { IfOk result (λ drawing. drawing.missing ≡ missing_visible self.old.script (past self.old)) }
@@ -106,8 +106,8 @@ impl Core {
         Ok(scene)
     }
 
-    /// Draws the active tree, where a draw may come now: the scene whose pixels are the painting at this
-    /// point. None exactly where no draw may come. An error means out of memory, and nothing was entered.
+    /// Draws the active tree, if a draw may come now: the scene whose pixels are the painting at this
+    /// point. None exactly if no draw may come. An error means out of memory, and nothing was entered.
     pub fn draw(&mut self) -> Result<Option<Scene>, AllocError>
         ensures draws { IfOk result (Draws self.old self.new) }
         ensures err { OnErr result (self.new ≡ self.old) }

@@ -7,9 +7,9 @@ use geom::Keys;
 
 /// What is known of the visible keys of the pending tree, all of which must be ready for its activation.
 pub(crate) struct Needs {
-    /// the keys, once they were asked for
+    /// The keys, once they were asked for.
     pub(crate) keys: Option<Keys>,
-    /// whether all of them are known to be ready
+    /// Whether all of them are known to be ready.
     pub(crate) all_ready: bool,
 }
 
@@ -42,7 +42,7 @@ impl Needs {
         self.all_ready = false;
     }
 
-    /// These keys are evicted: where there are any, it is no longer known whether all are ready.
+    /// These keys are evicted: if there are any, it is no longer known whether all are ready.
     pub(crate) fn evict(&mut self, evicted: &Keys)
         ensures { self.new ≡ after_evicting self.old evicted.now }
     {

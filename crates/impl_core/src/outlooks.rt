@@ -56,7 +56,7 @@ use impl_tiles::TileManager;
 use model_history::Script;
 use std::alloc::{AllocError, Global};
 
-/// Looks where the trees of the host stand, where that was not done since they were moved, and gives all tiles
+/// Looks where the trees of the host stand, if that was not done since they were moved, and gives all tiles
 /// their ranks. An error means out of memory, and the tiles are as they were.
 pub(crate) fn look(
     alloc: Global,
@@ -105,7 +105,7 @@ fn look_visible(
     )
 }
 
-// The same, where it was not looked since the trees were moved and more tiles are there than the budget has room for.
+// The same, if it was not looked since the trees were moved and more tiles are there than the budget has room for.
 // Then all were evicted that could be, so that few ready tiles are not visible, and it is likely that no other starts.
 fn look_visible_first(
     alloc: Global,
@@ -124,7 +124,7 @@ fn look_visible_first(
 }
 
 /// Looks where the trees of the host stand, as far as that tells which tile starts next: over the budget at the visible
-/// tiles, and at all only where no visible tile is missing and another may start. An error means out of memory, and the
+/// tiles, and at all only if no visible tile is missing and another may start. An error means out of memory, and the
 /// tiles represent what they did.
 pub(crate) fn look_for_next(
     alloc: Global,

@@ -10,7 +10,7 @@ use model_states::Kind;
 use std::alloc::AllocError;
 
 impl Core {
-    /// Enters the event of a plain kind, where one may come now, and answers whether there was one. An error
+    /// Enters the event of a plain kind, if one may come now, and answers whether there was one. An error
     /// means out of memory, and nothing was entered.
     pub fn play_plain(&mut self, kind: Kind) -> Result<bool, AllocError>
         requires { is_plain_kind kind ≡ true }
@@ -43,7 +43,7 @@ impl Core {
         }
     }
 
-    /// Enters the end of a settle, where the next input is one and no tile is left to make, and answers
+    /// Enters the end of a settle, if the next input is one and no tile is left to make, and answers
     /// whether it was. An error means out of memory, and nothing was entered.
     pub fn settle(&mut self) -> Result<bool, AllocError>
         ensures plays { IfOk result (λ played. Plays self.old kind.Settle 0 self.new played) }

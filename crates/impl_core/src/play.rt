@@ -11,7 +11,7 @@ use model_states::Kind;
 use std::alloc::AllocError;
 
 impl Core {
-    // Plays an event that shows nothing, where one may come now, and answers whether there was one.
+    // Plays an event that shows nothing, if one may come now, and answers whether there was one.
     fn play_unseen(&mut self, kind: Kind) -> Result<bool, AllocError>
         requires own { is_own kind ≡ true }
         requires unseen { is_draw_kind kind ≡ false }
@@ -29,7 +29,7 @@ impl Core {
         }
     }
 
-    // The same with the cause where there was none.
+    // The same with the cause if there was none.
     fn reply_unseen(&mut self, kind: Kind) -> Result<Reply, CoreFault>
         requires own { is_own kind ≡ true }
         requires unseen { is_draw_kind kind ≡ false }
@@ -43,7 +43,7 @@ impl Core {
         }
     }
 
-    // A draw with its scene, or with the cause where there was none.
+    // A draw with its scene, or with the cause if there was none.
     fn reply_drawn(&mut self) -> Result<Reply, CoreFault>
         ensures { IsReply self.old kind.Draw self.new result }
     {
@@ -59,7 +59,7 @@ impl Core {
     }
 
     /// Enters the one event of this kind of the compositor that may come now. A draw answers the scene whose
-    /// pixels are the painting at this point. `NotNow` comes exactly where no event of the kind may come, with
+    /// pixels are the painting at this point. `NotNow` comes exactly if no event of the kind may come, with
     /// the present state of the scheduler; on an error nothing was entered.
     pub fn play(&mut self, kind: Kind) -> Result<Reply, CoreFault>
         requires { is_own kind ≡ true }

@@ -4,7 +4,7 @@ use model_states::{Kind, Sched};
 use std::alloc::AllocError;
 use viz_scene::Scene;
 
-/// What a call of `play` answers where its event was entered.
+/// What a call of `play` answers if its event was entered.
 #[derive(Drop)]
 pub enum Reply {
     /// An event of any other kind was entered.

@@ -19,7 +19,7 @@ impl Core {
         open && left
     }
 
-    /// Sends the next main frame with the moves that the main side has not heard of, where one may be sent
+    /// Sends the next main frame with the moves that the main side has not heard of, if one may be sent
     /// now, and answers whether it was. An error means out of memory, and nothing was entered.
     pub fn send(&mut self) -> Result<bool, AllocError>
         ensures plays { IfOk result (λ played. Plays self.old kind.Send 0 self.new played) }

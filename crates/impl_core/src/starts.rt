@@ -58,7 +58,7 @@ impl Core {
     }
 
     /// A worker that holds nothing starts the next key. The answer is its job: a display list on the rect of
-    /// the tile, which shows it as every page of the script does that has the key. None exactly where
+    /// the tile, which shows it as every page of the script does that has the key. None exactly if
     /// `next_start` is None. An error means out of memory, and nothing was entered.
     pub fn start(&mut self, worker: u32) -> Result<Option<Job>, AllocError>
         requires worker { worker < self.old.workers }

@@ -10,7 +10,7 @@ use std::alloc::{AllocError, Global};
 use std::sync::Arc;
 use viz_quads::ShownTile;
 
-// The tile of a key, with its image where the key is ready, which is looked for at `near` first.
+// The tile of a key, with its image if the key is ready, which is looked for at `near` first.
 fn shown_tile(
     manager: &TileManager,
     near: &mut usize,
@@ -27,7 +27,7 @@ fn shown_tile(
     }
 }
 
-/// The tiles of these keys, each with its image where it is ready. No pixel is copied. The work of a key that
+/// The tiles of these keys, each with its image if it is ready. No pixel is copied. The work of a key that
 /// is ready and stands next to the one before it does not grow with the number of tiles. An error means out
 /// of memory.
 pub(crate) fn shown_tiles(

@@ -11,9 +11,9 @@ use thread_lock::Turn;
 
 /// What a core began with: its script and its number of workers. No value of it is made.
 pub struct Stem {
-    /// the script
+    /// The script.
     pub script: Arc<Script>,
-    /// the number of workers
+    /// The number of workers.
     pub workers: u32,
 }
 

@@ -48,7 +48,7 @@ impl Core {
         self.enter_moving(0, event, standing)
     }
 
-    /// Turns the wheel that is the next input, where one may be turned now, and answers whether it was. An
+    /// Turns the wheel that is the next input, if one may be turned now, and answers whether it was. An
     /// error means out of memory, and nothing was entered.
     pub fn wheel(&mut self) -> Result<bool, AllocError>
         ensures plays { IfOk result (λ played. Plays self.old kind.Wheel 0 self.new played) }

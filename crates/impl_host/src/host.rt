@@ -20,7 +20,7 @@ use std::marker::Model;
 pub struct ImplHost {
     pub(crate) trees: Trees,
     pub(crate) standing: Standing,
-    // the scrollers that the pending commit sets outright; none where there is no pending commit
+    // The scrollers that the pending commit sets outright; none if there is no pending commit.
     pub(crate) outright: Vec<u32>,
 }
 

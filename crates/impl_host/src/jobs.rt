@@ -29,7 +29,7 @@ fn layer_of(page: &LayerTree, id: u32) -> Option<&Layer>
     None
 }
 
-// The rect of the place that a key names in its layer; None exactly where the layer has no such place.
+// The rect of the place that a key names in its layer; None exactly if the layer has no such place.
 fn rect_in(page: &LayerTree, layer: &Layer, key: TileKey) -> Option<Rect>
     requires { IsLayerSide layer.now.w × IsLayerSide layer.now.h }
     ensures value { result ≡ spec.key_rect_in page.now key (parts_of layer.now) }
@@ -44,7 +44,7 @@ fn rect_in(page: &LayerTree, layer: &Layer, key: TileKey) -> Option<Rect>
     }
 }
 
-/// The job that makes the tile of a key: what its layer shows, on the rect of its place. None exactly where
+/// The job that makes the tile of a key: what its layer shows, on the rect of its place. None exactly if
 /// the page has no such place. The list is shared. An error means out of memory.
 pub(crate) fn job_of(page: &LayerTree, key: TileKey) -> Result<Option<Job>, AllocError>
     ensures value { IfOk result (λ job. option_map spec.made_by job ≡ spec.job_in page.now key) }

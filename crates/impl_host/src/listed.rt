@@ -8,7 +8,7 @@ ghost use Rattle.impl_host.specs.inner.Steps as spec;
 use region::{Changes, LayerChange};
 use tile_tiling::Tiling;
 
-/// The change of a layer, where it is listed.
+/// The change of a layer, if it is listed.
 pub(crate) fn change_in(changes: &Changes, layer: u32) -> Option<&LayerChange>
     ensures { option_copied result ≡ change_of changes.now.list layer }
 {

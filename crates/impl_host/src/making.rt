@@ -96,7 +96,7 @@ fn next_tiling(
     }
 }
 
-// Where there is a tree, each of its layers has a tiling.
+// If there is a tree, each of its layers has a tiling.
 fn are_cut(last: &Option<TreeState>)
     ensures { IfSome last.now (λ a. AreCut a.page a.tilings) }
 {

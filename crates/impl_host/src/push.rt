@@ -10,7 +10,7 @@ use crate::{TreeState, Trees};
 use page_layers::LayerTree;
 use region::Changes;
 
-// Whether a commit retiles, or the last pushed tree, where there is one, has the tile size of the page.
+// Whether a commit retiles, or the last pushed tree, if there is one, has the tile size of the page.
 fn has_tile(last: Option<&TreeState>, tree: &LayerTree, changes: &Changes) -> bool
     ensures { result ≡ spec.has_tile (option_copied last.entry) tree.now changes.now }
 {
@@ -32,7 +32,7 @@ fn may_follow(last: Option<&TreeState>, tree: &LayerTree, changes: &Changes) -> 
 }
 
 /// Whether this page with these changes may be pushed: no tree is pending, and each layer that is not listed as
-/// changed whole stands in the active tree with its size; and where the changes do not retile, the tile size
+/// changed whole stands in the active tree with its size; and if the changes do not retile, the tile size
 /// is the one there.
 pub fn may_push(trees: &Trees, tree: &LayerTree, changes: &Changes) -> bool
     ensures free { IsTrue result → trees.now.pending ≡ None }

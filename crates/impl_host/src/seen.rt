@@ -76,7 +76,7 @@ impl ImplHost {
         Ok(SeenTrees { active, pending })
     }
 
-    /// The active tree as its tiles are seen where the scrollers stand; None exactly where there is none. An
+    /// The active tree as its tiles are seen where the scrollers stand; None exactly if there is none. An
     /// error means out of memory.
     pub fn seen_active(&self, alloc: Global) -> Result<Option<SeenTree<'_>>, AllocError>
         ensures tree { IfOk result (λ seen. (s : ScriptModel) (h : List Entry) → Hosts s h self.now → IsSeenWhere (active_tree s h) seen) }

@@ -78,7 +78,7 @@ fn add(
 }
 
 /// Adds the tilings of a tree that lacks the commit of the active tree, once this commit is carried. None is
-/// added where it retiles. An error means out of memory.
+/// added if it retiles. An error means out of memory.
 pub(crate) fn add_behind(
     spares: &mut Vec<Spare>,
     tree: &LayerTree,
@@ -103,7 +103,7 @@ pub(crate) fn add_behind(
     Ok(())
 }
 
-/// Adds the tilings of a tree that has one commit more than the active tree, where this commit changed
+/// Adds the tilings of a tree that has one commit more than the active tree, if this commit changed
 /// nothing. An error means out of memory.
 pub(crate) fn add_ahead(
     spares: &mut Vec<Spare>,

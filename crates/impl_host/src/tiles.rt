@@ -29,7 +29,7 @@ use std::alloc::AllocError;
 use tile_priority::ReadyTile;
 use tile_raster::Job;
 
-// The page of a tree that may be missing, where the tree has a key.
+// The page of a tree that may be missing, if the tree has a key.
 fn page_with<'a>(
     tree: Option<&'a TreeState>,
     offsets: &Offsets,
@@ -52,7 +52,7 @@ fn page_with<'a>(
 }
 
 impl ImplHost {
-    // The page that has a key: the active one, or else the pending one; None exactly where neither has it.
+    // The page that has a key: the active one, or else the pending one; None exactly if neither has it.
     fn live_page(&self, key: TileKey) -> Option<&LayerTree>
         ensures { (s : ScriptModel) (h : List Entry) → Hosts s h self.now → HasLivePage s h key (option_copied result) }
     {
@@ -65,7 +65,7 @@ impl ImplHost {
     }
 
     /// The tile of a key that a worker has made: its rank, the better of its ranks in both trees, and whether
-    /// it is pinned. None exactly where the key is no longer live. Takes no memory.
+    /// it is pinned. None exactly if the key is no longer live. Takes no memory.
     pub fn tile(&self, script: &Script, key: TileKey, pinned: bool) -> Option<ReadyTile>
         ensures { (s : ScriptModel) (h : List Entry) → Hosts s h self.now → script.now ≡ s → pinned ≡ has_key (tiles.pinned s h) key → result ≡ cond (has_key (live_keys s h) key) (Some (ranking.ready_tile s h key)) None }
     {
@@ -77,7 +77,7 @@ impl ImplHost {
         }
     }
 
-    /// The job that makes the tile of a key, whose list is shared; None exactly where the key is not live.
+    /// The job that makes the tile of a key, whose list is shared; None exactly if the key is not live.
     /// What it makes shows the key in every page of the script that has it. An error means out of memory.
     pub fn job(&self, key: TileKey) -> Result<Option<Job>, AllocError>
         ensures live { IfOk result (λ job. (s : ScriptModel) (h : List Entry) → IsAccepted s → Hosts s h self.now → is_some job ≡ has_key (live_keys s h) key) }

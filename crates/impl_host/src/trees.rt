@@ -64,14 +64,14 @@ impl Trees {
         }
     }
 
-    /// The active tree; None exactly where there is none.
+    /// The active tree; None exactly if there is none.
     pub fn active(&self) -> Option<&TreeState>
         ensures { option_copied result ≡ self.now.active }
     {
         self.active.as_ref()
     }
 
-    /// The pending tree; None exactly where there is none.
+    /// The pending tree; None exactly if there is none.
     pub fn pending(&self) -> Option<&TreeState>
         ensures { option_copied result ≡ self.now.pending }
     {
@@ -82,7 +82,7 @@ impl Trees {
     /// the place shows. The last pushed tree is the active one, as none may be pending.
     ///
     /// The commit may follow that tree: a layer that it does not list with `whole` stands there with its
-    /// size, and where it does not retile, the tile size is the one there. An error means out of memory: the
+    /// size, and if it does not retile, the tile size is the one there. An error means out of memory: the
     /// tree and the changes are given back, and the trees are as they were.
     pub fn push(
         &mut self,

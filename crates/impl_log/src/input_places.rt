@@ -6,12 +6,12 @@ ghost use Rattle.impl_log.specs.inner.Steps.{placed};
 
 use model_history::Event;
 
-/// The places of the last two entries of a history that use an input; 0 where there is none.
+/// The places of the last two entries of a history that use an input; 0 if there is none.
 #[derive(Clone, Copy)]
 pub(crate) struct InputPlaces {
-    /// the newest of them
+    /// The newest of them.
     pub(crate) newest: usize,
-    /// the one before it
+    /// The one before it.
     pub(crate) older: usize,
 }
 

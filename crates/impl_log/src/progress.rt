@@ -14,23 +14,23 @@ use model_states::{MainState, Sched};
 /// How far a run has come: what its past tells, without the tiles and the scrollers.
 #[derive(Clone, Copy, PartialEq, Eq, Debug)]
 pub struct Progress {
-    /// the state of the scheduler
+    /// The state of the scheduler.
     pub sched: Sched,
-    /// an end or a stop stands
+    /// An end or a stop stands.
     pub has_ended: bool,
-    /// how many inputs were used, which is the place of the next one
+    /// How many inputs were used, which is the place of the next one.
     pub inputs: u32,
-    /// how many main frames were sent
+    /// How many main frames were sent.
     pub sends: u32,
-    /// the main frame that was sent last
+    /// The main frame that was sent last.
     pub sent: Option<u32>,
-    /// the draw for which an impl frame was begun last, by its place among the inputs
+    /// The draw for which an impl frame was begun last, by its place among the inputs.
     pub begun: Option<u32>,
-    /// the main frame whose commit is active
+    /// The main frame whose commit is active.
     pub active: Option<u32>,
-    /// the main frame whose commit is pending
+    /// The main frame whose commit is pending.
     pub pending: Option<u32>,
-    /// how many tiles are in flight
+    /// How many tiles are in flight.
     pub in_flight: u32,
 }
 

@@ -27,9 +27,9 @@ use tile_priority::{Borders, Rank, ReadyTile, Side};
 /// An active and a pending tree, either of which may be missing.
 #[derive(Drop)]
 pub struct SeenTrees<'a> {
-    /// The active tree; None exactly where no commit is active.
+    /// The active tree; None exactly if no commit is active.
     pub active: Option<SeenTree<'a>>,
-    /// The pending tree; None exactly where no commit is pending.
+    /// The pending tree; None exactly if no commit is pending.
     pub pending: Option<SeenTree<'a>>,
 }
 
@@ -48,7 +48,7 @@ fn rank_where(
     }
 }
 
-// Where a tree is there, its page is one. A law that does nothing when it runs.
+// If a tree is there, its page is one. A law that does nothing when it runs.
 fn is_page_where(tree: Option<&SeenTree<'_>>)
     ensures { spec.IsPageWhere (option_copied tree.entry) }
 {

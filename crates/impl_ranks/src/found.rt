@@ -26,7 +26,7 @@ pub(crate) fn borders(script: &Script, page: &LayerTree) -> Borders
     }
 }
 
-// The rank of a key, where the layer has it.
+// The rank of a key, if the layer has it.
 fn layer_rank(borders: &Borders, side: Side, layer: &SeenLayer<'_>, key: TileKey) -> Option<Rank>
     requires { IsSound borders.now.viewport }
     ensures { result ≡ spec.layer_rank borders.now side layer.now key }

@@ -28,22 +28,22 @@ use tile_visible::{clip_in, grid_of, moved_place};
 /// A layer as its tiles are seen.
 #[derive(Drop)]
 pub(crate) struct SeenLayer<'a> {
-    // its number
+    // Its number.
     id: u32,
-    // how it is cut
+    // How it is cut.
     grid: Grid,
-    // how many columns and rows that makes
+    // How many columns and rows that makes.
     columns: u32,
     rows: u32,
-    // how far it is moved on the screen
+    // How far it is moved on the screen.
     by: Point,
-    // its clip, cut by the viewport
+    // Its clip, cut by the viewport.
     clip: Rect,
-    // the clip, moved back to the layer
+    // The clip, moved back to the layer.
     clip_inside: Rect,
-    // no effect of its chain has opacity 0
+    // No effect of its chain has opacity 0.
     draws: bool,
-    // the stamps of its places
+    // The stamps of its places.
     tiling: &'a Tiling,
 }
 

@@ -1,6 +1,6 @@
 //! The ranks of a layer, beside the layer of the same number in the other tree.
 //!
-//! Where both stand alike on the screen, a tile is seen alike in both trees: one look serves both, and the stamps
+//! If both stand alike on the screen, a tile is seen alike in both trees: one look serves both, and the stamps
 //! alone tell whether the other tree has the key, too.
 
 ghost use Rattle.std.specs.Prelude.{◌≡◌, ◌==◌, ◌++◌, true, cond, filter_map, Some, IsTrue, OnOk, All, option_copied};
@@ -22,7 +22,7 @@ use std::alloc::{AllocError, Global};
 use std::marker::Model;
 use tile_priority::{Borders, Rank, Side, TreePriority, least};
 
-/// A layer with the borders of its tree, and the layer of the same number in the other tree, where there is one,
+/// A layer with the borders of its tree, and the layer of the same number in the other tree, if there is one,
 /// with those of that tree.
 #[derive(Drop)]
 pub(crate) struct Pair<'b, 'a> {
@@ -30,7 +30,7 @@ pub(crate) struct Pair<'b, 'a> {
     layer: &'b SeenLayer<'a>,
     theirs: &'b Borders,
     other: Option<&'b SeenLayer<'a>>,
-    // the two stand alike on the screen
+    // The two stand alike on the screen.
     alike: bool,
 }
 
@@ -186,7 +186,7 @@ fn better_apart(
     }
 }
 
-// The rank of a place of a pending layer, where its key has none in an active layer that stands alike.
+// The rank of a place of a pending layer, if its key has none in an active layer that stands alike.
 #[tactic(auto, using(crate::proofs::Pairs::alone_twin))]
 fn alone_alike(
     borders: &Borders,
@@ -271,7 +271,7 @@ impl<'b, 'a> Pair<'b, 'a> {
         }
     }
 
-    // The rank of a place of the pending layer, where its key has none in the active layer.
+    // The rank of a place of the pending layer, if its key has none in the active layer.
     #[tactic(auto, using(crate::proofs::Pairs::alone_without, crate::proofs::Pairs::one_borders))]
     fn alone(&self, place: Place) -> Option<Rank>
         requires { IsTrue (has self.now.layer.grid place) }
@@ -301,7 +301,7 @@ impl<'b, 'a> Pair<'b, 'a> {
         Ok(())
     }
 
-    // Puts the ranks of these places of the pending layer after others, where their keys have none in the active layer.
+    // Puts the ranks of these places of the pending layer after others, if their keys have none in the active layer.
     fn push_alone_at(&self, ranks: &mut Vec<Rank>, places: &[Place]) -> Result<(), AllocError>
         requires { All (λ p. IsTrue (has self.now.layer.grid p)) places.now }
         ensures { OnOk result (ranks.new.items ≡ ranks.old.items ++ filter_map (λ p. option_and_then (pairs.alone_beside self.now.theirs self.now.other) (spec.place_rank self.now.borders side.Pending self.now.layer p)) places.now) }
@@ -323,7 +323,7 @@ impl<'b, 'a> Pair<'b, 'a> {
         self.push_better_at(ranks, places.as_slice())
     }
 
-    /// Puts the ranks of the pending layer's places near the viewport after others, where their keys have none in the
+    /// Puts the ranks of the pending layer's places near the viewport after others, if their keys have none in the
     /// active layer. An error means out of memory.
     #[tactic(auto, using(crate::proofs::Pairs::fused))]
     pub(crate) fn push_alone(&self, alloc: Global, ranks: &mut Vec<Rank>) -> Result<(), AllocError>

@@ -36,7 +36,7 @@ use tile_visible::grid_of;
 #[derive(Drop)]
 pub struct PlacedTree<'a> {
     page: &'a LayerTree,
-    // in the order of the page's layers
+    // In the order of the page's layers.
     tilings: &'a [Tiling],
     offsets: &'a Offsets,
 }
@@ -94,7 +94,7 @@ impl<'a> PlacedTree<'a> {
         has_stamped(self.page, self.offsets, found, key)
     }
 
-    /// The rank of a key in the tree of this side; None exactly where the tree lacks the key, or its tile
+    /// The rank of a key in the tree of this side; None exactly if the tree lacks the key, or its tile
     /// has no bin.
     pub fn rank(&self, script: &Script, side: Side, key: TileKey) -> Option<Rank>
         ensures value { (t : Tree) → IsPlaced t self.now → result ≡ ranking.rank_in script.now side t key }
@@ -156,7 +156,7 @@ fn rank_of(
     rank_on(borders, side, Some(&seen), key)
 }
 
-// The rank that a layer that may be missing gives a key. Where it stands on the screen is found only where it has
+// The rank that a layer that may be missing gives a key. Where it stands on the screen is found only if it has
 // the key.
 fn rank_stamped(
     page: &LayerTree,

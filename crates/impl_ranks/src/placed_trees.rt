@@ -18,9 +18,9 @@ use tile_priority::{Rank, ReadyTile, Side};
 /// no memory.
 #[derive(Drop)]
 pub struct PlacedTrees<'a> {
-    /// The active tree; None exactly where no commit is active.
+    /// The active tree; None exactly if no commit is active.
     pub active: Option<PlacedTree<'a>>,
-    /// The pending tree; None exactly where no commit is pending.
+    /// The pending tree; None exactly if no commit is pending.
     pub pending: Option<PlacedTree<'a>>,
 }
 

@@ -12,9 +12,9 @@ use std::marker::Model;
 #[derive(Drop)]
 pub(crate) struct LayerRun<'b, 'a> {
     layers: &'b [SeenLayer<'a>],
-    // the number that was looked for last
+    // The number that was looked for last.
     id: u32,
-    // its layer
+    // Its layer.
     layer: Option<&'b SeenLayer<'a>>,
 }
 
@@ -42,7 +42,7 @@ impl<'b, 'a> LayerRun<'b, 'a> {
         }
     }
 
-    // The layer of this number, which is looked for where it is not at hand.
+    // The layer of this number, which is looked for if it is not at hand.
     fn find(&mut self, id: u32) -> Option<&'b SeenLayer<'a>>
         ensures layer { option_copied result ≡ spec.layer_at id self.old }
         ensures same { self.new ≡ self.old }

@@ -28,7 +28,7 @@ use tile_visible::{OrderedLayer, by_id};
 #[derive(Drop)]
 pub struct SeenTree<'a> {
     page: &'a LayerTree,
-    // in the order of the page's layers
+    // In the order of the page's layers.
     layers: Vec<SeenLayer<'a>>,
 }
 

@@ -31,7 +31,7 @@ fn amount(one: Move, axis: Axis) -> i64
     }
 }
 
-/// How much some moves have for a scroller along an axis; 0 where they do not name it.
+/// How much some moves have for a scroller along an axis; 0 if they do not name it.
 pub(crate) fn amount_in(moves: &[Move], scroller: u32, axis: Axis) -> i64
     ensures { result ≡ axes.amount_in scroller (axis_of axis) moves.now }
 {

@@ -23,7 +23,7 @@ use page_layers::{LayerTree, Move};
 use std::alloc::{AllocError, Global};
 
 impl Standing {
-    /// What a `Send` lists, where one may come next: the moves that the main side has not heard of. An error
+    /// What a `Send` lists, if one may come next: the moves that the main side has not heard of. An error
     /// means out of memory.
     pub fn unheard(&self, alloc: Global) -> Result<Moves, AllocError>
         requires { StandsNow self.now }

@@ -65,7 +65,7 @@ fn wheel_nowhere(alloc: Global, dx: i32, dy: i32) -> Wheel
 
 impl Standing {
     /// What is accepted of a scroll: as far as the scroller's range in the active page allows. Nothing is
-    /// accepted where that page lacks it, and before the first activation.
+    /// accepted if that page lacks it, and before the first activation.
     pub fn accepted(&self, active: Option<&LayerTree>, scroller: u32, dx: i32, dy: i32) -> Point
         requires { ShowsNow self.now (option_copied active) }
         ensures x { (s : ScriptModel) (workers : ℕ) (h : List EntryModel) → Legal s workers h → StandsForPast s h self.now → option_copied active.entry ≡ page_at s h (frames.active h) → result.x ≡ scrolls.accepted s h scroller across dx }

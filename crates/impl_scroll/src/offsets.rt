@@ -52,7 +52,7 @@ fn end_of(node: &ScrollNode, axis: Axis) -> u32
     }
 }
 
-/// The end of a scroller's range along an axis, at most 2^20; 0 where the page lacks it.
+/// The end of a scroller's range along an axis, at most 2^20; 0 if the page lacks it.
 pub(crate) fn most(page: &LayerTree, scroller: u32, axis: Axis) -> u32
     ensures value { result ≡ scrollers.most page.now scroller (axis_of axis) }
     ensures short { result ≤ 2 ^ 20 }
@@ -76,7 +76,7 @@ pub(crate) fn clamped(most: u32, value: i64) -> i64
 }
 
 /// Where a scroller with these values stands in a pending page, whose range for it ends so: at its pending
-/// base where the commit sets it outright, else at its pending value, clamped to the range.
+/// base if the commit sets it outright, else at its pending value, clamped to the range.
 pub(crate) fn brought_to(outright: bool, most: u32, value: Synced) -> i64
     requires bounded { IsBounded value }
     requires range { most ≤ 2 ^ 20 }

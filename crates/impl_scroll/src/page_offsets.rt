@@ -21,7 +21,7 @@ pub(crate) fn none(alloc: Global) -> Offsets
     Offsets::new(alloc)
 }
 
-/// The offsets of the active page; each is (0, 0) where there is none. An error means out of memory.
+/// The offsets of the active page; each is (0, 0) if there is none. An error means out of memory.
 pub(crate) fn active_offsets(
     alloc: Global,
     rows: &ScrollValues,
@@ -38,7 +38,7 @@ pub(crate) fn active_offsets(
     }
 }
 
-/// The offsets of the pending page, whose commit sets these scrollers outright; each is (0, 0) where there
+/// The offsets of the pending page, whose commit sets these scrollers outright; each is (0, 0) if there
 /// is none. An error means out of memory.
 pub(crate) fn pending_offsets(
     alloc: Global,

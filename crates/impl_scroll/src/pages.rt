@@ -9,6 +9,6 @@ pub struct Pages<'a> {
     pub active: Option<&'a LayerTree>,
     /// The page of the pending commit, if there is one.
     pub pending: Option<&'a LayerTree>,
-    /// The scrollers that the pending commit sets outright; none where there is no pending commit.
+    /// The scrollers that the pending commit sets outright; none if there is no pending commit.
     pub outright: &'a [u32],
 }

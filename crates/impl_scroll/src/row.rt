@@ -8,11 +8,11 @@ use model_states::Synced;
 /// The scroll values of one scroller.
 #[derive(Clone, Copy, PartialEq, Eq, Debug)]
 pub struct Row {
-    /// the scroller's number
+    /// The scroller's number.
     pub scroller: u32,
-    /// its values along the x axis
+    /// Its values along the x axis.
     pub x: Synced,
-    /// its values along the y axis
+    /// Its values along the y axis.
     pub y: Synced,
 }
 
@@ -29,7 +29,7 @@ impl Row {
     }
 }
 
-/// The row of a scroller; one of zeros where there is none.
+/// The row of a scroller; one of zeros if there is none.
 pub(crate) fn row_of(rows: &[Row], scroller: u32) -> Row
     ensures { result ≡ row_at rows.now scroller }
 {

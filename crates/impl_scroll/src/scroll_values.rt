@@ -27,7 +27,7 @@ use std::marker::Model;
 
 /// The scroll values of all scrollers. Those that no row names are 0.
 pub struct ScrollValues {
-    // by rising scroller, each once
+    // By rising scroller, each once.
     rows: Vec<Row>,
 }
 
@@ -149,7 +149,7 @@ impl ScrollValues {
         offsets_of(alloc, Stage::Active, page, self.rows.as_slice())
     }
 
-    /// The offsets of the pending page, each in its range there, where its commit sets these scrollers
+    /// The offsets of the pending page, each in its range there, if its commit sets these scrollers
     /// outright. An error means out of memory.
     pub fn pending_offsets(
         &self,
@@ -165,7 +165,7 @@ impl ScrollValues {
         offsets_of(alloc, Stage::Pending(outright), page, self.rows.as_slice())
     }
 
-    /// How far an activation of the pending page moves each of its scrollers, where its commit sets these
+    /// How far an activation of the pending page moves each of its scrollers, if its commit sets these
     /// outright; by rising scroller, and what is (0, 0) is left out. An error means out of memory.
     pub fn clamps(
         &self,

@@ -93,7 +93,7 @@ impl Standing {
         &self.active
     }
 
-    /// The offsets of the pending page; each is (0, 0) where no commit is pending.
+    /// The offsets of the pending page; each is (0, 0) if no commit is pending.
     pub fn pending(&self) -> &Offsets
         ensures value { result.now ≡ self.now.pending }
         ensures in_range { AreOffsets (offset_at result.now) }

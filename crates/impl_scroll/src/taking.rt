@@ -35,7 +35,7 @@ fn gap(to: i64, from: i64) -> i32
     (to - from) as i32
 }
 
-// How far a number moves where this much is asked, in a range with this end.
+// How far a number moves if this much is asked, in a range with this end.
 fn moved_within(most: u32, at: i64, asked: i32) -> i32
     requires range { most ≤ 2 ^ 20 }
     requires low { pos 0 ≤ℤ at }
@@ -45,7 +45,7 @@ fn moved_within(most: u32, at: i64, asked: i32) -> i32
     gap(clamped(most, sum(at, asked)), at)
 }
 
-// How far a scroller of the page moves along an axis where this much is asked.
+// How far a scroller of the page moves along an axis if this much is asked.
 fn taken_along(page: &LayerTree, row: &Row, axis: Axis, asked: i32) -> i32
     requires bounded { IsBounded (spec.value_along (axis_of axis) row.now) }
     requires in_range { IsInRange (scrollers.most page.now row.now.scroller (axis_of axis)) (active_value (spec.value_along (axis_of axis) row.now)) }
@@ -55,8 +55,8 @@ fn taken_along(page: &LayerTree, row: &Row, axis: Axis, asked: i32) -> i32
     moved_within(most(page, row.scroller, axis), at, asked)
 }
 
-/// How far a scroller with these values moves where this much is asked: as far as its range in the page
-/// allows, and not at all where the page lacks it.
+/// How far a scroller with these values moves if this much is asked: as far as its range in the page
+/// allows, and not at all if the page lacks it.
 pub(crate) fn taken_by(page: &LayerTree, row: &Row, dx: i32, dy: i32) -> Point
     requires x_bounded { IsBounded row.now.x }
     requires y_bounded { IsBounded row.now.y }

@@ -52,7 +52,7 @@ impl Chunk {
         self.held.len()
     }
 
-    /// Puts a key at an index, where there is room for it. Takes no memory.
+    /// Puts a key at an index, if there is room for it. Takes no memory.
     pub(crate) fn insert(&mut self, at: usize, one: KeyedPlace)
         requires bound { at ≤ length self.old }
         requires room { length self.old < 64 }

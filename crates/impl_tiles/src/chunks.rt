@@ -15,7 +15,7 @@ use std::marker::Model;
 #[derive(Drop)]
 pub(crate) struct Chunks {
     chunks: Vec<Chunk>,
-    // an empty one, of which the next chunk is made
+    // An empty one, of which the next chunk is made.
     spare: Option<Chunk>,
 }
 
@@ -109,7 +109,7 @@ impl Chunks {
         }
     }
 
-    // Puts a key into a chunk, which is there, or into a new one where that is full.
+    // Puts a key into a chunk, which is there, or into a new one if that is full.
     fn insert_in(&mut self, spot: Spot, one: KeyedPlace)
         requires room { 1 ≤ self.old.spare }
         requires chunk { spot.chunk < length self.old.chunks }

@@ -12,9 +12,9 @@ use std::marker::Model;
 /// Contracts see the keys that are left.
 #[derive(Drop)]
 pub(crate) struct EachHeld<'a> {
-    // those of the chunk at hand
+    // Those of the chunk at hand.
     rest: &'a [KeyedPlace],
-    // the chunks after it
+    // The chunks after it.
     chunks: &'a [Chunk],
 }
 
@@ -36,7 +36,7 @@ impl<'a> EachHeld<'a> {
         EachHeld { rest: &[], chunks }
     }
 
-    /// The next key; None exactly where none is left.
+    /// The next key; None exactly if none is left.
     pub(crate) fn next(&mut self) -> Option<KeyedPlace>
         ensures none { IsNone result → self.old ≡ [] }
         ensures some { IfSome result (λ one. self.old ≡ one ∷ self.new) }

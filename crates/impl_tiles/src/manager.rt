@@ -84,7 +84,7 @@ fn each_ready(store: &TileStore, keys: &Keys) -> bool
     true
 }
 
-// Whether a search finds this key among these and it has no image. It always finds it where they stand in key
+// Whether a search finds this key among these and it has no image. It always finds it if they stand in key
 // order.
 fn is_found_unready(store: &TileStore, keys: &Keys, key: TileKey) -> bool
     ensures { result ≡ true → list_all (is_ready store.now) keys.now ≡ false }
@@ -96,7 +96,7 @@ fn is_found_unready(store: &TileStore, keys: &Keys, key: TileKey) -> bool
     }
 }
 
-// Whether all of these keys have an image. The key that starts next has none: where it is one of them, the others
+// Whether all of these keys have an image. The key that starts next has none: if it is one of them, the others
 // are not asked for.
 fn all_ready(store: &TileStore, keys: &Keys, next: Option<TileKey>) -> bool
     ensures { result ≡ list_all (is_ready store.now) keys.now }
@@ -138,7 +138,7 @@ impl TileManager {
         self.outlook.is_unseen()
     }
 
-    /// Whether what was looked at tells which key starts next. It does where all ranks are known, and where those of
+    /// Whether what was looked at tells which key starts next. It does if all ranks are known, and if those of
     /// the visible tiles are known and a visible tile is missing, or no other may start.
     pub fn tells_next(&self) -> bool
         ensures { IsTrue result ↔ TellsNext self.now.outlook }
@@ -146,7 +146,7 @@ impl TileManager {
         self.outlook.tells_next()
     }
 
-    /// The key that starts next; None exactly where none may start.
+    /// The key that starts next; None exactly if none may start.
     pub fn next_start(&self) -> Option<TileKey>
         requires { TellsNext self.now.outlook }
         ensures { (s : ScriptModel) (workers : ℕ) (h : List Entry) → Legal s workers h → Manages s h self.now → result ≡ option_map rank_key (rank_to_start s h) }
@@ -170,7 +170,7 @@ impl TileManager {
         self.outlook.wanted(&self.store, &self.pins, most)
     }
 
-    /// The image of a key; None exactly where the key is not ready. Where keys are asked for in their order,
+    /// The image of a key; None exactly if the key is not ready. If keys are asked for in their order,
     /// `near` carries the place from one question to the next: a key that stands next to the one before it is
     /// found without a search. The answer doesn't depend on it; 0 is as good a beginning as any.
     pub fn image_near(&self, near: &mut usize, key: TileKey) -> Option<&Arc<TileImage>>
@@ -186,7 +186,7 @@ impl TileManager {
         self.pins.has(key)
     }
 
-    /// The same. Where keys are asked for in their order, `near` carries the place from one question to the next, as in
+    /// The same. If keys are asked for in their order, `near` carries the place from one question to the next, as in
     /// [`TileManager::image_near`].
     pub fn pinned_near(&self, near: &mut usize, key: TileKey) -> bool
         ensures { result ≡ has_key self.now.pinned key }
@@ -249,7 +249,7 @@ impl TileManager {
         self.outlook.start(key, evicted);
     }
 
-    /// A worker is done with an image. `tile` is its tile, or None where its key is no longer live; then the
+    /// A worker is done with an image. `tile` is its tile, or None if its key is no longer live; then the
     /// image is dropped. Takes no memory.
     #[tactic(auto, using(crate::proofs::SeenOutlooks::finished_seen))]
     pub fn done(&mut self, image: Arc<TileImage>, tile: Option<ReadyTile>)
@@ -270,7 +270,7 @@ impl TileManager {
         self.outlook = Outlook::Ranks(ranks);
     }
 
-    /// Takes the ranks of the visible tiles that are missing, and the ready tiles that are not visible, where the ranks
+    /// Takes the ranks of the visible tiles that are missing, and the ready tiles that are not visible, if the ranks
     /// of all tiles are not known. An error means out of memory, and the manager is as it was.
     pub fn foresee(
         &mut self,
@@ -297,7 +297,7 @@ impl TileManager {
         self.outlook = Outlook::Unseen;
     }
 
-    /// Makes the queue, where there are ranks alone: the next question costs less. An error means out of memory,
+    /// Makes the queue, if there are ranks alone: the next question costs less. An error means out of memory,
     /// and the manager is as it was.
     pub fn refresh(&mut self) -> Result<(), AllocError>
         ensures same { (s : ScriptModel) (workers : ℕ) (h : List Entry) → Legal s workers h → Manages s h self.old → Manages s h self.new }

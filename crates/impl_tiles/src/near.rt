@@ -112,7 +112,7 @@ fn has_behind(keys: &[TileKey], near: &mut usize, key: TileKey) -> bool
     has_searched(keys, near, key)
 }
 
-// The first place from `near` on whose key is not less; the end where there is none.
+// The first place from `near` on whose key is not less; the end if there is none.
 fn not_less_from(keys: &[TileKey], near: usize, key: TileKey) -> usize
     ensures passed { AreLessBefore keys.now near key → AreLessBefore keys.now result key }
     ensures stops { (d : Key) → result < length keys.now → key_cmp (get_or keys.now result d) key ≡ Less → ⊥ }
@@ -126,7 +126,7 @@ fn not_less_from(keys: &[TileKey], near: usize, key: TileKey) -> usize
 }
 
 /// Whether the first of these keys from `near` on that is not less than a key is that key; `near` is set to its place.
-/// Where both these keys and those that are asked for stand in key order, that is whether it is one of them.
+/// If both these keys and those that are asked for stand in key order, that is whether it is one of them.
 pub fn is_next(keys: &[TileKey], near: &mut usize, key: TileKey) -> bool
     ensures has { result ≡ true → has_key keys.now key ≡ true }
     ensures exact { IsSorted key_cmp keys.now → AreLessBefore keys.now near.old key → result ≡ has_key keys.now key }
@@ -137,7 +137,7 @@ pub fn is_next(keys: &[TileKey], near: &mut usize, key: TileKey) -> bool
     is_at(keys, at, key)
 }
 
-/// Whether a key is one of these, which stand in key order. Where keys are asked for in their order, `near`
+/// Whether a key is one of these, which stand in key order. If keys are asked for in their order, `near`
 /// carries the place from one question to the next: a key that would stand next to the one before it, or a
 /// few after it, is found or missed without a search. The answer doesn't depend on it; 0 is as good a
 /// beginning as any.

@@ -19,13 +19,13 @@ use tile_queue::RasterQueue;
 
 /// What tells the next tile, and what is evicted for it.
 pub(crate) enum Outlook {
-    /// a queue of all tiles
+    /// A queue of all tiles.
     Queue(RasterQueue),
-    /// a queue of the visible tiles alone
+    /// A queue of the visible tiles alone.
     Visible(RasterQueue),
-    /// the ranks of which a queue is to be made
+    /// The ranks of which a queue is to be made.
     Ranks(Ranks),
-    /// nothing: it was not looked yet where the trees stand now
+    /// Nothing: it was not looked yet where the trees stand now.
     Unseen,
 }
 
@@ -73,7 +73,7 @@ impl Outlook {
         }
     }
 
-    /// The key that starts next; None exactly where none may start. Takes no memory.
+    /// The key that starts next; None exactly if none may start. Takes no memory.
     pub(crate) fn first(&self, store: &TileStore, pins: &Pins) -> Option<TileKey>
         requires { TellsNext self.now }
         ensures { result ≡ option_map rank_key (choosing.first (foreseen store.now pins.now self.now)) }
@@ -86,7 +86,7 @@ impl Outlook {
         }
     }
 
-    /// The key that starts next, where a queue has it at hand.
+    /// The key that starts next, if a queue has it at hand.
     pub(crate) fn at_hand(&self) -> Option<TileKey> {
         match self {
             Outlook::Queue(queue) => queue.first(),
@@ -142,7 +142,7 @@ impl Outlook {
         }
     }
 
-    /// A tile in flight is made, which is ready where it is given. The ranks stay. Takes no memory.
+    /// A tile in flight is made, which is ready if it is given. The ranks stay. Takes no memory.
     pub(crate) fn finish(&mut self, tile: Option<ReadyTile>)
         requires { MayFinish self.old tile }
         ensures { HasFinished self.old tile self.new }

@@ -52,9 +52,9 @@ pub(crate) fn is_made_now(store: &TileStore, in_flight: u32, key: TileKey) -> bo
 /// Ranks in two parts.
 #[derive(Drop)]
 pub(crate) struct PartedRanks {
-    /// those whose keys are neither ready nor being made
+    /// Those whose keys are neither ready nor being made.
     pub(crate) missing: Vec<Rank>,
-    /// those whose keys are ready
+    /// Those whose keys are ready.
     pub(crate) ready: Vec<Rank>,
 }
 
@@ -169,7 +169,7 @@ fn place_near(ranks: &[Rank], near: usize, key: TileKey) -> Option<usize>
     place_of(ranks, key)
 }
 
-// The rank at the place of a key, where there is one.
+// The rank at the place of a key, if there is one.
 fn rank_at(ranks: &[Rank], key: TileKey, place: Option<usize>) -> Option<Rank>
     requires { IsRankAt ranks.now key place }
     ensures among { IsRankAmong ranks.now key result }

@@ -84,7 +84,7 @@ fn is_beaten(rank: Rank, other: Option<Rank>) -> bool
     }
 }
 
-// The better of a rank, where its key is missing, and another. `near` and `in_flight` are as in `is_missing`. Where
+// The better of a rank, if its key is missing, and another. `near` and `in_flight` are as in `is_missing`. If
 // the other is better anyway, the key is not looked for.
 fn better(
     store: &TileStore,
@@ -128,7 +128,7 @@ impl Ranks {
         Ranks { ranks, budget }
     }
 
-    /// The queue that is to be made of the ranks, where these tiles are there and these keys are not to be given
+    /// The queue that is to be made of the ranks, if these tiles are there and these keys are not to be given
     /// up. An error means out of memory.
     pub(crate) fn queue(&self, store: &TileStore, pins: &Pins) -> Result<RasterQueue, AllocError>
         ensures { IfOk result (λ queue. Alike queue (choice_among store.now pins.now self.now)) }
@@ -151,8 +151,8 @@ impl Ranks {
         Ok(queue)
     }
 
-    /// The key that starts next, where these tiles are there and these keys are not to be evicted; None exactly
-    /// where none may start. Takes no memory.
+    /// The key that starts next, if these tiles are there and these keys are not to be evicted; None exactly
+    /// if none may start. Takes no memory.
     pub(crate) fn first(&self, store: &TileStore, pins: &Pins) -> Option<TileKey>
         ensures { result ≡ option_map rank_key (choosing.first (choice_among store.now pins.now self.now)) }
     {
@@ -209,7 +209,7 @@ impl Ranks {
     }
 
     // Whether at least this many of the ready tiles may be evicted for a tile of this bin. They are not counted
-    // where none has to be.
+    // if none has to be.
     #[tactic(auto, using(crate::proofs::Counts::none_needed, crate::proofs::Counts::none_needed_told))]
     fn has_for(&self, store: &TileStore, pins: &Pins, bin: Bin, many: usize) -> bool
         ensures { result ≡ nat_le many (length (filter (gives_way bin) (choice_among store.now pins.now self.now).ready)) }

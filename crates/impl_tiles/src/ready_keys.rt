@@ -30,7 +30,7 @@ impl<'a> Model for ReadyKeys<'a> {
 }
 
 impl<'a> ReadyKeys<'a> {
-    /// The next key; None exactly where none is left.
+    /// The next key; None exactly if none is left.
     pub fn next(&mut self) -> Option<TileKey>
         ensures none { IsNone result → self.old ≡ [] }
         ensures some { IfSome result (λ key. self.old ≡ key ∷ self.new) }

@@ -76,7 +76,7 @@ pub(crate) fn spot_of(number: usize) -> Spot {
     }
 }
 
-/// The key at a spot with its place, where this key stands there.
+/// The key at a spot with its place, if this key stands there.
 pub(crate) fn one_at(chunks: &[Chunk], spot: Spot, key: TileKey) -> Option<KeyedPlace>
     requires { Rises (flat chunks.now) }
     ensures stands { IfSome result (λ one. HasKeyAt chunks.now key spot) }

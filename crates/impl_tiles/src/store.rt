@@ -92,7 +92,7 @@ impl TileStore {
         self.table.put(key);
     }
 
-    /// Ends the making of an image, whose key must be in flight. The key is ready exactly where it is
+    /// Ends the making of an image, whose key must be in flight. The key is ready exactly if it is
     /// live; else the image is dropped. Takes no memory.
     pub fn done(&mut self, image: Arc<TileImage>, live: bool)
         requires { is_in_flight self.old image.value.key ≡ true }
@@ -114,7 +114,7 @@ impl TileStore {
         self.table.give_up(dead.as_slice());
     }
 
-    /// The image of a key; None exactly where it is not ready. To have the image for longer, take a second
+    /// The image of a key; None exactly if it is not ready. To have the image for longer, take a second
     /// owner by `Arc::try_clone`.
     pub fn ready(&self, key: TileKey) -> Option<&Arc<TileImage>>
         ensures { option_map (λ image. image.now.value) result ≡ image_of self.now key }
@@ -122,7 +122,7 @@ impl TileStore {
         self.ready_near(&mut 0, key)
     }
 
-    /// The same. Where keys are asked for in their order, `near` carries the place from one question to the
+    /// The same. If keys are asked for in their order, `near` carries the place from one question to the
     /// next: nearly every key that stands next to the one before it, or would, is found or missed without a search.
     /// The answer doesn't depend on it; 0 is as good a beginning as any.
     #[inline]

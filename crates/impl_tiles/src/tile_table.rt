@@ -28,7 +28,7 @@ const MOST: usize = u32::MAX as usize;
 /// Keys with their tiles, which contracts see as a map from each key to its image, or to none while that is
 /// being made.
 pub(crate) struct TileTable {
-    // in the order of the keys
+    // In the order of the keys.
     held: Chunks,
     tiles: Slab<Tile>,
 }
@@ -93,7 +93,7 @@ impl TileTable {
         self.held.reserve()?;
         match self.tiles.reserve(1) {
             Ok(()) => Ok(()),
-            // The slab leaves open whether a refused call made room: where it did, there is room.
+            // The slab leaves open whether a refused call made room: if it did, there is room.
             Err(_) if self.tiles.len() < self.tiles.capacity() => Ok(()),
             Err(refused) => Err(refused),
         }
@@ -106,7 +106,7 @@ impl TileTable {
         self.get_away(&mut 0, key)
     }
 
-    /// The same. `near` is where the tile is looked for first, and is set to the place after it.
+    /// The same. `near` is if the tile is looked for first, and is set to the place after it.
     #[inline]
     pub(crate) fn get_near(&self, near: &mut usize, key: TileKey) -> Option<&Tile>
         ensures { option_map (λ t. shown t.now) result ≡ fin.get self.now.held key }
@@ -162,7 +162,7 @@ impl TileTable {
         }
     }
 
-    /// Drops a key with its tile, where it is held.
+    /// Drops a key with its tile, if it is held.
     pub(crate) fn remove(&mut self, key: TileKey)
         ensures held { self.new.held ≡ fin.remove self.old.held key }
         ensures spare { self.old.spare ≤ self.new.spare }
@@ -173,7 +173,7 @@ impl TileTable {
         }
     }
 
-    /// Drops these keys with their tiles, where they are held.
+    /// Drops these keys with their tiles, if they are held.
     pub(crate) fn remove_all(&mut self, keys: &[TileKey])
         ensures held { (q : TileKey) → fin.get self.new.held q ≡ if_not_named (has_key keys.now q) (fin.get self.old.held q) }
         ensures spare { self.old.spare ≤ self.new.spare }
@@ -193,7 +193,7 @@ impl TileTable {
         }
     }
 
-    // Drops the image of a key with the key, where it has one.
+    // Drops the image of a key with the key, if it has one.
     fn give_up_one(&mut self, key: TileKey)
         ensures held { (q : TileKey) → fin.get self.new.held q ≡ if_live (not (eq_by_cmp key_cmp q key)) (fin.get self.old.held q) }
         ensures spare { self.old.spare ≤ self.new.spare }

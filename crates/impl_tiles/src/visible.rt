@@ -48,7 +48,7 @@ pub(crate) fn tells_first(queue: &RasterQueue) -> bool
     none_hidden_starts(queue)
 }
 
-/// The queue of these ranks of visible tiles, beside these ready tiles that are not visible, where these tiles are there.
+/// The queue of these ranks of visible tiles, beside these ready tiles that are not visible, if these tiles are there.
 /// An error means out of memory.
 pub(crate) fn visible_queue(
     alloc: Global,
@@ -66,7 +66,7 @@ pub(crate) fn visible_queue(
     Ok(queue)
 }
 
-/// A tile in flight is made, which is ready where it is given. A visible one takes room as before. Takes no memory.
+/// A tile in flight is made, which is ready if it is given. A visible one takes room as before. Takes no memory.
 pub(crate) fn finish_hidden(queue: &mut RasterQueue, tile: Option<ReadyTile>)
     requires some { 1 ≤ queue.old.in_flight }
     requires new { IfSome tile (λ t. IsNew queue.old t.key) }

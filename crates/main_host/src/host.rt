@@ -177,8 +177,8 @@ impl MainHost {
         }
     }
 
-    /// Ends the next main frame with these pulls: `Ready` exactly where the frame changes something,
-    /// that is, where it has commands or moves a main value by more or less than its pull. A pull that
+    /// Ends the next main frame with these pulls: `Ready` exactly if the frame changes something,
+    /// that is, if it has commands or moves a main value by more or less than its pull. A pull that
     /// its range cuts is such a move.
     ///
     /// A main frame must be left, and both parts of each pull are below 2^39 in absolute value. A pull of

@@ -27,7 +27,7 @@ pub struct Commit {
     pub sends: GhostList<Moves>,
     /// The page after the frame, which the main side shares.
     pub tree: Arc<LayerTree>,
-    /// What the frame's commands changed. A layer is listed where a command added or resized it, or
+    /// What the frame's commands changed. A layer is listed if a command added or resized it, or
     /// changed its items; one that a command removed is not listed for what came before.
     pub changes: Changes,
 }

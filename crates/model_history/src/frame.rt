@@ -15,7 +15,7 @@ use page_layers::{Command, EditError, LayerTree, Move};
 use region::Changes;
 use std::alloc::{AllocError, Global};
 
-// Adds a pull to the main value of its scroller, where the tree has it.
+// Adds a pull to the main value of its scroller, if the tree has it.
 fn pull_one(tree: &mut LayerTree, pull: Move)
     requires across { IsBoundedNumber pull.dx }
     requires down { IsBoundedNumber pull.dy }

@@ -51,7 +51,7 @@ impl History {
         }
     }
 
-    /// Adds an entry at the end. Where there is no memory for it, the entries stay as they are and the
+    /// Adds an entry at the end. If there is no memory for it, the entries stay as they are and the
     /// new one comes back.
     pub fn push(&mut self, e: Entry) -> Result<(), (AllocError, Entry)>
         ensures ok { OnOk result (self.new.entries ≡ self.old.entries ++ e ∷ []) }
@@ -90,7 +90,7 @@ impl History {
         self.entries.len()
     }
 
-    /// The entry at a place; None exactly where `at` is not below the length.
+    /// The entry at a place; None exactly if `at` is not below the length.
     pub fn entry(&self, at: usize) -> Option<&Entry>
         ensures { option_copied result ≡ slice_get self.now.entries at }
     {

@@ -39,7 +39,7 @@ pub fn scrolls_count_once()
 
 /// After every legal past the five values of a scroller along an axis, kept step by step, are the
 /// sums: base, delta, pending base, and what the sends of the frame in flight and of the pending commit
-/// carry. So the values tell the offset, the offset as if the pending commit were active, and, where no
+/// carry. So the values tell the offset, the offset as if the pending commit were active, and, if no
 /// main frame is in flight, what the next send lists.
 pub fn values_are_sums()
     ensures sums { (s : ScriptModel) (workers : ℕ) (h : List Entry) (sc : ℕ) (ax : Axis) → Legal s workers h → AreSums s h sc ax (values s sc ax h) }

@@ -37,7 +37,7 @@ impl Moves {
         }
     }
 
-    /// Adds a move at the end. Where there is no memory for it, the list stays as it is and the move
+    /// Adds a move at the end. If there is no memory for it, the list stays as it is and the move
     /// comes back.
     pub fn push(&mut self, e: Move) -> Result<(), (AllocError, Move)>
         ensures ok { OnOk result (self.new ≡ self.old ++ e ∷ []) }
@@ -66,7 +66,7 @@ impl Moves {
         self.items.len()
     }
 
-    /// The move at a place; None exactly where `i` is not below the length.
+    /// The move at a place; None exactly if `i` is not below the length.
     pub fn at(&self, i: usize) -> Option<&Move>
         ensures { option_copied result ≡ slice_get self.now i }
     {

@@ -71,7 +71,7 @@ impl Script {
         Ok(Script { parts })
     }
 
-    /// The page after all main frames, where none is sent any scroll of the compositor side.
+    /// The page after all main frames, if none is sent any scroll of the compositor side.
     pub fn page(&self, alloc: Global) -> Result<LayerTree, AllocError>
         ensures { IfOk result (λ page. page ≡ framed self.now.main (blank self.now)) }
     {
@@ -174,7 +174,7 @@ impl Script {
         self.parts.main.as_slice()
     }
 
-    /// The commands of a main frame, counted from 0; none where there is no such frame.
+    /// The commands of a main frame, counted from 0; none if there is no such frame.
     pub fn commands(&self, frame: u32) -> &[Command]
         ensures { result.now ≡ commands_of self.now frame }
     {

@@ -16,13 +16,13 @@ use std::thread::Threads;
 /// Why no event was entered.
 #[derive(Debug, Drop)]
 pub enum EnterFault {
-    /// no event of this kind and actor is possible
+    /// No event of this kind and actor is possible.
     NotNow,
-    /// memory was refused
+    /// Memory was refused.
     Memory(AllocError),
 }
 
-/// A compositor that plays a script: it enters the events that it is asked for, where they are
+/// A compositor that plays a script: it enters the events that it is asked for, if they are
 /// possible, and answers what is possible next.
 ///
 /// For clauses it tells the script, what was played of it and how much of that was written (`run`); no
@@ -31,7 +31,7 @@ pub trait Compositor {
     ghost run: { Self → WalkState };
 
     /// Enters the event of this kind and of its actor. On an error nothing was entered; `NotNow` comes
-    /// only where none is possible.
+    /// only if none is possible.
     fn enter(&mut self, kind: Kind, actor: u32) -> Result<(), EnterFault>
         requires { actor_for kind ≡ Some actor }
         ensures { WalkEnters kind actor (run self.old) (run self.new) result };
@@ -72,8 +72,8 @@ pub trait Compositor {
         ensures same { run self.new ≡ run self.old }
         ensures answer { IfOk result (λ answer. (k : ℕ) → newest sends (run self.old).past ≡ Some k → answer ≡ frame_changes (run self.old).script (pulls_of (run self.old).past) k) };
 
-    /// Makes images of the tiles that come next ahead, in several threads, where that is worth it. Nothing is
-    /// entered, and where memory is refused nothing is made.
+    /// Makes images of the tiles that come next ahead, in several threads, if that is worth it. Nothing is
+    /// entered, and if memory is refused nothing is made.
     fn make_ahead<R: Threads + Sync>(&mut self, rt: &R)
         requires { IsSync R.row }
         ensures { run self.new ≡ run self.old };

@@ -20,7 +20,7 @@ fn may_send<C: Compositor>(core: &C) -> bool
     left && !waits
 }
 
-/// Sends a main frame, where one may be sent.
+/// Sends a main frame, if one may be sent.
 fn send_where<C: Compositor>(core: &mut C) -> Result<(), AllocError>
     requires { CanFollow main_part_where (C.run core.old) }
     ensures ok { OnOk result (Follows main_part_where (C.run core.old) (C.run core.new)) }
@@ -33,7 +33,7 @@ fn send_where<C: Compositor>(core: &mut C) -> Result<(), AllocError>
     }
 }
 
-/// Activates the pending commit, where that is possible without more tiles.
+/// Activates the pending commit, if that is possible without more tiles.
 fn activate_where<C: Compositor>(core: &mut C) -> Result<(), AllocError>
     requires { CanFollow activation_now (C.run core.old) }
     ensures ok { OnOk result (Follows activation_now (C.run core.old) (C.run core.new)) }
@@ -46,7 +46,7 @@ fn activate_where<C: Compositor>(core: &mut C) -> Result<(), AllocError>
     }
 }
 
-/// Draws the active tree, or skips the draw where there is none.
+/// Draws the active tree, or skips the draw if there is none.
 fn draw_active<C: Compositor>(core: &mut C) -> Result<(), AllocError>
     requires { CanFollow draw_or_skip (C.run core.old) }
     ensures ok { OnOk result (Follows draw_or_skip (C.run core.old) (C.run core.new)) }
@@ -69,7 +69,7 @@ fn end_draw_frame<C: Compositor>(core: &mut C) -> Result<(), AllocError>
     enter(core, Kind::Finish, 0)
 }
 
-/// Activates where that is possible, draws, and ends the impl frame.
+/// Activates if that is possible, draws, and ends the impl frame.
 fn activate_and_draw<C: Compositor>(core: &mut C) -> Result<(), AllocError>
     requires { CanFollow draw_activated (C.run core.old) }
     ensures ok { OnOk result (Follows draw_activated (C.run core.old) (C.run core.new)) }
@@ -89,7 +89,7 @@ fn make_for_draw<R: Threads + Sync, C: Compositor>(rt: &R, core: &mut C) -> Resu
     make_some(rt, core, most)
 }
 
-/// Makes the draw's tiles, activates where that is possible, draws, and ends the impl frame.
+/// Makes the draw's tiles, activates if that is possible, draws, and ends the impl frame.
 fn make_and_draw<R: Threads + Sync, C: Compositor>(rt: &R, core: &mut C) -> Result<(), AllocError>
     requires can { CanFollow draw_made (C.run core.old) }
     ensures ok { OnOk result (Follows draw_made (C.run core.old) (C.run core.new)) }

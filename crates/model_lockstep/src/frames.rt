@@ -23,7 +23,7 @@ fn commit<C: Compositor>(core: &mut C) -> Result<(), AllocError>
     enter(core, Kind::Commit, 0)
 }
 
-/// The main side ends the frame that was sent: by a commit where it changes something, else by an
+/// The main side ends the frame that was sent: by a commit if it changes something, else by an
 /// abort.
 fn answer_frame<C: Compositor>(core: &mut C, changed: bool) -> Result<(), AllocError>
     requires can { CanFollow main_answer (C.run core.old) }
@@ -70,7 +70,7 @@ fn activate<R: Threads + Sync, C: Compositor>(rt: &R, core: &mut C) -> Result<()
     enter(core, Kind::Activate, 0)
 }
 
-/// Activates the pending commit, where there is one.
+/// Activates the pending commit, if there is one.
 fn activate_pending<R: Threads + Sync, C: Compositor>(
     rt: &R,
     core: &mut C,

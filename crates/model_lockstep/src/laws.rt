@@ -25,7 +25,7 @@ pub fn lockstep_exists()
 {}
 
 /// While no tile is in flight, a key that an activation needs and that is not ready is wanted, and is
-/// visible now. So where the pending commit can't be activated though the state allows it, a visible
+/// visible now. So if the pending commit can't be activated though the state allows it, a visible
 /// tile starts first.
 pub fn required_tiles_start()
     ensures wanted { (s : ScriptModel) (h : List Entry) (q : TileKey) → IsAccepted s → in_flight h ≡ [] → has_key (required s h) q ≡ true → has_key (ready s h) q ≡ false → (r : Rank) × (rank s h q ≡ Some r) × (r.bin ≡ bin.Now) × In r (wanted s h) }

@@ -40,7 +40,7 @@ fn wait_for_frame<R: Threads + Sync, C: Compositor>(rt: &R, core: &mut C) -> Res
     enter(core, Kind::Await, 0)
 }
 
-/// Plays a round where a commit is pending.
+/// Plays a round if a commit is pending.
 fn round_if_pending<R: Threads + Sync, C: Compositor>(
     rt: &R,
     core: &mut C,

@@ -9,15 +9,15 @@ use crate::states::{Begun, ImplState, MainState};
 /// The state of the scheduler.
 #[derive(Clone, Copy, PartialEq, Eq, Debug)]
 pub struct Sched {
-    /// where the impl frame stands
+    /// Where the impl frame stands.
     pub impl_state: ImplState,
-    /// where the main frame in flight stands
+    /// Where the main frame in flight stands.
     pub main_state: MainState,
-    /// a tree was committed and is not active yet
+    /// A tree was committed and is not active yet.
     pub has_pending: bool,
-    /// this impl frame has sent a main frame
+    /// This impl frame has sent a main frame.
     pub sent_in_frame: bool,
-    /// what this impl frame was begun for
+    /// What this impl frame was begun for.
     pub begun: Begun,
 }
 
@@ -111,7 +111,7 @@ impl Sched {
         }
     }
 
-    // inside an impl frame that was begun for this and has sent nothing yet
+    // Inside an impl frame that was begun for this and has sent nothing yet.
     fn begun_for(self, begun: Begun) -> Sched
         ensures { result ≡ begun_for begun self }
     {

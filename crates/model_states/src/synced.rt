@@ -16,15 +16,15 @@ ghost use Rattle.model_states.specs.Bounds.{IsBounded, IsBoundedNumber};
 /// The scroll values of one scroller along one axis, in pixels.
 #[derive(Clone, Copy, PartialEq, Eq, Debug)]
 pub struct Synced {
-    /// the offset of the active commit
+    /// The offset of the active commit.
     pub active_base: i64,
-    /// what was scrolled beyond the active base
+    /// What was scrolled beyond the active base.
     pub active_delta: i64,
-    /// the offset of the pending commit, or of the active one where no commit is pending
+    /// The offset of the pending commit, or of the active one if no commit is pending.
     pub pending_base: i64,
-    /// the part of the delta that the main frame in flight was told of
+    /// The part of the delta that the main frame in flight was told of.
     pub reflected_main: i64,
-    /// the part of the delta that the pending base already contains
+    /// The part of the delta that the pending base already contains.
     pub reflected_pending: i64,
 }
 
@@ -109,7 +109,7 @@ impl Synced {
     }
 
     /// Drops the delta, so that the active value is the active base, and answers the move that this was.
-    /// It is called after `activate`, where the commit sets the offset outright.
+    /// It is called after `activate`, if the commit sets the offset outright.
     pub fn clobber(&mut self) -> i64
         requires { IsBounded self.old }
         ensures answer { result ≡ clobber_answer self.old }

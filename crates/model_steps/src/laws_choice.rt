@@ -31,7 +31,7 @@ pub fn sends_leave_the_choice()
     ensures choice { (s : ScriptModel) (workers : ℕ) (h : List Entry) (actor k : ℕ) (pulls : List Move) → Legal s workers (send actor k pulls ∷ h) → choice s (send actor k pulls ∷ h) ≡ choice s h }
 {}
 
-/// An abort leaves the active tree as it is, and, where the pending commit clobbers no scroller, the
+/// An abort leaves the active tree as it is, and, if the pending commit clobbers no scroller, the
 /// pending tree and the choice.
 pub fn aborts_leave_the_choice()
     ensures active { (s : ScriptModel) (workers : ℕ) (h : List Entry) (actor k : ℕ) → Legal s workers (abort actor k ∷ h) → active_tree s (abort actor k ∷ h) ≡ active_tree s h }
@@ -56,7 +56,7 @@ pub fn activations_keep_the_pending_tree()
     ensures ready { (s : ScriptModel) (workers : ℕ) (h : List Entry) (actor k : ℕ) (clamps : List Move) → IsAccepted s → Legal s workers (activate actor k clamps ∷ h) → ready s (activate actor k clamps ∷ h) ≡ filter (has_key (keys_of (pending_tree s h))) (ready s h) }
 {}
 
-/// A choice is that of two trees, but for the order of its lists, where its ranks are those of the keys
+/// A choice is that of two trees, but for the order of its lists, if its ranks are those of the keys
 /// that are neither ready nor in flight, and its tiles those of the ready keys, each once.
 pub fn rebuilt_choices_are_alike()
     ensures { (s : ScriptModel) (a p : Tree) (ready in_flight pinned kept : List Key) (ranks : List Rank) → SameMembers ranks (filter_map (rank_in_both s a p) (filter (lacks_key ready in_flight) (keys_of a ++ keys_of p))) → AreDistinctKeys kept → AreDistinctKeys ready → ((q : Key) → has_key kept q ≡ has_key ready q) → Alike (record { wanted = ranks; ready = map (tile_in_both s a p pinned) kept; in_flight = length in_flight; budget = s.budget }) (choice_of s a p ready in_flight pinned) }

@@ -24,7 +24,7 @@ ghost use Rattle.model_history.specs.Legal.{Legal};
 ghost use Rattle.model_steps.specs.Pages.{items_of};
 
 /// A commit lists what it changed since the active page: a layer that it does not list as changed whole
-/// has its size there, one that it does not list has its display list there too, and where it does not
+/// has its size there, one that it does not list has its display list there too, and if it does not
 /// retile, the tile size is the one there. So the first commit lists all its layers as changed whole.
 pub fn commits_list_what_changed()
     ensures sizes { (s : ScriptModel) (workers : ℕ) (h : List Entry) (actor k id : ℕ) → IsAccepted s → Legal s workers (record { actor = actor; event = event.Commit k } ∷ h) → has_layer id (page s (pulls_of h) (suc k)).layers ≡ true → is_listed_whole (frame_changes s (pulls_of h) k).list id ≡ false → size_of (page s (pulls_of h) (up_to (active h))) id ≡ size_of (page s (pulls_of h) (suc k)) id }

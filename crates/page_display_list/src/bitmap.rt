@@ -63,7 +63,7 @@ pub struct BadBitmap {
     pub cause: BitmapCause,
 }
 
-/// How many bytes the pixels of a bitmap of these sides take; `None` where a side is not 1 to 256.
+/// How many bytes the pixels of a bitmap of these sides take; `None` if a side is not 1 to 256.
 #[tactic(auto, unfolding(crate::specs::Bitmaps::has_sides))]
 fn bytes_of(w: i32, h: i32) -> Option<usize>
     ensures { MatchOption result (has_sides w h ≡ false) (λ n. (has_sides w h ≡ true) × (n ≡ byte_count w h)) }

@@ -64,7 +64,7 @@ fn shared_run(at: i32, len: i32, from: i32, count: i32) -> Option<CoveredSpan>
     }
 }
 
-/// The part of an area that a rect covers; `None` exactly where it covers no point of it.
+/// The part of an area that a rect covers; `None` exactly if it covers no point of it.
 pub fn shared_part(rect: Rect, area: Rect) -> Option<CoveredArea>
     requires rect { IsSound rect }
     requires area { IsSound area }

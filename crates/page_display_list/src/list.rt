@@ -55,7 +55,7 @@ impl DisplayList {
         self.items.len()
     }
 
-    /// The item at a place from 0 on; `None` exactly where `at` is not below `len`.
+    /// The item at a place from 0 on; `None` exactly if `at` is not below `len`.
     pub fn item(&self, at: usize) -> Option<&Item>
         ensures { MatchOption result (length self.now ≤ at) (λ item. (at < length self.now) × (item.now ≡ slice_index_or self.now at item.now) × IsSoundItem item.now) }
     {

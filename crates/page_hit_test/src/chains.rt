@@ -10,7 +10,7 @@ use page_layers::{Layer, LayerTree};
 use page_properties::PropertyTrees;
 use std::alloc::{AllocError, Global};
 
-// The scroller of the nearest transform that names one, from this one up to the root; 0 where none
+// The scroller of the nearest transform that names one, from this one up to the root; 0 if none
 // does.
 fn nearest_scroller(props: &PropertyTrees, transform: u32) -> u32
     requires { IsTrees props.now }
@@ -56,8 +56,8 @@ fn transform_of(layers: &[Layer], id: u32) -> Option<u32>
     None
 }
 
-/// The scrollers that take a wheel over a layer, the nearest first; none where no transform above the
-/// layer names a scroller, and where there is no such layer. An error means out of memory.
+/// The scrollers that take a wheel over a layer, the nearest first; none if no transform above the
+/// layer names a scroller, and if there is no such layer. An error means out of memory.
 pub fn chain(alloc: Global, tree: &LayerTree, layer: u32) -> Result<Vec<u32>, AllocError>
     ensures { IfOk result (λ chain. chain.items ≡ chain_at tree.now layer) }
 {

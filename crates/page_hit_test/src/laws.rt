@@ -19,7 +19,7 @@ pub fn parts_add_up()
     ensures down { (p : Page) (offset : ℕ → Place) (x y dx dy : ℤ) → total_amount down (wheel_parts p offset x y dx dy) +ℤ wheel_rest p offset x y down dy ≡ dy }
 {}
 
-/// A scroller has a part along an axis only where every scroller before it in the chain is then at the
+/// A scroller has a part along an axis only if every scroller before it in the chain is then at the
 /// end of its range in that direction.
 pub fn later_scrollers_take_what_is_left()
     ensures { (p : Page) (offset : ℕ → Place) (ax : Axis) → AreWithinRanges p offset → TakeInTurn p offset ax }

@@ -75,7 +75,7 @@ impl WheelParts {
         self.items.len()
     }
 
-    /// The part at place `i`, counted from 0; None exactly where `i` is not below `len`.
+    /// The part at place `i`, counted from 0; None exactly if `i` is not below `len`.
     pub fn at(&self, i: usize) -> Option<&WheelPart>
         ensures { option_copied result ≡ slice_get self.now i }
     {
@@ -97,7 +97,7 @@ fn is_still_part(scroller: u32, dx: i32, dy: i32) -> bool
     dx == 0 && dy == 0
 }
 
-/// Appends what a scroller takes, where that is not (0, 0). An error means out of memory.
+/// Appends what a scroller takes, if that is not (0, 0). An error means out of memory.
 pub(crate) fn push_moving(
     parts: &mut WheelParts,
     scroller: u32,

@@ -17,7 +17,7 @@ use std::alloc::{AllocError, Global};
 
 /// What a wheel at a point of the screen does.
 pub struct Wheel {
-    /// The layer that it hits; 0 where there is none.
+    /// The layer that it hits; 0 if there is none.
     pub target: u32,
     /// What the scrollers of its chain take, the nearest first; no part is (0, 0).
     pub parts: WheelParts,
@@ -47,7 +47,7 @@ fn clamp_to(most: u32, value: i32) -> i32
     value.min(most as i32).max(0)
 }
 
-// How far a number moves where this much is asked, in a range with this end.
+// How far a number moves if this much is asked, in a range with this end.
 fn moved_within(most: u32, at: i32, asked: i32) -> i32
     requires range { most ≤ 2 ^ 20 }
     requires low { pos 0 ≤ℤ at }

@@ -4,7 +4,7 @@ ghost use Rattle.std.specs.Prelude.{◌≡◌};
 
 use std::alloc::AllocError;
 
-/// Why a command is refused. Where several faults apply, the answer is the first of them in this order.
+/// Why a command is refused. If several faults apply, the answer is the first of them in this order.
 #[derive(Clone, Copy, PartialEq, Eq, Debug)]
 pub enum EditFault {
     /// The layer or node to be changed is not there, or a named one is neither 0 nor there.

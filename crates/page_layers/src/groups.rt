@@ -8,7 +8,7 @@ use crate::paint::Group;
 use page_properties::PropertyTrees;
 use std::alloc::{AllocError, Global};
 
-// Puts an effect before the groups, where it is below 255.
+// Puts an effect before the groups, if it is below 255.
 fn put_first(groups: &mut Vec<Group>, effect: u32, opacity: u8) -> Result<(), AllocError>
     ensures { OnOk result (groups.new.items ≡ cond (opacity == 255) groups.old.items (record { effect = effect; opacity = opacity } ∷ groups.old.items)) }
 {

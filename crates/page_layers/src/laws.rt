@@ -16,7 +16,7 @@ pub fn commands_keep_the_rest()
     ensures { (p : Page) (c : Edit) → IsPage p → Accepts p c → KeepsTheRest p c }
 {}
 
-/// The target of a point is the topmost layer that covers it, or 0 where none does.
+/// The target of a point is the topmost layer that covers it, or 0 if none does.
 pub fn targets_are_topmost()
     ensures { (p : Page) (offset : ℕ → Offset) (x y : ℤ) → IsPage p → IsTopmost (covers_point p offset x y) p.layers (target p offset x y) }
 {}

@@ -19,7 +19,7 @@ pub struct Layer {
     pub w: u32,
     /// The height, 1 to 16384 pixels.
     pub h: u32,
-    /// What is drawn where a tile is missing.
+    /// What is drawn if a tile is missing.
     pub colour: Colour,
     /// What it shows, shared with the trees that were copied from this one.
     pub list: Arc<DisplayList>,

@@ -29,14 +29,14 @@ pub const MAX_OFFSET: i64 = 65536;
 /// The greatest end of a scroll range, and how far one scroll goes at most, in pixels.
 pub const MAX_SCROLL: i64 = 1048576;
 
-/// Passes where the condition holds, else answers the fault.
+/// Passes if the condition holds, else answers the fault.
 pub(crate) fn require(condition: bool, fault: EditFault) -> Result<(), EditFault>
     ensures { result ≡ spec.require condition fault }
 {
     if condition { Ok(()) } else { Err(fault) }
 }
 
-/// Passes where the value lies in the range, else answers it with the end that it passes.
+/// Passes if the value lies in the range, else answers it with the end that it passes.
 #[tactic(auto, unfolding(crate::specs::Tests::check_range))]
 pub(crate) fn in_range(value: i64, low: i64, high: i64) -> Result<(), EditFault>
     ensures { result ≡ spec.check_range value low high }

@@ -24,14 +24,14 @@ use std::sync::Arc;
 
 /// A layer in its place on the screen.
 pub struct PlacedLayer {
-    // the part of the screen where it lies: its bounds, moved, inside its clip
+    // The part of the screen where it lies: its bounds, moved, inside its clip.
     area: Rect,
-    // how far it is moved
+    // How far it is moved.
     by: Point,
-    // what is drawn where a tile is missing
+    // What is drawn if a tile is missing.
     colour: Colour,
     list: Arc<DisplayList>,
-    // the keys of its missing tiles, by rising row
+    // The keys of its missing tiles, by rising row.
     missing: Vec<TileKey>,
 }
 
@@ -146,7 +146,7 @@ impl PlacedLayer {
         self.by
     }
 
-    /// What is drawn where a tile is missing.
+    /// What is drawn if a tile is missing.
     pub fn colour(&self) -> Colour
         ensures { result ≡ self.now.colour }
     {

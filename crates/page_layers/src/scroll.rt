@@ -15,7 +15,7 @@ pub(crate) fn clamp_to(most: u32, value: i64) -> i32
     value.min(most as i64).max(0) as i32
 }
 
-/// The value of a scroller; (0, 0) where there is none.
+/// The value of a scroller; (0, 0) if there is none.
 pub(crate) fn value_in(values: &[(u32, Point)], id: u32) -> Point
     ensures { result ≡ spec.or_origin (find id values.now) }
 {

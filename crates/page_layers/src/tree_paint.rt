@@ -30,7 +30,7 @@ use std::marker::Model;
 pub struct Painting {
     tile: u32,
     layers: Vec<PlacedLayer>,
-    // one for each layer; the colours are those of the last point
+    // One for each layer; the colours are those of the last point.
     samples: Vec<LayerSample>,
 }
 
@@ -137,7 +137,7 @@ impl Painting {
         })
     }
 
-    /// What the screen shows at a point, where nothing stands below the layers but this background.
+    /// What the screen shows at a point, if nothing stands below the layers but this background.
     /// Both coordinates are from 0 to 2047. It takes no memory.
     pub fn pixel(&mut self, background: Colour, x: i32, y: i32) -> Colour
         requires { IsScreenPoint x y }

@@ -49,8 +49,8 @@ impl<N: Copy> Family<N> {
         }
     }
 
-    /// The place of an id in the order of addition, and its node; None exactly where the family has
-    /// no such id. Where nodes are numbered from 1 on as they are added, as in most pages, nothing is searched for.
+    /// The place of an id in the order of addition, and its node; None exactly if the family has
+    /// no such id. If nodes are numbered from 1 on as they are added, as in most pages, nothing is searched for.
     pub fn entry(&self, id: u32) -> Option<(usize, &N)>
         ensures { MatchOption result (find id self.now ≡ None) (λ e. IsEntryOf id self.now e.0 e.1.now) }
     {
@@ -61,7 +61,7 @@ impl<N: Copy> Family<N> {
         }
     }
 
-    /// The node of an id; None exactly where the family has no such id.
+    /// The node of an id; None exactly if the family has no such id.
     pub fn get(&self, id: u32) -> Option<&N>
         ensures { option_copied result ≡ find id self.now }
     {
@@ -101,7 +101,7 @@ impl<N: Copy> Family<N> {
         self.nodes.len()
     }
 
-    /// The id at place `i` of the ids by rising id; None exactly where `i` is not below `len`.
+    /// The id at place `i` of the ids by rising id; None exactly if `i` is not below `len`.
     #[tactic(auto, using(crate::proofs::Rising::id_read, crate::proofs::Rising::no_id))]
     pub fn id_at(&self, i: usize) -> Option<u32>
         ensures { result ≡ slice_get (rising (ids self.now)) i }

@@ -21,7 +21,7 @@ pub fn count_below(entries: &[IndexEntry], id: u32) -> usize
     entries.partition_point(|entry| entry.id < id)
 }
 
-/// The place of an id; None where no entry has it. An id below all others, as that of the root is, is not searched for.
+/// The place of an id; None if no entry has it. An id below all others, as that of the root is, is not searched for.
 #[tactic(auto, using(crate::proofs::Indexes::entry_here, crate::proofs::Indexes::entry_other, crate::proofs::Indexes::entry_past, crate::proofs::Indexes::entry_before))]
 pub fn place_in(entries: &[IndexEntry], id: u32) -> Option<usize>
     requires { AreRising entries.now }

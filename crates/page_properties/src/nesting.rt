@@ -1,6 +1,6 @@
 //! Whether the layers of each effect stand together in the list of layers.
 //!
-//! One pass over the layers marks the effects that were met. Where a layer enters effects that no
+//! One pass over the layers marks the effects that were met. If a layer enters effects that no
 //! layer before it was in, they are new; at the first one that was met before, the layer just before
 //! must still be in it. Each effect is entered once and left once, so that the work grows with the
 //! number of layers and effects, times a search by id.
@@ -31,7 +31,7 @@ pub fn nested_in(effects: &Family<EffectNode>, layers: &[u32]) -> bool
 }
 
 /// Marks an effect and those above it, up to the first one that is marked already: the answer, or
-/// 0 where there is none.
+/// 0 if there is none.
 fn meet(effects: &Family<EffectNode>, effect: u32, met: &mut [bool]) -> u32
     requires family { AreEffects effects.now }
     requires room { length effects.now ≤ length met.old }

@@ -8,7 +8,7 @@ use geom::Point;
 use std::alloc::{AllocError, Global};
 use std::marker::Model;
 
-/// The offset of each scroller: a map from its id to a point, (0, 0) where it has no entry.
+/// The offset of each scroller: a map from its id to a point, (0, 0) if it has no entry.
 pub struct Offsets {
     points: Family<Point>,
 }
@@ -53,7 +53,7 @@ impl Offsets {
         }
     }
 
-    /// The offset of a scroller; (0, 0) where none was set.
+    /// The offset of a scroller; (0, 0) if none was set.
     #[tactic(auto, unfolding(crate::specs::OffsetMap::offset_at))]
     pub fn get(&self, id: u32) -> Point
         ensures { result ≡ offset_at self.now id }

@@ -97,28 +97,28 @@ impl PropertyTrees {
         self.scrollers.add(id, node)
     }
 
-    /// The transform of an id; None exactly where the id is unknown.
+    /// The transform of an id; None exactly if the id is unknown.
     pub fn transform(&self, id: u32) -> Option<&TransformNode>
         ensures { option_copied result ≡ find id self.now.transforms }
     {
         self.transforms.get(id)
     }
 
-    /// The clip of an id; None exactly where the id is unknown.
+    /// The clip of an id; None exactly if the id is unknown.
     pub fn clip(&self, id: u32) -> Option<&ClipNode>
         ensures { option_copied result ≡ find id self.now.clips }
     {
         self.clips.get(id)
     }
 
-    /// The effect of an id; None exactly where the id is unknown.
+    /// The effect of an id; None exactly if the id is unknown.
     pub fn effect(&self, id: u32) -> Option<&EffectNode>
         ensures { option_copied result ≡ find id self.now.effects }
     {
         self.effects.get(id)
     }
 
-    /// The scroller of an id; None exactly where the id is unknown.
+    /// The scroller of an id; None exactly if the id is unknown.
     pub fn scroller(&self, id: u32) -> Option<&ScrollNode>
         ensures { option_copied result ≡ find id self.now.scrollers }
     {
@@ -153,7 +153,7 @@ impl PropertyTrees {
         self.scrollers.len()
     }
 
-    /// The id at place `i` of the scrollers' ids by rising id, counted from 0; None exactly where `i`
+    /// The id at place `i` of the scrollers' ids by rising id, counted from 0; None exactly if `i`
     /// is not below `scrollers`.
     pub fn scroller_id(&self, i: usize) -> Option<u32>
         ensures { result ≡ slice_get (rising (ids self.now.scrollers)) i }
@@ -211,7 +211,7 @@ impl PropertyTrees {
     }
 
     /// The translation of a transform at these offsets: its parent's, plus its own place, minus the
-    /// offset of the scroller that it names, where it names one. Transform 0 is at (0, 0).
+    /// offset of the scroller that it names, if it names one. Transform 0 is at (0, 0).
     pub fn translation(&self, transform: u32, offsets: &Offsets) -> Point
         requires { AreOffsets (offset_at offsets.now) }
         ensures value { result ≡ translation (offset_at offsets.now) self.now.transforms transform }
@@ -222,7 +222,7 @@ impl PropertyTrees {
 
     /// The clip of a clip node at these offsets: the common part of the rects of its chain up to the
     /// root, each shifted by the translation of its own transform. None, which restricts nothing,
-    /// exactly where the id is unknown, as 0 is.
+    /// exactly if the id is unknown, as 0 is.
     pub fn clip_of(&self, clip: u32, offsets: &Offsets) -> Option<Rect>
         requires { AreOffsets (offset_at offsets.now) }
         ensures value { result ≡ clip_of (offset_at offsets.now) self.now.transforms self.now.clips clip }
@@ -232,7 +232,7 @@ impl PropertyTrees {
         clip_in(&self.clips, &self.transforms, clip, offsets)
     }
 
-    /// Whether an effect is drawn: false exactly where it or an effect above it has opacity 0.
+    /// Whether an effect is drawn: false exactly if it or an effect above it has opacity 0.
     pub fn draws(&self, effect: u32) -> bool
         ensures { result ≡ draws self.now.effects effect }
     {

@@ -41,7 +41,7 @@ impl Colour {
         a: 0,
     };
 
-    /// The colour of these components; `None` exactly where red, green or blue exceeds alpha.
+    /// The colour of these components; `None` exactly if red, green or blue exceeds alpha.
     pub fn new(r: u8, g: u8, b: u8, a: u8) -> Option<Colour>
         ensures { let parts : Parts = record { r = r; g = g; b = b; a = a } in
             MatchOption result (is_colour parts ≡ false) (λ c. (is_colour parts ≡ true) × (c ≡ parts)) }

@@ -27,7 +27,7 @@ fn is_premultiplied(r: u8, g: u8, b: u8, a: u8) -> bool
     low && b <= a
 }
 
-/// The first pixel of a row of whole pixels that is not premultiplied; `None` where all are.
+/// The first pixel of a row of whole pixels that is not premultiplied; `None` if all are.
 pub fn first_wrong(row: &[u8]) -> Option<usize>
     requires { length row.now % 4 ≡ 0 }
     ensures { MatchOption result (ArePremultiplied row.now) (λ k. IsFirstBadPixel row.now k) }

@@ -80,7 +80,7 @@ fn row_over_columns(surface: &mut [u8], size: Size, at: Area, row: &[u8], from: 
 }
 
 // Lays pixels of the row over each row of some columns of the area, from its column `first` on, and returns how many:
-// sixteen, or more where they are opaque and can be copied together.
+// sixteen, or more if they are opaque and can be copied together.
 fn row_over_blocks(
     surface: &mut [u8],
     size: Size,

@@ -45,7 +45,7 @@ pub trait Answerer {
     fn most(&self) -> usize
         ensures { result ≡ most self.now };
 
-    /// Answers the line of this number; it may start threads by `rt`. Where the client fails, it is not called again.
+    /// Answers the line of this number; it may start threads by `rt`. If the client fails, it is not called again.
     fn answer<R: Threads + Sync, C: Client>(
         &self,
         rt: &R,

@@ -63,7 +63,7 @@ fn put_line<K: Sink>(out: &mut K, digits: &[u8]) -> Result<(), Failed>
     }
 }
 
-/// Puts a piece of data in its frame: a line with the number of its bytes, and the piece. Where the sink fails, or has
+/// Puts a piece of data in its frame: a line with the number of its bytes, and the piece. If the sink fails, or has
 /// no memory for a piece, it has gained a prefix of the frame.
 #[tactic(auto, using(crate::proofs::Gained::gains_then, crate::proofs::Gained::gains_early, crate::proofs::Gained::refused_later))]
 pub fn put_frame<K: Sink>(out: &mut K, piece: &[u8]) -> Result<(), Failed>

@@ -18,7 +18,7 @@ const PIECE: usize = 65536;
 #[derive(Drop)]
 struct Begun {
     line: Vec<u8>,
-    // why the line is not kept, if it is not
+    // Why the line is not kept, if it is not.
     lost: Option<Unkept>,
     number: u64,
 }
@@ -248,10 +248,10 @@ impl Begun {
 /// Answers each line of the client as soon as it has come, to the end of its input; a last one without its newline
 /// counts.
 ///
-/// Where nothing had passed before: whenever bytes were asked for, all lines that had come were answered. At the end
+/// If nothing had passed before: whenever bytes were asked for, all lines that had come were answered. At the end
 /// the client has no more bytes, and all lines are answered, each by an answer that this line may have, whatever the
-/// other lines are. Where the client
-/// could not be read, the lines that had come whole are; where it took no more, what went is a prefix of the answers.
+/// other lines are. If the client
+/// could not be read, the lines that had come whole are; if it took no more, what went is a prefix of the answers.
 #[tactic(auto, using(crate::proofs::Cuts::at_first, crate::proofs::Cuts::ends_once, crate::proofs::Cuts::stops_once, crate::proofs::Cuts::cause_later))]
 pub fn serve<R: Threads + Sync, C: Client, A: Answerer>(
     rt: &R,

@@ -4,7 +4,7 @@
 //! more is held than two inputs bring, unless all entries are to be kept ([`Retention`]). With several workers it plays
 //! a batch of inputs while the batch before is painted and put.
 //!
-//! In: an accepted script and a sink. Out: the sink gained the script's recording, or where it failed or memory
+//! In: an accepted script and a sink. Out: the sink gained the script's recording, or if it failed or memory
 //! was refused, a prefix of it.
 //!
 //! [`film_lockstep`] writes the images of a run alone, and [`shoot`] makes a PNG file of the last of them.

@@ -19,7 +19,7 @@ use std::sync::Arc;
 use std::thread::Threads;
 use viz_scene::Scene;
 
-// The newest of some scenes; where there is none, the one before them.
+// The newest of some scenes; if there is none, the one before them.
 #[tactic(auto, using(crate::proofs::ShotRuns::newest_some, crate::proofs::ShotRuns::newest_none))]
 fn newest_of(mut scenes: Vec<Scene>, before: Option<Scene>) -> Option<Scene>
     ensures { shown result ≡ newest_image scenes.items (shown before) }
@@ -30,7 +30,7 @@ fn newest_of(mut scenes: Vec<Scene>, before: Option<Scene>) -> Option<Scene>
     }
 }
 
-// Keeps the newest scene of what was entered since the last time; where nothing was drawn, the one before.
+// Keeps the newest scene of what was entered since the last time; if nothing was drawn, the one before.
 fn keep_newest(single: &mut SingleThread, last: &mut Option<Scene>)
     ensures run { single.new.run ≡ single.old.run }
     ensures all { single.new.written ≡ length single.old.run.entries }
@@ -140,7 +140,7 @@ fn fresh(alloc: Global, script: &Arc<Script>, workers: u32) -> Result<SingleThre
 }
 
 /// Plays an accepted script in lockstep with the given number of workers. The picture of its last draw as a PNG
-/// file; None where no draw gave a picture. Of the pictures only the last is painted, in at most as many parts as
+/// file; None if no draw gave a picture. Of the pictures only the last is painted, in at most as many parts as
 /// there are workers, and a run may be of any length. The file is the same for every number of workers. An error
 /// means out of memory.
 pub fn shoot<R: Threads + Sync>(

@@ -20,13 +20,13 @@ use thread_lock::{Pass, TurnLock};
 #[derive(Drop)]
 pub(crate) struct Crew<'g, G: Gate> {
     pub(crate) lock: TurnLock<Core>,
-    /// the compositor's pass
+    /// The compositor's pass.
     pub(crate) pass: Pass<Core>,
     pub(crate) main: MainActor,
     pub(crate) workers: Vec<RasterActor<'g, G>>,
 }
 
-// The next pass of a lock, where it is this actor's.
+// The next pass of a lock, if it is this actor's.
 fn pass_of<R: Wait>(
     rt: &R,
     lock: &TurnLock<Core>,

@@ -16,7 +16,7 @@ use std::alloc::Global;
 use std::sync::Arc;
 use std::thread::Threads;
 
-// Plays a script and counts what its recording holds; None where there is no memory.
+// Plays a script and counts what its recording holds; None if there is no memory.
 fn play_summed<R: Threads + Sync>(rt: &R, alloc: Global, script: Arc<Script>) -> Option<Summary>
     ensures { IfSome result (IsDemoSummary script.value) }
 {
@@ -27,7 +27,7 @@ fn play_summed<R: Threads + Sync>(rt: &R, alloc: Global, script: Arc<Script>) ->
     }
 }
 
-// Plays the script of a number and counts what its recording holds; None where there is no memory.
+// Plays the script of a number and counts what its recording holds; None if there is no memory.
 fn demo_of<R: Threads + Sync>(rt: &R, alloc: Global, number: u64) -> Option<Summary>
     ensures { IfSome result (IsDemoSummary (numbered_script number)) }
 {

@@ -9,9 +9,9 @@ use model_history::Event;
 /// How many images the draws of a history have, and how many tiles they lack.
 #[derive(Clone, Copy, Drop)]
 pub struct DrawCounts {
-    /// the images
+    /// The images.
     pub images: u64,
-    /// the missing tiles
+    /// The missing tiles.
     pub missing: u64,
 }
 
@@ -35,7 +35,7 @@ fn missing_in(event: &Event) -> u64
     }
 }
 
-// The counts with those of an event; None where one of them is 2^64 or more.
+// The counts with those of an event; None if one of them is 2^64 or more.
 fn with_event(before: DrawCounts, event: &Event) -> Option<DrawCounts>
     ensures { MatchOption result
         (2 ^ 64 ≤ before.images + demos.images_in event.now ⊎ 2 ^ 64 ≤ before.missing + demos.missing_in event.now)
@@ -46,7 +46,7 @@ fn with_event(before: DrawCounts, event: &Event) -> Option<DrawCounts>
     Some(DrawCounts { images, missing })
 }
 
-/// The counts of a history of which nothing was forgotten; None only where one of them is 2^64 or more.
+/// The counts of a history of which nothing was forgotten; None only if one of them is 2^64 or more.
 pub fn tally_of(history: &KeptHistory) -> Option<DrawCounts>
     requires { history.now.first ≡ 0 }
     ensures { MatchOption result

@@ -107,7 +107,7 @@ fn put_head<C: Client>(
     put_texts(session, &first, &[second, third, fourth, fifth])
 }
 
-/// Puts the last line of an answer to the line of a number: how the line ended. `Failed` comes where the client failed, or
+/// Puts the last line of an answer to the line of a number: how the line ended. `Failed` comes if the client failed, or
 /// a piece of data went in part only.
 #[tactic(auto, using(player_lines::proofs::Telling::said_then, player_lines::proofs::Telling::said_early))]
 pub fn put_verdict<C: Client>(

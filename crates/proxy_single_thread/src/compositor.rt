@@ -51,7 +51,7 @@ impl Compositor for SingleThread {
     }
 
     fn make_ahead<R: Threads + Sync>(&mut self, rt: &R) {
-        // Where memory is refused, each tile is made when its end is asked for.
+        // If memory is refused, each tile is made when its end is asked for.
         let _made = self.prepare(rt);
     }
 }

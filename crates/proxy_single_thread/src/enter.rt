@@ -10,9 +10,9 @@ use model_lockstep::EnterFault;
 use model_states::Kind;
 
 impl SingleThread {
-    /// Enters the event of this kind and actor, where it may come now. The actor is one that has such events:
+    /// Enters the event of this kind and actor, if it may come now. The actor is one that has such events:
     /// 0 is the compositor, 1 the main side (`Ready` and `Abort`), `2 + w` the worker w (`Start` and `Done`);
-    /// each of them has a `Stop`. `NotNow` comes exactly where none may come; on an error nothing was entered.
+    /// each of them has a `Stop`. `NotNow` comes exactly if none may come; on an error nothing was entered.
     pub fn enter(&mut self, kind: Kind, actor: u32) -> Result<(), EnterFault>
         requires { HasKind self.old.run.workers kind actor }
         ensures answer { SingleEnters self.old.run kind actor self.new.run result }
@@ -66,7 +66,7 @@ impl SingleThread {
         answer
     }
 
-    // An actor stops, where the run has not ended.
+    // An actor stops, if the run has not ended.
     fn enter_stop(&mut self, actor: u32) -> Result<(), EnterFault>
         requires { actor < 2 + self.old.run.workers }
         ensures answer { SingleEnters self.old.run kind.Stop actor self.new.run result }

@@ -18,9 +18,9 @@ use std::sync::Arc;
 /// The main side, with how the frame in flight ends once it has run it.
 pub(crate) struct MainSide {
     pub(crate) host: MainHost,
-    /// how the frame in flight ends; None where there is no frame in flight or it was not run yet
+    /// How the frame in flight ends; None if there is no frame in flight or it was not run yet.
     pub(crate) end: Option<MainEnd>,
-    /// whether the frame that was run last changes something
+    /// Whether the frame that was run last changes something.
     pub(crate) changed: bool,
 }
 
@@ -57,7 +57,7 @@ impl MainSide {
         }
     }
 
-    /// Runs the frame in flight, where there is one that was not run yet. An error means out of memory, and
+    /// Runs the frame in flight, if there is one that was not run yet. An error means out of memory, and
     /// nothing was run.
     pub(crate) fn run(&mut self, core: &Core) -> Result<(), AllocError>
         requires { IsMain core.now self.old }
@@ -129,7 +129,7 @@ impl MainSide {
         }
     }
 
-    /// Enters the `Ready` of the frame in flight, where it may come now.
+    /// Enters the `Ready` of the frame in flight, if it may come now.
     pub(crate) fn ready(&mut self, core: &mut Core) -> Result<(), EnterFault>
         requires { IsMain core.old self.old }
         ensures stands { IsMain core.new self.new }
@@ -144,7 +144,7 @@ impl MainSide {
         }
     }
 
-    /// Enters the `Abort` of the frame in flight, where it may come now.
+    /// Enters the `Abort` of the frame in flight, if it may come now.
     pub(crate) fn abort(&mut self, core: &mut Core) -> Result<(), EnterFault>
         requires { IsMain core.old self.old }
         ensures stands { IsMain core.new self.new }

@@ -17,7 +17,7 @@ use tile_raster::{Job, TileImage, run_all};
 /// How many pixels a thread of its own has to make at least: fewer are made before it has started.
 const LEAST_PIXELS: usize = 131072;
 
-// how many pixels the images of some jobs have
+// How many pixels the images of some jobs have.
 fn pixels_of(jobs: &[Job]) -> usize {
     let mut pixels: usize = 0;
     for job in jobs {
@@ -27,7 +27,7 @@ fn pixels_of(jobs: &[Job]) -> usize {
     pixels
 }
 
-// in how many parts the images of some jobs are made: as many as there are workers, where each is worth a thread
+// In how many parts the images of some jobs are made: as many as there are workers, if each is worth a thread.
 fn parts_of(jobs: &[Job], workers: u32) -> u32
     requires { (1 ≤ workers) × (workers ≤ 16) }
     ensures { (1 ≤ result) × (result ≤ 16) }
@@ -40,7 +40,7 @@ fn parts_of(jobs: &[Job], workers: u32) -> u32
 #[derive(Drop)]
 pub(crate) struct Prepared {
     pub(crate) images: Vec<Arc<TileImage>>,
-    /// how many tiles the draw that was begun last may still start
+    /// How many tiles the draw that was begun last may still start.
     pub(crate) left: u32,
 }
 
@@ -124,7 +124,7 @@ impl Prepared {
         }
     }
 
-    /// Makes the images of the tiles that come next, in at most as many parts as there are workers, where that of the
+    /// Makes the images of the tiles that come next, in at most as many parts as there are workers, if that of the
     /// next one was not made. A single worker makes each image when its end is asked for: nothing is made ahead. An
     /// error means out of memory, and the images are as they were.
     pub(crate) fn prepare<R: Threads + Sync>(

@@ -23,13 +23,13 @@ use viz_scene::Scene;
 /// Which entries of its history a compositor keeps.
 #[derive(Clone, Copy, PartialEq, Eq, Debug)]
 pub enum Retention {
-    /// all of them
+    /// All of them.
     All,
-    /// the newest: of those that were taken for written, old ones are forgotten
+    /// The newest: of those that were taken for written, old ones are forgotten.
     Newest,
 }
 
-// Lets a core forget old entries, where it is not to keep all.
+// Lets a core forget old entries, if it is not to keep all.
 fn forget_old(core: &mut Core, retention: Retention)
     ensures { core.new ≡ core.old }
 {

@@ -41,7 +41,7 @@ impl UnwrittenScenes {
         }
     }
 
-    /// Enters an event of the compositor itself, where it may come now, and keeps the scene of a draw.
+    /// Enters an event of the compositor itself, if it may come now, and keeps the scene of a draw.
     pub(crate) fn play(&mut self, core: &mut Core, kind: Kind) -> Result<(), EnterFault>
         requires own { is_own kind ≡ true }
         requires stands { IsShown core.old self.old }

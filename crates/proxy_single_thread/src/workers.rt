@@ -48,7 +48,7 @@ impl Workers {
         })
     }
 
-    /// A worker starts the next tile, where it holds nothing and one may start.
+    /// A worker starts the next tile, if it holds nothing and one may start.
     pub(crate) fn start(&mut self, core: &mut Core, worker: u32) -> Result<(), EnterFault>
         requires worker { worker < core.old.workers }
         requires stands { AreWorkers core.old self.old }

@@ -56,7 +56,7 @@ pub(crate) fn stop<R: Wait>(rt: &R, lock: &TurnLock<Core>, pass: Pass<Core>) -> 
     put_back(lock, empty, core)
 }
 
-/// Gives up where the answer says so.
+/// Gives up if the answer says so.
 pub(crate) fn stop_if_failed<R: Wait>(
     rt: &R,
     lock: &TurnLock<Core>,

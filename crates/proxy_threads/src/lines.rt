@@ -13,9 +13,9 @@ use std::alloc::{AllocError, Global};
 pub struct Lines {
     pub(crate) text: Vec<u8>,
     pub(crate) written: usize,
-    /// whether the run was played to its end, when the compositor last held it
+    /// Whether the run was played to its end, when the compositor last held it.
     pub(crate) over: bool,
-    /// whom the compositor wakes up after that
+    /// Whom the compositor wakes up after that.
     pub(crate) wakes: Wakes,
 }
 

@@ -121,7 +121,7 @@ fn hand_over<R: Wait>(
     (pass, answer)
 }
 
-// The same, and gives up where memory was refused.
+// The same, and gives up if memory was refused.
 fn finish<R: Wait>(
     rt: &R,
     lock: &TurnLock<Core>,

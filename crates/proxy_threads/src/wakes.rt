@@ -8,17 +8,17 @@ use impl_core::Core;
 /// Whom the compositor wakes up after its turn, and what it knew when it did so before.
 #[derive(Clone, Copy, Drop)]
 pub(crate) struct Wakes {
-    /// the main side
+    /// The main side.
     pub(crate) main: bool,
-    /// the workers
+    /// The workers.
     pub(crate) workers: bool,
-    /// whether a tile may start, as far as is known: it was asked, and nothing but draws was played since
+    /// Whether a tile may start, as far as is known: it was asked, and nothing but draws was played since.
     pub(crate) may_start: bool,
-    /// how many main frames were sent then
+    /// How many main frames were sent then.
     sends: u32,
-    /// the draw that was begun last then
+    /// The draw that was begun last then.
     begun: Option<u32>,
-    /// how many entries there were when it was asked last whether a tile may start
+    /// How many entries there were when it was asked last whether a tile may start.
     asked: usize,
 }
 
@@ -35,8 +35,8 @@ impl Wakes {
         }
     }
 
-    /// Finds out whom to wake up after what was played: the main side where a main frame was sent, the workers where
-    /// a draw was begun or nothing may be entered, and a tile may start; and all where the run has ended. Most
+    /// Finds out whom to wake up after what was played: the main side if a main frame was sent, the workers if
+    /// a draw was begun or nothing may be entered, and a tile may start; and all if the run has ended. Most
     /// scrolls are followed by another, which changes again what may start, and whoever asks then has all tiles
     /// ranked anew while the others wait for the turn: so after those nobody asks, no worker either.
     pub(crate) fn renew(&mut self, played: &Played, core: &mut Core)
@@ -64,8 +64,8 @@ impl Wakes {
         self.begun = progress.begun;
     }
 
-    // Asks whether a tile may start, where anything was entered, by whomever, since this was asked last, and answers
-    // whether one may. Where memory is refused, one may.
+    // Asks whether a tile may start, if anything was entered, by whomever, since this was asked last, and answers
+    // whether one may. If memory is refused, one may.
     fn ask(&mut self, core: &mut Core) -> bool
         ensures { core.new ≡ core.old }
     {

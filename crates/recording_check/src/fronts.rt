@@ -6,7 +6,7 @@ ghost use Rattle.recording_check.specs.inner.Behind.{behind};
 
 use pixel::Colour;
 
-// What stands after a byte; None where the bytes do not begin with it.
+// What stands after a byte; None if the bytes do not begin with it.
 fn behind_byte(byte: u8, bytes: &[u8]) -> Option<&[u8]>
     ensures { option_copied result ≡ behind (byte ∷ []) bytes.now }
 {
@@ -16,7 +16,7 @@ fn behind_byte(byte: u8, bytes: &[u8]) -> Option<&[u8]>
     }
 }
 
-/// What stands after a prefix; None where the bytes do not begin with it.
+/// What stands after a prefix; None if the bytes do not begin with it.
 pub(crate) fn behind_front<'a>(front: &[u8], bytes: &'a [u8]) -> Option<&'a [u8]>
     ensures { option_copied result ≡ behind front.now bytes.now }
 {
@@ -34,7 +34,7 @@ pub(crate) fn behind_front<'a>(front: &[u8], bytes: &'a [u8]) -> Option<&'a [u8]
     Some(rest)
 }
 
-/// What stands after a pixel of this colour; None where the bytes do not begin with one.
+/// What stands after a pixel of this colour; None if the bytes do not begin with one.
 pub(crate) fn behind_pixel(colour: Colour, bytes: &[u8]) -> Option<&[u8]>
     ensures { option_copied result ≡ behind (rgb colour) bytes.now }
 {

@@ -24,7 +24,7 @@ fn is_end(event: &Event) -> bool
     matches!(event, Event::End)
 }
 
-// What is said where this piece is the first that is wrong, or none is.
+// What is said if this piece is the first that is wrong, or none is.
 fn verdict_of(wrong: Option<u64>) -> Verdict
     ensures { result ≡ verdict_where wrong }
 {
@@ -34,7 +34,7 @@ fn verdict_of(wrong: Option<u64>) -> Verdict
     }
 }
 
-// Judges one piece more, where all before it are right; answers the first that is wrong. An error means out
+// Judges one piece more, if all before it are right; answers the first that is wrong. An error means out
 // of memory.
 fn judge_next(
     alloc: Global,
@@ -104,7 +104,7 @@ fn judge_script(
 }
 
 /// Judges a recording without the core and what draws: by the definitions of legal histories, for 16 workers,
-/// and of the painting. `Good` comes exactly where the bytes are the recording of a script and of a history
+/// and of the painting. `Good` comes exactly if the bytes are the recording of a script and of a history
 /// that is legal for it and that the end closes. Bytes of a recording's form are else told by the first event
 /// that may not come, or whose image is not the painting, and other bytes as
 /// [`read_recording`](crate::read_recording) tells them. No event is kept but in the judge's history.

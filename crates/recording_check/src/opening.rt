@@ -42,7 +42,7 @@ fn behind(bytes: &[u8], count: usize) -> &[u8]
     &bytes[count..]
 }
 
-// The first line, without its newline; None where there is no newline.
+// The first line, without its newline; None if there is no newline.
 #[tactic(auto, using(crate::proofs::LineEnds::first_line, crate::proofs::LineEnds::no_line))]
 fn first_line(bytes: &[u8]) -> Option<&[u8]>
     ensures { spec.FirstLine bytes.now result }

@@ -14,14 +14,14 @@ use std::alloc::Global;
 pub struct Recording {
     /// The script of its second line.
     pub script: Script,
-    /// The events with their actors: 0, 1, or the worker's number and 2, where that fits 32 bits, else
+    /// The events with their actors: 0, 1, or the worker's number and 2, if that fits 32 bits, else
     /// the greatest number of 32 bits.
     pub events: History,
     /// Where the image of each draw stands.
     pub images: Vec<ImagePlace>,
 }
 
-/// Reads a recording: the script, the events and where the images stand. `Bad` comes exactly where the
+/// Reads a recording: the script, the events and where the images stand. `Bad` comes exactly if the
 /// bytes are none, with the offset at which the first part begins that is not of its form: the name of
 /// the format at 0, the script's line at 4, an event's line, the image after a draw, or what stands
 /// after the end.

@@ -13,7 +13,7 @@ use recording_judge::Judge;
 use recording_text::{EventSpan, ImageSpan, entry_of};
 use std::alloc::{AllocError, Global};
 
-// The keys that a draw lists as missing; None where the event is no draw.
+// The keys that a draw lists as missing; None if the event is no draw.
 fn missing_of(event: &Event) -> Option<&[TileKey]>
     ensures { option_copied result ≡ missing_in event.now }
 {
@@ -60,7 +60,7 @@ fn is_image(alloc: Global, judge: &Judge, event: &Event, image: &[u8]) -> Result
     }
 }
 
-// Enters an entry where it may come next, and the bytes after its line are what a recording has there. An
+// Enters an entry if it may come next, and the bytes after its line are what a recording has there. An
 // error means out of memory.
 fn enter_right(
     alloc: Global,
@@ -80,7 +80,7 @@ fn enter_right(
     }
 }
 
-// The bytes of an image; none where there is no image.
+// The bytes of an image; none if there is no image.
 fn image_in(bytes: &[u8], image: Option<ImageSpan>) -> &[u8]
     requires { Arrives bytes.now image }
     ensures { (there : List ℕ) → IsImageAt bytes.now image there → result.now ≡ there }
@@ -94,7 +94,7 @@ fn image_in(bytes: &[u8], image: Option<ImageSpan>) -> &[u8]
     }
 }
 
-/// Enters the event of a step where its piece is right: it may come next, and its image is the painting of what
+/// Enters the event of a step if its piece is right: it may come next, and its image is the painting of what
 /// is shown then. An error means out of memory.
 pub(crate) fn enter_step(
     alloc: Global,

@@ -1,4 +1,4 @@
-//! Which event is due, by its kind and its actor, where the states allow its kind.
+//! Which event is due, by its kind and its actor, if the states allow its kind.
 
 ghost use Rattle.std.specs.Prelude.{◌≡◌, ◌+◌, ◌-◌, ◌<◌, ◌≤◌, true, is_some, option_copied, IfOk, Some, None};
 ghost use Rattle.model_states.specs.declared.kind.Kind.TheVariants as kind;
@@ -22,7 +22,7 @@ use model_history::{Event, Input, Moves};
 use std::alloc::AllocError;
 
 impl State {
-    // The keys of the visible tiles of the pending tree; none where nothing is pending. An error means out of
+    // The keys of the visible tiles of the pending tree; none if nothing is pending. An error means out of
     // memory.
     fn needed(&self) -> Result<Keys, AllocError>
         requires { IsState self.now }

@@ -96,7 +96,7 @@ impl State {
         requeue_tiles(self.alloc, &self.log, &self.host, &mut self.tiles)
     }
 
-    // Makes a queue where the kind needs one and there is none. An error means out of memory.
+    // Makes a queue if the kind needs one and there is none. An error means out of memory.
     fn prepare(&mut self, kind: Kind) -> Result<(), AllocError>
         requires { IsState self.old }
         ensures { OnOk result (IsReadyFor self.old kind self.new) }
@@ -105,7 +105,7 @@ impl State {
         if lacks { self.requeue() } else { Ok(()) }
     }
 
-    // The event of this kind and actor that is due, where the states allow the kind. An error means out of
+    // The event of this kind and actor that is due, if the states allow the kind. An error means out of
     // memory.
     fn due(&self, kind: Kind, actor: u32) -> Result<Option<Event>, AllocError>
         requires state { IsState self.now }
@@ -156,7 +156,7 @@ impl State {
         self.log.enter(actor, event)
     }
 
-    // Enters the event that may come now, where it is the entry's.
+    // Enters the event that may come now, if it is the entry's.
     fn enter_event(&mut self, event: Event, entry: &Entry) -> Result<bool, AllocError>
         requires state { IsState self.old }
         requires due { Some event ≡ now self.old.log (fields.kind_of entry.now.event) entry.now.actor }
@@ -174,7 +174,7 @@ impl State {
         }
     }
 
-    // The same where there may be none.
+    // The same if there may be none.
     fn enter_coming(&mut self, coming: Option<Event>, entry: &Entry) -> Result<bool, AllocError>
         requires state { IsState self.old }
         requires due { coming ≡ now self.old.log (fields.kind_of entry.now.event) entry.now.actor }
@@ -203,7 +203,7 @@ impl State {
         self.enter_coming(coming, entry)
     }
 
-    /// Enters an entry where it may come next, and answers whether it may. An error means out of memory; then the
+    /// Enters an entry if it may come next, and answers whether it may. An error means out of memory; then the
     /// state is of no use any more.
     pub(crate) fn enter(&mut self, entry: &Entry) -> Result<bool, AllocError>
         requires { IsState self.old }

@@ -18,7 +18,7 @@ use std::sync::Arc;
 /// Contracts see the run of the entries that it has entered. By its type it is legal.
 pub struct Judge {
     state: State,
-    // memory was refused, and the state is of no use any more
+    // Memory was refused, and the state is of no use any more.
     is_spent: bool,
 }
 
@@ -64,7 +64,7 @@ impl Judge {
     }
 
     /// What the screen shows after the entries so far: the active page where its scrollers stand. None before
-    /// the first activation. An error comes where an earlier call was refused memory.
+    /// the first activation. An error comes if an earlier call was refused memory.
     pub fn shown(&self) -> Result<Option<ScreenState<'_>>, AllocError>
         ensures { IfOk result (IsShownNow self.now.script (past self.now)) }
     {
@@ -74,7 +74,7 @@ impl Judge {
         Ok(self.state.shown_page())
     }
 
-    /// Enters an entry where it may come next, and answers whether it may. An error means out of memory, and
+    /// Enters an entry if it may come next, and answers whether it may. An error means out of memory, and
     /// comes at each later call too.
     pub fn enter(&mut self, entry: &Entry) -> Result<bool, AllocError>
         ensures { IfOk result (JudgesEntry self.old entry.now self.new) }

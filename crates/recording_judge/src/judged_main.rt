@@ -71,14 +71,14 @@ impl JudgedMain {
         Ok(())
     }
 
-    /// The `Ready` of the frame that was sent last, where the scheduler's state allows one.
+    /// The `Ready` of the frame that was sent last, if the scheduler's state allows one.
     pub(crate) fn ready(&self) -> Option<Event>
         ensures { (s : ScriptModel) (workers : ℕ) (h : List Entry) → Legal s workers h → IsMain s h self.now → is_open h kind.Ready ≡ true → result ≡ due s h kind.Ready 1 }
     {
         ready_event(&self.end)
     }
 
-    /// The `Abort` of the frame that was sent last, where the scheduler's state allows one.
+    /// The `Abort` of the frame that was sent last, if the scheduler's state allows one.
     pub(crate) fn abort(&self) -> Option<Event>
         ensures { (s : ScriptModel) (workers : ℕ) (h : List Entry) → Legal s workers h → IsMain s h self.now → is_open h kind.Abort ≡ true → result ≡ due s h kind.Abort 1 }
     {

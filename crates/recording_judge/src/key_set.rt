@@ -118,7 +118,7 @@ impl KeySet {
         is_rising(&self.keys);
     }
 
-    /// Adds a key, where it is not there. An error means out of memory, and nothing was added.
+    /// Adds a key, if it is not there. An error means out of memory, and nothing was added.
     pub(crate) fn insert(&mut self, key: TileKey) -> Result<(), AllocError>
         ensures { OnOk result ((q : Key) → has_key self.new q ≡ (same_key key q || has_key self.old q)) }
     {
@@ -126,14 +126,14 @@ impl KeySet {
         Ok(())
     }
 
-    /// Takes a key away, where it is there.
+    /// Takes a key away, if it is there.
     pub(crate) fn remove(&mut self, key: TileKey)
         ensures { (q : Key) → has_key self.new q ≡ (has_key self.old q && not (same_key key q)) }
     {
         let _ = self.keys.remove(&key);
     }
 
-    /// Takes these keys away, where they are there.
+    /// Takes these keys away, if they are there.
     pub(crate) fn remove_all(&mut self, keys: &[TileKey])
         ensures { (q : Key) → has_key self.new q ≡ (has_key self.old q && not (has_key keys.now q)) }
     {

@@ -26,13 +26,13 @@ use tile_queue::RasterQueue;
 // The tiles for which a queue is made.
 #[derive(Clone, Copy)]
 struct Tiles<'a> {
-    // the ready keys
+    // The ready keys.
     ready: &'a KeySet,
-    // the keys that are not to be evicted
+    // The keys that are not to be evicted.
     pins: &'a KeySet,
-    // the keys that are being made
+    // The keys that are being made.
     flying: &'a KeySet,
-    // how many there are
+    // How many there are.
     in_flight: u32,
 }
 
@@ -99,7 +99,7 @@ fn rebuilt(
     Ok(queue)
 }
 
-/// The raster queue for the tiles of a run with these trees, where the given number of keys are being made.
+/// The raster queue for the tiles of a run with these trees, if the given number of keys are being made.
 /// An error means out of memory.
 pub(crate) fn queue_of(
     alloc: Global,

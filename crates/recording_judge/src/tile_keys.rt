@@ -41,7 +41,7 @@ pub(crate) struct TileKeys {
     pub(crate) pins: KeySet,
     /// The key that each worker holds.
     pub(crate) held: Vec<Option<TileKey>>,
-    /// The queue for what there is to choose from; None where it has to be made anew.
+    /// The queue for what there is to choose from; None if it has to be made anew.
     pub(crate) queue: Option<RasterQueue>,
     pub(crate) alloc: Global,
 }
@@ -57,7 +57,7 @@ fn free_workers(alloc: Global, count: u32) -> Result<Vec<Option<TileKey>>, Alloc
     Ok(held)
 }
 
-// Adds a key, where there is one. An error means out of memory.
+// Adds a key, if there is one. An error means out of memory.
 fn push_some(keys: &mut Keys, one: Option<TileKey>) -> Result<(), AllocError>
     ensures { OnOk result (keys.new ≡ keys.old ++ held_keys (one ∷ [])) }
 {
@@ -81,7 +81,7 @@ pub(crate) fn keys_held(alloc: Global, held: &[Option<TileKey>]) -> Result<Keys,
     Ok(keys)
 }
 
-// What a worker holds; nothing where there is no such worker.
+// What a worker holds; nothing if there is no such worker.
 fn held_at(held: &[Option<TileKey>], worker: usize) -> Option<TileKey>
     ensures { result ≡ slice_index_or held.now worker None }
 {
@@ -101,14 +101,14 @@ fn put_held(held: &mut Vec<Option<TileKey>>, worker: usize, key: Option<TileKey>
     held[worker] = key;
 }
 
-// Adds a key where it is live. An error means out of memory.
+// Adds a key if it is live. An error means out of memory.
 fn insert_live(ready: &mut KeySet, key: TileKey, live: bool) -> Result<(), AllocError>
     ensures { OnOk result ((q : Key) → has_key ready.new q ≡ ((live && same_key key q) || has_key ready.old q)) }
 {
     if live { ready.insert(key) } else { Ok(()) }
 }
 
-// Steps a queue, where there is one, by a start.
+// Steps a queue, if there is one, by a start.
 fn start_in(queue: &mut Option<RasterQueue>, key: TileKey, evicted: &Keys)
     requires { IfSome queue.old (λ (c : Choice). MayStartWith c key evicted.now) }
     ensures { Started queue.old queue.new key evicted.now }
@@ -119,7 +119,7 @@ fn start_in(queue: &mut Option<RasterQueue>, key: TileKey, evicted: &Keys)
     }
 }
 
-// Steps a queue, where there is one, by the end of a tile.
+// Steps a queue, if there is one, by the end of a tile.
 fn finish_in(queue: &mut Option<RasterQueue>, tile: Option<ReadyTile>)
     requires some { IfSome queue.old (λ (c : Choice). 1 ≤ c.in_flight) }
     requires new { IfSome queue.old (λ (c : Choice). IfSome tile (λ t. IsNew c t.key)) }
@@ -190,7 +190,7 @@ impl TileKeys {
         self.ready.lacking(self.alloc, keys)
     }
 
-    /// The key that starts next; None exactly where none may start. There is a queue.
+    /// The key that starts next; None exactly if none may start. There is a queue.
     pub(crate) fn first(&self) -> Option<TileKey>
         requires { is_some self.now.queue ≡ true }
         ensures { (s : ScriptModel) (workers : ℕ) (h : List Entry) → Holds s workers h self.now → result ≡ option_map rank_key (first_rank s h) }
@@ -213,7 +213,7 @@ impl TileKeys {
         queue.evicted(key)
     }
 
-    /// Makes the queue anew, for these trees, where the given number of keys are being made. An error means
+    /// Makes the queue anew, for these trees, if the given number of keys are being made. An error means
     /// out of memory.
     pub(crate) fn requeue(
         &mut self,
@@ -241,7 +241,7 @@ impl TileKeys {
         start_in(&mut self.queue, key, evicted);
     }
 
-    /// A worker is done with the key that it holds, whose tile is this; None where the key is no longer live.
+    /// A worker is done with the key that it holds, whose tile is this; None if the key is no longer live.
     /// An error means out of memory.
     pub(crate) fn done(
         &mut self,

@@ -32,7 +32,7 @@ fn is_end(event: &Event) -> bool
     matches!(event, Event::End)
 }
 
-// Adds the place of an image, where there is one.
+// Adds the place of an image, if there is one.
 fn push_place(images: &mut Vec<ImagePlace>, image: Option<ImageSpan>) -> Result<(), AllocError>
     ensures { OnOk result (images.new.items ≡ images.old.items ++ map image_place_of (option_to_list image)) }
 {
@@ -45,7 +45,7 @@ fn push_place(images: &mut Vec<ImagePlace>, image: Option<ImageSpan>) -> Result<
     Ok(())
 }
 
-// Adds where an image stands, where there is one.
+// Adds where an image stands, if there is one.
 fn push_span(images: &mut Vec<ImageSpan>, image: Option<ImageSpan>) -> Result<(), AllocError>
     ensures { OnOk result (images.new.items ≡ images.old.items ++ option_to_list image) }
 {
@@ -55,7 +55,7 @@ fn push_span(images: &mut Vec<ImageSpan>, image: Option<ImageSpan>) -> Result<()
     Ok(())
 }
 
-// Adds where the image of a step stands, where it has one. Answers whether the step is the end.
+// Adds where the image of a step stands, if it has one. Answers whether the step is the end.
 fn keep_image(images: &mut Vec<ImageSpan>, step: EventSpan) -> Result<bool, AllocError>
     ensures image { OnOk result (images.new.items ≡ images.old.items ++ option_to_list step.image) }
     ensures last { IfOk result (λ last. last ≡ is_end_of step.event) }

@@ -205,7 +205,7 @@ fn plain_of(word: Word, number: u32) -> Option<Event>
     }
 }
 
-/// The event of one number that a word begins, where there is one number.
+/// The event of one number that a word begins, if there is one number.
 fn single_of(word: Word, numbers: &[i64]) -> Option<Event>
     ensures { result ≡ guesses.single_of word numbers.now }
 {
@@ -229,7 +229,7 @@ fn event_of(alloc: Global, word: Word, numbers: &[i64]) -> Result<Option<Event>,
     }
 }
 
-/// What stands after the first bytes; nothing where there are not that many.
+/// What stands after the first bytes; nothing if there are not that many.
 fn behind(bytes: &[u8], count: usize) -> &[u8]
     ensures { result.now ≡ drop count bytes.now }
 {

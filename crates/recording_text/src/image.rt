@@ -33,7 +33,7 @@ fn push_head(text: &mut Vec<u8>, w: u32, h: u32) -> Result<(), AllocError>
 }
 
 /// Adds the head of an image of this width and height: its kind, its size and the greatest component.
-/// Where there is no memory, the text stays as it is.
+/// If there is no memory, the text stays as it is.
 pub fn push_image_head(text: &mut Vec<u8>, w: u32, h: u32) -> Result<(), AllocError>
     ensures text { OnOk result (text.new.items ≡ text.old.items ++ image_head w h) }
     ensures same { OnErr result (text.new.items ≡ text.old.items) }
@@ -46,7 +46,7 @@ pub fn push_image_head(text: &mut Vec<u8>, w: u32, h: u32) -> Result<(), AllocEr
     Ok(())
 }
 
-/// Adds a pixel: red, green and blue, a byte each. Where there is no memory, the text stays as it is.
+/// Adds a pixel: red, green and blue, a byte each. If there is no memory, the text stays as it is.
 pub fn push_rgb(text: &mut Vec<u8>, colour: Colour) -> Result<(), AllocError>
     ensures text { OnOk result (text.new.items ≡ text.old.items ++ rgb colour) }
     ensures same { OnErr result (text.new.items ≡ text.old.items) }
@@ -78,7 +78,7 @@ pub fn p6(alloc: Global, w: u32, h: u32, rgba: &[u8]) -> Result<Vec<u8>, AllocEr
     Ok(text)
 }
 
-/// What stands after a prefix; None where the bytes do not begin with it.
+/// What stands after a prefix; None if the bytes do not begin with it.
 #[tactic(auto, unfolding(crate::specs::Images::after_front))]
 pub fn after_front<'a>(front: &[u8], bytes: &'a [u8]) -> Option<&'a [u8]>
     ensures rest { option_copied result ≡ images.after_front front.now bytes.now }
@@ -113,7 +113,7 @@ fn behind_head(w: u32, h: u32, bytes: &[u8]) -> Option<&[u8]>
     after_front(b"\n255\n", height)
 }
 
-/// The first bytes of an image's pixels; None where there are fewer.
+/// The first bytes of an image's pixels; None if there are fewer.
 #[tactic(auto, unfolding(crate::specs::Images::first_bytes))]
 fn first_pixels(w: u32, h: u32, bytes: &[u8]) -> Option<&[u8]>
     ensures { option_copied result ≡ images.first_bytes (images.picture_size w h) bytes.now }
@@ -134,7 +134,7 @@ fn picture_at(w: u32, h: u32, bytes: &[u8]) -> Option<&[u8]>
     first_pixels(w, h, behind_head(w, h, bytes)?)
 }
 
-/// The `3 * w * h` bytes of the pixels of an image of this width and height; None exactly where the
+/// The `3 * w * h` bytes of the pixels of an image of this width and height; None exactly if the
 /// bytes do not begin with an image of this size.
 pub fn read_p6(bytes: &[u8], w: u32, h: u32) -> Option<&[u8]>
     ensures { MatchOption result ((picture : List ℕ) → images.BeginsWithImage bytes.now w h picture → ⊥) (λ picture. images.BeginsWithImage bytes.now w h picture.now) }
@@ -142,7 +142,7 @@ pub fn read_p6(bytes: &[u8], w: u32, h: u32) -> Option<&[u8]>
     picture_at(w, h, bytes)
 }
 
-/// The length of an image of this width and height, its head among it; None exactly where the bytes do
+/// The length of an image of this width and height, its head among it; None exactly if the bytes do
 /// not begin with an image of this size.
 #[tactic(auto, using(crate::proofs::ImageLaws::length_is, crate::proofs::ImageLaws::length_within, crate::proofs::ImageLaws::no_head, crate::proofs::ImageLaws::no_pixels))]
 pub fn image_length(bytes: &[u8], w: u32, h: u32) -> Option<usize>

@@ -212,7 +212,7 @@ fn push_line(text: &mut Vec<u8>, event: &Event) -> Result<(), AllocError>
     Ok(())
 }
 
-/// Adds the line of an event: its text and a newline. Where there is no memory, the text stays as it is.
+/// Adds the line of an event: its text and a newline. If there is no memory, the text stays as it is.
 pub fn push_event(text: &mut Vec<u8>, event: &Event) -> Result<(), AllocError>
     ensures text { OnOk result (text.new.items ≡ text.old.items ++ line_of event.now) }
     ensures same { OnErr result (text.new.items ≡ text.old.items) }

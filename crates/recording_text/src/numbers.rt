@@ -12,7 +12,7 @@ use std::alloc::{AllocError, Global};
 /// The greatest number to which a digit can be added.
 const LONGEST: u64 = 922337203685477580;
 
-/// A sign and a size as a number, where it fits.
+/// A sign and a size as a number, if it fits.
 fn signed(negative: bool, size: u64) -> Option<i64>
     ensures { result ≡ spec.signed negative size }
 {
@@ -23,7 +23,7 @@ fn signed(negative: bool, size: u64) -> Option<i64>
     }
 }
 
-/// Adds the numbers of a line, up to its newline; false where one does not fit or there is no newline.
+/// Adds the numbers of a line, up to its newline; false if one does not fit or there is no newline.
 #[tactic(auto, unfolding(crate::specs::Numbers::numbers))]
 pub fn read_numbers(bytes: &[u8], found: &mut Vec<i64>) -> Result<bool, AllocError>
     ensures { IfOk result (λ all. Gathers (spec.numbers false 0 bytes.now) found.old.items all found.new.items) }
@@ -80,7 +80,7 @@ pub fn first(numbers: &[i64], count: usize) -> &[i64]
     }
 }
 
-/// The numbers after the first ones; none where there are not that many.
+/// The numbers after the first ones; none if there are not that many.
 pub fn behind(numbers: &[i64], count: usize) -> &[i64]
     ensures { result.now ≡ drop count numbers.now }
 {
@@ -103,7 +103,7 @@ fn key_of(layer: i64, x: i64, y: i64, stamp: i64) -> Option<TileKey>
     Some(TileKey { layer, x, y, stamp })
 }
 
-/// Numbers as a key; None where they are not four that fit.
+/// Numbers as a key; None if they are not four that fit.
 #[tactic(auto, unfolding(crate::specs::Numbers::key_in))]
 pub fn to_key(numbers: &[i64]) -> Option<TileKey>
     ensures { result ≡ spec.key_in numbers.now }
@@ -133,7 +133,7 @@ pub fn to_keys(alloc: Global, numbers: &[i64]) -> Result<Option<Keys>, AllocErro
     Ok(Some(keys))
 }
 
-/// Numbers as a move; None where they are not three that fit.
+/// Numbers as a move; None if they are not three that fit.
 #[tactic(auto, unfolding(crate::specs::Numbers::move_in, crate::specs::Numbers::move_from))]
 fn to_move(numbers: &[i64]) -> Option<Move>
     ensures { result ≡ spec.move_in numbers.now }

@@ -1,4 +1,4 @@
-//! The parts of a recording: an event's line, and the image after it where it is a draw.
+//! The parts of a recording: an event's line, and the image after it if it is a draw.
 
 ghost use Rattle.std.specs.Prelude.{◌≡◌, ◌+◌, ◌<◌, ◌≤◌, length, drop, Result, IfOk};
 ghost use Rattle.model_history.specs.EventFields as fields;
@@ -18,7 +18,7 @@ pub struct RecordingPart {
     pub event: Event,
     /// How many bytes the part has, the image among them.
     pub size: usize,
-    /// Where in the part its image begins, where it has one.
+    /// Where in the part its image begins, if it has one.
     pub image: Option<usize>,
 }
 
@@ -97,7 +97,7 @@ fn part_of(view: View, bytes: &[u8], event: Event, line: usize) -> Result<Record
     }
 }
 
-/// The part at the start of these bytes, where images have the size of this view; or where in it the
+/// The part at the start of these bytes, if images have the size of this view; or where in it the
 /// first thing stands that is not of its form.
 #[tactic(auto, unfolding(crate::specs::inner::Parts::part_at))]
 pub fn part_at(
@@ -114,7 +114,7 @@ pub fn part_at(
     }
 }
 
-// The number of an actor, where it fits 32 bits, or the greatest one: a worker's entries have its
+// The number of an actor, if it fits 32 bits, or the greatest one: a worker's entries have its
 // number and 2.
 fn actor_of(event: &Event) -> u32
     ensures { result ≡ pieces.at_most_u32 (fields.actor_of event.now) }

@@ -19,7 +19,7 @@ pub struct Line {
     pub size: usize,
 }
 
-/// The event with its line, where the bytes begin with that.
+/// The event with its line, if the bytes begin with that.
 #[tactic(auto, using(crate::proofs::TakenLines::taken_line, crate::proofs::TakenLines::not_taken))]
 fn checked(bytes: &[u8], event: Event, line: &mut Vec<u8>) -> Result<Option<Line>, AllocError>
     ensures { IfOk result (λ taken. TakesLine bytes.now (lines.checked bytes.now event) taken) }
@@ -35,7 +35,7 @@ fn checked(bytes: &[u8], event: Event, line: &mut Vec<u8>) -> Result<Option<Line
     }))
 }
 
-/// The event whose line these bytes begin with, and the length of the line; None exactly where they
+/// The event whose line these bytes begin with, and the length of the line; None exactly if they
 /// begin with no event's line. The room holds nothing that matters, before and after.
 #[tactic(auto, unfolding(crate::specs::Lines::event_at))]
 pub fn take_event(bytes: &[u8], scratch: &mut Scratch) -> Result<Option<Line>, AllocError>
@@ -47,7 +47,7 @@ pub fn take_event(bytes: &[u8], scratch: &mut Scratch) -> Result<Option<Line>, A
     checked(bytes, event, &mut scratch.line)
 }
 
-/// The event whose line this is, with its newline and nothing more; None exactly where it is no
+/// The event whose line this is, with its newline and nothing more; None exactly if it is no
 /// event's. A number that does not fit its field, a sign or a zero too many, and any other spelling
 /// make it none.
 pub fn read_event(alloc: Global, line: &[u8]) -> Result<Option<Event>, AllocError>

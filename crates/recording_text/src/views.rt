@@ -87,7 +87,7 @@ impl ImageViews {
     }
 
     /// The view after a main frame, whose sides are those of the images that are drawn while it is the
-    /// one activated last. Before every activation (None), and where the script has no such frame, it is
+    /// one activated last. Before every activation (None), and if the script has no such frame, it is
     /// the one that the script begins with.
     pub fn after(&self, frame: Option<u32>) -> View
         ensures { result ≡ spec.view_at self.now frame }

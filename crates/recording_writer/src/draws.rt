@@ -16,7 +16,7 @@ fn is_draw(event: &Event) -> bool
     matches!(event, Event::Draw { .. })
 }
 
-/// The scene of an event, where it is a draw.
+/// The scene of an event, if it is a draw.
 pub(crate) fn next_scene(event: &Event, scenes: &mut IntoIter<Scene, Global>) -> Option<Scene>
     requires { into_iter_len scenes.old ≡ length (into_iter_items scenes.old) }
     ensures scene { result ≡ scene_of event.now (into_iter_items scenes.old) }

@@ -7,7 +7,7 @@ use recording_text::push_image_head;
 use std::alloc::{AllocError, Global};
 use viz_canvas::{Canvas, Rgb};
 
-// How many bytes the head of an image has at most, where each side has four digits.
+// How many bytes the head of an image has at most, if each side has four digits.
 const HEAD: usize = 17;
 
 /// The head of an image, and after it the pixels of a canvas. An error means out of memory.

@@ -59,8 +59,8 @@ impl ImagePainter {
         self.painter.canvas()
     }
 
-    /// The image of a scene, made in at most the given number of parts, each by a thread of its own where it can be
-    /// started. Where there is one part, none is started. An error means out of memory.
+    /// The image of a scene, made in at most the given number of parts, each by a thread of its own if it can be
+    /// started. If there is one part, none is started. An error means out of memory.
     pub fn paint<R: Threads + Sync>(
         &mut self,
         rt: &R,

@@ -19,9 +19,9 @@ use viz_scene::Scene;
 
 /// The picture of the last draw, and where that draw stands in the history.
 pub struct LastDraw {
-    /// its canvas has the picture of that draw
+    /// Its canvas has the picture of that draw.
     pub(crate) painter: Painter<Rgb>,
-    /// the place of that draw; None before the first one, and where something has moved since
+    /// The place of that draw; None before the first one, and if something has moved since.
     place: Option<usize>,
 }
 
@@ -68,7 +68,7 @@ impl LastDraw {
         })
     }
 
-    // Whether a draw shows the picture that is there. Where the last draw was forgotten, nobody knows.
+    // Whether a draw shows the picture that is there. If the last draw was forgotten, nobody knows.
     fn is_again(&self, history: &KeptHistory, event: &Event) -> bool
         ensures { IsTrue result → (s : ScriptModel) (h : List Entry) → Keeps s h history.now.entries self.now → image_of self.now.painter.canvas ≡ image_behind s h event.now }
     {
@@ -82,7 +82,7 @@ impl LastDraw {
     }
 
     /// Makes the picture of the draw at a place of the history, whose scene this is, in at most the given
-    /// number of parts. Where the draw shows what the last one showed, that picture stays, and nobody looks
+    /// number of parts. If the draw shows what the last one showed, that picture stays, and nobody looks
     /// at the scene. An error means out of memory.
     pub(crate) fn show<R: Threads + Sync>(
         &mut self,
@@ -105,7 +105,7 @@ impl LastDraw {
         Ok(())
     }
 
-    /// Something was entered: where it moves what the screen shows, no draw shows the picture again.
+    /// Something was entered: if it moves what the screen shows, no draw shows the picture again.
     pub(crate) fn follow(&mut self, event: &Event)
         ensures { (s : ScriptModel) (h entries : List Entry) (e : Entry) → e.event ≡ event.now → StaysShown s h e → Keeps s h entries self.old → Keeps s (e ∷ h) entries self.new }
     {

@@ -2,7 +2,7 @@
 //! a draw.
 //!
 //! In: a core whose entries are not forgotten yet, the scenes of their draws, and a sink. Out: the sink gained what the
-//! entries add to the recording, but for the lines that are held back; or where it failed or memory was refused, a
+//! entries add to the recording, but for the lines that are held back; or if it failed or memory was refused, a
 //! prefix of that.
 //!
 //! A [`Recorder`] paints and puts entry by entry. A [`Batch`] gathers entries, which several painters paint and put

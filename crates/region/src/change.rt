@@ -9,11 +9,11 @@ use std::alloc::AllocError;
 /// What changed in one layer.
 #[derive(Drop)]
 pub struct LayerChange {
-    /// the layer's number
+    /// The layer's number.
     pub layer: u32,
-    /// the layer was added or resized, so each of its points may have changed
+    /// The layer was added or resized, so each of its points may have changed.
     pub whole: bool,
-    /// outside this region no point has changed, where the layer was not changed whole
+    /// Outside this region no point has changed, if the layer was not changed whole.
     pub region: Region,
 }
 

@@ -76,7 +76,7 @@ impl Changes {
         self.list.len()
     }
 
-    /// The element at place `i`, counted from 0; None exactly where `i` is not below `len`.
+    /// The element at place `i`, counted from 0; None exactly if `i` is not below `len`.
     pub fn at(&self, i: usize) -> Option<&LayerChange>
         ensures { option_copied result ≡ slice_get self.now.list i }
     {
@@ -97,7 +97,7 @@ impl Changes {
         self.retiled = true;
     }
 
-    /// Adds the changes of `later`: a layer is listed where one of the two lists it, whole where one of them
+    /// Adds the changes of `later`: a layer is listed if one of the two lists it, whole if one of them
     /// has it whole, with a region that covers what the two cover. An error means out of memory, and the
     /// changes are as they were.
     pub fn join(&mut self, later: &Changes) -> Result<(), AllocError>

@@ -111,7 +111,7 @@ pub fn list<'a>(
     }
 }
 
-/// A fault of field 0 where the value is no object.
+/// A fault of field 0 if the value is no object.
 #[tactic(auto, unfolding(crate::specs::Fields::object_at))]
 pub fn object(value: &Value) -> Result<(), FieldFault>
     ensures { result ≡ object_at (view value.now) }
@@ -134,7 +134,7 @@ fn member_count(value: &Value) -> usize
     }
 }
 
-/// A fault of field 99 where an object in which this many fields were found has a further one: it has
+/// A fault of field 99 if an object in which this many fields were found has a further one: it has
 /// each name once, so more members than fields.
 #[tactic(auto, unfolding(crate::specs::Fields::no_more_members))]
 pub fn no_more(object: &Value, fields: usize) -> Result<(), FieldFault>

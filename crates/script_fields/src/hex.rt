@@ -62,7 +62,7 @@ pub fn six(text: &[u8]) -> Option<Colour>
     Colour::new(red, green, blue, 255)
 }
 
-// The values of sixteen digits; a lane is 255 where the character is no digit.
+// The values of sixteen digits; a lane is 255 if the character is no digit.
 #[inline(always)]
 fn values(digits: u8x16) -> u8x16
     requires { IsBytes digits }
@@ -98,7 +98,7 @@ fn joined(values: u8x16) -> [u8; 8]
     (high * u8x8::splat(16) + low).to_array()
 }
 
-// The bytes of the sixteen digits from a place on; None where one of them is no digit.
+// The bytes of the sixteen digits from a place on; None if one of them is no digit.
 #[inline(always)]
 fn eight_at(text: &[u8], at: usize) -> Option<[u8; 8]>
     requires { at + 16 ≤ length text.now }

@@ -50,7 +50,7 @@ fn after_minus(numeral: &Numeral<'_>) -> Option<Number>
     nearest(true, numeral)
 }
 
-/// The number that a token of JSON writes; none where it is a float beyond the largest.
+/// The number that a token of JSON writes; none if it is a float beyond the largest.
 pub(crate) fn number_of(text: &str) -> Option<Number>
     ensures { option_map number_view result ≡ number_of text.now }
 {

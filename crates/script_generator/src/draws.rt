@@ -6,7 +6,7 @@ ghost use Rattle.script_generator.specs.Draws.{given, next};
 /// A generator of numbers: the linear congruential one with Knuth's constants.
 #[derive(Drop)]
 pub(crate) struct Draws {
-    /// the number that it keeps
+    /// The number that it keeps.
     pub(crate) kept: u64,
 }
 

@@ -37,7 +37,7 @@ pub fn canonical_texts_read_back()
     ensures { (s : ScriptModel) → is_in_ranges s ≡ true → IsScriptText (script_text s) s }
 {}
 
-/// Some JSON value says a script exactly where its numbers are in their ranges.
+/// Some JSON value says a script exactly if its numbers are in their ranges.
 pub fn what_is_said_is_in_ranges()
     ensures ranges { (s : ScriptModel) → IsSaid s → is_in_ranges s ≡ true }
     ensures said { (s : ScriptModel) → is_in_ranges s ≡ true → IsSaid s }
@@ -48,7 +48,7 @@ pub fn a_text_has_one_script()
     ensures { (bytes : List ℕ) (s t : ScriptModel) → IsScriptText bytes s → IsScriptText bytes t → s ≡ t }
 {}
 
-/// Bytes have one answer: the script that they are, or one fault. So where they are no JSON, have a
+/// Bytes have one answer: the script that they are, or one fault. So if they are no JSON, have a
 /// fault of shape or a refused command, `read_script` tells so, and nowhere else.
 pub fn a_text_has_one_answer()
     ensures { (bytes : List ℕ) (r q : Result ScriptModel TextFault) → IsTold r → IsTold q → ScriptCause bytes r → ScriptCause bytes q → r ≡ q }

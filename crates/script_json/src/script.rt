@@ -14,8 +14,8 @@ use std::alloc::{AllocError, Global};
 
 /// The script that these bytes are.
 ///
-/// `Json` comes exactly where the bytes are no JSON text; `Shape` exactly where they are the text of a
-/// value with this first fault; `Script` exactly where they are the text of a script, of whose commands,
+/// `Json` comes exactly if the bytes are no JSON text; `Shape` exactly if they are the text of a
+/// value with this first fault; `Script` exactly if they are the text of a script, of whose commands,
 /// applied in order from a blank page on, this is the first that is refused. `Memory` may come at any
 /// text; it also represents a main frame of 2^32 commands or more (a text of fewer than 2^32 bytes has
 /// none).

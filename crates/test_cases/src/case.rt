@@ -45,7 +45,7 @@ pub struct Case {
     pub words: Vec<String>,
     /// The call that makes them.
     pub call: Call,
-    /// What the source holds; none where the case does not say it.
+    /// What the source holds; none if the case does not say it.
     pub input: Option<Vec<u8>>,
     /// The most bytes of one read.
     pub step: u32,
@@ -57,7 +57,7 @@ pub struct Case {
     pub gathering: Gathering,
     /// What the sink of its runs waits for.
     pub sink_wait: Option<SinkWait>,
-    /// The most bytes of the notes, where there is a limit.
+    /// The most bytes of the notes, if there is a limit.
     pub notes_room: Option<u64>,
     /// The status that its runs end with.
     pub status: u8,
@@ -192,7 +192,7 @@ impl Case {
         self.change_bytes(old.as_slice(), new.as_slice())
     }
 
-    /// Sets that `run_alone` makes the runs: `ends`, or `none` where it answers so.
+    /// Sets that `run_alone` makes the runs: `ends`, or `none` if it answers so.
     fn set_alone(&mut self, value: &str) -> Result<(), ProgramRowFault> {
         self.call = match value {
             "ends" => Call::Alone,

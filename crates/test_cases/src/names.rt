@@ -37,7 +37,7 @@ impl Drop for Names {
     }
 }
 
-/// The numbers of the copies and the text to be repeated, where a value is `N of TEXT` or `A..B of TEXT`.
+/// The numbers of the copies and the text to be repeated, if a value is `N of TEXT` or `A..B of TEXT`.
 fn counted(value: &str) -> Option<(Numbers, &str)> {
     let Some((count, text)) = value.split_once(" of ") else {
         return None;

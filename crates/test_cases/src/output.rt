@@ -130,7 +130,7 @@ impl Output {
         }
     }
 
-    /// Whether the sink holds the beginning, and is full where it has no more room.
+    /// Whether the sink holds the beginning, and is full if it has no more room.
     fn begins(&self, held: &[u8], short: Short) -> bool {
         let is_cut = match short {
             Short::Room(room) => held.len() as u64 == room,
@@ -144,7 +144,7 @@ impl Output {
         self.extent != Extent::Unsaid
     }
 
-    /// Whether the sink of a run may hold these bytes; none where nothing is said.
+    /// Whether the sink of a run may hold these bytes; none if nothing is said.
     pub fn fits(&self, held: &[u8], short: Short) -> bool {
         match self.extent {
             Extent::Unsaid => held.is_empty(),

@@ -9,9 +9,9 @@ use std::fmt;
 
 /// What a run left behind.
 pub struct RunOutput {
-    /// The status that it ended with; None where `run_alone` answers so.
+    /// The status that it ended with; None if `run_alone` answers so.
     pub status: Option<u8>,
-    /// The output, or its pictures where the case asks for a legal recording.
+    /// The output, or its pictures if the case asks for a legal recording.
     pub out: MemSink,
     /// The notes.
     pub notes: MemSink,
@@ -46,7 +46,7 @@ pub enum Difference {
     Wait,
 }
 
-/// The numbers of the calls that fail: this one, where there is one.
+/// The numbers of the calls that fail: this one, if there is one.
 fn failing(alloc: Global, call: Option<u64>) -> Result<Vec<u64>, AllocError> {
     let mut calls = Vec::new(alloc);
     if let Some(call) = call {
@@ -63,7 +63,7 @@ fn given<'a>(case: &Case, input: &'a [u8], number: u64) -> &'a [u8] {
     }
 }
 
-/// Whether the notes hold a line, as far as it has room; nothing where there is no line.
+/// Whether the notes hold a line, as far as it has room; nothing if there is no line.
 fn holds_line(held: &[u8], line: Option<&str>, room: Option<u64>) -> bool {
     let Some(line) = line else {
         return held.is_empty();
@@ -156,7 +156,7 @@ impl Case {
         None
     }
 
-    /// Tells what of the run of this number is not as the case says; None where all is.
+    /// Tells what of the run of this number is not as the case says; None if all is.
     pub fn complaint(
         &self,
         alloc: Global,

@@ -13,7 +13,7 @@ pub struct SinkWait {
     pub mark: String,
     /// It waits until the given number of workers have come to the gate.
     pub workers: u64,
-    /// After that it tells the meeting where it holds all of these texts.
+    /// After that it tells the meeting when it holds all of these texts.
     pub texts: Vec<String>,
 }
 
@@ -27,7 +27,7 @@ pub struct WaitingSink<'a> {
 }
 
 impl<'a> WaitingSink<'a> {
-    /// A sink that hands on what it is given, and waits where there is something to wait for.
+    /// A sink that hands on what it is given, and waits if there is something to wait for.
     pub fn new(out: MemSink, meeting: &'a Meeting, wait: Option<&'a SinkWait>) -> WaitingSink<'a>
         ensures out { result.out ≡ out }
         ensures wait { result.wait ≡ wait.entry }

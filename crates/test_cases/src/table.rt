@@ -43,7 +43,7 @@ impl CaseTable {
         }
     }
 
-    /// Ends the case whose lines were read. Answers it, where it is to be played.
+    /// Ends the case whose lines were read. Answers it, if it is to be played.
     pub fn end(&mut self) -> Option<Case> {
         let case = self.case.take()?;
         if !self.titles.has(case.title.as_str()) {
@@ -52,7 +52,7 @@ impl CaseTable {
         Some(case)
     }
 
-    /// Begins a case. Answers the one whose lines were read, where it is to be played.
+    /// Begins a case. Answers the one whose lines were read, if it is to be played.
     fn begin(&mut self, case: Case) -> Option<Case> {
         let ended = self.end();
         self.case = Some(case);
@@ -116,7 +116,7 @@ impl CaseTable {
         }
     }
 
-    /// Takes a line that says something. Answers the case that it ends, where that is to be played.
+    /// Takes a line that says something. Answers the case that it ends, if that is to be played.
     pub fn take(&mut self, line: usize, text: &str) -> Result<Option<Case>, ProgramRowFault> {
         if let Some(row) = text.strip_prefix("    ") {
             let case = self.changed(line, row)?;

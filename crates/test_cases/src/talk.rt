@@ -12,7 +12,7 @@ use std::alloc::Global;
 use std::marker::Sync;
 use std::thread::Threads;
 
-/// What passed between a session and its client, where the bytes are told to clauses alone.
+/// What passed between a session and its client, if the bytes are told to clauses alone.
 #[derive(Drop)]
 pub enum Passed {
     /// These bytes came.
@@ -32,9 +32,9 @@ pub enum Passed {
 pub struct Talk {
     source: MemSource,
     out: MemSink,
-    /// how many calls failed
+    /// How many calls failed.
     faults: u64,
-    /// the oldest act first
+    /// The oldest act first.
     passed: GhostList<Passed>,
     ghost tells: { IsTold (acts passed.items) (drop source.given source.bytes.items) source.bytes.items out.bytes.items },
 }
@@ -82,9 +82,9 @@ impl Talk {
     }
 
     /// Serves a session with such a client, with which nothing has passed. Whenever bytes were asked for, all lines
-    /// that had come were answered. Where the session ends well, the client's answers are those to all lines of its
-    /// input, each by what the answerer says of that line alone. Where it stops early, the lines that had come whole
-    /// are answered, or what went is a prefix of the answers; a fault comes only where a call of the client failed.
+    /// that had come were answered. If the session ends well, the client's answers are those to all lines of its
+    /// input, each by what the answerer says of that line alone. If it stops early, the lines that had come whole
+    /// are answered, or what went is a prefix of the answers; a fault comes only if a call of the client failed.
     pub fn serve<R: Threads + Sync, A: Answerer>(
         rt: &R,
         alloc: Global,

@@ -53,7 +53,7 @@ impl Cases {
         }
     }
 
-    /// Tries what came out, which is right where it is what is wanted.
+    /// Tries what came out, which is right if it is what is wanted.
     pub fn same<T: PartialEq + fmt::Debug>(&mut self, what: &str, told: &T, wanted: &T) {
         match self.begun.last_mut() {
             Some(case) => case.checks.same(what, told, wanted),
@@ -61,7 +61,7 @@ impl Cases {
         }
     }
 
-    /// Tries what is right where it holds.
+    /// Tries what is right if it holds.
     pub fn holds(&mut self, what: &str, is_so: bool) {
         self.same(what, &is_so, &true);
     }

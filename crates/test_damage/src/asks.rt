@@ -13,7 +13,7 @@ use viz_occlusion::cull;
 use viz_painter::{Painter, Redrawer};
 use viz_scene::{Quad, Scene};
 
-// whether two scenes are of one size
+// Whether two scenes are of one size.
 fn are_of_one_size(a: &Scene, b: &Scene) -> bool
     ensures wide { IsTrue result → a.now.w ≡ b.now.w }
     ensures tall { IsTrue result → a.now.h ≡ b.now.h }
@@ -104,7 +104,7 @@ pub fn redraw(
     Ok(())
 }
 
-// says a quad
+// Says a quad.
 fn say_quad(quad: &Quad, answer: &mut Answer) {
     match quad {
         Quad::Tile { at, .. } => answer.say_rect("tile", *at),
@@ -130,7 +130,7 @@ pub fn culled(alloc: Global, scene: &Scene, answer: &mut Answer) -> Result<(), L
     Ok(())
 }
 
-/// Says the colour of an image, where it has only one.
+/// Says the colour of an image, if it has only one.
 pub fn colour(image: &TileImage, answer: &mut Answer) {
     match image.solid() {
         Some(colour) => answer.say_colour("one", colour),

@@ -5,7 +5,7 @@
 //! | `image: LAYER COLUMN ROW STAMP W H; ITEM; ..` | an image of this key, W by H pixels large, of the items `X Y W H COLOUR`; images are numbered from 0 |
 //! | `scene: W H COLOUR; PART; ..` | a scene over a background, the new one; the new one before becomes the old one |
 //! | `script: JSON` | the script whose page, after all its main frames, the scenes of pages below are of |
-//! | `page: TILE` | the scene of that page as the new one, where the tile of this number, in key order, is missing; `none` for no tile |
+//! | `page: TILE` | the scene of that page as the new one, if the tile of this number, in key order, is missing; `none` for no tile |
 //! | `KIND: QUESTION => ANSWER` | a question about both scenes |
 //!
 //! A part is `tile IMAGE X Y W H FROM_X FROM_Y`, `solid X Y W H COLOUR`, `group PASS OPACITY`, `nothing`, or
@@ -19,7 +19,7 @@
 //! | `shown` | | the colours of both pictures as one painter shows them, and of the old one when it is shown once more |
 //! | `buffer` | | the same as one redrawer shows them in a buffer of rows with a gap of one pixel, which is told too |
 //! | `culled` | | the parts of the new scene without its hidden quads |
-//! | `colour` | the number of an image | its colour, where it has only one |
+//! | `colour` | the number of an image | its colour, if it has only one |
 //!
 //! The colours of a picture are told row by row, each with how many pixels in a row have it.
 #![tactic(auto)]

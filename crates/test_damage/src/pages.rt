@@ -15,7 +15,7 @@ use test_table::{LineFault, wholes};
 use viz_quads::{ShownTile, make_all, quads_of};
 use viz_scene::Scene;
 
-// takes the image of a tile away
+// Takes the image of a tile away.
 fn take_image(tiles: &mut Vec<ShownTile>, place: usize)
     requires { place < length tiles.old.items }
     ensures { (p : Page) (offset : ℕ → Point) → AreShownTiles p offset (map tile_of tiles.old.items) → AreShownTiles p offset (map tile_of tiles.new.items) }
@@ -23,7 +23,7 @@ fn take_image(tiles: &mut Vec<ShownTile>, place: usize)
     tiles[place].image = None;
 }
 
-// takes the image of the tile of a number away, where a text is one
+// Takes the image of the tile of a number away, if a text is one.
 fn take_named(tiles: &mut Vec<ShownTile>, text: &str) -> Result<(), LineFault>
     ensures { OnOk result ((p : Page) (offset : ℕ → Point) → AreShownTiles p offset (map tile_of tiles.old.items) → AreShownTiles p offset (map tile_of tiles.new.items)) }
 {
@@ -38,7 +38,7 @@ fn take_named(tiles: &mut Vec<ShownTile>, text: &str) -> Result<(), LineFault>
     Ok(())
 }
 
-// the tiles of a page, of which the one that a text names has no image
+// The tiles of a page, of which the one that a text names has no image.
 fn tiles_of(
     alloc: Global,
     tree: &LayerTree,
@@ -53,7 +53,7 @@ fn tiles_of(
     Ok(tiles)
 }
 
-// the offsets of a page whose scrollers stand at their main values
+// The offsets of a page whose scrollers stand at their main values.
 fn offsets_of(alloc: Global, tree: &LayerTree) -> Result<Offsets, AllocError>
     ensures { IfOk result (λ offsets. AreOffsets (offset_at offsets)) }
 {
@@ -61,7 +61,7 @@ fn offsets_of(alloc: Global, tree: &LayerTree) -> Result<Offsets, AllocError>
     main_offsets(alloc, tree)
 }
 
-// the scene of a page over a background, where the tile that a text names is missing
+// The scene of a page over a background, if the tile that a text names is missing.
 fn scene_of_page(
     alloc: Global,
     tree: &LayerTree,
@@ -85,7 +85,7 @@ fn scene_of_page(
 }
 
 /// The scene of the page of a script after all its main frames, whose scrollers stand at their main values, and
-/// where the tile of a number is missing; the text is the number or `none`.
+/// if the tile of a number is missing; the text is the number or `none`.
 pub fn scene_of_script(alloc: Global, script: &str, missing: &str) -> Result<Scene, LineFault> {
     let Ok(script) = read_script(alloc, script.as_bytes()) else {
         return Err(LineFault::NoPage);

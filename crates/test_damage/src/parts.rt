@@ -13,7 +13,7 @@ use test_table::{LineFault, numbers, whole, wholes};
 use tile_raster::{Job, TileImage};
 use viz_scene::{Quad, RenderPass, Scene, scene_of};
 
-// an item of one colour
+// An item of one colour.
 fn item_of(text: &str) -> Result<Item, LineFault>
     ensures { IfOk result IsSoundItem }
 {
@@ -23,7 +23,7 @@ fn item_of(text: &str) -> Result<Item, LineFault>
     Ok(Item::Rect { rect, colour })
 }
 
-// adds the item of a text to a list
+// Adds the item of a text to a list.
 fn push_item(list: &mut DisplayList, text: &str) -> Result<(), LineFault> {
     let item = item_of(text)?;
     let at = list.len();
@@ -36,7 +36,7 @@ fn push_item(list: &mut DisplayList, text: &str) -> Result<(), LineFault> {
     }
 }
 
-// the list of some items
+// The list of some items.
 fn list_of(alloc: Global, items: &str) -> Result<DisplayList, LineFault> {
     let mut list = DisplayList::new(alloc);
     for item in items.split("; ") {
@@ -45,7 +45,7 @@ fn list_of(alloc: Global, items: &str) -> Result<DisplayList, LineFault> {
     Ok(list)
 }
 
-// the key and the rect of an image: `LAYER COLUMN ROW STAMP W H`
+// The key and the rect of an image: `LAYER COLUMN ROW STAMP W H`.
 fn head_of(text: &str) -> Result<(TileKey, Rect), LineFault>
     ensures { IfOk result (λ head. IsSound head.1) }
 {
@@ -54,7 +54,7 @@ fn head_of(text: &str) -> Result<(TileKey, Rect), LineFault>
     Ok((TileKey { layer, x, y, stamp }, rect))
 }
 
-// the image of a tile that shows a list
+// The image of a tile that shows a list.
 fn image_under(
     alloc: Global,
     key: TileKey,
@@ -82,7 +82,7 @@ pub fn image_of(alloc: Global, text: &str) -> Result<Arc<TileImage>, LineFault> 
     Ok(image_under(alloc, key, list, rect)?)
 }
 
-// the quad of a tile
+// The quad of a tile.
 fn tile_of(images: &[Arc<TileImage>], text: &str) -> Result<Quad, LineFault> {
     let [image, x, y, w, h, from_x, from_y] = numbers::<7>(text)?;
     let at = rect([x, y, w, h])?;
@@ -94,7 +94,7 @@ fn tile_of(images: &[Arc<TileImage>], text: &str) -> Result<Quad, LineFault> {
     Ok(Quad::Tile { image, at, from })
 }
 
-// the quad of a rect of one colour
+// The quad of a rect of one colour.
 fn solid_of(text: &str) -> Result<Quad, LineFault> {
     let [x, y, w, h, r, g, b, a] = numbers::<8>(text)?;
     let at = rect([x, y, w, h])?;
@@ -102,14 +102,14 @@ fn solid_of(text: &str) -> Result<Quad, LineFault> {
     Ok(Quad::Solid { at, colour })
 }
 
-// the quad of a group
+// The quad of a group.
 fn group_of(text: &str) -> Result<Quad, LineFault> {
     let [pass, opacity] = wholes::<2>(text, ' ')?;
     let opacity = byte(i64::from(opacity))?;
     Ok(Quad::Group { pass, opacity })
 }
 
-// the quad of a part
+// The quad of a part.
 fn quad_of(images: &[Arc<TileImage>], text: &str) -> Result<Quad, LineFault> {
     match text.split_once(' ') {
         Some(("tile", rest)) => tile_of(images, rest),
@@ -119,7 +119,7 @@ fn quad_of(images: &[Arc<TileImage>], text: &str) -> Result<Quad, LineFault> {
     }
 }
 
-// adds the quad of a part; where it is empty, or `nothing`, it has none
+// Adds the quad of a part; if it is empty, or `nothing`, it has none.
 fn add_quad(images: &[Arc<TileImage>], part: &str, quads: &mut Vec<Quad>) -> Result<(), LineFault> {
     if part.is_empty() || part == "nothing" {
         return Ok(());
@@ -129,7 +129,7 @@ fn add_quad(images: &[Arc<TileImage>], part: &str, quads: &mut Vec<Quad>) -> Res
     Ok(())
 }
 
-// the pass of some parts
+// The pass of some parts.
 fn pass_of(alloc: Global, images: &[Arc<TileImage>], parts: &str) -> Result<RenderPass, LineFault> {
     let mut quads = Vec::new(alloc);
     for part in parts.split("; ") {
@@ -138,7 +138,7 @@ fn pass_of(alloc: Global, images: &[Arc<TileImage>], parts: &str) -> Result<Rend
     Ok(RenderPass { quads })
 }
 
-// adds the pass of some parts
+// Adds the pass of some parts.
 fn add_pass(
     alloc: Global,
     images: &[Arc<TileImage>],
@@ -150,7 +150,7 @@ fn add_pass(
     Ok(())
 }
 
-// the passes of some parts, with `end` between
+// The passes of some parts, with `end` between.
 fn passes_of(
     alloc: Global,
     images: &[Arc<TileImage>],

@@ -19,7 +19,7 @@ pub fn drawn(alloc: Global, scene: &Scene) -> Result<Canvas<Rgba>, AllocError>
     Ok(canvas)
 }
 
-// adds a colour, and how many pixels in a row have it
+// Adds a colour, and how many pixels in a row have it.
 fn say_run(answer: &mut Answer, pixel: [u8; 4], count: i64) {
     let [r, g, b, a] = pixel;
     answer.say(
@@ -34,7 +34,7 @@ fn say_run(answer: &mut Answer, pixel: [u8; 4], count: i64) {
     );
 }
 
-// a byte of a picture
+// A byte of a picture.
 fn byte_at(bytes: &[u8], at: usize) -> u8 {
     match bytes.get(at) {
         Some(byte) => *byte,
@@ -42,7 +42,7 @@ fn byte_at(bytes: &[u8], at: usize) -> u8 {
     }
 }
 
-// red, green, blue and alpha of a pixel
+// Red, green, blue and alpha of a pixel.
 fn pixel_at(bytes: &[u8], place: usize) -> [u8; 4] {
     let at = place.saturating_mul(4);
     [

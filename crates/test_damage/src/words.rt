@@ -19,12 +19,12 @@ pub fn colour([r, g, b, a]: [i64; 4]) -> Result<Colour, LineFault> {
     Colour::new(r, g, b, a).ok_or(LineFault::NoNumber)
 }
 
-// whether a number is at most 2048 in absolute value
+// Whether a number is at most 2048 in absolute value.
 fn is_near(n: i32) -> bool {
     -2048 <= n && n <= 2048
 }
 
-// whether a length of at most 2048 starts near the screen
+// Whether a length of at most 2048 starts near the screen.
 fn is_span(at: i32, len: i32) -> bool
     ensures { IsTrue result → IsSpan at len }
 {
@@ -33,7 +33,7 @@ fn is_span(at: i32, len: i32) -> bool
     starts && ends
 }
 
-// a rect near the screen, with sides from 0 to 2048 pixels
+// A rect near the screen, with sides from 0 to 2048 pixels.
 fn rect_near(x: i32, y: i32, w: i32, h: i32) -> Result<Rect, LineFault>
     ensures { IfOk result IsSound }
 {

@@ -25,7 +25,7 @@ const TILE: i32 = 256;
 /// How far the grid of tiles begins left and above of the screen.
 const BEFORE: i32 = 128;
 
-// the part of a tile's side that lies on the screen: where it begins, and how long it is
+// The part of a tile's side that lies on the screen: where it begins, and how long it is.
 fn shown(place: i32) -> (i32, i32) {
     let start = place.saturating_mul(TILE).saturating_sub(BEFORE);
     let end = start.saturating_add(TILE).min(SIDE);
@@ -33,7 +33,7 @@ fn shown(place: i32) -> (i32, i32) {
     (at, end.saturating_sub(at))
 }
 
-// the quad of the tile of a place, which shows an image
+// The quad of the tile of a place, which shows an image.
 fn tile_at(image: &Arc<TileImage>, column: i32, row: i32) -> Result<Quad, AllocError> {
     let (x, w) = shown(column);
     let (y, h) = shown(row);
@@ -49,7 +49,7 @@ fn tile_at(image: &Arc<TileImage>, column: i32, row: i32) -> Result<Quad, AllocE
     })
 }
 
-// a rect on a tile, or one that begins a little left or above of it
+// A rect on a tile, or one that begins a little left or above of it.
 fn rect_of(dice: &mut Dice) -> Rect
     ensures { IsSound result }
 {
@@ -61,7 +61,7 @@ fn rect_of(dice: &mut Dice) -> Rect
     }
 }
 
-// a list of eight items
+// A list of eight items.
 fn list_of(alloc: Global, dice: &mut Dice) -> Result<DisplayList, AllocError> {
     let mut list = DisplayList::new(alloc);
     for _item in 0..8 {
@@ -72,7 +72,7 @@ fn list_of(alloc: Global, dice: &mut Dice) -> Result<DisplayList, AllocError> {
     Ok(list)
 }
 
-// the image of a layer's tiles
+// The image of a layer's tiles.
 fn image_of(alloc: Global, layer: u32) -> Result<Arc<TileImage>, AllocError> {
     let mut dice = Dice::new(layer as u64);
     let list = shared(alloc, list_of(alloc, &mut dice)?)?;
@@ -91,7 +91,7 @@ fn image_of(alloc: Global, layer: u32) -> Result<Arc<TileImage>, AllocError> {
     images::image_of(alloc, key, list, rect)
 }
 
-// adds the tiles of a layer, of which the one in the middle shows an image of its own
+// Adds the tiles of a layer, of which the one in the middle shows an image of its own.
 fn add_layer(
     alloc: Global,
     layer: u32,
@@ -108,7 +108,7 @@ fn add_layer(
 }
 
 /// A scene of the given number of layers, of which the last has an image of this number in its middle. None
-/// where that is no scene.
+/// if that is no scene.
 pub(crate) fn layered(alloc: Global, layers: u32, middle: u32) -> Result<Option<Scene>, AllocError>
     ensures { IfOk result (λ scene. IfSome scene IsLarge) }
 {

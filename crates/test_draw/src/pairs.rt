@@ -47,7 +47,7 @@ struct PairCounts {
     culled: u64,
 }
 
-// what came out of one pair
+// What came out of one pair.
 #[derive(Clone, Copy)]
 struct PairResult {
     is_right: bool,
@@ -55,7 +55,7 @@ struct PairResult {
     changed: u64,
 }
 
-// the picture of a scene
+// The picture of a scene.
 fn drawn(alloc: Global, scene: &Scene) -> Result<Canvas<Rgba>, AllocError>
     ensures { IfOk result (λ canvas. IsOfSize scene.now.w scene.now.h canvas) }
 {
@@ -64,7 +64,7 @@ fn drawn(alloc: Global, scene: &Scene) -> Result<Canvas<Rgba>, AllocError>
     Ok(canvas)
 }
 
-// the points of a region on a canvas
+// The points of a region on a canvas.
 fn area_of(region: &Region, canvas: &Canvas<Rgba>) -> u64 {
     let mut area = 0u64;
     for y in 0..canvas.h() {
@@ -81,7 +81,7 @@ fn area_of(region: &Region, canvas: &Canvas<Rgba>) -> u64 {
     area
 }
 
-// a byte of a picture
+// A byte of a picture.
 fn byte_at(bytes: &[u8], at: usize) -> u8 {
     match bytes.get(at) {
         Some(byte) => *byte,
@@ -89,7 +89,7 @@ fn byte_at(bytes: &[u8], at: usize) -> u8 {
     }
 }
 
-// in how many pixels two pictures differ
+// In how many pixels two pictures differ.
 fn differing(a: &[u8], b: &[u8]) -> u64 {
     let mut count = 0u64;
     let mut differs = false;
@@ -107,7 +107,7 @@ fn differing(a: &[u8], b: &[u8]) -> u64 {
     count
 }
 
-// draws the damage of the second scene over the picture of the first
+// Draws the damage of the second scene over the picture of the first.
 fn try_damage(alloc: Global, old: &Scene, new: &Scene) -> Result<PairResult, AllocError>
     requires wide { old.now.w ≡ new.now.w }
     requires tall { old.now.h ≡ new.now.h }
@@ -124,14 +124,14 @@ fn try_damage(alloc: Global, old: &Scene, new: &Scene) -> Result<PairResult, All
     })
 }
 
-// whether a painter that shows the scene has the right picture
+// Whether a painter that shows the scene has the right picture.
 fn shows(alloc: Global, painter: &mut Painter<Rgba>, scene: Scene) -> Result<bool, AllocError> {
     let wanted = drawn(alloc, &scene)?;
     painter.paint(scene)?;
     Ok(painter.canvas().bytes() == wanted.bytes())
 }
 
-// whether two scenes are of one size
+// Whether two scenes are of one size.
 fn are_of_one_size(a: &Scene, b: &Scene) -> bool
     ensures wide { IsTrue result → a.now.w ≡ b.now.w }
     ensures tall { IsTrue result → a.now.h ≡ b.now.h }
@@ -166,7 +166,7 @@ impl PairCounts {
     }
 }
 
-// the same trial of both scenes without their hidden quads
+// The same trial of both scenes without their hidden quads.
 fn try_culled(alloc: Global, old: &Scene, new: &Scene) -> Result<PairResult, AllocError>
     requires wide { old.now.w ≡ new.now.w }
     requires tall { old.now.h ≡ new.now.h }
@@ -176,7 +176,7 @@ fn try_culled(alloc: Global, old: &Scene, new: &Scene) -> Result<PairResult, All
     try_damage(alloc, &before, &after)
 }
 
-// tries a pair in each way
+// Tries a pair in each way.
 fn try_pair(
     alloc: Global,
     painter: &mut Painter<Rgba>,
@@ -196,7 +196,7 @@ fn try_pair(
     Ok(())
 }
 
-// throws a sketch and one that follows on it, and tries their scenes
+// Throws a sketch and one that follows on it, and tries their scenes.
 fn try_throw(
     alloc: Global,
     pool: &[Arc<TileImage>],
@@ -220,7 +220,7 @@ fn try_throw(
     }
 }
 
-// what comes out of the given number of pairs
+// What comes out of the given number of pairs.
 fn figures_of(
     alloc: Global,
     kind: PairKind,

@@ -40,7 +40,7 @@ fn task_of(name: &str) -> Option<Task> {
     }
 }
 
-/// Does what the words ask for and prints what came out; false where they ask for nothing of this module.
+/// Does what the words ask for and prints what came out; false if they ask for nothing of this module.
 pub(crate) fn run(rt: &HostRuntime, words: &[String]) -> io::Result<bool> {
     let [name, first, second] = words else {
         return Ok(false);

@@ -28,7 +28,7 @@ const TOP: i32 = 40;
 /// The height of the screen.
 const BOTTOM: i32 = 1024;
 
-// a rect that lies in a section, or sticks out a little
+// A rect that lies in a section, or sticks out a little.
 fn box_of(dice: &mut Dice) -> Rect
     ensures { IsSound result }
 {
@@ -40,7 +40,7 @@ fn box_of(dice: &mut Dice) -> Rect
     }
 }
 
-// the rect of a word: 20 lines of 12 words
+// The rect of a word: 20 lines of 12 words.
 fn word_of(dice: &mut Dice, place: u32) -> Rect
     requires { place < 240 }
     ensures { IsSound result }
@@ -53,7 +53,7 @@ fn word_of(dice: &mut Dice, place: u32) -> Rect
     }
 }
 
-// adds a rect of a random colour
+// Adds a rect of a random colour.
 fn add_rect(list: &mut DisplayList, dice: &mut Dice, rect: Rect) -> Result<(), AllocError>
     requires { IsSound rect }
 {
@@ -61,7 +61,7 @@ fn add_rect(list: &mut DisplayList, dice: &mut Dice, rect: Rect) -> Result<(), A
     add_item(list, Item::Rect { rect, colour })
 }
 
-// what a section shows
+// What a section shows.
 fn list_of(alloc: Global, section: u32) -> Result<Arc<DisplayList>, AllocError> {
     let mut dice = Dice::new(section as u64);
     let mut list = DisplayList::new(alloc);
@@ -76,7 +76,7 @@ fn list_of(alloc: Global, section: u32) -> Result<Arc<DisplayList>, AllocError> 
     shared(alloc, list)
 }
 
-// the height of a tile of a section, whose last row of eight ends with the section
+// The height of a tile of a section, whose last row of eight ends with the section.
 fn tile_height(place: u32) -> i32
     ensures low { pos 0 ≤ℤ result }
     ensures high { result ≤ℤ pos 128 }
@@ -84,7 +84,7 @@ fn tile_height(place: u32) -> i32
     if place < 24 { 128 } else { 116 }
 }
 
-// the rect of a tile of a section: four rows of eight
+// The rect of a tile of a section: four rows of eight.
 fn tile_rect(place: u32) -> Rect
     requires { place < 32 }
     ensures { IsSound result }
@@ -97,7 +97,7 @@ fn tile_rect(place: u32) -> Rect
     }
 }
 
-// the image of a tile of a section
+// The image of a tile of a section.
 fn image_of(
     alloc: Global,
     list: &Arc<DisplayList>,
@@ -115,7 +115,7 @@ fn image_of(
     images::image_of(alloc, key, Arc::try_clone(list)?, tile_rect(place))
 }
 
-// the images of all sections
+// The images of all sections.
 fn images_of(alloc: Global) -> Result<Vec<Arc<TileImage>>, AllocError> {
     let mut images = Vec::new(alloc);
     for section in 0..SECTIONS {
@@ -127,7 +127,7 @@ fn images_of(alloc: Global) -> Result<Vec<Arc<TileImage>>, AllocError> {
     Ok(images)
 }
 
-// adds the part of a tile that lies between header and end of the screen; its section begins at `top`
+// Adds the part of a tile that lies between header and end of the screen; its section begins at `top`.
 fn add_tile(image: &Arc<TileImage>, top: i32, quads: &mut Vec<Quad>) -> Result<(), AllocError> {
     let rect = image.rect();
     let y = top.saturating_add(rect.y);
@@ -152,13 +152,13 @@ fn add_tile(image: &Arc<TileImage>, top: i32, quads: &mut Vec<Quad>) -> Result<(
     Ok(())
 }
 
-// a rect of one colour
+// A rect of one colour.
 fn solid_of(at: Rect, level: u8, a: u8) -> Quad {
     let colour = Colour::new(level, level, level, a).unwrap_or(Colour::CLEAR);
     Quad::Solid { at, colour }
 }
 
-// the header
+// The header.
 fn header() -> Quad {
     let at = Rect {
         x: 0,
@@ -169,7 +169,7 @@ fn header() -> Quad {
     solid_of(at, 40, 255)
 }
 
-// the side bar
+// The side bar.
 fn side_bar() -> Quad {
     let at = Rect {
         x: 800,
@@ -180,7 +180,7 @@ fn side_bar() -> Quad {
     solid_of(at, 64, 192)
 }
 
-// the quads of the page where it is scrolled this far down
+// The quads of the page if it is scrolled this far down.
 fn quads_at(alloc: Global, images: &[Arc<TileImage>], down: i32) -> Result<Vec<Quad>, AllocError> {
     let mut quads = Vec::new(alloc);
     let mut place = 0i32;
@@ -197,7 +197,7 @@ fn quads_at(alloc: Global, images: &[Arc<TileImage>], down: i32) -> Result<Vec<Q
     Ok(quads)
 }
 
-// the scene of the page where it is scrolled this far down; None where that is no scene
+// The scene of the page if it is scrolled this far down; None if that is no scene.
 fn scene_at(
     alloc: Global,
     images: &[Arc<TileImage>],

@@ -25,7 +25,7 @@ pub(crate) enum Act {
     Tile,
 }
 
-// the quads of a pass once more, which share their images
+// The quads of a pass once more, which share their images.
 fn copied_pass(alloc: Global, pass: &RenderPass) -> Result<RenderPass, AllocError> {
     let mut quads = Vec::with_capacity(alloc, pass.quads.len())?;
     for quad in pass.quads.as_slice() {
@@ -34,7 +34,7 @@ fn copied_pass(alloc: Global, pass: &RenderPass) -> Result<RenderPass, AllocErro
     Ok(RenderPass { quads })
 }
 
-// the scene once more
+// The scene once more.
 fn copied(alloc: Global, scene: &Scene) -> Result<Option<Scene>, AllocError> {
     let mut passes = Vec::new(alloc);
     for pass in scene.passes() {
@@ -43,7 +43,7 @@ fn copied(alloc: Global, scene: &Scene) -> Result<Option<Scene>, AllocError> {
     Ok(scene_of(scene.w(), scene.h(), scene.background(), passes))
 }
 
-// how many quads a scene has
+// How many quads a scene has.
 fn quad_count(scene: &Scene) -> u64 {
     let mut count = 0u64;
     for pass in scene.passes() {
@@ -52,7 +52,7 @@ fn quad_count(scene: &Scene) -> u64 {
     count
 }
 
-// copies a scene the given number of times
+// Copies a scene the given number of times.
 fn copies(alloc: Global, scene: &Scene, times: u32) -> Result<u64, AllocError> {
     let mut sum = 0u64;
     for _turn in 0..times {
@@ -63,7 +63,7 @@ fn copies(alloc: Global, scene: &Scene, times: u32) -> Result<u64, AllocError> {
     Ok(sum)
 }
 
-// leaves the hidden quads of a scene out the given number of times
+// Leaves the hidden quads of a scene out the given number of times.
 fn culls(alloc: Global, scene: &Scene, times: u32) -> Result<u64, AllocError> {
     let mut sum = 0u64;
     for _turn in 0..times {
@@ -73,7 +73,7 @@ fn culls(alloc: Global, scene: &Scene, times: u32) -> Result<u64, AllocError> {
     Ok(sum)
 }
 
-// compares two scenes the given number of times
+// Compares two scenes the given number of times.
 fn damages(alloc: Global, old: &Scene, new: &Scene, times: u32) -> Result<u64, AllocError>
     requires old { IsLarge old.now }
     requires new { IsLarge new.now }
@@ -86,7 +86,7 @@ fn damages(alloc: Global, old: &Scene, new: &Scene, times: u32) -> Result<u64, A
     Ok(sum)
 }
 
-// shows a copy of a scene, and gives the first byte of the canvas
+// Shows a copy of a scene, and gives the first byte of the canvas.
 fn show_copy(alloc: Global, painter: &mut Painter<Rgb>, scene: &Scene) -> Result<u64, AllocError> {
     let Some(copy) = copied(alloc, scene)? else {
         return Ok(0);
@@ -114,7 +114,7 @@ pub(crate) fn shows(
     Ok(sum)
 }
 
-// does something with two scenes
+// Does something with two scenes.
 fn sum_over(
     alloc: Global,
     act: Act,

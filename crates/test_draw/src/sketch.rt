@@ -58,7 +58,7 @@ impl Drop for Sketch {
     }
 }
 
-// a rect of a cell of the screen, or any on it
+// A rect of a cell of the screen, or any on it.
 fn place_of(dice: &mut Dice) -> Rect {
     if dice.throw() % 2 == 0 {
         return Rect {
@@ -76,7 +76,7 @@ fn place_of(dice: &mut Dice) -> Rect {
     }
 }
 
-// a pixel of an image from which as much as a rect can be taken
+// A pixel of an image from which as much as a rect can be taken.
 fn start_of(dice: &mut Dice, at: Rect) -> Point {
     let across = 16i32.saturating_sub(at.w).saturating_add(1).max(1) as u32;
     let down = 16i32.saturating_sub(at.h).saturating_add(1).max(1) as u32;
@@ -86,7 +86,7 @@ fn start_of(dice: &mut Dice, at: Rect) -> Point {
     }
 }
 
-// a quad of the pass of this number
+// A quad of the pass of this number.
 fn part_of(dice: &mut Dice, number: u32) -> SketchPart {
     let at = place_of(dice);
     match dice.throw() % 8 {
@@ -106,7 +106,7 @@ fn part_of(dice: &mut Dice, number: u32) -> SketchPart {
     }
 }
 
-// a part that is moved a little, or shows something else
+// A part that is moved a little, or shows something else.
 fn changed(dice: &mut Dice, part: SketchPart) -> SketchPart {
     match part {
         SketchPart::Tile { image, at, from } => match dice.throw() % 3 {
@@ -144,7 +144,7 @@ fn changed(dice: &mut Dice, part: SketchPart) -> SketchPart {
     }
 }
 
-// a rect moved by up to two pixels
+// A rect moved by up to two pixels.
 fn moved(dice: &mut Dice, at: Rect) -> Rect {
     let dx = (dice.throw() % 5) as i32 - 2;
     let dy = (dice.throw() % 5) as i32 - 2;
@@ -156,7 +156,7 @@ fn moved(dice: &mut Dice, at: Rect) -> Rect {
     }
 }
 
-// adds the given number of quads of the pass of this number, and its end
+// Adds the given number of quads of the pass of this number, and its end.
 fn add_pass(
     dice: &mut Dice,
     number: u32,
@@ -170,7 +170,7 @@ fn add_pass(
     Ok(())
 }
 
-// the parts of a scene of up to three passes
+// The parts of a scene of up to three passes.
 fn parts_of(alloc: Global, dice: &mut Dice) -> Result<Vec<SketchPart>, AllocError> {
     let mut parts = Vec::new(alloc);
     for number in 0..1 + dice.throw() % 3 {
@@ -180,7 +180,7 @@ fn parts_of(alloc: Global, dice: &mut Dice) -> Result<Vec<SketchPart>, AllocErro
     Ok(parts)
 }
 
-// some parts, of which one is gone, is another one, or has another one before it
+// Some parts, of which one is gone, is another one, or has another one before it.
 fn with_change(
     alloc: Global,
     dice: &mut Dice,
@@ -200,7 +200,7 @@ fn with_change(
     Ok(after)
 }
 
-// what stands in the place of a part
+// What stands in the place of a part.
 fn change_at(
     dice: &mut Dice,
     kind: u32,
@@ -219,7 +219,7 @@ fn change_at(
     Ok(())
 }
 
-// some parts, whose tiles all lie this much higher
+// Some parts, whose tiles all lie this much higher.
 fn scrolled(alloc: Global, parts: &[SketchPart], by: i32) -> Result<Vec<SketchPart>, AllocError> {
     let mut after = Vec::new(alloc);
     for part in parts {
@@ -228,7 +228,7 @@ fn scrolled(alloc: Global, parts: &[SketchPart], by: i32) -> Result<Vec<SketchPa
     Ok(after)
 }
 
-// a tile that lies this much higher; all else stays
+// A tile that lies this much higher; all else stays.
 fn scrolled_part(part: SketchPart, by: i32) -> SketchPart {
     match part {
         SketchPart::Tile { image, at, from } => SketchPart::Tile {
@@ -275,7 +275,7 @@ impl Sketch {
         })
     }
 
-    /// The scene of this sketch. None where its parts make none.
+    /// The scene of this sketch. None if its parts make none.
     pub(crate) fn scene(
         &self,
         alloc: Global,
@@ -286,7 +286,7 @@ impl Sketch {
     }
 }
 
-// some parts with a few changes
+// Some parts with a few changes.
 fn parts_after(
     alloc: Global,
     dice: &mut Dice,
@@ -301,7 +301,7 @@ fn parts_after(
     with_changes(alloc, dice, after)
 }
 
-// some parts with up to two changes
+// Some parts with up to two changes.
 fn with_changes(
     alloc: Global,
     dice: &mut Dice,
@@ -314,7 +314,7 @@ fn with_changes(
     Ok(after)
 }
 
-// the passes of some parts
+// The passes of some parts.
 fn passes_of(
     alloc: Global,
     parts: &[SketchPart],
@@ -334,7 +334,7 @@ fn passes_of(
     Ok(passes)
 }
 
-// the quad of a part; None at the end of a pass
+// The quad of a part; None at the end of a pass.
 fn quad_of(part: SketchPart, pool: &[Arc<TileImage>]) -> Result<Option<Quad>, AllocError> {
     match part {
         SketchPart::Tile { image, at, from } => match pool.get(image as usize) {

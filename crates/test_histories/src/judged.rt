@@ -9,7 +9,7 @@ use recording_judge::Judge;
 use std::alloc::{AllocError, Global};
 use std::sync::Arc;
 
-// The place of the first entry that a judge does not enter; None where it enters them all.
+// The place of the first entry that a judge does not enter; None if it enters them all.
 fn refused_in(judge: &mut Judge, entries: &[Entry]) -> Result<Option<usize>, AllocError>
     requires { judge.old.entries ≡ [] }
     ensures { IfOk result (λ place. EndsAt judge.old.script judge.old.workers entries.now place) }
@@ -27,7 +27,7 @@ fn refused_in(judge: &mut Judge, entries: &[Entry]) -> Result<Option<usize>, All
 }
 
 /// The place of the first entry of a history that may not come after those before it, in a run with 1 to 16
-/// workers; None where the history is legal. A judge is asked about each entry. An error means out of memory, or
+/// workers; None if the history is legal. A judge is asked about each entry. An error means out of memory, or
 /// another number of workers.
 pub fn judged_at(
     alloc: Global,

@@ -2,7 +2,7 @@
 //! about the same entries, and compares where each stops with a table.
 //!
 //! The compositor and its main side run on this thread, and so do the workers: each entry of a history is
-//! asked for by its kind and its actor. Where the event that was entered is another one, or none is possible,
+//! asked for by its kind and its actor. If the event that was entered is another one, or none is possible,
 //! the walk stops. The judge stops at the first entry that it does not enter.
 //!
 //! | Line | What it says |

@@ -19,7 +19,7 @@ use recording_judge::same_event;
 use std::alloc::{AllocError, Global};
 use std::sync::Arc;
 
-// Whether an actor has events of this kind, where there are that many workers.
+// Whether an actor has events of this kind, if there are that many workers.
 fn has_kind(kind: Kind, actor: u32, workers: u32) -> bool
     ensures { Decides result (HasKind workers kind actor) }
 {
@@ -67,7 +67,7 @@ fn is_legal(run: &SingleThread)
     run.core().is_legal();
 }
 
-// The place of the first entry that a run does not take; None where it takes them all.
+// The place of the first entry that a run does not take; None if it takes them all.
 fn stops_in(run: &mut SingleThread, entries: &[Entry]) -> Result<Option<usize>, HistoryLineFault>
     requires { run.old.run.entries ≡ [] }
     ensures { IfOk result (λ place. EndsAt run.old.run.script run.old.run.workers entries.now place) }
@@ -111,7 +111,7 @@ fn begin(alloc: Global, script: Arc<Script>, workers: u32) -> Result<SingleThrea
 }
 
 /// The place of the first entry of a history that may not come after those before it, in a run with 1 to 16
-/// workers; None where the history is legal. A compositor on one thread is asked for each entry's event. An
+/// workers; None if the history is legal. A compositor on one thread is asked for each entry's event. An
 /// error means out of memory, or another number of workers.
 pub fn stops_at(
     alloc: Global,

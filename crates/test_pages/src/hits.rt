@@ -3,8 +3,8 @@
 //! | Line | What it says |
 //! |---|---|
 //! | `script: JSON` | the script whose page, after all its main frames, is asked about below; its scrollers stand at their main values |
-//! | `target X Y => LAYER` | the layer that the point hits, 0 where it hits none |
-//! | `chain LAYER => SCROLLER ..` | the scrollers that take a wheel over the layer, the nearest first; `-` where there is none |
+//! | `target X Y => LAYER` | the layer that the point hits, 0 if it hits none |
+//! | `chain LAYER => SCROLLER ..` | the scrollers that take a wheel over the layer, the nearest first; `-` if there is none |
 //! | `wheel X Y DX DY => LAYER RX,RY SCROLLER:PX,PY ..` | what a wheel of DX, DY at the point does: the layer that it hits, what no scroller takes, and what each takes |
 
 mod asks;

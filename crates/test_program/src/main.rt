@@ -14,19 +14,19 @@
 //! | `file NAME` | begins a file that later cases name as their input; its lines and pictures come next |
 //! | `line`, `picture` | the next line of the file; its next picture: width, height, and the colour of each pixel, `N*COLOUR` for that many of it |
 //! | `case` | begins a case of this title |
-//! | `words` | the words, `""` for an empty one; `step 1` where it is left out |
-//! | `alone` | `run_alone` makes the runs, where `run` does else: `ends` where it answers how a run ended, `none` where it answers None |
+//! | `words` | the words, `""` for an empty one; `step 1` if it is left out |
+//! | `alone` | `run_alone` makes the runs, where `run` does else: `ends` if it answers how a run ended, `none` if it answers None |
 //! | `input`, `input hex`, `input file` | what the source holds: a text, bytes in hexadecimal digits, a file that was named |
 //! | `change`, `change hex` | `OLD => NEW`: a part of the input, which stands there once, becomes another |
 //! | `cut` | only the given number of bytes of the input are given; `0..515` is one run for each number below 515 |
-//! | `step` | how many bytes one read gives at most; 4096 where it is left out |
+//! | `step` | how many bytes one read gives at most; 4096 if it is left out |
 //! | `room`, `reads fail`, `puts fail` | how many bytes the sink takes; which read or put fails. `0..515` is one run for each number below 515 |
 //! | `notes room` | how many bytes the notes take |
-//! | `gate` | which workers come to the gate, between a tile's start and its end: `pair` where the first two wait there for each other and then for the sink, or `LAYER COLUMN ROW`, those of this tile, which go on at once |
+//! | `gate` | which workers come to the gate, between a tile's start and its end: `pair` if the first two wait there for each other and then for the sink, or `LAYER COLUMN ROW`, those of this tile, which go on at once |
 //! | `sink waits` | `COUNT LINE`: once it holds the line, the sink waits until the given number of workers have come to the gate; a case whose wait is given up is wrong |
 //! | `until` | the end of a line that the sink has to hold before the workers go on that wait for it; there may be several |
-//! | `status`, `note` | how the run ends, and the line in the notes; 0 and none where they are left out |
-//! | `out` | a line of the output; `...` as the first says that anything may stand before the next, and as the last that anything may follow, until the sink is full where it has a room |
+//! | `status`, `note` | how the run ends, and the line in the notes; 0 and none if they are left out |
+//! | `out` | a line of the output; `...` as the first says that anything may stand before the next, and as the last that anything may follow, until the sink is full if it has a room |
 //! | `image` | a picture in the output, as `picture` |
 //! | `out hex` | bytes of the output |
 //! | `legal recording` | the output is a recording that `check` finds legal, and what is told of the output is told of what `frames` makes of it |

@@ -67,7 +67,7 @@ impl Tables {
         }
     }
 
-    /// Plays a case, where there is one.
+    /// Plays a case, if there is one.
     fn play<R: Threads + Wait + Sync + Print>(
         &mut self,
         rt: &R,

@@ -1,15 +1,15 @@
 //! Tries the raster queue beside the definitions of its choice, and times it.
 //!
 //! A line of the table is one of these. A KEY is `LAYER/X/Y/STAMP`, a RANK `KEY:BIN` with the bin `now`, `soon` or `eventually`, and a
-//! TILE is a RANK or a KEY without rank, with `!` after it where it is pinned.
+//! TILE is a RANK or a KEY without rank, with `!` after it if it is pinned.
 //!
 //! | Line | What it says |
 //! |---|---|
 //! | `queue BUDGET IN_FLIGHT wanted RANK .. ready TILE ..` | the queue represents these |
 //! | `start KEY` | the key starts, and what is evicted for it is evicted |
 //! | `finish TILE`, `finish -` | a tile in flight is made; it is ready, or needed no more |
-//! | `first => KEY` | the key that starts first; `-` where none may |
-//! | `evicted KEY => KEY ..` | what is evicted for it, the worst first; `-` where nothing is |
+//! | `first => KEY` | the key that starts first; `-` if none may |
+//! | `evicted KEY => KEY ..` | what is evicted for it, the worst first; `-` if nothing is |
 //! | `steps SEED COUNT` | the given number of random steps of another queue |
 //!
 //! After each step the queue's answers are compared with the definitions' too.

@@ -1,7 +1,7 @@
 //! Goes through the tables of calls that no script reaches through the program, or times what its words name.
 //!
 //! The tables are read from standard input, one after another; a line that begins with `#` and an empty one say
-//! nothing. A line `table: NAME` begins the lines of a table; `hits` needs none where it comes first.
+//! nothing. A line `table: NAME` begins the lines of a table; `hits` needs none if it comes first.
 //!
 //! | Name | Where its lines are told |
 //! |---|---|
@@ -29,7 +29,7 @@ use std::{env, io};
 use test_channels::Channels;
 use test_table::{check_table, end_unread};
 
-/// Does the job that the words name, and answers whether there is one; None where there are no words.
+/// Does the job that the words name, and answers whether there is one; None if there are no words.
 fn job(rt: &HostRuntime) -> io::Result<Option<bool>> {
     let words: Vec<String> = env::args(rt)?.skip(1).collect(rt.alloc())?;
     if words.is_empty() {

@@ -4,7 +4,7 @@ use geom::Rect;
 use pixel::Colour;
 use std::alloc::{AllocError, Global};
 
-/// An answer, part by part. Where memory ran out it takes no more parts, and has no text.
+/// An answer, part by part. If memory ran out it takes no more parts, and has no text.
 pub struct Answer {
     alloc: Global,
     text: String,
@@ -22,7 +22,7 @@ impl Drop for Answer {
     }
 }
 
-/// Adds words and numbers to a text, after a semicolon where it says something already.
+/// Adds words and numbers to a text, after a semicolon if it says something already.
 fn push_part(
     alloc: Global,
     text: &mut String,

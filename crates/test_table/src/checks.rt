@@ -45,7 +45,7 @@ impl Checks {
         self.wrong.push_str(text.as_str())
     }
 
-    /// Tries a case, which is right where what came out is what is wanted.
+    /// Tries a case, which is right if what came out is what is wanted.
     pub fn same<T: PartialEq + fmt::Debug>(&mut self, case: &str, told: &T, wanted: &T) {
         if *told == *wanted {
             self.right = self.right.saturating_add(1);
@@ -54,7 +54,7 @@ impl Checks {
         }
     }
 
-    /// Tries a case, which is right where it holds.
+    /// Tries a case, which is right if it holds.
     pub fn holds(&mut self, case: &str, is_so: bool) {
         self.same(case, &is_so, &true);
     }

@@ -11,7 +11,7 @@ fn push_key(alloc: Global, key: TileKey, text: &mut String) -> Result<(), AllocE
     push_word(text, word.as_str())
 }
 
-/// The text of keys of tiles, each `LAYER/X/Y/STAMP`, with blanks between; `-` where there are none.
+/// The text of keys of tiles, each `LAYER/X/Y/STAMP`, with blanks between; `-` if there are none.
 pub fn keys_text(alloc: Global, keys: &[TileKey]) -> Result<String, AllocError> {
     if keys.is_empty() {
         return "-".to_string(alloc);

@@ -53,7 +53,7 @@ fn take_all<R: Print, T: Table<R>>(
 }
 
 /// Ends a program that went through its table, and told on standard output what it counted. Wrong cases are told
-/// on standard error; the status is 0 where there are none and all was told, otherwise 1.
+/// on standard error; the status is 0 if there are none and all was told, otherwise 1.
 pub fn end_counted<R: Eprint>(rt: &R, told: io::Result<()>, tally: Tally) -> ExitCode {
     match tally.first() {
         None => ExitCode::from(if told.is_ok() { 0 } else { 1 }),
@@ -72,7 +72,7 @@ pub fn end_unread<R: Eprint, F: fmt::Display + Copy>(rt: &R, line: usize, fault:
 }
 
 /// Takes the lines of the table on standard input that say something, and tells how many cases there were. The
-/// status is 0 where all cases are right; it is 1, with one line on standard error, where one is wrong or a line
+/// status is 0 if all cases are right; it is 1, with one line on standard error, if one is wrong or a line
 /// can't be read.
 pub fn check_table<R: Print + Eprint + Input + Alloc, T: Table<R>>(
     rt: &R,

@@ -25,7 +25,7 @@ impl Tally {
         }
     }
 
-    /// Counts the answer of a line, which is wrong where it is not the one that is wanted; both are told then.
+    /// Counts the answer of a line, which is wrong if it is not the one that is wanted; both are told then.
     pub fn compare<R: Print>(&mut self, rt: &R, line: usize, told: &str, wanted: &str) {
         self.answers = self.answers.saturating_add(1);
         if told != wanted {
@@ -53,7 +53,7 @@ impl Tally {
         self.wrong
     }
 
-    /// The line of the first wrong case; None where all are right.
+    /// The line of the first wrong case; None if all are right.
     pub fn first(&self) -> Option<usize> {
         self.first
     }

@@ -2,7 +2,7 @@
 
 use std::{env, io};
 
-/// The cases that are tried: those whose titles have one of some words, or all where there are no words.
+/// The cases that are tried: those whose titles have one of some words, or all if there are no words.
 pub struct Titles {
     words: Vec<String>,
 }

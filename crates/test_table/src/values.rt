@@ -3,7 +3,7 @@
 use crate::fault::LineFault;
 use std::alloc::AllocError;
 
-/// The key and the value of a line `KEY: VALUE`, or `KEY:` where the value is empty. None where the line has no key.
+/// The key and the value of a line `KEY: VALUE`, or `KEY:` if the value is empty. None if the line has no key.
 pub fn key_and_value(line: &str) -> Option<(&str, &str)> {
     if let Some(both) = line.split_once(": ") {
         return Some(both);
@@ -14,7 +14,7 @@ pub fn key_and_value(line: &str) -> Option<(&str, &str)> {
     }
 }
 
-/// Adds a word to a text, after a blank where it says something already.
+/// Adds a word to a text, after a blank if it says something already.
 pub fn push_word(text: &mut String, word: &str) -> Result<(), AllocError> {
     if !text.is_empty() {
         text.push(' ')?;

@@ -1,6 +1,6 @@
 //! Cases worked by hand for the calls of the lowest crates, one file a crate.
 //!
-//! They are called by the lines of a table, whose form `units.rt` tells. They stand in code where their numbers
+//! They are called by the lines of a table, whose form `units.rt` tells. They stand in code if their numbers
 //! alone would say little.
 #![tactic(auto)]
 

@@ -13,7 +13,7 @@ fn shared(alloc: Global, bytes: &[u8]) -> Result<Arc<Vec<u8>>, AllocError> {
     Ok(Arc::new(alloc, pixels)?)
 }
 
-/// What `Item::bitmap` finds wrong with these bytes; `None` where they are a bitmap.
+/// What `Item::bitmap` finds wrong with these bytes; `None` if they are a bitmap.
 fn cause_of(alloc: Global, w: i32, bytes: &[u8]) -> Result<Option<BitmapCause>, LineFault> {
     let rect = Rect {
         x: 0,

@@ -27,7 +27,7 @@ pub fn one_tile_is_started_and_done(alloc: Global, checks: &mut Checks) -> Resul
     Ok(())
 }
 
-/// Takes a step with a key: it starts, is done, or, where it is ready, thirds of the keys are given up at times.
+/// Takes a step with a key: it starts, is done, or, if it is ready, thirds of the keys are given up at times.
 fn take_step(
     alloc: Global,
     store: &mut TileStore,
@@ -103,7 +103,7 @@ fn give_up_thirds(
     Ok(())
 }
 
-/// Starts a key, over the first ready one where asked.
+/// Starts a key, over the first ready one if asked.
 fn start_next(
     alloc: Global,
     store: &mut TileStore,
@@ -131,7 +131,7 @@ fn first_ready(plain: &[(TileKey, bool)]) -> Option<TileKey> {
     None
 }
 
-/// Whether a list has the key ready, or in flight; None where it has neither.
+/// Whether a list has the key ready, or in flight; None if it has neither.
 fn state(plain: &[(TileKey, bool)], key: TileKey) -> Option<bool> {
     for one in plain {
         if one.0 == key {

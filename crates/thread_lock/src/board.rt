@@ -25,9 +25,9 @@ pub struct Old<M, E> {
 
 /// What a pass knows, in proofs alone: no value of it is made.
 pub struct PassView<M, E> {
-    /// What the value began with, or `None` where the pass is spent.
+    /// What the value began with, or `None` if the pass is spent.
     pub stem: Option<M>,
-    /// The actor's number, or `None` where the pass has drawn none.
+    /// The actor's number, or `None` if the pass has drawn none.
     pub number: Option<u32>,
     /// How many passes the lock was made for.
     pub most: u32,

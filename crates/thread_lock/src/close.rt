@@ -21,7 +21,7 @@ pub struct PassesOut<T: Turn> {
 
 impl<T: Turn> TurnLock<T> {
     /// Takes all passes that the lock was made for, and gives the value back.
-    /// It answers `PassesOut` where fewer passes were handed in.
+    /// It answers `PassesOut` if fewer passes were handed in.
     pub fn close(self, passes: Vec<Pass<T>>) -> Result<T, PassesOut<T>>
         requires some { 0 < vec_len passes }
         requires own { All (IsOf self) passes.items }

@@ -97,7 +97,7 @@ pub fn write_note<R: Wait>(
     }
 }
 
-/// Writes the numbers, each in a turn of its own. It stops where there is no memory.
+/// Writes the numbers, each in a turn of its own. It stops if there is no memory.
 pub fn write_all<R: Wait>(
     rt: &R,
     lock: &TurnLock<Journal>,

@@ -68,7 +68,7 @@ impl<T: Turn> TurnLock<T> {
     }
 
     /// A new pass, made of the given one, with the next number, which is above the given pass's own. It draws by exchanges until one succeeds, so it may wait for other splits.
-    /// It answers `Full` where the lock had already given as many numbers as it was made for.
+    /// It answers `Full` if the lock had already given as many numbers as it was made for.
     pub fn split<R: Wait>(&self, rt: &R, pass: &mut Pass<T>) -> Result<Pass<T>, SplitFault>
         requires { pass.old.lock ≡ self.now.id }
         ensures given { pass.new ≡ record pass.old { known = pass.new.known } }
@@ -86,7 +86,7 @@ impl<T: Turn> TurnLock<T> {
         unreachable!()
     }
 
-    // One round of `split`: `None` where another split drew the number first.
+    // One round of `split`: `None` if another split drew the number first.
     fn draw(&self, pass: &mut Pass<T>) -> Option<Result<Pass<T>, SplitFault>>
         requires { pass.old.lock ≡ self.now.id }
         ensures given { pass.new ≡ record pass.old { known = pass.new.known } }

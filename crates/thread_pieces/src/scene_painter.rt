@@ -21,7 +21,7 @@ pub trait ScenePainter: Drop + Send {
     fn blank(alloc: Global) -> Result<Self, AllocError>;
 
     /// Paints a scene, of which it then has the image. It is made in at most the given number of parts, each by a
-    /// thread of its own where it can be started; where there is one part, none is started. An error means out of
+    /// thread of its own if it can be started; if there is one part, none is started. An error means out of
     /// memory.
     fn paint_scene<R: Threads + Sync>(
         &mut self,

@@ -12,9 +12,9 @@ pub(crate) struct Shared {
     /// Rung for the presenter after a piece was pushed, and for the compositor, which puts, after pieces were written.
     /// It is closed as the end mark.
     bell: Arc<Bell, Global>,
-    /// how many bytes the pieces are that were put and not written yet, with an image for each scene
+    /// How many bytes the pieces are that were put and not written yet, with an image for each scene.
     waiting: AtomicU64,
-    /// whether the presenter is taking pieces
+    /// Whether the presenter is taking pieces.
     serving: AtomicBool,
 }
 
@@ -70,7 +70,7 @@ impl Shared {
         self.bell.ring(Post::Compositor);
     }
 
-    /// Whether the presenter is taking pieces. Where it is not, nobody would make space.
+    /// Whether the presenter is taking pieces. If it is not, nobody would make space.
     pub(crate) fn is_serving(&self) -> bool {
         self.serving.load(Ordering::SeqCst)
     }

@@ -26,7 +26,7 @@ pub fn first_is_the_least()
     ensures { FirstIsOne }
 {}
 
-/// The evicted are the shortest prefix of the worst-first list that is enough, or the whole list where no
+/// The evicted are the shortest prefix of the worst-first list that is enough, or the whole list if no
 /// prefix is.
 pub fn evicted_keys_are_a_front()
     ensures { EvictedAreOne }
@@ -48,7 +48,7 @@ pub fn order_of_lists_is_free()
 {}
 
 /// A rank of a better bin has no fewer evictable tiles. So the rank that starts first is the least wanted one,
-/// where that one may start; where it may not, none may.
+/// if that one may start; if it may not, none may.
 pub fn the_least_wanted_is_first()
     ensures { LeastIsFirst }
 {}

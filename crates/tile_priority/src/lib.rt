@@ -1,8 +1,8 @@
 //! Which tile is worth its pixels first.
 //!
-//! Each tile of a tree has a bin: NOW where it is visible, else SOON or EVENTUALLY where it lies near the
+//! Each tile of a tree has a bin: NOW if it is visible, else SOON or EVENTUALLY if it lies near the
 //! viewport, else none. A tile with a bin has a rank, and ranks are totally ordered. Memory is a number of
-//! tiles, the budget. A tile that is not visible is made only where it fits in the budget, or where it fits
+//! tiles, the budget. A tile that is not visible is made only if it fits in the budget, or if it fits
 //! once ready tiles of worse bins are evicted, the worst of them first.
 //!
 //! The bins and the tree priorities are those of Chromium's `cc/tiles/tile_priority.h`. The order of ranks

@@ -20,7 +20,7 @@ pub enum Bin {
 }
 
 impl Bin {
-    // the place of the bin in the order
+    // The place of the bin in the order.
     fn number(self) -> u8
         ensures { result ≡ bin_number self }
     {
@@ -89,13 +89,13 @@ pub enum Side {
 /// the best.
 #[derive(Clone, Copy, PartialEq, Eq, Debug)]
 pub struct Rank {
-    /// how soon the tile is needed
+    /// How soon the tile is needed.
     pub bin: Bin,
-    /// 0 where the tree's tiles come first or both trees are alike, else 1
+    /// 0 if the tree's tiles come first or both trees are alike, else 1
     pub tree: u8,
-    /// how far the tile lies from the tree's viewport, in pixels
+    /// How far the tile lies from the tree's viewport, in pixels.
     pub distance: u32,
-    /// the key of the tile
+    /// The key of the tile.
     pub key: TileKey,
 }
 
@@ -139,7 +139,7 @@ impl PartialOrd for Rank {
     }
 }
 
-/// The better of two ranks, each of which may be missing; None exactly where both are missing.
+/// The better of two ranks, each of which may be missing; None exactly if both are missing.
 pub fn least(a: Option<Rank>, b: Option<Rank>) -> Option<Rank>
     ensures none { IsNone result ↔ (IsNone a × IsNone b) }
     ensures value { result ≡ ranks.least a b }

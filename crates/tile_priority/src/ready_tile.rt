@@ -8,11 +8,11 @@ use std::marker::Model;
 /// A rank that it has is of its key.
 #[derive(Clone, Copy, PartialEq, Eq, Debug)]
 pub struct ReadyTile {
-    /// the key of the tile
+    /// The key of the tile.
     pub key: TileKey,
-    /// its rank; None where it has no bin in either tree
+    /// Its rank; None if it has no bin in either tree.
     pub rank: Option<Rank>,
-    /// the tile was required when the active tree was activated, so it is never evicted
+    /// The tile was required when the active tree was activated, so it is never evicted.
     pub pinned: bool,
 }
 

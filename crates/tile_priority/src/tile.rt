@@ -13,24 +13,24 @@ use geom::{Rect, TileKey};
 /// By what the tiles of one tree are ranked.
 #[derive(Clone, Copy, PartialEq, Eq, Debug)]
 pub struct Borders {
-    /// the viewport of this tree, in screen pixels
+    /// The viewport of this tree, in screen pixels.
     pub viewport: Rect,
-    /// up to which distance a tile is SOON, in pixels
+    /// Up to which distance a tile is SOON, in pixels.
     pub soon: u32,
-    /// up to which distance a tile is EVENTUALLY, in pixels
+    /// Up to which distance a tile is EVENTUALLY, in pixels.
     pub eventually: u32,
-    /// which of the two trees comes first
+    /// Which of the two trees comes first.
     pub priority: TreePriority,
 }
 
 /// How a tile is seen in a tree.
 #[derive(Clone, Copy, PartialEq, Eq, Debug)]
 pub struct Seen {
-    /// the rect of the tile, in screen pixels
+    /// The rect of the tile, in screen pixels.
     pub screen: Rect,
-    /// the clip of its layer, cut by the viewport
+    /// The clip of its layer, cut by the viewport.
     pub clip: Rect,
-    /// no effect of its layer's chain has opacity 0
+    /// No effect of its layer's chain has opacity 0.
     pub draws: bool,
 }
 
@@ -44,7 +44,7 @@ pub fn is_visible(seen: &Seen) -> bool
     seen.draws && seen.screen.touches(seen.clip)
 }
 
-/// The rank of the tile with this key in the tree of this side; None exactly where the tile has no bin: it
+/// The rank of the tile with this key in the tree of this side; None exactly if the tile has no bin: it
 /// is not visible, and further from the viewport than the eventually border.
 pub fn rank_in(borders: &Borders, side: Side, seen: &Seen, key: TileKey) -> Option<Rank>
     requires viewport { IsSound borders.now.viewport }
@@ -68,7 +68,7 @@ pub fn rank_in(borders: &Borders, side: Side, seen: &Seen, key: TileKey) -> Opti
     })
 }
 
-// the bin of a tile that is not visible, by its distance to the viewport
+// The bin of a tile that is not visible, by its distance to the viewport.
 fn bin_at(borders: &Borders, distance: u32) -> Option<Bin>
     ensures { result ≡ bin_at borders.now distance }
 {
@@ -81,7 +81,7 @@ fn bin_at(borders: &Borders, distance: u32) -> Option<Bin>
     }
 }
 
-// 0 where the tiles of this tree come first or both trees are alike, else 1
+// 0 if the tiles of this tree come first or both trees are alike, else 1
 fn tree_number(priority: TreePriority, side: Side) -> u8
     ensures { result ≡ bins.tree_number priority side }
 {

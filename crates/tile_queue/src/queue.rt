@@ -101,7 +101,7 @@ impl RasterQueue {
         Ok(())
     }
 
-    /// The rank of the key that starts first; None exactly where no wanted key may start.
+    /// The rank of the key that starts first; None exactly if no wanted key may start.
     pub fn first_rank(&self) -> Option<Rank>
         ensures { result ≡ first_rank self.now }
     {
@@ -115,7 +115,7 @@ impl RasterQueue {
         }
     }
 
-    /// The key that starts first; None exactly where no wanted key may start.
+    /// The key that starts first; None exactly if no wanted key may start.
     pub fn first(&self) -> Option<TileKey>
         ensures key { result ≡ option_map (λ r. r.key) (first_rank self.now) }
         ensures none { IsNone result ↔ NoneStarts self.now }
@@ -149,7 +149,7 @@ impl RasterQueue {
     }
 
     /// A wanted key starts, and its evicted keys are dropped: it is wanted no more, they are ready
-    /// no more and wanted again where they have a rank, and one tile more is in flight. Takes no memory.
+    /// no more and wanted again if they have a rank, and one tile more is in flight. Takes no memory.
     pub fn started(&mut self, key: TileKey, evicted: &Keys)
         requires { MayStartWith self.old key evicted.now }
         ensures { Alike self.new (choice_after_start self.old key evicted.now) }
@@ -180,7 +180,7 @@ impl RasterQueue {
         (used + 1).saturating_sub(self.budget as usize)
     }
 
-    /// Whether a tile of this bin may start where it is wanted.
+    /// Whether a tile of this bin may start if it is wanted.
     pub fn may_start(&self, bin: Bin) -> bool
         ensures { (q : Ranking) → q.bin ≡ bin → result ≡ choosing.may_start self.now q }
     {

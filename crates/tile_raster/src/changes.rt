@@ -95,7 +95,7 @@ fn mark_patch(rows: &mut [bool], patch: &Patch)
     mark_row(rows, patch.bottom);
 }
 
-// Marks a row, where there is such a row.
+// Marks a row, if there is such a row.
 fn mark_row(rows: &mut [bool], y: usize)
     ensures { (k : ℕ) → slice_index_or rows.new k true ≡ false → (slice_index_or rows.old k true ≡ false) × (k ≢ y) }
 {

@@ -21,7 +21,7 @@ pub struct TileImage {
     // The fields keep this order in memory: what a draw reads stands first, beside the count of the `Arc` that holds
     // the picture, so that a small tile costs a draw one cache miss.
     //
-    // The colour of all pixels, where they have one.
+    // The colour of all pixels, if they have one.
     solid: Option<Colour>,
     // Whether all pixels are opaque.
     is_opaque: bool,
@@ -129,7 +129,7 @@ impl TileImage {
         self.rows.bytes.len()
     }
 
-    /// Whether another picture of the same rect keeps the same rows, or has the same one colour. Where it does not, the
+    /// Whether another picture of the same rect keeps the same rows, or has the same one colour. If it does not, the
     /// two may still show the same.
     pub fn has_same_rows(&self, other: &TileImage) -> bool
         requires { self.now.rect ≡ other.now.rect }
@@ -142,7 +142,7 @@ impl TileImage {
         }
     }
 
-    /// The colour of all pixels; None exactly where two of them differ. A picture without pixels answers
+    /// The colour of all pixels; None exactly if two of them differ. A picture without pixels answers
     /// the transparent colour.
     pub fn solid(&self) -> Option<Colour>
         ensures { MatchOption result (HasTwoColours self.now.list self.now.rect) (λ c. IsOneColour self.now.list self.now.rect c) }
@@ -150,7 +150,7 @@ impl TileImage {
         self.solid
     }
 
-    /// Whether all pixels are opaque; true where there is none. It is known, so that no pixel is read.
+    /// Whether all pixels are opaque; true if there is none. It is known, so that no pixel is read.
     pub fn is_opaque(&self) -> bool
         ensures yes { IsTrue result → AreAllOpaque self.now.list self.now.rect }
         ensures no { result ≡ false → HasTranslucentPixel self.now.list self.now.rect }

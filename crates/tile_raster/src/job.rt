@@ -12,11 +12,11 @@ use std::sync::Arc;
 /// The picture that is to be made: what a display list shows on the rect of a tile.
 #[derive(Drop)]
 pub struct Job {
-    /// the key of the tile
+    /// The key of the tile.
     pub key: TileKey,
-    /// what the layer shows
+    /// What the layer shows.
     pub list: Arc<DisplayList>,
-    /// the rect of the tile, in pixels of its layer
+    /// The rect of the tile, in pixels of its layer.
     pub rect: Rect,
 }
 

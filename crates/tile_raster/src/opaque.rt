@@ -37,7 +37,7 @@ fn is_opaque_row(row: &[u8]) -> bool
     least_alpha(row) == 255
 }
 
-// The least alpha of a row; 255 where there is no pixel.
+// The least alpha of a row; 255 if there is no pixel.
 fn least_alpha(row: &[u8]) -> u8
     ensures least { (k : ℕ) → k < length row.now / 4 → (result ≤ (pixel row.now k).a) × ((pixel row.now k).a ≤ 255) }
     ensures there { (result ≡ 255) ⊎ IsAlphaIn row.now result }

@@ -26,7 +26,7 @@ pub(crate) struct Patch {
     pub(crate) bottom: usize,
 }
 
-/// The parts of a picture that the items of a list cover; None where one of them is a bitmap.
+/// The parts of a picture that the items of a list cover; None if one of them is a bitmap.
 pub(crate) fn patches_of(
     alloc: Global,
     list: &DisplayList,
@@ -44,7 +44,7 @@ pub(crate) fn patches_of(
     Ok(Some(patches))
 }
 
-// Adds the part of a picture that an item covers, where it covers one; false where a bitmap does.
+// Adds the part of a picture that an item covers, if it covers one; false if a bitmap does.
 fn put_patch(patches: &mut Vec<Patch>, item: &Item, rect: Rect) -> Result<bool, AllocError>
     requires item { IsSoundItem item.now }
     requires rect { IsSound rect }
@@ -107,7 +107,7 @@ pub(crate) fn draw_patches(
     Ok(())
 }
 
-// Draws row y of a picture, of which the rows above are drawn: nothing where it has the place of the row above it.
+// Draws row y of a picture, of which the rows above are drawn: nothing if it has the place of the row above it.
 fn draw_row(
     _list: &DisplayList,
     rect: Rect,
@@ -189,7 +189,7 @@ fn put_spans(spans: &mut Vec<Span>, patches: &[Patch], y: usize) -> Result<(), A
     Ok(())
 }
 
-// Adds the span of a patch, where the patch has row y.
+// Adds the span of a patch, if the patch has row y.
 fn put_span(spans: &mut Vec<Span>, patch: &Patch, y: usize) -> Result<(), AllocError>
     ensures { OnOk result ((x : ℕ) → spans_show spans.new.items x ≡ patched x y (spans_show spans.old.items x) patch.now) }
 {

@@ -64,10 +64,10 @@ use std::alloc::{AllocError, Global};
 pub(crate) struct PictureRows {
     /// The bytes of the rows that are kept.
     pub(crate) bytes: Vec<u8>,
-    /// For each row of the picture the place of its bytes among the rows that are kept. None where one row is kept
+    /// For each row of the picture the place of its bytes among the rows that are kept. None if one row is kept
     /// for all.
     pub(crate) places: Vec<u32>,
-    /// For each row of the picture the row after the last that is kept as it. None where one row is kept for all.
+    /// For each row of the picture the row after the last that is kept as it. None if one row is kept for all.
     pub(crate) ends: Vec<u32>,
 }
 
@@ -87,7 +87,7 @@ pub(crate) fn kept_rows(
     }
 }
 
-// The rows of what the list shows on the rect, where patches show it.
+// The rows of what the list shows on the rect, if patches show it.
 fn rows_of_patches(
     alloc: Global,
     list: &DisplayList,
@@ -117,7 +117,7 @@ fn rows_of_items(alloc: Global, list: &DisplayList, rect: Rect) -> Result<Pictur
     with_ends(alloc, list, rect, places, bytes)
 }
 
-// The rows of a picture with these places and bytes; where one row is kept for all, it needs no places.
+// The rows of a picture with these places and bytes; if one row is kept for all, it needs no places.
 fn with_ends(
     alloc: Global,
     _list: &DisplayList,
@@ -146,7 +146,7 @@ fn with_ends(
     })
 }
 
-// The place of each row: that of the row above where the row is not marked, else the next.
+// The place of each row: that of the row above if the row is not marked, else the next.
 fn places_of(alloc: Global, changes: &[bool]) -> Result<Vec<u32>, AllocError>
     requires { length changes.now ≤ 2 ^ 29 }
     ensures { IfOk result (λ places. AreSteps (λ y. slice_index_or changes.now (y + 1) true ≡ false) (length changes.now) places.items) }

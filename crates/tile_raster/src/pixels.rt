@@ -22,7 +22,7 @@ pub(crate) fn row_at(bytes: &[u8], width: usize, place: usize) -> &[u8]
     &bytes[start..start + 4 * width]
 }
 
-/// The colour of all pixels of a picture; None where two differ, and the transparent colour where there is no pixel.
+/// The colour of all pixels of a picture; None if two differ, and the transparent colour if there is no pixel.
 pub(crate) fn one_colour(list: &DisplayList, rect: Rect, rows: &PictureRows) -> Option<Colour>
     requires sound { IsSound rect }
     requires kept { AreKept list.now rect rows.now.places.items rows.now.bytes.items }

@@ -27,7 +27,7 @@ pub(crate) fn room_for(alloc: Global, grid: Grid) -> Result<Vec<u32>, AllocError
     Vec::with_capacity(alloc, place_count(grid))
 }
 
-/// Gives each place a stamp of its own, where one stands for all. There is room: it takes no memory.
+/// Gives each place a stamp of its own, if one stands for all. There is room: it takes no memory.
 pub(crate) fn spread(stamps: &mut Vec<u32>, grid: Grid, base: u32)
     requires { IsKept grid stamps.old.items (vec_capacity stamps.old) }
     ensures whole { IsWhole grid stamps.new.items }
@@ -41,7 +41,7 @@ pub(crate) fn spread(stamps: &mut Vec<u32>, grid: Grid, base: u32)
     }
 }
 
-// The stamp of a place, 0 where the grid does not have it. While there are no stamps, `base` stands for all.
+// The stamp of a place, 0 if the grid does not have it. While there are no stamps, `base` stands for all.
 fn stamp_in(stamps: &[u32], base: u32, grid: Grid, place: Place) -> u32
     ensures { result ≡ slice_index (stamps_of grid base stamps.now) (index_of grid place) }
 {
@@ -90,7 +90,7 @@ pub(crate) fn stamp_rects(stamps: &mut Vec<u32>, grid: Grid, rects: &[Rect], sta
     }
 }
 
-// writes the stamp at the places that the rect touches
+// Writes the stamp at the places that the rect touches.
 #[tactic(auto, using(crate::proofs::Cells::rows_fit, crate::proofs::Cells::rect_written))]
 fn stamp_rect(stamps: &mut Vec<u32>, grid: Grid, rect: &Rect, stamp: u32)
     requires whole { IsWhole grid stamps.old.items }
@@ -102,7 +102,7 @@ fn stamp_rect(stamps: &mut Vec<u32>, grid: Grid, rect: &Rect, stamp: u32)
     stamp_block(stamps, grid.columns(), columns, rows, stamp);
 }
 
-// writes the stamp in these columns of these rows, where each row has `wide` stamps
+// Writes the stamp in these columns of these rows, if each row has `wide` stamps.
 #[tactic(auto, using(crate::proofs::Cells::row_behind))]
 fn stamp_block(stamps: &mut Vec<u32>, wide: u32, columns: IndexRange, rows: IndexRange, stamp: u32)
     requires few { wide ≤ 16384 }
@@ -120,7 +120,7 @@ fn stamp_block(stamps: &mut Vec<u32>, wide: u32, columns: IndexRange, rows: Inde
     }
 }
 
-// writes the stamp from one index on and below another
+// Writes the stamp from one index on and below another.
 fn stamp_row(stamps: &mut Vec<u32>, from: usize, to: usize, stamp: u32)
     requires ordered { from ≤ to }
     requires inside { to ≤ length stamps.old.items }

@@ -15,12 +15,12 @@ use std::marker::Model;
 /// The places of a layer, each with its stamp.
 pub struct Tiling {
     grid: Grid,
-    // how many columns that makes
+    // How many columns that makes.
     columns: u32,
-    // the stamp of every place, while `stamps` is empty
+    // The stamp of every place, while `stamps` is empty.
     base: u32,
-    // the stamp of each place, by row and then by column, once a part of the layer has changed; until then
-    // empty, with room for all
+    // The stamp of each place, by row and then by column, once a part of the layer has changed; until then
+    // empty, with room for all.
     stamps: Vec<u32>,
 }
 
@@ -114,7 +114,7 @@ impl Tiling {
         stamp_rects(&mut self.stamps, self.grid, rects, stamp);
     }
 
-    /// Gives this stamp to the places that the change's region touches, or to all where the layer changed
+    /// Gives this stamp to the places that the change's region touches, or to all if the layer changed
     /// whole. The others keep theirs.
     pub fn carry(&mut self, change: &LayerChange, stamp: u32)
         ensures { IsCarried self.old change.now stamp self.new }

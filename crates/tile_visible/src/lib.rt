@@ -1,7 +1,7 @@
 //! Which tiles of a page are seen at given offsets of its scrollers, where they stand on the screen, and
 //! their keys.
 //!
-//! A tile is visible where its screen rect, the clip of its layer and the viewport have a common pixel, if
+//! A tile is visible if its screen rect, the clip of its layer and the viewport have a common pixel, if
 //! no effect in the layer's chain is 0. Keys go by layer id, row and column, which is not the order in which
 //! layers are painted: [`by_id`] leads from one order to the other.
 #![tactic(auto)]

@@ -29,7 +29,7 @@ impl PixelFormat for Bgra {
     }
 }
 
-// Writes one pixel, where those before it are written.
+// Writes one pixel, if those before it are written.
 #[inline(always)]
 fn turn_pixel(bytes: &mut [u8], drawn: &[u8], place: usize)
     requires given { 4 * place + 4 ≤ length drawn.now }

@@ -19,7 +19,7 @@ use viz_render::Surfaces;
 use viz_scene::Scene;
 
 /// Makes surfaces ready for drawing what some rects cover of a scene in at most the given number of parts. They stay
-/// where they are enough, and of the scene's size and number of passes; else new ones are taken. An error means out of
+/// if they are enough, and of the scene's size and number of passes; else new ones are taken. An error means out of
 /// memory.
 pub(crate) fn prepare(
     alloc: Global,

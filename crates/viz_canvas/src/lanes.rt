@@ -30,7 +30,7 @@ pub(crate) fn pack_four(packed: &mut [u8], row: &[u8], place: usize)
     colours_first(pixels).copy_to_slice(&mut packed[3 * place..]);
 }
 
-/// How many pixels are packed at a time where that many are left.
+/// How many pixels are packed at a time if that many are left.
 pub(crate) const BLOCK: usize = 16;
 
 /// How many bytes they are written to.

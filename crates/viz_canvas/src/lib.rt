@@ -1,7 +1,7 @@
 //! Pictures of scenes, in the bytes that their reader wants.
 //!
 //! A canvas keeps one picture, in a pixel format: what a file or a window takes as it is. A scene is drawn onto it
-//! piece by piece. Where an opaque tile is seen, the rows of its image are written into the canvas's bytes; the other
+//! piece by piece. If an opaque tile is seen, the rows of its image are written into the canvas's bytes; the other
 //! pieces are drawn strip by strip: each strip into surfaces, and from there into those bytes, while it is in the
 //! processor's cache. Rows may be copied to other rows, as when a page was scrolled.
 //!

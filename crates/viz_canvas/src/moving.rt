@@ -106,7 +106,7 @@ fn move_area<F: PixelFormat>(bytes: &mut [u8], band: Band, at: Area, from: usize
     }
 }
 
-// Does so where the rows go up or stay, the first row first.
+// Does so if the rows go up or stay, the first row first.
 fn move_up<F: PixelFormat>(bytes: &mut [u8], band: Band, at: Area, from: usize)
     requires size { length bytes.old ≡ F.DEPTH * (band.across * band.rows) }
     requires inside { IsInside at band.across band.rows }
@@ -119,7 +119,7 @@ fn move_up<F: PixelFormat>(bytes: &mut [u8], band: Band, at: Area, from: usize)
     }
 }
 
-// Does so where the rows go down, the last row first.
+// Does so if the rows go down, the last row first.
 fn move_down<F: PixelFormat>(bytes: &mut [u8], band: Band, at: Area, from: usize)
     requires size { length bytes.old ≡ F.DEPTH * (band.across * band.rows) }
     requires inside { IsInside at band.across band.rows }

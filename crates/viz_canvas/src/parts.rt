@@ -30,7 +30,7 @@ pub(crate) fn pixels_of(at: Area) -> usize {
     at.w.saturating_mul(at.h)
 }
 
-// How many parts are worth a thread each where the given number of pixels of a scene are drawn.
+// How many parts are worth a thread each if the given number of pixels of a scene are drawn.
 fn parts_worth(scene: &Scene, pixels: usize) -> usize {
     pixels.saturating_mul(scene.passes().len()) / LEAST_PIXELS
 }
@@ -98,7 +98,7 @@ fn lower_of(band: Band, at: Area, rows: usize) -> BandArea
 }
 
 /// Draws the pixels of a scene in an area of the bytes of a band, in at most as many parts as there are surfaces, each
-/// by a thread of its own where it can be started; the other pixels stay.
+/// by a thread of its own if it can be started; the other pixels stay.
 #[cycle(halves)]
 pub(crate) fn draw_parts<R: Threads + Sync, F: PixelFormat + Sync>(
     rt: &R,

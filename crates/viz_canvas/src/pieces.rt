@@ -33,7 +33,7 @@ const LEAST_PIXELS: usize = 2048;
 const PIXELS_OF_VISIT: usize = 16;
 
 /// Draws the pixels of a scene in an area of a band of its picture, which counts its rows from the band's first; the
-/// other pixels stay. Where an opaque tile of the root pass is seen, its image's rows are written at once.
+/// other pixels stay. If an opaque tile of the root pass is seen, its image's rows are written at once.
 pub(crate) fn draw_area<F: PixelFormat>(
     scene: &Scene,
     bytes: &mut [u8],
@@ -251,7 +251,7 @@ fn is_outside(rect: Rect, area: Rect) -> bool
     }
 }
 
-// The part of an area that a tile or a solid covers, where it is worth a piece of its own.
+// The part of an area that a tile or a solid covers, if it is worth a piece of its own.
 fn large_part(quad: &Quad, area: Rect, quads: usize) -> Option<CoveredArea>
     requires area { IsSound area }
     requires quad { IsPlaced (quad_view quad.now) }

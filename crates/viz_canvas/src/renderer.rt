@@ -56,7 +56,7 @@ impl Renderer {
     }
 
     /// Draws as `draw_region` does, and each rect of the region that is large enough in at most the given number of
-    /// parts of whole rows, each by a thread of its own where it can be started. Where one part is enough, none is
+    /// parts of whole rows, each by a thread of its own if it can be started. If one part is enough, none is
     /// started.
     pub fn draw_region_in_parts<R: Threads + Sync, F: PixelFormat + Sync>(
         &mut self,

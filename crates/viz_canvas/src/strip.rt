@@ -22,14 +22,14 @@ use viz_scene::Scene;
 /// How many rows are marked at once: those of the tallest scene.
 const MOST_ROWS: usize = 2048;
 
-/// The least rows that are copied together from the row above them, where no quad has to be visited for a strip.
+/// The least rows that are copied together from the row above them, if no quad has to be visited for a strip.
 const LEAST_COPIES: usize = 4;
 
 /// How many pixels of a row are drawn in the time in which a quad is visited.
 const PIXELS_OF_VISIT: usize = 16;
 
 /// Draws the pixels of a scene in an area of a band of its picture, which counts its rows from the band's first; the
-/// other pixels stay. Each strip goes through surfaces; rows that show what the row above them shows are copied where
+/// other pixels stay. Each strip goes through surfaces; rows that show what the row above them shows are copied if
 /// that takes less time.
 pub(crate) fn draw_strips<F: PixelFormat>(
     scene: &Scene,
@@ -50,7 +50,7 @@ pub(crate) fn draw_strips<F: PixelFormat>(
     draw_rows::<F>(scene, bytes, place, surfaces, &fresh, copies);
 }
 
-// How many rows that are copied are worth a strip that ends above them; where strips are to be high, none are.
+// How many rows that are copied are worth a strip that ends above them; if strips are to be high, none are.
 fn copies_worth(scene: &Scene, surfaces: &Surfaces, width: usize) -> usize {
     if surfaces.are_masked() {
         return MOST_ROWS;
@@ -63,7 +63,7 @@ fn copies_worth(scene: &Scene, surfaces: &Surfaces, width: usize) -> usize {
     visits.saturating_add(LEAST_COPIES)
 }
 
-// Marks the rows of an area that may differ from the row above; all where they are too few for a copy.
+// Marks the rows of an area that may differ from the row above; all if they are too few for a copy.
 fn mark_rows(fresh: &mut [u8], scene: &Scene, band: Band, at: Area, copies: usize)
     requires inside { IsInside at scene.now.w band.rows }
     requires end { band.top + band.rows ≤ 2048 }
@@ -78,7 +78,7 @@ fn mark_rows(fresh: &mut [u8], scene: &Scene, band: Band, at: Area, copies: usiz
     mark_fresh(fresh, scene, rect_of(band, at, scene));
 }
 
-// Draws the rows of an area, and copies those without a mark where the given number or more of them follow one another.
+// Draws the rows of an area, and copies those without a mark if the given number or more of them follow one another.
 fn draw_rows<F: PixelFormat>(
     scene: &Scene,
     bytes: &mut [u8],

@@ -11,7 +11,7 @@ use viz_scene::{hull, is_empty};
 // How many rects damage is kept as at most.
 const MOST_RECTS: usize = 16;
 
-// The same where rows of tiles are added.
+// The same if rows of tiles are added.
 const MOST_ROWS: usize = 64;
 
 /// Adds an area to damage, unless a rect of it holds the area. It is joined with what it costs least to join

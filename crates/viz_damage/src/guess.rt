@@ -15,7 +15,7 @@ const PROBES: usize = 16;
 // The most quads of a scene of which rows are moved: of more, comparing them costs what drawing them does.
 const MOST_QUADS: usize = 2048;
 
-/// The rows of a scene that seem to stand in another scene of the same height, higher or lower; None where none do.
+/// The rows of a scene that seem to stand in another scene of the same height, higher or lower; None if none do.
 pub fn shift_of(old: &Scene, new: &Scene) -> Option<Shift>
     requires { old.now.h ≡ new.now.h }
     ensures { IfSome result (λ shift. IsShift new.now.h shift) }
@@ -41,7 +41,7 @@ fn count_of_quads(passes: &[RenderPass]) -> usize {
     count
 }
 
-// Whether the layers of tiles have bitmaps, whose bytes would be compared.
+// Whether the layers of tiles have bitmaps. Such lists do not tell that two tiles are equal: rows would be compared.
 fn show_bitmaps(passes: &[RenderPass]) -> bool {
     let mut last = None;
     for pass in passes {
@@ -82,7 +82,7 @@ fn shift_by(old: &Scene, new: &Scene, by: i32, height: u32) -> Option<Shift>
     shift_within(from, to, count_of(end.saturating_sub(top)), height)
 }
 
-// The given number of rows, from a row on and to a row; None where there are none or they are not a screen's.
+// The given number of rows, from a row on and to a row; None if there are none or they are not a screen's.
 fn shift_within(from: u32, to: u32, count: u32, height: u32) -> Option<Shift>
     ensures { IfSome result (λ shift. IsShift height shift) }
 {
@@ -95,12 +95,12 @@ fn shift_within(from: u32, to: u32, count: u32, height: u32) -> Option<Shift>
     Some(Shift { from, to, count })
 }
 
-// A number as a count; 0 where it is negative.
+// A number as a count; 0 if it is negative.
 fn count_of(n: i32) -> u32 {
     n.max(0) as u32
 }
 
-// How many rows lower a tile stands in the passes of another scene; None where none does.
+// How many rows lower a tile stands in the passes of another scene; None if none does.
 fn distance_of(old: &[RenderPass], new: &[RenderPass]) -> Option<i32> {
     for pass in 0..old.len().min(new.len()) {
         let by = distance_in(old[pass].quads.as_slice(), new[pass].quads.as_slice());
@@ -111,7 +111,7 @@ fn distance_of(old: &[RenderPass], new: &[RenderPass]) -> Option<i32> {
     None
 }
 
-// How many rows lower a tile stands in another pass; 0 where none stands lower or higher.
+// How many rows lower a tile stands in another pass; 0 if none stands lower or higher.
 fn distance_in(old: &[Quad], new: &[Quad]) -> i32 {
     for probe in 0..PROBES {
         let place = old.len() * probe / PROBES;
@@ -125,7 +125,7 @@ fn distance_in(old: &[Quad], new: &[Quad]) -> i32 {
     0
 }
 
-// How many rows lower a tile stands in another pass; 0 where it is not there.
+// How many rows lower a tile stands in another pass; 0 if it is not there.
 fn distance_from(quad: &Quad, place: usize, new: &[Quad]) -> i32 {
     match quad {
         Quad::Tile { image, at, from } => {

@@ -11,9 +11,9 @@
 //! source, the new one is cut to the same rows, and their damage is taken. How far a page was scrolled is guessed by
 //! a few tiles; a guess that is wrong costs a larger region.
 //!
-//! In: two scenes of one size. Out: a region, and the rows that are copied. Time grows with the number of quads, and
-//! with the items of the display lists of tiles that stand in both scenes; the bytes of bitmaps are read if they lie
-//! in a tile. Scenes that differ in their number of passes or their background are damaged as a whole.
+//! In: two scenes of one size. Out: a region, and the rows that are copied. Time grows with the number of quads,
+//! with the items of the display lists of tiles that stand in both scenes, and with the bytes of those tiles that have
+//! bitmaps. Scenes that differ in their number of passes or their background are damaged as a whole.
 #![tactic(auto)]
 
 mod areas;

@@ -17,10 +17,10 @@ use viz_scene::Quad;
 // How far ahead a quad is looked for that stands in both lists.
 const MOST_AHEAD: usize = 64;
 
-// The same where both quads are rects of one colour: once they have moved, none represents another.
+// The same if both quads are rects of one colour: once they have moved, none represents another.
 const FEW_AHEAD: usize = 4;
 
-/// Adds to damage where two lists of quads differ, where the passes before them have these reaches.
+/// Adds to damage where two lists of quads differ, if the passes before them have these reaches.
 pub(crate) fn add_changes(
     old: &[Quad],
     new: &[Quad],

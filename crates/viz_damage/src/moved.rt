@@ -1,4 +1,4 @@
-//! What changes where one quad stands in the place of another: of a tile that moved up or down, the rows alone that
+//! What changes when one quad stands in the place of another: of a tile that moved up or down, the rows alone that
 //! differ from those that were there.
 
 ghost use Rattle.std.specs.Prelude.{◌≡◌, ℕ, ◌+◌, ◌<◌, ◌≤◌, ℤ, pos, ◌+ℤ◌, ◌-ℤ◌, ◌≤ℤ◌, ◌∷◌, [], All, length, OnOk, IsTrue, ◌^◌};
@@ -23,7 +23,7 @@ use viz_scene::Quad;
 // The least width and height of an image whose rows are looked at.
 const LEAST_SIDE: i32 = 64;
 
-/// Adds to damage where a quad differs from the one in whose place it stands, where the passes before them have these
+/// Adds to damage where a quad differs from the one in whose place it stands, if the passes before them have these
 /// reaches.
 pub(crate) fn add_change(
     old: &Quad,
@@ -141,7 +141,7 @@ struct CommonRows {
     last: i32,
 }
 
-// The rows that two areas have, one of them or both; where they have none in common, `top` and `end` are one row.
+// The rows that two areas have, one of them or both; if they have none in common, `top` and `end` are one row.
 fn common_rows(a: Rect, b: Rect) -> CommonRows
     requires one { IsOnScreen a }
     requires other { IsOnScreen b }
@@ -291,7 +291,7 @@ fn add_bands(
     Ok(())
 }
 
-// The row after the given number of rows from a row on, or the end where that comes first.
+// The row after the given number of rows from a row on, or the end if that comes first.
 fn row_after(done: u32, rows: u32, end: u32) -> u32
     requires inside { done < end }
     requires some { 1 ≤ rows }

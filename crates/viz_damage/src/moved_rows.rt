@@ -23,7 +23,7 @@ pub(crate) struct MovedRows {
     pub(crate) end: i32,
 }
 
-/// What is left of a quad once it is moved and cut; None where nothing is. An error means out of memory.
+/// What is left of a quad once it is moved and cut; None if nothing is. An error means out of memory.
 pub(crate) fn moved_quad(quad: &Quad, cut: MovedRows) -> Result<Option<Quad>, AllocError>
     requires cut { IsCut cut.by cut.top cut.end }
     requires shown { IsShown (quad_view quad.now) }
@@ -92,7 +92,7 @@ fn start_row(from: i32, at: i32, by: i32, row: i32) -> i32
     from + (row - (at + by))
 }
 
-// What of a rect lies between the rows once it is moved; None where nothing does.
+// What of a rect lies between the rows once it is moved; None if nothing does.
 fn rest_of(at: Rect, cut: MovedRows) -> Option<Rect>
     requires cut { IsCut cut.by cut.top cut.end }
     requires at { IsOnScreen at }

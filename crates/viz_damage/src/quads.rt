@@ -77,7 +77,7 @@ pub(crate) fn stand_for_one(a: &Quad, b: &Quad) -> bool {
     }
 }
 
-/// The area that a quad acts on, where the passes have these reaches.
+/// The area that a quad acts on, if the passes have these reaches.
 pub(crate) fn area_of(quad: &Quad, reaches: &[Rect]) -> Rect
     requires fits { QuadFits 2048 2048 (length reaches.now) (quad_view quad.now) }
     requires reaches { All IsOnScreen reaches.now }

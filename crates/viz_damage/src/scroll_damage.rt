@@ -12,7 +12,7 @@ use region::Region;
 use std::alloc::{AllocError, Global};
 use viz_scene::Scene;
 
-/// The damage that is left where rows of a frame that shows one scene went to other rows, and it is to show
+/// The damage that is left if rows of a frame that shows one scene went to other rows, and it is to show
 /// another scene of the same size. An error means out of memory.
 pub fn damage_of_shift(
     alloc: Global,

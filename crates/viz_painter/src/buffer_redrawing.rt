@@ -39,7 +39,7 @@ pub(crate) fn begin_in<F: PixelFormat>(
     Ok((next, left))
 }
 
-// what is left to draw of a scene; where the buffer shows one of the same size, that is the damage or less
+// What is left to draw of a scene; where the buffer shows one of the same size, that is the damage or less.
 #[tactic(auto, using(crate::proofs::RedrawnIn::nothing_in, crate::proofs::RedrawnIn::gaps_same))]
 fn left_in<F: PixelFormat>(
     alloc: Global,
@@ -65,7 +65,7 @@ fn left_in<F: PixelFormat>(
     }
 }
 
-// what is left to draw where the buffer shows a scene of the same size; its rows are moved
+// What is left to draw if the buffer shows a scene of the same size; its rows are moved.
 #[tactic(auto, using(crate::proofs::RedrawnIn::gaps_same))]
 fn left_of_change_in<F: PixelFormat>(
     alloc: Global,
@@ -87,7 +87,7 @@ fn left_of_change_in<F: PixelFormat>(
     Ok(left)
 }
 
-// moves the rows of a picture of a scene's size in a buffer
+// Moves the rows of a picture of a scene's size in a buffer.
 #[tactic(auto, using(crate::proofs::RedrawnIn::gaps_same))]
 fn move_rows_in<F: PixelFormat>(
     scene: &Scene,

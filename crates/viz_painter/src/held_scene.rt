@@ -49,7 +49,7 @@ impl HeldScene {
         Ok(HeldScene { scene, culled })
     }
 
-    // the scene with its hidden quads
+    // The scene with its hidden quads.
     fn scene(&self) -> &Scene
         ensures value { result.now ≡ self.now.scene }
         ensures culled { IsCulled self.now.scene self.now.culled }

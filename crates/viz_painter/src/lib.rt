@@ -1,7 +1,7 @@
-//! Drawing scenes one after another onto one picture, where only what changed is drawn again.
+//! Drawing scenes one after another onto one picture, of which only what changed is drawn again.
 //!
-//! A painter holds the scene that its canvas shows. Where the new scene is the held one, nothing is done. Else
-//! its hidden quads are left out, it is compared with the held one, and the damage alone is drawn. Where no
+//! A painter holds the scene that its canvas shows. If the new scene is the held one, nothing is done. Else
+//! its hidden quads are left out, it is compared with the held one, and the damage alone is drawn. If no
 //! scene is held, or one of another size, the whole is drawn. One thread draws, or several do, each a part of the
 //! rows.
 //!

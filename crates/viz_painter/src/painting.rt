@@ -20,9 +20,9 @@ use viz_scene::Scene;
 pub struct Painter<F: PixelFormat> {
     alloc: Global,
     canvas: Canvas<F>,
-    // the scene that the canvas shows; None at first and after a refusal
+    // The scene that the canvas shows; None at first and after a refusal.
     held: Option<HeldScene>,
-    // where the last drawing may have changed the canvas
+    // Where the last drawing may have changed the canvas.
     damage: Region,
 }
 
@@ -84,9 +84,9 @@ impl<F: PixelFormat> Painter<F> {
         self.damage.rects()
     }
 
-    /// Draws a scene: the canvas then has the scene's size and pixels. Where the painter holds that scene,
-    /// nothing is drawn; where it holds another one of that size, only the damage is; else the whole is, onto
-    /// a new canvas where the size differs. An error means out of memory: the painter then holds no scene, and the
+    /// Draws a scene: the canvas then has the scene's size and pixels. If the painter holds that scene,
+    /// nothing is drawn; if it holds another one of that size, only the damage is; else the whole is, onto
+    /// a new canvas if the size differs. An error means out of memory: the painter then holds no scene, and the
     /// next one is drawn whole.
     #[tactic(auto, using(crate::proofs::Redrawn::held_shown, crate::proofs::Redrawn::kept_itself))]
     pub fn paint(&mut self, scene: Scene) -> Result<(), AllocError>
@@ -102,7 +102,7 @@ impl<F: PixelFormat> Painter<F> {
         self.draw(scene)
     }
 
-    /// Draws a scene of which the canvas shows all but a region already, as where its maker knows what has changed: no
+    /// Draws a scene of which the canvas shows all but a region already, as when its maker knows what has changed: no
     /// scene is compared, and the region alone is drawn, which is then the damage. An error means out of memory: the
     /// painter then holds no scene, and the next one is drawn whole.
     #[tactic(auto, using(crate::proofs::Redrawn::redrawn, crate::proofs::Redrawn::kept_outside))]
@@ -140,8 +140,8 @@ impl<F: PixelFormat> Painter<F> {
 }
 
 impl<F: PixelFormat + Sync> Painter<F> {
-    /// Draws a scene as `paint` does, in at most the given number of parts, each by a thread of its own where
-    /// it can be started. Where there is one part, none is started.
+    /// Draws a scene as `paint` does, in at most the given number of parts, each by a thread of its own if
+    /// it can be started. If there is one part, none is started.
     #[tactic(auto, using(crate::proofs::Redrawn::held_shown, crate::proofs::Redrawn::kept_itself))]
     pub fn paint_in_parts<R: Threads + Sync>(
         &mut self,

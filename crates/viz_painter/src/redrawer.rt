@@ -20,14 +20,14 @@ use viz_scene::Scene;
 ///
 /// The picture has the size of the scene. The buffer has a row of `across` pixels for each row of the scene: those of
 /// the picture, and after them a gap, which may be empty and keeps its bytes. A redrawer holds the scene that it drew
-/// last, and takes it that the buffer still shows it: [`forget`](Redrawer::forget) tells it otherwise, as where the
+/// last, and takes it that the buffer still shows it: [`forget`](Redrawer::forget) tells it otherwise, as when the
 /// buffer is another one.
 pub struct Redrawer<F: PixelFormat> {
     alloc: Global,
     renderer: Renderer,
-    // the scene that the picture shows
+    // The scene that the picture shows.
     held: Option<HeldScene>,
-    // where the last drawing may have changed the picture
+    // Where the last drawing may have changed the picture.
     damage: Region,
     format: PhantomData<F>,
 }
@@ -85,8 +85,8 @@ impl<F: PixelFormat> Redrawer<F> {
         self.damage.rects()
     }
 
-    /// Draws a scene: the picture then has the scene's pixels. Where the redrawer holds that scene, nothing is drawn;
-    /// where it holds another one of that size, only the damage is; else the whole is. An error means out of memory:
+    /// Draws a scene: the picture then has the scene's pixels. If the redrawer holds that scene, nothing is drawn;
+    /// if it holds another one of that size, only the damage is; else the whole is. An error means out of memory:
     /// the picture may then show a part of the scene, the redrawer holds none, and the next one is drawn whole.
     #[tactic(auto, using(crate::proofs::RedrawnIn::held_in, crate::proofs::RedrawnIn::kept_same, crate::proofs::RedrawnIn::gaps_same))]
     pub fn paint(&mut self, scene: Scene, bytes: &mut [u8], across: usize) -> Result<(), AllocError>
@@ -106,7 +106,7 @@ impl<F: PixelFormat> Redrawer<F> {
         self.draw(scene, bytes, across)
     }
 
-    /// Draws a scene of which the picture shows all but a region already, as where its maker knows what has changed: no
+    /// Draws a scene of which the picture shows all but a region already, as when its maker knows what has changed: no
     /// scene is compared, and the region alone is drawn, which is then the damage. An error means out of memory: the
     /// redrawer then holds no scene, and the next one is drawn whole.
     #[tactic(auto, using(crate::proofs::RedrawnIn::rows_culled, crate::proofs::RedrawnIn::within_drawn, crate::proofs::RedrawnIn::within_shown, crate::proofs::RedrawnIn::within_kept, crate::proofs::RedrawnIn::gaps_drawn, crate::proofs::RedrawnIn::gaps_same))]
@@ -159,8 +159,8 @@ impl<F: PixelFormat> Redrawer<F> {
 }
 
 impl<F: PixelFormat + Sync> Redrawer<F> {
-    /// Draws a scene as `paint` does, in at most the given number of parts, each by a thread of its own where it can be
-    /// started. Where there is one part, none is started.
+    /// Draws a scene as `paint` does, in at most the given number of parts, each by a thread of its own if it can be
+    /// started. If there is one part, none is started.
     #[tactic(auto, using(crate::proofs::RedrawnIn::held_in, crate::proofs::RedrawnIn::kept_same, crate::proofs::RedrawnIn::gaps_same))]
     pub fn paint_in_parts<R: Threads + Sync>(
         &mut self,

@@ -52,7 +52,7 @@ pub(crate) fn begin_within<F: PixelFormat>(
     HeldScene::new(alloc, scene)
 }
 
-// what is left to draw of a scene; where the canvas shows one of the same size, that is the damage or less
+// What is left to draw of a scene; where the canvas shows one of the same size, that is the damage or less.
 fn left_of<F: PixelFormat>(
     alloc: Global,
     canvas: &mut Canvas<F>,
@@ -79,7 +79,7 @@ pub(crate) fn are_of_one_size(a: &Scene, b: &Scene) -> bool
     a.w() == b.w() && a.h() == b.h()
 }
 
-// the whole of a scene, for which the canvas is made to fit
+// The whole of a scene, for which the canvas is made to fit.
 fn left_of_whole<F: PixelFormat>(
     alloc: Global,
     canvas: &mut Canvas<F>,
@@ -93,7 +93,7 @@ fn left_of_whole<F: PixelFormat>(
     Ok(left)
 }
 
-// takes a new canvas where the old one is not of a scene's size
+// Takes a new canvas where the old one is not of a scene's size.
 fn fit<F: PixelFormat>(
     alloc: Global,
     canvas: &mut Canvas<F>,
@@ -109,7 +109,7 @@ fn fit<F: PixelFormat>(
     Ok(())
 }
 
-// what is left to draw where the canvas shows a scene of the same size; its rows are moved
+// What is left to draw where the canvas shows a scene of the same size; its rows are moved.
 fn left_of_change<F: PixelFormat>(
     alloc: Global,
     canvas: &mut Canvas<F>,
@@ -127,7 +127,7 @@ fn left_of_change<F: PixelFormat>(
     Ok(left)
 }
 
-// moves the rows of a canvas
+// Moves the rows of a canvas.
 fn move_rows<F: PixelFormat>(canvas: &mut Canvas<F>, moved: &Option<MovedRows>)
     requires { IfSome moved.now (λ rows. IsShift canvas.old.h rows.shift) }
     ensures size { IsOfSize canvas.old.w canvas.old.h canvas.new }

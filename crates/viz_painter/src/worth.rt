@@ -13,12 +13,12 @@ pub(crate) fn pays(shift: Shift, width: u32, rest: &Region, damage: &Region) -> 
     moving_cost(shift, width).saturating_add(pixels_of(rest)) <= pixels_of(damage)
 }
 
-// what moving the rows of a shift costs, in pixels that are drawn
+// What moving the rows of a shift costs, in pixels that are drawn.
 fn moving_cost(shift: Shift, width: u32) -> u64 {
     (shift.count as u64).saturating_mul(width as u64) / 2
 }
 
-// how many pixels the rects of a region have, where they do not overlap
+// How many pixels the rects of a region have, if they do not overlap.
 fn pixels_of(region: &Region) -> u64 {
     let mut pixels = 0u64;
     for rect in region.rects() {

@@ -9,7 +9,7 @@ use pixel::Colour;
 use std::alloc::AllocError;
 use viz_scene::Quad;
 
-/// Adds a quad after others, as part of the last ones where they are together one rect of one colour. An
+/// Adds a quad after others, as part of the last ones if they are together one rect of one colour. An
 /// error means out of memory.
 pub(crate) fn add_quad(quads: &mut Vec<Quad>, quad: Quad) -> Result<(), AllocError>
     ensures { OnOk result (ActAs (quads_view quads.new.items) (quads_view quads.old.items ++ quad_view quad ∷ [])) }

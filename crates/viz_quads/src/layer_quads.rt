@@ -35,7 +35,7 @@ pub(crate) struct LayerSpot {
     by: Point,
     // The part of the viewport that its clip lets through.
     clip: Rect,
-    // What is drawn where a tile is missing.
+    // What is drawn if a tile is missing.
     colour: Colour,
 }
 
@@ -88,7 +88,7 @@ fn corner(part: Rect, whole: Rect) -> Point
     Point { x, y }
 }
 
-// The part of an image from a pixel on, as a plain rect where the image has one colour.
+// The part of an image from a pixel on, as a plain rect if the image has one colour.
 #[tactic(auto, using(crate::proofs::Acts::act_plain, crate::proofs::Acts::act_same))]
 fn part_of(image: &Arc<TileImage>, at: Rect, from: Point) -> Result<Quad, AllocError>
     ensures { IfOk result (λ quad. ActAs (quad_view quad ∷ []) (tiled image.now.value at from ∷ [])) }
@@ -102,7 +102,7 @@ fn part_of(image: &Arc<TileImage>, at: Rect, from: Point) -> Result<Quad, AllocE
     }
 }
 
-// The part of a tile that is drawn, or the layer's colour there where the tile is missing.
+// The part of a tile that is drawn, or the layer's colour there if the tile is missing.
 #[tactic(auto, using(crate::proofs::Acts::act_same))]
 fn quad_of(spot: &LayerSpot, shown: &ShownTile) -> Result<Quad, AllocError>
     requires { IsTrue (has spot.now.grid (place_of_tile (tile_of shown.now))) }

@@ -1,7 +1,7 @@
 //! Scenes of pages: what a page shows at given offsets of its scrollers, as passes of quads.
 //!
 //! A scene is made of a page and of the tiles that it shows there, each with its image or without one. Each
-//! tile is a quad of its layer, but neighbours of one colour are one quad where they make a rect. A layer is
+//! tile is a quad of its layer, but neighbours of one colour are one quad if they make a rect. A layer is
 //! drawn in the groups that its effects below 255 make: each group is a pass, which stands before the pass
 //! that draws it. No pixel is copied: a scene shares the images. Its pixels are the direct painting of the
 //! page, with the tiles without an image as missing.

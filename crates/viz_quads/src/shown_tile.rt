@@ -4,7 +4,7 @@ use geom::TileKey;
 use std::sync::Arc;
 use tile_raster::TileImage;
 
-/// A tile that a page shows, with its image, or without one where the tile is missing.
+/// A tile that a page shows, with its image, or without one if the tile is missing.
 #[derive(Drop)]
 pub struct ShownTile {
     /// The tile's key.

@@ -19,7 +19,7 @@ use page_display_list::shared_part;
 use pixel::Area;
 use viz_scene::Quad;
 
-/// Columns and rows of an area, counted from its top left corner; none where an end is not after its start.
+/// Columns and rows of an area, counted from its top left corner; none if an end is not after its start.
 #[derive(Clone, Copy)]
 pub(crate) struct Hull {
     pub(crate) left: usize,

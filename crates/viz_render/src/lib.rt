@@ -4,8 +4,8 @@
 //! which serves for every strip and every scene of that width and number of passes, so the memory grows with the
 //! number of passes and the width, and not with the height. Passes are drawn in order, the root last. Of a strip a
 //! pass before the root draws only the part that its quads lie in; elsewhere it is transparent, and costs nothing.
-//! Where quads lie deep above one another, a mask tells which blocks of the strip a later opaque quad hides: there
-//! neither the background nor the quads below it are drawn. Where such quads of the root lie over all its groups, the
+//! If quads lie deep above one another, a mask tells which blocks of the strip a later opaque quad hides: there
+//! neither the background nor the quads below it are drawn. If such quads of the root lie over all its groups, the
 //! passes before the root are not drawn either.
 //!
 //! In: a scene and an area of the screen. Out: the area's pixels, red, green, blue and alpha of each. `viz_canvas`

@@ -194,7 +194,7 @@ fn mark_joint(tops: &mut [usize], image: &TileImage, part: CoveredArea, down: us
     }
 }
 
-// Marks a block where a part of an image is opaque on it.
+// Marks a block if a part of an image is opaque on it.
 fn mark_over_bands(
     tops: &mut [usize],
     image: &TileImage,
@@ -283,7 +283,7 @@ fn mark_row(tops: &mut [usize], at: Area, row: &[u8], from: usize, number: usize
     }
 }
 
-// Marks the blocks of sixteen columns that an area has whole, where the pixels of a row are opaque.
+// Marks the blocks of sixteen columns that an area has whole, if the pixels of a row are opaque.
 fn mark_opaque(tops: &mut [usize], at: Area, block: usize, row: &[u8], from: usize, number: usize)
     requires tops { length tops.old ≡ block_count }
     requires wide { at.x + at.w ≤ 2048 }
@@ -303,7 +303,7 @@ fn mark_opaque(tops: &mut [usize], at: Area, block: usize, row: &[u8], from: usi
     }
 }
 
-// Marks the blocks of a rect of one colour, where it is opaque.
+// Marks the blocks of a rect of one colour, if it is opaque.
 fn mark_solid(tops: &mut [usize], area: Rect, at: Rect, colour: Colour, number: usize)
     requires tops { length tops.old ≡ block_count }
     requires area { IsStrip area }
@@ -332,7 +332,7 @@ fn mark_all(tops: &mut [usize], at: Area, number: usize)
     }
 }
 
-// Marks the blocks of sixteen columns that an area has whole, where they have no mark.
+// Marks the blocks of sixteen columns that an area has whole, if they have no mark.
 fn mark_block(tops: &mut [usize], at: Area, block: usize, number: usize)
     requires tops { length tops.old ≡ block_count }
     requires block { block < 128 }
@@ -345,7 +345,7 @@ fn mark_block(tops: &mut [usize], at: Area, block: usize, number: usize)
     }
 }
 
-// Marks one block, where it has no mark.
+// Marks one block, if it has no mark.
 fn mark_one(tops: &mut [usize], place: usize, number: usize)
     requires place { place < length tops.old }
     ensures size { length tops.new ≡ length tops.old }

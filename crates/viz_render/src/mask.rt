@@ -24,7 +24,7 @@ const PIXELS_OF_BLOCK: i32 = 128;
 const DEPTH: i32 = 3;
 
 /// For each block of sixteen columns and eight rows of an area, which quad is the first that has to be drawn there, as
-/// it is opaque on the whole block: its number, counted from 1, or 0 where all have to be, and the background.
+/// it is opaque on the whole block: its number, counted from 1, or 0 if all have to be, and the background.
 #[derive(Drop)]
 pub(crate) struct Mask {
     tops: Vec<usize>,
@@ -100,7 +100,7 @@ impl Mask {
         }
     }
 
-    /// Marks what the opaque ones of a pass's quads hide of an area, where that pays. The passes before it have
+    /// Marks what the opaque ones of a pass's quads hide of an area, if that pays. The passes before it have
     /// surfaces.
     pub(crate) fn mark(&mut self, area: Rect, quads: &[Quad], passes: &[Surface])
         requires area { IsStrip area }
@@ -156,7 +156,7 @@ impl Mask {
     }
 }
 
-// The highest number of a mask after it was made for some quads of an area, or cleared where it does not pay; none
+// The highest number of a mask after it was made for some quads of an area, or cleared if it does not pay; none
 // was above `highest` before.
 fn marked(
     tops: &mut [usize],
@@ -256,7 +256,7 @@ fn hide_blocks(tops: &mut [usize], root: &[usize], last: usize, number: usize)
     }
 }
 
-// Gives a block this number where that of the root's mask is above `last`, else 0.
+// Gives a block this number if that of the root's mask is above `last`, else 0.
 fn hide_block(tops: &mut [usize], place: usize, top: usize, last: usize, number: usize)
     requires place { place < length tops.old }
     ensures size { length tops.new ≡ length tops.old }

@@ -173,7 +173,7 @@ fn columns_before(block: usize, from: usize, end: usize) -> usize
     (16 * block).min(end).saturating_sub(from)
 }
 
-// The first place from `first` to before `end` with a number up to the given one; `end` where there is none.
+// The first place from `first` to before `end` with a number up to the given one; `end` if there is none.
 #[inline(always)]
 fn hidden_until(tops: &[usize], first: usize, end: usize, number: usize) -> usize
     requires order { first ≤ end }
@@ -190,7 +190,7 @@ fn hidden_until(tops: &[usize], first: usize, end: usize, number: usize) -> usiz
     place
 }
 
-// The first place from `first` to before `end` with a number above the given one; `end` where there is none.
+// The first place from `first` to before `end` with a number above the given one; `end` if there is none.
 #[inline(always)]
 fn seen_until(tops: &[usize], first: usize, end: usize, number: usize) -> usize
     requires order { first ≤ end }

@@ -7,7 +7,7 @@ ghost use Rattle.viz_render.specs.inner.Shown.{IsGroup, HaveNoGroup};
 
 use viz_scene::Quad;
 
-/// The number of the last group among some quads, counted from 1; 0 where there is none. There are surfaces for the
+/// The number of the last group among some quads, counted from 1; 0 if there is none. There are surfaces for the
 /// given number of passes.
 pub(crate) fn last_group(quads: &[Quad], passes: usize) -> usize
     requires { All (CanBeDrawn passes) (quads_view quads.now) }

@@ -123,7 +123,7 @@ impl Surfaces {
     }
 }
 
-// How many rows a strip has where the given number of surfaces of this width are drawn.
+// How many rows a strip has if the given number of surfaces of this width are drawn.
 fn rows_of_strip(width: usize, surfaces: usize) -> usize
     requires width { 1 ≤ width }
     requires narrow { width ≤ 2048 }

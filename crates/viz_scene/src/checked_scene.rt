@@ -52,8 +52,8 @@ fn is_side(n: u32) -> bool
     1 <= n && n <= 2048
 }
 
-/// The scene of these passes, inner ones first, with sides in pixels. None where the sides are not from 1 to
-/// 2048, where there is no pass, or where a quad may not stand in its pass.
+/// The scene of these passes, inner ones first, with sides in pixels. None if the sides are not from 1 to
+/// 2048, if there is no pass, or if a quad may not stand in its pass.
 pub fn scene_of(w: u32, h: u32, background: Colour, passes: Vec<RenderPass>) -> Option<Scene>
     ensures { MatchOption result
         (IsScene (record { w = w; h = h; background = background; passes = passes_view passes.items }) → ⊥)

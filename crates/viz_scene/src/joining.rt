@@ -9,7 +9,7 @@ ghost use Rattle.viz_scene.specs.inner.Boths;
 use crate::empty::is_empty;
 use geom::Rect;
 
-/// The least rect that holds two others; the other one where one has no point.
+/// The least rect that holds two others; the other one if one has no point.
 pub fn hull(a: Rect, b: Rect) -> Rect
     requires first { IsOnScreen a }
     requires second { IsOnScreen b }
@@ -26,7 +26,7 @@ pub fn hull(a: Rect, b: Rect) -> Rect
     rect_of_both(a, b)
 }
 
-/// The union of two rects, where they have the same rows or the same columns and no gap lies between them; None
+/// The union of two rects, if they have the same rows or the same columns and no gap lies between them; None
 /// exactly elsewhere.
 pub fn union_of(a: Rect, b: Rect) -> Option<Rect>
     requires first { IsOnScreen a }

@@ -2,7 +2,7 @@
 
 ghost use Rattle.viz_scene.specs.Laws.{RootIsTheLastPass, HiddenQuadsDoNotShow};
 
-/// The pixels of a scene are its last pass over its background, where groups have the colours of the passes
+/// The pixels of a scene are its last pass over its background, if groups have the colours of the passes
 /// before it.
 pub fn root_is_the_last_pass()
     ensures { RootIsTheLastPass }

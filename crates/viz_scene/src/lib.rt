@@ -5,7 +5,7 @@
 //! quad lies on the screen and in its image, and whether a group is of an earlier pass.
 //!
 //! Beside it stand two calls on rects of a screen: the rect that holds two others, by which damage joins rects,
-//! and the union of two where that is a rect, by which the area grows that opaque quads hide.
+//! and the union of two if that is a rect, by which the area grows that opaque quads hide.
 #![tactic(auto)]
 
 mod checked_quads;

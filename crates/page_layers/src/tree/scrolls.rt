@@ -84,7 +84,7 @@ fn gap(new: i32, old: i32) -> i32
 }
 
 impl LayerTree {
-    /// The main value of a scroller; (0, 0) where the tree has no such scroller.
+    /// The main value of a scroller; (0, 0) if the tree has no such scroller.
     pub fn value(&self, id: u32) -> Point
         ensures value { result ≡ main_point self.now id }
         ensures in_range { IsOffset result }

@@ -8,7 +8,7 @@ use super::field::Field;
 use script_fields::texts;
 use std::alloc::AllocError;
 
-/// Adds a comma, where something stands before.
+/// Adds a comma, if something stands before.
 pub(crate) fn push_comma(text: &mut Vec<u8>, later: bool) -> Result<(), AllocError>
     ensures { OnOk result (text.new.items ≡ text.old.items ++ comma_if later) }
 {

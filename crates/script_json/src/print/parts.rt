@@ -92,7 +92,7 @@ fn push_tail(text: &mut Vec<u8>, parts: &ScriptParts) -> Result<(), AllocError>
     )
 }
 
-/// The canonical text of a script's parts: one line without a newline, which reads back as the script where the
+/// The canonical text of a script's parts: one line without a newline, which reads back as the script if the
 /// parts are in the format's ranges.
 pub(crate) fn print_parts(alloc: Global, parts: &ScriptParts) -> Result<Vec<u8>, AllocError>
     ensures text { IfOk result (λ b. b.items ≡ compact_text (parts_data (script_of parts.now))) }

@@ -163,7 +163,7 @@ fn whole_parts(alloc: Global, bytes: &[u8]) -> Result<ScriptParts, PartsFault>
 
 /// The parts of the script that these bytes are.
 ///
-/// `Json` comes exactly where the bytes are no JSON text. `Shape` comes exactly where they are the
+/// `Json` comes exactly if the bytes are no JSON text. `Shape` comes exactly if they are the
 /// text of a value with this first fault: in the top object, else in a main frame, else in an input.
 /// `Memory` may come at any text; it also represents a main frame of 2^32 commands or more, whose
 /// places no number of 32 bits tells (a text of fewer than 2^32 bytes has none).

@@ -14,7 +14,7 @@ use page_layers::Move;
 use std::alloc::{AllocError, Global};
 use test_table::{Answer, LineFault};
 
-/// The pulls of a frame: one, or none where it is 0 0.
+/// The pulls of a frame: one, or none if it is 0 0.
 fn pulls_of(alloc: Global, by: Move) -> Result<Moves, AllocError>
     requires across { IsBoundedNumber by.dx }
     requires down { IsBoundedNumber by.dy }

@@ -50,7 +50,7 @@ pub fn changes(
     apply_all(tree, commands.as_slice(), answer)
 }
 
-/// Pulls scroller 1, where the page has it, and says how far.
+/// Pulls scroller 1, if the page has it, and says how far.
 fn pull(tree: &mut LayerTree, by: &str, answer: &mut Answer) -> Result<(), LineFault> {
     let by = pull_of(by)?;
     if tree.props().scroller(1).is_none() {

@@ -61,7 +61,7 @@ fn sum_of(keys: &[TileKey]) -> u64 {
     sum
 }
 
-/// The keys of a tree, in key order; `none` where there is no tree.
+/// The keys of a tree, in key order; `none` if there is no tree.
 pub fn told_keys(alloc: Global, state: Option<&TreeState>) -> Result<String, LineFault> {
     let Some(state) = state else {
         return Ok("none".to_string(alloc)?);
@@ -70,7 +70,7 @@ pub fn told_keys(alloc: Global, state: Option<&TreeState>) -> Result<String, Lin
     Ok(keys_text(alloc, keys.as_slice())?)
 }
 
-/// How many keys a tree has, and their sum; `none` where there is no tree.
+/// How many keys a tree has, and their sum; `none` if there is no tree.
 pub fn told_sum(alloc: Global, state: Option<&TreeState>) -> Result<String, LineFault> {
     let Some(state) = state else {
         return Ok("none".to_string(alloc)?);

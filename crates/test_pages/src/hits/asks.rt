@@ -35,7 +35,7 @@ fn point(x: i64, y: i64) -> Result<Point, LineFault> {
     Ok(Point { x, y })
 }
 
-// Which layer a point hits, as `X Y`; 0 where it hits none.
+// Which layer a point hits, as `X Y`; 0 if it hits none.
 fn target_text(alloc: Global, tree: &LayerTree, words: &str) -> Result<String, LineFault> {
     let [x, y] = numbers::<2>(words)?;
     let at = point(x, y)?;
@@ -50,7 +50,7 @@ fn push_scroller(alloc: Global, scroller: u32, text: &mut String) -> Result<(), 
     push_word(text, word.as_str())
 }
 
-// The scrollers of a chain; `-` where there is none.
+// The scrollers of a chain; `-` if there is none.
 fn text_of(alloc: Global, chain: &[u32]) -> Result<String, AllocError> {
     if chain.is_empty() {
         return "-".to_string(alloc);

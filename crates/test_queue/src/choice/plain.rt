@@ -15,13 +15,13 @@ use tile_priority::{Bin, Rank, ReadyTile, least};
 
 /// What the choice is made from, as lists.
 pub struct PlainChoice {
-    // the ranks of the keys that have one and are neither ready nor in flight
+    // The ranks of the keys that have one and are neither ready nor in flight.
     wanted: Vec<Rank>,
-    // the ready tiles
+    // The ready tiles.
     ready: Vec<ReadyTile>,
-    // how many tiles are in flight
+    // How many tiles are in flight.
     in_flight: usize,
-    // how many tiles there may be
+    // How many tiles there may be.
     budget: u32,
 }
 
@@ -115,7 +115,7 @@ impl PlainChoice {
         })
     }
 
-    /// The choice once a tile in flight is made, which is ready where it is given. An error means out of
+    /// The choice once a tile in flight is made, which is ready if it is given. An error means out of
     /// memory.
     pub fn finished(
         &self,
@@ -177,7 +177,7 @@ impl PlainChoice {
         }
     }
 
-    // The better of a rank, where it may start, and another.
+    // The better of a rank, if it may start, and another.
     fn better(
         &self,
         alloc: Global,
@@ -208,7 +208,7 @@ impl PlainChoice {
         Ok(best)
     }
 
-    /// The rank that starts first; None exactly where no wanted rank may start. An error means out of memory.
+    /// The rank that starts first; None exactly if no wanted rank may start. An error means out of memory.
     #[tactic(auto, unfolding(tile_priority::specs::Choice::first))]
     pub fn first(&self, alloc: Global) -> Result<Option<Rank>, AllocError>
         ensures { IfOk result (λ best. best ≡ choosing.first self.now) }

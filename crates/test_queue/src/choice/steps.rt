@@ -57,7 +57,7 @@ pub(crate) fn staying(
         .collect(alloc)
 }
 
-/// The tiles with one more, where there is one. An error means out of memory.
+/// The tiles with one more, if there is one. An error means out of memory.
 pub(crate) fn with_ready(
     alloc: Global,
     tile: Option<ReadyTile>,

@@ -19,7 +19,7 @@ fn are_wanted(queue: &CheckedQueue, most: u32) -> Result<bool, LineFault> {
     Ok(ranks.as_slice() == &all.as_slice()[..some])
 }
 
-/// Whether the keys that are evicted for a key are the definition's: none where it is not wanted.
+/// Whether the keys that are evicted for a key are the definition's: none if it is not wanted.
 fn are_evicted(queue: &CheckedQueue, key: TileKey) -> Result<bool, LineFault> {
     let keys = queue.queue().evicted(key)?;
     for &rank in queue.plain().wanted() {

@@ -60,7 +60,7 @@ fn now(rt: &HostRuntime) -> Result<Instant, LineFault> {
     Instant::now(rt).map_err(|_| LineFault::NoClock)
 }
 
-/// How long ago that was; nothing where the clock can't be read.
+/// How long ago that was; nothing if the clock can't be read.
 fn since(rt: &HostRuntime, begin: Instant) -> Duration {
     begin.elapsed(rt).unwrap_or(Duration::ZERO)
 }
@@ -180,7 +180,7 @@ impl CheckedQueue {
         Ok(started)
     }
 
-    /// Makes a tile that is in flight; it is ready where it is given. Tells how long the queue took.
+    /// Makes a tile that is in flight; it is ready if it is given. Tells how long the queue took.
     pub(crate) fn finish(
         &mut self,
         rt: &HostRuntime,

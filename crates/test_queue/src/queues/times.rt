@@ -129,7 +129,7 @@ fn look(rt: &HostRuntime, queue: &CheckedQueue) -> Result<Duration, LineFault> {
 }
 
 impl QueueTimes {
-    /// Starts a tile and makes it, where one may start.
+    /// Starts a tile and makes it, if one may start.
     fn pair(
         &mut self,
         rt: &HostRuntime,

@@ -1,7 +1,7 @@
 //! Keys, ranks and tiles as words, and what a queue answers.
 //!
 //! A key is `LAYER/X/Y/STAMP`, a rank `KEY:BIN` with the bin `now`, `soon` or `eventually`, and a tile a rank
-//! or a key without rank, with `!` after it where it is pinned.
+//! or a key without rank, with `!` after it if it is pinned.
 
 use crate::choice::PlainChoice;
 use geom::TileKey;

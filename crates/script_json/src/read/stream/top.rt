@@ -177,7 +177,7 @@ fn parts_in(alloc: Global, text: &str) -> Result<ScriptParts, Halt>
     }
 }
 
-/// The parts of the script that these bytes are, where they are one and its lists count as they stand.
+/// The parts of the script that these bytes are, if they are one and its lists count as they stand.
 pub(crate) fn streamed_parts(alloc: Global, bytes: &[u8]) -> Result<ScriptParts, Halt>
     ensures text { IfOk result (λ p. IsScriptText bytes.now (script_of p)) }
     ensures refused { result ≡ Err Halt.Json → IsUtf8 bytes.now → read_text bytes.now ≡ None }
