@@ -8,29 +8,10 @@ ghost use Rattle.model_history.specs.Legal as legal;
 ghost use Rattle.impl_log.specs.Runs.{past, now, Entered, Plays};
 
 use crate::core_state::Core;
-use geom::Point;
 use model_history::{Event, Input};
 use model_states::Kind;
 use page_layers::Move;
 use std::alloc::AllocError;
-
-// A number of pixels as moves have it.
-fn wide(pixels: i32) -> i64
-    ensures { result ≡ pixels }
-{
-    pixels as i64
-}
-
-// The move of a scroller by this much.
-fn move_by(scroller: u32, by: Point) -> Move
-    ensures { result ≡ record { scroller = scroller; dx = by.x; dy = by.y } }
-{
-    Move {
-        scroller,
-        dx: wide(by.x),
-        dy: wide(by.y),
-    }
-}
 
 impl Core {
     /// Whether a scroll may be accepted now: the next input is one, and the scheduler's state allows it.
@@ -57,13 +38,13 @@ impl Core {
             .host
             .standing()
             .accepted(pages.active, scroller, dx, dy);
-        let moves = [move_by(scroller, taken)];
+        let moves = [Move::by(scroller, taken)];
         let standing = self.host.standing().moved(self.alloc, pages, &moves)?;
         let input = self.log.next_input();
         self.enter_moving(0, Event::scroll(input, taken), standing)
     }
 
-    /// Accepts the scroll that is the next input, as far as the active range allows, where one may be
+    /// Accepts the scroll that is the next input, as far as the active range allows, if one may be
     /// accepted now, and answers whether it was. An error means out of memory, and nothing was entered.
     pub fn scroll(&mut self) -> Result<bool, AllocError>
         ensures plays { IfOk result (λ played. Plays self.old kind.Scroll 0 self.new played) }

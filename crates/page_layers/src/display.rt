@@ -10,10 +10,10 @@ ghost use Rattle.page_layers.specs.Lists.{with_first_changed};
 ghost use Rattle.page_layers.specs.Layers.{parts_of, has_id, with_items};
 ghost use Rattle.page_layers.specs.Refusals as refusals;
 ghost use Rattle.page_layers.specs.Effects as effects;
+ghost use Rattle.page_layers.specs.inner.FoundPlaces.{IsPlaceOf};
 
 use crate::fault::EditFault;
 use crate::layer::Layer;
-use crate::layers::place_of;
 use geom::Rect;
 use page_display_list::{DisplayList, Item};
 use std::alloc::AllocError;
@@ -26,12 +26,19 @@ fn count_of(layer: &Layer) -> usize
     layer.list.len()
 }
 
-/// How many items the layer with this id has.
+/// How many items the layer with this id has, which stands at this place.
 #[tactic(auto, using(crate::proofs::LayerPlaces::count_is))]
-pub(crate) fn item_count(layers: &[Layer], id: u32) -> Result<usize, EditFault>
+pub(crate) fn item_count(
+    layers: &[Layer],
+    id: u32,
+    place: Option<usize>,
+) -> Result<usize, EditFault>
+    requires { IsPlaceOf id layers.now place }
     ensures { result ≡ refusals.item_count id (map parts_of layers.now) }
 {
-    match place_of(layers, id) {
+    // The contract alone speaks of the id.
+    let _ = id;
+    match place {
         Some(place) => {
             let layer = &layers[place];
             Ok(count_of(layer))
@@ -52,13 +59,16 @@ fn rect_in(layer: &Layer, at: usize) -> Option<Rect>
     }
 }
 
-/// The rect of the item at a place of a layer's display list, if there is one.
+/// The rect of the item at a place of the display list of the layer with this id, if there is one.
 #[tactic(auto, using(crate::proofs::LayerPlaces::found_is))]
-pub(crate) fn rect_at(layers: &[Layer], id: u32, at: usize) -> Option<Rect>
+pub(crate) fn rect_at(layers: &[Layer], id: u32, place: Option<usize>, at: usize) -> Option<Rect>
+    requires { IsPlaceOf id layers.now place }
     ensures value { result ≡ effects.item_rect_at id at (map parts_of layers.now) }
     ensures sound { IfSome result IsSound }
 {
-    match place_of(layers, id) {
+    // The contract alone speaks of the id.
+    let _ = id;
+    match place {
         Some(place) => {
             let layer = &layers[place];
             rect_in(layer, at)
@@ -105,21 +115,25 @@ fn replace_in(list: &mut Arc<DisplayList>, at: usize, item: Item) -> Result<(), 
     Ok(())
 }
 
-/// Inserts an item into the display list of the layer with this id. Running out of memory leaves the layers
+/// Inserts an item into the display list of the layer with this id, which stands at this place. Running out of memory leaves the layers
 /// as they were.
 #[tactic(auto, using(crate::proofs::LayerPlaces::not_changed))]
 pub(crate) fn insert(
     layers: &mut Vec<Layer>,
     id: u32,
+    place: Option<usize>,
     at: usize,
     item: Item,
 ) -> Result<(), AllocError>
+    requires place { IsPlaceOf id layers.old.items place }
     requires fits { IfSome (find (has_id id) (map parts_of layers.old.items)) (λ l. (at ≤ length l.items) × (length l.items < 256)) }
     requires sound { IsSoundItem item }
     ensures ok { OnOk result (map parts_of layers.new.items ≡ with_first_changed (has_id id) (with_items (λ items. insert items at item)) (map parts_of layers.old.items)) }
     ensures err { OnErr result (map parts_of layers.new.items ≡ map parts_of layers.old.items) }
 {
-    match place_of(layers, id) {
+    // The contract alone speaks of the id.
+    let _ = id;
+    match place {
         Some(place) => {
             let layer = &mut layers[place];
             insert_in(&mut layer.list, at, item)
@@ -128,15 +142,23 @@ pub(crate) fn insert(
     }
 }
 
-/// Removes an item of the display list of the layer with this id. Running out of memory leaves the layers as
+/// Removes an item of the display list of the layer with this id, which stands at this place. Running out of memory leaves the layers as
 /// they were.
 #[tactic(auto, using(crate::proofs::LayerPlaces::not_changed))]
-pub(crate) fn remove(layers: &mut Vec<Layer>, id: u32, at: usize) -> Result<(), AllocError>
-    requires { IfSome (find (has_id id) (map parts_of layers.old.items)) (λ l. at < length l.items) }
+pub(crate) fn remove(
+    layers: &mut Vec<Layer>,
+    id: u32,
+    place: Option<usize>,
+    at: usize,
+) -> Result<(), AllocError>
+    requires place { IsPlaceOf id layers.old.items place }
+    requires fits { IfSome (find (has_id id) (map parts_of layers.old.items)) (λ l. at < length l.items) }
     ensures ok { OnOk result (map parts_of layers.new.items ≡ with_first_changed (has_id id) (with_items (λ items. remove items at)) (map parts_of layers.old.items)) }
     ensures err { OnErr result (map parts_of layers.new.items ≡ map parts_of layers.old.items) }
 {
-    match place_of(layers, id) {
+    // The contract alone speaks of the id.
+    let _ = id;
+    match place {
         Some(place) => {
             let layer = &mut layers[place];
             remove_in(&mut layer.list, at)
@@ -145,21 +167,25 @@ pub(crate) fn remove(layers: &mut Vec<Layer>, id: u32, at: usize) -> Result<(), 
     }
 }
 
-/// Replaces an item of the display list of the layer with this id. Running out of memory leaves the layers as
+/// Replaces an item of the display list of the layer with this id, which stands at this place. Running out of memory leaves the layers as
 /// they were.
 #[tactic(auto, using(crate::proofs::LayerPlaces::not_changed))]
 pub(crate) fn replace(
     layers: &mut Vec<Layer>,
     id: u32,
+    place: Option<usize>,
     at: usize,
     item: Item,
 ) -> Result<(), AllocError>
+    requires place { IsPlaceOf id layers.old.items place }
     requires fits { IfSome (find (has_id id) (map parts_of layers.old.items)) (λ l. at < length l.items) }
     requires sound { IsSoundItem item }
     ensures ok { OnOk result (map parts_of layers.new.items ≡ with_first_changed (has_id id) (with_items (λ items. slice_set items at item)) (map parts_of layers.old.items)) }
     ensures err { OnErr result (map parts_of layers.new.items ≡ map parts_of layers.old.items) }
 {
-    match place_of(layers, id) {
+    // The contract alone speaks of the id.
+    let _ = id;
+    match place {
         Some(place) => {
             let layer = &mut layers[place];
             replace_in(&mut layer.list, at, item)

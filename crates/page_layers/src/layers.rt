@@ -1,11 +1,11 @@
 //! Changing layers of a list.
 
-ghost use Rattle.std.specs.Prelude.{◌≡◌, ◌==◌, ◌<◌, ◌≤◌, ℕ, length, vec_len, map, MatchOption, None, OnOk, OnErr, insert};
-ghost use Rattle.std.specs.List.{find, position};
+ghost use Rattle.std.specs.Prelude.{◌≡◌, ◌==◌, ◌<◌, ◌≤◌, ℕ, length, vec_len, map, OnOk, OnErr, insert};
+ghost use Rattle.std.specs.List.{position};
 ghost use Rattle.page_layers.specs.Lists.{with_first_changed, without_first};
 ghost use Rattle.page_layers.specs.Refusals as refusals;
 ghost use Rattle.page_layers.specs.Layers.{parts_of, has_id, with_size, with_colour, with_layer_moved};
-ghost use Rattle.page_layers.specs.inner.FoundPlaces.{StandsAt};
+ghost use Rattle.page_layers.specs.inner.FoundPlaces.{StandsAt, IsPlaceOf};
 
 use crate::layer::Layer;
 use pixel::Colour;
@@ -20,7 +20,7 @@ pub fn first_place(layers: &[Layer], id: u32) -> Option<usize>
 
 /// The place of the layer with this id.
 pub(crate) fn place_of(layers: &[Layer], id: u32) -> Option<usize>
-    ensures { MatchOption result (find (has_id id) (map parts_of layers.now) ≡ None) (StandsAt id layers.now) }
+    ensures { IsPlaceOf id layers.now result }
 {
     first_place(layers, id)
 }

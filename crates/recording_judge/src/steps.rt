@@ -17,41 +17,23 @@ ghost use Rattle.recording_judge.specs.inner.States.{MayStep, IsStepped, is_quie
 use crate::host_steps::{abort_host, activate_host, commit_to_host, move_host, sets_outright};
 use crate::state::State;
 use crate::tile_keys::TileKeys;
-use geom::{Keys, TileKey};
+use geom::{Keys, Point, TileKey};
 use impl_host::ImplHost;
 use model_history::{Event, Input, Moves, Script};
 use page_layers::Move;
 use std::alloc::{AllocError, Global};
-
-// A number of pixels as moves have it.
-fn wide(pixels: i32) -> i64
-    ensures { result ≡ pixels }
-{
-    pixels as i64
-}
-
-// The move of a scroller by this much.
-fn move_by(scroller: u32, dx: i32, dy: i32) -> Move
-    ensures { result ≡ record { scroller = scroller; dx = dx; dy = dy } }
-{
-    Move {
-        scroller,
-        dx: wide(dx),
-        dy: wide(dy),
-    }
-}
 
 // The move that a scroll makes, which uses this input.
 fn scrolled(script: &Script, input: u32, dx: i32, dy: i32) -> Option<Move>
     ensures { listed result ≡ fields.moves script.now (variant.Scroll input dx dy) }
 {
     match script.inputs().get(input as usize) {
-        Some(Input::Scroll { scroller, .. }) => Some(move_by(*scroller, dx, dy)),
+        Some(Input::Scroll { scroller, .. }) => Some(Move::by(*scroller, Point { x: dx, y: dy })),
         _ => None,
     }
 }
 
-// Forgets the queue where the trees move.
+// Forgets the queue if the trees move.
 fn forget_where(tiles: &mut TileKeys, moves: bool)
     ensures stays { moves ≡ false → tiles.new ≡ tiles.old }
     ensures forgets { moves ≡ true → (s : ScriptModel) (workers : ℕ) (h g : List Entry) → Holds s workers h tiles.old → HaveSameKeys s h g → Holds s workers g tiles.new }

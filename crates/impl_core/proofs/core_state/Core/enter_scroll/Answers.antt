@@ -47,7 +47,7 @@ moved-requires c =
       stands = subst (λ (st : StandingModel). StandsForPast r.script h st) (sym c.standing-2.ensures) c.self.invariant.host.standing;
       pages = pages;
       scroll = refl;
-      moves = (of.moves ∙ ap (λ (m : Move). m ∷ []) (sym c.move_by.ensures));
+      moves = (of.moves ∙ ap (λ (m : Move). m ∷ []) (sym c.by.ensures));
     }
 
 pub enter_moving-requires : goal.enter_moving-requires
@@ -67,7 +67,7 @@ enter_moving-requires c =
     let of : OfScroll r.script r.workers h c.args.scroller i x y = of_scroll r.script r.workers h c.args.scroller c.args.dx c.args.dy i x y legal is_open asked c.next_input-input.ensures right downwards in
     let e : Event = event.Scroll i x y in
     let before = subst (λ (st : StandingModel). StandsForPast r.script h st) (sym c.standing-2.ensures) c.self.invariant.host.standing in
-    let moved : StandsForPast r.script (entry 0 e ∷ h) c.in_ok-standing.standing = c.in_ok-standing.ensures r.script r.workers h (entry 0 e) of.legal refl (of.moves ∙ ap (λ (m : Move). m ∷ []) (sym c.move_by.ensures)) before pages in
+    let moved : StandsForPast r.script (entry 0 e ∷ h) c.in_ok-standing.standing = c.in_ok-standing.ensures r.script r.workers h (entry 0 e) of.legal refl (of.moves ∙ ap (λ (m : Move). m ∷ []) (sym c.by.ensures)) before pages in
     subst (λ (z : Run). ComesMoving z 0 c.scroll.result c.in_ok-standing.standing) c.self.view_is
     (subst (λ (z : Event). ComesMoving r 0 z c.in_ok-standing.standing) (sym c.scroll.ensures)
     (record { moving = refl; is_now = of.may_come; actor_is = refl; stands = moved }))

@@ -15,20 +15,20 @@ use Rattle.page_layers.specs.Layers.{has_id, with_items}
 pub inside-requires : goal.inside-requires
 inside-requires c =
     let inside : Page = record { view = c.self.inside.view; props = c.self.inside.props; layers = map parts_of c.self.inside.layers.items; used = c.self.inside.used.items; values = c.self.inside.values.items } in
-    subst IsSound (sym c.rect.ensures) (insert_item_facts inside c.args.fields.now.layer c.args.fields.now.at c.args.fields.now.item (passed_inside inside c.args.self.now (command.InsertItem c.args.fields.now) c.self.view_is c.in_ok-may_insert_item.field-0 c.in_ok-may_insert_item.ensures)).1
+    subst IsSound (sym c.rect.ensures) (insert_item_facts inside c.args.fields.now.layer c.args.fields.now.at c.args.fields.now.item (passed_inside inside c.args.self.now (command.InsertItem c.args.fields.now) c.self.view_is c.in_ok-may_insert_item.field-0 (c.in_ok-may_insert_item.ensures c.args.self.now (ap (λ (p : Page). p.layers) (sym c.self.view_is) ∙ ap (map parts_of) (sym c.as_slice-layers.ensures.value))))).1
 
 pub insert-requires-clause-fits : goal.insert-requires-clause-fits
 insert-requires-clause-fits c =
     let inside : Page = record { view = c.self.inside.view; props = c.self.inside.props; layers = map parts_of c.self.inside.layers.items; used = c.self.inside.used.items; values = c.self.inside.values.items } in
-    (insert_item_facts inside c.args.fields.now.layer c.args.fields.now.at c.args.fields.now.item (passed_inside inside c.args.self.now (command.InsertItem c.args.fields.now) c.self.view_is c.in_ok-may_insert_item.field-0 c.in_ok-may_insert_item.ensures)).0
+    (insert_item_facts inside c.args.fields.now.layer c.args.fields.now.at c.args.fields.now.item (passed_inside inside c.args.self.now (command.InsertItem c.args.fields.now) c.self.view_is c.in_ok-may_insert_item.field-0 (c.in_ok-may_insert_item.ensures c.args.self.now (ap (λ (p : Page). p.layers) (sym c.self.view_is) ∙ ap (map parts_of) (sym c.as_slice-layers.ensures.value))))).0
 
 pub insert-requires-clause-sound : goal.insert-requires-clause-sound
 insert-requires-clause-sound c =
     let inside : Page = record { view = c.self.inside.view; props = c.self.inside.props; layers = map parts_of c.self.inside.layers.items; used = c.self.inside.used.items; values = c.self.inside.values.items } in
-    subst (λ (i : Item). IsSound (rect_of_item i)) (sym c.in_ok-copy.ensures) (insert_item_facts inside c.args.fields.now.layer c.args.fields.now.at c.args.fields.now.item (passed_inside inside c.args.self.now (command.InsertItem c.args.fields.now) c.self.view_is c.in_ok-may_insert_item.field-0 c.in_ok-may_insert_item.ensures)).1
+    subst (λ (i : Item). IsSound (rect_of_item i)) (sym c.in_ok-copy.ensures) (insert_item_facts inside c.args.fields.now.layer c.args.fields.now.at c.args.fields.now.item (passed_inside inside c.args.self.now (command.InsertItem c.args.fields.now) c.self.view_is c.in_ok-may_insert_item.field-0 (c.in_ok-may_insert_item.ensures c.args.self.now (ap (λ (p : Page). p.layers) (sym c.self.view_is) ∙ ap (map parts_of) (sym c.as_slice-layers.ensures.value))))).1
 
 pub invariant_of-self-2 : goal.invariant_of-self-2
 invariant_of-self-2 c =
     let inside : Page = record { view = c.self.inside.view; props = c.self.inside.props; layers = map parts_of c.self.inside.layers.items; used = c.self.inside.used.items; values = c.self.inside.values.items } in
-    kept inside c.args.self.now _ (command.InsertItem c.args.fields.now) refl c.self.view_is c.self.invariant c.in_ok-may_insert_item.field-0 c.in_ok-may_insert_item.ensures
+    kept inside c.args.self.now _ (command.InsertItem c.args.fields.now) refl c.self.view_is c.self.invariant c.in_ok-may_insert_item.field-0 (c.in_ok-may_insert_item.ensures c.args.self.now (ap (λ (p : Page). p.layers) (sym c.self.view_is) ∙ ap (map parts_of) (sym c.as_slice-layers.ensures.value)))
     (ap (λ (ls : List PageLayer). let made : Page = record { view = c.self.inside.view; props = c.self.inside.props; layers = ls; used = c.self.inside.used.items; values = c.self.inside.values.items } in made) (c.in_ok-insert.ensures.ok ∙ ap (λ (i : Item). with_first_changed (has_id c.args.fields.now.layer) (with_items (λ (items : List Item). insert items c.args.fields.now.at i)) (map parts_of c.self.inside.layers.items)) c.in_ok-copy.ensures))
