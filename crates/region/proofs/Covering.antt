@@ -146,6 +146,15 @@ held_by : (rs : List Rect) (r : Rect) (x y : ℤ) (t : Bool) → covers r x y �
 held_by rs r x y false e h = rw e (sym (or-false (covered rs x y)))
 held_by rs r x y true e h = let l : covered rs x y ≡ true = any_covered rs r x y e h in rw l refl
 
+-- what the last of them hold, one of them holds
+last_by : (s : Rect) (ss : List Rect) (r : Rect) → any_holds ss r ≡ true → any_holds (s ∷ ss) r ≡ true
+last_by s ss r h = ap (λ b. rect_holds s r || b) h ∙ or-true (rect_holds s r)
+
+pub last_held : (n : ℕ) (rs : List Rect) (r : Rect) → any_holds (drop n rs) r ≡ true → any_holds rs r ≡ true
+last_held zero rs r h = h
+last_held (suc n) [] r h = h
+last_held (suc n) (s ∷ ss) r h = last_by s ss r (last_held n ss r h)
+
 pub any_held : (rs : List Rect) (r : Rect) → any_holds rs r ≡ true → (x y : ℤ) → covered rs x y ≡ (covered rs x y || covers r x y)
 any_held rs r h x y = held_by rs r x y (covers r x y) refl h
 

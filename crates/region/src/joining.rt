@@ -27,6 +27,9 @@ pub(crate) fn join_lists(
     ensures err { OnErr result (list.new.items ≡ list.old.items) }
     ensures rising { IsRising list.new.items }
 {
+    if later.is_empty() {
+        return Ok(());
+    }
     if let [change] = later {
         return join_one(list, change);
     }
@@ -96,7 +99,7 @@ fn insert_at(
     Ok(())
 }
 
-// The place of the layer, or where it is not listed the place at which it would be.
+// The place of the layer, or if it is not listed, the place at which it would be.
 fn place_of(list: &[LayerChange], layer: u32) -> Result<usize, usize>
     ensures found { IfOk result (λ i. (i < length list.now) × IfSome (slice_get list.now i) (λ c. c.layer ≡ layer)) }
     ensures within { IfErr result (λ i. i ≤ length list.now) }

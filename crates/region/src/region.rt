@@ -129,6 +129,20 @@ fn any_holds(rects: &[Rect], r: Rect) -> bool
     rects.iter().any(|rect| holds(*rect, r))
 }
 
+// How many rects, the last of a list, are asked whether they hold a new one.
+const ASKED: usize = 512;
+
+// Whether one of the last rects of the list holds `r` whole.
+#[tactic(auto, using(crate::proofs::Covering::last_held))]
+fn any_late_holds(rects: &[Rect], r: Rect) -> bool
+    requires sound { All IsSound rects.now }
+    requires other { IsSound r }
+    ensures { IsTrue result → IsTrue (any_holds rects.now r) }
+{
+    let (_, last) = rects.split_at(rects.len().saturating_sub(ASKED));
+    any_holds(last, r)
+}
+
 // Whether `rect` holds `r` whole.
 fn holds(rect: Rect, r: Rect) -> bool
     requires sound { IsSound rect }
@@ -165,7 +179,7 @@ fn clip_rects(rects: &mut Vec<Rect>, r: Rect)
     }
 }
 
-// The list with `r` at its end, or the list where a rect of it holds `r` whole.
+// The list with `r` at its end, or the list if one of its last rects holds `r` whole.
 #[tactic(auto, using(crate::proofs::Covering::any_held))]
 fn add_rect(rects: &mut Vec<Rect>, r: &Rect) -> Result<(), AllocError>
     requires sound { All IsSound rects.old.items }
@@ -174,14 +188,14 @@ fn add_rect(rects: &mut Vec<Rect>, r: &Rect) -> Result<(), AllocError>
     ensures err { OnErr result (rects.new.items ≡ rects.old.items) }
     ensures grows { (rects.new.items ≡ rects.old.items) ⊎ (rects.new.items ≡ rects.old.items ++ r.now ∷ []) }
 {
-    if any_holds(rects, *r) {
+    if any_late_holds(rects, *r) {
         return Ok(());
     }
     rects.push(*r)?;
     Ok(())
 }
 
-// The list with the rects of `others` that it does not hold; running out of memory leaves the list as it was.
+// The list with the rects of `others`, but for those that its last rects hold; running out of memory leaves the list as it was.
 fn add_rects(rects: &mut Vec<Rect>, others: &[Rect]) -> Result<(), AllocError>
     requires sound { All IsSound rects.old.items }
     requires others_sound { All IsSound others.now }
