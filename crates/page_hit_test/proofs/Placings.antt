@@ -1,8 +1,5 @@
 -- What holds of a node follows from its parent.
-use Rattle.std.proofs.Common.{◌≡◌, ℕ, suc, ◌+◌, ◌*◌, ◌≤◌, ◌==◌, ℤ, ◌+ℤ◌, ◌-ℤ◌, Bool, true, false, not, cond, ◌&&◌, List, [], ◌∷◌, length, replicate, Option, Some, None, refl, sym, ◌∙◌, ap, subst, arith}
-use Rattle.std.proofs.lemmas.Int.{ints}
-use Rattle.std.proofs.lemmas.List.{length-replicate}
-use Rattle.std.proofs.lemmas.List.Elements.{All-replicate}
+use Rattle.std.proofs.Common.{◌≡◌, ℕ, ◌*◌, ◌==◌, ℤ, Bool, true, false, not, cond, ◌&&◌, List, [], ◌∷◌, Option, Some, None, refl, sym, ◌∙◌, ap, subst}
 use Rattle.geom.specs.declared.rect.Point.{Point}
 use Rattle.geom.specs.declared.rect.Rect.{Rect}
 use Rattle.geom.specs.Covers.{covers}
@@ -13,55 +10,18 @@ use Rattle.page_properties.specs.declared.nodes.EffectNode.{EffectNode}
 use Rattle.page_properties.specs.declared.nodes.TransformNode.{TransformNode}
 use Rattle.page_properties.specs.Entries.{find}
 use Rattle.page_properties.specs.Families.{IsFamily}
-use Rattle.page_properties.specs.OffsetMap.{origin, IsOffset, AreOffsets}
-use Rattle.page_properties.specs.Placement.{plus, minus, own_translation, scrolled, translation, both, clip_of, draws, placed_rect, IsWithin}
-use Rattle.page_properties.specs.Trees.{Trees, IsTrees, IsTransform, IsClip, IsEffect, AreTransforms}
+use Rattle.page_properties.specs.OffsetMap.{origin, AreOffsets}
+use Rattle.page_properties.specs.Placement.{plus, own_translation, translation, both, clip_of, draws, placed_rect, IsWithin}
+use Rattle.page_properties.specs.Trees.{Trees, IsTrees, IsTransform, IsClip, IsEffect}
 use Rattle.page_properties.proofs.Chains.{follow_the_parent}
-use Rattle.page_properties.proofs.Families.{family_few}
-use Rattle.page_properties.proofs.Walks.{own_offset}
+use Rattle.page_properties.proofs.Walks.{near as near_in}
 use Rattle.page_layers.specs.TreePainting.{lets_through}
-use Rattle.page_hit_test.specs.inner.Found.{IsTable, is_open_at}
+use Rattle.page_hit_test.specs.inner.Found.{is_open_at}
 use Rattle.page_hit_test.proofs.ChainWalks.{gathered_none}
 
--- a table of one entry, 256 times
-pub table_of : {V : Type 0} (f : ℕ → V) (v : V) → f 0 ≡ v → IsTable f (replicate 256 (0, v))
-table_of {V} f v h =
-    let root : ℕ × V = (0, v) in
-    record { room = length-replicate 256 root; known = All-replicate (λ (e : ℕ × V). e.1 ≡ f e.0) 256 root (sym h) }
-
-within_more : (m : ℕ) (p o : Point) (n : TransformNode) → IsWithin m p → IsTransform n → IsOffset o → IsWithin (m + 1114112) (plus p (minus (record { x = n.x; y = n.y }) o))
-within_more m p o n w r i = record {
-  left = omega (arith, ints, w.left, r.across.low, i.right);
-  right = omega (arith, ints, w.right, r.across.high, i.left);
-  upper = omega (arith, ints, w.upper, r.down.low, i.lower);
-  lower = omega (arith, ints, w.lower, r.down.high, i.upper);
-}
-
-within_wider : (m n : ℕ) (p : Point) → m ≤ n → IsWithin m p → IsWithin n p
-within_wider m n p h w = record {
-  left = omega (arith, ints, w.left);
-  right = omega (arith, ints, w.right);
-  upper = omega (arith, ints, w.upper);
-  lower = omega (arith, ints, w.lower);
-}
-
--- a translation goes no further than its nodes together
-near_nodes : (offset : ℕ → Point) → AreOffsets offset → (nodes : List (ℕ × TransformNode)) → AreTransforms nodes → (id : ℕ) → IsWithin (length nodes * 1114112) (translation offset nodes id)
-unfolding translation
-near_nodes offset a [] j id = record { left = omega (arith, ints); right = omega (arith, ints); upper = omega (arith, ints); lower = omega (arith, ints) }
-near_nodes offset a (e ∷ older) j id = go (e.0 == id) (near_nodes offset a older j.1 e.1.parent) (near_nodes offset a older j.1 id)
-  where
-    go : (b : Bool) → IsWithin (length older * 1114112) (translation offset older e.1.parent) → IsWithin (length older * 1114112) (translation offset older id)
-        → IsWithin (suc (length older) * 1114112) (cond b (plus (translation offset older e.1.parent) (own_translation offset e.1)) (translation offset older id))
-    go true h k =
-        within_wider (length older * 1114112 + 1114112) _ _ (omega arith)
-        (within_more (length older * 1114112) (translation offset older e.1.parent) (scrolled offset e.1.scroller) e.1 h j.0.in_range (own_offset offset a e.1.scroller))
-    go false h k = within_wider (length older * 1114112) _ _ (omega arith) k
-
+-- how far from the origin a transform may stand
 pub near : (offset : ℕ → Point) → AreOffsets offset → (t : Trees) → IsTrees t → (id : ℕ) → IsWithin (256 * 1114112) (translation offset t.transforms id)
-near offset a t j id =
-    let few = family_few (λ (n : TransformNode). n.parent) IsTransform t.transforms j.transforms in
-    within_wider (length t.transforms * 1114112) _ _ (omega (arith, few)) (near_nodes offset a t.transforms j.transforms id)
+near offset a t j id = near_in offset a t.transforms j.transforms id
 
 -- the translation of a transform, by its parent's
 pub place_more : (offset : ℕ → Point) (t : Trees) → IsTrees t → (id : ℕ) (n : TransformNode) → find id t.transforms ≡ Some n

@@ -10,7 +10,8 @@ ghost use Rattle.page_properties.specs.Trees.{IsTrees};
 ghost use Rattle.page_layers.specs.Layers.{parts_of};
 ghost use Rattle.page_layers.specs.Hits as hits;
 ghost use Rattle.page_layers.specs.Paintings.{IsScreenPoint};
-ghost use Rattle.page_hit_test.specs.inner.Found.{IsTable, is_open_at};
+ghost use Rattle.page_properties.specs.inner.Tables.{IsTable};
+ghost use Rattle.page_hit_test.specs.inner.Found.{is_open_at};
 ghost use Rattle.page_hit_test.specs.inner.Screens.{is_in_view, is_within_bounds};
 
 use crate::found::{root_holds, root_place};
@@ -114,7 +115,7 @@ fn covering_id(
     }
 }
 
-// The last of these layers that covers a point of the screen; 0 where none does. It looks from the last
+// The last of these layers that covers a point of the screen; 0 if none does. It looks from the last
 // one down, and stops at the first that covers the point.
 fn topmost(tree: &LayerTree, offsets: &Offsets, p: Point, layers: &[Layer]) -> u32
     requires trees { IsTrees tree.now.props }
@@ -146,7 +147,7 @@ fn topmost(tree: &LayerTree, offsets: &Offsets, p: Point, layers: &[Layer]) -> u
     0
 }
 
-/// The topmost layer that covers a point of the screen; 0 exactly where none does. Each offset is from 0
+/// The topmost layer that covers a point of the screen; 0 exactly if none does. Each offset is from 0
 /// to 1048576 on both axes. Takes no memory.
 #[tactic(auto, unfolding(page_layers::specs::Hits::target))]
 pub fn target(tree: &LayerTree, offsets: &Offsets, p: Point) -> u32

@@ -9,7 +9,8 @@ ghost use Rattle.page_properties.specs.OffsetMap.{offset_at, AreOffsets};
 ghost use Rattle.page_properties.specs.Placement as placement;
 ghost use Rattle.page_properties.specs.Placement.{IsWithin};
 ghost use Rattle.page_properties.specs.Trees.{IsTrees, IsClip};
-ghost use Rattle.page_hit_test.specs.inner.Found.{IsTable, is_open_at};
+ghost use Rattle.page_properties.specs.inner.Tables.{IsTable};
+ghost use Rattle.page_hit_test.specs.inner.Found.{is_open_at};
 
 use crate::found::{found, keep};
 use geom::Point;
@@ -88,7 +89,7 @@ pub(crate) fn is_let_through(
     is_open
 }
 
-// Whether an effect is drawn where what is above it is or is not.
+// Whether an effect is drawn if what is above it is or is not.
 fn is_visible(node: &EffectNode, above: bool) -> bool
     ensures { result ≡ not (node.now.opacity == 0) && above }
 {

@@ -129,7 +129,7 @@ pub translation_law : (offset : ℕ → Point) (nodes : List (ℕ × TransformNo
 unfolding translation
 translation_law offset nodes j id n h = gathered_law (λ (m : TransformNode). m.parent) IsTransform origin (λ e above. plus above (own_translation offset e.1)) nodes j id n h
 
-translation_root : (offset : ℕ → Point) (nodes : List (ℕ × TransformNode)) → IsFamily (λ (n : TransformNode). n.parent) IsTransform nodes → translation offset nodes 0 ≡ origin
+pub translation_root : (offset : ℕ → Point) (nodes : List (ℕ × TransformNode)) → IsFamily (λ (n : TransformNode). n.parent) IsTransform nodes → translation offset nodes 0 ≡ origin
 unfolding translation
 translation_root offset nodes j = gathered_root (λ (m : TransformNode). m.parent) IsTransform origin (λ e above. plus above (own_translation offset e.1)) nodes j
 

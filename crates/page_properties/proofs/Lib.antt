@@ -4,4 +4,5 @@ pub mod Families
 pub mod Indexes
 pub mod Marks
 pub mod Rising
+pub mod TableFacts
 pub mod Walks

@@ -1,5 +1,5 @@
 -- The way up a chain: what is left of it, and what was gathered.
-use Rattle.std.proofs.Common.{◌≡◌, ℕ, ◌+◌, ◌-◌, ◌*◌, ◌<◌, ◌≤◌, ◌==◌, ℤ, ◌+ℤ◌, ◌-ℤ◌, Bool, true, false, cond, List, length, Option, Some, None, IfSome, arith, refl, sym, ◌∙◌, ap}
+use Rattle.std.proofs.Common.{◌≡◌, ℕ, suc, ◌+◌, ◌-◌, ◌*◌, ◌<◌, ◌≤◌, ◌==◌, ℤ, ◌+ℤ◌, ◌-ℤ◌, Bool, true, false, cond, List, [], ◌∷◌, length, Option, Some, None, IfSome, arith, refl, sym, ◌∙◌, ap}
 use Rattle.std.proofs.lemmas.Int.{ints}
 use Rattle.geom.specs.declared.rect.Point.{Point}
 use Rattle.geom.specs.declared.rect.Rect.{Rect}
@@ -92,25 +92,43 @@ module _ (offset : ℕ → Point) (nodes : List (ℕ × TransformNode)) (start i
                 ∙ (ap (λ (p : Point). plus p sum) (sym (translation_law offset nodes j id n h)) ∙ w.value);
           }
 
--- on the way up from `start` a clip has come to `id`, with the common part of those below
-pub record Clipped (offset : ℕ → Point) (transforms : List (ℕ × TransformNode)) (nodes : List (ℕ × ClipNode)) (start id : ℕ) (inner : Option Rect) : Type 0 where
+-- a translation goes no further than its nodes together
+near_nodes : (offset : ℕ → Point) → AreOffsets offset → (nodes : List (ℕ × TransformNode)) → AreTransforms nodes → (id : ℕ) → IsWithin (length nodes * 1114112) (translation offset nodes id)
+unfolding translation
+near_nodes offset a [] j id = within_none
+near_nodes offset a (e ∷ older) j id = go (e.0 == id) (near_nodes offset a older j.1 e.1.parent) (near_nodes offset a older j.1 id)
+  where
+    go : (b : Bool) → IsWithin (length older * 1114112) (translation offset older e.1.parent) → IsWithin (length older * 1114112) (translation offset older id)
+        → IsWithin (suc (length older) * 1114112) (cond b (plus (translation offset older e.1.parent) (own_translation offset e.1)) (translation offset older id))
+    go true h k =
+        within_more (length older * 1114112 + 1114112) _ _ (omega arith)
+        (within_step (length older * 1114112) (translation offset older e.1.parent) _ e.1 (scrolled offset e.1.scroller) h j.0.in_range (own_offset offset a e.1.scroller) refl refl)
+    go false h k = within_more (length older * 1114112) _ _ (omega arith) k
+
+pub near : (offset : ℕ → Point) → AreOffsets offset → (nodes : List (ℕ × TransformNode)) → AreTransforms nodes → (id : ℕ) → IsWithin (256 * 1114112) (translation offset nodes id)
+near offset a nodes j id =
+    let few = family_few (λ (n : TransformNode). n.parent) IsTransform nodes j in
+    within_more (length nodes * 1114112) _ _ (omega (arith, few)) (near_nodes offset a nodes j id)
+
+-- on the way up a clip has come to `id`, with the common part of those below; the clip of `id` makes it the whole
+pub record Clipped (offset : ℕ → Point) (transforms : List (ℕ × TransformNode)) (nodes : List (ℕ × ClipNode)) (whole : Option Rect) (id : ℕ) (inner : Option Rect) : Type 0 where
   pub sound : IfSome inner IsSound
-  pub value : both (clip_of offset transforms nodes id) inner ≡ clip_of offset transforms nodes start
+  pub value : both (clip_of offset transforms nodes id) inner ≡ whole
 
 both_none : (o : Option Rect) → both o None ≡ o
 both_none None = refl
 both_none (Some r) = refl
 
-module _ (offset : ℕ → Point) (transforms : List (ℕ × TransformNode)) (nodes : List (ℕ × ClipNode)) (start : ℕ) where
-  pub clipped_none : Clipped offset transforms nodes start start None
-  clipped_none = record { sound = tt; value = both_none (clip_of offset transforms nodes start) }
+module _ (offset : ℕ → Point) (transforms : List (ℕ × TransformNode)) (nodes : List (ℕ × ClipNode)) where
+  pub clipped_none : (start : ℕ) → Clipped offset transforms nodes (clip_of offset transforms nodes start) start None
+  clipped_none start = record { sound = tt; value = both_none (clip_of offset transforms nodes start) }
 
-  module _ (id : ℕ) (inner : Option Rect) (w : Clipped offset transforms nodes start id inner) where
-    pub clipped_all : find id nodes ≡ None → inner ≡ clip_of offset transforms nodes start
+  module _ (whole : Option Rect) (id : ℕ) (inner : Option Rect) (w : Clipped offset transforms nodes whole id inner) where
+    pub clipped_all : find id nodes ≡ None → inner ≡ whole
     clipped_all h = ap (λ (o : Option Rect). both o inner) (sym (clip_unknown offset transforms nodes id h)) ∙ w.value
 
     pub clipped_step : (j : AreClips nodes) (n : ClipNode) → find id nodes ≡ Some n → (by : Point) (narrow : Rect) → by ≡ translation offset transforms n.transform
-        → Some narrow ≡ both (Some (shifted n.rect by)) inner → IsSound narrow → Clipped offset transforms nodes start n.parent (Some narrow)
+        → Some narrow ≡ both (Some (shifted n.rect by)) inner → IsSound narrow → Clipped offset transforms nodes whole n.parent (Some narrow)
     clipped_step j n h by narrow f own s = record {
       sound = s;
       value =

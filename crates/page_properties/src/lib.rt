@@ -8,6 +8,7 @@ mod nesting;
 mod nodes;
 mod offsets;
 mod placement;
+mod tables;
 mod trees;
 
 pub use laws::nodes_follow_their_parents;

@@ -13,6 +13,7 @@ ghost use mir.Syntax.{w32};
 use crate::family::Family;
 use crate::nodes::{ClipNode, EffectNode, TransformNode};
 use crate::offsets::Offsets;
+use crate::tables::clip_by_table;
 use geom::{Point, Rect};
 
 /// The translation of a transform; (0, 0) for the root.
@@ -67,7 +68,10 @@ fn added(sum: i32, at: i32, offset: i32) -> i32
     sum + (at - offset)
 }
 
-/// The clip of a clip node; None where `clip` is the root.
+// How many clips of a chain are placed without a table: for so few it costs more than it saves.
+const FEW_CLIPS: u32 = 4;
+
+/// The clip of a clip node; None if `clip` is the root.
 pub fn clip_in(
     nodes: &Family<ClipNode>,
     transforms: &Family<TransformNode>,
@@ -81,16 +85,19 @@ pub fn clip_in(
     ensures sound { IfSome result IsSound }
 {
     let mut inner = None;
-    while let Some(node) = nodes.get(clip) {
+    for _ in 0..FEW_CLIPS {
+        let Some(node) = nodes.get(clip) else {
+            return inner;
+        };
         let by = translation_in(transforms, node.transform, offsets);
         inner = Some(narrowed(node, by, inner));
         clip = node.parent;
     }
-    inner
+    clip_by_table(nodes, transforms, clip, offsets, inner)
 }
 
 /// The part of a moved clip that the clips below it leave.
-fn narrowed(node: &ClipNode, by: Point, inner: Option<Rect>) -> Rect
+pub(crate) fn narrowed(node: &ClipNode, by: Point, inner: Option<Rect>) -> Rect
     requires in_range { IsClip node.now }
     requires near { IsWithin (256 * 1114112) by }
     requires inner_sound { IfSome inner IsSound }

@@ -1,4 +1,4 @@
-use Rattle.page_hit_test.proofs.Placings.{table_of}
+use Rattle.page_properties.proofs.TableFacts.{table_of}
 use Rattle.page_hit_test.proofs.found.root_place.Goals as goal
 
 pub returns : goal.returns

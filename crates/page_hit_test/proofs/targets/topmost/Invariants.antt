@@ -7,7 +7,8 @@ use Rattle.page_properties.specs.Placement.{translation, draws}
 use Rattle.page_layers.specs.Layers.{parts_of}
 use Rattle.page_layers.specs.Hits.{last_covering, covers_point}
 use Rattle.page_layers.specs.declared.layer.Layer.{Layer}
-use Rattle.page_hit_test.specs.inner.Found.{IsTable, is_open_at}
+use Rattle.page_properties.specs.inner.Tables.{IsTable}
+use Rattle.page_hit_test.specs.inner.Found.{is_open_at}
 use Rattle.page_hit_test.proofs.targets.topmost.Given as goal
 
 abbrev pub invariant-loop-layer : goal.invariant-loop-layer
